@@ -1,0 +1,48 @@
+//! Standard input to its bound, and standard output.
+
+ghost use Rattle.std.specs.Prelude.{◌+◌, ◌≤◌, length, IfOk};
+
+use crate::report::What;
+use std::alloc::Global;
+use std::io::{ErrorKind, Read, Write};
+use swim_pack::{Outlet, PushFault, ToWrite};
+
+/// The most bytes of an input. Every canonical dump has fewer.
+pub const BOUND: usize = 268_435_456;
+
+/// How many interrupted reads of one input are tried again.
+const RETRIES: u32 = 1000;
+
+/// How many bytes are asked for at once.
+const PIECE: usize = 65536;
+
+/// Reads to the end, and at most one byte past the bound, so that the length tells a longer input.
+/// An error, and the 1,001st interruption, is a device fault.
+pub fn read_to_bound<R: Read>(alloc: Global, reader: &mut R) -> Result<Vec<u8>, What> {
+    let mut bytes = Vec::new(alloc);
+    let mut piece = [0; PIECE];
+    let mut interruptions = 0;
+    while bytes.len() <= BOUND {
+        let wanted = (BOUND + 1 - bytes.len()).min(PIECE);
+        match reader.read(&mut piece[..wanted]) {
+            Ok(0) => break,
+            Ok(count) => bytes.extend_from_slice(&piece[..count])?,
+            Err(error) => {
+                if !matches!(error.kind(), ErrorKind::Interrupted) || interruptions == RETRIES {
+                    return Err(What::Device);
+                }
+                interruptions += 1;
+            }
+        }
+    }
+    Ok(bytes)
+}
+
+/// Writes the bytes at once. An error, an answer of 0 and the 1,001st interruption is a device fault.
+pub fn write_out<W: Write + Drop>(writer: W, bytes: &[u8]) -> Result<(), What> {
+    match ToWrite::new(writer).push(bytes) {
+        Ok(()) => Ok(()),
+        Err(PushFault::Fault) => Err(What::Device),
+        Err(PushFault::Memory) => Err(What::Memory),
+    }
+}

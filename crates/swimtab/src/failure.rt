@@ -1,0 +1,79 @@
+//! How the program ends where it has nothing to print.
+
+ghost use Rattle.std.specs.Prelude.{length};
+ghost use Rattle.swimtab.specs.Report.{IsAmong};
+
+use crate::report::{Report, report_text, status};
+use crate::verb::WordFault;
+use std::alloc::{AllocError, Global};
+use std::io;
+use std::process::ExitCode;
+
+/// Why the program ends without its output.
+#[derive(Debug, Drop)]
+pub(crate) enum Failure {
+    /// The words were refused, or ask for help.
+    Words(clap::Error),
+    /// A word is no text.
+    UnreadableWords,
+    /// The run was refused: what is said of it, and the exit status.
+    Refused { text: String, status: u8 },
+    /// A growth of memory was refused.
+    Memory,
+}
+
+impl From<WordFault> for Failure {
+    fn from(fault: WordFault) -> Failure {
+        match fault {
+            WordFault::Words(error) => Failure::Words(error),
+            WordFault::Memory => Failure::Memory,
+        }
+    }
+}
+
+/// An error of reading the words.
+impl From<io::Error> for Failure {
+    fn from(error: io::Error) -> Failure {
+        match error.kind() {
+            io::ErrorKind::OutOfMemory => Failure::Memory,
+            _ => Failure::UnreadableWords,
+        }
+    }
+}
+
+impl Failure {
+    /// That the run was refused, where `files` are the words that name its files.
+    pub(crate) fn refused(alloc: Global, report: &Report, files: &[String]) -> Failure
+        requires { IsAmong report.now.place (length files.now) }
+    {
+        match report_text(alloc, report, files) {
+            Ok(text) => Failure::Refused {
+                text,
+                status: status(report),
+            },
+            Err(AllocError) => Failure::Memory,
+        }
+    }
+
+    /// Says on standard error why the program ends, and answers its exit status.
+    pub(crate) fn tell(&self, rt: &HostRuntime) -> ExitCode {
+        match self {
+            Failure::Words(error) => {
+                let _ = rt.eprint(error);
+                ExitCode::from(2)
+            }
+            Failure::UnreadableWords => {
+                let _ = rt.eprintln("swimtab: a word is not UTF-8");
+                ExitCode::from(2)
+            }
+            Failure::Refused { text, status } => {
+                let _ = rt.eprintln(text);
+                ExitCode::from(*status)
+            }
+            Failure::Memory => {
+                let _ = rt.eprintln("swimtab: out of memory");
+                ExitCode::from(5)
+            }
+        }
+    }
+}
