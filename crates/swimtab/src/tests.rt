@@ -1,0 +1,396 @@
+//! What the program prints of worked inputs.
+
+mod spellings;
+mod streams;
+
+use crate::command_line::chosen;
+use crate::packets::packets;
+use crate::report::{Place, What, report_text, status};
+use crate::verb::{Verb, WordFault};
+use spellings::{ALIVE, CONFIRM, LEAVE, SUSPECT};
+use std::alloc::Global;
+use std::process::Abort;
+use std::test::Fail;
+use swim_wire::WireFault;
+
+/// What holds, the lines of an input, and its listing.
+const LISTINGS: [(&str, &str, &str); 9] = [
+    (
+        "an alive packet",
+        "0486a441646472a47f000001ab496e6361726e6174696f6e00a44d657461a0a44e6f6465a161a4506f7274cd1f0aa356736ea0",
+        "a alive 0 0/7f000001/7946//\n",
+    ),
+    ("nothing", "", ""),
+    (
+        "a suspect packet",
+        "0383a446726f6da178ab496e6361726e6174696f6e01a44e6f6465a162",
+        "b suspect 1 -\n",
+    ),
+    (
+        "the greatest incarnation of a confirm",
+        "0583a446726f6da178ab496e6361726e6174696f6e02a44e6f6465a161\n0583a446726f6da178ab496e6361726e6174696f6e07a44e6f6465a161\n0583a446726f6da178ab496e6361726e6174696f6e02a44e6f6465a161",
+        "a confirm 7 -\n",
+    ),
+    (
+        "another spelling",
+        "0485a4506f7274cf0000000000001f0aa44e6f6465a161a44d657461c0ab496e6361726e6174696f6ed200000000a441646472c4047f000001",
+        "a alive 0 0/7f000001/7946//\n",
+    ),
+    (
+        "a name with escapes",
+        "0381a44e6f6465a46120250a",
+        "a%20%25%0A suspect 0 -\n",
+    ),
+    (
+        "a dead packet made by nobody named",
+        "0582a446726f6da0a44e6f6465a161",
+        "a confirm 0 -\n",
+    ),
+    (
+        "a greater confirm after a leave",
+        "0583a446726f6da161ab496e6361726e6174696f6e02a44e6f6465a161\n0583a446726f6da178ab496e6361726e6174696f6e02a44e6f6465a161\n0583a446726f6da178ab496e6361726e6174696f6e03a44e6f6465a161",
+        "a confirm 3 -\n",
+    ),
+    (
+        "a leave at the confirm's incarnation",
+        "0583a446726f6da161ab496e6361726e6174696f6e02a44e6f6465a161\n0583a446726f6da178ab496e6361726e6174696f6e02a44e6f6465a161\n0583a446726f6da178ab496e6361726e6174696f6e03a44e6f6465a161\n0583a446726f6da161ab496e6361726e6174696f6e03a44e6f6465a161",
+        "a leave 3 -\n",
+    ),
+];
+
+/// What holds, two packets, and their listing, in both orders of arrival.
+const BOTH_ORDERS: [(&str, &str, &str, &str); 7] = [
+    (
+        "a suspect at the alive's incarnation",
+        "0383a446726f6da178ab496e6361726e6174696f6e05a44e6f6465a161",
+        "0486a441646472a47f000001ab496e6361726e6174696f6e05a44d657461a0a44e6f6465a161a4506f7274cd1f0aa356736ea0",
+        "a suspect 5 5/7f000001/7946//\n",
+    ),
+    (
+        "a confirm is final",
+        "0583a446726f6da178ab496e6361726e6174696f6e00a44e6f6465a161",
+        "0486a441646472a47f000001ab496e6361726e6174696f6eceffffffffa44d657461a0a44e6f6465a161a4506f7274cd1f0aa356736ea0",
+        "a confirm 0 4294967295/7f000001/7946//\n",
+    ),
+    (
+        "the greater port",
+        "0486a441646472a47f000001ab496e6361726e6174696f6e01a44d657461a0a44e6f6465a161a4506f7274ccffa356736ea0",
+        "0486a441646472a47f000001ab496e6361726e6174696f6e01a44d657461a0a44e6f6465a161a4506f7274cd0100a356736ea0",
+        "a alive 1 1/7f000001/256//\n",
+    ),
+    (
+        "the longer of two addresses that begin alike",
+        "0486a441646472a47f000001ab496e6361726e6174696f6e01a44d657461a0a44e6f6465a161a4506f7274cd1f0aa356736ea0",
+        "0486a441646472b07f000001000000000000000000000000ab496e6361726e6174696f6e01a44d657461a0a44e6f6465a161a4506f7274cd1f0aa356736ea0",
+        "a alive 1 1/7f000001000000000000000000000000/7946//\n",
+    ),
+    (
+        "the greater first byte of an address",
+        "0486a441646472a40a000001ab496e6361726e6174696f6e01a44d657461a0a44e6f6465a161a4506f7274cd1f0aa356736ea0",
+        "0486a441646472b000000000000000000000ffff0a000001ab496e6361726e6174696f6e01a44d657461a0a44e6f6465a161a4506f7274cd1f0aa356736ea0",
+        "a alive 1 1/0a000001/7946//\n",
+    ),
+    (
+        "a leave is final",
+        "0583a446726f6da161ab496e6361726e6174696f6e02a44e6f6465a161",
+        "0486a441646472a47f000001ab496e6361726e6174696f6e05a44d657461a0a44e6f6465a161a4506f7274cd1f0aa356736ea0",
+        "a leave 2 5/7f000001/7946//\n",
+    ),
+    (
+        "a leave wins a tie with a confirm",
+        "0583a446726f6da161ab496e6361726e6174696f6e02a44e6f6465a161",
+        "0583a446726f6da178ab496e6361726e6174696f6e02a44e6f6465a161",
+        "a leave 2 -\n",
+    ),
+];
+
+/// An Alive, a Suspect above it, and an Alive between them.
+const THREE: [&str; 3] = [
+    "0486a441646472a47f000001ab496e6361726e6174696f6e03a44d657461a0a44e6f6465a161a4506f7274cd1f0aa356736ea0",
+    "0383a446726f6da178ab496e6361726e6174696f6e05a44e6f6465a161",
+    "0486a441646472a47f000001ab496e6361726e6174696f6e04a44d657461a0a44e6f6465a161a4506f7274cd1f0ba356736ea0",
+];
+
+/// A line that is refused, and its fault.
+const REFUSED: [(&str, &str); 39] = [
+    ("0383a44e6f6465a161a44e6f6465a162", "18 DuplicateKey"),
+    ("0381a3466f6fa0", "17 UnknownKey"),
+    (
+        "0382a44e6f6465a161ab496e6361726e6174696f6eff",
+        "2 NotUnsigned",
+    ),
+    (
+        "0382a44e6f6465a161ab496e6361726e6174696f6ecf0000000100000000",
+        "3 OutOfRange",
+    ),
+    ("0381a44e6f646501", "5 NotRaw"),
+    ("0481a44d657461da0201", "6 TooLong"),
+    ("0381a44e6f6465da0401", "6 TooLong"),
+    ("0390", "7 NotMap"),
+    ("03c1", "7 NotMap"),
+    ("0384", "8 MapCount"),
+    ("03df00000004", "8 MapCount"),
+    ("03dfffffffff", "8 MapCount"),
+    ("0380", "11 NameEmpty"),
+    ("0481a44e6f6465a161", "13 BadAddress"),
+    (
+        "0483a441646472a47f000001a44e6f6465a161a356736ea3010203",
+        "15 BadVersions",
+    ),
+    ("09", "16 WrongType 9"),
+    ("f4", "16 WrongType 244"),
+    ("04", "1 Ended"),
+    ("0481a44e6f6465da0400616161", "1 Ended"),
+    ("03de0003", "1 Ended"),
+    ("0381ad", "17 UnknownKey"),
+    ("0381dbffffffff", "17 UnknownKey"),
+    ("0381c0", "17 UnknownKey"),
+    ("038101", "5 NotRaw"),
+    (
+        "0383a446726f6da178ab496e6361726e6174696f6e01a44e6f6465a16200",
+        "22 Trailing",
+    ),
+    ("0g", "30 BadHex"),
+    ("09zz", "30 BadHex"),
+    ("090", "30 BadHex"),
+    ("-", "30 BadHex"),
+    (" ", "30 BadHex"),
+    ("09\r\r", "30 BadHex"),
+    ("07", "16 WrongType 7"),
+    (
+        "07020033001d0486a441646472a47f000001ab496e6361726e6174696f6e00a44d657461a0a44e6f6465a161a4506f7274cd1f0aa356736ea00383a446726f6da178ab496e6361726e6174696f6e01a44e6f6465a162",
+        "16 WrongType 7",
+    ),
+    (
+        "07020001001d000383a446726f6da178ab496e6361726e6174696f6e01a44e6f6465a162",
+        "16 WrongType 7",
+    ),
+    (
+        "0702003300010486a441646472a47f000001ab496e6361726e6174696f6e00a44d657461a0a44e6f6465a161a4506f7274cd1f0aa356736ea004",
+        "16 WrongType 7",
+    ),
+    ("0700", "16 WrongType 7"),
+    ("07010000", "16 WrongType 7"),
+    ("0701", "16 WrongType 7"),
+    ("070000", "16 WrongType 7"),
+];
+
+/// The listing of an input that is not refused.
+fn listing(alloc: Global, input: &str) -> Result<Vec<u8>, Fail> {
+    Ok(packets(alloc, input.as_bytes())?)
+}
+
+/// The report of an input that is refused.
+fn refusal(rt: &impl Abort, alloc: Global, input: &str) -> Result<(String, u8), Fail> {
+    match packets(alloc, input.as_bytes()) {
+        Ok(_) => panic!(rt; "{input:?} is listed"),
+        Err(report) if report.what == What::Memory => Err(Fail::from(report)),
+        Err(report) => Ok((report_text(alloc, &report, &[])?, status(&report))),
+    }
+}
+
+#[test]
+fn worked_inputs_give_their_listings(rt: HostRuntime) -> Result<(), Fail> {
+    for (what, input, wanted) in LISTINGS {
+        assert_eq!(rt;
+            listing(rt.alloc(), input)?.as_slice(),
+            wanted.as_bytes(),
+            "{what}"
+        );
+    }
+    Ok(())
+}
+
+#[test]
+fn the_order_of_arrival_does_not_matter(rt: HostRuntime) -> Result<(), Fail> {
+    let alloc = rt.alloc();
+    for (what, first, second, wanted) in BOTH_ORDERS {
+        let one = format!(in alloc; "{first}\n{second}\n")?;
+        assert_eq!(rt;
+            listing(alloc, one.as_str())?.as_slice(),
+            wanted.as_bytes(),
+            "{what}"
+        );
+        let other = format!(in alloc; "{second}\n{first}\n")?;
+        assert_eq!(rt;
+            listing(alloc, other.as_str())?.as_slice(),
+            wanted.as_bytes(),
+            "{what}"
+        );
+    }
+    let [alive, suspect, newer] = THREE;
+    for [a, b, c] in [
+        [alive, suspect, newer],
+        [alive, newer, suspect],
+        [suspect, alive, newer],
+        [suspect, newer, alive],
+        [newer, alive, suspect],
+        [newer, suspect, alive],
+    ] {
+        let input = format!(in alloc; "{a}\n{b}\n{c}\n")?;
+        let wanted = b"a suspect 5 4/7f000001/7947//\n";
+        assert_eq!(rt;
+            listing(alloc, input.as_str())?.as_slice(),
+            wanted.as_slice()
+        );
+    }
+    Ok(())
+}
+
+#[test]
+fn other_spellings_give_the_same_listing(rt: HostRuntime) -> Result<(), Fail> {
+    for (spellings, wanted) in [
+        (ALIVE, "a alive 0 0/7f000001/7946//\n"),
+        (SUSPECT, "b suspect 0 -\n"),
+        (CONFIRM, "c confirm 0 -\n"),
+        (LEAVE, "d leave 0 -\n"),
+    ] {
+        for spelling in spellings {
+            assert_eq!(rt;
+                listing(rt.alloc(), spelling)?.as_slice(),
+                wanted.as_bytes(),
+                "{spelling}"
+            );
+        }
+    }
+    Ok(())
+}
+
+#[test]
+fn a_refused_line_is_reported(rt: HostRuntime) -> Result<(), Fail> {
+    let alloc = rt.alloc();
+    for (line, fault) in REFUSED {
+        let (text, status) = refusal(&rt, alloc, line)?;
+        let wanted = format!(in alloc; "swimtab: line 1: fault {fault}")?;
+        assert_eq!(rt; text.as_str(), wanted.as_str(), "{line}");
+        assert_eq!(rt; status, 3, "{line}");
+    }
+    Ok(())
+}
+
+#[test]
+fn lines_are_told_apart_as_they_are_written(rt: HostRuntime) -> Result<(), Fail> {
+    let alloc = rt.alloc();
+    for (input, wanted) in [
+        ("\n\r\n0381A44E6F6465A162\r\n\n", "b suspect 0 -\n"),
+        ("\r", ""),
+        (
+            "0381a44e6f6465a162\r\n0381a44e6f6465A163",
+            "b suspect 0 -\nc suspect 0 -\n",
+        ),
+    ] {
+        assert_eq!(rt;
+            listing(alloc, input)?.as_slice(),
+            wanted.as_bytes(),
+            "{input:?}"
+        );
+    }
+    let (text, _) = refusal(&rt, alloc, "\n\r\n0381a44e6f6465a162\r\n\n0380\n0g\n")?;
+    assert_eq!(rt; text.as_str(), "swimtab: line 5: fault 11 NameEmpty");
+    Ok(())
+}
+
+#[test]
+fn the_longest_name_is_listed(rt: HostRuntime) -> Result<(), Fail> {
+    let alloc = rt.alloc();
+    let mut input = String::from_str(alloc, "0381a44e6f6465da0400")?;
+    let mut wanted = String::new(alloc);
+    for _ in 0..1024 {
+        input.push_str("6e")?;
+        wanted.push_str("n")?;
+    }
+    wanted.push_str(" suspect 0 -\n")?;
+    assert_eq!(rt;
+        listing(alloc, input.as_str())?.as_slice(),
+        wanted.as_bytes()
+    );
+    Ok(())
+}
+
+#[test]
+fn each_report_has_its_text_and_status(rt: HostRuntime) -> Result<(), Fail> {
+    let alloc = rt.alloc();
+    let files = vec![in alloc; String::from_str(alloc, "x y")?]?;
+    for (place, what, wanted, number) in [
+        (
+            Place::Input,
+            What::Device,
+            "swimtab: input: device fault",
+            4,
+        ),
+        (
+            Place::Output,
+            What::Device,
+            "swimtab: output: device fault",
+            4,
+        ),
+        (Place::Line(7), What::Memory, "swimtab: out of memory", 5),
+        (
+            Place::Input,
+            What::input_too_long(),
+            "swimtab: input: fault 32 InputTooLong",
+            3,
+        ),
+        (
+            Place::File(0),
+            What::from(WireFault::BadState { found: 4 }),
+            "swimtab: x y: fault 19 BadState 4",
+            3,
+        ),
+        (
+            Place::Loop,
+            What::from(WireFault::Ended),
+            "swimtab: loop: fault 1 Ended",
+            3,
+        ),
+        (
+            Place::Loop,
+            What::Refused {
+                number: 33,
+                found: None,
+            },
+            "swimtab: loop: fault 33 Unknown",
+            3,
+        ),
+    ] {
+        let report = what.at(place);
+        assert_eq!(rt;
+            report_text(alloc, &report, files.as_slice())?.as_str(),
+            wanted
+        );
+        assert_eq!(rt; status(&report), number, "{wanted}");
+    }
+    Ok(())
+}
+
+#[test]
+fn want_of_memory_is_answered_as_such_and_then_repeated(rt: HostRuntime) -> Result<(), Fail> {
+    let (_, input, wanted) = LISTINGS[0];
+    match packets(rt.alloc(), input.as_bytes()) {
+        Ok(listing) => assert_eq!(rt; listing.as_slice(), wanted.as_bytes()),
+        Err(report) => {
+            assert_eq!(rt; report.what, What::Memory);
+            assert_eq!(rt; status(&report), 5);
+            assert_eq!(rt; listing(rt.alloc(), input)?.as_slice(), wanted.as_bytes());
+        }
+    }
+    Ok(())
+}
+
+#[test]
+fn words_ask_for_the_listing_of_packets_alone(rt: HostRuntime) -> Result<(), Fail> {
+    let alloc = rt.alloc();
+    match chosen(alloc, &[]) {
+        Ok(chosen) => assert_eq!(rt; chosen.verb(), Verb::Packets),
+        Err(fault) => return Err(Fail::from(fault)),
+    }
+    for word in ["list", "swap", "--help", "--version", "-"] {
+        let words = vec![in alloc; String::from_str(alloc, word)?]?;
+        let refused = matches!(
+            chosen(alloc, words.as_slice()),
+            Err(WordFault::Words(_) | WordFault::Memory)
+        );
+        assert!(rt; refused, "{word}");
+    }
+    Ok(())
+}
