@@ -9,3 +9,6 @@ mod packet;
 
 pub use fault::WireFault;
 pub use packet::{Packet, decode_packet};
+
+#[cfg(test)]
+mod tests;

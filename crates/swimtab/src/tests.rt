@@ -1,5 +1,7 @@
 //! What the program prints of worked inputs.
 
+ghost use Rattle.swimtab.specs.Report.{IsAmong};
+
 mod spellings;
 mod streams;
 
@@ -307,59 +309,50 @@ fn the_longest_name_is_listed(rt: HostRuntime) -> Result<(), Fail> {
     Ok(())
 }
 
+/// What is said of a run over the file `x y`, and its status.
+fn said(alloc: Global, place: Place, what: What) -> Result<(String, u8), Fail>
+    requires { IsAmong place 1 }
+{
+    let files = [String::from_str(alloc, "x y")?];
+    let report = what.at(place);
+    Ok((report_text(alloc, &report, &files)?, status(&report)))
+}
+
+#[test]
+fn a_fault_of_a_file_names_it_by_its_word(rt: HostRuntime) -> Result<(), Fail> {
+    let what = What::from(WireFault::BadState { found: 4 });
+    let (text, status) = said(rt.alloc(), Place::File(0), what)?;
+    assert_eq!(rt; text.as_str(), "swimtab: x y: fault 19 BadState 4");
+    assert_eq!(rt; status, 3);
+    Ok(())
+}
+
 #[test]
 fn each_report_has_its_text_and_status(rt: HostRuntime) -> Result<(), Fail> {
-    let alloc = rt.alloc();
-    let files = vec![in alloc; String::from_str(alloc, "x y")?]?;
-    for (place, what, wanted, number) in [
+    let too_long = What::input_too_long();
+    let unknown = What::Refused {
+        number: 33,
+        found: None,
+    };
+    for (what, wanted, number) in [
+        (What::Device, "swimtab: input: device fault", 4),
+        (What::Memory, "swimtab: out of memory", 5),
+        (too_long, "swimtab: input: fault 32 InputTooLong", 3),
         (
-            Place::Input,
-            What::Device,
-            "swimtab: input: device fault",
-            4,
-        ),
-        (
-            Place::Output,
-            What::Device,
-            "swimtab: output: device fault",
-            4,
-        ),
-        (Place::Line(7), What::Memory, "swimtab: out of memory", 5),
-        (
-            Place::Input,
-            What::input_too_long(),
-            "swimtab: input: fault 32 InputTooLong",
-            3,
-        ),
-        (
-            Place::File(0),
-            What::from(WireFault::BadState { found: 4 }),
-            "swimtab: x y: fault 19 BadState 4",
-            3,
-        ),
-        (
-            Place::Loop,
             What::from(WireFault::Ended),
-            "swimtab: loop: fault 1 Ended",
+            "swimtab: input: fault 1 Ended",
             3,
         ),
-        (
-            Place::Loop,
-            What::Refused {
-                number: 33,
-                found: None,
-            },
-            "swimtab: loop: fault 33 Unknown",
-            3,
-        ),
+        (unknown, "swimtab: input: fault 33 Unknown", 3),
     ] {
-        let report = what.at(place);
-        assert_eq!(rt;
-            report_text(alloc, &report, files.as_slice())?.as_str(),
-            wanted
-        );
-        assert_eq!(rt; status(&report), number, "{wanted}");
+        let (text, status) = said(rt.alloc(), Place::Input, what)?;
+        assert_eq!(rt; text.as_str(), wanted);
+        assert_eq!(rt; status, number, "{wanted}");
     }
+    let (text, _) = said(rt.alloc(), Place::Output, What::Device)?;
+    assert_eq!(rt; text.as_str(), "swimtab: output: device fault");
+    let (text, _) = said(rt.alloc(), Place::Loop, What::Device)?;
+    assert_eq!(rt; text.as_str(), "swimtab: loop: device fault");
     Ok(())
 }
 

@@ -1,5 +1,7 @@
 //! Standard input and output that fail, are interrupted, or are long.
 
+ghost use Rattle.std.specs.Prelude.{◌≤◌, IfOk};
+
 use crate::device::{BOUND, read_to_bound, write_out};
 use crate::packets::packets;
 use crate::report::{Place, What};
@@ -27,7 +29,9 @@ impl Stream {
         }
     }
 
-    fn step(&mut self, room: usize) -> io::Result<usize> {
+    fn step(&mut self, room: usize) -> io::Result<usize>
+        ensures { IfOk result (λ count. count ≤ room) }
+    {
         if self.interruptions > 0 {
             self.interruptions -= 1;
             return Err(Error::from(ErrorKind::Interrupted));

@@ -1,0 +1,126 @@
+//! Packets by their bytes.
+
+use crate::{Packet, WireFault, decode_packet};
+use std::alloc::Global;
+use std::process::Abort;
+use std::test::Fail;
+use swim_claim::{Claim, Kind, Name};
+
+/// An Alive of `a` at incarnation 0, at 127.0.0.1 and port 7946.
+const ALIVE: &[u8] =
+    b"\x04\x86\xa4Addr\xa4\x7f\0\0\x01\xabIncarnation\0\xa4Meta\xa0\xa4Node\xa1a\xa4Port\xcd\x1f\x0a\xa3Vsn\xa0";
+
+/// A Suspect of `b` at incarnation 1, made by `x`.
+const SUSPECT: &[u8] = b"\x03\x83\xa4From\xa1x\xabIncarnation\x01\xa4Node\xa1b";
+
+/// A Confirm of `a` at incarnation 0, made by `x`.
+const CONFIRM: &[u8] = b"\x05\x83\xa4From\xa1x\xabIncarnation\0\xa4Node\xa1a";
+
+/// A Leave of `a` at incarnation 2.
+const LEAVE: &[u8] = b"\x05\x83\xa4From\xa1a\xabIncarnation\x02\xa4Node\xa1a";
+
+#[test]
+fn a_packet_is_read_with_its_parts(rt: HostRuntime) -> Result<(), Fail> {
+    for (bytes, kind, name, inc, from) in [
+        (ALIVE, Kind::Alive, b"a", 0, ""),
+        (SUSPECT, Kind::Suspect, b"b", 1, "x"),
+        (CONFIRM, Kind::Confirm, b"a", 0, "x"),
+        (LEAVE, Kind::Leave, b"a", 2, "a"),
+    ] {
+        let packet = decode_packet(rt.alloc(), bytes)?;
+        assert_eq!(rt; packet.from_name(), from.as_bytes());
+        let claim = packet.into_claim();
+        assert_eq!(rt; claim.kind(), kind);
+        assert_eq!(rt; claim.name().bytes(), name.as_slice());
+        assert_eq!(rt; claim.inc(), inc);
+    }
+    Ok(())
+}
+
+#[test]
+fn an_alive_packet_has_the_details(rt: HostRuntime) -> Result<(), Fail> {
+    let packet = decode_packet(rt.alloc(), ALIVE)?;
+    let details = packet.claim().details().expect(&rt, "the details");
+    assert_eq!(rt; details.addr(), [127, 0, 0, 1].as_slice());
+    assert_eq!(rt; details.port(), 7946);
+    assert_eq!(rt; details.meta().len() + details.vsn().len(), 0);
+    Ok(())
+}
+
+#[test]
+fn a_packet_keeps_the_parts_that_it_is_made_of(rt: HostRuntime) -> Result<(), Fail> {
+    let alloc = rt.alloc();
+    let name = Name::new(b"b".to_vec(alloc)?)?;
+    let packet = Packet::new(Claim::Suspect { name, inc: 1 }, b"x".to_vec(alloc)?);
+    assert_eq!(rt; packet.claim().kind(), Kind::Suspect);
+    assert_eq!(rt; packet.claim().inc(), 1);
+    assert_eq!(rt; packet.from_name(), b"x".as_slice());
+    Ok(())
+}
+
+/// Why the bytes are refused.
+fn refusal(rt: &impl Abort, alloc: Global, bytes: &[u8]) -> Result<WireFault, Fail> {
+    match decode_packet(alloc, bytes) {
+        Ok(_) => panic!(rt; "{bytes:?} is read"),
+        Err(WireFault::Memory) => Err(Fail::from(WireFault::Memory)),
+        Err(fault) => Ok(fault),
+    }
+}
+
+#[test]
+fn a_cut_packet_is_refused_as_ended(rt: HostRuntime) -> Result<(), Fail> {
+    for packet in [ALIVE, SUSPECT, CONFIRM, LEAVE] {
+        for end in 0..packet.len() {
+            let fault = refusal(&rt, rt.alloc(), &packet[..end])?;
+            assert_eq!(rt; fault, WireFault::Ended, "at {end}");
+        }
+    }
+    Ok(())
+}
+
+#[test]
+fn each_fault_has_its_number(rt: HostRuntime) -> Result<(), Fail> {
+    for (bytes, fault, number) in [
+        (b"".as_slice(), WireFault::Ended, 1),
+        (b"\x03\x81\xabIncarnation\xff", WireFault::NotUnsigned, 2),
+        (
+            b"\x03\x81\xabIncarnation\xcf\0\0\0\x01\0\0\0\0",
+            WireFault::OutOfRange,
+            3,
+        ),
+        (b"\x03\x81\xa4Node\x01", WireFault::NotRaw, 5),
+        (b"\x04\x81\xa4Meta\xda\x02\x01", WireFault::TooLong, 6),
+        (b"\x03\x90", WireFault::NotMap, 7),
+        (b"\x03\x84", WireFault::MapCount, 8),
+        (b"\x03\x80", WireFault::NameEmpty, 11),
+        (b"\x04\x81\xa4Node\xa1a", WireFault::BadAddress, 13),
+        (
+            b"\x04\x83\xa4Addr\xa4\x7f\0\0\x01\xa4Node\xa1a\xa3Vsn\xa3\x01\x02\x03",
+            WireFault::BadVersions,
+            15,
+        ),
+        (b"\x07", WireFault::WrongType { found: 7 }, 16),
+        (b"\x03\x81\xa3Foo\xa0", WireFault::UnknownKey, 17),
+        (
+            b"\x03\x82\xa4Node\xa1a\xa4Node\xa1b",
+            WireFault::DuplicateKey,
+            18,
+        ),
+        (b"\x03\x81\xa4Node\xa1a\0", WireFault::Trailing, 22),
+    ] {
+        assert_eq!(rt; refusal(&rt, rt.alloc(), bytes)?, fault);
+        assert_eq!(rt; fault.number(), number);
+    }
+    Ok(())
+}
+
+#[test]
+fn want_of_memory_is_answered_as_such_and_then_repeated(rt: HostRuntime) -> Result<(), Fail> {
+    if let Err(fault) = decode_packet(rt.alloc(), ALIVE) {
+        assert_eq!(rt; fault, WireFault::Memory);
+        assert_eq!(rt; fault.number(), 10);
+        let packet = decode_packet(rt.alloc(), ALIVE)?;
+        assert_eq!(rt; packet.claim().kind(), Kind::Alive);
+    }
+    Ok(())
+}
