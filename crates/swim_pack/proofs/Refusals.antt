@@ -1,0 +1,22 @@
+-- Refused pulls of inlets over memory, which leave all the bytes.
+use Rattle.std.proofs.Common.{◌≡◌, ℕ, ◌<◌, ◌≤◌, List, [], Some, Result, Ok, Err, refl, sym, arith}
+use Rattle.std.specs.Prelude.{OnErr, IsOk, ◌↔◌}
+use Rattle.swim_pack.specs.declared.fault.PullFault.{PullFault}
+use Rattle.swim_pack.specs.declared.fault.PullFault.TheVariants.{Ended, Fault}
+use Rattle.swim_pack.specs.Ends.{Skips}
+
+-- bytes that stay are an end of themselves
+pub Skips-kept : {A E : Type 0} (r : Result A E) (old new : List ℕ) → OnErr r (new ≡ old) → OnErr r (Skips (Some old) (Some new))
+Skips-kept (Ok x) old new kept = tt
+Skips-kept (Err error) old new kept = ([], sym kept)
+
+-- refused, fewer bytes are left
+pub short_where_refused : {A E : Type 0} (r : Result A E) (error : E) (wanted left : ℕ) → (IsOk r ↔ (wanted ≤ left)) → r ≡ Err error → left < wanted
+short_where_refused (Ok x) error wanted left enough e = absurd cc
+short_where_refused (Err other) error wanted left enough e = let refused = enough.1 in grind arith
+
+-- a pull with an empty buffer is refused by nothing
+pub ok_where_empty : {A : Type 0} (r : Result A PullFault) (wanted left calls : ℕ) → (r ≡ Err Fault ↔ (0 < wanted) × (calls ≤ 1)) → (r ≡ Err Ended → left < wanted) → wanted ≡ 0 → IsOk r
+ok_where_empty (Ok x) wanted left calls stops ended none = refl
+ok_where_empty (Err Ended) wanted left calls stops ended none = let short = ended refl in absurd (omega arith)
+ok_where_empty (Err Fault) wanted left calls stops ended none = let room = (stops.0 refl).0 in absurd (omega arith)

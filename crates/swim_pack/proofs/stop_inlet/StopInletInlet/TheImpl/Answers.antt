@@ -1,0 +1,12 @@
+use Rattle.swim_pack.proofs.Refusals.{Skips-kept, ok_where_empty}
+use Rattle.swim_pack.proofs.stop_inlet.StopInletInlet.TheImpl.Goals as goal
+
+pub pull-tells : goal.pull-tells
+pull-tells g c = record {
+  ok = c.ensures.ok;
+  empty = ok_where_empty c.result _ _ _ c.ensures.stops c.ensures.ended;
+  ended = c.ensures.ended;
+  fault = c.ensures.fault;
+  refused = Skips-kept c.result _ _ c.ensures.kept;
+  faults_stay = c.ensures.faults_stay;
+}

@@ -1,0 +1,103 @@
+//! A reader and a writer that do as they are told.
+
+use std::io;
+use std::io::{Error, ErrorKind, Read, Write};
+
+/// Gives its bytes, at most so many a read, after it was interrupted so many times.
+#[derive(Drop)]
+pub struct Pieces<'a> {
+    pub bytes: &'a [u8],
+    pub most: usize,
+    pub interruptions: u32,
+    /// Behind its bytes it fails, and does not end.
+    pub fails: bool,
+    /// How often it was asked.
+    pub reads: u32,
+}
+
+impl<'a> Pieces<'a> {
+    pub fn new(bytes: &'a [u8], most: usize) -> Pieces<'a> {
+        Pieces {
+            bytes,
+            most,
+            interruptions: 0,
+            fails: false,
+            reads: 0,
+        }
+    }
+}
+
+impl Read for Pieces<'_> {
+    fn read(&mut self, buf: &mut [u8]) -> io::Result<usize> {
+        self.reads = self.reads.saturating_add(1);
+        if self.interruptions > 0 {
+            self.interruptions -= 1;
+            return Err(Error::from(ErrorKind::Interrupted));
+        }
+        if self.fails && self.bytes.is_empty() {
+            return Err(Error::from(ErrorKind::ConnectionReset));
+        }
+        let count = self.most.min(buf.len()).min(self.bytes.len());
+        let (front, rest) = self.bytes.split_at(count);
+        buf[..count].copy_from_slice(front);
+        self.bytes = rest;
+        Ok(count)
+    }
+}
+
+/// What the write does that a `Taker` does not take.
+#[derive(Clone, Copy)]
+pub enum Refusal {
+    Nothing,
+    Error,
+}
+
+/// Takes up to 8 bytes, at most so many a write, after it was interrupted so many times.
+#[derive(Drop)]
+pub struct Taker {
+    pub taken: [u8; 8],
+    pub len: usize,
+    pub most: usize,
+    pub interruptions: u32,
+    /// From the write of this number on, counted from 1, it refuses.
+    pub refuses_at: u32,
+    pub refusal: Refusal,
+}
+
+impl Taker {
+    pub fn new(most: usize) -> Taker {
+        Taker {
+            taken: [0; 8],
+            len: 0,
+            most,
+            interruptions: 0,
+            refuses_at: u32::MAX,
+            refusal: Refusal::Error,
+        }
+    }
+}
+
+impl Write for Taker {
+    fn write(&mut self, buf: &[u8]) -> io::Result<usize> {
+        if self.interruptions > 0 {
+            self.interruptions -= 1;
+            return Err(Error::from(ErrorKind::Interrupted));
+        }
+        if self.refuses_at <= 1 {
+            return match self.refusal {
+                Refusal::Nothing => Ok(0),
+                Refusal::Error => Err(Error::from(ErrorKind::ConnectionReset)),
+            };
+        }
+        self.refuses_at -= 1;
+        let start = self.len.min(8);
+        let count = self.most.min(buf.len()).min(8 - start);
+        self.taken[start..start + count].copy_from_slice(&buf[..count]);
+        self.len = start + count;
+        Ok(count)
+    }
+
+    fn flush(&mut self) -> io::Result<()> {
+        Ok(())
+    }
+}

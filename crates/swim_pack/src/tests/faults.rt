@@ -1,0 +1,68 @@
+use crate::{PackFault, PullFault, PushFault};
+use std::alloc::{AllocError, Global};
+use std::fmt::Display;
+use std::test::Fail;
+
+/// The text that is shown for it, tried once more where memory is refused.
+fn text_of<T: Display>(alloc: Global, fault: &T) -> Result<String, AllocError> {
+    match format!(in alloc; "{fault}") {
+        Err(_) => format!(in alloc; "{fault}"),
+        text => text,
+    }
+}
+
+#[test]
+fn each_fault_has_its_number(rt: HostRuntime) {
+    assert_eq!(rt; PullFault::Ended.number(), 1);
+    assert_eq!(rt; PullFault::Fault.number(), 9);
+    assert_eq!(rt; PushFault::Memory.number(), 10);
+    assert_eq!(rt; PushFault::Fault.number(), 29);
+    for (fault, number) in [
+        (PackFault::Ended, 1),
+        (PackFault::NotUnsigned, 2),
+        (PackFault::OutOfRange, 3),
+        (PackFault::NotBool, 4),
+        (PackFault::NotRaw, 5),
+        (PackFault::TooLong, 6),
+        (PackFault::NotMap, 7),
+        (PackFault::MapCount, 8),
+        (PackFault::Fault, 9),
+        (PackFault::Memory, 10),
+    ] {
+        assert_eq!(rt; fault.number(), number, "{fault}");
+    }
+}
+
+#[test]
+fn each_fault_has_its_text(rt: HostRuntime) -> Result<(), Fail> {
+    for (fault, text) in [
+        (PackFault::Ended, "the input ends too early"),
+        (
+            PackFault::NotUnsigned,
+            "expected a number that is not negative",
+        ),
+        (PackFault::OutOfRange, "the number is too large"),
+        (PackFault::NotBool, "expected true or false"),
+        (PackFault::NotRaw, "expected text or bytes"),
+        (PackFault::TooLong, "the text or bytes are too long"),
+        (PackFault::NotMap, "expected a map"),
+        (PackFault::MapCount, "the map has too many entries"),
+        (PackFault::Fault, "the input could not be read"),
+        (PackFault::Memory, "out of memory"),
+    ] {
+        assert_eq!(rt; text_of(rt.alloc(), &fault)?.as_str(), text);
+    }
+    for (fault, text) in [
+        (PullFault::Ended, "the input ends too early"),
+        (PullFault::Fault, "the input could not be read"),
+    ] {
+        assert_eq!(rt; text_of(rt.alloc(), &fault)?.as_str(), text);
+    }
+    for (fault, text) in [
+        (PushFault::Fault, "the output could not be written"),
+        (PushFault::Memory, "out of memory"),
+    ] {
+        assert_eq!(rt; text_of(rt.alloc(), &fault)?.as_str(), text);
+    }
+    Ok(())
+}
