@@ -1,0 +1,24 @@
+-- Values that fit their keys.
+use Rattle.std.proofs.Common.{◌≡◌, ℕ, zero, suc, ◌<◌, ◌≤◌, List, [], ◌∷◌, length, Option, Some, None, slice_index_or, slice_set, arith}
+use Rattle.swim_wire.specs.declared.layout.Field.{Field}
+use Rattle.swim_wire.specs.declared.map.Value.{Value}
+use Rattle.swim_wire.specs.Layout.{Fits, FitsEach}
+
+-- one more value that fits its key
+pub FitsEach-set : (layout : List Field) (values : List (Option Value)) (place : ℕ) (d : Field) (value : Value) → place < length layout
+    → FitsEach layout values → Fits (let field = slice_index_or layout place d in field.limit) value → FitsEach layout (slice_set values place (Some value))
+FitsEach-set [] values place d value within fits fit = tt
+FitsEach-set (field ∷ layout) [] place d value within fits fit = absurd fits
+FitsEach-set (field ∷ layout) (old ∷ values) zero d value within fits fit = (fit, fits.1)
+FitsEach-set (field ∷ layout) (old ∷ values) (suc place) d value within fits fit =
+    (fits.0, FitsEach-set layout values place d value (omega arith) fits.1 fit)
+
+-- where no value was read, each fits
+abbrev pub nones : ℕ → List (Option Value)
+nones zero = []
+nones (suc n) = None ∷ nones n
+
+pub FitsEach-nones : (layout : List Field) (n : ℕ) → length layout ≤ n → FitsEach layout (nones n)
+FitsEach-nones [] n room = tt
+FitsEach-nones (field ∷ layout) zero room = absurd (omega arith)
+FitsEach-nones (field ∷ layout) (suc n) room = (tt, FitsEach-nones layout n (omega arith))

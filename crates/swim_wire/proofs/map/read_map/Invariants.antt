@@ -1,0 +1,5 @@
+use Rattle.swim_wire.specs.Layout.{FitsEach}
+use Rattle.swim_wire.proofs.map.read_map.Given as goal
+
+abbrev pub invariant-loop : goal.invariant-loop
+invariant-loop g l = FitsEach l.layout l.values

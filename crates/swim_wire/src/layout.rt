@@ -1,0 +1,107 @@
+//! The keys of each map, what stands behind them, and their limits.
+
+ghost use Rattle.std.specs.Prelude.{◌≡◌};
+ghost use Rattle.swim_wire.specs.Layout.{key_text};
+
+/// A key of a map, by memberlist's names of fields.
+#[derive(Clone, Copy)]
+pub(crate) enum Key {
+    Addr,
+    From,
+    Incarnation,
+    Meta,
+    Node,
+    Port,
+    Vsn,
+}
+
+/// What stands behind a key, and how great or how long it may be.
+#[derive(Clone, Copy)]
+pub(crate) enum Limit {
+    /// A number of at most this.
+    Number(u64),
+    /// Text or bytes of at most this length.
+    Raw(usize),
+    /// A truth value.
+    Flag,
+}
+
+/// A key of a layout, and the limit of its value.
+#[derive(Clone, Copy)]
+pub(crate) struct Field {
+    pub(crate) key: Key,
+    pub(crate) limit: Limit,
+}
+
+/// The longest address in bytes, that of IPv6.
+const ADDRESS: usize = 16;
+
+/// The longest metadata in bytes, as in memberlist.
+const META: usize = 512;
+
+/// The longest name of a member in bytes.
+const NAME: usize = 1024;
+
+/// The versions of memberlist's protocol and of its user's, three bytes each.
+const VERSIONS: usize = 6;
+
+/// memberlist's `alive`.
+pub(crate) const ALIVE: [Field; 6] = [
+    Field {
+        key: Key::Addr,
+        limit: Limit::Raw(ADDRESS),
+    },
+    Field {
+        key: Key::Incarnation,
+        limit: Limit::Number(u32::MAX as u64),
+    },
+    Field {
+        key: Key::Meta,
+        limit: Limit::Raw(META),
+    },
+    Field {
+        key: Key::Node,
+        limit: Limit::Raw(NAME),
+    },
+    Field {
+        key: Key::Port,
+        limit: Limit::Number(u16::MAX as u64),
+    },
+    Field {
+        key: Key::Vsn,
+        limit: Limit::Raw(VERSIONS),
+    },
+];
+
+/// memberlist's `suspect` and `dead`.
+pub(crate) const ACCUSATION: [Field; 3] = [
+    Field {
+        key: Key::From,
+        limit: Limit::Raw(NAME),
+    },
+    Field {
+        key: Key::Incarnation,
+        limit: Limit::Number(u32::MAX as u64),
+    },
+    Field {
+        key: Key::Node,
+        limit: Limit::Raw(NAME),
+    },
+];
+
+impl Key {
+    /// The text of the key in a map.
+    pub(crate) fn text(self) -> &'static [u8]
+        ensures { result.now ≡ key_text self }
+    {
+        match self {
+            Key::Addr => b"Addr",
+            Key::From => b"From",
+            Key::Incarnation => b"Incarnation",
+            Key::Meta => b"Meta",
+            Key::Node => b"Node",
+            Key::Port => b"Port",
+            Key::Vsn => b"Vsn",
+        }
+    }
+}

@@ -1,0 +1,123 @@
+//! Packets: one claim each.
+
+ghost use Rattle.std.specs.Prelude.{◌≡◌};
+ghost use Rattle.std.specs.Prelude.{length};
+ghost use Rattle.swim_claim.specs.declared.claim.Claim.{Claim};
+ghost use Rattle.swim_wire.specs.Packet.{IsLegalPacket};
+
+use crate::WireFault;
+use crate::layout::{ACCUSATION, ALIVE};
+use crate::map::read_map;
+use crate::message::{Accusation, Alive};
+use std::alloc::Global;
+use std::marker::Model;
+use swim_claim::{Claim, Details, Name};
+use swim_pack::{Inlet, SliceInlet};
+
+/// The first byte of a suspect message, as in memberlist's `net.go`.
+const SUSPECT_MESSAGE: u8 = 3;
+
+/// The first byte of an alive message.
+const ALIVE_MESSAGE: u8 = 4;
+
+/// The first byte of a dead message.
+const DEAD_MESSAGE: u8 = 5;
+
+/// A claim, and the member that makes it. Contracts see it as these two.
+#[derive(Drop, Debug)]
+pub struct Packet {
+    claim: Claim,
+    from: Vec<u8>,
+}
+
+impl Model for Packet {
+    ghost use Rattle.swim_wire.specs.Packet.{PacketValue, IsLegalPacket};
+
+    ghost Value = { PacketValue };
+
+    ghost view = { λ p. record { claim = p.claim; from = p.from.items } };
+
+    ghost invariant = { λ p. IsLegalPacket p.claim p.from.items };
+}
+
+impl Packet {
+    /// A packet of a claim that the member `from` makes, of at most 1,024 bytes. It is empty for an
+    /// Alive, which a member makes about itself, it is the claim's name for a Leave, and it is
+    /// another name for a Confirm.
+    pub fn new(claim: Claim, from: Vec<u8>) -> Packet
+        requires { IsLegalPacket claim from.items }
+        ensures { result ≡ record { claim = claim; from = from.items } }
+    {
+        Packet { claim, from }
+    }
+
+    pub fn claim(&self) -> &Claim
+        ensures { result.now ≡ self.now.claim }
+    {
+        &self.claim
+    }
+
+    /// The name of the member that makes the claim, or nothing for an Alive.
+    pub fn from_name(&self) -> &[u8]
+        ensures from { result.now ≡ self.now.from }
+        ensures legal { IsLegalPacket self.now.claim self.now.from }
+    {
+        &self.from
+    }
+
+    pub fn into_claim(self) -> Claim
+        ensures { result ≡ self.claim }
+    {
+        self.claim
+    }
+}
+
+/// Reads a packet: its type byte, one map, and nothing after it.
+pub fn decode_packet(alloc: Global, bytes: &[u8]) -> Result<Packet, WireFault> {
+    let mut inlet = SliceInlet::new(bytes);
+    let packet = read_packet(alloc, &mut inlet)?;
+    if inlet.rest().is_empty() {
+        Ok(packet)
+    } else {
+        Err(WireFault::Trailing)
+    }
+}
+
+fn read_packet<I: Inlet>(alloc: Global, inlet: &mut I) -> Result<Packet, WireFault> {
+    let mut first = [0];
+    inlet.pull(&mut first)?;
+    match first[0] {
+        ALIVE_MESSAGE => read_alive(alloc, inlet),
+        SUSPECT_MESSAGE => read_suspect(alloc, inlet),
+        DEAD_MESSAGE => read_dead(alloc, inlet),
+        found => Err(WireFault::WrongType { found }),
+    }
+}
+
+fn read_alive<I: Inlet>(alloc: Global, inlet: &mut I) -> Result<Packet, WireFault> {
+    let alive = Alive::new(alloc, read_map(alloc, inlet, &ALIVE)?);
+    let name = Name::new(alive.node)?;
+    let inc = alive.incarnation;
+    let details = Details::new(alive.addr, alive.port, alive.meta, alive.vsn)?;
+    Ok(Packet::new(Claim::Alive { name, inc, details }, Vec::new(alloc)))
+}
+
+fn read_suspect<I: Inlet>(alloc: Global, inlet: &mut I) -> Result<Packet, WireFault> {
+    let suspect = Accusation::new(alloc, read_map(alloc, inlet, &ACCUSATION)?);
+    let name = Name::new(suspect.node)?;
+    let inc = suspect.incarnation;
+    Ok(Packet::new(Claim::Suspect { name, inc }, suspect.from))
+}
+
+/// A member that is dead by its own word has left.
+fn read_dead<I: Inlet>(alloc: Global, inlet: &mut I) -> Result<Packet, WireFault> {
+    let dead = Accusation::new(alloc, read_map(alloc, inlet, &ACCUSATION)?);
+    let name = Name::new(dead.node)?;
+    let inc = dead.incarnation;
+    let claim = if dead.from.as_slice() == name.bytes() {
+        Claim::Leave { name, inc }
+    } else {
+        Claim::Confirm { name, inc }
+    };
+    Ok(Packet::new(claim, dead.from))
+}
