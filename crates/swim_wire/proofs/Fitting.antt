@@ -2,7 +2,7 @@
 use Rattle.std.proofs.Common.{◌≡◌, ℕ, zero, suc, ◌<◌, ◌≤◌, List, [], ◌∷◌, length, Option, Some, None, slice_index_or, slice_set, arith}
 use Rattle.swim_wire.specs.declared.layout.Field.{Field}
 use Rattle.swim_wire.specs.declared.map.Value.{Value}
-use Rattle.swim_wire.specs.Layout.{Fits, FitsEach}
+use Rattle.swim_wire.specs.Slots.{Fits, FitsEach}
 
 -- one more value that fits its key
 pub FitsEach-set : (layout : List Field) (values : List (Option Value)) (place : ℕ) (d : Field) (value : Value) → place < length layout

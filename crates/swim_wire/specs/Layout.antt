@@ -1,52 +1,103 @@
--- What stands behind the keys of a map, within their limits.
-use Rattle.std.specs.Prelude.{ℕ, ◌≤◌, List, [], ◌∷◌, length, Option, Some, None, codes}
-use Rattle.swim_wire.specs.declared.layout.Field.{Field}
-use Rattle.swim_wire.specs.declared.layout.Key.{Key}
-use Rattle.swim_wire.specs.declared.layout.Key.TheVariants as keys
+-- Maps as memberlist writes them in MessagePack: keys of a layout, each with a value within its limit.
+use Rattle.std.specs.Prelude.{◌≡◌, ℕ, ◌≤◌, Bool, true, false, List, [], ◌∷◌, ◌++◌, length, map, Option, Some, None, codes}
+use Rattle.std.specs.List.{IsDistinct}
+use Rattle.std.specs.Map.{lookup}
+use Rattle.std.specs.Str.{bytes_eq}
+use Rattle.swim_pack.specs.Spelling.{Number, Raw, Flag, Count}
 use Rattle.swim_wire.specs.declared.layout.Limit.{Limit}
 use Rattle.swim_wire.specs.declared.layout.Limit.TheVariants as limits
-use Rattle.swim_wire.specs.declared.map.Value.{Value}
-use Rattle.swim_wire.specs.declared.map.Value.TheVariants.{Number, Raw, Flag}
 
--- the text of a key, which is memberlist's name of the field
-abbrev pub key_text : Key → List ℕ
-key_text keys.Addr = codes "Addr"
-key_text keys.From = codes "From"
-key_text keys.Incarnation = codes "Incarnation"
-key_text keys.Meta = codes "Meta"
-key_text keys.Node = codes "Node"
-key_text keys.Port = codes "Port"
-key_text keys.Vsn = codes "Vsn"
+-- a value of a map
+pub data Spelled : Type 0 where
+  number : ℕ → Spelled
+  raw : List ℕ → Spelled
+  flag : Bool → Spelled
 
--- the value is of the kind and within the limit
-abbrev pub Fits : Limit → Value → Type 0
-Fits (limits.Number max) (Number v) = v ≤ max
-Fits (limits.Number max) (Raw bytes) = ⊥
-Fits (limits.Number max) (Flag flag) = ⊥
-Fits (limits.Raw limit) (Raw bytes) = length bytes.items ≤ limit
-Fits (limits.Raw limit) (Number v) = ⊥
-Fits (limits.Raw limit) (Flag flag) = ⊥
-Fits limits.Flag (Flag flag) = Unit {0}
-Fits limits.Flag (Number v) = ⊥
-Fits limits.Flag (Raw bytes) = ⊥
+-- the bytes b spell the value, which is of this kind and within this limit
+abbrev pub Spells : Limit → List ℕ → Spelled → Type 0
+Spells (limits.Number max) b (number v) = Number b v × (v ≤ max)
+Spells (limits.Raw limit) b (raw s) = Raw b s × (length s ≤ limit)
+Spells limits.Flag b (flag f) = Flag b f
+Spells limit b value = ⊥
 
--- so is the value of a key, where there is one
-abbrev pub FitsIfSome : Limit → Option Value → Type 0
-FitsIfSome limit None = Unit {0}
-FitsIfSome limit (Some value) = Fits limit value
+-- keys, and the limits of their values
+abbrev pub Layout : Type 0
+Layout = List (List ℕ × Limit)
 
--- so is the value of each key of the layout
-abbrev pub FitsEach : List Field → List (Option Value) → Type 0
-FitsEach [] values = Unit {0}
-FitsEach (field ∷ layout) [] = ⊥
-FitsEach (field ∷ layout) (value ∷ values) = FitsIfSome field.limit value × FitsEach layout values
+-- keys and their values, in the order in which a map has them
+abbrev pub Pairs : Type 0
+Pairs = List (List ℕ × Spelled)
 
--- the number that a map spells, or 0 where its key is absent
-abbrev pub uint_of : Option Value → ℕ
-uint_of (Some (Number v)) = v
-uint_of value = 0
+-- what has this key, if anything has
+abbrev pub of_key : {X : Type 0} → List ℕ → List (List ℕ × X) → Option X
+of_key key entries = lookup (bytes_eq key) entries
 
--- the bytes that a map spells, or none where their key is absent
-abbrev pub raw_of : Option Value → List ℕ
-raw_of (Some (Raw bytes)) = bytes.items
-raw_of value = []
+-- The bytes b spell a pair: a key of the layout, and behind it a value within the limit of the key.
+pub record PairText (layout : Layout) (b : List ℕ) (pair : List ℕ × Spelled) : Type 0 where
+  pub limit : Limit
+  pub in_layout : of_key pair.0 layout ≡ Some limit
+  pub key_text : List ℕ
+  pub value_text : List ℕ
+  pub key : Raw key_text pair.0
+  pub value : Spells limit value_text pair.1
+  pub text : b ≡ key_text ++ value_text
+
+-- The bytes b spell these pairs, one behind the other.
+abbrev pub PairTexts : Layout → List ℕ → Pairs → Type 0
+PairTexts layout b [] = b ≡ []
+PairTexts layout b (pair ∷ pairs) = (first rest : List ℕ) × PairText layout first pair × PairTexts layout rest pairs × (b ≡ first ++ rest)
+
+-- The bytes b spell a map of the layout: the count of its pairs, and then the pairs, no key twice.
+pub record MapText (layout : Layout) (b : List ℕ) (pairs : Pairs) : Type 0 where
+  pub count_text : List ℕ
+  pub pairs_text : List ℕ
+  pub count : Count count_text (length pairs)
+  pub each : PairTexts layout pairs_text pairs
+  pub distinct : IsDistinct bytes_eq (map (λ pair. pair.0) pairs)
+  pub text : b ≡ count_text ++ pairs_text
+
+-- the value of a key, or what its absence means: 0, nothing, or false
+abbrev pub number_or_zero : Option Spelled → ℕ
+number_or_zero (Some (number v)) = v
+number_or_zero value = 0
+
+abbrev pub raw_or_empty : Option Spelled → List ℕ
+raw_or_empty (Some (raw s)) = s
+raw_or_empty value = []
+
+abbrev pub flag_or_false : Option Spelled → Bool
+flag_or_false (Some (flag f)) = f
+flag_or_false value = false
+
+abbrev pub number_of : List ℕ → Pairs → ℕ
+number_of key pairs = number_or_zero (of_key key pairs)
+
+abbrev pub raw_of : List ℕ → Pairs → List ℕ
+raw_of key pairs = raw_or_empty (of_key key pairs)
+
+abbrev pub flag_of : List ℕ → Pairs → Bool
+flag_of key pairs = flag_or_false (of_key key pairs)
+
+-- memberlist's alive
+abbrev pub alive_layout : Layout
+alive_layout =
+    (codes "Addr", limits.Raw 16) ∷ (codes "Incarnation", limits.Number 0xffff_ffff) ∷ (codes "Meta", limits.Raw 512)
+    ∷ (codes "Node", limits.Raw 1024) ∷ (codes "Port", limits.Number 0xffff) ∷ (codes "Vsn", limits.Raw 6) ∷ []
+
+-- memberlist's suspect and dead
+abbrev pub accusation_layout : Layout
+accusation_layout =
+    (codes "From", limits.Raw 1024) ∷ (codes "Incarnation", limits.Number 0xffff_ffff) ∷ (codes "Node", limits.Raw 1024) ∷ []
+
+-- memberlist's pushPullHeader
+abbrev pub header_layout : Layout
+header_layout =
+    (codes "Join", limits.Flag) ∷ (codes "Nodes", limits.Number 0xffff_ffff_ffff_ffff)
+    ∷ (codes "UserStateLen", limits.Number 0xffff_ffff_ffff_ffff) ∷ []
+
+-- memberlist's pushNodeState
+abbrev pub state_layout : Layout
+state_layout =
+    (codes "Addr", limits.Raw 16) ∷ (codes "Incarnation", limits.Number 0xffff_ffff) ∷ (codes "Meta", limits.Raw 512)
+    ∷ (codes "Name", limits.Raw 1024) ∷ (codes "Port", limits.Number 0xffff) ∷ (codes "State", limits.Number 0xffff_ffff_ffff_ffff)
+    ∷ (codes "Vsn", limits.Raw 6) ∷ []

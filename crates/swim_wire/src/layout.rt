@@ -1,7 +1,7 @@
 //! The keys of each map, what stands behind them, and their limits.
 
 ghost use Rattle.std.specs.Prelude.{◌≡◌};
-ghost use Rattle.swim_wire.specs.Layout.{key_text};
+ghost use Rattle.swim_wire.specs.Slots.{key_text};
 
 /// A key of a map, by memberlist's names of fields.
 #[derive(Clone, Copy)]
@@ -9,9 +9,14 @@ pub(crate) enum Key {
     Addr,
     From,
     Incarnation,
+    Join,
     Meta,
+    Name,
     Node,
+    Nodes,
     Port,
+    State,
+    UserStateLen,
     Vsn,
 }
 
@@ -89,6 +94,54 @@ pub(crate) const ACCUSATION: [Field; 3] = [
     },
 ];
 
+/// memberlist's `pushPullHeader`. Its numbers are checked once the map was read.
+pub(crate) const HEADER: [Field; 3] = [
+    Field {
+        key: Key::Join,
+        limit: Limit::Flag,
+    },
+    Field {
+        key: Key::Nodes,
+        limit: Limit::Number(u64::MAX),
+    },
+    Field {
+        key: Key::UserStateLen,
+        limit: Limit::Number(u64::MAX),
+    },
+];
+
+/// memberlist's `pushNodeState`. Its state is checked once the map was read.
+pub(crate) const STATE: [Field; 7] = [
+    Field {
+        key: Key::Addr,
+        limit: Limit::Raw(ADDRESS),
+    },
+    Field {
+        key: Key::Incarnation,
+        limit: Limit::Number(u32::MAX as u64),
+    },
+    Field {
+        key: Key::Meta,
+        limit: Limit::Raw(META),
+    },
+    Field {
+        key: Key::Name,
+        limit: Limit::Raw(NAME),
+    },
+    Field {
+        key: Key::Port,
+        limit: Limit::Number(u16::MAX as u64),
+    },
+    Field {
+        key: Key::State,
+        limit: Limit::Number(u64::MAX),
+    },
+    Field {
+        key: Key::Vsn,
+        limit: Limit::Raw(VERSIONS),
+    },
+];
+
 impl Key {
     /// The text of the key in a map.
     pub(crate) fn text(self) -> &'static [u8]
@@ -98,9 +151,14 @@ impl Key {
             Key::Addr => b"Addr",
             Key::From => b"From",
             Key::Incarnation => b"Incarnation",
+            Key::Join => b"Join",
             Key::Meta => b"Meta",
+            Key::Name => b"Name",
             Key::Node => b"Node",
+            Key::Nodes => b"Nodes",
             Key::Port => b"Port",
+            Key::State => b"State",
+            Key::UserStateLen => b"UserStateLen",
             Key::Vsn => b"Vsn",
         }
     }

@@ -6,9 +6,11 @@ mod layout;
 mod map;
 mod message;
 mod packet;
+mod stream;
 
 pub use fault::WireFault;
 pub use packet::{Packet, decode_packet};
+pub use stream::Header;
 
 #[cfg(test)]
 mod tests;

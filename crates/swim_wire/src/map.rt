@@ -2,7 +2,7 @@
 
 ghost use Rattle.std.specs.Prelude.{◌≡◌, ◌<◌, ◌≤◌, length, IfOk};
 ghost use Rattle.swim_wire.specs.Fault.{fault_of_key};
-ghost use Rattle.swim_wire.specs.Layout.{Fits, FitsEach, raw_of, uint_of};
+ghost use Rattle.swim_wire.specs.Slots.{Fits, FitsEach, raw_of, uint_of};
 
 use crate::WireFault;
 use crate::layout::{Field, Limit};

@@ -1,7 +1,7 @@
 //! What the maps of messages say, with memberlist's names, before it is checked as a whole.
 
 ghost use Rattle.std.specs.Prelude.{◌≡◌, length, ◌≤◌};
-ghost use Rattle.swim_wire.specs.Layout.{FitsEach};
+ghost use Rattle.swim_wire.specs.Slots.{FitsEach};
 
 use crate::layout::{ACCUSATION, ALIVE};
 use crate::map::{Values, raw, uint};

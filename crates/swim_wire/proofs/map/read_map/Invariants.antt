@@ -1,4 +1,4 @@
-use Rattle.swim_wire.specs.Layout.{FitsEach}
+use Rattle.swim_wire.specs.Slots.{FitsEach}
 use Rattle.swim_wire.proofs.map.read_map.Given as goal
 
 abbrev pub invariant-loop : goal.invariant-loop

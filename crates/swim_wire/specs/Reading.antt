@@ -1,0 +1,197 @@
+-- The readings of messages, a field at a time.
+use Rattle.std.specs.Prelude.{ℕ, zero, suc, ◌≤◌, nat_le, nat_lt, ◌==◌, ◌||◌, Bool, true, false, List, [], ◌∷◌, length, map, Option, Some, None, Result, Ok, Err, if◌then◌else◌, position, slice_index_or, slice_set}
+use Rattle.std.specs.Str.{bytes_eq}
+use Rattle.swim_claim.specs.declared.claim.Claim.{Claim}
+use Rattle.swim_claim.specs.declared.claim.Claim.TheVariants.{Alive, Suspect, Confirm, Leave}
+use Rattle.swim_claim.specs.Details.{DetailsValue}
+use Rattle.swim_pack.specs.Composing.{Cause, ◌>>=◌, gives, refuses, some_or, lift}
+use Rattle.swim_pack.specs.Composing.Cause.{by_bytes, by_inlet, by_memory}
+use Rattle.swim_pack.specs.Composing as composing
+use Rattle.swim_pack.specs.Reading.{next_byte, uint_at, flag_at, raw_at, count_at}
+use Rattle.swim_wire.specs.declared.fault.WireFault.{WireFault}
+use Rattle.swim_wire.specs.declared.fault.WireFault.TheVariants.{Fault, Memory, NameEmpty, BadAddress, BadVersions, WrongType, UnknownKey, DuplicateKey, BadState, TooManyNodes, UserTooLong, Trailing}
+use Rattle.swim_wire.specs.declared.layout.Limit.{Limit}
+use Rattle.swim_wire.specs.declared.layout.Limit.TheVariants as limits
+use Rattle.swim_wire.specs.declared.stream.Header.{Header}
+use Rattle.swim_wire.specs.Fault.{fault_of_pack, fault_of_key}
+use Rattle.swim_wire.specs.Layout.{Layout, Spelled, number_or_zero, raw_or_empty, flag_or_false, alive_layout, accusation_layout, header_layout, state_layout}
+use Rattle.swim_wire.specs.Layout.Spelled.{number, raw, flag}
+use Rattle.swim_wire.specs.Packet.{PacketValue}
+
+abbrev pub Reading : Type 0 → Type 0
+Reading V = composing.Reading WireFault V
+
+-- what a refusal comes from
+abbrev pub wire_cause : WireFault → Cause
+wire_cause Fault = by_inlet
+wire_cause Memory = by_memory
+wire_cause fault = by_bytes
+
+-- the values of a map, each at the place of its key in the layout
+abbrev pub Slots : Type 0
+Slots = List (Option Spelled)
+
+abbrev pub slot : Slots → ℕ → Option Spelled
+slot slots place = slice_index_or slots place None
+
+-- what stands behind a key
+unfoldable pub value_at : Limit → Reading Spelled
+value_at (limits.Number max) = do
+  v ← lift fault_of_pack (uint_at max)
+  gives (number v)
+value_at (limits.Raw limit) = do
+  s ← lift fault_of_pack (raw_at limit)
+  gives (raw s)
+value_at limits.Flag = do
+  f ← lift fault_of_pack flag_at
+  gives (flag f)
+
+-- the place of a key in the layout
+abbrev pub place_of : Layout → List ℕ → Option ℕ
+place_of layout key = position (λ field. bytes_eq field.0 key) layout
+
+abbrev pub limit_at : Layout → ℕ → Limit
+limit_at layout place = let field = slice_index_or layout place ([], limits.Flag) in field.1
+
+-- goes on where no value was read at the place
+abbrev pub if_vacant : {A : Type 0} → Option Spelled → Reading A → Reading A
+if_vacant None reading = reading
+if_vacant (Some value) reading = refuses DuplicateKey
+
+-- a key, and its value at its place
+unfoldable pub pair_at : Layout → Slots → Reading Slots
+pair_at layout slots = do
+  key ← lift fault_of_key (raw_at 12)
+  place ← some_or UnknownKey (place_of layout key)
+  value ← if_vacant (slot slots place) (value_at (limit_at layout place))
+  gives (slice_set slots place (Some value))
+
+-- so many pairs
+unfoldable pub pairs_at : Layout → ℕ → Slots → Reading Slots
+pairs_at layout zero slots = gives slots
+pairs_at layout (suc n) slots = do
+  next ← pair_at layout slots
+  pairs_at layout n next
+
+-- no values, for a layout of up to seven keys
+abbrev pub no_slots : Slots
+no_slots = None ∷ None ∷ None ∷ None ∷ None ∷ None ∷ None ∷ []
+
+-- a map of the layout
+unfoldable pub map_at : Layout → Reading Slots
+map_at layout = do
+  n ← lift fault_of_pack (count_at (length layout))
+  pairs_at layout n no_slots
+
+-- what was checked, or the refusal
+abbrev pub checked : {A : Type 0} → Result A WireFault → Reading A
+checked (Ok x) = gives x
+checked (Err fault) = refuses fault
+
+abbrev pub number_in : Slots → ℕ → ℕ
+number_in slots place = number_or_zero (slot slots place)
+
+abbrev pub raw_in : Slots → ℕ → List ℕ
+raw_in slots place = raw_or_empty (slot slots place)
+
+abbrev pub flag_in : Slots → ℕ → Bool
+flag_in slots place = flag_or_false (slot slots place)
+
+-- ---- the checks of the whole, in their order
+
+abbrev pub with_name : {A : Type 0} → List ℕ → Result A WireFault → Result A WireFault
+with_name [] result = Err NameEmpty
+with_name (byte ∷ bytes) result = result
+
+abbrev pub with_details : {A : Type 0} → DetailsValue → (DetailsValue → A) → Result A WireFault
+with_details details f =
+    if (length details.addr == 4) || (length details.addr == 16)
+    then (if (length details.vsn == 0) || (length details.vsn == 6) then Ok (f details) else Err BadVersions)
+    else Err BadAddress
+
+-- ---- packets
+
+abbrev pub alive_of : Slots → Result PacketValue WireFault
+alive_of slots =
+    with_name (raw_in slots 3)
+    (with_details (record { addr = raw_in slots 0; port = number_in slots 4; meta = raw_in slots 2; vsn = raw_in slots 5 })
+    (λ details. record { claim = Alive (raw_in slots 3) (number_in slots 1) details; from = [] }))
+
+abbrev pub suspect_of : Slots → Result PacketValue WireFault
+suspect_of slots = with_name (raw_in slots 2) (Ok (record { claim = Suspect (raw_in slots 2) (number_in slots 1); from = raw_in slots 0 }))
+
+-- a member that is dead by its own word has left
+abbrev pub dead_claim : Bool → List ℕ → ℕ → Claim
+dead_claim true name inc = Leave name inc
+dead_claim false name inc = Confirm name inc
+
+abbrev pub dead_of : Slots → Result PacketValue WireFault
+dead_of slots =
+    with_name (raw_in slots 2)
+    (Ok (record { claim = dead_claim (bytes_eq (raw_in slots 0) (raw_in slots 2)) (raw_in slots 2) (number_in slots 1); from = raw_in slots 0 }))
+
+unfoldable pub alive_at : Reading PacketValue
+alive_at = do
+  slots ← map_at alive_layout
+  checked (alive_of slots)
+
+unfoldable pub suspect_at : Reading PacketValue
+suspect_at = do
+  slots ← map_at accusation_layout
+  checked (suspect_of slots)
+
+unfoldable pub dead_at : Reading PacketValue
+dead_at = do
+  slots ← map_at accusation_layout
+  checked (dead_of slots)
+
+-- what follows a type byte
+abbrev pub packet_after : ℕ → Reading PacketValue
+packet_after first =
+    if first == 4 then alive_at else
+    if first == 3 then suspect_at else
+    if first == 5 then dead_at else refuses (WrongType first)
+
+unfoldable pub packet_at : Reading PacketValue
+packet_at = do
+  first ← lift fault_of_pack next_byte
+  packet_after first
+
+-- a message with nothing after it
+abbrev pub nothing_after : {A : Type 0} → Result (A × List ℕ) WireFault → Result A WireFault
+nothing_after (Ok (x, [])) = Ok x
+nothing_after (Ok (x, byte ∷ bytes)) = Err Trailing
+nothing_after (Err fault) = Err fault
+
+abbrev pub whole_packet : List ℕ → Result PacketValue WireFault
+whole_packet bytes = nothing_after (packet_at bytes)
+
+-- ---- streams
+
+abbrev pub header_of : Slots → Result Header WireFault
+header_of slots =
+    if nat_lt 131072 (number_in slots 1) then Err TooManyNodes else
+    if nat_lt 20971520 (number_in slots 2) then Err UserTooLong else
+    Ok (record { nodes = number_in slots 1; user_len = number_in slots 2; join = flag_in slots 0 })
+
+unfoldable pub header_at : Reading Header
+header_at = do
+  first ← lift fault_of_pack next_byte
+  slots ← if first == 6 then map_at header_layout else refuses (WrongType first)
+  checked (header_of slots)
+
+-- the claim of a state record by its state
+abbrev pub claim_of_state : Slots → ℕ → Result Claim WireFault
+claim_of_state slots state =
+    if state == 0 then with_details (record { addr = raw_in slots 0; port = number_in slots 4; meta = raw_in slots 2; vsn = raw_in slots 6 }) (λ details. Alive (raw_in slots 3) (number_in slots 1) details) else
+    if state == 1 then Ok (Suspect (raw_in slots 3) (number_in slots 1)) else
+    if state == 2 then Ok (Confirm (raw_in slots 3) (number_in slots 1)) else
+    if state == 3 then Ok (Leave (raw_in slots 3) (number_in slots 1)) else Err (BadState state)
+
+abbrev pub state_of : Slots → Result Claim WireFault
+state_of slots = with_name (raw_in slots 3) (claim_of_state slots (number_in slots 5))
+
+unfoldable pub state_at : Reading Claim
+state_at = do
+  slots ← map_at state_layout
+  checked (state_of slots)

@@ -1,0 +1,52 @@
+-- The values of a map, as the code keeps them: each at the place of its key in the layout.
+use Rattle.std.specs.Prelude.{ℕ, ◌≤◌, List, [], ◌∷◌, length, Option, Some, None, codes}
+use Rattle.swim_wire.specs.declared.layout.Field.{Field}
+use Rattle.swim_wire.specs.declared.layout.Key.{Key}
+use Rattle.swim_wire.specs.declared.layout.Key.TheVariants as keys
+use Rattle.swim_wire.specs.declared.layout.Limit.{Limit}
+use Rattle.swim_wire.specs.declared.layout.Limit.TheVariants as limits
+use Rattle.swim_wire.specs.declared.map.Value.{Value}
+use Rattle.swim_wire.specs.declared.map.Value.TheVariants.{Number, Raw, Flag}
+
+-- the text of a key, which is memberlist's name of the field
+abbrev pub key_text : Key → List ℕ
+key_text keys.Addr = codes "Addr"
+key_text keys.From = codes "From"
+key_text keys.Incarnation = codes "Incarnation"
+key_text keys.Join = codes "Join"
+key_text keys.Meta = codes "Meta"
+key_text keys.Name = codes "Name"
+key_text keys.Node = codes "Node"
+key_text keys.Nodes = codes "Nodes"
+key_text keys.Port = codes "Port"
+key_text keys.State = codes "State"
+key_text keys.UserStateLen = codes "UserStateLen"
+key_text keys.Vsn = codes "Vsn"
+
+-- the value is of the kind and within the limit
+abbrev pub Fits : Limit → Value → Type 0
+Fits (limits.Number max) (Number v) = v ≤ max
+Fits (limits.Raw limit) (Raw bytes) = length bytes.items ≤ limit
+Fits limits.Flag (Flag flag) = Unit {0}
+Fits limit value = ⊥
+
+-- so is the value of a key, where there is one
+abbrev pub FitsIfSome : Limit → Option Value → Type 0
+FitsIfSome limit None = Unit {0}
+FitsIfSome limit (Some value) = Fits limit value
+
+-- so is the value of each key of the layout
+abbrev pub FitsEach : List Field → List (Option Value) → Type 0
+FitsEach [] values = Unit {0}
+FitsEach (field ∷ layout) [] = ⊥
+FitsEach (field ∷ layout) (value ∷ values) = FitsIfSome field.limit value × FitsEach layout values
+
+-- the number, or 0 where its key is absent
+abbrev pub uint_of : Option Value → ℕ
+uint_of (Some (Number v)) = v
+uint_of value = 0
+
+-- the bytes, or none where their key is absent
+abbrev pub raw_of : Option Value → List ℕ
+raw_of (Some (Raw bytes)) = bytes.items
+raw_of value = []
