@@ -58,11 +58,16 @@ abbrev pub if_vacant : {A : Type 0} → Option Spelled → Reading A → Reading
 if_vacant None reading = reading
 if_vacant (Some value) reading = refuses DuplicateKey
 
+-- a key, as its place in the layout
+unfoldable pub key_at : Layout → Reading ℕ
+key_at layout = do
+  key ← lift fault_of_key (raw_at 12)
+  some_or UnknownKey (place_of layout key)
+
 -- a key, and its value at its place
 unfoldable pub pair_at : Layout → Slots → Reading Slots
 pair_at layout slots = do
-  key ← lift fault_of_key (raw_at 12)
-  place ← some_or UnknownKey (place_of layout key)
+  place ← key_at layout
   value ← if_vacant (slot slots place) (value_at (limit_at layout place))
   gives (slice_set slots place (Some value))
 
