@@ -1,1 +1,4 @@
 mod Fitting
+pub mod SpelledMaps
+pub mod SpelledPairs
+pub mod SpelledSteps
