@@ -1,7 +1,7 @@
 pub mod Fault
+pub mod Layout
 pub mod Slots
 pub mod Packet
-pub mod Layout
 pub mod Texts
 pub mod Canonical
 pub mod Reading
