@@ -1,3 +1,5 @@
 mod Fitting
 mod Lifting
+mod MapReads
+mod PairReads
 mod Places

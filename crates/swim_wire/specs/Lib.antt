@@ -5,3 +5,4 @@ pub mod Packet
 pub mod Texts
 pub mod Canonical
 pub mod Reading
+pub mod Message

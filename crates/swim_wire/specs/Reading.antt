@@ -25,7 +25,7 @@ Reading V = composing.Reading WireFault V
 abbrev pub wire_cause : WireFault → Cause
 wire_cause Fault = by_inlet
 wire_cause Memory = by_memory
-wire_cause fault = by_bytes
+wire_cause error = by_bytes
 
 -- the values of a map, each at the place of its key in the layout
 abbrev pub Slots : Type 0

@@ -44,16 +44,6 @@ FitsEach [] values = Unit {0}
 FitsEach (field ∷ layout) [] = ⊥
 FitsEach (field ∷ layout) (value ∷ values) = FitsIfSome field.limit value × FitsEach layout values
 
--- the number, or 0 where its key is absent
-abbrev pub uint_of : Option Value → ℕ
-uint_of (Some (Number v)) = v
-uint_of value = 0
-
--- the bytes, or none where their key is absent
-abbrev pub raw_of : Option Value → List ℕ
-raw_of (Some (Raw bytes)) = bytes.items
-raw_of value = []
-
 -- what a value says
 abbrev pub spelled : Value → Spelled
 spelled (Number v) = number v

@@ -6,7 +6,9 @@ ghost use Rattle.swim_pack.specs.Composing.{ReadsAs, same, lift};
 ghost use Rattle.swim_pack.specs.Reading.{raw_at};
 ghost use Rattle.swim_wire.specs.Fault.{fault_of_key};
 ghost use Rattle.swim_wire.specs.Reading.{wire_cause, value_at, key_at, pair_at, map_at};
-ghost use Rattle.swim_wire.specs.Slots.{Fits, FitsEach, TakesNoMemory, key_text, spelled, slots_of, layout_of, raw_of, uint_of};
+ghost use Rattle.swim_wire.specs.Slots.{Fits, FitsEach, TakesNoMemory, key_text, spelled, slots_of, layout_of};
+ghost use Rattle.swim_wire.specs.Layout.{number_or_zero, raw_or_empty};
+ghost use Rattle.std.specs.Option.{option_map};
 
 use crate::WireFault;
 use crate::layout::{Field, Limit};
@@ -113,7 +115,7 @@ fn read_value<I: Inlet>(alloc: Global, inlet: &mut I, limit: Limit) -> Result<Va
 
 /// The number, or 0 where its key is absent.
 pub(crate) fn uint(value: Option<Value>) -> u64
-    ensures { result ≡ uint_of value }
+    ensures { result ≡ number_or_zero (option_map spelled value) }
 {
     match value {
         Some(Value::Number(number)) => number,
@@ -123,7 +125,7 @@ pub(crate) fn uint(value: Option<Value>) -> u64
 
 /// The text or bytes, or none where their key is absent.
 pub(crate) fn raw(alloc: Global, value: Option<Value>) -> Vec<u8>
-    ensures { result.items ≡ raw_of value }
+    ensures { result.items ≡ raw_or_empty (option_map spelled value) }
 {
     match value {
         Some(Value::Raw(bytes)) => bytes,
