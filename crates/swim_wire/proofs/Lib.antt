@@ -1,1 +1,3 @@
 mod Fitting
+pub mod Maps
+pub mod Messages

@@ -5,3 +5,4 @@ pub mod Layout
 pub mod Texts
 pub mod Canonical
 pub mod Reading
+pub mod Checks
