@@ -18,8 +18,8 @@ packet_takes bytes p rest e = ?
 pub packet_again : (b rest : List ℕ) (p : PacketValue) → PacketText b p → packet_at (b ++ rest) ≡ read p rest
 packet_again b rest p text = ?
 
-pub packet_refusal : (bytes : List ℕ) (fault : WireFault) → packet_at bytes ≡ refused PacketValue fault → ExplainsPacket fault bytes
-packet_refusal bytes fault e = ?
+pub packet_refusal : (bytes : List ℕ) (error : WireFault) → packet_at bytes ≡ refused PacketValue error → ExplainsPacket error bytes
+packet_refusal bytes error e = ?
 
 -- ---- packets with nothing after them
 
@@ -27,7 +27,7 @@ abbrev pub is_packet : PacketValue → Result PacketValue WireFault
 is_packet p = Ok p
 
 abbrev pub no_packet : WireFault → Result PacketValue WireFault
-no_packet fault = Err fault
+no_packet error = Err error
 
 pub whole_takes : (b : List ℕ) (p : PacketValue) → whole_packet b ≡ is_packet p → PacketText b p
 whole_takes b p e = ?
@@ -35,11 +35,11 @@ whole_takes b p e = ?
 pub whole_again : (b : List ℕ) (p : PacketValue) → PacketText b p → whole_packet b ≡ is_packet p
 whole_again b p text = ?
 
-pub whole_lacks : (b : List ℕ) (fault : WireFault) → whole_packet b ≡ no_packet fault → (p : PacketValue) → PacketText b p → ⊥
-whole_lacks b fault e p text = ?
+pub whole_lacks : (b : List ℕ) (error : WireFault) → whole_packet b ≡ no_packet error → (p : PacketValue) → PacketText b p → ⊥
+whole_lacks b error e p text = ?
 
-pub whole_refusal : (b : List ℕ) (fault : WireFault) → whole_packet b ≡ no_packet fault → ExplainsWhole fault b
-whole_refusal b fault e = ?
+pub whole_refusal : (b : List ℕ) (error : WireFault) → whole_packet b ≡ no_packet error → ExplainsWhole error b
+whole_refusal b error e = ?
 
 -- ---- headers
 
@@ -49,8 +49,8 @@ header_takes bytes h rest e = ?
 pub header_again : (b rest : List ℕ) (h : Header) → HeaderText b h → header_at (b ++ rest) ≡ read h rest
 header_again b rest h text = ?
 
-pub header_refusal : (bytes : List ℕ) (fault : WireFault) → header_at bytes ≡ refused Header fault → ExplainsHeader fault bytes
-header_refusal bytes fault e = ?
+pub header_refusal : (bytes : List ℕ) (error : WireFault) → header_at bytes ≡ refused Header error → ExplainsHeader error bytes
+header_refusal bytes error e = ?
 
 -- ---- state records
 
@@ -60,5 +60,5 @@ state_takes bytes c rest e = ?
 pub state_again : (b rest : List ℕ) (c : Claim) → StateText b c → state_at (b ++ rest) ≡ read c rest
 state_again b rest c text = ?
 
-pub state_refusal : (bytes : List ℕ) (fault : WireFault) → state_at bytes ≡ refused Claim fault → ExplainsState fault bytes
-state_refusal bytes fault e = ?
+pub state_refusal : (bytes : List ℕ) (error : WireFault) → state_at bytes ≡ refused Claim error → ExplainsState error bytes
+state_refusal bytes error e = ?

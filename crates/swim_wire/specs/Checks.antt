@@ -13,29 +13,29 @@ use Rattle.swim_wire.specs.Texts.{PacketText}
 abbrev pub DetailsFail : WireFault → Pairs → Type 0
 DetailsFail BadAddress pairs = ¬ IsAddress (raw_of (codes "Addr") pairs)
 DetailsFail BadVersions pairs = IsAddress (raw_of (codes "Addr") pairs) × (¬ IsVersions (raw_of (codes "Vsn") pairs))
-DetailsFail fault pairs = ⊥
+DetailsFail error pairs = ⊥
 
 -- an alive message needs a name, and then legal details
 abbrev pub AliveFails : WireFault → Pairs → Type 0
 AliveFails NameEmpty pairs = raw_of (codes "Node") pairs ≡ []
-AliveFails fault pairs = (raw_of (codes "Node") pairs ≢ []) × DetailsFail fault pairs
+AliveFails error pairs = (raw_of (codes "Node") pairs ≢ []) × DetailsFail error pairs
 
 -- a suspect or dead message needs a name
 abbrev pub AccusationFails : WireFault → Pairs → Type 0
 AccusationFails NameEmpty pairs = raw_of (codes "Node") pairs ≡ []
-AccusationFails fault pairs = ⊥
+AccusationFails error pairs = ⊥
 
 -- the count of members is checked before the length of the user state
 abbrev pub HeaderFails : WireFault → Pairs → Type 0
 HeaderFails TooManyNodes pairs = 131072 < number_of (codes "Nodes") pairs
 HeaderFails UserTooLong pairs = (number_of (codes "Nodes") pairs ≤ 131072) × (20971520 < number_of (codes "UserStateLen") pairs)
-HeaderFails fault pairs = ⊥
+HeaderFails error pairs = ⊥
 
 -- a state record needs a name, a state of 0 to 3, and, where it is alive, legal details
 abbrev pub StateFails : WireFault → Pairs → Type 0
 StateFails NameEmpty pairs = raw_of (codes "Name") pairs ≡ []
 StateFails (BadState found) pairs = (raw_of (codes "Name") pairs ≢ []) × (number_of (codes "State") pairs ≡ found) × (3 < found)
-StateFails fault pairs = (raw_of (codes "Name") pairs ≢ []) × (number_of (codes "State") pairs ≡ 0) × DetailsFail fault pairs
+StateFails error pairs = (raw_of (codes "Name") pairs ≢ []) × (number_of (codes "State") pairs ≡ 0) × DetailsFail error pairs
 
 -- ---- bytes that begin with such a map
 
@@ -50,10 +50,10 @@ pub record BeginsFailing (layout : Layout) (fails : Pairs → Type 0) (bytes : L
 
 -- behind its type byte the packet's map fails this check
 abbrev pub PacketFails : WireFault → List ℕ → Type 0
-PacketFails fault [] = ⊥
-PacketFails fault (first ∷ rest) =
-    ((first ≡ 4) × BeginsFailing alive_layout (AliveFails fault) rest)
-    ⊎ (((first ≡ 3) ⊎ (first ≡ 5)) × BeginsFailing accusation_layout (AccusationFails fault) rest)
+PacketFails error [] = ⊥
+PacketFails error (first ∷ rest) =
+    ((first ≡ 4) × BeginsFailing alive_layout (AliveFails error) rest)
+    ⊎ (((first ≡ 3) ⊎ (first ≡ 5)) × BeginsFailing accusation_layout (AccusationFails error) rest)
 
 abbrev pub IsNoPacketType : ℕ → Type 0
 IsNoPacketType first = (first ≢ 3) × (first ≢ 4) × (first ≢ 5)
@@ -72,7 +72,7 @@ ExplainsPacket (BadState found) bytes = ⊥
 ExplainsPacket TooManyNodes bytes = ⊥
 ExplainsPacket UserTooLong bytes = ⊥
 ExplainsPacket Trailing bytes = ⊥
-ExplainsPacket fault bytes = ⊤
+ExplainsPacket error bytes = ⊤
 
 -- a packet, and at least one byte after it
 abbrev pub HasTrailing : List ℕ → Type 0
@@ -81,7 +81,7 @@ HasTrailing bytes = (front : List ℕ) × (p : PacketValue) × (byte : ℕ) × (
 -- what a refusal says of bytes that are no packet
 abbrev pub ExplainsWhole : WireFault → List ℕ → Type 0
 ExplainsWhole Trailing bytes = HasTrailing bytes
-ExplainsWhole fault bytes = ExplainsPacket fault bytes
+ExplainsWhole error bytes = ExplainsPacket error bytes
 
 -- what a refusal says of bytes that begin with no header
 abbrev pub ExplainsHeader : WireFault → List ℕ → Type 0
@@ -93,7 +93,7 @@ ExplainsHeader BadAddress bytes = ⊥
 ExplainsHeader BadVersions bytes = ⊥
 ExplainsHeader (BadState found) bytes = ⊥
 ExplainsHeader Trailing bytes = ⊥
-ExplainsHeader fault bytes = ⊤
+ExplainsHeader error bytes = ⊤
 
 -- what a refusal says of bytes that begin with no state record
 abbrev pub ExplainsState : WireFault → List ℕ → Type 0
@@ -105,4 +105,4 @@ ExplainsState (WrongType found) bytes = ⊥
 ExplainsState TooManyNodes bytes = ⊥
 ExplainsState UserTooLong bytes = ⊥
 ExplainsState Trailing bytes = ⊥
-ExplainsState fault bytes = ⊤
+ExplainsState error bytes = ⊤
