@@ -1,3 +1,7 @@
 mod Fitting
+pub mod Readings
+pub mod Keys
+pub mod Filling
+pub mod MapFaults
 pub mod Maps
 pub mod Messages

@@ -8,7 +8,7 @@ use Rattle.swim_wire.specs.Packet.{PacketValue}
 use Rattle.swim_wire.specs.Reading.{packet_at, whole_packet, header_at, state_at}
 use Rattle.swim_wire.specs.Texts.{PacketText, HeaderText, StateText}
 use Rattle.swim_wire.specs.Checks.{ExplainsPacket, ExplainsWhole, ExplainsHeader, ExplainsState}
-use Rattle.swim_wire.proofs.Maps.{read, refused}
+use Rattle.swim_wire.proofs.Readings.{read, refused}
 
 -- ---- packets
 
