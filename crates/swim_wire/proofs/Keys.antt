@@ -11,8 +11,7 @@ use Rattle.std.specs.Str.{bytes_eq}
 use Rattle.swim_wire.specs.declared.layout.Limit.{Limit}
 use Rattle.swim_wire.specs.declared.layout.Limit.TheVariants as limits
 use Rattle.swim_wire.specs.Layout.{Layout, of_key, alive_layout, accusation_layout, header_layout, state_layout}
-use Rattle.swim_wire.specs.Reading.{slot, place_of, limit_at}
-use Rattle.swim_wire.proofs.Readings.{read}
+use Rattle.swim_wire.specs.Reading.{place_of, limit_at}
 
 -- no two keys are equal, each can be read as a key, and each has a slot
 pub record IsLegalLayout (layout : Layout) : Type 0 where

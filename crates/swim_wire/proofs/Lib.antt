@@ -4,4 +4,5 @@ pub mod Keys
 pub mod Filling
 pub mod MapFaults
 pub mod Maps
-pub mod Messages
+pub mod Checking
+pub mod PacketTexts

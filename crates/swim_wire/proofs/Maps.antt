@@ -1,5 +1,5 @@
 -- A map that is read is a text of its layout, and each text of a layout is read.
-use Rattle.std.proofs.Common.{◌≡◌, ◌≢◌, ℕ, zero, suc, ◌+◌, ◌≤◌, Bool, true, false, ◌||◌, List, [], ◌∷◌, ◌++◌, length, Option, Some, None, IsSome, refl, sym, ap, subst, ◌∙◌, append_assoc, arith}
+use Rattle.std.proofs.Common.{◌≡◌, ℕ, zero, suc, ◌≤◌, Bool, true, false, ◌||◌, List, [], ◌∷◌, ◌++◌, length, Option, Some, None, IsSome, refl, sym, ap, subst, ◌∙◌, append_assoc, arith}
 use Rattle.std.proofs.lemmas.Cmp.{nat_list_eq_equiv}
 use Rattle.std.proofs.lemmas.Map.Entries.{length-keys_of}
 use Rattle.std.proofs.lemmas.Map.Steps.{length-le_from_keys}
@@ -8,6 +8,7 @@ use Rattle.std.specs.List.{list_any}
 use Rattle.std.specs.Map.{keys_of}
 use Rattle.std.specs.Str.{bytes_eq}
 use Rattle.swim_pack.specs.Composing.{◌>>=◌, gives, some_or, lift}
+use Rattle.swim_pack.specs.Spelling.{Raw}
 use Rattle.swim_pack.specs.Reading.{uint_at, flag_at, raw_at, count_at}
 use Rattle.swim_pack.proofs.Composing.{TakesText}
 use Rattle.swim_pack.proofs.Numbers.{uint_takes, uint_again, raw_takes, raw_again, flag_takes, flag_again, count_takes, count_again}
@@ -18,7 +19,7 @@ use Rattle.swim_wire.specs.Fault.{fault_of_pack, fault_of_key}
 use Rattle.swim_wire.specs.Layout.{Layout, Spelled, Spells, Pairs, PairText, PairTexts, MapText, of_key}
 use Rattle.swim_wire.specs.Layout.Spelled.{number, raw, flag}
 use Rattle.swim_wire.specs.Reading.{Reading, Slots, slot, value_at, place_of, limit_at, if_vacant, key_at, pair_at, pairs_at, no_slots, map_at}
-use Rattle.swim_wire.proofs.Readings.{read, read_value, read_rest, then_ok, lift_ok, some_ok}
+use Rattle.swim_wire.proofs.Readings.{parts_to, parts_joined, read, read_value, read_rest, then_ok, lift_ok, some_ok}
 use Rattle.swim_wire.proofs.Keys.{IsLegalLayout, same_key, false≢true, first_from_place, place_from_first, limit_from_first, some_is, found, all_at}
 use Rattle.swim_wire.proofs.Filling.{HoldsSlots, Fills, fills_distinct, holds_from_fills, fills_from, all_vacant}
 
@@ -29,19 +30,19 @@ value_takes (limits.Number max) bytes value rest e =
     let h = uint_takes max bytes t.0 t.1 (lift_ok fault_of_pack (uint_at max bytes) t.0 t.1 t.2) in
     let is = read_value (number t.0) value t.1 rest t.3 in
     let rest_is = read_rest (number t.0) value t.1 rest t.3 in
-    subst (λ v. TakesText (λ b. Spells (limits.Number max) b v) bytes rest) is (record { text = h.text; is = (h.is.1, h.is.0); parts = h.parts ∙ ap (λ (r : List ℕ). h.text ++ r) rest_is })
+    subst (λ v. TakesText (λ b. Spells (limits.Number max) b v) bytes rest) is (record { text = h.text; is = (h.is.1, h.is.0); parts = parts_to h.text h.parts rest_is })
 value_takes (limits.Raw limit) bytes value rest e =
     let t = then_ok (lift fault_of_pack (raw_at limit) bytes) (λ s. gives (raw s)) value rest e in
     let h = raw_takes limit bytes t.0 t.1 (lift_ok fault_of_pack (raw_at limit bytes) t.0 t.1 t.2) in
     let is = read_value (raw t.0) value t.1 rest t.3 in
     let rest_is = read_rest (raw t.0) value t.1 rest t.3 in
-    subst (λ v. TakesText (λ b. Spells (limits.Raw limit) b v) bytes rest) is (record { text = h.text; is = (h.is.1, h.is.0); parts = h.parts ∙ ap (λ (r : List ℕ). h.text ++ r) rest_is })
+    subst (λ v. TakesText (λ b. Spells (limits.Raw limit) b v) bytes rest) is (record { text = h.text; is = (h.is.1, h.is.0); parts = parts_to h.text h.parts rest_is })
 value_takes limits.Flag bytes value rest e =
     let t = then_ok (lift fault_of_pack flag_at bytes) (λ f. gives (flag f)) value rest e in
     let h = flag_takes bytes t.0 t.1 (lift_ok fault_of_pack (flag_at bytes) t.0 t.1 t.2) in
     let is = read_value (flag t.0) value t.1 rest t.3 in
     let rest_is = read_rest (flag t.0) value t.1 rest t.3 in
-    subst (λ v. TakesText (λ b. Spells limits.Flag b v) bytes rest) is (record { text = h.text; is = h.is; parts = h.parts ∙ ap (λ (r : List ℕ). h.text ++ r) rest_is })
+    subst (λ v. TakesText (λ b. Spells limits.Flag b v) bytes rest) is (record { text = h.text; is = h.is; parts = parts_to h.text h.parts rest_is })
 
 value_again : (limit : Limit) (b rest : List ℕ) (value : Spelled) → Spells limit b value → value_at limit (b ++ rest) ≡ read value rest
 unfolding value_at
@@ -70,6 +71,28 @@ vacant_ok : (o : Option Spelled) (reading : Reading Spelled) (mid : List ℕ) (x
 vacant_ok None reading mid x rest e = (refl, e)
 vacant_ok (Some y) reading mid x rest e = absurd cc
 
+pair_made : (layout : Layout) (slots : Slots) (bytes k mid behind v end rest : List ℕ) (key : List ℕ) (value : Spelled) (place : ℕ) (out : Slots) → Raw k key → bytes ≡ k ++ mid
+    → place_of layout key ≡ Some place → slot slots place ≡ None → Spells (limit_at layout place) v value → mid ≡ behind → behind ≡ v ++ end → end ≡ rest → out ≡ slice_set slots place (Some value)
+    → PairTaken layout slots bytes out rest
+pair_made layout slots bytes k mid behind v end rest key value place out key_is first at vacant value_is same second last filled = record {
+  text = k ++ v;
+  pair = (key, value);
+  place = place;
+  is = record {
+    limit = limit_at layout place;
+    in_layout = limit_from_first layout key place (first_from_place layout key place at);
+    key_text = k;
+    value_text = v;
+    key = key_is;
+    value = value_is;
+    text = refl;
+  };
+  parts = parts_joined k v rest first (same ∙ parts_to v second last);
+  at = at;
+  vacant = vacant;
+  filled = filled;
+}
+
 pair_takes : (layout : Layout) (slots : Slots) (bytes : List ℕ) (out : Slots) (rest : List ℕ) → pair_at layout slots bytes ≡ read out rest → PairTaken layout slots bytes out rest
 unfolding pair_at key_at
 pair_takes layout slots bytes out rest e =
@@ -80,27 +103,9 @@ pair_takes layout slots bytes out rest e =
     let u = then_ok (if_vacant (slot slots t.0) (value_at (limit_at layout t.0)) t.1) (λ value. gives (slice_set slots t.0 (Some value))) out rest t.3 in
     let free = vacant_ok (slot slots t.0) (value_at (limit_at layout t.0)) t.1 u.0 u.1 u.2 in
     let value = value_takes (limit_at layout t.0) t.1 u.0 u.1 free.1 in
-    let first = first_from_place layout k.0 t.0 known.0 in
-    record {
-      text = key.text ++ value.text;
-      pair = (k.0, u.0);
-      place = t.0;
-      is = record {
-        limit = limit_at layout t.0;
-        in_layout = limit_from_first layout k.0 t.0 first;
-        key_text = key.text;
-        value_text = value.text;
-        key = key.is.1;
-        value = value.is;
-        text = refl;
-      };
-      parts =
-          key.parts ∙ ap (λ (r : List ℕ). key.text ++ r) (known.1 ∙ value.parts ∙ ap (λ (r : List ℕ). value.text ++ r) (read_rest (slice_set slots t.0 (Some u.0)) out u.1 rest u.3))
-          ∙ sym (append_assoc key.text value.text rest);
-      at = known.0;
-      vacant = free.0;
-      filled = sym (read_value (slice_set slots t.0 (Some u.0)) out u.1 rest u.3);
-    }
+    let stored = slice_set slots t.0 (Some u.0) in
+    pair_made layout slots bytes key.text k.1 t.1 value.text u.1 rest k.0 u.0 t.0 out key.is.1 key.parts known.0 free.0 value.is
+        known.1 value.parts (read_rest stored out u.1 rest u.3) (sym (read_value stored out u.1 rest u.3))
 
 record PairsTaken (layout : Layout) (n : ℕ) (slots : Slots) (bytes : List ℕ) (out : Slots) (rest : List ℕ) : Type 0 where
   text : List ℕ
@@ -130,7 +135,7 @@ pairs_takes layout (suc n) slots bytes out rest e =
       pairs = one.pair ∷ more.pairs;
       count = ap suc more.count;
       each = (one.text, more.text, one.is, more.each, refl);
-      parts = one.parts ∙ ap (λ (r : List ℕ). one.text ++ r) more.parts ∙ sym (append_assoc one.text more.text rest);
+      parts = parts_joined one.text more.text rest one.parts more.parts;
       fills = (one.place, one.at, one.vacant, subst (λ s. Fills layout s more.pairs out) one.filled more.fills);
     }
 
@@ -153,7 +158,7 @@ map_takes layout bytes slots rest legal e =
         distinct = fills_distinct layout no_slots more.pairs slots legal.few more.fills;
         text = refl;
       },
-      count.parts ∙ ap (λ (r : List ℕ). count.text ++ r) more.parts ∙ sym (append_assoc count.text more.text rest),
+      parts_joined count.text more.text rest count.parts more.parts,
       holds_from_fills layout more.pairs slots legal more.fills,
     )
 

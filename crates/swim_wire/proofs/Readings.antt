@@ -1,5 +1,5 @@
 -- What the first and the second of two readings gave.
-use Rattle.std.proofs.Common.{◌≡◌, ℕ, List, Option, Some, None, Result, Ok, Err, refl, ap}
+use Rattle.std.proofs.Common.{◌≡◌, ℕ, List, ◌++◌, Option, Some, None, Result, Ok, Err, refl, sym, ap, ◌∙◌, append_assoc}
 use Rattle.swim_pack.specs.declared.fault.PackFault.{PackFault}
 use Rattle.swim_pack.specs.Composing.{then_read, some_or, lift_error}
 use Rattle.swim_wire.specs.declared.fault.WireFault.{WireFault}
@@ -46,3 +46,13 @@ lift_err f (Err pack) error e = (pack, cc)
 pub some_ok : {A : Type 0} (error : WireFault) (o : Option A) (mid : List ℕ) (x : A) (rest : List ℕ) → some_or error o mid ≡ read x rest → (o ≡ Some x) × (mid ≡ rest)
 some_ok error None mid x rest e = absurd cc
 some_ok error (Some y) mid x rest e = (ap Some (read_value y x mid rest e), read_rest y x mid rest e)
+
+-- ---- what was taken from the front
+
+-- the same text, and the same rest under another name
+pub parts_to : {bytes mid rest : List ℕ} (text : List ℕ) → bytes ≡ text ++ mid → mid ≡ rest → bytes ≡ text ++ rest
+parts_to text first same = first ∙ ap (λ (r : List ℕ). text ++ r) same
+
+-- two texts, one behind the other
+pub parts_joined : {bytes mid : List ℕ} (front back rest : List ℕ) → bytes ≡ front ++ mid → mid ≡ back ++ rest → bytes ≡ (front ++ back) ++ rest
+parts_joined front back rest first second = first ∙ ap (λ (r : List ℕ). front ++ r) second ∙ sym (append_assoc front back rest)
