@@ -6,3 +6,4 @@ pub mod MapFaults
 pub mod Maps
 pub mod Checking
 pub mod PacketTexts
+pub mod StreamTexts
