@@ -3,3 +3,11 @@ mod Lifting
 mod MapReads
 mod PairReads
 mod Places
+pub mod Readings
+pub mod Keys
+pub mod Filling
+pub mod MapFaults
+pub mod Maps
+pub mod Checking
+pub mod PacketTexts
+pub mod StreamTexts

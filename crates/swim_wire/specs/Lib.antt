@@ -6,3 +6,4 @@ pub mod Texts
 pub mod Canonical
 pub mod Reading
 pub mod Message
+pub mod Checks
