@@ -3,7 +3,7 @@
 
 mod pairs;
 
-ghost use Rattle.std.specs.Prelude.{◌≡◌, ◌<◌, ◌≤◌, ◌^◌, ◌++◌, [], length, IfOk, OnOk, OnErr};
+ghost use Rattle.std.specs.Prelude.{◌≡◌, ◌<◌, ◌≤◌, ◌^◌, ◌++◌, [], length, IfOk, IfSome, OnOk, OnErr};
 ghost use Rattle.std.specs.Option.{option_copied};
 ghost use Rattle.swim_claim.specs.declared.claim.Claim.{Claim};
 ghost use Rattle.swim_claim.specs.Claim.{name_of, HasFacts, IsLegalClaim, IsLegalFacts};
@@ -114,6 +114,7 @@ impl<'a> Parts<'a> {
     fn of(details: Option<&'a Details>) -> Parts<'a>
         ensures same { details_or_none (option_copied details.entry) ≡ record { addr = result.addr.now; port = result.port; meta = result.meta.now; vsn = result.vsn.now } }
         ensures short { AreShort result.addr.now result.meta.now result.vsn.now }
+        ensures legal { IfSome (option_copied details.entry) IsLegalDetails }
     {
         match details {
             Some(details) => Parts {
@@ -174,8 +175,8 @@ pub fn encode_compound(alloc: Global, packets: &[Packet]) -> Result<Vec<u8>, All
 /// Appends a packet.
 fn write_packet(out: &mut Vec<u8>, packet: &Packet) -> Result<(), AllocError>
     ensures ok { OnOk result (out.new.items ≡ out.old.items ++ packet_bytes packet.now) }
-    ensures legal_claim { IsLegalClaim packet.now.claim }
-    ensures legal { IsLegalPacket packet.now.claim packet.now.from }
+    ensures legal { IsLegalClaim packet.now.claim }
+    ensures made_by { IsLegalPacket packet.now.claim packet.now.from }
 {
     let claim = packet.claim();
     let name = claim.name();

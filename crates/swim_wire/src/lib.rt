@@ -2,6 +2,7 @@
 #![tactic(auto)]
 
 mod canonical;
+mod canonical_law;
 mod fault;
 mod layout;
 mod map;

@@ -1,5 +1,5 @@
 use Rattle.std.proofs.Common.{rules}
-use Rattle.swim_wire.specs.Pairs.{Extends}
+use Rattle.swim_wire.specs.Pairs.{pair_text, pair_of, Extends}
 use Rattle.swim_wire.proofs.SpelledSteps.{flat_map-one_more, Extends-later}
 use Rattle.swim_wire.proofs.canonical.pairs.append_map.Goals as goal
 
@@ -10,4 +10,4 @@ returns-in_err-append_pair-clause-refused c =
     search rules
 
 pub loop-key-preserved : goal.loop-key-preserved
-loop-key-preserved c = flat_map-one_more _ _ _ _ _ _ c.loop-key-test.true c.loop-key.invariant c.in_ok-append_pair.ensures.ok
+loop-key-preserved c = flat_map-one_more pair_text pair_of _ _ _ _ _ _ c.loop-key-test.true c.loop-key.invariant c.in_ok-append_pair.ensures.ok
