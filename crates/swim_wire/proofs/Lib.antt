@@ -11,3 +11,9 @@ pub mod Maps
 pub mod Checking
 pub mod PacketTexts
 pub mod StreamTexts
+pub mod SpelledMaps
+pub mod SpelledPairs
+pub mod SpelledSteps
+pub mod SpelledTexts
+pub mod SpelledLengths
+pub mod SpelledCompounds

@@ -7,3 +7,4 @@ pub mod Canonical
 pub mod Reading
 pub mod Message
 pub mod Checks
+pub mod Pairs
