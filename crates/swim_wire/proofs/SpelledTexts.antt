@@ -34,10 +34,13 @@ not_empty s least e = absurd (omega (arith, ap length e))
 
 header_map : (h : Header) → h.nodes ≤ 131072 → h.user_len ≤ 20971520 → MapText header_layout (map_text (header_pairs h)) (header_pairs h)
 header_map h few short =
-    MapText-canonical header_layout (header_pairs h) (lit< tt)
-    (flag_within header_layout (codes "Join") h.join refl (lit< tt),
-     (number_within header_layout (codes "Nodes") 0xffff_ffff_ffff_ffff h.nodes refl (lit< tt) (omega arith) (lit< tt),
-     (number_within header_layout (codes "UserStateLen") 0xffff_ffff_ffff_ffff h.user_len refl (lit< tt) (omega arith) (lit< tt), tt)))
+    MapText-canonical header_layout (header_pairs h) (lit< tt) (
+      flag_within header_layout (codes "Join") h.join refl (lit< tt),
+      (
+        number_within header_layout (codes "Nodes") 0xffff_ffff_ffff_ffff h.nodes refl (lit< tt) (omega arith) (lit< tt),
+        (number_within header_layout (codes "UserStateLen") 0xffff_ffff_ffff_ffff h.user_len refl (lit< tt) (omega arith) (lit< tt), tt),
+      ),
+    )
     ((refl, (refl, tt)), ((refl, tt), (tt, tt)))
 
 pub HeaderText-canonical : (h : Header) → h.nodes ≤ 131072 → h.user_len ≤ 20971520 → HeaderText (header_bytes h) h
@@ -75,16 +78,34 @@ record_map : (name : List ℕ) (inc state : ℕ) (details : DetailsValue) → le
     → MapText state_layout (record_bytes name inc state details) (record_pairs name inc state details)
 record_map name inc state details most inc_fits state_fits fits =
     rw (record_bytes-pairs name inc state details)
-    (MapText-canonical state_layout (record_pairs name inc state details) (lit< tt)
-    (raw_within state_layout (codes "Addr") 16 details.addr refl (lit< tt) fits.addr (lit< tt),
-     (number_within state_layout (codes "Incarnation") 0xffff_ffff inc refl (lit< tt) (omega arith) (lit< tt),
-     (raw_within state_layout (codes "Meta") 512 details.meta refl (lit< tt) fits.meta (lit< tt),
-     (raw_within state_layout (codes "Name") 1024 name refl (lit< tt) most (lit< tt),
-     (number_within state_layout (codes "Port") 0xffff details.port refl (lit< tt) fits.port (lit< tt),
-     (number_within state_layout (codes "State") 0xffff_ffff_ffff_ffff state refl (lit< tt) (omega arith) (lit< tt),
-     (raw_within state_layout (codes "Vsn") 6 details.vsn refl (lit< tt) fits.vsn (lit< tt), tt)))))))
-    ((refl, (refl, (refl, (refl, (refl, (refl, tt)))))), ((refl, (refl, (refl, (refl, (refl, tt))))), ((refl, (refl, (refl, (refl, tt)))),
-     ((refl, (refl, (refl, tt))), ((refl, (refl, tt)), ((refl, tt), (tt, tt))))))))
+    (MapText-canonical state_layout (record_pairs name inc state details) (lit< tt) (
+      raw_within state_layout (codes "Addr") 16 details.addr refl (lit< tt) fits.addr (lit< tt),
+      (
+        number_within state_layout (codes "Incarnation") 0xffff_ffff inc refl (lit< tt) (omega arith) (lit< tt),
+        (
+          raw_within state_layout (codes "Meta") 512 details.meta refl (lit< tt) fits.meta (lit< tt),
+          (
+            raw_within state_layout (codes "Name") 1024 name refl (lit< tt) most (lit< tt),
+            (
+              number_within state_layout (codes "Port") 0xffff details.port refl (lit< tt) fits.port (lit< tt),
+              (
+                number_within state_layout (codes "State") 0xffff_ffff_ffff_ffff state refl (lit< tt) (omega arith) (lit< tt),
+                (raw_within state_layout (codes "Vsn") 6 details.vsn refl (lit< tt) fits.vsn (lit< tt), tt),
+              ),
+            ),
+          ),
+        ),
+      ),
+    ) (
+      (refl, (refl, (refl, (refl, (refl, (refl, tt)))))),
+      (
+        (refl, (refl, (refl, (refl, (refl, tt))))),
+        (
+          (refl, (refl, (refl, (refl, tt)))),
+          ((refl, (refl, (refl, tt))), ((refl, (refl, tt)), ((refl, tt), (tt, tt)))),
+        ),
+      ),
+    ))
 
 state_text : (c : Claim) (name : List ℕ) (inc state : ℕ) (details : DetailsValue) → IsLegalName name → inc < 2 ^ 32 → state < 4 → Fits details
     → IsStateOf (record_pairs name inc state details) c → StateText (record_bytes name inc state details) c
@@ -108,23 +129,39 @@ StateText-canonical (Leave name inc) legal = state_text _ name inc 3 no_details 
 alive_map : (name : List ℕ) (inc : ℕ) (details : DetailsValue) → length name ≤ 1024 → inc < 2 ^ 32 → Fits details
     → MapText alive_layout (map_text (alive_pairs name inc details)) (alive_pairs name inc details)
 alive_map name inc details most inc_fits fits =
-    MapText-canonical alive_layout (alive_pairs name inc details) (lit< tt)
-    (raw_within alive_layout (codes "Addr") 16 details.addr refl (lit< tt) fits.addr (lit< tt),
-     (number_within alive_layout (codes "Incarnation") 0xffff_ffff inc refl (lit< tt) (omega arith) (lit< tt),
-     (raw_within alive_layout (codes "Meta") 512 details.meta refl (lit< tt) fits.meta (lit< tt),
-     (raw_within alive_layout (codes "Node") 1024 name refl (lit< tt) most (lit< tt),
-     (number_within alive_layout (codes "Port") 0xffff details.port refl (lit< tt) fits.port (lit< tt),
-     (raw_within alive_layout (codes "Vsn") 6 details.vsn refl (lit< tt) fits.vsn (lit< tt), tt))))))
-    ((refl, (refl, (refl, (refl, (refl, tt))))), ((refl, (refl, (refl, (refl, tt)))),
-     ((refl, (refl, (refl, tt))), ((refl, (refl, tt)), ((refl, tt), (tt, tt))))))
+    MapText-canonical alive_layout (alive_pairs name inc details) (lit< tt) (
+      raw_within alive_layout (codes "Addr") 16 details.addr refl (lit< tt) fits.addr (lit< tt),
+      (
+        number_within alive_layout (codes "Incarnation") 0xffff_ffff inc refl (lit< tt) (omega arith) (lit< tt),
+        (
+          raw_within alive_layout (codes "Meta") 512 details.meta refl (lit< tt) fits.meta (lit< tt),
+          (
+            raw_within alive_layout (codes "Node") 1024 name refl (lit< tt) most (lit< tt),
+            (
+              number_within alive_layout (codes "Port") 0xffff details.port refl (lit< tt) fits.port (lit< tt),
+              (raw_within alive_layout (codes "Vsn") 6 details.vsn refl (lit< tt) fits.vsn (lit< tt), tt),
+            ),
+          ),
+        ),
+      ),
+    ) (
+      (refl, (refl, (refl, (refl, (refl, tt))))),
+      (
+        (refl, (refl, (refl, (refl, tt)))),
+        ((refl, (refl, (refl, tt))), ((refl, (refl, tt)), ((refl, tt), (tt, tt)))),
+      ),
+    )
 
 accusation_map : (name : List ℕ) (inc : ℕ) (from : List ℕ) → length name ≤ 1024 → inc < 2 ^ 32 → length from ≤ 1024
     → MapText accusation_layout (map_text (accusation_pairs name inc from)) (accusation_pairs name inc from)
 accusation_map name inc from most inc_fits from_most =
-    MapText-canonical accusation_layout (accusation_pairs name inc from) (lit< tt)
-    (raw_within accusation_layout (codes "From") 1024 from refl (lit< tt) from_most (lit< tt),
-     (number_within accusation_layout (codes "Incarnation") 0xffff_ffff inc refl (lit< tt) (omega arith) (lit< tt),
-     (raw_within accusation_layout (codes "Node") 1024 name refl (lit< tt) most (lit< tt), tt)))
+    MapText-canonical accusation_layout (accusation_pairs name inc from) (lit< tt) (
+      raw_within accusation_layout (codes "From") 1024 from refl (lit< tt) from_most (lit< tt),
+      (
+        number_within accusation_layout (codes "Incarnation") 0xffff_ffff inc refl (lit< tt) (omega arith) (lit< tt),
+        (raw_within accusation_layout (codes "Node") 1024 name refl (lit< tt) most (lit< tt), tt),
+      ),
+    )
     ((refl, (refl, tt)), ((refl, tt), (tt, tt)))
 
 claim_text : (c : Claim) (from : List ℕ) → IsLegalClaim c → IsLegalPacket c from → PacketText (claim_bytes c from) (record { claim = c; from = from })

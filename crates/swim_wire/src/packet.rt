@@ -133,10 +133,7 @@ fn read_alive<I: Inlet>(alloc: Global, inlet: &mut I) -> Result<Packet, WireFaul
     let name = Name::new(alive.node)?;
     let inc = alive.incarnation;
     let details = Details::new(alive.addr, alive.port, alive.meta, alive.vsn)?;
-    Ok(Packet::new(
-        Claim::Alive { name, inc, details },
-        Vec::new(alloc),
-    ))
+    Ok(Packet::new(Claim::Alive { name, inc, details }, Vec::new(alloc)))
 }
 
 fn read_suspect<I: Inlet>(alloc: Global, inlet: &mut I) -> Result<Packet, WireFault>

@@ -13,9 +13,9 @@ use Rattle.swim_wire.proofs.canonical.encode_compound.Goals as goal
 pub overflow_cast-len : goal.overflow_cast-len
 overflow_cast-len c =
     let short : length (packet_bytes c.packet-item.result) < 2 ^ 16 =
-        packet_bytes-short c.packet-item.result c.in_ok-write_packet.ensures.legal c.in_ok-write_packet.ensures.made_by in
+    packet_bytes-short c.packet-item.result c.in_ok-write_packet.ensures.legal c.in_ok-write_packet.ensures.made_by in
     let grown : length c.write_packet.new.out.items ≡ length c.loop-packet.parts.items + length (packet_bytes c.packet-item.result) =
-        ap length c.in_ok-write_packet.ensures.ok ∙ length-append _ _ in
+    ap length c.in_ok-write_packet.ensures.ok ∙ length-append _ _ in
     let fits : c.len.result - c.len-start.result < 2 ^ 16 = omega arith in
     search rules
 
@@ -27,11 +27,11 @@ loop-packet-preserved c =
     let is : item ≡ get_or packets i item = c.packet-item.is in
     let in_range : i < length packets = c.loop-packet-test.true in
     let grown : length c.write_packet.new.out.items ≡ length c.loop-packet.parts.items + length (packet_bytes item) =
-        ap length c.in_ok-write_packet.ensures.ok ∙ length-append _ _ in
+    ap length c.in_ok-write_packet.ensures.ok ∙ length-append _ _ in
     let len : c.len.result - c.len-start.result ≡ length (packet_bytes item) = omega arith in
     let legal : IsLegal item = (c.in_ok-write_packet.ensures.legal, c.in_ok-write_packet.ensures.made_by) in
     let spelled : c.extend_from_slice-in-loop-packet.new.self.items ≡ c.loop-packet.out.items ++ to_be_bytes w16 (length (packet_bytes item)) =
-        c.in_ok-extend_from_slice-2.ensures.items ∙ ap (λ z. c.loop-packet.out.items ++ z) (c.to_be_bytes.ensures ∙ ap (λ z. to_be_bytes w16 z) len) in
+    c.in_ok-extend_from_slice-2.ensures.items ∙ ap (λ z. c.loop-packet.out.items ++ z) (c.to_be_bytes.ensures ∙ ap (λ z. to_be_bytes w16 z) len) in
     record {
       lengths = flat_map-one_more (λ part. to_be_bytes w16 (length part)) packet_bytes packets i item (7 ∷ length packets ∷ []) _ _ in_range c.loop-packet.invariant.lengths
           (spelled ∙ ap (λ p. c.loop-packet.out.items ++ to_be_bytes w16 (length (packet_bytes p))) is);

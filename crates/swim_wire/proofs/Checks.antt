@@ -1,1 +1,0 @@
--- The checks of a message as a whole, as the constructors of names and details make them.
