@@ -3,6 +3,8 @@ mod Lifting
 mod MapReads
 mod PairReads
 mod Places
+mod WholeReads
+mod WholePackets
 pub mod Readings
 pub mod Keys
 pub mod Filling

@@ -30,7 +30,9 @@ pub(crate) struct Accusation {
 impl Alive {
     pub(crate) fn new(alloc: Global, values: Values) -> Alive
         requires { FitsEach ALIVE values }
-        ensures { SaysAlive (slots_of values) result }
+        ensures says { SaysAlive (slots_of values) result }
+        ensures short_node { length result.node.items ≤ 1024 }
+        ensures short_meta { length result.meta.items ≤ 512 }
     {
         let [addr, incarnation, meta, node, port, vsn, _] = values;
         Alive {
@@ -48,7 +50,8 @@ impl Accusation {
     pub(crate) fn new(alloc: Global, values: Values) -> Accusation
         requires { FitsEach ACCUSATION values }
         ensures says { SaysAccusation (slots_of values) result }
-        ensures short { length result.from.items ≤ 1024 }
+        ensures short_from { length result.from.items ≤ 1024 }
+        ensures short_node { length result.node.items ≤ 1024 }
     {
         let [from, incarnation, node, ..] = values;
         Accusation {

@@ -110,11 +110,12 @@ fn decode_whole(alloc: Global, bytes: &[u8]) -> Result<Packet, WireFault>
 fn read_packet<I: Inlet>(alloc: Global, inlet: &mut I) -> Result<Packet, WireFault>
     ensures { ReadsAs wire_cause same packet_at (I.seen inlet.old) (I.seen inlet.new) result }
 {
-    match read_type(inlet)? {
+    let found = read_type(inlet)?;
+    match found {
         ALIVE_MESSAGE => read_alive(alloc, inlet),
         SUSPECT_MESSAGE => read_suspect(alloc, inlet),
         DEAD_MESSAGE => read_dead(alloc, inlet),
-        found => Err(WireFault::WrongType { found }),
+        _ => Err(WireFault::WrongType { found }),
     }
 }
 
