@@ -7,3 +7,4 @@ pub mod Maps
 pub mod Checking
 pub mod PacketTexts
 pub mod StreamTexts
+pub mod OneMessage
