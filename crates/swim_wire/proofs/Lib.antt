@@ -8,3 +8,4 @@ pub mod Checking
 pub mod PacketTexts
 pub mod StreamTexts
 pub mod OneMessage
+pub mod DatagramTexts

@@ -6,3 +6,4 @@ pub mod Texts
 pub mod Canonical
 pub mod Reading
 pub mod Checks
+pub mod Datagrams
