@@ -75,7 +75,7 @@ length_again len rest lt =
     let value = from_be_bytes-to_be_bytes_2 len lt in
     ap (then_read (λ bytes. gives (from_be_bytes w16 bytes))) two ∙ ap (λ (v : ℕ). read v rest) value
 
-lengths_takes : (n : ℕ) (bytes lens rest : List ℕ) → AreBytes bytes → lengths_at n bytes ≡ read lens rest
+pub lengths_takes : (n : ℕ) (bytes lens rest : List ℕ) → AreBytes bytes → lengths_at n bytes ≡ read lens rest
     → (length lens ≡ n) × (bytes ≡ flat_map (to_be_bytes w16) lens ++ rest) × All (λ len. len < 2 ^ 16) lens × AreBytes rest
 unfolding lengths_at
 lengths_takes zero bytes lens rest are e =
@@ -105,10 +105,10 @@ lengths_again (part ∷ parts) rest short =
 -- ---- the packets of a part
 
 -- the packet that a part is by its first byte, or none
-abbrev PartText : List ℕ → List PacketValue → Type 0
+abbrev pub PartText : List ℕ → List PacketValue → Type 0
 PartText part packets = ((p : PacketValue) × PacketText part p × (packets ≡ p ∷ [])) ⊎ ((¬ IsPacketPart part) × (packets ≡ []))
 
-type_is : (first : ℕ) → is_packet_type first ≡ true → (first ≡ 3) ⊎ (first ≡ 4) ⊎ (first ≡ 5)
+pub type_is : (first : ℕ) → is_packet_type first ≡ true → (first ≡ 3) ⊎ (first ≡ 4) ⊎ (first ≡ 5)
 type_is first t = grind (arith, nat_tests)
 
 type_is_not : (first : ℕ) → is_packet_type first ≡ false → ¬ ((first ≡ 3) ⊎ (first ≡ 4) ⊎ (first ≡ 5))
@@ -127,7 +127,7 @@ alone_ok : (r : Result PacketValue WireFault) (packets : List PacketValue) → a
 alone_ok (Ok p) packets e = (p, refl, sym (list_is (p ∷ []) packets e))
 alone_ok (Err error) packets e = absurd cc
 
-part_takes : (part : List ℕ) (packets : List PacketValue) → packets_of part ≡ packet_list packets → PartText part packets
+pub part_takes : (part : List ℕ) (packets : List PacketValue) → packets_of part ≡ packet_list packets → PartText part packets
 part_takes [] packets e = inr ((λ h. h), sym (list_is [] packets e))
 part_takes (first ∷ rest) packets e = split (is_packet_type first) (λ r. r ≡ packet_list packets → PartText (first ∷ rest) packets) (alone (whole_packet (first ∷ rest))) (Ok [])
     (λ t own. let p = alone_ok (whole_packet (first ∷ rest)) packets own in inl (p.0, whole_takes (first ∷ rest) p.0 p.1, p.2))
@@ -167,7 +167,7 @@ record PartsTaken (lens : List ℕ) (packets : List PacketValue) (bytes : List �
   text : bytes ≡ flat_map (λ part. part) parts ++ rest
   behind : out ≡ packets ++ more
 
-texts_joined : (part : List ℕ) (parts : List (List ℕ)) (one more : List PacketValue) → PartText part one → PartTexts parts more → PartTexts (part ∷ parts) (one ++ more)
+pub texts_joined : (part : List ℕ) (parts : List (List ℕ)) (one more : List PacketValue) → PartText part one → PartTexts parts more → PartTexts (part ∷ parts) (one ++ more)
 texts_joined part parts one more (inl own) texts = inl (own.0, more, own.1, texts, ap (λ (ps : List PacketValue). ps ++ more) own.2)
 texts_joined part parts one more (inr other) texts = inr (other.0, subst (PartTexts parts) (sym (ap (λ (ps : List PacketValue). ps ++ more) other.1)) texts)
 

@@ -9,3 +9,4 @@ pub mod PacketTexts
 pub mod StreamTexts
 pub mod OneMessage
 pub mod DatagramTexts
+pub mod DatagramRefusals
