@@ -134,7 +134,7 @@ part_takes (first ∷ rest) packets e = split (is_packet_type first) (λ r. r �
     (λ t none. inr (type_is_not first t, sym (list_is [] packets none))) e
 
 -- a packet begins with its type
-begins : (b : List ℕ) (p : PacketValue) → PacketText b p → (first : ℕ) × (rest : List ℕ) × (b ≡ first ∷ rest) × (eqb first 7 ≡ false) × ((first ≡ 3) ⊎ (first ≡ 4) ⊎ (first ≡ 5))
+pub begins : (b : List ℕ) (p : PacketValue) → PacketText b p → (first : ℕ) × (rest : List ℕ) × (b ≡ first ∷ rest) × (eqb first 7 ≡ false) × ((first ≡ 3) ⊎ (first ≡ 4) ⊎ (first ≡ 5))
 begins b p (alive m pairs type text named legal is) = (4, m, type, refl, inr (inl refl))
 begins b p (suspect m pairs type text named is) = (3, m, type, refl, inl refl)
 begins b p (leave m pairs type text named own is) = (5, m, type, refl, inr (inr refl))
@@ -171,6 +171,17 @@ pub texts_joined : (part : List ℕ) (parts : List (List ℕ)) (one more : List 
 texts_joined part parts one more (inl own) texts = inl (own.0, more, own.1, texts, ap (λ (ps : List PacketValue). ps ++ more) own.2)
 texts_joined part parts one more (inr other) texts = inr (other.0, subst (PartTexts parts) (sym (ap (λ (ps : List PacketValue). ps ++ more) other.1)) texts)
 
+part_before : (len : ℕ) (lens : List ℕ) (packets own : List PacketValue) (bytes part mid behind : List ℕ) (out : List PacketValue) (rest : List ℕ) → length part ≡ len → bytes ≡ part ++ mid
+    → PartText part own → mid ≡ behind → PartsTaken lens (packets ++ own) behind out rest → PartsTaken (len ∷ lens) packets bytes out rest
+part_before len lens packets own bytes part mid behind out rest long first text same later = record {
+  parts = part ∷ later.parts;
+  more = own ++ later.more;
+  lengths = ap (λ (n : ℕ). n ∷ map length later.parts) long ∙ ap (λ (ls : List ℕ). len ∷ ls) later.lengths;
+  texts = texts_joined part later.parts own later.more text later.texts;
+  text = parts_joined part (flat_map (λ p. p) later.parts) rest first (same ∙ later.text);
+  behind = later.behind ∙ append_assoc packets own later.more;
+}
+
 parts_takes : (lens : List ℕ) (packets : List PacketValue) (bytes : List ℕ) (out : List PacketValue) (rest : List ℕ) → parts_at lens packets bytes ≡ read out rest
     → PartsTaken lens packets bytes out rest
 unfolding parts_at
@@ -187,15 +198,7 @@ parts_takes (len ∷ lens) packets bytes out rest e =
     let one = bytes_takes len bytes t.0 t.1 t.2 in
     let u = then_ok (checked (packets_of t.0) t.1) (λ more. parts_at lens (packets ++ more)) out rest t.3 in
     let own = checked_ok (packets_of t.0) t.1 u.0 u.1 u.2 in
-    let later = parts_takes lens (packets ++ u.0) u.1 out rest u.3 in
-    record {
-      parts = t.0 ∷ later.parts;
-      more = u.0 ++ later.more;
-      lengths = ap (λ (n : ℕ). n ∷ map length later.parts) one.0 ∙ ap (λ (ls : List ℕ). len ∷ ls) later.lengths;
-      texts = texts_joined t.0 later.parts u.0 later.more (part_takes t.0 u.0 own.0) later.texts;
-      text = parts_joined t.0 (flat_map (λ part. part) later.parts) rest one.1 (own.1 ∙ later.text);
-      behind = later.behind ∙ append_assoc packets u.0 later.more;
-    }
+    part_before len lens packets u.0 bytes t.0 t.1 u.1 out rest one.0 one.1 (part_takes t.0 u.0 own.0) own.1 (parts_takes lens (packets ++ u.0) u.1 out rest u.3)
 
 parts_again : (parts : List (List ℕ)) (packets more : List PacketValue) (rest : List ℕ) → PartTexts parts more
     → parts_at (map length parts) packets (flat_map (λ part. part) parts ++ rest) ≡ read (packets ++ more) rest
@@ -295,10 +298,6 @@ datagram_again b packets (packet p text is) =
 datagram_again b packets (compound parts few short is texts) =
     let again = compound_again parts packets [] short texts in
     rw is (ap nothing_after (rw (append-nil (flat_map (λ part. part) parts)) at again))
-
--- the packets of a datagram are the bytes' own
-pub datagram_one : (b : List ℕ) (packets others : List PacketValue) → DatagramText b packets → DatagramText b others → packets ≡ others
-datagram_one b packets others p q = list_is packets others (sym (datagram_again b packets p) ∙ datagram_again b others q)
 
 pub datagram_lacks : (b : List ℕ) (error : WireFault) → whole_datagram b ≡ failed (List PacketValue) error → (packets : List PacketValue) → DatagramText b packets → ⊥
 datagram_lacks b error e packets text = let again = datagram_again b packets text in cc

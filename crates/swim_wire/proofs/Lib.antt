@@ -7,6 +7,6 @@ pub mod Maps
 pub mod Checking
 pub mod PacketTexts
 pub mod StreamTexts
-pub mod OneMessage
 pub mod DatagramTexts
 pub mod DatagramRefusals
+pub mod OneMessage

@@ -6,14 +6,11 @@ ghost use Rattle.swim_wire.specs.declared.stream.Header.{Header};
 ghost use Rattle.swim_wire.specs.Packet.{PacketValue};
 ghost use Rattle.swim_wire.specs.Texts.{PacketText, HeaderText, StateText, DatagramText};
 
-/// No message begins another of its kind, and each has one value.
+/// No message begins another of its kind, and each has one value: a packet, a header, a state record,
+/// and a datagram, whose value is the list of its packets.
 pub fn one_message()
     ensures packet { (a b x y : List ℕ) (p q : PacketValue) → PacketText a p → PacketText b q → a ++ x ≡ b ++ y → (a ≡ b) × (p ≡ q) }
     ensures header { (a b x y : List ℕ) (g h : Header) → HeaderText a g → HeaderText b h → a ++ x ≡ b ++ y → (a ≡ b) × (g ≡ h) }
     ensures state { (a b x y : List ℕ) (c d : Claim) → StateText a c → StateText b d → a ++ x ≡ b ++ y → (a ≡ b) × (c ≡ d) }
-{}
-
-/// A datagram has one list of packets.
-pub fn one_datagram()
-    ensures { (b : List ℕ) (packets others : List PacketValue) → DatagramText b packets → DatagramText b others → packets ≡ others }
+    ensures datagram { (a b x y : List ℕ) (packets others : List PacketValue) → DatagramText a packets → DatagramText b others → a ++ x ≡ b ++ y → (a ≡ b) × (packets ≡ others) }
 {}

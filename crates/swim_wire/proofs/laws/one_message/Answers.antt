@@ -1,4 +1,4 @@
-use Rattle.swim_wire.proofs.OneMessage.{packet_one, header_one, state_one}
+use Rattle.swim_wire.proofs.OneMessage.{packet_one, header_one, state_one, datagram_one}
 use Rattle.swim_wire.proofs.laws.one_message.Goals as goal
 
 pub returns-clause-packet : goal.returns-clause-packet
@@ -9,3 +9,6 @@ returns-clause-header c = header_one
 
 pub returns-clause-state : goal.returns-clause-state
 returns-clause-state c = state_one
+
+pub returns-clause-datagram : goal.returns-clause-datagram
+returns-clause-datagram c = datagram_one
