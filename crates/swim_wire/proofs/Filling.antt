@@ -26,8 +26,7 @@ fills_apart : (layout : Layout) (slots : Slots) (pairs : Pairs) (out : Slots) (k
     → slot slots place ≢ None → AllByRecursion (λ y. bytes_eq key y ≡ false) (keys_of pairs)
 fills_apart layout slots [] out key place fills at full = tt
 fills_apart layout slots (pair ∷ pairs) out key place fills at full =
-    let differ : place ≢ fills.0 = λ same. full (ap (slot slots) same ∙ fills.2) in
-    (
+    let differ : place ≢ fills.0 = λ same. full (ap (slot slots) same ∙ fills.2) in (
       other_key key pair.0 (λ same. differ (some_is place fills.0 (sym at ∙ ap (place_of layout) same ∙ fills.1))),
       fills_apart layout (slice_set slots fills.0 (Some pair.1)) pairs out key place fills.3 at
           (λ e. full (sym (get_or-set_other slots fills.0 place (Some pair.1) None differ) ∙ e)),
@@ -46,8 +45,7 @@ unfolding IsDistinct
 fills_distinct layout slots [] out room fills = tt
 fills_distinct layout slots (pair ∷ pairs) out room fills =
     let next = slice_set slots fills.0 (Some pair.1) in
-    let long = length-set slots fills.0 (Some pair.1) in
-    (
+    let long = length-set slots fills.0 (Some pair.1) in (
       fills_apart layout next pairs out pair.0 fills.0 fills.3 fills.1 (λ e. some≢none pair.1 (sym (filled_slot layout slots pair.0 pair.1 fills.0 room fills.1) ∙ e)),
       fills_distinct layout next pairs out (omega arith) fills.3,
     )
@@ -131,7 +129,7 @@ fills_from layout slots b (pair ∷ pairs) texts distinct vacant =
     let key = found layout pair.0 text.limit text.in_layout in
     let at = place_from_first layout pair.0 key.place key.first in
     let more = fills_from layout (slice_set slots key.place (Some pair.1)) texts.1 pairs texts.3 distinct.1
-        (vacant_after layout slots pair.0 key.place pair.1 (keys_of pairs) at distinct.0 vacant.1) in
+    (vacant_after layout slots pair.0 key.place pair.1 (keys_of pairs) at distinct.0 vacant.1) in
     (more.0, (key.place, at, vacant.0 key.place at, more.1))
 
 pub all_vacant : (layout : Layout) (keys : List (List ℕ)) → AllByRecursion (IsVacant layout no_slots) keys

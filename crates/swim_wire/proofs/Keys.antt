@@ -69,8 +69,8 @@ first_from_place layout key place e =
 pub place_from_first : (layout : Layout) (key : List ℕ) (place : ℕ) → IsFirstAt layout key place → place_of layout key ≡ Some place
 place_from_first layout key place h =
     let at : position_or_len (λ field. bytes_eq field.0 key) layout ≡ place =
-        position_or_len_is (λ field. bytes_eq field.0 key) layout place ([], limits.Flag) (let inside = h.inside in omega arith)
-        (λ k lt. other_key (key_in layout k) key (h.first k lt)) (λ _. key_same (key_in layout place) key h.here) in
+    position_or_len_is (λ field. bytes_eq field.0 key) layout place ([], limits.Flag) (let inside = h.inside in omega arith)
+    (λ k lt. other_key (key_in layout k) key (h.first k lt)) (λ _. key_same (key_in layout place) key h.here) in
     let inside = h.inside in
     let within : ltb (position_or_len (λ field. bytes_eq field.0 key) layout) (length layout) ≡ true = lt-ltb _ _ (omega arith) in
     rw (within, at) refl

@@ -1,4 +1,8 @@
 mod Fitting
+mod Lifting
+mod MapReads
+mod PairReads
+mod Places
 pub mod Readings
 pub mod Keys
 pub mod Filling
@@ -10,3 +14,9 @@ pub mod StreamTexts
 pub mod DatagramTexts
 pub mod DatagramRefusals
 pub mod OneMessage
+pub mod SpelledMaps
+pub mod SpelledPairs
+pub mod SpelledSteps
+pub mod SpelledTexts
+pub mod SpelledLengths
+pub mod SpelledCompounds

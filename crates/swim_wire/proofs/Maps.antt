@@ -105,7 +105,7 @@ pair_takes layout slots bytes out rest e =
     let value = value_takes (limit_at layout t.0) t.1 u.0 u.1 free.1 in
     let stored = slice_set slots t.0 (Some u.0) in
     pair_made layout slots bytes key.text k.1 t.1 value.text u.1 rest k.0 u.0 t.0 out key.is.1 key.parts known.0 free.0 value.is
-        known.1 value.parts (read_rest stored out u.1 rest u.3) (sym (read_value stored out u.1 rest u.3))
+    known.1 value.parts (read_rest stored out u.1 rest u.3) (sym (read_value stored out u.1 rest u.3))
 
 record PairsTaken (layout : Layout) (n : ℕ) (slots : Slots) (bytes : List ℕ) (out : Slots) (rest : List ℕ) : Type 0 where
   text : List ℕ
@@ -146,8 +146,7 @@ unfolding map_at
 map_takes layout bytes slots rest legal e =
     let t = then_ok (lift fault_of_pack (count_at (length layout)) bytes) (λ n. pairs_at layout n no_slots) slots rest e in
     let count = count_takes (length layout) bytes t.0 t.1 (lift_ok fault_of_pack (count_at (length layout) bytes) t.0 t.1 t.2) in
-    let more = pairs_takes layout t.0 no_slots t.1 slots rest t.3 in
-    (
+    let more = pairs_takes layout t.0 no_slots t.1 slots rest t.3 in (
       count.text ++ more.text,
       more.pairs,
       record {
@@ -204,8 +203,7 @@ map_again layout b pairs rest legal text =
     let few = length-le_from_keys nat_list_eq_equiv (keys_of pairs) layout text.distinct (known_key layout text.pairs_text pairs text.each) in
     let keys = length-keys_of pairs in
     let count = count_again (length layout) text.count_text (text.pairs_text ++ rest) (length pairs) (omega arith) text.count in
-    let more = pairs_again layout no_slots text.pairs_text rest pairs fills.0 legal text.each fills.1 in
-    (
+    let more = pairs_again layout no_slots text.pairs_text rest pairs fills.0 legal text.each fills.1 in (
       fills.0,
       rw (text.text, append_assoc text.count_text text.pairs_text rest, count) more,
       holds_from_fills layout pairs fills.0 legal fills.1,

@@ -174,7 +174,7 @@ alive_refusal first bytes error type e =
         → alive_of slots ≡ failed PacketValue error → ExplainsPacket error (first ∷ bytes)
     failing slots mid m fails =
         let begins : (F : Pairs → Type 0) → F m.1 → BeginsFailing alive_layout F bytes =
-            λ F h. record { map_text = m.0; pairs = m.1; rest = mid; text = m.2; parts = m.3; failing = h } in
+        λ F h. record { map_text = m.0; pairs = m.1; rest = mid; text = m.2; parts = m.3; failing = h } in
         with_name_err (raw_of (codes "Node") m.1) (with_details (details_of m.1) (alive_with m.1)) error (sym (alive_same m.1 slots m.4) ∙ fails) (ExplainsPacket error (first ∷ bytes))
         (λ empty is. subst (λ f. ExplainsPacket f (first ∷ bytes)) is (inl (type, begins (AliveFails NameEmpty) empty)))
         (λ named more. with_details_err (details_of m.1) (alive_with m.1) error more (ExplainsPacket error (first ∷ bytes))

@@ -121,7 +121,7 @@ header_after_refusal first bytes error type e =
         → header_of slots ≡ failed Header error → ExplainsHeader error (first ∷ bytes)
     failing slots mid m fails =
         let begins : (F : Pairs → Type 0) → F m.1 → BeginsFailing header_layout F bytes =
-            λ F h. record { map_text = m.0; pairs = m.1; rest = mid; text = m.2; parts = m.3; failing = h } in
+        λ F h. record { map_text = m.0; pairs = m.1; rest = mid; text = m.2; parts = m.3; failing = h } in
         let six : first ∷ bytes ≡ 6 ∷ bytes = ap (λ (x : ℕ). x ∷ bytes) type in
         header_err m.1 error (sym (header_same m.1 slots m.4) ∙ fails) (ExplainsHeader error (first ∷ bytes))
         (λ many is. subst (λ f. ExplainsHeader f (first ∷ bytes)) is (bytes, six, begins (HeaderFails TooManyNodes) many))
@@ -202,7 +202,7 @@ claim_err : (pairs : Pairs) (state : ℕ) (error : WireFault) → state ≡ numb
 claim_err pairs state error same named fails Q address versions bad =
     split (eqb state 0) P _ _
     (λ t e. with_details_err (details_of pairs) (alive_with pairs) error e Q
-        (λ a is. address (named, state_is pairs state 0 same t, a) is) (λ a v is. versions (named, state_is pairs state 0 same t, (a, v)) is)) (λ none.
+    (λ a is. address (named, state_is pairs state 0 same t, a) is) (λ a v is. versions (named, state_is pairs state 0 same t, (a, v)) is)) (λ none.
     split (eqb state 1) P _ _ (λ t e. absurd cc) (λ one.
     split (eqb state 2) P _ _ (λ t e. absurd cc) (λ two.
     split (eqb state 3) P _ _ (λ t e. absurd cc) (λ three e. bad (named, sym same, above_three state none one two three) cc)))) fails
@@ -254,7 +254,7 @@ state_refusal bytes error e =
         → state_of slots ≡ failed Claim error → ExplainsState error bytes
     failing slots mid m fails =
         let begins : (F : Pairs → Type 0) → F m.1 → BeginsFailing state_layout F bytes =
-            λ F h. record { map_text = m.0; pairs = m.1; rest = mid; text = m.2; parts = m.3; failing = h } in
+        λ F h. record { map_text = m.0; pairs = m.1; rest = mid; text = m.2; parts = m.3; failing = h } in
         let state = number_of (codes "State") m.1 in
         with_name_err (raw_of (codes "Name") m.1) (claim_from m.1 state) error (sym (state_same m.1 slots m.4) ∙ fails) (ExplainsState error bytes)
         (λ empty is. subst (λ f. ExplainsState f bytes) is (begins (StateFails NameEmpty) empty))

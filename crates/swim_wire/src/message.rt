@@ -1,7 +1,8 @@
 //! What the maps of messages say, with memberlist's names, before it is checked as a whole.
 
-ghost use Rattle.std.specs.Prelude.{◌≡◌, length, ◌≤◌};
-ghost use Rattle.swim_wire.specs.Slots.{FitsEach};
+ghost use Rattle.std.specs.Prelude.{◌≤◌, length};
+ghost use Rattle.swim_wire.specs.Message.{SaysAlive, SaysAccusation};
+ghost use Rattle.swim_wire.specs.Slots.{FitsEach, slots_of};
 
 use crate::layout::{ACCUSATION, ALIVE};
 use crate::map::{Values, raw, uint};
@@ -29,6 +30,7 @@ pub(crate) struct Accusation {
 impl Alive {
     pub(crate) fn new(alloc: Global, values: Values) -> Alive
         requires { FitsEach ALIVE values }
+        ensures { SaysAlive (slots_of values) result }
     {
         let [addr, incarnation, meta, node, port, vsn, _] = values;
         Alive {
@@ -45,7 +47,8 @@ impl Alive {
 impl Accusation {
     pub(crate) fn new(alloc: Global, values: Values) -> Accusation
         requires { FitsEach ACCUSATION values }
-        ensures { length result.from.items ≤ 1024 }
+        ensures says { SaysAccusation (slots_of values) result }
+        ensures short { length result.from.items ≤ 1024 }
     {
         let [from, incarnation, node, ..] = values;
         Accusation {

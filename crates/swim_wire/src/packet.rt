@@ -1,9 +1,13 @@
 //! Packets: one claim each.
 
-ghost use Rattle.std.specs.Prelude.{◌≡◌};
-ghost use Rattle.std.specs.Prelude.{length};
-ghost use Rattle.swim_claim.specs.declared.claim.Claim.{Claim};
-ghost use Rattle.swim_wire.specs.Packet.{IsLegalPacket};
+ghost use Rattle.std.specs.Prelude.{◌≡◌, ◌≢◌, IfOk, IfErr};
+ghost use Rattle.swim_pack.specs.Composing.{ReadsAs, same, lift};
+ghost use Rattle.swim_pack.specs.Reading.{next_byte};
+ghost use Rattle.swim_wire.specs.Checks.{ExplainsWhole};
+ghost use Rattle.swim_wire.specs.Fault.{fault_of_pack};
+ghost use Rattle.swim_wire.specs.Packet.{PacketValue, IsLegalPacket};
+ghost use Rattle.swim_wire.specs.Reading.{wire_cause, packet_at, alive_at, suspect_at, dead_at, whole_packet, AnswersUnlessMemory};
+ghost use Rattle.swim_wire.specs.Texts.{PacketText};
 
 use crate::WireFault;
 use crate::layout::{ACCUSATION, ALIVE};
@@ -72,8 +76,28 @@ impl Packet {
     }
 }
 
-/// Reads a packet: its type byte, one map, and nothing after it.
-pub fn decode_packet(alloc: Global, bytes: &[u8]) -> Result<Packet, WireFault> {
+/// Reads a packet: its type byte, one map, and nothing after it (memberlist's `net.go`).
+///
+/// # Errors
+///
+/// The first of these that holds: `Ended` where the bytes are none; `WrongType` where the first is
+/// none of 3, 4 and 5; the faults of the map, as its count, its keys and values are read; of the
+/// whole, `NameEmpty`, then `BadAddress` and `BadVersions` in an alive packet; `Trailing` where bytes
+/// follow. `Memory` comes where a growth was refused, of at most the limit of a value.
+pub fn decode_packet(alloc: Global, bytes: &[u8]) -> Result<Packet, WireFault>
+    // The bytes are the packet.
+    ensures reads { IfOk result (λ packet. PacketText bytes.now packet) }
+
+    // Refused for another cause than memory they are no packet, and the refusal says why.
+    ensures refuses { IfErr result (λ fault. fault ≢ WireFault.Memory → (p : PacketValue) → ¬ PacketText bytes.now p) }
+    ensures explains { IfErr result (λ fault. fault ≢ WireFault.Memory → ExplainsWhole fault bytes.now) }
+{
+    decode_whole(alloc, bytes)
+}
+
+fn decode_whole(alloc: Global, bytes: &[u8]) -> Result<Packet, WireFault>
+    ensures { AnswersUnlessMemory (whole_packet bytes.now) result }
+{
     let mut inlet = SliceInlet::new(bytes);
     let packet = read_packet(alloc, &mut inlet)?;
     if inlet.rest().is_empty() {
@@ -83,10 +107,10 @@ pub fn decode_packet(alloc: Global, bytes: &[u8]) -> Result<Packet, WireFault> {
     }
 }
 
-fn read_packet<I: Inlet>(alloc: Global, inlet: &mut I) -> Result<Packet, WireFault> {
-    let mut first = [0];
-    inlet.pull(&mut first)?;
-    match first[0] {
+fn read_packet<I: Inlet>(alloc: Global, inlet: &mut I) -> Result<Packet, WireFault>
+    ensures { ReadsAs wire_cause same packet_at (I.seen inlet.old) (I.seen inlet.new) result }
+{
+    match read_type(inlet)? {
         ALIVE_MESSAGE => read_alive(alloc, inlet),
         SUSPECT_MESSAGE => read_suspect(alloc, inlet),
         DEAD_MESSAGE => read_dead(alloc, inlet),
@@ -94,7 +118,17 @@ fn read_packet<I: Inlet>(alloc: Global, inlet: &mut I) -> Result<Packet, WireFau
     }
 }
 
-fn read_alive<I: Inlet>(alloc: Global, inlet: &mut I) -> Result<Packet, WireFault> {
+fn read_type<I: Inlet>(inlet: &mut I) -> Result<u8, WireFault>
+    ensures { ReadsAs wire_cause same (lift fault_of_pack next_byte) (I.seen inlet.old) (I.seen inlet.new) result }
+{
+    let mut first = [0];
+    inlet.pull(&mut first)?;
+    Ok(first[0])
+}
+
+fn read_alive<I: Inlet>(alloc: Global, inlet: &mut I) -> Result<Packet, WireFault>
+    ensures { ReadsAs wire_cause same alive_at (I.seen inlet.old) (I.seen inlet.new) result }
+{
     let alive = Alive::new(alloc, read_map(alloc, inlet, &ALIVE)?);
     let name = Name::new(alive.node)?;
     let inc = alive.incarnation;
@@ -102,7 +136,9 @@ fn read_alive<I: Inlet>(alloc: Global, inlet: &mut I) -> Result<Packet, WireFaul
     Ok(Packet::new(Claim::Alive { name, inc, details }, Vec::new(alloc)))
 }
 
-fn read_suspect<I: Inlet>(alloc: Global, inlet: &mut I) -> Result<Packet, WireFault> {
+fn read_suspect<I: Inlet>(alloc: Global, inlet: &mut I) -> Result<Packet, WireFault>
+    ensures { ReadsAs wire_cause same suspect_at (I.seen inlet.old) (I.seen inlet.new) result }
+{
     let suspect = Accusation::new(alloc, read_map(alloc, inlet, &ACCUSATION)?);
     let name = Name::new(suspect.node)?;
     let inc = suspect.incarnation;
@@ -110,7 +146,9 @@ fn read_suspect<I: Inlet>(alloc: Global, inlet: &mut I) -> Result<Packet, WireFa
 }
 
 /// A member that is dead by its own word has left.
-fn read_dead<I: Inlet>(alloc: Global, inlet: &mut I) -> Result<Packet, WireFault> {
+fn read_dead<I: Inlet>(alloc: Global, inlet: &mut I) -> Result<Packet, WireFault>
+    ensures { ReadsAs wire_cause same dead_at (I.seen inlet.old) (I.seen inlet.new) result }
+{
     let dead = Accusation::new(alloc, read_map(alloc, inlet, &ACCUSATION)?);
     let name = Name::new(dead.node)?;
     let inc = dead.incarnation;

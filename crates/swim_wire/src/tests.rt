@@ -1,5 +1,7 @@
 //! Packets by their bytes.
 
+mod canonical;
+
 use crate::{Packet, WireFault, decode_packet};
 use std::alloc::Global;
 use std::process::Abort;

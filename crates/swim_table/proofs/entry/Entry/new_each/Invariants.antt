@@ -2,7 +2,7 @@ use Rattle.std.proofs.Common.{◌≡◌, ◌++◌, length, map, All}
 use Rattle.std.specs.Vec.Iter.{into_iter_items, into_iter_len}
 use Rattle.swim_claim.specs.Claim.{IsLegalClaim}
 use Rattle.swim_table.specs.Join.{standing_of}
-use Rattle.swim_table.proofs.entry.Entry.for_each.Given as goal
+use Rattle.swim_table.proofs.entry.Entry.new_each.Given as goal
 
 abbrev pub invariant-loop-claim : goal.invariant-loop-claim
 invariant-loop-claim l = record {

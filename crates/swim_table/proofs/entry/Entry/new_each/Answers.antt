@@ -3,7 +3,7 @@ use Rattle.std.specs.Vec.Iter.{into_iter_items}
 use Rattle.std.proofs.lemmas.List.Elements.{All-cons}
 use Rattle.swim_claim.specs.Claim.{IsLegalClaim}
 use Rattle.swim_table.specs.Join.{standing_of}
-use Rattle.swim_table.proofs.entry.Entry.for_each.Goals as goal
+use Rattle.swim_table.proofs.entry.Entry.new_each.Goals as goal
 
 pub loop-claim-preserved : goal.loop-claim-preserved
 loop-claim-preserved c =

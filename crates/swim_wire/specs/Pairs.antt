@@ -1,0 +1,64 @@
+-- Maps as they are written: pairs of keys and values, each in its canonical spelling.
+use Rattle.std.specs.Prelude.{◌≡◌, ℕ, ◌<◌, ◌^◌, List, ◌++◌, length, map, Option, Some, None}
+use Rattle.std.specs.List.{flat_map}
+use Rattle.swim_claim.specs.declared.claim.Kind.{Kind}
+use Rattle.swim_claim.specs.declared.claim.Kind.TheVariants as kind
+use Rattle.swim_claim.specs.Details.{DetailsValue}
+use Rattle.swim_pack.specs.Spelling.{number_text, raw_text, flag_text, count_text}
+use Rattle.swim_wire.specs.declared.canonical.pairs.Value.{Value}
+use Rattle.swim_wire.specs.declared.canonical.pairs.Value.TheVariants as values
+use Rattle.swim_wire.specs.declared.layout.Key.{Key}
+use Rattle.swim_wire.specs.Canonical.{no_details}
+use Rattle.swim_wire.specs.Layout.{Spelled, Pairs}
+use Rattle.swim_wire.specs.Layout.Spelled.{number, raw, flag}
+use Rattle.swim_wire.specs.Slots.{key_text}
+
+-- the canonical bytes of a value, of a pair, and of a map
+abbrev pub value_text : Spelled → List ℕ
+value_text (number v) = number_text v
+value_text (raw s) = raw_text s
+value_text (flag f) = flag_text f
+
+abbrev pub pair_text : List ℕ × Spelled → List ℕ
+pair_text pair = raw_text pair.0 ++ value_text pair.1
+
+abbrev pub map_text : Pairs → List ℕ
+map_text pairs = count_text (length pairs) ++ flat_map pair_text pairs
+
+-- the pairs that the code writes
+abbrev pub spelled : Value → Spelled
+spelled (values.Number v) = number v
+spelled (values.Raw bytes) = raw bytes.now
+spelled (values.Flag f) = flag f
+
+abbrev pub pair_of : Key × Value → List ℕ × Spelled
+pair_of pair = (key_text pair.0, spelled pair.1)
+
+abbrev pub pairs_of : List (Key × Value) → Pairs
+pairs_of pairs = map pair_of pairs
+
+-- bytes are short enough for two bytes of length
+abbrev pub IsShort : Value → Type 0
+IsShort (values.Number v) = Unit {0}
+IsShort (values.Raw bytes) = length bytes.now < 2 ^ 16
+IsShort (values.Flag f) = Unit {0}
+
+-- parts of details are
+abbrev pub AreShort : List ℕ → List ℕ → List ℕ → Type 0
+AreShort addr meta vsn = (length addr < 2 ^ 16) × (length meta < 2 ^ 16) × (length vsn < 2 ^ 16)
+
+-- memberlist's numbers of the states of members
+abbrev pub state_number : Kind → ℕ
+state_number kind.Alive = 0
+state_number kind.Suspect = 1
+state_number kind.Confirm = 2
+state_number kind.Leave = 3
+
+-- the details of a state record
+abbrev pub details_or_none : Option DetailsValue → DetailsValue
+details_or_none None = no_details
+details_or_none (Some details) = details
+
+-- what was there is still there, and there may be more behind it
+abbrev pub Extends : List ℕ → List ℕ → Type 0
+Extends old new = (more : List ℕ) × (new ≡ old ++ more)

@@ -1,0 +1,237 @@
+//! Messages in their canonical bytes: all keys of the layout in alphabetical order, each value in its
+//! canonical spelling (own).
+
+mod pairs;
+
+ghost use Rattle.std.specs.Prelude.{◌≡◌, ◌<◌, ◌≤◌, ◌^◌, ◌++◌, [], length, IfOk, IfSome, OnOk, OnErr};
+ghost use Rattle.std.specs.Option.{option_copied};
+ghost use Rattle.swim_claim.specs.declared.claim.Claim.{Claim};
+ghost use Rattle.swim_claim.specs.Claim.{name_of, HasFacts, IsLegalClaim, IsLegalFacts};
+ghost use Rattle.swim_claim.specs.Details.{DetailsValue, IsLegalDetails};
+ghost use Rattle.swim_wire.specs.Canonical.{packet_bytes, packets_bytes, header_bytes, state_bytes, alive_bytes, accusation_bytes};
+ghost use Rattle.swim_wire.specs.Packet.{IsLegalPacket};
+ghost use Rattle.swim_wire.specs.Pairs.{details_or_none, state_number, AreShort};
+ghost use Rattle.swim_wire.specs.Texts.{PacketText, HeaderText, StateText, DatagramText};
+
+use crate::canonical::pairs::{Value, write_map, write_message};
+use crate::layout::Key;
+use crate::packet::Packet;
+use crate::stream::Header;
+use std::alloc::{AllocError, Global};
+use swim_claim::{Claim, Details, Facts, Kind, Name};
+
+/// The first byte of a suspect message, as in memberlist's `net.go`.
+const SUSPECT_MESSAGE: u8 = 3;
+
+/// The first byte of an alive message.
+const ALIVE_MESSAGE: u8 = 4;
+
+/// The first byte of a dead message.
+const DEAD_MESSAGE: u8 = 5;
+
+/// The first byte of a push/pull stream.
+const PUSH_PULL_MESSAGE: u8 = 6;
+
+/// The first byte of a compound packet.
+const COMPOUND_MESSAGE: u8 = 7;
+
+/// Appends the header of a push/pull stream: its type byte, and its map (memberlist's
+/// `pushPullHeader`).
+///
+/// # Errors
+///
+/// `AllocError` where the vector had to grow and memory ran out. Its contents are then as they were.
+pub fn write_header(out: &mut Vec<u8>, header: &Header) -> Result<(), AllocError>
+    ensures ok { OnOk result (out.new.items ≡ out.old.items ++ header_bytes header.now) }
+    ensures text { header.now.nodes ≤ 131072 → header.now.user_len ≤ 20971520 → HeaderText (header_bytes header.now) header.now }
+    ensures refused { OnErr result (out.new.items ≡ out.old.items) }
+{
+    write_message(
+        out,
+        PUSH_PULL_MESSAGE,
+        &[
+            (Key::Join, Value::Flag(header.join)),
+            (Key::Nodes, Value::Number(u64::from(header.nodes))),
+            (Key::UserStateLen, Value::Number(u64::from(header.user_len))),
+        ],
+    )
+}
+
+/// Appends the state record of the claim that the facts make about a member (memberlist's
+/// `pushNodeState`). Only that of an Alive has an address, a port, metadata and versions.
+///
+/// # Errors
+///
+/// `AllocError` where the vector had to grow and memory ran out. Its contents are then as they were.
+pub fn write_state<'a>(
+    out: &mut Vec<u8>,
+    name: &'a Name,
+    facts: Facts<'a>,
+) -> Result<(), AllocError>
+    requires { IsLegalFacts facts }
+    ensures ok { OnOk result
+        ((c : Claim) → name_of c ≡ name.now → HasFacts c facts.entry → out.new.items ≡ out.old.items ++ state_bytes c) }
+    ensures text { (c : Claim) → name_of c ≡ name.now → HasFacts c facts.entry → StateText (state_bytes c) c }
+    ensures refused { OnErr result (out.new.items ≡ out.old.items) }
+{
+    let details = Parts::of(facts.details);
+    write_map(
+        out,
+        &[
+            (Key::Addr, Value::Raw(details.addr)),
+            (Key::Incarnation, Value::Number(u64::from(facts.inc))),
+            (Key::Meta, Value::Raw(details.meta)),
+            (Key::Name, Value::Raw(name.bytes())),
+            (Key::Port, Value::Number(u64::from(details.port))),
+            (Key::State, Value::Number(state_of(facts.kind))),
+            (Key::Vsn, Value::Raw(details.vsn)),
+        ],
+    )
+}
+
+/// The state by which a record names a kind of claim, as in memberlist's `state.go`.
+fn state_of(kind: Kind) -> u64
+    ensures { result ≡ state_number kind }
+{
+    match kind {
+        Kind::Alive => 0,
+        Kind::Suspect => 1,
+        Kind::Confirm => 2,
+        Kind::Leave => 3,
+    }
+}
+
+/// Details as a state record has them: all empty where there are none.
+#[derive(Drop)]
+struct Parts<'a> {
+    addr: &'a [u8],
+    port: u16,
+    meta: &'a [u8],
+    vsn: &'a [u8],
+}
+
+impl<'a> Parts<'a> {
+    fn of(details: Option<&'a Details>) -> Parts<'a>
+        ensures same { details_or_none (option_copied details.entry) ≡ record { addr = result.addr.now; port = result.port; meta = result.meta.now; vsn = result.vsn.now } }
+        ensures short { AreShort result.addr.now result.meta.now result.vsn.now }
+        ensures legal { IfSome (option_copied details.entry) IsLegalDetails }
+    {
+        match details {
+            Some(details) => Parts {
+                addr: details.addr(),
+                port: details.port(),
+                meta: details.meta(),
+                vsn: details.vsn(),
+            },
+            None => Parts {
+                addr: &[],
+                port: 0,
+                meta: &[],
+                vsn: &[],
+            },
+        }
+    }
+}
+
+/// The canonical bytes of a packet: its type byte, and its map.
+///
+/// # Errors
+///
+/// `AllocError` where memory ran out.
+pub fn encode_packet(alloc: Global, packet: &Packet) -> Result<Vec<u8>, AllocError>
+    ensures canonical { IfOk result (λ bytes. bytes.items ≡ packet_bytes packet.now) }
+    ensures text { IfOk result (λ bytes. PacketText bytes.items packet.now) }
+{
+    let mut out = Vec::new(alloc);
+    write_packet(&mut out, packet)?;
+    Ok(out)
+}
+
+/// The canonical bytes of a compound packet of at most 255 packets: its type byte, the count of the
+/// packets, their lengths in two bytes each with the higher first, and the packets (memberlist's
+/// `makeCompoundMessage`).
+///
+/// # Errors
+///
+/// `AllocError` where memory ran out.
+pub fn encode_compound(alloc: Global, packets: &[Packet]) -> Result<Vec<u8>, AllocError>
+    requires { length packets.now ≤ 255 }
+    ensures canonical { IfOk result (λ bytes. bytes.items ≡ packets_bytes packets.now) }
+    ensures text { IfOk result (λ bytes. DatagramText bytes.items packets.now) }
+{
+    let mut out = Vec::new(alloc);
+    out.extend_from_slice(&[COMPOUND_MESSAGE, packets.len() as u8])?;
+    let mut parts = Vec::new(alloc);
+    for packet in packets {
+        let start = parts.len();
+        write_packet(&mut parts, packet)?;
+        let len = (parts.len() - start) as u16;
+        out.extend_from_slice(&len.to_be_bytes())?;
+    }
+    out.extend_from_slice(&parts)?;
+    Ok(out)
+}
+
+/// Appends a packet.
+fn write_packet(out: &mut Vec<u8>, packet: &Packet) -> Result<(), AllocError>
+    ensures ok { OnOk result (out.new.items ≡ out.old.items ++ packet_bytes packet.now) }
+    ensures legal { IsLegalClaim packet.now.claim }
+    ensures made_by { IsLegalPacket packet.now.claim packet.now.from }
+{
+    let claim = packet.claim();
+    let name = claim.name();
+    let inc = claim.inc();
+    let from = packet.from_name();
+    match claim {
+        Claim::Alive { details, .. } => write_alive(out, name, inc, details),
+        Claim::Suspect { .. } => write_accusation(out, SUSPECT_MESSAGE, name, inc, from),
+        Claim::Confirm { .. } | Claim::Leave { .. } => {
+            write_accusation(out, DEAD_MESSAGE, name, inc, from)
+        }
+    }
+}
+
+/// Appends memberlist's `alive`.
+fn write_alive<'a>(
+    out: &mut Vec<u8>,
+    name: &'a Name,
+    inc: u32,
+    details: &'a Details,
+) -> Result<(), AllocError>
+    ensures { OnOk result (out.new.items ≡ out.old.items ++ alive_bytes name.now inc details.now) }
+{
+    write_message(
+        out,
+        ALIVE_MESSAGE,
+        &[
+            (Key::Addr, Value::Raw(details.addr())),
+            (Key::Incarnation, Value::Number(u64::from(inc))),
+            (Key::Meta, Value::Raw(details.meta())),
+            (Key::Node, Value::Raw(name.bytes())),
+            (Key::Port, Value::Number(u64::from(details.port()))),
+            (Key::Vsn, Value::Raw(details.vsn())),
+        ],
+    )
+}
+
+/// Appends memberlist's `suspect` or `dead`, which the member `from` makes.
+fn write_accusation<'a>(
+    out: &mut Vec<u8>,
+    message: u8,
+    name: &'a Name,
+    inc: u32,
+    from: &'a [u8],
+) -> Result<(), AllocError>
+    requires { length from.now ≤ 1024 }
+    ensures { OnOk result (out.new.items ≡ out.old.items ++ accusation_bytes message name.now inc from.now) }
+{
+    write_message(
+        out,
+        message,
+        &[
+            (Key::From, Value::Raw(from)),
+            (Key::Incarnation, Value::Number(u64::from(inc))),
+            (Key::Node, Value::Raw(name.bytes())),
+        ],
+    )
+}

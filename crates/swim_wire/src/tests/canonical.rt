@@ -1,0 +1,153 @@
+//! Messages by their canonical bytes.
+
+use crate::{
+    Header, Packet, decode_packet, encode_compound, encode_packet, write_header, write_state,
+};
+use std::alloc::{AllocError, Global};
+use std::test::Fail;
+use swim_claim::{Claim, Details, Facts, Kind, Name};
+
+/// An Alive of `a` at incarnation 0, at 127.0.0.1 and port 7946.
+const ALIVE: &[u8] =
+    b"\x04\x86\xa4Addr\xa4\x7f\0\0\x01\xabIncarnation\0\xa4Meta\xa0\xa4Node\xa1a\xa4Port\xcd\x1f\x0a\xa3Vsn\xa0";
+
+/// The same in other forms and another order, where Meta is nil and Vsn is absent.
+const OTHER_ALIVE: &[u8] =
+    b"\x04\x85\xa4Port\xcf\0\0\0\0\0\0\x1f\x0a\xa4Node\xa1a\xa4Meta\xc0\xabIncarnation\xd2\0\0\0\0\xa4Addr\xc4\x04\x7f\0\0\x01";
+
+/// A Suspect of `b` at incarnation 1, made by `x`.
+const SUSPECT: &[u8] = b"\x03\x83\xa4From\xa1x\xabIncarnation\x01\xa4Node\xa1b";
+
+/// A Confirm of `a` at incarnation 0, made by `x`.
+const CONFIRM: &[u8] = b"\x05\x83\xa4From\xa1x\xabIncarnation\0\xa4Node\xa1a";
+
+/// A Leave of `a` at incarnation 2.
+const LEAVE: &[u8] = b"\x05\x83\xa4From\xa1a\xabIncarnation\x02\xa4Node\xa1a";
+
+/// Encodes it. Where memory is refused the repeat encodes it.
+fn encoded(alloc: Global, packet: &Packet) -> Result<Vec<u8>, AllocError> {
+    match encode_packet(alloc, packet) {
+        Err(AllocError) => encode_packet(alloc, packet),
+        answer => answer,
+    }
+}
+
+#[test]
+fn a_packet_is_written_in_its_canonical_bytes(rt: HostRuntime) -> Result<(), Fail> {
+    let alloc = rt.alloc();
+    for (bytes, canonical) in [
+        (ALIVE, ALIVE),
+        (OTHER_ALIVE, ALIVE),
+        (SUSPECT, SUSPECT),
+        (CONFIRM, CONFIRM),
+        (LEAVE, LEAVE),
+    ] {
+        let packet = decode_packet(alloc, bytes)?;
+        assert_eq!(rt; encoded(alloc, &packet)?.as_slice(), canonical);
+    }
+    Ok(())
+}
+
+#[test]
+fn a_compound_has_the_lengths_and_then_the_packets(rt: HostRuntime) -> Result<(), Fail> {
+    let alloc = rt.alloc();
+    let packets = [decode_packet(alloc, ALIVE)?, decode_packet(alloc, SUSPECT)?];
+    let compound = match encode_compound(alloc, &packets) {
+        Err(AllocError) => encode_compound(alloc, &packets)?,
+        Ok(compound) => compound,
+    };
+    assert_eq!(rt; compound.len(), 86);
+    assert_eq!(rt; &compound[..6], b"\x07\x02\0\x33\0\x1d".as_slice());
+    assert_eq!(rt; &compound[6..57], ALIVE);
+    assert_eq!(rt; &compound[57..], SUSPECT);
+    Ok(())
+}
+
+#[test]
+fn a_compound_of_no_packets_is_its_type_and_a_zero(rt: HostRuntime) -> Result<(), Fail> {
+    let compound = encode_compound(rt.alloc(), &[])?;
+    assert_eq!(rt; compound.as_slice(), b"\x07\0".as_slice());
+    Ok(())
+}
+
+/// Appends the header. Where memory is refused the vector stays as it was, and the repeat appends it.
+fn with_header(out: &mut Vec<u8>, header: &Header) -> Result<(), AllocError> {
+    let len = out.len();
+    match write_header(out, header) {
+        Err(AllocError) if out.len() == len => write_header(out, header),
+        answer => answer,
+    }
+}
+
+#[test]
+fn a_header_is_appended(rt: HostRuntime) -> Result<(), Fail> {
+    let header = Header {
+        nodes: 0,
+        user_len: 0,
+        join: false,
+    };
+    let other = Header {
+        nodes: 131072,
+        user_len: 300,
+        join: true,
+    };
+    let mut out = Vec::new(rt.alloc());
+    with_header(&mut out, &header)?;
+    with_header(&mut out, &other)?;
+    let both =
+        b"\x06\x83\xa4Join\xc2\xa5Nodes\0\xacUserStateLen\0\x06\x83\xa4Join\xc3\xa5Nodes\xce\0\x02\0\0\xacUserStateLen\xcd\x01\x2c";
+    assert_eq!(rt; out.as_slice(), both.as_slice());
+    Ok(())
+}
+
+/// Appends the record. Where memory is refused the vector stays as it was, and the repeat appends it.
+fn with_state(out: &mut Vec<u8>, name: &Name, facts: Facts) -> Result<(), AllocError> {
+    let len = out.len();
+    match write_state(out, name, facts) {
+        Err(AllocError) if out.len() == len => write_state(out, name, facts),
+        answer => answer,
+    }
+}
+
+#[test]
+fn a_state_record_is_appended(rt: HostRuntime) -> Result<(), Fail> {
+    let alloc = rt.alloc();
+    let suspect =
+        b"\x87\xa4Addr\xa0\xabIncarnation\x01\xa4Meta\xa0\xa4Name\xa1b\xa4Port\0\xa5State\x01\xa3Vsn\xa0";
+    let confirm =
+        b"\x87\xa4Addr\xa0\xabIncarnation\0\xa4Meta\xa0\xa4Name\xa1a\xa4Port\0\xa5State\x02\xa3Vsn\xa0";
+    let leave =
+        b"\x87\xa4Addr\xa0\xabIncarnation\x03\xa4Meta\xa0\xa4Name\xa1c\xa4Port\0\xa5State\x03\xa3Vsn\xa0";
+    for (name, kind, inc, record) in [
+        (b"b", Kind::Suspect, 1, suspect),
+        (b"a", Kind::Confirm, 0, confirm),
+        (b"c", Kind::Leave, 3, leave),
+    ] {
+        let name = Name::new(name.to_vec(alloc)?)?;
+        let mut out = Vec::new(alloc);
+        with_state(
+            &mut out,
+            &name,
+            Facts {
+                kind,
+                inc,
+                details: None,
+            },
+        )?;
+        assert_eq!(rt; out.as_slice(), record.as_slice());
+    }
+    Ok(())
+}
+
+#[test]
+fn the_state_record_of_an_alive_has_its_details(rt: HostRuntime) -> Result<(), Fail> {
+    let alloc = rt.alloc();
+    let packet = decode_packet(alloc, ALIVE)?;
+    let claim = packet.claim();
+    let mut out = Vec::new(alloc);
+    with_state(&mut out, claim.name(), claim.facts())?;
+    let record =
+        b"\x87\xa4Addr\xa4\x7f\0\0\x01\xabIncarnation\0\xa4Meta\xa0\xa4Name\xa1a\xa4Port\xcd\x1f\x0a\xa5State\0\xa3Vsn\xa0";
+    assert_eq!(rt; out.as_slice(), record.as_slice());
+    Ok(())
+}
