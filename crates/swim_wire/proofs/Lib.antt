@@ -13,6 +13,9 @@ pub mod Maps
 pub mod Checking
 pub mod PacketTexts
 pub mod StreamTexts
+pub mod DatagramTexts
+pub mod DatagramRefusals
+pub mod OneMessage
 pub mod SpelledMaps
 pub mod SpelledPairs
 pub mod SpelledSteps

@@ -28,7 +28,7 @@ IsMapFault UserTooLong = ⊥
 IsMapFault Trailing = ⊥
 IsMapFault error = Unit {0}
 
-pack_fault : (pack : PackFault) → IsMapFault (fault_of_pack pack)
+pub pack_fault : (pack : PackFault) → IsMapFault (fault_of_pack pack)
 pack_fault packs.Ended = tt
 pack_fault pack = tt
 
@@ -36,7 +36,7 @@ key_fault : (pack : PackFault) → IsMapFault (fault_of_key pack)
 key_fault packs.TooLong = tt
 key_fault pack = tt
 
-lift_fault : {A : Type 0} (f : PackFault → WireFault) (r : Result (A × List ℕ) PackFault) (error : WireFault) → ((pack : PackFault) → IsMapFault (f pack))
+pub lift_fault : {A : Type 0} (f : PackFault → WireFault) (r : Result (A × List ℕ) PackFault) (error : WireFault) → ((pack : PackFault) → IsMapFault (f pack))
     → lift_error f r ≡ refused A error → IsMapFault error
 lift_fault f r error each e = let t = lift_err f r error e in rw t.1 (each t.0)
 

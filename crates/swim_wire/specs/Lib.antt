@@ -7,4 +7,5 @@ pub mod Canonical
 pub mod Reading
 pub mod Message
 pub mod Checks
+pub mod Datagrams
 pub mod Pairs

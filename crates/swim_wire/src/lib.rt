@@ -4,6 +4,7 @@
 mod canonical;
 mod canonical_law;
 mod fault;
+pub mod laws;
 mod layout;
 mod map;
 mod message;
