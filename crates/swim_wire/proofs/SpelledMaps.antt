@@ -1,9 +1,13 @@
 -- The canonical bytes of a map spell it.
+<<<<<<< HEAD
 use Rattle.std.proofs.Common.{◌≡◌, ℕ, ◌<◌, ◌≤◌, ◌^◌, Bool, false, List, [], ◌∷◌, ◌++◌, length, map, Some, refl, arith}
+=======
+use Rattle.std.proofs.Common.{◌≡◌, ℕ, ◌<◌, ◌≤◌, ◌^◌, false, List, [], ◌∷◌, length, map, Some, refl, arith}
+>>>>>>> canonical
 use Rattle.std.proofs.lemmas.Map.Keys.{IsDistinct-from_apart, IsDistinct-cons}
 use Rattle.std.specs.List.{flat_map, AllByRecursion, IsDistinct}
 use Rattle.std.specs.Str.{bytes_eq}
-use Rattle.swim_pack.specs.Spelling.{number_text, raw_text, flag_text, count_text}
+use Rattle.swim_pack.specs.Spelling.{raw_text, count_text}
 use Rattle.swim_pack.proofs.Canonical.{number_text_is, raw_text_is, flag_text_is, count_text_is}
 use Rattle.swim_wire.specs.declared.layout.Limit.{Limit}
 use Rattle.swim_wire.specs.declared.layout.Limit.TheVariants as limits

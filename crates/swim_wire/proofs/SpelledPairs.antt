@@ -1,7 +1,6 @@
 -- The canonical bytes of each message are those of a map of its pairs.
-use Rattle.std.proofs.Common.{◌≡◌, ℕ, ◌+◌, ◌<◌, ◌≤◌, ◌^◌, List, [], ◌∷◌, ◌++◌, length, codes, refl, append_assoc, append-nil}
+use Rattle.std.proofs.Common.{◌≡◌, ℕ, List, [], ◌∷◌, codes, append_assoc, append-nil}
 use Rattle.swim_claim.specs.Details.{DetailsValue}
-use Rattle.swim_pack.specs.Spelling.{number_text, raw_text, flag_text, count_text}
 use Rattle.swim_wire.specs.declared.stream.Header.{Header}
 use Rattle.swim_wire.specs.Canonical.{alive_bytes, accusation_bytes, header_bytes, record_bytes}
 use Rattle.swim_wire.specs.Layout.{Pairs}

@@ -74,7 +74,7 @@ pub fn write_state<'a>(
     ensures text { (c : Claim) → name_of c ≡ name.now → HasFacts c facts.entry → StateText (state_bytes c) c }
     ensures refused { OnErr result (out.new.items ≡ out.old.items) }
 {
-    let details = Parts::of(facts.details);
+    let details = RecordDetails::of(facts.details);
     write_map(
         out,
         &[
@@ -103,27 +103,27 @@ fn state_of(kind: Kind) -> u64
 
 /// Details as a state record has them: all empty where there are none.
 #[derive(Drop)]
-struct Parts<'a> {
+struct RecordDetails<'a> {
     addr: &'a [u8],
     port: u16,
     meta: &'a [u8],
     vsn: &'a [u8],
 }
 
-impl<'a> Parts<'a> {
-    fn of(details: Option<&'a Details>) -> Parts<'a>
+impl<'a> RecordDetails<'a> {
+    fn of(details: Option<&'a Details>) -> RecordDetails<'a>
         ensures same { details_or_none (option_copied details.entry) ≡ record { addr = result.addr.now; port = result.port; meta = result.meta.now; vsn = result.vsn.now } }
         ensures short { AreShort result.addr.now result.meta.now result.vsn.now }
         ensures legal { IfSome (option_copied details.entry) IsLegalDetails }
     {
         match details {
-            Some(details) => Parts {
+            Some(details) => RecordDetails {
                 addr: details.addr(),
                 port: details.port(),
                 meta: details.meta(),
                 vsn: details.vsn(),
             },
-            None => Parts {
+            None => RecordDetails {
                 addr: &[],
                 port: 0,
                 meta: &[],

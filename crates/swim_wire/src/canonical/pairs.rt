@@ -28,10 +28,9 @@ pub(crate) fn write_message(
     ensures ok { OnOk result (out.new.items ≡ out.old.items ++ first ∷ map_text (pairs_of pairs.now)) }
     ensures refused { OnErr result (out.new.items ≡ out.old.items) }
 {
-    let start = out.len();
     out.extend_from_slice(&[first])?;
-    if append_map(out, pairs).is_err() {
-        out.truncate(start);
+    if write_map(out, pairs).is_err() {
+        out.pop();
         return Err(AllocError);
     }
     Ok(())

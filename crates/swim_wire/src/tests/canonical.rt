@@ -5,7 +5,7 @@ use crate::{
 };
 use std::alloc::{AllocError, Global};
 use std::test::Fail;
-use swim_claim::{Claim, Details, Facts, Kind, Name};
+use swim_claim::Claim;
 
 /// An Alive of `a` at incarnation 0, at 127.0.0.1 and port 7946.
 const ALIVE: &[u8] =
@@ -23,6 +23,9 @@ const CONFIRM: &[u8] = b"\x05\x83\xa4From\xa1x\xabIncarnation\0\xa4Node\xa1a";
 
 /// A Leave of `a` at incarnation 2.
 const LEAVE: &[u8] = b"\x05\x83\xa4From\xa1a\xabIncarnation\x02\xa4Node\xa1a";
+
+/// A Leave of `c` at incarnation 3.
+const LEAVE_OF_C: &[u8] = b"\x05\x83\xa4From\xa1c\xabIncarnation\x03\xa4Node\xa1c";
 
 /// Encodes it. Where memory is refused the repeat encodes it.
 fn encoded(alloc: Global, packet: &Packet) -> Result<Vec<u8>, AllocError> {
@@ -100,54 +103,37 @@ fn a_header_is_appended(rt: HostRuntime) -> Result<(), Fail> {
     Ok(())
 }
 
-/// Appends the record. Where memory is refused the vector stays as it was, and the repeat appends it.
-fn with_state(out: &mut Vec<u8>, name: &Name, facts: Facts) -> Result<(), AllocError> {
+/// Appends the record of the claim. Where memory is refused the vector stays as it was, and the repeat
+/// appends it.
+fn with_state(out: &mut Vec<u8>, claim: &Claim) -> Result<(), AllocError> {
     let len = out.len();
-    match write_state(out, name, facts) {
-        Err(AllocError) if out.len() == len => write_state(out, name, facts),
+    match write_state(out, claim.name(), claim.facts()) {
+        Err(AllocError) if out.len() == len => write_state(out, claim.name(), claim.facts()),
         answer => answer,
     }
 }
 
 #[test]
-fn a_state_record_is_appended(rt: HostRuntime) -> Result<(), Fail> {
+fn a_state_record_has_the_state_and_the_details_of_its_claim(rt: HostRuntime) -> Result<(), Fail> {
     let alloc = rt.alloc();
+    let alive =
+        b"\x87\xa4Addr\xa4\x7f\0\0\x01\xabIncarnation\0\xa4Meta\xa0\xa4Name\xa1a\xa4Port\xcd\x1f\x0a\xa5State\0\xa3Vsn\xa0";
     let suspect =
         b"\x87\xa4Addr\xa0\xabIncarnation\x01\xa4Meta\xa0\xa4Name\xa1b\xa4Port\0\xa5State\x01\xa3Vsn\xa0";
     let confirm =
         b"\x87\xa4Addr\xa0\xabIncarnation\0\xa4Meta\xa0\xa4Name\xa1a\xa4Port\0\xa5State\x02\xa3Vsn\xa0";
     let leave =
         b"\x87\xa4Addr\xa0\xabIncarnation\x03\xa4Meta\xa0\xa4Name\xa1c\xa4Port\0\xa5State\x03\xa3Vsn\xa0";
-    for (name, kind, inc, record) in [
-        (b"b", Kind::Suspect, 1, suspect),
-        (b"a", Kind::Confirm, 0, confirm),
-        (b"c", Kind::Leave, 3, leave),
+    for (packet, record) in [
+        (ALIVE, alive.as_slice()),
+        (SUSPECT, suspect),
+        (CONFIRM, confirm),
+        (LEAVE_OF_C, leave),
     ] {
-        let name = Name::new(name.to_vec(alloc)?)?;
+        let packet = decode_packet(alloc, packet)?;
         let mut out = Vec::new(alloc);
-        with_state(
-            &mut out,
-            &name,
-            Facts {
-                kind,
-                inc,
-                details: None,
-            },
-        )?;
-        assert_eq!(rt; out.as_slice(), record.as_slice());
+        with_state(&mut out, packet.claim())?;
+        assert_eq!(rt; out.as_slice(), record);
     }
-    Ok(())
-}
-
-#[test]
-fn the_state_record_of_an_alive_has_its_details(rt: HostRuntime) -> Result<(), Fail> {
-    let alloc = rt.alloc();
-    let packet = decode_packet(alloc, ALIVE)?;
-    let claim = packet.claim();
-    let mut out = Vec::new(alloc);
-    with_state(&mut out, claim.name(), claim.facts())?;
-    let record =
-        b"\x87\xa4Addr\xa4\x7f\0\0\x01\xabIncarnation\0\xa4Meta\xa0\xa4Name\xa1a\xa4Port\xcd\x1f\x0a\xa5State\0\xa3Vsn\xa0";
-    assert_eq!(rt; out.as_slice(), record.as_slice());
     Ok(())
 }
