@@ -1,19 +1,11 @@
 -- How long the canonical bytes of a packet are at most.
-<<<<<<< HEAD
-use Rattle.std.proofs.Common.{◌≡◌, ℕ, ◌+◌, ◌<◌, ◌≤◌, ◌^◌, Bool, true, false, cond, ltb, List, [], ◌∷◌, ◌++◌, length, length-append, ap, lit≤, inl, inr, arith}
-=======
 use Rattle.std.proofs.Common.{◌≡◌, ℕ, ◌+◌, ◌<◌, ◌≤◌, ◌^◌, Bool, true, false, cond, ltb, List, [], ◌∷◌, length, length-append, ap, lit≤, inl, inr, arith}
->>>>>>> canonical
 use Rattle.std.specs.List.{flat_map}
 use Rattle.std.specs.Int.{bytes_high_first}
 use Rattle.swim_claim.specs.declared.claim.Claim.{Claim}
 use Rattle.swim_claim.specs.declared.claim.Claim.TheVariants.{Alive, Suspect, Confirm, Leave}
 use Rattle.swim_claim.specs.Claim.{IsLegalClaim}
-<<<<<<< HEAD
-use Rattle.swim_pack.specs.Spelling.{number_text, raw_text, flag_text}
-=======
 use Rattle.swim_pack.specs.Spelling.{number_text, raw_text}
->>>>>>> canonical
 use Rattle.swim_wire.specs.Canonical.{claim_bytes, packet_bytes}
 use Rattle.swim_wire.specs.Layout.{Pairs, Spelled}
 use Rattle.swim_wire.specs.Layout.Spelled.{number, raw, flag}

@@ -1,16 +1,4 @@
 -- The canonical bytes of messages are texts of them.
-<<<<<<< HEAD
-use Rattle.std.proofs.Common.{◌≡◌, ◌≢◌, ℕ, ◌+◌, ◌<◌, ◌≤◌, ◌^◌, ◌⊎◌, Bool, List, [], ◌∷◌, ◌++◌, length, map, Some, All, codes, refl, ap, inl, inr, lit<, lit≤, arith, rules}
-use Rattle.std.specs.Str.{bytes_eq}
-use Rattle.swim_claim.specs.declared.claim.Claim.{Claim}
-use Rattle.swim_claim.specs.declared.claim.Claim.TheVariants.{Alive, Suspect, Confirm, Leave}
-use Rattle.swim_claim.specs.Claim.{IsLegalClaim}
-use Rattle.swim_claim.specs.Details.{DetailsValue, IsAddress, IsVersions, IsLegalDetails}
-use Rattle.swim_claim.specs.Name.{IsLegalName}
-use Rattle.swim_wire.specs.declared.layout.Limit.TheVariants as limits
-use Rattle.swim_wire.specs.declared.stream.Header.{Header}
-use Rattle.swim_wire.specs.Canonical.{claim_bytes, packet_bytes, packets_bytes, header_bytes, record_bytes, state_bytes, no_details}
-=======
 use Rattle.std.proofs.Common.{◌≡◌, ◌≢◌, ℕ, ◌<◌, ◌≤◌, ◌^◌, Bool, List, [], length, Some, codes, refl, ap, inl, inr, lit<, lit≤, arith}
 use Rattle.swim_claim.specs.declared.claim.Claim.{Claim}
 use Rattle.swim_claim.specs.declared.claim.Claim.TheVariants.{Alive, Suspect, Confirm, Leave}
@@ -20,7 +8,6 @@ use Rattle.swim_claim.specs.Name.{IsLegalName}
 use Rattle.swim_wire.specs.declared.layout.Limit.TheVariants as limits
 use Rattle.swim_wire.specs.declared.stream.Header.{Header}
 use Rattle.swim_wire.specs.Canonical.{claim_bytes, packet_bytes, header_bytes, record_bytes, state_bytes, no_details}
->>>>>>> canonical
 use Rattle.swim_wire.specs.Layout.{Layout, MapText, of_key, alive_layout, accusation_layout, header_layout, state_layout}
 use Rattle.swim_wire.specs.Layout.Spelled.{number, raw, flag}
 use Rattle.swim_wire.specs.Packet.{PacketValue, IsLegalPacket}

@@ -1,8 +1,4 @@
-<<<<<<< HEAD
-use Rattle.std.proofs.Common.{◌≡◌, ◌∷◌, ◌++◌, length, map, take, All}
-=======
 use Rattle.std.proofs.Common.{◌≡◌, ◌∷◌, length, map, take, All}
->>>>>>> canonical
 use Rattle.std.specs.Int.{w16, to_be_bytes}
 use Rattle.std.specs.List.{flat_map}
 use Rattle.swim_wire.specs.Canonical.{packet_bytes}
