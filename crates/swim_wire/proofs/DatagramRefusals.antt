@@ -72,8 +72,8 @@ parts_refusal (len ∷ lens) packets bytes error e =
     (λ wrong. inr (first part mid one.0 one.1 (part_refusal part error (checked_err (packets_of part) mid error wrong))))
     (λ own behind passes later. let own_is = checked_ok (packets_of part) mid own behind passes in
     ⊎_elim (λ (m : IsMapFault error). inl m)
-        (λ (r : PartRefused lens behind error). inr (one_more len lens bytes behind part own error one.0 (one.1 ∙ ap (λ (bs : List ℕ). part ++ bs) own_is.1) (part_takes part own own_is.0) r))
-        (parts_refusal lens (packets ++ own) behind error later)))
+    (λ (r : PartRefused lens behind error). inr (one_more len lens bytes behind part own error one.0 (one.1 ∙ ap (λ (bs : List ℕ). part ++ bs) own_is.1) (part_takes part own own_is.0) r))
+    (parts_refusal lens (packets ++ own) behind error later)))
   where
     Q : Type 0
     Q = IsMapFault error ⊎ PartRefused (len ∷ lens) bytes error
@@ -196,9 +196,9 @@ datagram_refusal (first ∷ bytes) error are e =
         let c = compound_takes bytes ps (byte ∷ rest) tail at in
         let is : Trailing ≡ error = cc in
         subst (λ f. ExplainsDatagram f (first ∷ bytes)) is
-            (inl (compound_bytes c.parts, ps, byte, rest, compound c.parts c.few c.short refl c.texts, ap (λ (n : ℕ). n ∷ bytes) seven ∙ c.text))
+        (inl (compound_bytes c.parts, ps, byte, rest, compound c.parts c.few c.short refl c.texts, ap (λ (n : ℕ). n ∷ bytes) seven ∙ c.text))
     explained seven (Err other) at fails =
         let is : other ≡ error = cc in
         ⊎_elim (λ (m : IsMapFault error). by_reading error (first ∷ bytes) m)
-            (λ (h : HasBadPart error (7 ∷ bytes)). by_part error (first ∷ bytes) (subst (λ n. HasBadPart error (n ∷ bytes)) (sym seven) h))
-            (compound_refusal bytes error tail (at ∙ ap (refused (List PacketValue)) is))
+        (λ (h : HasBadPart error (7 ∷ bytes)). by_part error (first ∷ bytes) (subst (λ n. HasBadPart error (n ∷ bytes)) (sym seven) h))
+        (compound_refusal bytes error tail (at ∙ ap (refused (List PacketValue)) is))

@@ -89,9 +89,12 @@ lengths_takes (suc n) bytes lens rest are e =
     let more = lengths_takes n t.1 u.0 u.1 (AreBytes-back (to_be_bytes w16 t.0) t.1 (subst AreBytes one.0 are)) u.2 in
     let is = read_value (t.0 ∷ u.0) lens u.1 rest u.3 in
     let same = read_rest (t.0 ∷ u.0) lens u.1 rest u.3 in
-    subst (λ ls. (length ls ≡ suc n) × (bytes ≡ flat_map (to_be_bytes w16) ls ++ rest) × All (λ len. len < 2 ^ 16) ls × AreBytes rest) is
-        (ap suc more.0, parts_joined (to_be_bytes w16 t.0) (flat_map (to_be_bytes w16) u.0) rest one.0 (parts_to (flat_map (to_be_bytes w16) u.0) more.1 same),
-        All-cons (λ len. len < 2 ^ 16) t.0 u.0 one.1 more.2, subst AreBytes same more.3)
+    subst (λ ls. (length ls ≡ suc n) × (bytes ≡ flat_map (to_be_bytes w16) ls ++ rest) × All (λ len. len < 2 ^ 16) ls × AreBytes rest) is (
+      ap suc more.0,
+      parts_joined (to_be_bytes w16 t.0) (flat_map (to_be_bytes w16) u.0) rest one.0 (parts_to (flat_map (to_be_bytes w16) u.0) more.1 same),
+      All-cons (λ len. len < 2 ^ 16) t.0 u.0 one.1 more.2,
+      subst AreBytes same more.3,
+    )
 
 lengths_again : (parts : List (List ℕ)) (rest : List ℕ) → All (λ part. length part < 2 ^ 16) parts
     → lengths_at (length parts) (flat_map (λ part. to_be_bytes w16 (length part)) parts ++ rest) ≡ read (map length parts) rest

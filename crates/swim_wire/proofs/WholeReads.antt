@@ -68,12 +68,12 @@ pub details_refused : {A : Type 0} (d : DetailsValue) (f : DetailsValue → A) (
     → (fault ≡ claims.BadAddress) ⊎ (fault ≡ claims.MetaTooLong) ⊎ (fault ≡ claims.BadVersions) → length d.meta ≤ 512
     → with_details d f ≡ Err (fault_of_claim fault)
 details_refused d f r fault is address meta versions why short = elim why [
-    | inl e ↦ bad_address d f (address.0 (is ∙ ap Err e)) ∙ ap (λ x. Err (fault_of_claim x)) (sym e)
-    | inr other ↦ elim other [
-      | inl e ↦ let above = (meta.0 (is ∙ ap Err e)).1 in absurd (omega (arith, above, short))
-      | inr e ↦ let bad = versions.0 (is ∙ ap Err e) in bad_versions d f bad.0 bad.2 ∙ ap (λ x. Err (fault_of_claim x)) (sym e)
-    ]
+  | inl e ↦ bad_address d f (address.0 (is ∙ ap Err e)) ∙ ap (λ x. Err (fault_of_claim x)) (sym e)
+  | inr other ↦ elim other [
+    | inl e ↦ let above = (meta.0 (is ∙ ap Err e)).1 in absurd (omega (arith, above, short))
+    | inr e ↦ let bad = versions.0 (is ∙ ap Err e) in bad_versions d f bad.0 bad.2 ∙ ap (λ x. Err (fault_of_claim x)) (sym e)
   ]
+]
 
 ok≢err : {T E : Type 0} (r : Result T E) (x : T) (e : E) → r ≡ Ok x → r ≡ Err e → ⊥
 ok≢err r x e ok err = cc

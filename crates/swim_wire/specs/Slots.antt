@@ -1,5 +1,5 @@
 -- The values of a map, as the code keeps them: each at the place of its key in the layout.
-use Rattle.std.specs.Prelude.{ℕ, ◌≤◌, List, [], ◌∷◌, length, map, Option, Some, None, codes}
+use Rattle.std.specs.Prelude.{ℕ, ◌≤◌, List, [], ◌∷◌, length, map, Option, Some, None, IsSome, codes}
 use Rattle.std.specs.Option.{option_map}
 use Rattle.swim_wire.specs.declared.layout.Field.{Field}
 use Rattle.swim_wire.specs.declared.layout.Key.{Key}
@@ -58,7 +58,12 @@ slots_of values = map (λ value. option_map spelled value) values
 abbrev pub layout_of : List Field → Layout
 layout_of fields = map (λ field. (key_text field.key, field.limit)) fields
 
--- a value of this kind is read without memory
-abbrev pub TakesNoMemory : Limit → Type 0
-TakesNoMemory (limits.Raw limit) = ⊥
-TakesNoMemory limit = Unit {0}
+-- a value of this kind is read with this memory: text and bytes need some
+abbrev pub CanRead : {A : Type 0} → Option A → Limit → Type 0
+CanRead alloc (limits.Raw limit) = IsSome alloc
+CanRead alloc limit = Unit {0}
+
+-- so is each value of the layout
+abbrev pub CanReadEach : {A : Type 0} → Option A → List Field → Type 0
+CanReadEach alloc [] = Unit {0}
+CanReadEach alloc (field ∷ layout) = CanRead alloc field.limit × CanReadEach alloc layout

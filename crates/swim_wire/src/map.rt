@@ -1,12 +1,12 @@
 //! Maps of a layout.
 
-ghost use Rattle.std.specs.Prelude.{◌≡◌, ◌<◌, ◌≤◌, length, take, All, IfOk, IfSome, IsErrOf, position};
+ghost use Rattle.std.specs.Prelude.{◌≡◌, ◌<◌, ◌≤◌, length, take, IfOk, IfSome, IsNone, IsErrOf, position};
 ghost use Rattle.std.specs.Str.{bytes_eq};
 ghost use Rattle.swim_pack.specs.Composing.{ReadsAs, same, lift};
 ghost use Rattle.swim_pack.specs.Reading.{raw_at};
 ghost use Rattle.swim_wire.specs.Fault.{fault_of_key};
 ghost use Rattle.swim_wire.specs.Reading.{wire_cause, value_at, key_at, pair_at, map_at};
-ghost use Rattle.swim_wire.specs.Slots.{Fits, FitsEach, TakesNoMemory, key_text, spelled, slots_of, layout_of};
+ghost use Rattle.swim_wire.specs.Slots.{Fits, FitsEach, CanRead, CanReadEach, key_text, spelled, slots_of, layout_of};
 ghost use Rattle.swim_wire.specs.Layout.{number_or_zero, raw_or_empty};
 ghost use Rattle.std.specs.Option.{option_map};
 
@@ -29,16 +29,18 @@ pub(crate) enum Value {
 /// The values of a map, each at the place of its key in the layout. An absent key has none.
 pub(crate) type Values = [Option<Value>; SLOTS];
 
-/// Reads a map of the layout: its count, and then each key and its value.
+/// Reads a map of the layout: its count, and then each key and its value. A layout without text and
+/// bytes is read with no memory.
 pub(crate) fn read_map<I: Inlet>(
-    alloc: Global,
+    alloc: Option<Global>,
     inlet: &mut I,
     layout: &[Field],
 ) -> Result<Values, WireFault>
-    requires { length layout.now ≤ 7 }
+    requires few { length layout.now ≤ 7 }
+    requires memory { CanReadEach alloc layout.now }
     ensures exact { ReadsAs wire_cause slots_of (map_at (layout_of layout.now)) (I.seen inlet.old) (I.seen inlet.new) result }
     ensures within { IfOk result (FitsEach layout.now) }
-    ensures no_memory { All (λ field. TakesNoMemory field.limit) layout.now → ¬ IsErrOf result WireFault.Memory }
+    ensures no_memory { IsNone alloc → ¬ IsErrOf result WireFault.Memory }
 {
     let count = read_map_len(inlet, layout.len() as u32)?;
     let mut values = [None, None, None, None, None, None, None];
@@ -49,16 +51,17 @@ pub(crate) fn read_map<I: Inlet>(
 }
 
 fn read_pair<I: Inlet>(
-    alloc: Global,
+    alloc: Option<Global>,
     inlet: &mut I,
     layout: &[Field],
     values: &mut Values,
 ) -> Result<(), WireFault>
     requires few { length layout.now ≤ 7 }
+    requires memory { CanReadEach alloc layout.now }
     requires within { FitsEach layout.now values.old }
     ensures exact { ReadsAs wire_cause (λ _. slots_of values.new) (pair_at (layout_of layout.now) (slots_of values.old)) (I.seen inlet.old) (I.seen inlet.new) result }
     ensures within { FitsEach layout.now values.new }
-    ensures no_memory { All (λ field. TakesNoMemory field.limit) layout.now → ¬ IsErrOf result WireFault.Memory }
+    ensures no_memory { IsNone alloc → ¬ IsErrOf result WireFault.Memory }
 {
     let place = read_place(inlet, layout)?;
     if values[place].is_some() {
@@ -101,14 +104,19 @@ fn place_of(layout: &[Field], key: &[u8]) -> Option<usize>
 }
 
 /// Reads what stands behind a key.
-fn read_value<I: Inlet>(alloc: Global, inlet: &mut I, limit: Limit) -> Result<Value, WireFault>
+fn read_value<I: Inlet>(
+    alloc: Option<Global>,
+    inlet: &mut I,
+    limit: Limit,
+) -> Result<Value, WireFault>
+    requires { CanRead alloc limit }
     ensures exact { ReadsAs wire_cause spelled (value_at limit) (I.seen inlet.old) (I.seen inlet.new) result }
     ensures within { IfOk result (Fits limit) }
-    ensures no_memory { TakesNoMemory limit → ¬ IsErrOf result WireFault.Memory }
+    ensures no_memory { IsNone alloc → ¬ IsErrOf result WireFault.Memory }
 {
     match limit {
         Limit::Number(max) => Ok(Value::Number(read_uint(inlet, max)?)),
-        Limit::Raw(limit) => Ok(Value::Raw(read_raw(alloc, inlet, limit)?)),
+        Limit::Raw(limit) => Ok(Value::Raw(read_raw(alloc.unwrap(), inlet, limit)?)),
         Limit::Flag => Ok(Value::Flag(read_bool(inlet)?)),
     }
 }

@@ -130,7 +130,7 @@ fn read_type<I: Inlet>(inlet: &mut I) -> Result<u8, WireFault>
 fn read_alive<I: Inlet>(alloc: Global, inlet: &mut I) -> Result<Packet, WireFault>
     ensures { ReadsAs wire_cause same alive_at (I.seen inlet.old) (I.seen inlet.new) result }
 {
-    let alive = Alive::new(alloc, read_map(alloc, inlet, &ALIVE)?);
+    let alive = Alive::new(alloc, read_map(Some(alloc), inlet, &ALIVE)?);
     let name = Name::new(alive.node)?;
     let inc = alive.incarnation;
     let details = Details::new(alive.addr, alive.port, alive.meta, alive.vsn)?;
@@ -140,7 +140,7 @@ fn read_alive<I: Inlet>(alloc: Global, inlet: &mut I) -> Result<Packet, WireFaul
 fn read_suspect<I: Inlet>(alloc: Global, inlet: &mut I) -> Result<Packet, WireFault>
     ensures { ReadsAs wire_cause same suspect_at (I.seen inlet.old) (I.seen inlet.new) result }
 {
-    let suspect = Accusation::new(alloc, read_map(alloc, inlet, &ACCUSATION)?);
+    let suspect = Accusation::new(alloc, read_map(Some(alloc), inlet, &ACCUSATION)?);
     let name = Name::new(suspect.node)?;
     let inc = suspect.incarnation;
     Ok(Packet::new(Claim::Suspect { name, inc }, suspect.from))
@@ -150,7 +150,7 @@ fn read_suspect<I: Inlet>(alloc: Global, inlet: &mut I) -> Result<Packet, WireFa
 fn read_dead<I: Inlet>(alloc: Global, inlet: &mut I) -> Result<Packet, WireFault>
     ensures { ReadsAs wire_cause same dead_at (I.seen inlet.old) (I.seen inlet.new) result }
 {
-    let dead = Accusation::new(alloc, read_map(alloc, inlet, &ACCUSATION)?);
+    let dead = Accusation::new(alloc, read_map(Some(alloc), inlet, &ACCUSATION)?);
     let name = Name::new(dead.node)?;
     let inc = dead.incarnation;
     let claim = if dead.from.as_slice() == name.bytes() {

@@ -1,6 +1,6 @@
 use Rattle.std.proofs.Common.{sym, ◌∙◌}
 use Rattle.std.proofs.lemmas.Result.{err_from_is_err_and}
-use Rattle.swim_wire.proofs.Fitting.{FitsEach-set}
+use Rattle.swim_wire.proofs.Fitting.{FitsEach-set, CanReadEach-at}
 use Rattle.swim_wire.proofs.PairReads.{within_slots, pair_without_key, pair_twice, pair_without_value, pair_read}
 use Rattle.swim_wire.proofs.map.read_pair.Goals as goal
 
@@ -31,3 +31,6 @@ returns-clause-exact g c =
 pub returns-clause-within : goal.returns-clause-within
 returns-clause-within g c =
     FitsEach-set _ _ _ _ _ c.in_ok-place.ensures.within c.requires.within c.in_ok-read_value.ensures.within
+
+pub read_value-requires : goal.read_value-requires
+read_value-requires g c = CanReadEach-at _ _ _ _ c.in_ok-place.ensures.within c.requires.memory

@@ -38,8 +38,8 @@ returns-in_err-details g c =
     let slots = slots_of c.in_ok-read_map.field-0 in
     let named : raw_in slots 3 ≢ [] = λ none. name_made _ (Ok c.in_ok-name.name) _ refl c.in_ok-name.ensures.empty (says.node ∙ none) in
     let refused = details_refused (record { addr = c.new-alive.result.addr.items; port = c.new-alive.result.port; meta = c.new-alive.result.meta.items; vsn = c.new-alive.result.vsn.items })
-      (λ details. record { claim = Alive (raw_in slots 3) (number_in slots 1) details; from = [] }) (Err c.in_err-details.field-0.0) c.in_err-details.field-0.0 refl
-      why.bad_address why.meta_too_long why.bad_versions why.no_other c.new-alive.ensures.short_meta in
+    (λ details. record { claim = Alive (raw_in slots 3) (number_in slots 1) details; from = [] }) (Err c.in_err-details.field-0.0) c.in_err-details.field-0.0 refl
+    why.bad_address why.meta_too_long why.bad_versions why.no_other c.new-alive.ensures.short_meta in
     rw (p.1, p.2)
     (Reads-failed (map_at alive_layout) alive_of _ (named_cause c.in_err-details.field-0.0)
     (with_name_again _ _ named ∙ rw (sym says.addr, sym says.port, sym says.meta, sym says.vsn) refused) c.in_ok-read_map.ensures.exact)

@@ -43,12 +43,12 @@ returns g c =
     let value : Bool → PacketValue = λ own. record { claim = dead_claim own (raw_in slots 2) (number_in slots 1); from = raw_in slots 0 } in
     let own_word = bytes_eq (raw_in slots 0) (raw_in slots 2) in
     let asked : c.eq.result ≡ own_word =
-      c.eq.ensures ∙ ap (λ s. bytes_eq s c.bytes.result.now) (c.as_slice.ensures.value ∙ from) ∙ ap (λ s. bytes_eq (raw_in slots 0) s) (c.bytes.ensures.bytes ∙ name_is) in
+    c.eq.ensures ∙ ap (λ s. bytes_eq s c.bytes.result.now) (c.as_slice.ensures.value ∙ from) ∙ ap (λ s. bytes_eq (raw_in slots 0) s) (c.bytes.ensures.bytes ∙ name_is) in
     let claimed : c.if-eq.claim ≡ dead_claim own_word (raw_in slots 2) (number_in slots 1) =
-      elim c.if-eq.branch [
-        | then-eq w ↦ w.claim-is ∙ ap (λ name. Leave name c.new-dead.result.incarnation) name_is ∙ ap (λ i. Leave (raw_in slots 2) i) inc ∙ ap (λ own. dead_claim own (raw_in slots 2) (number_in slots 1)) (sym w.if-eq.true ∙ asked)
-        | else-eq w ↦ w.claim-is ∙ ap (λ name. Confirm name c.new-dead.result.incarnation) name_is ∙ ap (λ i. Confirm (raw_in slots 2) i) inc ∙ ap (λ own. dead_claim own (raw_in slots 2) (number_in slots 1)) (sym w.if-eq.false ∙ asked)
-      ]
-      in
+    elim c.if-eq.branch [
+      | then-eq w ↦ w.claim-is ∙ ap (λ name. Leave name c.new-dead.result.incarnation) name_is ∙ ap (λ i. Leave (raw_in slots 2) i) inc ∙ ap (λ own. dead_claim own (raw_in slots 2) (number_in slots 1)) (sym w.if-eq.true ∙ asked)
+      | else-eq w ↦ w.claim-is ∙ ap (λ name. Confirm name c.new-dead.result.incarnation) name_is ∙ ap (λ i. Confirm (raw_in slots 2) i) inc ∙ ap (λ own. dead_claim own (raw_in slots 2) (number_in slots 1)) (sym w.if-eq.false ∙ asked)
+    ]
+    in
     let same : value own_word ≡ c.new-2.result = cc in
     Reads-passed (map_at accusation_layout) dead_of _ (with_name_again _ _ named ∙ ap Ok same) c.in_ok-read_map.ensures.exact
