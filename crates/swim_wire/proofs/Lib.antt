@@ -22,3 +22,4 @@ pub mod SpelledSteps
 pub mod SpelledTexts
 pub mod SpelledLengths
 pub mod SpelledCompounds
+pub mod Explaining

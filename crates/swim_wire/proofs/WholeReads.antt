@@ -1,5 +1,7 @@
 -- The checks of a message as a whole, as names and details make them.
 use Rattle.std.proofs.Common.{◌≡◌, ◌≢◌, ℕ, ◌<◌, ◌≤◌, ◌↔◌, ◌⊎◌, inl, inr, Bool, true, false, List, [], ◌∷◌, length, Option, Result, Ok, Err, refl, ap, sym, ◌∙◌, subst, arith}
+use Rattle.std.proofs.Common.{nat_lt}
+use Rattle.std.proofs.lemmas.Bool.Decides.{nat_tests}
 use Rattle.swim_claim.specs.declared.fault.ClaimFault.{ClaimFault}
 use Rattle.swim_claim.specs.declared.fault.ClaimFault.TheVariants as claims
 use Rattle.swim_claim.specs.Details.{DetailsValue, IsAddress, IsVersions}
@@ -8,10 +10,10 @@ use Rattle.swim_pack.specs.Composing.{ReadsAs, same, gives, refuses, ◌>>=◌}
 use Rattle.swim_pack.specs.Composing.Cause.{by_bytes}
 use Rattle.swim_pack.proofs.Composing.{Reads-then, Reads-exit, Reads-gives, Reads-refuses}
 use Rattle.swim_wire.specs.declared.fault.WireFault.{WireFault}
-use Rattle.swim_wire.specs.declared.fault.WireFault.TheVariants.{NameEmpty, BadAddress, BadVersions}
+use Rattle.swim_wire.specs.declared.fault.WireFault.TheVariants.{NameEmpty, BadAddress, BadVersions, TooManyNodes, UserTooLong}
 use Rattle.swim_wire.specs.declared.map.Value.{Value}
 use Rattle.swim_wire.specs.Fault.{fault_of_claim}
-use Rattle.swim_wire.specs.Reading.{Reading, Slots, wire_cause, checked, with_name, with_details}
+use Rattle.swim_wire.specs.Reading.{Reading, Slots, wire_cause, checked, with_name, with_details, number_in, flag_in, header_of}
 use Rattle.swim_wire.specs.Slots.{slots_of}
 use Rattle.swim_wire.proofs.Checking.{with_name_again, with_details_ok, with_details_err}
 
@@ -81,3 +83,18 @@ ok≢err r x e ok err = cc
 -- a name that was made is not empty
 pub name_made : {T : Type 0} (name : List ℕ) (r : Result T ClaimFault) (x : T) → r ≡ Ok x → ((r ≡ Err claims.NameEmpty) ↔ (name ≡ [])) → name ≢ []
 name_made name r x ok empty none = ok≢err r x claims.NameEmpty ok (empty.1 none)
+
+-- ---- headers
+
+pub header_many : (slots : Slots) (nodes : ℕ) → nodes ≡ number_in slots 1 → 131072 < nodes → header_of slots ≡ Err TooManyNodes
+header_many slots nodes is above = grind (arith, nat_tests)
+
+pub header_long : (slots : Slots) (nodes user : ℕ) → nodes ≡ number_in slots 1 → nodes ≤ 131072 → user ≡ number_in slots 2 → 20971520 < user → header_of slots ≡ Err UserTooLong
+header_long slots nodes user is few user_is above = grind (arith, nat_tests)
+
+pub header_fine : (slots : Slots) (nodes user : ℕ) (join : Bool) → nodes ≡ number_in slots 1 → nodes ≤ 131072 → user ≡ number_in slots 2 → user ≤ 20971520 → join ≡ flag_in slots 0
+    → header_of slots ≡ Ok (record { nodes = nodes; user_len = user; join = join })
+header_fine slots nodes user join is few user_is short join_is =
+    let first : nat_lt 131072 (number_in slots 1) ≡ false = grind (arith, nat_tests) in
+    let second : nat_lt 20971520 (number_in slots 2) ≡ false = grind (arith, nat_tests) in
+    rw (first, second, is, user_is, join_is) refl

@@ -1,5 +1,6 @@
 -- Why bytes are no message: the checks of a message as a whole, in their order, and what stands around its map.
-use Rattle.std.specs.Prelude.{◌≡◌, ◌≢◌, ℕ, ◌≤◌, ◌<◌, ◌⊎◌, List, [], ◌∷◌, ◌++◌, codes, ⊤}
+use Rattle.std.specs.Prelude.{◌≡◌, ◌≢◌, ℕ, ◌≤◌, ◌<◌, ◌⊎◌, List, [], ◌∷◌, ◌++◌, codes, ⊤, IfSome}
+use Rattle.swim_pack.specs.Ends.{Source}
 use Rattle.swim_claim.specs.Details.{IsAddress, IsVersions}
 use Rattle.swim_wire.specs.declared.fault.WireFault.{WireFault}
 use Rattle.swim_wire.specs.declared.fault.WireFault.TheVariants.{NameEmpty, BadAddress, BadVersions, WrongType, BadState, TooManyNodes, UserTooLong, Trailing}
@@ -106,3 +107,7 @@ ExplainsState TooManyNodes bytes = ⊥
 ExplainsState UserTooLong bytes = ⊥
 ExplainsState Trailing bytes = ⊥
 ExplainsState error bytes = ⊤
+
+-- it says so of the bytes that were to come, where the inlet tells them
+abbrev pub ExplainsStart : (List ℕ → Type 0) → Source → Type 0
+ExplainsStart explains old = IfSome old.coming explains

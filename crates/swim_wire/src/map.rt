@@ -7,7 +7,7 @@ ghost use Rattle.swim_pack.specs.Reading.{raw_at};
 ghost use Rattle.swim_wire.specs.Fault.{fault_of_key};
 ghost use Rattle.swim_wire.specs.Reading.{wire_cause, value_at, key_at, pair_at, map_at};
 ghost use Rattle.swim_wire.specs.Slots.{Fits, FitsEach, CanRead, CanReadEach, key_text, spelled, slots_of, layout_of};
-ghost use Rattle.swim_wire.specs.Layout.{number_or_zero, raw_or_empty};
+ghost use Rattle.swim_wire.specs.Layout.{number_or_zero, raw_or_empty, flag_or_false};
 ghost use Rattle.std.specs.Option.{option_map};
 
 use crate::WireFault;
@@ -138,5 +138,15 @@ pub(crate) fn raw(alloc: Global, value: Option<Value>) -> Vec<u8>
     match value {
         Some(Value::Raw(bytes)) => bytes,
         _ => Vec::new(alloc),
+    }
+}
+
+/// The truth value, or false where its key is absent.
+pub(crate) fn flag(value: Option<Value>) -> bool
+    ensures { result ≡ flag_or_false (option_map spelled value) }
+{
+    match value {
+        Some(Value::Flag(flag)) => flag,
+        _ => false,
     }
 }

@@ -1,6 +1,6 @@
 //! Packets: one claim each.
 
-ghost use Rattle.std.specs.Prelude.{◌≡◌, ◌≢◌, IfOk, IfErr};
+ghost use Rattle.std.specs.Prelude.{◌≡◌, ◌≢◌, IfOk, IfErr, IsErrOf};
 ghost use Rattle.swim_pack.specs.Composing.{ReadsAs, same, lift};
 ghost use Rattle.swim_pack.specs.Reading.{next_byte};
 ghost use Rattle.swim_wire.specs.Checks.{ExplainsWhole};
@@ -12,20 +12,11 @@ ghost use Rattle.swim_wire.specs.Texts.{PacketText};
 use crate::WireFault;
 use crate::layout::{ACCUSATION, ALIVE};
 use crate::map::read_map;
-use crate::message::{Accusation, Alive};
+use crate::message::{ALIVE_MESSAGE, Accusation, Alive, DEAD_MESSAGE, SUSPECT_MESSAGE};
 use std::alloc::Global;
 use std::marker::Model;
 use swim_claim::{Claim, Details, Name};
 use swim_pack::{Inlet, SliceInlet};
-
-/// The first byte of a suspect message, as in memberlist's `net.go`.
-const SUSPECT_MESSAGE: u8 = 3;
-
-/// The first byte of an alive message.
-const ALIVE_MESSAGE: u8 = 4;
-
-/// The first byte of a dead message.
-const DEAD_MESSAGE: u8 = 5;
 
 /// A claim, and the member that makes it. Contracts see it as these two.
 #[derive(Drop, Debug)]
@@ -119,8 +110,10 @@ fn read_packet<I: Inlet>(alloc: Global, inlet: &mut I) -> Result<Packet, WireFau
     }
 }
 
-fn read_type<I: Inlet>(inlet: &mut I) -> Result<u8, WireFault>
-    ensures { ReadsAs wire_cause same (lift fault_of_pack next_byte) (I.seen inlet.old) (I.seen inlet.new) result }
+/// Reads the type byte of a message.
+pub(crate) fn read_type<I: Inlet>(inlet: &mut I) -> Result<u8, WireFault>
+    ensures no_memory { ¬ IsErrOf result WireFault.Memory }
+    ensures exact { ReadsAs wire_cause same (lift fault_of_pack next_byte) (I.seen inlet.old) (I.seen inlet.new) result }
 {
     let mut first = [0];
     inlet.pull(&mut first)?;
