@@ -3,11 +3,11 @@
 
 mod pairs;
 
-ghost use Rattle.std.specs.Prelude.{◌≡◌, ◌<◌, ◌≤◌, ◌^◌, ◌++◌, [], length, IfOk, IfSome, OnOk, OnErr};
+ghost use Rattle.std.specs.Prelude.{◌≡◌, ◌≤◌, ◌++◌, length, IfOk, IfSome, OnOk, OnErr};
 ghost use Rattle.std.specs.Option.{option_copied};
 ghost use Rattle.swim_claim.specs.declared.claim.Claim.{Claim};
 ghost use Rattle.swim_claim.specs.Claim.{name_of, HasFacts, IsLegalClaim, IsLegalFacts};
-ghost use Rattle.swim_claim.specs.Details.{DetailsValue, IsLegalDetails};
+ghost use Rattle.swim_claim.specs.Details.{IsLegalDetails};
 ghost use Rattle.swim_wire.specs.Canonical.{packet_bytes, packets_bytes, header_bytes, state_bytes, alive_bytes, accusation_bytes};
 ghost use Rattle.swim_wire.specs.Packet.{IsLegalPacket};
 ghost use Rattle.swim_wire.specs.Pairs.{details_or_none, state_number, AreShort};
@@ -24,7 +24,7 @@ use std::alloc::{AllocError, Global};
 use swim_claim::{Claim, Details, Facts, Kind, Name};
 
 /// Appends the header of a push/pull stream: its type byte, and its map (memberlist's
-/// `pushPullHeader`).
+/// `pushPullHeader`). One above the limits of [`Header`] is written too, and no reader takes it.
 ///
 /// # Errors
 ///
@@ -46,7 +46,8 @@ pub fn write_header(out: &mut Vec<u8>, header: &Header) -> Result<(), AllocError
 }
 
 /// Appends the state record of the claim that the facts make about a member (memberlist's
-/// `pushNodeState`). Only that of an Alive has an address, a port, metadata and versions.
+/// `pushNodeState`). Only that of an Alive has an address, a port, metadata and versions; it is a
+/// condition that the facts have details exactly for an Alive.
 ///
 /// # Errors
 ///
@@ -135,9 +136,10 @@ pub fn encode_packet(alloc: Global, packet: &Packet) -> Result<Vec<u8>, AllocErr
     Ok(out)
 }
 
-/// The canonical bytes of a compound packet of at most 255 packets: its type byte, the count of the
-/// packets, their lengths in two bytes each with the higher first, and the packets (memberlist's
-/// `makeCompoundMessage`).
+/// The canonical bytes of a compound packet: its type byte, the count of the packets, their lengths in
+/// two bytes each with the higher first, and the packets (memberlist's `makeCompoundMessage`). It is a
+/// condition that there are at most 255 of them. Each has fewer than 65,536 bytes, so that two tell its
+/// length.
 ///
 /// # Errors
 ///

@@ -1,5 +1,6 @@
 //! Messages by their canonical bytes.
 
+use super::{ALIVE, CONFIRM, LEAVE, SUSPECT};
 use crate::{
     Header, Packet, decode_packet, encode_compound, encode_packet, write_header, write_state,
 };
@@ -7,22 +8,9 @@ use std::alloc::{AllocError, Global};
 use std::test::Fail;
 use swim_claim::Claim;
 
-/// An Alive of `a` at incarnation 0, at 127.0.0.1 and port 7946.
-const ALIVE: &[u8] =
-    b"\x04\x86\xa4Addr\xa4\x7f\0\0\x01\xabIncarnation\0\xa4Meta\xa0\xa4Node\xa1a\xa4Port\xcd\x1f\x0a\xa3Vsn\xa0";
-
-/// The same in other forms and another order, where Meta is nil and Vsn is absent.
+/// `ALIVE` in other forms and another order, where Meta is nil and Vsn is absent.
 const OTHER_ALIVE: &[u8] =
     b"\x04\x85\xa4Port\xcf\0\0\0\0\0\0\x1f\x0a\xa4Node\xa1a\xa4Meta\xc0\xabIncarnation\xd2\0\0\0\0\xa4Addr\xc4\x04\x7f\0\0\x01";
-
-/// A Suspect of `b` at incarnation 1, made by `x`.
-const SUSPECT: &[u8] = b"\x03\x83\xa4From\xa1x\xabIncarnation\x01\xa4Node\xa1b";
-
-/// A Confirm of `a` at incarnation 0, made by `x`.
-const CONFIRM: &[u8] = b"\x05\x83\xa4From\xa1x\xabIncarnation\0\xa4Node\xa1a";
-
-/// A Leave of `a` at incarnation 2.
-const LEAVE: &[u8] = b"\x05\x83\xa4From\xa1a\xabIncarnation\x02\xa4Node\xa1a";
 
 /// A Leave of `c` at incarnation 3.
 const LEAVE_OF_C: &[u8] = b"\x05\x83\xa4From\xa1c\xabIncarnation\x03\xa4Node\xa1c";
