@@ -39,8 +39,8 @@ returns-in_err-details-in-0 g c =
     let slots = slots_of c.in_ok-read_map.field-0 in
     let named : raw_in slots 3 ≢ [] = λ none. name_made _ (Ok c.in_ok-name.name) _ refl c.in_ok-name.ensures.empty (says.name ∙ none) in
     let refused = details_refused (record { addr = c.new-state.result.addr.items; port = c.new-state.result.port; meta = c.new-state.result.meta.items; vsn = c.new-state.result.vsn.items })
-      (λ details. Alive (raw_in slots 3) (number_in slots 1) details) (Err c.in_err-details-in-0.field-0.0) c.in_err-details-in-0.field-0.0 refl
-      why.bad_address why.meta_too_long why.bad_versions why.no_other c.new-state.ensures.short_meta in
+    (λ details. Alive (raw_in slots 3) (number_in slots 1) details) (Err c.in_err-details-in-0.field-0.0) c.in_err-details-in-0.field-0.0 refl
+    why.bad_address why.meta_too_long why.bad_versions why.no_other c.new-state.ensures.short_meta in
     rw (p.1, p.2)
     (Reads-failed (map_at state_layout) state_of _ (named_cause c.in_err-details-in-0.field-0.0)
     (with_name_again _ _ named ∙ ap (claim_of_state slots) (sym says.number ∙ c.in-0.is) ∙ rw (sym says.addr, sym says.port, sym says.meta, sym says.vsn) refused)
