@@ -6,6 +6,8 @@ ghost use Rattle.swim_wire.specs.declared.stream.Header.{Header};
 ghost use Rattle.swim_wire.specs.Packet.{PacketValue};
 ghost use Rattle.swim_wire.specs.Texts.{PacketText, HeaderText, StateText, DatagramText};
 
+pub use crate::canonical_law::canonical;
+
 /// No message begins another of its kind, and each has one value: a packet, a header, a state record,
 /// and a datagram, whose value is the list of its packets.
 pub fn one_message()
