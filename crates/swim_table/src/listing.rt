@@ -22,7 +22,9 @@ const ESCAPED: AsciiSet = ascii_set!(CONTROLS.add(b' ').add(b'%'));
 /// `leave`, and the home is `-` where there was no Alive, or else `inc/addr/port/meta/vsn` of the
 /// newest one, with bytes in lower-case hexadecimal and numbers in decimal (own).
 ///
-/// It is refused only where there is no memory for the text.
+/// # Errors
+///
+/// Memory for the text is refused.
 pub fn list(alloc: Global, table: &Table) -> Result<Vec<u8>, AllocError>
     ensures { IfOk result (λ text. text.items ≡ listing table.now) }
 {

@@ -2,7 +2,7 @@
 use Rattle.std.proofs.Common.{◌≡◌, ℕ, zero, suc, ◌<◌, ◌≤◌, List, [], ◌∷◌, length, Option, Some, None, slice_index_or, slice_set, arith}
 use Rattle.swim_wire.specs.declared.layout.Field.{Field}
 use Rattle.swim_wire.specs.declared.map.Value.{Value}
-use Rattle.swim_wire.specs.Slots.{Fits, FitsEach}
+use Rattle.swim_wire.specs.Slots.{Fits, FitsEach, CanRead, CanReadEach}
 
 -- one more value that fits its key
 pub FitsEach-set : (layout : List Field) (values : List (Option Value)) (place : ℕ) (d : Field) (value : Value) → place < length layout
@@ -22,3 +22,10 @@ pub FitsEach-nones : (layout : List Field) (n : ℕ) → length layout ≤ n →
 FitsEach-nones [] n room = tt
 FitsEach-nones (field ∷ layout) zero room = absurd (omega arith)
 FitsEach-nones (field ∷ layout) (suc n) room = (tt, FitsEach-nones layout n (omega arith))
+
+-- a value of the layout can be read
+pub CanReadEach-at : {A : Type 0} (alloc : Option A) (layout : List Field) (place : ℕ) (d : Field) → place < length layout → CanReadEach alloc layout
+    → CanRead alloc (let field = slice_index_or layout place d in field.limit)
+CanReadEach-at alloc [] place d within can = absurd (omega arith)
+CanReadEach-at alloc (field ∷ layout) zero d within can = can.0
+CanReadEach-at alloc (field ∷ layout) (suc place) d within can = CanReadEach-at alloc layout place d (omega arith) can.1

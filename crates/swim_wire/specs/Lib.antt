@@ -1,8 +1,11 @@
 pub mod Fault
+pub mod Layout
 pub mod Slots
 pub mod Packet
-pub mod Layout
 pub mod Texts
 pub mod Canonical
 pub mod Reading
+pub mod Message
+pub mod Checks
+pub mod Datagrams
 pub mod Pairs

@@ -1,5 +1,5 @@
 -- The readings of messages, a field at a time.
-use Rattle.std.specs.Prelude.{ℕ, zero, suc, ◌≤◌, nat_le, nat_lt, ◌==◌, ◌||◌, Bool, true, false, List, [], ◌∷◌, length, map, Option, Some, None, Result, Ok, Err, if◌then◌else◌, position, slice_index_or, slice_set}
+use Rattle.std.specs.Prelude.{◌≡◌, ◌⊎◌, ℕ, zero, suc, ◌≤◌, nat_le, nat_lt, ◌==◌, ◌||◌, Bool, true, false, List, [], ◌∷◌, length, map, Option, Some, None, Result, Ok, Err, if◌then◌else◌, position, slice_index_or, slice_set}
 use Rattle.std.specs.Str.{bytes_eq}
 use Rattle.swim_claim.specs.declared.claim.Claim.{Claim}
 use Rattle.swim_claim.specs.declared.claim.Claim.TheVariants.{Alive, Suspect, Confirm, Leave}
@@ -25,7 +25,7 @@ Reading V = composing.Reading WireFault V
 abbrev pub wire_cause : WireFault → Cause
 wire_cause Fault = by_inlet
 wire_cause Memory = by_memory
-wire_cause fault = by_bytes
+wire_cause error = by_bytes
 
 -- the values of a map, each at the place of its key in the layout
 abbrev pub Slots : Type 0
@@ -167,6 +167,10 @@ abbrev pub nothing_after : {A : Type 0} → Result (A × List ℕ) WireFault →
 nothing_after (Ok (x, [])) = Ok x
 nothing_after (Ok (x, byte ∷ bytes)) = Err Trailing
 nothing_after (Err fault) = Err fault
+
+-- the answer is this one, unless memory ran out
+abbrev pub AnswersUnlessMemory : {A : Type 0} → Result A WireFault → Result A WireFault → Type 0
+AnswersUnlessMemory wanted result = (result ≡ wanted) ⊎ (result ≡ Err Memory)
 
 abbrev pub whole_packet : List ℕ → Result PacketValue WireFault
 whole_packet bytes = nothing_after (packet_at bytes)

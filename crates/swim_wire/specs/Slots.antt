@@ -1,5 +1,6 @@
 -- The values of a map, as the code keeps them: each at the place of its key in the layout.
-use Rattle.std.specs.Prelude.{ℕ, ◌≤◌, List, [], ◌∷◌, length, Option, Some, None, codes}
+use Rattle.std.specs.Prelude.{ℕ, ◌≤◌, List, [], ◌∷◌, length, map, Option, Some, None, IsSome, codes}
+use Rattle.std.specs.Option.{option_map}
 use Rattle.swim_wire.specs.declared.layout.Field.{Field}
 use Rattle.swim_wire.specs.declared.layout.Key.{Key}
 use Rattle.swim_wire.specs.declared.layout.Key.TheVariants as keys
@@ -7,6 +8,8 @@ use Rattle.swim_wire.specs.declared.layout.Limit.{Limit}
 use Rattle.swim_wire.specs.declared.layout.Limit.TheVariants as limits
 use Rattle.swim_wire.specs.declared.map.Value.{Value}
 use Rattle.swim_wire.specs.declared.map.Value.TheVariants.{Number, Raw, Flag}
+use Rattle.swim_wire.specs.Layout.{Layout, Spelled}
+use Rattle.swim_wire.specs.Layout.Spelled.{number, raw, flag}
 
 -- the text of a key, which is memberlist's name of the field
 abbrev pub key_text : Key → List ℕ
@@ -27,7 +30,7 @@ key_text keys.Vsn = codes "Vsn"
 abbrev pub Fits : Limit → Value → Type 0
 Fits (limits.Number max) (Number v) = v ≤ max
 Fits (limits.Raw limit) (Raw bytes) = length bytes.items ≤ limit
-Fits limits.Flag (Flag flag) = Unit {0}
+Fits limits.Flag (Flag f) = Unit {0}
 Fits limit value = ⊥
 
 -- so is the value of a key, where there is one
@@ -41,12 +44,26 @@ FitsEach [] values = Unit {0}
 FitsEach (field ∷ layout) [] = ⊥
 FitsEach (field ∷ layout) (value ∷ values) = FitsIfSome field.limit value × FitsEach layout values
 
--- the number, or 0 where its key is absent
-abbrev pub uint_of : Option Value → ℕ
-uint_of (Some (Number v)) = v
-uint_of value = 0
+-- what a value says
+abbrev pub spelled : Value → Spelled
+spelled (Number v) = number v
+spelled (Raw bytes) = raw bytes.items
+spelled (Flag f) = flag f
 
--- the bytes, or none where their key is absent
-abbrev pub raw_of : Option Value → List ℕ
-raw_of (Some (Raw bytes)) = bytes.items
-raw_of value = []
+-- the values as a map spelled them
+abbrev pub slots_of : List (Option Value) → List (Option Spelled)
+slots_of values = map (λ value. option_map spelled value) values
+
+-- the keys as a map spells them
+abbrev pub layout_of : List Field → Layout
+layout_of fields = map (λ field. (key_text field.key, field.limit)) fields
+
+-- a value of this kind is read with this memory: text and bytes need some
+abbrev pub CanRead : {A : Type 0} → Option A → Limit → Type 0
+CanRead alloc (limits.Raw limit) = IsSome alloc
+CanRead alloc limit = Unit {0}
+
+-- so is each value of the layout
+abbrev pub CanReadEach : {A : Type 0} → Option A → List Field → Type 0
+CanReadEach alloc [] = Unit {0}
+CanReadEach alloc (field ∷ layout) = CanRead alloc field.limit × CanReadEach alloc layout

@@ -15,25 +15,13 @@ ghost use Rattle.swim_wire.specs.Texts.{PacketText, HeaderText, StateText, Datag
 
 use crate::canonical::pairs::{Value, write_map, write_message};
 use crate::layout::Key;
+use crate::message::{
+    ALIVE_MESSAGE, COMPOUND_MESSAGE, DEAD_MESSAGE, PUSH_PULL_MESSAGE, SUSPECT_MESSAGE,
+};
 use crate::packet::Packet;
 use crate::stream::Header;
 use std::alloc::{AllocError, Global};
 use swim_claim::{Claim, Details, Facts, Kind, Name};
-
-/// The first byte of a suspect message, as in memberlist's `net.go`.
-const SUSPECT_MESSAGE: u8 = 3;
-
-/// The first byte of an alive message.
-const ALIVE_MESSAGE: u8 = 4;
-
-/// The first byte of a dead message.
-const DEAD_MESSAGE: u8 = 5;
-
-/// The first byte of a push/pull stream.
-const PUSH_PULL_MESSAGE: u8 = 6;
-
-/// The first byte of a compound packet.
-const COMPOUND_MESSAGE: u8 = 7;
 
 /// Appends the header of a push/pull stream: its type byte, and its map (memberlist's
 /// `pushPullHeader`). One above the limits of [`Header`] is written too, and no reader takes it.

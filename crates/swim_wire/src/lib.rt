@@ -1,9 +1,10 @@
-//! The messages of memberlist: packets that carry one claim, and how their bytes are read.
+//! The messages of memberlist, as bytes and as claims: packets, and the parts of push/pull streams.
 #![tactic(auto)]
 
 mod canonical;
 mod canonical_law;
 mod fault;
+pub mod laws;
 mod layout;
 mod map;
 mod message;
@@ -13,7 +14,7 @@ mod stream;
 pub use canonical::{encode_compound, encode_packet, write_header, write_state};
 pub use fault::WireFault;
 pub use packet::{Packet, decode_packet};
-pub use stream::Header;
+pub use stream::{Header, read_header, read_state};
 
 #[cfg(test)]
 mod tests;

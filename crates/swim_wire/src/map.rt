@@ -1,8 +1,14 @@
 //! Maps of a layout.
 
-ghost use Rattle.std.specs.Prelude.{◌≡◌, ◌<◌, ◌≤◌, length, IfOk};
+ghost use Rattle.std.specs.Prelude.{◌≡◌, ◌<◌, ◌≤◌, length, take, IfOk, IfSome, IsNone, IsErrOf, position};
+ghost use Rattle.std.specs.Str.{bytes_eq};
+ghost use Rattle.swim_pack.specs.Composing.{ReadsAs, same, lift};
+ghost use Rattle.swim_pack.specs.Reading.{raw_at};
 ghost use Rattle.swim_wire.specs.Fault.{fault_of_key};
-ghost use Rattle.swim_wire.specs.Slots.{Fits, FitsEach, raw_of, uint_of};
+ghost use Rattle.swim_wire.specs.Reading.{wire_cause, value_at, key_at, pair_at, map_at};
+ghost use Rattle.swim_wire.specs.Slots.{Fits, FitsEach, CanRead, CanReadEach, key_text, spelled, slots_of, layout_of};
+ghost use Rattle.swim_wire.specs.Layout.{number_or_zero, raw_or_empty, flag_or_false};
+ghost use Rattle.std.specs.Option.{option_map};
 
 use crate::WireFault;
 use crate::layout::{Field, Limit};
@@ -23,14 +29,18 @@ pub(crate) enum Value {
 /// The values of a map, each at the place of its key in the layout. An absent key has none.
 pub(crate) type Values = [Option<Value>; SLOTS];
 
-/// Reads a map of the layout: its count, and then each key and its value.
+/// Reads a map of the layout: its count, and then each key and its value. A layout without text and
+/// bytes is read with no memory.
 pub(crate) fn read_map<I: Inlet>(
-    alloc: Global,
+    alloc: Option<Global>,
     inlet: &mut I,
     layout: &[Field],
 ) -> Result<Values, WireFault>
-    requires { length layout.now ≤ 7 }
-    ensures { IfOk result (FitsEach layout.now) }
+    requires few { length layout.now ≤ 7 }
+    requires memory { CanReadEach alloc layout.now }
+    ensures exact { ReadsAs wire_cause slots_of (map_at (layout_of layout.now)) (I.seen inlet.old) (I.seen inlet.new) result }
+    ensures within { IfOk result (FitsEach layout.now) }
+    ensures no_memory { IsNone alloc → ¬ IsErrOf result WireFault.Memory }
 {
     let count = read_map_len(inlet, layout.len() as u32)?;
     let mut values = [None, None, None, None, None, None, None];
@@ -41,14 +51,17 @@ pub(crate) fn read_map<I: Inlet>(
 }
 
 fn read_pair<I: Inlet>(
-    alloc: Global,
+    alloc: Option<Global>,
     inlet: &mut I,
     layout: &[Field],
     values: &mut Values,
 ) -> Result<(), WireFault>
     requires few { length layout.now ≤ 7 }
-    requires fits { FitsEach layout.now values.old }
-    ensures { FitsEach layout.now values.new }
+    requires memory { CanReadEach alloc layout.now }
+    requires within { FitsEach layout.now values.old }
+    ensures exact { ReadsAs wire_cause (λ _. slots_of values.new) (pair_at (layout_of layout.now) (slots_of values.old)) (I.seen inlet.old) (I.seen inlet.new) result }
+    ensures within { FitsEach layout.now values.new }
+    ensures no_memory { IsNone alloc → ¬ IsErrOf result WireFault.Memory }
 {
     let place = read_place(inlet, layout)?;
     if values[place].is_some() {
@@ -60,41 +73,57 @@ fn read_pair<I: Inlet>(
 
 /// Reads a key, and answers its place in the layout.
 fn read_place<I: Inlet>(inlet: &mut I, layout: &[Field]) -> Result<usize, WireFault>
-    ensures { IfOk result (λ place. place < length layout.now) }
+    ensures exact { ReadsAs wire_cause same (key_at (layout_of layout.now)) (I.seen inlet.old) (I.seen inlet.new) result }
+    ensures within { IfOk result (λ place. place < length layout.now) }
+    ensures no_memory { ¬ IsErrOf result WireFault.Memory }
 {
     let mut text = [0; 12];
-    let len = read_key(inlet, &mut text).map_err(fault_of_key)?;
-    let key = &text[..len];
-    layout
-        .iter()
-        .position(|field| field.key.text() == key)
-        .ok_or(WireFault::UnknownKey)
+    let len = read_key_text(inlet, &mut text)?;
+    place_of(layout, &text[..len]).ok_or(WireFault::UnknownKey)
 }
 
-/// Why a key was not read. One that is too long is no key of a layout.
-fn fault_of_key(fault: PackFault) -> WireFault
-    ensures { result ≡ fault_of_key fault }
+/// Reads the text of a key. One that is too long is no key of a layout.
+fn read_key_text<I: Inlet>(inlet: &mut I, text: &mut [u8; 12]) -> Result<usize, WireFault>
+    ensures exact { ReadsAs wire_cause (λ len. take len text.new) (lift fault_of_key (raw_at 12)) (I.seen inlet.old) (I.seen inlet.new) result }
+    ensures fits { IfOk result (λ len. len ≤ 12) }
+    ensures no_memory { ¬ IsErrOf result WireFault.Memory }
 {
-    match fault {
-        PackFault::TooLong => WireFault::UnknownKey,
-        other => WireFault::from(other),
+    match read_key(inlet, text) {
+        Ok(len) => Ok(len),
+        Err(PackFault::TooLong) => Err(WireFault::UnknownKey),
+        Err(fault) => Err(WireFault::from(fault)),
     }
 }
 
+/// The place of a key in the layout.
+fn place_of(layout: &[Field], key: &[u8]) -> Option<usize>
+    ensures place { result ≡ position (λ field. bytes_eq (key_text field.key) key.now) layout.now }
+    ensures within { IfSome result (λ place. place < length layout.now) }
+{
+    layout.iter().position(|field| field.key.text() == key)
+}
+
 /// Reads what stands behind a key.
-fn read_value<I: Inlet>(alloc: Global, inlet: &mut I, limit: Limit) -> Result<Value, WireFault>
-    ensures { IfOk result (Fits limit) }
+fn read_value<I: Inlet>(
+    alloc: Option<Global>,
+    inlet: &mut I,
+    limit: Limit,
+) -> Result<Value, WireFault>
+    requires { CanRead alloc limit }
+    ensures exact { ReadsAs wire_cause spelled (value_at limit) (I.seen inlet.old) (I.seen inlet.new) result }
+    ensures within { IfOk result (Fits limit) }
+    ensures no_memory { IsNone alloc → ¬ IsErrOf result WireFault.Memory }
 {
     match limit {
         Limit::Number(max) => Ok(Value::Number(read_uint(inlet, max)?)),
-        Limit::Raw(limit) => Ok(Value::Raw(read_raw(alloc, inlet, limit)?)),
+        Limit::Raw(limit) => Ok(Value::Raw(read_raw(alloc.unwrap(), inlet, limit)?)),
         Limit::Flag => Ok(Value::Flag(read_bool(inlet)?)),
     }
 }
 
 /// The number, or 0 where its key is absent.
 pub(crate) fn uint(value: Option<Value>) -> u64
-    ensures { result ≡ uint_of value }
+    ensures { result ≡ number_or_zero (option_map spelled value) }
 {
     match value {
         Some(Value::Number(number)) => number,
@@ -104,10 +133,20 @@ pub(crate) fn uint(value: Option<Value>) -> u64
 
 /// The text or bytes, or none where their key is absent.
 pub(crate) fn raw(alloc: Global, value: Option<Value>) -> Vec<u8>
-    ensures { result.items ≡ raw_of value }
+    ensures { result.items ≡ raw_or_empty (option_map spelled value) }
 {
     match value {
         Some(Value::Raw(bytes)) => bytes,
         _ => Vec::new(alloc),
+    }
+}
+
+/// The truth value, or false where its key is absent.
+pub(crate) fn flag(value: Option<Value>) -> bool
+    ensures { result ≡ flag_or_false (option_map spelled value) }
+{
+    match value {
+        Some(Value::Flag(flag)) => flag,
+        _ => false,
     }
 }

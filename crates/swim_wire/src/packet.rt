@@ -1,27 +1,22 @@
 //! Packets: one claim each.
 
-ghost use Rattle.std.specs.Prelude.{◌≡◌};
-ghost use Rattle.std.specs.Prelude.{length};
-ghost use Rattle.swim_claim.specs.declared.claim.Claim.{Claim};
-ghost use Rattle.swim_wire.specs.Packet.{IsLegalPacket};
+ghost use Rattle.std.specs.Prelude.{◌≡◌, ◌≢◌, IfOk, IfErr, IsErrOf};
+ghost use Rattle.swim_pack.specs.Composing.{ReadsAs, same, lift};
+ghost use Rattle.swim_pack.specs.Reading.{next_byte};
+ghost use Rattle.swim_wire.specs.Checks.{ExplainsWhole};
+ghost use Rattle.swim_wire.specs.Fault.{fault_of_pack};
+ghost use Rattle.swim_wire.specs.Packet.{PacketValue, IsLegalPacket};
+ghost use Rattle.swim_wire.specs.Reading.{wire_cause, packet_at, alive_at, suspect_at, dead_at, whole_packet, AnswersUnlessMemory};
+ghost use Rattle.swim_wire.specs.Texts.{PacketText};
 
 use crate::WireFault;
 use crate::layout::{ACCUSATION, ALIVE};
 use crate::map::read_map;
-use crate::message::{Accusation, Alive};
+use crate::message::{ALIVE_MESSAGE, Accusation, Alive, DEAD_MESSAGE, SUSPECT_MESSAGE};
 use std::alloc::Global;
 use std::marker::Model;
 use swim_claim::{Claim, Details, Name};
 use swim_pack::{Inlet, SliceInlet};
-
-/// The first byte of a suspect message, as in memberlist's `net.go`.
-const SUSPECT_MESSAGE: u8 = 3;
-
-/// The first byte of an alive message.
-const ALIVE_MESSAGE: u8 = 4;
-
-/// The first byte of a dead message.
-const DEAD_MESSAGE: u8 = 5;
 
 /// A claim, and the member that makes it. Contracts see it as these two.
 #[derive(Drop, Debug)]
@@ -72,8 +67,28 @@ impl Packet {
     }
 }
 
-/// Reads a packet: its type byte, one map, and nothing after it.
-pub fn decode_packet(alloc: Global, bytes: &[u8]) -> Result<Packet, WireFault> {
+/// Reads a packet: its type byte, one map, and nothing after it (memberlist's `net.go`).
+///
+/// # Errors
+///
+/// The first of these that holds: `Ended` where the bytes are none; `WrongType` where the first is
+/// none of 3, 4 and 5; the faults of the map, as its count, its keys and values are read; of the
+/// whole, `NameEmpty`, then `BadAddress` and `BadVersions` in an alive packet; `Trailing` where bytes
+/// follow. `Memory` comes where a growth was refused, of at most the limit of a value.
+pub fn decode_packet(alloc: Global, bytes: &[u8]) -> Result<Packet, WireFault>
+    // The bytes are the packet.
+    ensures reads { IfOk result (λ packet. PacketText bytes.now packet) }
+
+    // Refused for another cause than memory they are no packet, and the refusal says why.
+    ensures refuses { IfErr result (λ fault. fault ≢ WireFault.Memory → (p : PacketValue) → ¬ PacketText bytes.now p) }
+    ensures explains { IfErr result (λ fault. fault ≢ WireFault.Memory → ExplainsWhole fault bytes.now) }
+{
+    decode_whole(alloc, bytes)
+}
+
+fn decode_whole(alloc: Global, bytes: &[u8]) -> Result<Packet, WireFault>
+    ensures { AnswersUnlessMemory (whole_packet bytes.now) result }
+{
     let mut inlet = SliceInlet::new(bytes);
     let packet = read_packet(alloc, &mut inlet)?;
     if inlet.rest().is_empty() {
@@ -83,35 +98,52 @@ pub fn decode_packet(alloc: Global, bytes: &[u8]) -> Result<Packet, WireFault> {
     }
 }
 
-fn read_packet<I: Inlet>(alloc: Global, inlet: &mut I) -> Result<Packet, WireFault> {
-    let mut first = [0];
-    inlet.pull(&mut first)?;
-    match first[0] {
+fn read_packet<I: Inlet>(alloc: Global, inlet: &mut I) -> Result<Packet, WireFault>
+    ensures { ReadsAs wire_cause same packet_at (I.seen inlet.old) (I.seen inlet.new) result }
+{
+    let found = read_type(inlet)?;
+    match found {
         ALIVE_MESSAGE => read_alive(alloc, inlet),
         SUSPECT_MESSAGE => read_suspect(alloc, inlet),
         DEAD_MESSAGE => read_dead(alloc, inlet),
-        found => Err(WireFault::WrongType { found }),
+        _ => Err(WireFault::WrongType { found }),
     }
 }
 
-fn read_alive<I: Inlet>(alloc: Global, inlet: &mut I) -> Result<Packet, WireFault> {
-    let alive = Alive::new(alloc, read_map(alloc, inlet, &ALIVE)?);
+/// Reads the type byte of a message.
+pub(crate) fn read_type<I: Inlet>(inlet: &mut I) -> Result<u8, WireFault>
+    ensures no_memory { ¬ IsErrOf result WireFault.Memory }
+    ensures exact { ReadsAs wire_cause same (lift fault_of_pack next_byte) (I.seen inlet.old) (I.seen inlet.new) result }
+{
+    let mut first = [0];
+    inlet.pull(&mut first)?;
+    Ok(first[0])
+}
+
+fn read_alive<I: Inlet>(alloc: Global, inlet: &mut I) -> Result<Packet, WireFault>
+    ensures { ReadsAs wire_cause same alive_at (I.seen inlet.old) (I.seen inlet.new) result }
+{
+    let alive = Alive::new(alloc, read_map(Some(alloc), inlet, &ALIVE)?);
     let name = Name::new(alive.node)?;
     let inc = alive.incarnation;
     let details = Details::new(alive.addr, alive.port, alive.meta, alive.vsn)?;
     Ok(Packet::new(Claim::Alive { name, inc, details }, Vec::new(alloc)))
 }
 
-fn read_suspect<I: Inlet>(alloc: Global, inlet: &mut I) -> Result<Packet, WireFault> {
-    let suspect = Accusation::new(alloc, read_map(alloc, inlet, &ACCUSATION)?);
+fn read_suspect<I: Inlet>(alloc: Global, inlet: &mut I) -> Result<Packet, WireFault>
+    ensures { ReadsAs wire_cause same suspect_at (I.seen inlet.old) (I.seen inlet.new) result }
+{
+    let suspect = Accusation::new(alloc, read_map(Some(alloc), inlet, &ACCUSATION)?);
     let name = Name::new(suspect.node)?;
     let inc = suspect.incarnation;
     Ok(Packet::new(Claim::Suspect { name, inc }, suspect.from))
 }
 
 /// A member that is dead by its own word has left.
-fn read_dead<I: Inlet>(alloc: Global, inlet: &mut I) -> Result<Packet, WireFault> {
-    let dead = Accusation::new(alloc, read_map(alloc, inlet, &ACCUSATION)?);
+fn read_dead<I: Inlet>(alloc: Global, inlet: &mut I) -> Result<Packet, WireFault>
+    ensures { ReadsAs wire_cause same dead_at (I.seen inlet.old) (I.seen inlet.new) result }
+{
+    let dead = Accusation::new(alloc, read_map(Some(alloc), inlet, &ACCUSATION)?);
     let name = Name::new(dead.node)?;
     let inc = dead.incarnation;
     let claim = if dead.from.as_slice() == name.bytes() {

@@ -4,7 +4,6 @@ use crate::{
     read_uint,
 };
 use std::alloc::Global;
-use std::process::Abort;
 
 #[test]
 fn every_spelling_of_a_number_is_read(rt: HostRuntime) {

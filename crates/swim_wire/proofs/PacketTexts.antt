@@ -1,0 +1,261 @@
+-- A packet that is read is a text of its value, each text is read, and what a refusal says of the bytes.
+use Rattle.std.proofs.Common.{◌≡◌, ◌≢◌, ◌⊎◌, inl, inr, ℕ, Bool, true, false, eqb, List, [], ◌∷◌, ◌++◌, codes, Result, Ok, Err, refl, sym, ap, subst, ◌∙◌, append-nil, eqb-true, arith}
+use Rattle.std.proofs.lemmas.Bool.Decides.{nat_tests}
+use Rattle.std.specs.Str.{bytes_eq}
+use Rattle.swim_claim.specs.declared.claim.Claim.TheVariants.{Alive, Suspect}
+use Rattle.swim_claim.specs.Details.{DetailsValue}
+use Rattle.swim_pack.proofs.Composing.{TakesText}
+use Rattle.swim_pack.specs.Composing.{◌>>=◌, refuses}
+use Rattle.swim_wire.specs.declared.fault.WireFault.{WireFault}
+use Rattle.swim_wire.specs.declared.fault.WireFault.TheVariants.{Ended, NameEmpty, BadAddress, BadVersions, WrongType, BadState, TooManyNodes, UserTooLong, Trailing}
+use Rattle.swim_wire.specs.Checks.{AliveFails, BeginsFailing, ExplainsPacket, ExplainsWhole}
+use Rattle.swim_wire.specs.Layout.{Pairs, MapText, of_key, number_of, raw_of, alive_layout, accusation_layout}
+use Rattle.swim_wire.specs.Packet.{PacketValue}
+use Rattle.swim_wire.specs.Reading.{Reading, Slots, slot, checked, with_name, with_details, map_at, alive_of, suspect_of, dead_of, dead_claim, alive_at, suspect_at, dead_at, packet_at, nothing_after, whole_packet}
+use Rattle.swim_wire.specs.Texts.{PacketText, details_of}
+use Rattle.swim_wire.specs.Texts.PacketText.{alive, suspect, leave, confirm}
+use Rattle.swim_wire.proofs.Readings.{read, refused, then_ok, then_err}
+use Rattle.swim_wire.proofs.Keys.{alive_legal, accusation_legal, same_key, key_same, other_key, false≢true}
+use Rattle.swim_wire.proofs.Filling.{HoldsSlots}
+use Rattle.swim_wire.proofs.MapFaults.{IsMapFault, map_refusal}
+use Rattle.swim_wire.proofs.Maps.{map_takes, map_again}
+use Rattle.swim_wire.proofs.Checking.{passed, failed, split, checked_ok, checked_err, with_name_ok, with_name_again, with_name_err, with_details_ok, with_details_again, with_details_err}
+
+-- ---- the packet that the pairs of a map tell, or the first check that they fail
+
+-- the packet of an alive message with these details
+abbrev alive_with : Pairs → DetailsValue → PacketValue
+alive_with pairs details = record { claim = Alive (raw_of (codes "Node") pairs) (number_of (codes "Incarnation") pairs) details; from = [] }
+
+abbrev alive_from : Pairs → Result PacketValue WireFault
+alive_from pairs = with_name (raw_of (codes "Node") pairs) (with_details (details_of pairs) (alive_with pairs))
+
+alive_same : (pairs : Pairs) (slots : Slots) → HoldsSlots alive_layout pairs slots → alive_of slots ≡ alive_from pairs
+alive_same pairs slots holds =
+    let addr : slot slots 0 ≡ of_key (codes "Addr") pairs = holds 0 (omega arith) in
+    let inc : slot slots 1 ≡ of_key (codes "Incarnation") pairs = holds 1 (omega arith) in
+    let meta : slot slots 2 ≡ of_key (codes "Meta") pairs = holds 2 (omega arith) in
+    let node : slot slots 3 ≡ of_key (codes "Node") pairs = holds 3 (omega arith) in
+    let port : slot slots 4 ≡ of_key (codes "Port") pairs = holds 4 (omega arith) in
+    let vsn : slot slots 5 ≡ of_key (codes "Vsn") pairs = holds 5 (omega arith) in
+    rw (addr, inc, meta, node, port, vsn) refl
+
+abbrev suspect_packet : Pairs → PacketValue
+suspect_packet pairs = record { claim = Suspect (raw_of (codes "Node") pairs) (number_of (codes "Incarnation") pairs); from = raw_of (codes "From") pairs }
+
+abbrev suspect_from : Pairs → Result PacketValue WireFault
+suspect_from pairs = with_name (raw_of (codes "Node") pairs) (Ok (suspect_packet pairs))
+
+suspect_same : (pairs : Pairs) (slots : Slots) → HoldsSlots accusation_layout pairs slots → suspect_of slots ≡ suspect_from pairs
+suspect_same pairs slots holds =
+    let from : slot slots 0 ≡ of_key (codes "From") pairs = holds 0 (omega arith) in
+    let inc : slot slots 1 ≡ of_key (codes "Incarnation") pairs = holds 1 (omega arith) in
+    let node : slot slots 2 ≡ of_key (codes "Node") pairs = holds 2 (omega arith) in
+    rw (from, inc, node) refl
+
+abbrev dead_packet : Bool → Pairs → PacketValue
+dead_packet own pairs = record { claim = dead_claim own (raw_of (codes "Node") pairs) (number_of (codes "Incarnation") pairs); from = raw_of (codes "From") pairs }
+
+abbrev dead_from : Pairs → Result PacketValue WireFault
+dead_from pairs = with_name (raw_of (codes "Node") pairs) (Ok (dead_packet (bytes_eq (raw_of (codes "From") pairs) (raw_of (codes "Node") pairs)) pairs))
+
+dead_same : (pairs : Pairs) (slots : Slots) → HoldsSlots accusation_layout pairs slots → dead_of slots ≡ dead_from pairs
+dead_same pairs slots holds =
+    let from : slot slots 0 ≡ of_key (codes "From") pairs = holds 0 (omega arith) in
+    let inc : slot slots 1 ≡ of_key (codes "Incarnation") pairs = holds 1 (omega arith) in
+    let node : slot slots 2 ≡ of_key (codes "Node") pairs = holds 2 (omega arith) in
+    rw (from, inc, node) refl
+
+passed_is : (p q : PacketValue) → passed p ≡ passed q → q ≡ p
+passed_is p q e = cc
+
+-- ---- a packet that was read
+
+alive_takes : (first : ℕ) (bytes : List ℕ) (p : PacketValue) (rest : List ℕ) → first ≡ 4 → alive_at bytes ≡ read p rest → TakesText (λ b. PacketText b p) (first ∷ bytes) rest
+unfolding alive_at
+alive_takes first bytes p rest type e =
+    let t = then_ok (map_at alive_layout bytes) (λ slots. checked (alive_of slots)) p rest e in
+    let m = map_takes alive_layout bytes t.0 t.1 alive_legal t.2 in
+    let c = checked_ok (alive_of t.0) t.1 p rest t.3 in
+    let named = with_name_ok (raw_of (codes "Node") m.1) _ p (sym (alive_same m.1 t.0 m.4) ∙ c.0) in
+    let legal = with_details_ok (details_of m.1) (alive_with m.1) p named.1 in
+    record {
+      text = first ∷ m.0;
+      is = alive m.0 m.1 (ap (λ (x : ℕ). x ∷ m.0) type) m.2 named.0 (legal.0, legal.1) legal.2;
+      parts = ap (λ (r : List ℕ). first ∷ r) (m.3 ∙ ap (λ (r : List ℕ). m.0 ++ r) c.1);
+    }
+
+suspect_takes : (first : ℕ) (bytes : List ℕ) (p : PacketValue) (rest : List ℕ) → first ≡ 3 → suspect_at bytes ≡ read p rest → TakesText (λ b. PacketText b p) (first ∷ bytes) rest
+unfolding suspect_at
+suspect_takes first bytes p rest type e =
+    let t = then_ok (map_at accusation_layout bytes) (λ slots. checked (suspect_of slots)) p rest e in
+    let m = map_takes accusation_layout bytes t.0 t.1 accusation_legal t.2 in
+    let c = checked_ok (suspect_of t.0) t.1 p rest t.3 in
+    let named = with_name_ok (raw_of (codes "Node") m.1) _ p (sym (suspect_same m.1 t.0 m.4) ∙ c.0) in
+    record {
+      text = first ∷ m.0;
+      is = suspect m.0 m.1 (ap (λ (x : ℕ). x ∷ m.0) type) m.2 named.0 (passed_is (suspect_packet m.1) p named.1);
+      parts = ap (λ (r : List ℕ). first ∷ r) (m.3 ∙ ap (λ (r : List ℕ). m.0 ++ r) c.1);
+    }
+
+dead_takes : (first : ℕ) (bytes : List ℕ) (p : PacketValue) (rest : List ℕ) → first ≡ 5 → dead_at bytes ≡ read p rest → TakesText (λ b. PacketText b p) (first ∷ bytes) rest
+unfolding dead_at
+dead_takes first bytes p rest type e =
+    let t = then_ok (map_at accusation_layout bytes) (λ slots. checked (dead_of slots)) p rest e in
+    let m = map_takes accusation_layout bytes t.0 t.1 accusation_legal t.2 in
+    let c = checked_ok (dead_of t.0) t.1 p rest t.3 in
+    let named = with_name_ok (raw_of (codes "Node") m.1) _ p (sym (dead_same m.1 t.0 m.4) ∙ c.0) in
+    record {
+      text = first ∷ m.0;
+      is = by m.0 m.1 (bytes_eq (raw_of (codes "From") m.1) (raw_of (codes "Node") m.1)) refl (ap (λ (x : ℕ). x ∷ m.0) type) m.2 named.0 (passed_is _ p named.1);
+      parts = ap (λ (r : List ℕ). first ∷ r) (m.3 ∙ ap (λ (r : List ℕ). m.0 ++ r) c.1);
+    }
+  where
+    by : (m : List ℕ) (pairs : Pairs) (own : Bool) → bytes_eq (raw_of (codes "From") pairs) (raw_of (codes "Node") pairs) ≡ own → first ∷ m ≡ 5 ∷ m
+        → MapText accusation_layout m pairs → raw_of (codes "Node") pairs ≢ [] → p ≡ dead_packet own pairs → PacketText (first ∷ m) p
+    by m pairs true own b text named is = leave m pairs b text named (same_key _ _ own) is
+    by m pairs false own b text named is = confirm m pairs b text named (λ same. false≢true (sym own ∙ key_same _ _ same)) is
+
+pub packet_takes : (bytes : List ℕ) (p : PacketValue) (rest : List ℕ) → packet_at bytes ≡ read p rest → TakesText (λ b. PacketText b p) bytes rest
+unfolding packet_at
+packet_takes [] p rest e = absurd cc
+packet_takes (first ∷ bytes) p rest e =
+    split (eqb first 4) P alive_at _ (λ t. alive_takes first bytes p rest (eqb-true _ _ t))
+    (λ _. split (eqb first 3) P suspect_at _ (λ t. suspect_takes first bytes p rest (eqb-true _ _ t))
+    (λ _. split (eqb first 5) P dead_at _ (λ t. dead_takes first bytes p rest (eqb-true _ _ t)) (λ _ none. absurd cc))) e
+  where
+    P : Reading PacketValue → Type 0
+    P reading = reading bytes ≡ read p rest → TakesText (λ b. PacketText b p) (first ∷ bytes) rest
+
+-- ---- a text is read
+
+pub packet_again : (b rest : List ℕ) (p : PacketValue) → PacketText b p → packet_at (b ++ rest) ≡ read p rest
+unfolding packet_at alive_at suspect_at dead_at
+packet_again b rest p (alive m pairs type text named legal is) =
+    let a = map_again alive_layout m pairs rest alive_legal text in
+    let value : alive_of a.0 ≡ passed p = alive_same pairs a.0 a.2 ∙ with_name_again _ _ named ∙ with_details_again (details_of pairs) (alive_with pairs) legal.0 legal.1 ∙ ap passed (sym is) in
+    rw (type, a.1) (ap (λ (r : Result PacketValue WireFault). checked r rest) value)
+packet_again b rest p (suspect m pairs type text named is) =
+    let a = map_again accusation_layout m pairs rest accusation_legal text in
+    let value : suspect_of a.0 ≡ passed p = suspect_same pairs a.0 a.2 ∙ with_name_again _ _ named ∙ ap passed (sym is) in
+    rw (type, a.1) (ap (λ (r : Result PacketValue WireFault). checked r rest) value)
+packet_again b rest p (leave m pairs type text named own is) =
+    let a = map_again accusation_layout m pairs rest accusation_legal text in
+    let left = ap (λ (same : Bool). passed (dead_packet same pairs)) (key_same (raw_of (codes "From") pairs) (raw_of (codes "Node") pairs) own) in
+    let value : dead_of a.0 ≡ passed p = dead_same pairs a.0 a.2 ∙ with_name_again _ _ named ∙ left ∙ ap passed (sym is) in
+    rw (type, a.1) (ap (λ (r : Result PacketValue WireFault). checked r rest) value)
+packet_again b rest p (confirm m pairs type text named other is) =
+    let a = map_again accusation_layout m pairs rest accusation_legal text in
+    let confirmed = ap (λ (same : Bool). passed (dead_packet same pairs)) (other_key (raw_of (codes "From") pairs) (raw_of (codes "Node") pairs) other) in
+    let value : dead_of a.0 ≡ passed p = dead_same pairs a.0 a.2 ∙ with_name_again _ _ named ∙ confirmed ∙ ap passed (sym is) in
+    rw (type, a.1) (ap (λ (r : Result PacketValue WireFault). checked r rest) value)
+
+-- ---- a refusal
+
+explained_by_map : (error : WireFault) (bytes : List ℕ) → IsMapFault error → ExplainsPacket error bytes
+explained_by_map NameEmpty bytes h = absurd h
+explained_by_map BadAddress bytes h = absurd h
+explained_by_map BadVersions bytes h = absurd h
+explained_by_map (WrongType found) bytes h = absurd h
+explained_by_map (BadState found) bytes h = absurd h
+explained_by_map TooManyNodes bytes h = absurd h
+explained_by_map UserTooLong bytes h = absurd h
+explained_by_map Trailing bytes h = absurd h
+explained_by_map error bytes h = tt
+
+alive_refusal : (first : ℕ) (bytes : List ℕ) (error : WireFault) → first ≡ 4 → alive_at bytes ≡ refused PacketValue error → ExplainsPacket error (first ∷ bytes)
+unfolding alive_at
+alive_refusal first bytes error type e =
+    then_err (map_at alive_layout bytes) (λ slots. checked (alive_of slots)) error e (ExplainsPacket error (first ∷ bytes))
+    (λ map. explained_by_map error (first ∷ bytes) (map_refusal alive_layout bytes error map))
+    (λ slots mid ok check. failing slots mid (map_takes alive_layout bytes slots mid alive_legal ok) (checked_err (alive_of slots) mid error check))
+  where
+    failing : (slots : Slots) (mid : List ℕ) → (m : List ℕ) × (pairs : Pairs) × MapText alive_layout m pairs × (bytes ≡ m ++ mid) × HoldsSlots alive_layout pairs slots
+        → alive_of slots ≡ failed PacketValue error → ExplainsPacket error (first ∷ bytes)
+    failing slots mid m fails =
+        let begins : (F : Pairs → Type 0) → F m.1 → BeginsFailing alive_layout F bytes =
+        λ F h. record { map_text = m.0; pairs = m.1; rest = mid; text = m.2; parts = m.3; failing = h } in
+        with_name_err (raw_of (codes "Node") m.1) (with_details (details_of m.1) (alive_with m.1)) error (sym (alive_same m.1 slots m.4) ∙ fails) (ExplainsPacket error (first ∷ bytes))
+        (λ empty is. subst (λ f. ExplainsPacket f (first ∷ bytes)) is (inl (type, begins (AliveFails NameEmpty) empty)))
+        (λ named more. with_details_err (details_of m.1) (alive_with m.1) error more (ExplainsPacket error (first ∷ bytes))
+        (λ address is. subst (λ f. ExplainsPacket f (first ∷ bytes)) is (inl (type, begins (AliveFails BadAddress) (named, address))))
+        (λ address versions is. subst (λ f. ExplainsPacket f (first ∷ bytes)) is (inl (type, begins (AliveFails BadVersions) (named, (address, versions))))))
+
+-- a suspect or dead message, whose value is checked for its name alone
+accusation_refusal : (value : Pairs → PacketValue) (of_slots : Slots → Result PacketValue WireFault)
+    → ((pairs : Pairs) (slots : Slots) → HoldsSlots accusation_layout pairs slots → of_slots slots ≡ with_name (raw_of (codes "Node") pairs) (Ok (value pairs)))
+    → (first : ℕ) (bytes : List ℕ) (error : WireFault) → (first ≡ 3) ⊎ (first ≡ 5) → (map_at accusation_layout >>= (λ slots. checked (of_slots slots))) bytes ≡ refused PacketValue error
+    → ExplainsPacket error (first ∷ bytes)
+accusation_refusal value of_slots same first bytes error type e =
+    then_err (map_at accusation_layout bytes) (λ slots. checked (of_slots slots)) error e (ExplainsPacket error (first ∷ bytes))
+    (λ map. explained_by_map error (first ∷ bytes) (map_refusal accusation_layout bytes error map))
+    (λ slots mid ok check. failing slots mid (map_takes accusation_layout bytes slots mid accusation_legal ok) (checked_err (of_slots slots) mid error check))
+  where
+    failing : (slots : Slots) (mid : List ℕ) → (m : List ℕ) × (pairs : Pairs) × MapText accusation_layout m pairs × (bytes ≡ m ++ mid) × HoldsSlots accusation_layout pairs slots
+        → of_slots slots ≡ failed PacketValue error → ExplainsPacket error (first ∷ bytes)
+    failing slots mid m fails =
+        with_name_err (raw_of (codes "Node") m.1) (passed (value m.1)) error (sym (same m.1 slots m.4) ∙ fails) (ExplainsPacket error (first ∷ bytes))
+        (λ empty is. subst (λ f. ExplainsPacket f (first ∷ bytes)) is (inr (type, record { map_text = m.0; pairs = m.1; rest = mid; text = m.2; parts = m.3; failing = empty })))
+        (λ named more. absurd cc)
+
+ended : (error : WireFault) → Ended ≡ error → ExplainsPacket error []
+ended error is = subst (λ f. ExplainsPacket f []) is tt
+
+wrong_type : (first : ℕ) (bytes : List ℕ) (error : WireFault) → eqb first 4 ≡ false → eqb first 3 ≡ false → eqb first 5 ≡ false → refuses (WrongType first) bytes ≡ refused PacketValue error
+    → ExplainsPacket error (first ∷ bytes)
+wrong_type first bytes error four three five e =
+    let is : WrongType first ≡ error = cc in
+    subst (λ f. ExplainsPacket f (first ∷ bytes)) is ((bytes, refl), (differs 3 three, differs 4 four, differs 5 five))
+  where
+    differs : (n : ℕ) → eqb first n ≡ false → first ≢ n
+    differs n no_match same = grind (arith, nat_tests)
+
+pub packet_refusal : (bytes : List ℕ) (error : WireFault) → packet_at bytes ≡ refused PacketValue error → ExplainsPacket error bytes
+unfolding packet_at suspect_at dead_at
+packet_refusal [] error e = ended error cc
+packet_refusal (first ∷ bytes) error e =
+    split (eqb first 4) P alive_at _ (λ t. alive_refusal first bytes error (eqb-true _ _ t))
+    (λ four. split (eqb first 3) P suspect_at _ (λ t. suspects (inl (eqb-true _ _ t)))
+    (λ three. split (eqb first 5) P dead_at _ (λ t. deads (inr (eqb-true _ _ t))) (λ five. wrong_type first bytes error four three five))) e
+  where
+    P : Reading PacketValue → Type 0
+    P reading = reading bytes ≡ refused PacketValue error → ExplainsPacket error (first ∷ bytes)
+
+    suspects : (first ≡ 3) ⊎ (first ≡ 5) → P suspect_at
+    suspects type = accusation_refusal suspect_packet suspect_of suspect_same first bytes error type
+
+    deads : (first ≡ 3) ⊎ (first ≡ 5) → P dead_at
+    deads type = accusation_refusal (λ pairs. dead_packet (bytes_eq (raw_of (codes "From") pairs) (raw_of (codes "Node") pairs)) pairs) dead_of dead_same first bytes error type
+
+-- ---- packets with nothing after them
+
+pub whole_takes : (b : List ℕ) (p : PacketValue) → whole_packet b ≡ passed p → PacketText b p
+whole_takes b p e = taken (packet_at b) refl e
+  where
+    taken : (r : Result (PacketValue × List ℕ) WireFault) → packet_at b ≡ r → nothing_after r ≡ passed p → PacketText b p
+    taken (Ok (q, [])) at e =
+        let t = packet_takes b q [] at in
+        subst (λ value. PacketText b value) (sym (passed_is q p e)) (subst (λ text. PacketText text q) (sym (t.parts ∙ append-nil t.text)) t.is)
+    taken (Ok (q, byte ∷ rest)) at e = absurd cc
+    taken (Err error) at e = absurd cc
+
+pub whole_again : (b : List ℕ) (p : PacketValue) → PacketText b p → whole_packet b ≡ passed p
+whole_again b p text = ap nothing_after (ap packet_at (sym (append-nil b)) ∙ packet_again b [] p text)
+
+pub whole_lacks : (b : List ℕ) (error : WireFault) → whole_packet b ≡ failed PacketValue error → (p : PacketValue) → PacketText b p → ⊥
+whole_lacks b error e p text = let read_again = whole_again b p text in cc
+
+pub whole_refusal : (b : List ℕ) (error : WireFault) → whole_packet b ≡ failed PacketValue error → ExplainsWhole error b
+whole_refusal b error e = explained (packet_at b) refl e
+  where
+    as_whole : (f : WireFault) → ExplainsPacket f b → ExplainsWhole f b
+    as_whole Trailing h = absurd h
+    as_whole f h = h
+
+    explained : (r : Result (PacketValue × List ℕ) WireFault) → packet_at b ≡ r → nothing_after r ≡ failed PacketValue error → ExplainsWhole error b
+    explained (Ok (q, [])) at e = absurd cc
+    explained (Ok (q, byte ∷ rest)) at e =
+        let t = packet_takes b q (byte ∷ rest) at in
+        let is : Trailing ≡ error = cc in
+        subst (λ f. ExplainsWhole f b) is (t.text, q, byte, rest, t.is, t.parts)
+    explained (Err other) at e = let is : other ≡ error = cc in as_whole error (packet_refusal b error (at ∙ ap (refused PacketValue) is))

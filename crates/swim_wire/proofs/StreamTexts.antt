@@ -1,0 +1,264 @@
+-- A header or a state record that is read is a text of its value, each text is read, and what a refusal says of the bytes.
+use Rattle.std.proofs.Common.{◌≡◌, ◌≢◌, ℕ, ◌<◌, ◌≤◌, Bool, true, false, cond, eqb, ltb, List, [], ◌∷◌, ◌++◌, codes, Result, Ok, Err, refl, sym, ap, subst, ◌∙◌, eqb-true, ltb-true, ltb-false, le-ltb, arith}
+use Rattle.std.proofs.lemmas.Bool.Decides.{nat_tests}
+use Rattle.swim_claim.specs.declared.claim.Claim.{Claim}
+use Rattle.swim_claim.specs.declared.claim.Claim.TheVariants.{Alive, Suspect, Confirm, Leave}
+use Rattle.swim_claim.specs.Details.{DetailsValue}
+use Rattle.swim_pack.proofs.Composing.{TakesText}
+use Rattle.swim_pack.specs.Composing.{◌>>=◌, then_read, refuses}
+use Rattle.swim_wire.specs.declared.fault.WireFault.{WireFault}
+use Rattle.swim_wire.specs.declared.fault.WireFault.TheVariants.{Ended, NameEmpty, BadAddress, BadVersions, WrongType, BadState, TooManyNodes, UserTooLong, Trailing}
+use Rattle.swim_wire.specs.declared.stream.Header.{Header}
+use Rattle.swim_wire.specs.Checks.{HeaderFails, StateFails, BeginsFailing, ExplainsHeader, ExplainsState}
+use Rattle.swim_wire.specs.Layout.{Pairs, MapText, of_key, number_of, raw_of, flag_of, header_layout, state_layout}
+use Rattle.swim_wire.specs.Reading.{Reading, Slots, slot, checked, with_name, with_details, map_at, header_of, header_at, state_of, state_at}
+use Rattle.swim_wire.specs.Texts.{HeaderText, StateText, IsStateOf, details_of}
+use Rattle.swim_wire.specs.Texts.IsStateOf.{alive, suspect, confirm, leave}
+use Rattle.swim_wire.proofs.Readings.{read, refused, then_ok, then_err, parts_to}
+use Rattle.swim_wire.proofs.Keys.{header_legal, state_legal}
+use Rattle.swim_wire.proofs.Filling.{HoldsSlots}
+use Rattle.swim_wire.proofs.MapFaults.{IsMapFault, map_refusal}
+use Rattle.swim_wire.proofs.Maps.{map_takes, map_again}
+use Rattle.swim_wire.proofs.Checking.{passed, failed, split, checked_ok, checked_err, with_name_ok, with_name_again, with_name_err, with_details_ok, with_details_again, with_details_err}
+
+-- ---- the header that the pairs of a map tell, or the first check that they fail
+
+abbrev header_with : Pairs → Header
+header_with pairs = record { nodes = number_of (codes "Nodes") pairs; user_len = number_of (codes "UserStateLen") pairs; join = flag_of (codes "Join") pairs }
+
+abbrev header_from : Pairs → Result Header WireFault
+header_from pairs =
+    cond (ltb 131072 (number_of (codes "Nodes") pairs)) (Err TooManyNodes)
+    (cond (ltb 20971520 (number_of (codes "UserStateLen") pairs)) (Err UserTooLong) (Ok (header_with pairs)))
+
+header_same : (pairs : Pairs) (slots : Slots) → HoldsSlots header_layout pairs slots → header_of slots ≡ header_from pairs
+header_same pairs slots holds =
+    let join : slot slots 0 ≡ of_key (codes "Join") pairs = holds 0 (omega arith) in
+    let nodes : slot slots 1 ≡ of_key (codes "Nodes") pairs = holds 1 (omega arith) in
+    let user : slot slots 2 ≡ of_key (codes "UserStateLen") pairs = holds 2 (omega arith) in
+    rw (join, nodes, user) refl
+
+header_is : (g h : Header) → passed g ≡ passed h → h ≡ g
+header_is g h e = cc
+
+header_ok : (pairs : Pairs) (h : Header) → header_from pairs ≡ passed h
+    → (number_of (codes "Nodes") pairs ≤ 131072) × (number_of (codes "UserStateLen") pairs ≤ 20971520) × (h ≡ header_with pairs)
+header_ok pairs h = split (ltb 131072 (number_of (codes "Nodes") pairs)) P _ _ (λ many e. absurd cc)
+    (λ few. split (ltb 20971520 (number_of (codes "UserStateLen") pairs)) P _ _ (λ long e. absurd cc)
+    (λ short e. (ltb-false _ _ few, ltb-false _ _ short, header_is (header_with pairs) h e)))
+  where
+    P : Result Header WireFault → Type 0
+    P r = r ≡ passed h → (number_of (codes "Nodes") pairs ≤ 131072) × (number_of (codes "UserStateLen") pairs ≤ 20971520) × (h ≡ header_with pairs)
+
+header_err : (pairs : Pairs) (error : WireFault) → header_from pairs ≡ failed Header error
+    → (Q : Type 0) → (HeaderFails TooManyNodes pairs → TooManyNodes ≡ error → Q) → (HeaderFails UserTooLong pairs → UserTooLong ≡ error → Q) → Q
+header_err pairs error fails Q nodes user = split (ltb 131072 (number_of (codes "Nodes") pairs)) P _ _ (λ many e. nodes (ltb-true _ _ many) cc)
+    (λ few. split (ltb 20971520 (number_of (codes "UserStateLen") pairs)) P _ _ (λ long e. user (ltb-false _ _ few, ltb-true _ _ long) cc) (λ short e. absurd cc)) fails
+  where
+    P : Result Header WireFault → Type 0
+    P r = r ≡ failed Header error → Q
+
+-- ---- headers
+
+-- behind the byte 6
+abbrev header_after : Reading Header
+header_after = map_at header_layout >>= (λ slots. checked (header_of slots))
+
+header_after_takes : (first : ℕ) (bytes : List ℕ) (h : Header) (rest : List ℕ) → first ≡ 6 → header_after bytes ≡ read h rest → TakesText (λ b. HeaderText b h) (first ∷ bytes) rest
+header_after_takes first bytes h rest type e =
+    let t = then_ok (map_at header_layout bytes) (λ slots. checked (header_of slots)) h rest e in
+    let m = map_takes header_layout bytes t.0 t.1 header_legal t.2 in
+    let c = checked_ok (header_of t.0) t.1 h rest t.3 in
+    let is = header_ok m.1 h (sym (header_same m.1 t.0 m.4) ∙ c.0) in
+    record {
+      text = first ∷ m.0;
+      is = record { map_text = m.0; pairs = m.1; bytes = ap (λ (x : ℕ). x ∷ m.0) type; text = m.2; few_nodes = is.0; short_user = is.1; header = is.2 };
+      parts = ap (λ (r : List ℕ). first ∷ r) (parts_to m.0 m.3 c.1);
+    }
+
+-- the reading of a header, by its first byte
+by_type : (b : Bool) (first : ℕ) (bytes : List ℕ) → (P : Result (Header × List ℕ) WireFault → Type 0) → eqb first 6 ≡ b
+    → (first ≡ 6 → P (header_after bytes)) → ((first ≢ 6) → P (Err (WrongType first)))
+    → P (then_read (λ slots. checked (header_of slots)) (cond b (map_at header_layout) (refuses (WrongType first)) bytes))
+by_type true first bytes P t six other = six (eqb-true _ _ t)
+by_type false first bytes P t six other = other (λ same. grind (arith, nat_tests))
+
+pub header_takes : (bytes : List ℕ) (h : Header) (rest : List ℕ) → header_at bytes ≡ read h rest → TakesText (λ b. HeaderText b h) bytes rest
+unfolding header_at
+header_takes [] h rest e = absurd cc
+header_takes (first ∷ bytes) h rest e =
+    by_type (eqb first 6) first bytes (λ r. r ≡ read h rest → TakesText (λ b. HeaderText b h) (first ∷ bytes) rest) refl
+    (λ six. header_after_takes first bytes h rest six) (λ other wrong. absurd cc) e
+
+pub header_again : (b rest : List ℕ) (h : Header) → HeaderText b h → header_at (b ++ rest) ≡ read h rest
+unfolding header_at
+header_again b rest h text =
+    let a = map_again header_layout text.map_text text.pairs rest header_legal text.text in
+    let few : ltb 131072 (number_of (codes "Nodes") text.pairs) ≡ false = le-ltb _ _ text.few_nodes in
+    let short : ltb 20971520 (number_of (codes "UserStateLen") text.pairs) ≡ false = le-ltb _ _ text.short_user in
+    let passes : header_from text.pairs ≡ passed (header_with text.pairs) = rw (few, short) refl in
+    let value : header_of a.0 ≡ passed h = header_same text.pairs a.0 a.2 ∙ passes ∙ ap passed (sym text.header) in
+    rw (text.bytes, a.1) (ap (λ (r : Result Header WireFault). checked r rest) value)
+
+header_by_map : (error : WireFault) (bytes : List ℕ) → IsMapFault error → ExplainsHeader error bytes
+header_by_map NameEmpty bytes h = absurd h
+header_by_map BadAddress bytes h = absurd h
+header_by_map BadVersions bytes h = absurd h
+header_by_map (WrongType found) bytes h = absurd h
+header_by_map (BadState found) bytes h = absurd h
+header_by_map TooManyNodes bytes h = absurd h
+header_by_map UserTooLong bytes h = absurd h
+header_by_map Trailing bytes h = absurd h
+header_by_map error bytes h = tt
+
+header_after_refusal : (first : ℕ) (bytes : List ℕ) (error : WireFault) → first ≡ 6 → header_after bytes ≡ refused Header error → ExplainsHeader error (first ∷ bytes)
+header_after_refusal first bytes error type e =
+    then_err (map_at header_layout bytes) (λ slots. checked (header_of slots)) error e (ExplainsHeader error (first ∷ bytes))
+    (λ map. header_by_map error (first ∷ bytes) (map_refusal header_layout bytes error map))
+    (λ slots mid ok check. failing slots mid (map_takes header_layout bytes slots mid header_legal ok) (checked_err (header_of slots) mid error check))
+  where
+    failing : (slots : Slots) (mid : List ℕ) → (m : List ℕ) × (pairs : Pairs) × MapText header_layout m pairs × (bytes ≡ m ++ mid) × HoldsSlots header_layout pairs slots
+        → header_of slots ≡ failed Header error → ExplainsHeader error (first ∷ bytes)
+    failing slots mid m fails =
+        let begins : (F : Pairs → Type 0) → F m.1 → BeginsFailing header_layout F bytes =
+        λ F h. record { map_text = m.0; pairs = m.1; rest = mid; text = m.2; parts = m.3; failing = h } in
+        let six : first ∷ bytes ≡ 6 ∷ bytes = ap (λ (x : ℕ). x ∷ bytes) type in
+        header_err m.1 error (sym (header_same m.1 slots m.4) ∙ fails) (ExplainsHeader error (first ∷ bytes))
+        (λ many is. subst (λ f. ExplainsHeader f (first ∷ bytes)) is (bytes, six, begins (HeaderFails TooManyNodes) many))
+        (λ long is. subst (λ f. ExplainsHeader f (first ∷ bytes)) is (bytes, six, begins (HeaderFails UserTooLong) long))
+
+pub header_refusal : (bytes : List ℕ) (error : WireFault) → header_at bytes ≡ refused Header error → ExplainsHeader error bytes
+unfolding header_at
+header_refusal [] error e = let is : Ended ≡ error = cc in subst (λ f. ExplainsHeader f []) is tt
+header_refusal (first ∷ bytes) error e =
+    by_type (eqb first 6) first bytes (λ r. r ≡ refused Header error → ExplainsHeader error (first ∷ bytes)) refl
+    (λ six. header_after_refusal first bytes error six)
+    (λ other wrong. let is : WrongType first ≡ error = cc in subst (λ f. ExplainsHeader f (first ∷ bytes)) is ((bytes, refl), other)) e
+
+-- ---- the claim that the pairs of a map tell, or the first check that they fail
+
+abbrev alive_with : Pairs → DetailsValue → Claim
+alive_with pairs details = Alive (raw_of (codes "Name") pairs) (number_of (codes "Incarnation") pairs) details
+
+abbrev suspect_with : Pairs → Claim
+suspect_with pairs = Suspect (raw_of (codes "Name") pairs) (number_of (codes "Incarnation") pairs)
+
+abbrev confirm_with : Pairs → Claim
+confirm_with pairs = Confirm (raw_of (codes "Name") pairs) (number_of (codes "Incarnation") pairs)
+
+abbrev leave_with : Pairs → Claim
+leave_with pairs = Leave (raw_of (codes "Name") pairs) (number_of (codes "Incarnation") pairs)
+
+abbrev claim_from : Pairs → ℕ → Result Claim WireFault
+claim_from pairs state =
+    cond (eqb state 0) (with_details (details_of pairs) (alive_with pairs))
+    (cond (eqb state 1) (Ok (suspect_with pairs))
+    (cond (eqb state 2) (Ok (confirm_with pairs))
+    (cond (eqb state 3) (Ok (leave_with pairs)) (Err (BadState state)))))
+
+abbrev state_from : Pairs → Result Claim WireFault
+state_from pairs = with_name (raw_of (codes "Name") pairs) (claim_from pairs (number_of (codes "State") pairs))
+
+state_same : (pairs : Pairs) (slots : Slots) → HoldsSlots state_layout pairs slots → state_of slots ≡ state_from pairs
+state_same pairs slots holds =
+    let addr : slot slots 0 ≡ of_key (codes "Addr") pairs = holds 0 (omega arith) in
+    let inc : slot slots 1 ≡ of_key (codes "Incarnation") pairs = holds 1 (omega arith) in
+    let meta : slot slots 2 ≡ of_key (codes "Meta") pairs = holds 2 (omega arith) in
+    let name : slot slots 3 ≡ of_key (codes "Name") pairs = holds 3 (omega arith) in
+    let port : slot slots 4 ≡ of_key (codes "Port") pairs = holds 4 (omega arith) in
+    let state : slot slots 5 ≡ of_key (codes "State") pairs = holds 5 (omega arith) in
+    let vsn : slot slots 6 ≡ of_key (codes "Vsn") pairs = holds 6 (omega arith) in
+    rw (addr, inc, meta, name, port, state, vsn) refl
+
+claim_is : (c d : Claim) → passed c ≡ passed d → d ≡ c
+claim_is c d e = cc
+
+-- the state is n
+state_is : (pairs : Pairs) (state n : ℕ) → state ≡ number_of (codes "State") pairs → eqb state n ≡ true → number_of (codes "State") pairs ≡ n
+state_is pairs state n same t = sym same ∙ eqb-true _ _ t
+
+claim_ok : (pairs : Pairs) (state : ℕ) (c : Claim) → state ≡ number_of (codes "State") pairs → claim_from pairs state ≡ passed c → IsStateOf pairs c
+claim_ok pairs state c same =
+    split (eqb state 0) P _ _ (λ t e. let legal = with_details_ok (details_of pairs) (alive_with pairs) c e in alive (state_is pairs state 0 same t) (legal.0, legal.1) legal.2) (λ _.
+    split (eqb state 1) P _ _ (λ t e. suspect (state_is pairs state 1 same t) (claim_is (suspect_with pairs) c e)) (λ _.
+    split (eqb state 2) P _ _ (λ t e. confirm (state_is pairs state 2 same t) (claim_is (confirm_with pairs) c e)) (λ _.
+    split (eqb state 3) P _ _ (λ t e. leave (state_is pairs state 3 same t) (claim_is (leave_with pairs) c e)) (λ _ e. absurd cc))))
+  where
+    P : Result Claim WireFault → Type 0
+    P r = r ≡ passed c → IsStateOf pairs c
+
+claim_again : (pairs : Pairs) (c : Claim) → IsStateOf pairs c → claim_from pairs (number_of (codes "State") pairs) ≡ passed c
+claim_again pairs c (alive state legal is) = rw (state, is) (with_details_again (details_of pairs) (alive_with pairs) legal.0 legal.1)
+claim_again pairs c (suspect state is) = rw (state, is) refl
+claim_again pairs c (confirm state is) = rw (state, is) refl
+claim_again pairs c (leave state is) = rw (state, is) refl
+
+-- no state from 0 to 3
+above_three : (state : ℕ) → eqb state 0 ≡ false → eqb state 1 ≡ false → eqb state 2 ≡ false → eqb state 3 ≡ false → 3 < state
+above_three state none one two three = grind (arith, nat_tests)
+
+claim_err : (pairs : Pairs) (state : ℕ) (error : WireFault) → state ≡ number_of (codes "State") pairs → raw_of (codes "Name") pairs ≢ [] → claim_from pairs state ≡ failed Claim error
+    → (Q : Type 0) → (StateFails BadAddress pairs → BadAddress ≡ error → Q) → (StateFails BadVersions pairs → BadVersions ≡ error → Q) → (StateFails (BadState state) pairs → BadState state ≡ error → Q) → Q
+claim_err pairs state error same named fails Q address versions bad =
+    split (eqb state 0) P _ _
+    (λ t e. with_details_err (details_of pairs) (alive_with pairs) error e Q
+    (λ a is. address (named, state_is pairs state 0 same t, a) is) (λ a v is. versions (named, state_is pairs state 0 same t, (a, v)) is)) (λ none.
+    split (eqb state 1) P _ _ (λ t e. absurd cc) (λ one.
+    split (eqb state 2) P _ _ (λ t e. absurd cc) (λ two.
+    split (eqb state 3) P _ _ (λ t e. absurd cc) (λ three e. bad (named, sym same, above_three state none one two three) cc)))) fails
+  where
+    P : Result Claim WireFault → Type 0
+    P r = r ≡ failed Claim error → Q
+
+-- ---- state records
+
+pub state_takes : (bytes : List ℕ) (c : Claim) (rest : List ℕ) → state_at bytes ≡ read c rest → TakesText (λ b. StateText b c) bytes rest
+unfolding state_at
+state_takes bytes c rest e =
+    let t = then_ok (map_at state_layout bytes) (λ slots. checked (state_of slots)) c rest e in
+    let m = map_takes state_layout bytes t.0 t.1 state_legal t.2 in
+    let k = checked_ok (state_of t.0) t.1 c rest t.3 in
+    let named = with_name_ok (raw_of (codes "Name") m.1) (claim_from m.1 (number_of (codes "State") m.1)) c (sym (state_same m.1 t.0 m.4) ∙ k.0) in
+    record {
+      text = m.0;
+      is = record { pairs = m.1; text = m.2; name = named.0; state = claim_ok m.1 (number_of (codes "State") m.1) c refl named.1 };
+      parts = parts_to m.0 m.3 k.1;
+    }
+
+pub state_again : (b rest : List ℕ) (c : Claim) → StateText b c → state_at (b ++ rest) ≡ read c rest
+unfolding state_at
+state_again b rest c text =
+    let a = map_again state_layout b text.pairs rest state_legal text.text in
+    let value : state_of a.0 ≡ passed c = state_same text.pairs a.0 a.2 ∙ with_name_again _ _ text.name ∙ claim_again text.pairs c text.state in
+    rw a.1 (ap (λ (r : Result Claim WireFault). checked r rest) value)
+
+state_by_map : (error : WireFault) (bytes : List ℕ) → IsMapFault error → ExplainsState error bytes
+state_by_map NameEmpty bytes h = absurd h
+state_by_map BadAddress bytes h = absurd h
+state_by_map BadVersions bytes h = absurd h
+state_by_map (WrongType found) bytes h = absurd h
+state_by_map (BadState found) bytes h = absurd h
+state_by_map TooManyNodes bytes h = absurd h
+state_by_map UserTooLong bytes h = absurd h
+state_by_map Trailing bytes h = absurd h
+state_by_map error bytes h = tt
+
+pub state_refusal : (bytes : List ℕ) (error : WireFault) → state_at bytes ≡ refused Claim error → ExplainsState error bytes
+unfolding state_at
+state_refusal bytes error e =
+    then_err (map_at state_layout bytes) (λ slots. checked (state_of slots)) error e (ExplainsState error bytes)
+    (λ map. state_by_map error bytes (map_refusal state_layout bytes error map))
+    (λ slots mid ok check. failing slots mid (map_takes state_layout bytes slots mid state_legal ok) (checked_err (state_of slots) mid error check))
+  where
+    failing : (slots : Slots) (mid : List ℕ) → (m : List ℕ) × (pairs : Pairs) × MapText state_layout m pairs × (bytes ≡ m ++ mid) × HoldsSlots state_layout pairs slots
+        → state_of slots ≡ failed Claim error → ExplainsState error bytes
+    failing slots mid m fails =
+        let begins : (F : Pairs → Type 0) → F m.1 → BeginsFailing state_layout F bytes =
+        λ F h. record { map_text = m.0; pairs = m.1; rest = mid; text = m.2; parts = m.3; failing = h } in
+        let state = number_of (codes "State") m.1 in
+        with_name_err (raw_of (codes "Name") m.1) (claim_from m.1 state) error (sym (state_same m.1 slots m.4) ∙ fails) (ExplainsState error bytes)
+        (λ empty is. subst (λ f. ExplainsState f bytes) is (begins (StateFails NameEmpty) empty))
+        (λ named more. claim_err m.1 state error refl named more (ExplainsState error bytes)
+        (λ address is. subst (λ f. ExplainsState f bytes) is (begins (StateFails BadAddress) address))
+        (λ versions is. subst (λ f. ExplainsState f bytes) is (begins (StateFails BadVersions) versions))
+        (λ bad is. subst (λ f. ExplainsState f bytes) is (begins (StateFails (BadState state)) bad)))

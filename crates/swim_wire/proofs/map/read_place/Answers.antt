@@ -1,0 +1,20 @@
+use Rattle.std.proofs.Common.{sym, ◌∙◌, refl, ap}
+use Rattle.std.proofs.lemmas.Result.{err_from_is_err_and}
+use Rattle.swim_pack.specs.Composing.{ReadsAs, same, some_or}
+use Rattle.swim_wire.specs.Reading.{wire_cause, key_at}
+use Rattle.swim_wire.specs.declared.fault.WireFault.TheVariants.{UnknownKey}
+use Rattle.swim_pack.proofs.Composing.{Reads-then, Reads-exit, Reads-ok_or}
+use Rattle.swim_wire.proofs.Places.{place_of-layout}
+use Rattle.swim_wire.proofs.map.read_place.Goals as goal
+
+pub returns-in_err-len-clause-exact : goal.returns-in_err-len-clause-exact
+unfolding key_at
+returns-in_err-len-clause-exact g c =
+    let p = err_from_is_err_and c.from_residual.result c.from_residual.ensures.1 in
+    rw (p.1, p.2) (Reads-exit _ c.in_err-len.ensures.exact)
+
+pub returns-clause-exact : goal.returns-clause-exact
+unfolding key_at
+returns-clause-exact g c =
+    let found = c.place_of.ensures.place ∙ sym (place_of-layout c.args.layout.now _) in
+    rw (c.ok_or.ensures.value, found) (Reads-then _ c.in_ok-len.ensures.exact (Reads-ok_or UnknownKey _ refl))

@@ -1,0 +1,113 @@
+-- Why bytes are no message: the checks of a message as a whole, in their order, and what stands around its map.
+use Rattle.std.specs.Prelude.{◌≡◌, ◌≢◌, ℕ, ◌≤◌, ◌<◌, ◌⊎◌, List, [], ◌∷◌, ◌++◌, codes, ⊤, IfSome}
+use Rattle.swim_pack.specs.Ends.{Source}
+use Rattle.swim_claim.specs.Details.{IsAddress, IsVersions}
+use Rattle.swim_wire.specs.declared.fault.WireFault.{WireFault}
+use Rattle.swim_wire.specs.declared.fault.WireFault.TheVariants.{NameEmpty, BadAddress, BadVersions, WrongType, BadState, TooManyNodes, UserTooLong, Trailing}
+use Rattle.swim_wire.specs.Layout.{Layout, Pairs, MapText, number_of, raw_of, alive_layout, accusation_layout, header_layout, state_layout}
+use Rattle.swim_wire.specs.Packet.{PacketValue}
+use Rattle.swim_wire.specs.Texts.{PacketText}
+
+-- ---- the first check that the values of a map fail
+
+-- the address is checked before the versions
+abbrev pub DetailsFail : WireFault → Pairs → Type 0
+DetailsFail BadAddress pairs = ¬ IsAddress (raw_of (codes "Addr") pairs)
+DetailsFail BadVersions pairs = IsAddress (raw_of (codes "Addr") pairs) × (¬ IsVersions (raw_of (codes "Vsn") pairs))
+DetailsFail error pairs = ⊥
+
+-- an alive message needs a name, and then legal details
+abbrev pub AliveFails : WireFault → Pairs → Type 0
+AliveFails NameEmpty pairs = raw_of (codes "Node") pairs ≡ []
+AliveFails error pairs = (raw_of (codes "Node") pairs ≢ []) × DetailsFail error pairs
+
+-- a suspect or dead message needs a name
+abbrev pub AccusationFails : WireFault → Pairs → Type 0
+AccusationFails NameEmpty pairs = raw_of (codes "Node") pairs ≡ []
+AccusationFails error pairs = ⊥
+
+-- the count of members is checked before the length of the user state
+abbrev pub HeaderFails : WireFault → Pairs → Type 0
+HeaderFails TooManyNodes pairs = 131072 < number_of (codes "Nodes") pairs
+HeaderFails UserTooLong pairs = (number_of (codes "Nodes") pairs ≤ 131072) × (20971520 < number_of (codes "UserStateLen") pairs)
+HeaderFails error pairs = ⊥
+
+-- a state record needs a name, a state of 0 to 3, and, where it is alive, legal details
+abbrev pub StateFails : WireFault → Pairs → Type 0
+StateFails NameEmpty pairs = raw_of (codes "Name") pairs ≡ []
+StateFails (BadState found) pairs = (raw_of (codes "Name") pairs ≢ []) × (number_of (codes "State") pairs ≡ found) × (3 < found)
+StateFails error pairs = (raw_of (codes "Name") pairs ≢ []) × (number_of (codes "State") pairs ≡ 0) × DetailsFail error pairs
+
+-- ---- bytes that begin with such a map
+
+-- The bytes begin with a map of the layout whose values fail a check.
+pub record BeginsFailing (layout : Layout) (fails : Pairs → Type 0) (bytes : List ℕ) : Type 0 where
+  pub map_text : List ℕ
+  pub pairs : Pairs
+  pub rest : List ℕ
+  pub text : MapText layout map_text pairs
+  pub parts : bytes ≡ map_text ++ rest
+  pub failing : fails pairs
+
+-- behind its type byte the packet's map fails this check
+abbrev pub PacketFails : WireFault → List ℕ → Type 0
+PacketFails error [] = ⊥
+PacketFails error (first ∷ rest) =
+    ((first ≡ 4) × BeginsFailing alive_layout (AliveFails error) rest)
+    ⊎ (((first ≡ 3) ⊎ (first ≡ 5)) × BeginsFailing accusation_layout (AccusationFails error) rest)
+
+abbrev pub IsNoPacketType : ℕ → Type 0
+IsNoPacketType first = (first ≢ 3) × (first ≢ 4) × (first ≢ 5)
+
+-- the bytes begin with this one
+abbrev pub BeginsWith : ℕ → List ℕ → Type 0
+BeginsWith found bytes = (rest : List ℕ) × (bytes ≡ found ∷ rest)
+
+-- What a refusal says of bytes that begin with no packet. Of the others it says where the reading of a map stopped.
+abbrev pub ExplainsPacket : WireFault → List ℕ → Type 0
+ExplainsPacket (WrongType found) bytes = BeginsWith found bytes × IsNoPacketType found
+ExplainsPacket NameEmpty bytes = PacketFails NameEmpty bytes
+ExplainsPacket BadAddress bytes = PacketFails BadAddress bytes
+ExplainsPacket BadVersions bytes = PacketFails BadVersions bytes
+ExplainsPacket (BadState found) bytes = ⊥
+ExplainsPacket TooManyNodes bytes = ⊥
+ExplainsPacket UserTooLong bytes = ⊥
+ExplainsPacket Trailing bytes = ⊥
+ExplainsPacket error bytes = ⊤
+
+-- a packet, and at least one byte after it
+abbrev pub HasTrailing : List ℕ → Type 0
+HasTrailing bytes = (front : List ℕ) × (p : PacketValue) × (byte : ℕ) × (rest : List ℕ) × PacketText front p × (bytes ≡ front ++ byte ∷ rest)
+
+-- what a refusal says of bytes that are no packet
+abbrev pub ExplainsWhole : WireFault → List ℕ → Type 0
+ExplainsWhole Trailing bytes = HasTrailing bytes
+ExplainsWhole error bytes = ExplainsPacket error bytes
+
+-- what a refusal says of bytes that begin with no header
+abbrev pub ExplainsHeader : WireFault → List ℕ → Type 0
+ExplainsHeader (WrongType found) bytes = BeginsWith found bytes × (found ≢ 6)
+ExplainsHeader TooManyNodes bytes = (rest : List ℕ) × (bytes ≡ 6 ∷ rest) × BeginsFailing header_layout (HeaderFails TooManyNodes) rest
+ExplainsHeader UserTooLong bytes = (rest : List ℕ) × (bytes ≡ 6 ∷ rest) × BeginsFailing header_layout (HeaderFails UserTooLong) rest
+ExplainsHeader NameEmpty bytes = ⊥
+ExplainsHeader BadAddress bytes = ⊥
+ExplainsHeader BadVersions bytes = ⊥
+ExplainsHeader (BadState found) bytes = ⊥
+ExplainsHeader Trailing bytes = ⊥
+ExplainsHeader error bytes = ⊤
+
+-- what a refusal says of bytes that begin with no state record
+abbrev pub ExplainsState : WireFault → List ℕ → Type 0
+ExplainsState NameEmpty bytes = BeginsFailing state_layout (StateFails NameEmpty) bytes
+ExplainsState BadAddress bytes = BeginsFailing state_layout (StateFails BadAddress) bytes
+ExplainsState BadVersions bytes = BeginsFailing state_layout (StateFails BadVersions) bytes
+ExplainsState (BadState found) bytes = BeginsFailing state_layout (StateFails (BadState found)) bytes
+ExplainsState (WrongType found) bytes = ⊥
+ExplainsState TooManyNodes bytes = ⊥
+ExplainsState UserTooLong bytes = ⊥
+ExplainsState Trailing bytes = ⊥
+ExplainsState error bytes = ⊤
+
+-- it says so of the bytes that were to come, where the inlet tells them
+abbrev pub ExplainsStart : (List ℕ → Type 0) → Source → Type 0
+ExplainsStart explains old = IfSome old.coming explains
