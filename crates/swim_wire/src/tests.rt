@@ -1,6 +1,7 @@
 //! Packets by their bytes.
 
 mod canonical;
+mod datagrams;
 
 use crate::{Packet, WireFault, decode_packet};
 use std::alloc::Global;
