@@ -22,3 +22,6 @@ pub mod SpelledSteps
 pub mod SpelledTexts
 pub mod SpelledLengths
 pub mod SpelledCompounds
+pub mod Parts
+pub mod WholeDatagrams
+pub mod UserState

@@ -1,11 +1,11 @@
 //! Datagrams: one packet each, or a compound packet of several.
 
 ghost use Rattle.std.specs.Prelude.{◌≡◌, ◌≢◌, ◌++◌, [], List, IfOk, IfErr, OnOk, OnErr};
-ghost use Rattle.swim_wire.specs.Datagrams.{packets_of, parts_at, compound_at, whole_datagram, ExplainsDatagram};
+ghost use Rattle.swim_wire.specs.Datagrams.{alone, packets_of, parts_at, compound_at, whole_datagram, ExplainsDatagram};
 ghost use Rattle.swim_wire.specs.Packet.{PacketValue};
-ghost use Rattle.swim_wire.specs.Reading.{nothing_after, AnswersUnlessMemory};
+ghost use Rattle.swim_wire.specs.Reading.{nothing_after, whole_packet};
 ghost use Rattle.swim_wire.specs.Texts.{DatagramText};
-ghost use Rattle.swim_wire.specs.Parts.{lengths_in, GrowsBy};
+ghost use Rattle.swim_wire.specs.Parts.{lengths_in, ListsUnlessMemory, GrowsBy};
 
 use crate::packet::{Packet, decode_whole};
 use crate::WireFault;
@@ -38,7 +38,7 @@ pub fn decode_datagram(alloc: Global, bytes: &[u8]) -> Result<Vec<Packet>, WireF
 }
 
 fn decode_either(alloc: Global, bytes: &[u8]) -> Result<Vec<Packet>, WireFault>
-    ensures { AnswersUnlessMemory (whole_datagram bytes.now) result }
+    ensures { ListsUnlessMemory (λ packets. packets.items) (whole_datagram bytes.now) result }
 {
     match bytes.split_first() {
         Some((first, body)) if *first == COMPOUND_MESSAGE => decode_compound(alloc, body),
@@ -47,7 +47,9 @@ fn decode_either(alloc: Global, bytes: &[u8]) -> Result<Vec<Packet>, WireFault>
 }
 
 /// A packet by itself.
-fn decode_alone(alloc: Global, bytes: &[u8]) -> Result<Vec<Packet>, WireFault> {
+fn decode_alone(alloc: Global, bytes: &[u8]) -> Result<Vec<Packet>, WireFault>
+    ensures { ListsUnlessMemory (λ packets. packets.items) (alone (whole_packet bytes.now)) result }
+{
     let packet = decode_whole(alloc, bytes)?;
     let mut packets = Vec::new(alloc);
     packets.push(packet).map_err(AllocError::from)?;
@@ -56,24 +58,30 @@ fn decode_alone(alloc: Global, bytes: &[u8]) -> Result<Vec<Packet>, WireFault> {
 
 /// What follows the type byte of a compound packet.
 fn decode_compound(alloc: Global, body: &[u8]) -> Result<Vec<Packet>, WireFault>
-    ensures { AnswersUnlessMemory (nothing_after (compound_at body.now)) result }
+    ensures { ListsUnlessMemory (λ packets. packets.items) (nothing_after (compound_at body.now)) result }
 {
-    let (count, rest) = body.split_first().ok_or(WireFault::Ended)?;
+    let Some((count, rest)) = body.split_first() else {
+        return Err(WireFault::Ended);
+    };
     let lengths_len = 2 * usize::from(*count);
-    let (lengths, parts) = rest.split_at_checked(lengths_len).ok_or(WireFault::Ended)?;
+    let Some((lengths, parts)) = rest.split_at_checked(lengths_len) else {
+        return Err(WireFault::Ended);
+    };
     decode_parts(alloc, lengths, parts)
 }
 
 /// Parts of these lengths, each of two bytes.
 fn decode_parts(alloc: Global, lengths: &[u8], parts: &[u8]) -> Result<Vec<Packet>, WireFault>
-    ensures { AnswersUnlessMemory (nothing_after (parts_at (lengths_in lengths.now) [] parts.now)) result }
+    ensures { ListsUnlessMemory (λ packets. packets.items) (nothing_after (parts_at (lengths_in lengths.now) [] parts.now)) result }
 {
     let mut packets = Vec::new(alloc);
     let mut lengths = lengths;
     let mut rest = parts;
     while let Some((length, more)) = lengths.split_first_chunk::<2>() {
         let len = usize::from(u16::from_be_bytes(*length));
-        let (part, behind) = rest.split_at_checked(len).ok_or(WireFault::Ended)?;
+        let Some((part, behind)) = rest.split_at_checked(len) else {
+            return Err(WireFault::Ended);
+        };
         take_part(alloc, part, &mut packets)?;
         lengths = more;
         rest = behind;
