@@ -23,3 +23,6 @@ pub mod SpelledTexts
 pub mod SpelledLengths
 pub mod SpelledCompounds
 pub mod Explaining
+pub mod Parts
+pub mod WholeDatagrams
+pub mod UserState

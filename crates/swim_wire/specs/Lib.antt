@@ -9,3 +9,4 @@ pub mod Message
 pub mod Checks
 pub mod Datagrams
 pub mod Pairs
+pub mod Parts

@@ -3,6 +3,7 @@
 
 mod canonical;
 mod canonical_law;
+mod datagram;
 mod fault;
 pub mod laws;
 mod layout;
@@ -10,11 +11,14 @@ mod map;
 mod message;
 mod packet;
 mod stream;
+mod user_state;
 
 pub use canonical::{encode_compound, encode_packet, write_header, write_state};
+pub use datagram::decode_datagram;
 pub use fault::WireFault;
 pub use packet::{Packet, decode_packet};
 pub use stream::{Header, read_header, read_state};
+pub use user_state::skip_user;
 
 #[cfg(test)]
 mod tests;

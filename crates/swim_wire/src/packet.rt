@@ -86,7 +86,7 @@ pub fn decode_packet(alloc: Global, bytes: &[u8]) -> Result<Packet, WireFault>
     decode_whole(alloc, bytes)
 }
 
-fn decode_whole(alloc: Global, bytes: &[u8]) -> Result<Packet, WireFault>
+pub(crate) fn decode_whole(alloc: Global, bytes: &[u8]) -> Result<Packet, WireFault>
     ensures { AnswersUnlessMemory (whole_packet bytes.now) result }
 {
     let mut inlet = SliceInlet::new(bytes);

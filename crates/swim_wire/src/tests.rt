@@ -1,6 +1,7 @@
 //! Packets by their bytes.
 
 mod canonical;
+mod datagrams;
 mod streams;
 
 use crate::{Packet, WireFault, decode_packet};

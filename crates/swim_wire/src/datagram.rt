@@ -1,0 +1,103 @@
+//! Datagrams: one packet each, or a compound packet of several.
+
+ghost use Rattle.std.specs.Prelude.{◌≡◌, ◌≢◌, ◌++◌, [], List, IfOk, IfErr, OnOk, OnErr};
+ghost use Rattle.swim_wire.specs.Datagrams.{alone, packets_of, parts_at, compound_at, whole_datagram, ExplainsDatagram};
+ghost use Rattle.swim_wire.specs.Packet.{PacketValue};
+ghost use Rattle.swim_wire.specs.Reading.{nothing_after, whole_packet};
+ghost use Rattle.swim_wire.specs.Texts.{DatagramText};
+ghost use Rattle.swim_wire.specs.Parts.{lengths_in, ListsUnlessMemory, GrowsBy};
+
+use crate::WireFault;
+use crate::message::COMPOUND_MESSAGE;
+use crate::packet::{Packet, decode_whole};
+use std::alloc::{AllocError, Global};
+
+/// Reads the packets of a datagram: one packet, or a compound packet. That has its type byte, the
+/// count of its parts in one byte, their lengths in two bytes each with the higher first, and the
+/// parts (memberlist's `makeCompoundMessage`). A part that begins with 3, 4 or 5 is a packet, and
+/// every other part is passed over (own).
+///
+/// # Errors
+///
+/// The first of these that holds: `Ended` where the bytes are none; `WrongType` where the first is
+/// none of 3, 4, 5 and 7; for one packet what `decode_packet` says; in a compound packet `Ended` where
+/// its count or one of its lengths is cut; then, part by part, `Ended` where the part is cut and what
+/// `decode_packet` says of it; `Trailing` where bytes follow. `Memory` comes where a growth was
+/// refused: of one packet, or of at most the limit of a value. A refusal answers no packet.
+pub fn decode_datagram(alloc: Global, bytes: &[u8]) -> Result<Vec<Packet>, WireFault>
+    // The bytes are a datagram of the packets.
+    ensures reads { IfOk result (λ packets. DatagramText bytes.now packets.items) }
+
+    // Refused for another cause than memory they are no datagram, and the refusal says why.
+    ensures refuses { IfErr result (λ fault. fault ≢ WireFault.Memory → (packets : List PacketValue) → ¬ DatagramText bytes.now packets) }
+    ensures explains { IfErr result (λ fault. fault ≢ WireFault.Memory → ExplainsDatagram fault bytes.now) }
+{
+    decode_either(alloc, bytes)
+}
+
+fn decode_either(alloc: Global, bytes: &[u8]) -> Result<Vec<Packet>, WireFault>
+    ensures { ListsUnlessMemory (λ packets. packets.items) (whole_datagram bytes.now) result }
+{
+    match bytes.split_first() {
+        Some((first, body)) if *first == COMPOUND_MESSAGE => decode_compound(alloc, body),
+        _ => decode_alone(alloc, bytes),
+    }
+}
+
+/// A packet by itself.
+fn decode_alone(alloc: Global, bytes: &[u8]) -> Result<Vec<Packet>, WireFault>
+    ensures { ListsUnlessMemory (λ packets. packets.items) (alone (whole_packet bytes.now)) result }
+{
+    let packet = decode_whole(alloc, bytes)?;
+    let mut packets = Vec::new(alloc);
+    packets.push(packet).map_err(AllocError::from)?;
+    Ok(packets)
+}
+
+/// What follows the type byte of a compound packet.
+fn decode_compound(alloc: Global, body: &[u8]) -> Result<Vec<Packet>, WireFault>
+    ensures { ListsUnlessMemory (λ packets. packets.items) (nothing_after (compound_at body.now)) result }
+{
+    let Some((count, rest)) = body.split_first() else {
+        return Err(WireFault::Ended);
+    };
+    let lengths_len = 2 * usize::from(*count);
+    let Some((lengths, parts)) = rest.split_at_checked(lengths_len) else {
+        return Err(WireFault::Ended);
+    };
+    decode_parts(alloc, lengths, parts)
+}
+
+/// Parts of these lengths, each of two bytes.
+fn decode_parts(alloc: Global, lengths: &[u8], parts: &[u8]) -> Result<Vec<Packet>, WireFault>
+    ensures { ListsUnlessMemory (λ packets. packets.items) (nothing_after (parts_at (lengths_in lengths.now) [] parts.now)) result }
+{
+    let mut packets = Vec::new(alloc);
+    let mut lengths = lengths;
+    let mut rest = parts;
+    while let Some((length, more)) = lengths.split_first_chunk::<2>() {
+        let len = usize::from(u16::from_be_bytes(*length));
+        let Some((part, behind)) = rest.split_at_checked(len) else {
+            return Err(WireFault::Ended);
+        };
+        take_part(alloc, part, &mut packets)?;
+        lengths = more;
+        rest = behind;
+    }
+    if rest.is_empty() {
+        Ok(packets)
+    } else {
+        Err(WireFault::Trailing)
+    }
+}
+
+/// Adds the packet of a part, unless the part is passed over.
+fn take_part(alloc: Global, part: &[u8], packets: &mut Vec<Packet>) -> Result<(), WireFault>
+    ensures { GrowsBy (packets_of part.now) packets.old.items packets.new.items result }
+{
+    if let Some(3..=5) = part.first() {
+        let packet = decode_whole(alloc, part)?;
+        packets.push(packet).map_err(AllocError::from)?;
+    }
+    Ok(())
+}

@@ -1,0 +1,99 @@
+//! Datagrams and user state by their bytes.
+
+use super::{ALIVE, SUSPECT};
+use crate::{Packet, WireFault, decode_datagram, skip_user};
+use std::alloc::Global;
+use std::process::Abort;
+use std::test::Fail;
+use swim_claim::Kind;
+use swim_pack::SliceInlet;
+
+/// A compound packet of the Alive and the Suspect.
+const BOTH: &[u8] =
+    b"\x07\x02\0\x33\0\x1d\x04\x86\xa4Addr\xa4\x7f\0\0\x01\xabIncarnation\0\xa4Meta\xa0\xa4Node\xa1a\xa4Port\xcd\x1f\x0a\xa3Vsn\xa0\x03\x83\xa4From\xa1x\xabIncarnation\x01\xa4Node\xa1b";
+
+/// A compound packet of one byte of another type and the Suspect.
+const PASSED_OVER: &[u8] =
+    b"\x07\x02\0\x01\0\x1d\0\x03\x83\xa4From\xa1x\xabIncarnation\x01\xa4Node\xa1b";
+
+/// A compound packet of the Alive and a packet that is cut behind its first byte.
+const CUT_PACKET: &[u8] =
+    b"\x07\x02\0\x33\0\x01\x04\x86\xa4Addr\xa4\x7f\0\0\x01\xabIncarnation\0\xa4Meta\xa0\xa4Node\xa1a\xa4Port\xcd\x1f\x0a\xa3Vsn\xa0\x04";
+
+#[test]
+fn a_datagram_has_the_packets_of_its_parts(rt: HostRuntime) -> Result<(), Fail> {
+    for (bytes, names) in [
+        (BOTH, b"ab".as_slice()),
+        (PASSED_OVER, b"b"),
+        (b"\x07\0", b""),
+        (b"\x07\x01\0\0", b""),
+        (ALIVE, b"a"),
+        (SUSPECT, b"b"),
+    ] {
+        let packets = decode_datagram(rt.alloc(), bytes)?;
+        assert_eq!(rt; packets.len(), names.len());
+        for (packet, name) in packets.iter().zip(names) {
+            assert_eq!(rt; packet.claim().name().bytes(), [*name].as_slice());
+        }
+    }
+    Ok(())
+}
+
+/// Why the bytes are refused.
+fn refusal(rt: &impl Abort, alloc: Global, bytes: &[u8]) -> Result<WireFault, Fail> {
+    match decode_datagram(alloc, bytes) {
+        Ok(_) => panic!(rt; "{bytes:?} is read"),
+        Err(WireFault::Memory) => Err(Fail::from(WireFault::Memory)),
+        Err(fault) => Ok(fault),
+    }
+}
+
+#[test]
+fn a_datagram_is_refused_at_its_first_fault(rt: HostRuntime) -> Result<(), Fail> {
+    for (bytes, fault) in [
+        (b"".as_slice(), WireFault::Ended),
+        (b"\x09", WireFault::WrongType { found: 9 }),
+        (b"\x07", WireFault::Ended),
+        (b"\x07\x01", WireFault::Ended),
+        (b"\x07\0\0", WireFault::Trailing),
+        (b"\x07\x01\0\x01", WireFault::Ended),
+        (b"\x07\x02\0\x02\xff\xff\x03\x80", WireFault::NameEmpty),
+        (CUT_PACKET, WireFault::Ended),
+    ] {
+        assert_eq!(rt; refusal(&rt, rt.alloc(), bytes)?, fault);
+    }
+    Ok(())
+}
+
+#[test]
+fn want_of_memory_is_answered_as_such_and_the_repeat_reads(rt: HostRuntime) -> Result<(), Fail> {
+    if let Err(fault) = decode_datagram(rt.alloc(), BOTH) {
+        assert_eq!(rt; fault, WireFault::Memory);
+        let packets = decode_datagram(rt.alloc(), BOTH)?;
+        assert_eq!(rt; packets.len(), 2);
+    }
+    Ok(())
+}
+
+#[test]
+fn user_state_is_dropped_to_its_last_byte(rt: HostRuntime) -> Result<(), Fail> {
+    for (len, answer, rest) in [
+        (5, Ok(()), b"".as_slice()),
+        (3, Ok(()), b"\x04\x05"),
+        (0, Ok(()), b"\x01\x02\x03\x04\x05"),
+        (6, Err(WireFault::Ended), b"\x01\x02\x03\x04\x05"),
+    ] {
+        let mut inlet = SliceInlet::new(b"\x01\x02\x03\x04\x05");
+        assert_eq!(rt; skip_user(&mut inlet, len), answer);
+        assert_eq!(rt; inlet.rest(), rest);
+    }
+    Ok(())
+}
+
+#[test]
+fn user_state_is_dropped_piece_by_piece(rt: HostRuntime) -> Result<(), Fail> {
+    let mut inlet = SliceInlet::new(&[7; 4099]);
+    assert_eq!(rt; skip_user(&mut inlet, 4098), Ok(()));
+    assert_eq!(rt; inlet.rest().len(), 1);
+    Ok(())
+}

@@ -1,0 +1,37 @@
+//! The user state at the end of a push/pull stream.
+
+ghost use Rattle.std.specs.Prelude.{◌≡◌, ◌⊎◌, ◌≤◌, length, OnOk, IfErr, IsErrOf};
+ghost use Rattle.swim_pack.specs.Composing.{UnlessFailed};
+ghost use Rattle.swim_pack.specs.Ends.{Takes, Lacks, Skips, Rises};
+ghost use Rattle.swim_wire.specs.Reading.{wire_cause};
+
+use crate::WireFault;
+use swim_pack::Inlet;
+
+/// Reads exactly `len` bytes and drops them, in pieces of at most 4,096 bytes. It takes no memory
+/// (own).
+///
+/// # Errors
+///
+/// `Ended` where fewer bytes are left, and `Fault` where the inlet failed.
+pub fn skip_user<I: Inlet>(inlet: &mut I, len: u32) -> Result<(), WireFault>
+    ensures takes { OnOk result (Takes (I.seen inlet.old) (I.seen inlet.new) (λ b. length b ≡ len)) }
+    // Refused for another cause than the inlet's failing, fewer bytes stand at the front.
+    ensures lacks { IfErr result (λ fault. UnlessFailed (wire_cause fault) (Lacks (I.seen inlet.old) (λ b. length b ≡ len))) }
+
+    // Which refusals there are, and what is left.
+    ensures refusals { IfErr result (λ fault. (fault ≡ WireFault.Ended) ⊎ (fault ≡ WireFault.Fault)) }
+    ensures no_memory { ¬ IsErrOf result WireFault.Memory }
+    ensures fault { IsErrOf result WireFault.Fault → Rises (I.seen inlet.old).faults (I.seen inlet.new).faults }
+    ensures rest { Skips (I.seen inlet.old).coming (I.seen inlet.new).coming }
+    ensures faults_stay { (I.seen inlet.old).faults ≤ (I.seen inlet.new).faults }
+{
+    let mut piece = [0; 4096];
+    let mut left = len as usize;
+    while left > 0 {
+        let size = left.min(piece.len());
+        inlet.pull(&mut piece[..size])?;
+        left -= size;
+    }
+    Ok(())
+}
