@@ -8,13 +8,14 @@ use crate::report::{Place, Report, What};
 use hex::FromHexError;
 use std::alloc::{AllocError, Global};
 use swim_table::{Table, list};
-use swim_wire::decode_packet;
+use swim_wire::decode_datagram;
 
-/// The listing of the table of the packets, which are given in hexadecimal, one a line.
+/// The listing of the table of the datagrams, packets and compound packets, which are given in
+/// hexadecimal, one a line.
 ///
 /// A line ends with a line feed, which the last may lack; one carriage return at its end is dropped,
 /// and an empty line is skipped. The first line that is refused is reported by its number from 1,
-/// with the fault of its packet or as no hexadecimal (BadHex). An input of more than 268,435,456
+/// with the fault of its datagram or as no hexadecimal (BadHex). An input of more than 268,435,456
 /// bytes is refused as a whole (InputTooLong).
 pub fn packets(alloc: Global, input: &[u8]) -> Result<Vec<u8>, Report>
     ensures { IfErr result (λ report. IsAmong report.place 0) }
@@ -34,18 +35,19 @@ pub fn packets(alloc: Global, input: &[u8]) -> Result<Vec<u8>, Report>
     }
 }
 
-/// Takes in the claim of the packet on a line, if the line is not empty.
+/// Takes in the claims of the datagram on a line, if the line is not empty.
 fn take_line(alloc: Global, table: &mut Table, line: &[u8]) -> Result<(), What> {
     let text = line.strip_suffix(b"\r").unwrap_or(line);
     if text.is_empty() {
         return Ok(());
     }
     let bytes = hex::decode(alloc, text).map_err(not_hexadecimal)?;
-    let packet = decode_packet(alloc, &bytes)?;
-    match table.take(packet.into_claim()) {
-        Ok(_) => Ok(()),
-        Err((_, error)) => Err(What::from(error)),
+    for packet in decode_datagram(alloc, &bytes)? {
+        if let Err((_, error)) = table.take(packet.into_claim()) {
+            return Err(What::from(error));
+        }
     }
+    Ok(())
 }
 
 fn not_hexadecimal(error: FromHexError) -> What {

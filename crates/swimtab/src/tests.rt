@@ -16,7 +16,7 @@ use std::test::Fail;
 use swim_wire::WireFault;
 
 /// What holds, the lines of an input, and its listing.
-const LISTINGS: [(&str, &str, &str); 9] = [
+const LISTINGS: [(&str, &str, &str); 13] = [
     (
         "an alive packet",
         "0486a441646472a47f000001ab496e6361726e6174696f6e00a44d657461a0a44e6f6465a161a4506f7274cd1f0aa356736ea0",
@@ -58,6 +58,18 @@ const LISTINGS: [(&str, &str, &str); 9] = [
         "0583a446726f6da161ab496e6361726e6174696f6e02a44e6f6465a161\n0583a446726f6da178ab496e6361726e6174696f6e02a44e6f6465a161\n0583a446726f6da178ab496e6361726e6174696f6e03a44e6f6465a161\n0583a446726f6da161ab496e6361726e6174696f6e03a44e6f6465a161",
         "a leave 3 -\n",
     ),
+    (
+        "a compound packet of two",
+        "07020033001d0486a441646472a47f000001ab496e6361726e6174696f6e00a44d657461a0a44e6f6465a161a4506f7274cd1f0aa356736ea00383a446726f6da178ab496e6361726e6174696f6e01a44e6f6465a162",
+        "a alive 0 0/7f000001/7946//\nb suspect 1 -\n",
+    ),
+    (
+        "a part of another type is passed over",
+        "07020001001d000383a446726f6da178ab496e6361726e6174696f6e01a44e6f6465a162",
+        "b suspect 1 -\n",
+    ),
+    ("a compound packet of no parts", "0700", ""),
+    ("a compound packet of an empty part", "07010000", ""),
 ];
 
 /// What holds, two packets, and their listing, in both orders of arrival.
@@ -114,7 +126,14 @@ const THREE: [&str; 3] = [
 ];
 
 /// A line that is refused, and its fault.
-const REFUSED: [(&str, &str); 39] = [
+const REFUSED: [(&str, &str); 35] = [
+    ("07", "1 Ended"),
+    ("0701", "1 Ended"),
+    ("070000", "22 Trailing"),
+    (
+        "0702003300010486a441646472a47f000001ab496e6361726e6174696f6e00a44d657461a0a44e6f6465a161a4506f7274cd1f0aa356736ea004",
+        "1 Ended",
+    ),
     ("0383a44e6f6465a161a44e6f6465a162", "18 DuplicateKey"),
     ("0381a3466f6fa0", "17 UnknownKey"),
     (
@@ -158,23 +177,6 @@ const REFUSED: [(&str, &str); 39] = [
     ("-", "30 BadHex"),
     (" ", "30 BadHex"),
     ("09\r\r", "30 BadHex"),
-    ("07", "16 WrongType 7"),
-    (
-        "07020033001d0486a441646472a47f000001ab496e6361726e6174696f6e00a44d657461a0a44e6f6465a161a4506f7274cd1f0aa356736ea00383a446726f6da178ab496e6361726e6174696f6e01a44e6f6465a162",
-        "16 WrongType 7",
-    ),
-    (
-        "07020001001d000383a446726f6da178ab496e6361726e6174696f6e01a44e6f6465a162",
-        "16 WrongType 7",
-    ),
-    (
-        "0702003300010486a441646472a47f000001ab496e6361726e6174696f6e00a44d657461a0a44e6f6465a161a4506f7274cd1f0aa356736ea004",
-        "16 WrongType 7",
-    ),
-    ("0700", "16 WrongType 7"),
-    ("07010000", "16 WrongType 7"),
-    ("0701", "16 WrongType 7"),
-    ("070000", "16 WrongType 7"),
 ];
 
 /// The listing of an input that is not refused.
