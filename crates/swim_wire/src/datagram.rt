@@ -7,8 +7,8 @@ ghost use Rattle.swim_wire.specs.Reading.{nothing_after, whole_packet};
 ghost use Rattle.swim_wire.specs.Texts.{DatagramText};
 ghost use Rattle.swim_wire.specs.Parts.{lengths_in, ListsUnlessMemory, GrowsBy};
 
-use crate::packet::{Packet, decode_whole};
 use crate::WireFault;
+use crate::packet::{Packet, decode_whole};
 use std::alloc::{AllocError, Global};
 
 /// The first byte of a compound packet, as in memberlist's `net.go`.
