@@ -1,5 +1,5 @@
 -- The parts of a compound packet, read one after the other.
-use Rattle.std.proofs.Common.{◌≡◌, ◌⊎◌, inl, inr, eqb, ℕ, zero, suc, ◌+◌, ◌*◌, ◌<◌, ◌≤◌, List, [], ◌∷◌, ◌++◌, length, take, drop, Result, Ok, Err, refl, sym, ap, subst, ◌∙◌, arith, ltb, true, false, length-take, take-append-drop}
+use Rattle.std.proofs.Common.{◌≡◌, ◌⊎◌, inl, inr, eqb, ℕ, zero, suc, ◌*◌, ◌<◌, ◌≤◌, List, [], ◌∷◌, ◌++◌, length, take, drop, Result, Ok, Err, refl, sym, ap, ◌∙◌, arith, ltb, true, false, length-take, take-append-drop}
 use Rattle.std.specs.Prelude.{⊤}
 use Rattle.std.proofs.lemmas.Bool.{lt-ltb, le-ltb}
 use Rattle.std.specs.Int.{w16, from_be_bytes}
@@ -11,7 +11,7 @@ use Rattle.swim_wire.specs.Datagrams.{length_at, lengths_at, alone, packets_of, 
 use Rattle.swim_wire.specs.Fault.{fault_of_pack}
 use Rattle.swim_wire.specs.Packet.{PacketValue}
 use Rattle.swim_wire.specs.Parts.{lengths_in, GrowsBy}
-use Rattle.swim_wire.specs.Reading.{checked, nothing_after, packet_at, whole_packet}
+use Rattle.swim_wire.specs.Reading.{nothing_after, packet_at, whole_packet}
 use Rattle.swim_wire.proofs.Readings.{read, refused}
 use Rattle.swim_wire.proofs.Checking.{failed}
 use Rattle.swim_wire.proofs.DatagramTexts.{bytes_again, packet_list}

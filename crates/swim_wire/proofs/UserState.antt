@@ -1,5 +1,5 @@
 -- User state that is dropped piece by piece.
-use Rattle.std.proofs.Common.{◌≡◌, ℕ, ◌+◌, ◌<◌, ◌≤◌, List, ◌++◌, length, Option, Some, None, refl, sym, ap, ◌∙◌, length-append, arith}
+use Rattle.std.proofs.Common.{◌≡◌, ℕ, ◌+◌, ◌≤◌, List, length, Option, Some, None, refl, ap, ◌∙◌, length-append, arith}
 use Rattle.std.specs.Io.KnownBytes.{Consumes}
 use Rattle.swim_pack.specs.declared.fault.PullFault.{PullFault}
 use Rattle.swim_pack.specs.declared.fault.PullFault.TheVariants as pulls

@@ -1,5 +1,5 @@
 -- A datagram that is read as a whole, or the refusal.
-use Rattle.std.proofs.Common.{◌≡◌, ◌≢◌, ◌⊎◌, inl, inr, List, ℕ, Result, Ok, Err, IfOk, IfErr, refl}
+use Rattle.std.proofs.Common.{◌≢◌, inl, inr, List, ℕ, Result, Ok, Err, IfOk, IfErr}
 use Rattle.swim_claim.specs.Bytes.{AreBytes}
 use Rattle.swim_wire.specs.declared.fault.WireFault.{WireFault}
 use Rattle.swim_wire.specs.declared.fault.WireFault.TheVariants.{Memory}

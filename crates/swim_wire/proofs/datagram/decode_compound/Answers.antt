@@ -1,4 +1,4 @@
-use Rattle.std.proofs.Common.{◌≡◌, ◌<◌, ◌≤◌, ◌*◌, ℕ, length, inl, rules}
+use Rattle.std.proofs.Common.{◌≡◌, ◌<◌, ◌*◌, length, inl, rules}
 use Rattle.swim_wire.proofs.Parts.{compound_none, lengths_cut, compound_parts}
 use Rattle.swim_wire.proofs.datagram.decode_compound.Goals as goal
 

@@ -1,4 +1,4 @@
-use Rattle.std.proofs.Common.{ℕ, ◌<◌, get_or, length, arith, rules}
+use Rattle.std.proofs.Common.{◌<◌, arith}
 use Rattle.std.proofs.lemmas.List.Elements.{All-from_get_or}
 use Rattle.swim_claim.specs.Bytes.{AreBytes}
 use Rattle.swim_wire.proofs.WholeDatagrams.{datagram_reads, datagram_refuses, datagram_explains}

@@ -1,4 +1,4 @@
-use Rattle.std.proofs.Common.{◌≡◌, ℕ, eqb, false, length, rules}
+use Rattle.std.proofs.Common.{◌≡◌, eqb, false, length, rules}
 use Rattle.swim_wire.proofs.Parts.{no_bytes, no_compound}
 use Rattle.swim_wire.proofs.datagram.decode_either.Goals.{in_default-via-in-Some+else-first-eq-COMPOUND_MESSAGE, in_default-via-in_default}
 use Rattle.swim_wire.proofs.datagram.decode_either.Goals as goal
