@@ -1,10 +1,10 @@
 -- Why bytes are no datagram.
-use Rattle.std.proofs.Common.{◌≡◌, ◌≢◌, ◌⊎◌, inl, inr, ⊎_elim, ℕ, zero, suc, ◌<◌, Bool, true, false, cond, eqb, List, [], ◌∷◌, ◌++◌, length, map, flat_map, Result, Ok, Err, refl, sym, ap, subst, ◌∙◌, append_assoc, eqb-true, arith}
+use Rattle.std.proofs.Common.{◌≡◌, ◌⊎◌, inl, inr, ⊎_elim, ℕ, zero, suc, false, eqb, List, [], ◌∷◌, ◌++◌, length, map, flat_map, Result, Ok, Err, refl, sym, ap, subst, ◌∙◌, eqb-true, arith}
 use Rattle.std.proofs.lemmas.Bool.Decides.{nat_tests}
 use Rattle.std.specs.Int.{w16, to_be_bytes, from_be_bytes}
 use Rattle.swim_claim.specs.Bytes.{AreBytes}
-use Rattle.swim_pack.specs.Composing.{then_read, ◌>>=◌, gives, lift}
-use Rattle.swim_pack.specs.Reading.{next_byte, next_bytes}
+use Rattle.swim_pack.specs.Composing.{◌>>=◌, gives, lift}
+use Rattle.swim_pack.specs.Reading.{next_bytes}
 use Rattle.swim_wire.specs.declared.fault.WireFault.{WireFault}
 use Rattle.swim_wire.specs.declared.fault.WireFault.TheVariants.{Ended, NameEmpty, BadAddress, BadVersions, WrongType, BadState, TooManyNodes, UserTooLong, Trailing}
 use Rattle.swim_wire.specs.Checks.{ExplainsWhole}
@@ -14,7 +14,7 @@ use Rattle.swim_wire.specs.Packet.{PacketValue}
 use Rattle.swim_wire.specs.Reading.{checked, nothing_after, whole_packet}
 use Rattle.swim_wire.specs.Texts.{IsPacketPart, PartTexts, compound_bytes}
 use Rattle.swim_wire.specs.Texts.DatagramText.{packet, compound}
-use Rattle.swim_wire.proofs.Readings.{read, refused, then_err, parts_joined}
+use Rattle.swim_wire.proofs.Readings.{refused, then_err, parts_joined}
 use Rattle.swim_wire.proofs.MapFaults.{IsMapFault, pack_fault, lift_fault}
 use Rattle.swim_wire.proofs.Checking.{failed, split, checked_ok, checked_err}
 use Rattle.swim_wire.proofs.PacketTexts.{whole_refusal}

@@ -1,15 +1,14 @@
 -- A datagram that is read is a text of its packets, and each text is read.
-use Rattle.std.proofs.Common.{◌≡◌, ◌≢◌, ◌⊎◌, inl, inr, ⊎_elim, ℕ, zero, suc, ◌+◌, ◌^◌, ◌<◌, ◌≤◌, Bool, true, false, cond, ◌||◌, eqb, ltb, List, [], ◌∷◌, ◌++◌, length, map, get_or, take, drop, All, flat_map, Result, Ok, Err, refl, sym, ap, subst, ◌∙◌, append_assoc, append-nil, length-append, length-take, take-append-drop, take_at, drop_at, ltb-true, ltb-false, le-ltb, eqb-true, eq-eqb, arith}
+use Rattle.std.proofs.Common.{◌≡◌, ◌⊎◌, inl, inr, ⊎_elim, ℕ, zero, suc, ◌^◌, ◌<◌, ◌≤◌, Bool, true, false, cond, eqb, ltb, List, [], ◌∷◌, ◌++◌, length, map, get_or, take, drop, All, flat_map, Result, Ok, Err, refl, sym, ap, subst, ◌∙◌, append_assoc, append-nil, length-take, take-append-drop, ltb-false, eqb-true, arith}
 use Rattle.std.proofs.lemmas.Bool.{cases_Bool}
 use Rattle.std.proofs.lemmas.Bool.Decides.{nat_tests}
 use Rattle.std.proofs.lemmas.List.Elements.{All-cons, All-nil}
 use Rattle.std.proofs.lemmas.Nat.{be_bytes_2, from_be_bytes-to_be_bytes_2}
 use Rattle.std.specs.Int.{w16, to_be_bytes, from_be_bytes}
 use Rattle.swim_claim.specs.Bytes.{AreBytes}
-use Rattle.swim_pack.specs.declared.fault.PackFault.{PackFault}
 use Rattle.swim_pack.specs.declared.fault.PackFault.TheVariants as packs
 use Rattle.swim_pack.specs.Composing.{then_read, ◌>>=◌, gives, lift, lift_error}
-use Rattle.swim_pack.specs.Reading.{next_byte, next_bytes}
+use Rattle.swim_pack.specs.Reading.{next_bytes}
 use Rattle.swim_pack.proofs.Numbers.{next_bytes_again}
 use Rattle.swim_wire.specs.declared.fault.WireFault.{WireFault}
 use Rattle.swim_wire.specs.Datagrams.{length_at, lengths_at, alone, is_packet_type, packets_of, parts_at, compound_at, whole_datagram}
@@ -19,7 +18,7 @@ use Rattle.swim_wire.specs.Reading.{checked, nothing_after, whole_packet}
 use Rattle.swim_wire.specs.Texts.{PacketText, IsPacketPart, PartTexts, compound_bytes, DatagramText}
 use Rattle.swim_wire.specs.Texts.PacketText.{alive, suspect, leave, confirm}
 use Rattle.swim_wire.specs.Texts.DatagramText.{packet, compound}
-use Rattle.swim_wire.proofs.Readings.{read, refused, read_value, read_rest, then_ok, lift_ok, parts_to, parts_joined}
+use Rattle.swim_wire.proofs.Readings.{read, read_value, read_rest, then_ok, parts_to, parts_joined}
 use Rattle.swim_wire.proofs.Checking.{passed, failed, split, checked_ok}
 use Rattle.swim_wire.proofs.PacketTexts.{whole_takes, whole_again}
 

@@ -1,5 +1,5 @@
 -- Values that fit their keys.
-use Rattle.std.proofs.Common.{◌≡◌, ℕ, zero, suc, ◌<◌, ◌≤◌, List, [], ◌∷◌, length, Option, Some, None, slice_index_or, slice_set, arith}
+use Rattle.std.proofs.Common.{ℕ, zero, suc, ◌<◌, ◌≤◌, List, [], ◌∷◌, length, Option, Some, None, slice_index_or, slice_set, arith}
 use Rattle.swim_wire.specs.declared.layout.Field.{Field}
 use Rattle.swim_wire.specs.declared.map.Value.{Value}
 use Rattle.swim_wire.specs.Slots.{Fits, FitsEach, CanRead, CanReadEach}

@@ -1,5 +1,5 @@
 -- Reads of the layer below.
-use Rattle.std.proofs.Common.{◌≡◌, Result, Ok, Err, refl}
+use Rattle.std.proofs.Common.{◌≡◌, Ok, Err, refl}
 use Rattle.swim_pack.specs.Ends.{Source}
 use Rattle.swim_pack.specs.Composing.{ReadsAs, lift}
 use Rattle.swim_pack.specs.Composing as composing

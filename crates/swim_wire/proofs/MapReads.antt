@@ -1,5 +1,5 @@
 -- A map that is read: its count, and then its pairs, one after the other.
-use Rattle.std.proofs.Common.{◌≡◌, ℕ, zero, suc, ◌-◌, ◌<◌, List, Option, Result, Ok, Err, refl, subst, arith}
+use Rattle.std.proofs.Common.{◌≡◌, ℕ, zero, suc, ◌-◌, ◌<◌, List, Option, Result, Ok, Err, subst, arith}
 use Rattle.swim_pack.specs.Ends.{Source}
 use Rattle.swim_pack.specs.Composing.{ReadsAs, same, lift, ◌>>=◌}
 use Rattle.swim_pack.specs.Composing as composing

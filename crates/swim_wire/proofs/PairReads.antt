@@ -1,5 +1,5 @@
 -- A pair of a map that is read: a key, and its value at its place.
-use Rattle.std.proofs.Common.{◌≡◌, ℕ, zero, suc, ◌<◌, ◌≤◌, Bool, true, false, List, [], ◌∷◌, length, map, Option, Some, None, is_some, Result, Ok, Err, refl, ap, sym, ◌∙◌, slice_index_or, slice_set, arith}
+use Rattle.std.proofs.Common.{◌≡◌, ℕ, zero, suc, ◌<◌, true, false, List, [], ◌∷◌, length, Option, Some, None, is_some, Result, Ok, Err, refl, ap, ◌∙◌, slice_index_or, slice_set, arith}
 use Rattle.std.specs.Option.{option_map}
 use Rattle.std.proofs.lemmas.List.{get_or-map, map-set}
 use Rattle.swim_pack.specs.Ends.{Source}
@@ -11,7 +11,6 @@ use Rattle.swim_wire.specs.declared.layout.Field.{Field}
 use Rattle.swim_wire.specs.declared.layout.Limit.{Limit}
 use Rattle.swim_wire.specs.declared.layout.Limit.TheVariants as limits
 use Rattle.swim_wire.specs.declared.map.Value.{Value}
-use Rattle.swim_wire.specs.Layout.{Spelled}
 use Rattle.swim_wire.specs.Reading.{wire_cause, Slots, slot, limit_at, if_vacant, value_at, key_at, pair_at}
 use Rattle.swim_wire.specs.Slots.{FitsEach, key_text, spelled, slots_of, layout_of}
 

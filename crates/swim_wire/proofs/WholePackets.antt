@@ -1,5 +1,5 @@
 -- A packet that is read as a whole, or the refusal.
-use Rattle.std.proofs.Common.{◌≡◌, ◌≢◌, ◌⊎◌, inl, inr, List, ℕ, Result, Ok, Err, IfOk, IfErr, refl, sym}
+use Rattle.std.proofs.Common.{◌≡◌, ◌≢◌, inl, inr, List, ℕ, Result, Ok, Err, IfOk, IfErr, refl, sym}
 use Rattle.swim_wire.specs.declared.fault.WireFault.{WireFault}
 use Rattle.swim_wire.specs.declared.fault.WireFault.TheVariants.{Memory}
 use Rattle.swim_wire.specs.Checks.{ExplainsWhole}

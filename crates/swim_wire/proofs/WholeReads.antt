@@ -1,21 +1,21 @@
 -- The checks of a message as a whole, as names and details make them.
-use Rattle.std.proofs.Common.{◌≡◌, ◌≢◌, ℕ, ◌<◌, ◌≤◌, ◌↔◌, ◌⊎◌, inl, inr, Bool, true, false, List, [], ◌∷◌, length, Option, Result, Ok, Err, refl, ap, sym, ◌∙◌, subst, arith}
+use Rattle.std.proofs.Common.{◌≡◌, ◌≢◌, ℕ, ◌<◌, ◌≤◌, ◌↔◌, ◌⊎◌, inl, inr, Bool, false, List, [], length, Option, Result, Ok, Err, refl, ap, sym, ◌∙◌, arith}
 use Rattle.std.proofs.Common.{nat_lt}
 use Rattle.std.proofs.lemmas.Bool.Decides.{nat_tests}
 use Rattle.swim_claim.specs.declared.fault.ClaimFault.{ClaimFault}
 use Rattle.swim_claim.specs.declared.fault.ClaimFault.TheVariants as claims
 use Rattle.swim_claim.specs.Details.{DetailsValue, IsAddress, IsVersions}
 use Rattle.swim_pack.specs.Ends.{Source}
-use Rattle.swim_pack.specs.Composing.{ReadsAs, same, gives, refuses, ◌>>=◌}
+use Rattle.swim_pack.specs.Composing.{ReadsAs, same, ◌>>=◌}
 use Rattle.swim_pack.specs.Composing.Cause.{by_bytes}
-use Rattle.swim_pack.proofs.Composing.{Reads-then, Reads-exit, Reads-gives, Reads-refuses}
+use Rattle.swim_pack.proofs.Composing.{Reads-then, Reads-gives, Reads-refuses}
 use Rattle.swim_wire.specs.declared.fault.WireFault.{WireFault}
 use Rattle.swim_wire.specs.declared.fault.WireFault.TheVariants.{NameEmpty, BadAddress, BadVersions, TooManyNodes, UserTooLong}
 use Rattle.swim_wire.specs.declared.map.Value.{Value}
 use Rattle.swim_wire.specs.Fault.{fault_of_claim}
 use Rattle.swim_wire.specs.Reading.{Reading, Slots, wire_cause, checked, with_name, with_details, number_in, flag_in, header_of}
 use Rattle.swim_wire.specs.Slots.{slots_of}
-use Rattle.swim_wire.proofs.Checking.{with_name_again, with_details_ok, with_details_err}
+use Rattle.swim_wire.proofs.Checking.{with_details_ok, with_details_err}
 
 -- a map, and then a check that passes
 pub Reads-passed : {A : Type 0} {a b : Source} {values : List (Option Value)} (reading : Reading Slots) (f : Slots → Result A WireFault) (x : A)

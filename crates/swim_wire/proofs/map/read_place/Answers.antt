@@ -1,7 +1,6 @@
-use Rattle.std.proofs.Common.{sym, ◌∙◌, refl, ap}
+use Rattle.std.proofs.Common.{sym, ◌∙◌, refl}
 use Rattle.std.proofs.lemmas.Result.{err_from_is_err_and}
-use Rattle.swim_pack.specs.Composing.{ReadsAs, same, some_or}
-use Rattle.swim_wire.specs.Reading.{wire_cause, key_at}
+use Rattle.swim_wire.specs.Reading.{key_at}
 use Rattle.swim_wire.specs.declared.fault.WireFault.TheVariants.{UnknownKey}
 use Rattle.swim_pack.proofs.Composing.{Reads-then, Reads-exit, Reads-ok_or}
 use Rattle.swim_wire.proofs.Places.{place_of-layout}
