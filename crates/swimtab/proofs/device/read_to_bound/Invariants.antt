@@ -1,4 +1,4 @@
-use Rattle.std.proofs.Common.{ℕ, ◌+◌, ◌-◌, ◌≤◌, vec_len}
+use Rattle.std.proofs.Common.{◌+◌, ◌-◌, ◌≤◌, vec_len}
 use Rattle.swimtab.proofs.device.read_to_bound.Given as goal
 
 abbrev pub invariant-loop-piece : goal.invariant-loop-piece
