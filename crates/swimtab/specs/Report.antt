@@ -1,7 +1,9 @@
--- Where a run was refused.
+-- Where a run was refused, and the exit status.
 use Rattle.std.specs.Prelude.{ℕ, ◌<◌}
 use Rattle.swimtab.specs.declared.report.Place.{Place}
 use Rattle.swimtab.specs.declared.report.Place.TheVariants.{Line, File, Input, Output, Loop}
+use Rattle.swimtab.specs.declared.report.What.{What}
+use Rattle.swimtab.specs.declared.report.What.TheVariants.{Refused, Device, Memory}
 
 -- a file is one of so many
 abbrev pub IsAmong : Place → ℕ → Type 0
@@ -10,3 +12,9 @@ IsAmong (File file) files = file < files
 IsAmong Input files = Unit {0}
 IsAmong Output files = Unit {0}
 IsAmong Loop files = Unit {0}
+
+-- the exit status
+abbrev pub status_of : What → ℕ
+status_of (Refused number found) = 3
+status_of Device = 4
+status_of Memory = 5

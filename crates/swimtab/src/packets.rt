@@ -1,12 +1,18 @@
 //! A table from packets, and its listing.
 
-ghost use Rattle.std.specs.Prelude.{IfErr};
+ghost use Rattle.std.specs.Prelude.{◌≡◌, ◌≢◌, ◌↔◌, ◌<◌, ◌≤◌, ◌++◌, List, length, IfOk, IfErr, OnOk};
+ghost use Rattle.std.specs.Str.Lines.{strip_carriage_return};
+ghost use Rattle.swim_claim.specs.declared.claim.Claim.{Claim};
+ghost use Rattle.swim_table.specs.Listing.{listing};
+ghost use Rattle.swim_table.specs.Table.{Entries, TableOf};
+ghost use Rattle.swimtab.specs.Lines.{TextClaims, LineClaims, PacketLines};
 ghost use Rattle.swimtab.specs.Report.{IsAmong};
 
 use crate::device::BOUND;
 use crate::report::{Place, Report, What};
 use hex::FromHexError;
 use std::alloc::{AllocError, Global};
+use swim_claim::Claim;
 use swim_table::{Table, list};
 use swim_wire::decode_datagram;
 
@@ -18,7 +24,13 @@ use swim_wire::decode_datagram;
 /// with the fault of its datagram or as no hexadecimal (BadHex). An input of more than 268,435,456
 /// bytes is refused as a whole (InputTooLong).
 pub fn packets(alloc: Global, input: &[u8]) -> Result<Vec<u8>, Report>
-    ensures { IfErr result (λ report. IsAmong report.place 0) }
+    // The text is the listing of the table of the claims that the lines make.
+    ensures lists { IfOk result (λ text. (claims : List Claim) × (table : Entries) × PacketLines input.now claims × TableOf table claims × (text.items ≡ listing table)) }
+
+    // Refused for another cause than memory and its length, the lines make no claims.
+    ensures refuses { IfErr result (λ report. report.what ≢ What.Memory → length input.now ≤ 268435456 → (claims : List Claim) → ¬ PacketLines input.now claims) }
+    ensures long { (268435456 < length input.now) ↔ (result ≡ Err (record { place = Place.Input; what = What.Refused 32 None })) }
+    ensures place { IfErr result (λ report. IsAmong report.place 0) }
 {
     if input.len() > BOUND {
         return Err(What::input_too_long().at(Place::Input));
@@ -36,21 +48,55 @@ pub fn packets(alloc: Global, input: &[u8]) -> Result<Vec<u8>, Report>
 }
 
 /// Takes in the claims of the datagram on a line, if the line is not empty.
-fn take_line(alloc: Global, table: &mut Table, line: &[u8]) -> Result<(), What> {
-    let text = line.strip_suffix(b"\r").unwrap_or(line);
+fn take_line(alloc: Global, table: &mut Table, line: &[u8]) -> Result<(), What>
+    ensures takes { OnOk result ((claims : List Claim) × LineClaims line.now claims
+        × ((taken : List Claim) → TableOf table.old taken → TableOf table.new (taken ++ claims))) }
+    ensures refuses { IfErr result (λ what. what ≢ What.Memory → (claims : List Claim) → ¬ LineClaims line.now claims) }
+{
+    take_text(alloc, table, without_return(line))
+}
+
+/// A line less the one carriage return at its end, if it has one.
+fn without_return(line: &[u8]) -> &[u8]
+    ensures { result.now ≡ strip_carriage_return line.now }
+{
+    match line.split_last() {
+        Some((b'\r', text)) => text,
+        _ => line,
+    }
+}
+
+fn take_text(alloc: Global, table: &mut Table, text: &[u8]) -> Result<(), What>
+    ensures takes { OnOk result ((claims : List Claim) × TextClaims text.now claims
+        × ((taken : List Claim) → TableOf table.old taken → TableOf table.new (taken ++ claims))) }
+    ensures refuses { IfErr result (λ what. what ≢ What.Memory → (claims : List Claim) → ¬ TextClaims text.now claims) }
+{
     if text.is_empty() {
         return Ok(());
     }
-    let bytes = hex::decode(alloc, text).map_err(not_hexadecimal)?;
-    for packet in decode_datagram(alloc, &bytes)? {
-        if let Err((_, error)) = table.take(packet.into_claim()) {
-            return Err(What::from(error));
-        }
-    }
+    let claims = read_claims(alloc, text)?;
+    table.take_all(claims)?;
     Ok(())
 }
 
-fn not_hexadecimal(error: FromHexError) -> What {
+/// The claims of the datagram that a text is in hexadecimal.
+fn read_claims(alloc: Global, text: &[u8]) -> Result<Vec<Claim>, What>
+    requires { 0 < length text.now }
+    ensures reads { IfOk result (λ claims. TextClaims text.now claims.items) }
+    ensures refuses { IfErr result (λ what. what ≢ What.Memory → (claims : List Claim) → ¬ TextClaims text.now claims) }
+{
+    let bytes = hex::decode(alloc, text).map_err(not_hexadecimal)?;
+    let packets = decode_datagram(alloc, &bytes)?;
+    let claims = packets
+        .into_iter()
+        .map(|packet| packet.into_claim())
+        .collect(alloc)?;
+    Ok(claims)
+}
+
+fn not_hexadecimal(error: FromHexError) -> What
+    ensures { result ≢ What.Memory → error ≢ FromHexError.OutOfMemory }
+{
     match error {
         FromHexError::OutOfMemory => What::Memory,
         _ => What::bad_hex(),

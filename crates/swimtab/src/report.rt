@@ -1,7 +1,9 @@
 //! What is said of a run that was refused, and its exit status.
 
-ghost use Rattle.std.specs.Prelude.{◌≡◌, length};
-ghost use Rattle.swimtab.specs.Report.{IsAmong};
+ghost use Rattle.std.specs.Prelude.{◌≡◌, ◌≢◌, None, length};
+ghost use Rattle.swim_wire.specs.declared.fault.WireFault.TheVariants as wire;
+ghost use Rattle.swimtab.specs.declared.report.What.TheVariants.{Refused, Memory};
+ghost use Rattle.swimtab.specs.Report.{IsAmong, status_of};
 
 use std::alloc::{AllocError, Global};
 use swim_wire::WireFault;
@@ -41,16 +43,22 @@ pub struct Report {
 
 impl What {
     /// A line that is no hexadecimal.
-    pub(crate) fn bad_hex() -> What {
+    pub(crate) fn bad_hex() -> What
+        ensures { result ≡ Refused 30 None }
+    {
         What::refused(30)
     }
 
     /// An input that is longer than its bound.
-    pub(crate) fn input_too_long() -> What {
+    pub(crate) fn input_too_long() -> What
+        ensures { result ≡ Refused 32 None }
+    {
         What::refused(32)
     }
 
-    fn refused(number: u32) -> What {
+    fn refused(number: u32) -> What
+        ensures { result ≡ Refused number None }
+    {
         What::Refused {
             number,
             found: None,
@@ -66,12 +74,16 @@ impl What {
 }
 
 impl From<AllocError> for What {
+    ghost from_gives = { λ _ what. what ≡ Memory };
+
     fn from(_error: AllocError) -> What {
         What::Memory
     }
 }
 
 impl From<WireFault> for What {
+    ghost from_gives = { λ fault what. what ≢ Memory → fault ≢ wire.Memory };
+
     fn from(fault: WireFault) -> What {
         match fault {
             WireFault::Memory => What::Memory,
@@ -120,7 +132,9 @@ pub(crate) const OUT_OF_MEMORY: &str = "swimtab: out of memory";
 
 /// The exit status of a run that was refused: 3 where the input is wrong, 4 where a file, a socket
 /// or a standard stream failed, and 5 where there was no memory.
-pub fn status(report: &Report) -> u8 {
+pub fn status(report: &Report) -> u8
+    ensures { result ≡ status_of report.now.what }
+{
     match report.what {
         What::Refused { .. } => 3,
         What::Device => 4,

@@ -1,0 +1,56 @@
+-- The claims of the lines, one line after the other.
+use Rattle.std.proofs.Common.{◌≡◌, ℕ, ◌+◌, ◌<◌, List, [], ◌∷◌, ◌++◌, length, map, get_or, Ok, Bor, refl, sym, ap, subst, ◌∙◌, append_assoc, append-nil, zero, suc, drop, arith}
+use Rattle.std.specs.List.{enumerate_from}
+use Rattle.std.proofs.lemmas.List.FromFn.{length-enumerate_from, get_or-enumerate_from}
+use Rattle.hex.specs.Hex.{decode_of}
+use Rattle.swim_claim.specs.declared.claim.Claim.{Claim}
+use Rattle.swim_wire.specs.Packet.{PacketValue}
+use Rattle.swim_wire.specs.Texts.{DatagramText}
+use Rattle.swimtab.specs.Lines.{TextClaims, LineClaims, EachLine}
+
+-- the packets of the bytes of a text make its claims
+pub text_claims : (text bytes : List ℕ) (packets : List PacketValue) (claims : List Claim) → 0 < length text → decode_of text ≡ Ok bytes
+    → DatagramText bytes packets → claims ≡ map (λ p. p.claim) packets → TextClaims text claims
+text_claims [] bytes packets claims some e t k = absurd (omega arith)
+text_claims (digit ∷ digits) bytes packets claims some e t k = (bytes, packets, e, t, k)
+
+-- where the bytes of a text are no packets, it makes no claims
+pub no_text_claims : (text bytes : List ℕ) (claims : List Claim) → 0 < length text → decode_of text ≡ Ok bytes
+    → ((packets : List PacketValue) → ¬ DatagramText bytes packets) → ¬ TextClaims text claims
+no_text_claims [] bytes claims some e none t = absurd (omega arith)
+no_text_claims (digit ∷ digits) bytes claims some e none t =
+    let one : Ok t.0 ≡ Ok bytes = sym t.2 ∙ e in
+    let same : t.0 ≡ bytes = cc in
+    none t.1 (subst (λ b. DatagramText b t.1) same t.3)
+
+-- one more line
+pub EachLine-push : (lines : List (List ℕ)) (line : List ℕ) (claims own : List Claim) → EachLine lines claims → LineClaims line own → EachLine (lines ++ line ∷ []) (claims ++ own)
+EachLine-push [] line claims own each h = (own, [], h, refl, ap (λ t. t ++ own) each ∙ sym (append-nil own))
+EachLine-push (first ∷ lines) line claims own each h =
+    (each.0, each.1 ++ own, each.2, EachLine-push lines line each.1 own each.3 h, ap (λ t. t ++ own) each.4 ∙ append_assoc each.0 each.1 own)
+
+-- each line makes claims
+pub EachLine-at : (lines : List (List ℕ)) (n : ℕ) (d : List ℕ) (claims : List Claim) → n < length lines → EachLine lines claims → (own : List Claim) × LineClaims (get_or lines n d) own
+EachLine-at [] n d claims l each = absurd (omega arith)
+EachLine-at (line ∷ lines) zero d claims l each = (each.0, each.2)
+EachLine-at (line ∷ lines) (suc n) d claims l each = EachLine-at lines n d each.1 (omega arith) each.3
+
+-- the lines that a count goes with
+pub counted_lines : (xs : List (ℕ × Bor (List ℕ))) (n : ℕ) (lines : List (List ℕ)) → map (λ p. (p.0, p.1.now)) xs ≡ enumerate_from n lines → map (λ p. p.1.now) xs ≡ lines
+counted_lines [] n [] e = refl
+counted_lines [] n (line ∷ lines) e = absurd (omega (arith, ap length e))
+counted_lines (x ∷ xs) n [] e = absurd (omega (arith, ap length e))
+counted_lines (x ∷ xs) n (line ∷ lines) e =
+    let here = ap (λ l. get_or l 0 (n, line)) e in
+    let rest = counted_lines xs (n + 1) lines (ap (drop 1) e) in
+    ap (λ p. p.1 ∷ map (λ p. p.1.now) xs) here ∙ ap (λ t. line ∷ t) rest
+
+-- a line that makes no claims, by its place among the lines
+pub no_claims_at : (lines : List (List ℕ)) (n index : ℕ) (line : List ℕ) (claims : List Claim)
+    → (n < length (enumerate_from 0 lines)) × ((index, line) ≡ get_or (enumerate_from 0 lines) n (index, line))
+    → ((own : List Claim) → ¬ LineClaims line own) → ¬ EachLine lines claims
+no_claims_at lines n index line claims here none each =
+    let within : n < length lines = omega (arith, here.0, length-enumerate_from 0 lines) in
+    let same : line ≡ get_or lines n line = ap (λ p. p.1) (here.1 ∙ get_or-enumerate_from 0 lines n (index, line) within) in
+    let own = EachLine-at lines n line claims within each in
+    none own.0 (subst (λ l. LineClaims l own.0) (sym same) own.1)

@@ -1,0 +1,34 @@
+use Rattle.std.proofs.Common.{◌≡◌, ◌++◌, ◌∙◌, sym, ap, subst, eqb, rules, tests}
+use Rattle.std.proofs.lemmas.Iterator.Consumers.{YieldsList-at, YieldsList-from_enumerate, YieldsList-turn, YieldsList-end}
+use Rattle.std.proofs.lemmas.Iterator.Splits.{YieldsList-from_slice_split}
+use Rattle.std.proofs.lemmas.List.{map_push}
+use Rattle.swimtab.specs.Lines.{input_lines, EachLine}
+use Rattle.swimtab.proofs.LineByLine.{EachLine-push, counted_lines, no_claims_at}
+use Rattle.swimtab.proofs.packets.packets.Goals as goal
+
+pub returns-in-Err-clause-refuses : goal.returns-in-Err-clause-refuses
+returns-in-Err-clause-refuses c = λ seen within claims each.
+    let start : c.into_iter-index-iterator.result ≡ c.enumerate-index-items.result = search rules in
+    let here = YieldsList-turn (YieldsList-at start (YieldsList-from_enumerate (YieldsList-at c.enumerate-index-items.ensures.source (YieldsList-from_slice_split _ (λ b. eqb b 10) c.args.input.now c.split.ensures.rest c.split.ensures.done c.split.ensures.closure (λ x r q k. search (rules, tests)))) c.enumerate-index-items.ensures.count)) c.loop-index.yielded _ c.loop-index.yielded_by _ _ (c.in-Some.index, c.in-Some.line) c.in-Some.is c.next.ensures.steps in
+    no_claims_at (input_lines c.args.input.now) _ c.in-Some.index c.in-Some.line.now claims here
+    (c.in-Err.ensures.refuses (λ e. seen (ap (λ r. r.what) c.at-in-Err.ensures ∙ e))) each
+
+pub loop-index-preserved : goal.loop-index-preserved
+loop-index-preserved c =
+    let took = c.in_default.ensures.takes in
+    let before = c.loop-index.invariant in (
+      search rules,
+      search rules,
+      (
+        before.2.0 ++ took.0,
+        took.2 before.2.0 before.2.1,
+        subst (λ lines. EachLine lines (before.2.0 ++ took.0)) (sym (map_push (λ p. p.1.now) c.loop-index.yielded (c.in-Some.index, c.in-Some.line))) (EachLine-push _ c.in-Some.line.now before.2.0 took.0 before.2.2 took.1),
+      ),
+    )
+
+pub returns-in-Ok-clause-lists : goal.returns-in-Ok-clause-lists
+returns-in-Ok-clause-lists c =
+    let start : c.into_iter-index-iterator.result ≡ c.enumerate-index-items.result = search rules in
+    let all = YieldsList-end (YieldsList-at start (YieldsList-from_enumerate (YieldsList-at c.enumerate-index-items.ensures.source (YieldsList-from_slice_split _ (λ b. eqb b 10) c.args.input.now c.split.ensures.rest c.split.ensures.done c.split.ensures.closure (λ x r q k. search (rules, tests)))) c.enumerate-index-items.ensures.count)) c.loop-index.yielded _ c.loop-index.yielded_by _ _ c.in-None.is c.next.ensures.steps in
+    let before = c.loop-index.invariant in
+    (before.2.0, c.loop-index.table, subst (λ lines. EachLine lines before.2.0) (counted_lines c.loop-index.yielded 0 _ all.0) before.2.2, before.2.1, c.in-Ok.ensures)

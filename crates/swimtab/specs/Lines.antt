@@ -1,0 +1,33 @@
+-- The lines of an input, and the claims that they make.
+use Rattle.std.specs.Prelude.{◌≡◌, ℕ, List, [], ◌∷◌, ◌++◌, map, Ok, ◌==◌}
+use Rattle.std.specs.List.{slice_split}
+use Rattle.std.specs.Str.Lines.{strip_carriage_return}
+use Rattle.hex.specs.Hex.{decode_of}
+use Rattle.swim_claim.specs.declared.claim.Claim.{Claim}
+use Rattle.swim_wire.specs.Packet.{PacketValue}
+use Rattle.swim_wire.specs.Texts.{DatagramText}
+
+-- the lines between the line feeds
+abbrev pub input_lines : List ℕ → List (List ℕ)
+input_lines input = slice_split (λ b. b == 10) input
+
+-- a text that is not empty is the hexadecimal of a datagram whose packets make these claims; an empty one makes none
+abbrev pub TextClaims : List ℕ → List Claim → Type 0
+TextClaims [] claims = claims ≡ []
+TextClaims (digit ∷ digits) claims =
+    (bytes : List ℕ) × (packets : List PacketValue) × (decode_of (digit ∷ digits) ≡ Ok bytes)
+    × DatagramText bytes packets × (claims ≡ map (λ p. p.claim) packets)
+
+-- one carriage return at the end of a line is dropped
+abbrev pub LineClaims : List ℕ → List Claim → Type 0
+LineClaims line claims = TextClaims (strip_carriage_return line) claims
+
+-- the lines make these claims, one line after the other
+abbrev pub EachLine : List (List ℕ) → List Claim → Type 0
+EachLine [] claims = claims ≡ []
+EachLine (line ∷ lines) claims =
+    (own : List Claim) × (others : List Claim) × LineClaims line own × EachLine lines others × (claims ≡ own ++ others)
+
+-- the lines of the input make these claims
+abbrev pub PacketLines : List ℕ → List Claim → Type 0
+PacketLines input claims = EachLine (input_lines input) claims
