@@ -10,3 +10,4 @@ pub mod Checks
 pub mod Datagrams
 pub mod Pairs
 pub mod Parts
+pub mod Streams

@@ -7,6 +7,7 @@ ghost use Rattle.swim_wire.specs.Packet.{PacketValue};
 ghost use Rattle.swim_wire.specs.Texts.{PacketText, HeaderText, StateText, DatagramText};
 
 pub use crate::canonical_law::canonical;
+pub use crate::stream_law::one_stream;
 
 /// No message begins another of its kind, and each has one value: a packet, a header, a state record,
 /// and a datagram, whose value is the list of its packets.

@@ -11,6 +11,7 @@ mod map;
 mod message;
 mod packet;
 mod stream;
+mod stream_law;
 mod user_state;
 
 pub use canonical::{encode_compound, encode_packet, write_header, write_state};

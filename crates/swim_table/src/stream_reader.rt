@@ -1,0 +1,189 @@
+//! Push/pull streams, read record by record, as a whole, or as a dump.
+
+ghost use Rattle.std.specs.Prelude.{◌≡◌, ◌≢◌, ◌≤◌, ◌++◌, ◌×◌, ℕ, [], Bool, List, length, IfOk, IfErr, IsErrOf};
+ghost use Rattle.swim_claim.specs.declared.claim.Claim.{Claim};
+ghost use Rattle.swim_pack.specs.Ends.{Takes, Lacks, Skips, Rises};
+ghost use Rattle.swim_pack.specs.Composing.{UnlessFailed};
+ghost use Rattle.swim_wire.specs.declared.stream.Header.{Header};
+ghost use Rattle.swim_wire.specs.Reading.{wire_cause};
+ghost use Rattle.swim_wire.specs.Streams.{StreamText};
+ghost use Rattle.swim_wire.specs.Texts.{HeaderText};
+ghost use Rattle.swim_table.specs.Dump.{dump_bytes};
+ghost use Rattle.swim_table.specs.Steps.{Steps, IsWanted};
+ghost use Rattle.swim_table.specs.Table.{Entries, Reduced, TableOf, IsLegalTable};
+
+use crate::table::Table;
+use std::alloc::Global;
+use std::marker::Model;
+use swim_pack::{Inlet, SliceInlet};
+use swim_wire::{Header, WireFault, read_header, read_state, skip_user};
+
+/// A push/pull stream of which some records are read: its header, how many records are still to
+/// come, and the table of the claims read so far.
+#[derive(Drop, Debug)]
+pub struct StreamReader {
+    alloc: Global,
+    header: Header,
+    left: u32,
+    table: Table,
+}
+
+impl Model for StreamReader {
+    ghost use Rattle.swim_table.specs.Streaming.{Streaming};
+
+    ghost Value = { Streaming };
+
+    ghost view = { λ r. record { header = r.header; left = r.left; table = r.table } };
+}
+
+/// What one step of reading a stream comes to.
+#[derive(Drop, Debug)]
+pub enum Step {
+    /// One more record is read.
+    More(StreamReader),
+    /// The stream is read to its end: the table of its claims, and its join flag.
+    End(Table, bool),
+}
+
+impl StreamReader {
+    /// Reads the header of a stream. It takes no memory: the number of records that the header
+    /// promises sizes nothing.
+    ///
+    /// # Errors
+    ///
+    /// Those of [`read_header`], and what is left are bytes from the end of those before.
+    pub fn begin<I: Inlet>(alloc: Global, inlet: &mut I) -> Result<StreamReader, WireFault>
+        // The bytes taken are the header, and no claim is read yet.
+        ensures takes { IfOk result (λ reader. Takes (I.seen inlet.old) (I.seen inlet.new) (λ b. HeaderText b reader.header)) }
+        ensures fresh { IfOk result (λ reader. (reader.left ≡ reader.header.nodes) × (reader.table ≡ [])) }
+
+        // Refused for another cause than a failing end no header stands at the front.
+        ensures lacks { IfErr result (λ fault. UnlessFailed (wire_cause fault) (Lacks (I.seen inlet.old) (λ b. (header : Header) × HeaderText b header))) }
+        ensures no_memory { ¬ IsErrOf result WireFault.Memory }
+        ensures fault { IsErrOf result WireFault.Fault → Rises (I.seen inlet.old).faults (I.seen inlet.new).faults }
+        ensures rest { Skips (I.seen inlet.old).coming (I.seen inlet.new).coming }
+        ensures faults_stay { (I.seen inlet.old).faults ≤ (I.seen inlet.new).faults }
+    {
+        let header = read_header(inlet)?;
+        Ok(StreamReader {
+            alloc,
+            header,
+            left: header.nodes,
+            table: Table::new(alloc),
+        })
+    }
+
+    /// The header of the stream.
+    pub fn header(&self) -> &Header
+        ensures { result.now ≡ self.now.header }
+    {
+        &self.header
+    }
+
+    /// How many records are still to come.
+    pub fn left(&self) -> u32
+        ensures { result ≡ self.now.left }
+    {
+        self.left
+    }
+
+    /// The table of the claims read so far.
+    pub fn table(&self) -> &Table
+        ensures { result.now ≡ self.now.table }
+    {
+        &self.table
+    }
+
+    /// Reads the next record, or where none is to come reads the user state and drops it.
+    ///
+    /// # Errors
+    ///
+    /// Those of [`read_state`], those of [`skip_user`] at the end, and `Memory` where memory for the
+    /// entry of a new name is refused. The reader is dropped, and what is left are bytes from the
+    /// end of those before.
+    pub fn step<I: Inlet>(self, inlet: &mut I) -> Result<Step, WireFault>
+        // The bytes taken are a record, whose claim is in the table, or at the end the user state.
+        ensures takes { IfOk result (λ step. Steps self (I.seen inlet.old) (I.seen inlet.new) step) }
+
+        // Refused for another cause than a failing end or memory what was wanted does not stand at the front.
+        ensures lacks { IfErr result (λ fault. UnlessFailed (wire_cause fault) (Lacks (I.seen inlet.old) (IsWanted self))) }
+        ensures fault { IsErrOf result WireFault.Fault → Rises (I.seen inlet.old).faults (I.seen inlet.new).faults }
+        ensures rest { Skips (I.seen inlet.old).coming (I.seen inlet.new).coming }
+        ensures faults_stay { (I.seen inlet.old).faults ≤ (I.seen inlet.new).faults }
+    {
+        let StreamReader {
+            alloc,
+            header,
+            left,
+            mut table,
+        } = self;
+        if left == 0 {
+            skip_user(inlet, header.user_len)?;
+            return Ok(Step::End(table, header.join));
+        }
+        let claim = read_state(alloc, inlet)?;
+        match table.take(claim) {
+            Ok(_) => Ok(Step::More(StreamReader {
+                alloc,
+                header,
+                left: left - 1,
+                table,
+            })),
+            Err(_) => Err(WireFault::Memory),
+        }
+    }
+}
+
+/// Reads one push/pull stream (memberlist's `net.go`), takes each record in, and answers the table
+/// and the join flag. Bytes after it stay in the inlet.
+///
+/// # Errors
+///
+/// Those of [`StreamReader::begin`] and [`StreamReader::step`]. What is left are bytes from the end
+/// of those before.
+pub fn read_stream<I: Inlet>(alloc: Global, inlet: &mut I) -> Result<(Table, bool), WireFault>
+    // The bytes taken are one stream, and the table is that of its claims.
+    ensures takes { IfOk result (λ read. (claims : List Claim) × TableOf read.0 claims × Takes (I.seen inlet.old) (I.seen inlet.new) (λ b. StreamText b claims read.1)) }
+
+    // Refused for another cause than a failing end or memory no stream stands at the front.
+    ensures lacks { IfErr result (λ fault. UnlessFailed (wire_cause fault) (Lacks (I.seen inlet.old) (λ b. (claims : List Claim) × (join : Bool) × StreamText b claims join))) }
+    ensures fault { IsErrOf result WireFault.Fault → Rises (I.seen inlet.old).faults (I.seen inlet.new).faults }
+    ensures rest { Skips (I.seen inlet.old).coming (I.seen inlet.new).coming }
+    ensures faults_stay { (I.seen inlet.old).faults ≤ (I.seen inlet.new).faults }
+{
+    let mut reader = StreamReader::begin(alloc, inlet)?;
+    loop {
+        match reader.step(inlet)? {
+            Step::More(next) => reader = next,
+            Step::End(table, join) => return Ok((table, join)),
+        }
+    }
+}
+
+/// Reads a dump: one push/pull stream, and nothing after it. Answers the table of its claims and
+/// the join flag.
+///
+/// # Errors
+///
+/// Those of [`read_stream`], and `Trailing` where bytes follow the stream.
+pub fn read_dump(alloc: Global, bytes: &[u8]) -> Result<(Table, bool), WireFault>
+    // The bytes are one stream, and the table is that of its claims.
+    ensures reads { IfOk result (λ read. (claims : List Claim) × TableOf read.0 claims × StreamText bytes.now claims read.1) }
+
+    // Refused for another cause than memory they are none.
+    ensures refuses { IfErr result (λ fault. fault ≢ WireFault.Memory → (claims : List Claim) (join : Bool) → ¬ StreamText bytes.now claims join) }
+    ensures trailing { IsErrOf result WireFault.Trailing → (front rest : List ℕ) × (claims : List Claim) × (join : Bool) × StreamText front claims join × (rest ≢ []) × (bytes.now ≡ front ++ rest) }
+    ensures no_fault { ¬ IsErrOf result WireFault.Fault }
+
+    // A canonical dump is read back, and refused for want of memory alone.
+    ensures back { (table : Entries) (join : Bool) → IsLegalTable table → length (Reduced table) ≤ 131072 → bytes.now ≡ dump_bytes table join
+        → IfOk result (λ read. (read.0 ≡ table) × (read.1 ≡ join)) × IfErr result (λ fault. fault ≡ WireFault.Memory) }
+{
+    let mut inlet = SliceInlet::new(bytes);
+    let read = read_stream(alloc, &mut inlet)?;
+    if inlet.rest().is_empty() {
+        Ok(read)
+    } else {
+        Err(WireFault::Trailing)
+    }
+}
