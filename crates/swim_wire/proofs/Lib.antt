@@ -16,6 +16,7 @@ pub mod StreamTexts
 pub mod DatagramTexts
 pub mod DatagramRefusals
 pub mod OneMessage
+pub mod OneStream
 pub mod SpelledMaps
 pub mod SpelledPairs
 pub mod SpelledSteps
