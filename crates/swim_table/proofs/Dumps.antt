@@ -1,7 +1,5 @@
 -- The canonical dump of a table is a stream of the claims that it keeps, and of no others.
-use Rattle.std.proofs.Common.{◌≡◌, ℕ, ◌+◌, ◌<◌, ◌≤◌, Bool, List, [], ◌∷◌, ◌++◌, length, take, get_or, All, Contains, ◌↔◌, refl, sym, ap, subst, ◌∙◌, append_assoc, append-nil, arith}
-use Rattle.std.proofs.lemmas.List.{take_more, flat_map_more}
-use Rattle.std.proofs.lemmas.List.Concat.{flat_map-append}
+use Rattle.std.proofs.Common.{◌≡◌, ◌≤◌, Bool, List, [], ◌∷◌, length, All, Contains, ◌↔◌, refl, sym, subst, append-nil, arith}
 use Rattle.std.proofs.lemmas.List.Elements.{All-head, All-tail}
 use Rattle.std.specs.List.{flat_map}
 use Rattle.swim_claim.specs.declared.claim.Claim.{Claim}
@@ -13,8 +11,7 @@ use Rattle.swim_wire.specs.Streams.StateTexts.{none, one}
 use Rattle.swim_wire.proofs.OneStream.{one_stream}
 use Rattle.swim_wire.proofs.SpelledTexts.{HeaderText-canonical, StateText-canonical}
 use Rattle.swim_table.specs.Dump.{dump_bytes}
-use Rattle.swim_table.specs.Standing.{Standing}
-use Rattle.swim_table.specs.Table.{Entries, kept, Reduced, TableOf, IsLegalTable}
+use Rattle.swim_table.specs.Table.{Entries, Reduced, TableOf, IsLegalTable}
 use Rattle.swim_table.proofs.Tables.{TableOf-unique}
 
 -- canonical records are the texts of their claims
@@ -60,22 +57,3 @@ pub same_table_dumped : (table other : Entries) (join flag : Bool) → IsLegalTa
     → dump_bytes table join ≡ dump_bytes other flag → (table ≡ other) × (join ≡ flag)
 same_table_dumped table other join flag h g few few' same =
     dump_read_back other table flag join (Reduced table) g few' h.own (subst (λ b. StreamText b (Reduced table) join) same (dump_is_stream table join h few))
-
--- ---- what the writing of a dump adds
-
--- the pieces of pieces
-flat_map-twice : {X Y Z : Type 0} (f : Y → List Z) (g : X → List Y) (xs : List X) → flat_map f (flat_map g xs) ≡ flat_map (λ x. flat_map f (g x)) xs
-flat_map-twice f g [] = refl
-flat_map-twice f g (x ∷ xs) = flat_map-append f (g x) (flat_map g xs) ∙ ap (λ z. flat_map f (g x) ++ z) (flat_map-twice f g xs)
-
--- the records of one more entry
-pub records_more : (table : Entries) (i : ℕ) (entry : Standing) (start out new : List ℕ) → i < length table → entry ≡ get_or table i entry
-    → out ≡ start ++ flat_map state_bytes (Reduced (take i table)) → new ≡ out ++ flat_map state_bytes (kept entry)
-    → new ≡ start ++ flat_map state_bytes (Reduced (take (i + 1) table))
-records_more table i entry start out new in_range read before here =
-    let pieces : Standing → List ℕ = λ e. flat_map state_bytes (kept e) in
-    here ∙ ap (λ z. z ++ pieces entry) (before ∙ ap (λ z. start ++ z) (flat_map-twice state_bytes kept (take i table)))
-    ∙ flat_map_more pieces start (take i table) entry
-    ∙ ap (λ e. start ++ flat_map pieces (take i table ++ e ∷ [])) read
-    ∙ ap (λ z. start ++ flat_map pieces z) (sym (take_more table i entry in_range))
-    ∙ ap (λ z. start ++ z) (sym (flat_map-twice state_bytes kept (take (i + 1) table)))
