@@ -58,12 +58,7 @@ impl Node {
     /// # Errors
     ///
     /// Memory for the start claim is refused. The name and the details are dropped.
-    pub fn new(
-        alloc: Global,
-        name: Name,
-        details: Details,
-        inc: u32,
-    ) -> Result<Node, AllocError>
+    pub fn new(alloc: Global, name: Name, details: Details, inc: u32) -> Result<Node, AllocError>
         ensures name { IfOk result (λ node. node.name ≡ name) }
         ensures details { IfOk result (λ node. node.details ≡ details) }
         ensures table { IfOk result (λ node. TableOf node.table (Alive name inc details ∷ [])) }
@@ -207,8 +202,8 @@ impl Node {
         let Some(next) = inc.checked_add(1) else {
             return Err(RefuteFault::Exhausted);
         };
-        let claim = alive(self.alloc, &self.name, &self.details, next)?;
-        match self.table.take(claim) {
+        let refutation = alive(self.alloc, &self.name, &self.details, next)?;
+        match self.table.take(refutation) {
             Ok(_) => Ok(Some(next)),
             Err(_) => unreachable!(),
         }

@@ -1,3 +1,4 @@
+mod node;
 mod plain;
 
 use crate::{Relation, Room, Table, Taken, list, relation};
