@@ -1,12 +1,27 @@
 //! A member's own node: who it is, and its table.
 
-ghost use Rattle.std.specs.Prelude.{◌≡◌};
-ghost use Rattle.swim_table.specs.Table.{TableOf};
+ghost use Rattle.std.specs.Borrow.{sem};
+ghost use Rattle.std.specs.Option.{option_and_then};
+ghost use Rattle.std.specs.Prelude.{◌≡◌, ◌≢◌, ◌↔◌, ◌+◌, ◌≤◌, ◌++◌, ◌∷◌, [], ℕ, List, length, IsTrue, Some, None, Ok, Err, IsSome, IsOk, IfSome, IfOk, IfErr, OnOk, OnErr};
+ghost use Rattle.swim_claim.specs.declared.claim.Claim.{Claim};
+ghost use Rattle.swim_claim.specs.declared.claim.Claim.TheVariants.{Alive};
+ghost use Rattle.swim_claim.specs.Claim.{name_of, details_of};
+ghost use Rattle.swim_claim.specs.Details.{IsLegalDetails};
+ghost use Rattle.swim_claim.specs.Name.{IsLegalName};
+ghost use Rattle.swim_table.specs.declared.fault.RefuteFault.TheVariants as fault;
+ghost use Rattle.swim_table.specs.Join.{Join};
+ghost use Rattle.swim_table.specs.Lending.{LendsTable};
+ghost use Rattle.swim_table.specs.Node.{SameMember};
+ghost use Rattle.swim_table.specs.Refuting.{IsAtRest, IsDueInRange, IsExhausted, IsGone, IsRefutedBy, IsWordOf};
+ghost use Rattle.swim_table.specs.Table.{get, TableOf, Reduced, IsLegalTable};
 
-use crate::table::Table;
+use crate::entry::Entry;
+use crate::fault::RefuteFault;
+use crate::room::Room;
+use crate::table::{Table, Taken};
 use std::alloc::{AllocError, Global};
 use std::marker::Model;
-use swim_claim::{Claim, Details, Name};
+use swim_claim::{Claim, Details, Kind, Name};
 
 /// A member: its name and details, and the table that it keeps.
 #[derive(Drop, Debug)]
@@ -23,4 +38,217 @@ impl Model for Node {
     ghost Value = { NodeValue };
 
     ghost view = { λ n. record { name = n.name; details = n.details; table = n.table } };
+}
+
+/// What stands of the member in its own table.
+enum Word {
+    /// Nothing, or an Alive with the member's own details.
+    Own,
+    /// A Suspect, or an Alive with other details, at this incarnation.
+    Disputed { inc: u32 },
+    /// A Confirm or a Leave, at this incarnation.
+    Gone { inc: u32 },
+}
+
+impl Node {
+    /// The member of this name and these details. Its table holds its start claim alone: the Alive
+    /// of both at the incarnation `inc`, 0 to 4,294,967,295 (own). What grows later takes memory from
+    /// the same allocator.
+    ///
+    /// # Errors
+    ///
+    /// Memory for the start claim is refused. The name and the details are dropped.
+    pub fn new(alloc: Global, name: Name, details: Details, inc: u32) -> Result<Node, AllocError>
+        ensures name { IfOk result (λ node. node.name ≡ name) }
+        ensures details { IfOk result (λ node. node.details ≡ details) }
+        ensures table { IfOk result (λ node. TableOf node.table (Alive name inc details ∷ [])) }
+    {
+        let start = alive(alloc, &name, &details, inc)?;
+        let mut table = Table::new(alloc);
+        match table.take(start) {
+            Ok(_) => Ok(Node {
+                alloc,
+                name,
+                details,
+                table,
+            }),
+            Err((_, error)) => Err(error),
+        }
+    }
+
+    /// The member's name.
+    pub fn name(&self) -> &Name
+        ensures name { result.now ≡ self.now.name }
+        ensures legal { IsLegalName self.now.name }
+    {
+        let _ = self.name.bytes();
+        &self.name
+    }
+
+    /// What the member says of itself beside its name.
+    pub fn details(&self) -> &Details
+        ensures details { result.now ≡ self.now.details }
+        ensures legal { IsLegalDetails self.now.details }
+    {
+        let _ = self.details.meta();
+        &self.details
+    }
+
+    /// What the member has heard, its own claims among it.
+    pub fn table(&self) -> &Table
+        ensures table { result.now ≡ self.now.table }
+        ensures legal { IsLegalTable self.now.table }
+    {
+        let _ = self.table.len();
+        &self.table
+    }
+
+    /// The member's table, for writing. The name and the details stay.
+    pub fn table_mut(&mut self) -> &mut Table
+        ensures* writes_back { sem 𝓛 (LendsTable self.entry result) }
+        ensures table { result.now ≡ self.old.table }
+    {
+        &mut self.table
+    }
+
+    /// Takes a claim into the member's table, and tells what changed. For a name that has an entry
+    /// this takes no memory.
+    ///
+    /// # Errors
+    ///
+    /// Memory for the entry of a new name is refused. The claim is handed back, and the table is as
+    /// it was.
+    pub fn take(&mut self, claim: Claim) -> Result<Taken, (Claim, AllocError)>
+        ensures ok { OnOk result (TableOf self.new.table (Reduced self.old.table ++ claim ∷ [])) }
+        ensures all { OnOk result ((claims : List Claim) → TableOf self.old.table claims
+            → TableOf self.new.table (claims ++ claim ∷ [])) }
+
+        ensures new { IfOk result (λ taken. (taken ≡ Taken.New)
+            ↔ (get self.old.table (name_of claim) ≡ None)) }
+        ensures raised { IfOk result (λ taken. (taken ≡ Taken.Raised)
+            ↔ (IsSome (get self.old.table (name_of claim)) × (self.new.table ≢ self.old.table))) }
+        ensures stood { IfOk result (λ taken. (taken ≡ Taken.Stood)
+            ↔ (self.new.table ≡ self.old.table)) }
+
+        ensures known { IsSome (get self.old.table (name_of claim)) → IsOk result }
+        ensures refused { IfErr result (λ refused. refused.0 ≡ claim) }
+        ensures err { OnErr result (self.new.table ≡ self.old.table) }
+
+        ensures member { SameMember self.old self.new }
+    {
+        self.table.take(claim)
+    }
+
+    /// Takes all the claims into the member's table, or none.
+    ///
+    /// # Errors
+    ///
+    /// Memory for the claims is refused. They are dropped, and the table is as it was.
+    pub fn take_all(&mut self, claims: Vec<Claim>) -> Result<(), AllocError>
+        ensures ok { OnOk result (TableOf self.new.table (Reduced self.old.table ++ claims.items)) }
+        ensures all { OnOk result ((taken : List Claim) → TableOf self.old.table taken
+            → TableOf self.new.table (taken ++ claims.items)) }
+
+        ensures err { OnErr result (self.new.table ≡ self.old.table) }
+
+        ensures member { SameMember self.old self.new }
+    {
+        self.table.take_all(claims)
+    }
+
+    /// Joins another table into the member's own: it is then the table of all claims that either
+    /// took in (own). The room has to be for the entries of both, and no memory is taken.
+    pub fn join_in(&mut self, room: Room, other: Table)
+        requires { length self.old.table + length other ≤ room }
+        ensures join { self.new.table ≡ Join self.old.table other }
+        ensures all { (claims others : List Claim) → TableOf self.old.table claims → TableOf other others
+            → TableOf self.new.table (claims ++ others) }
+
+        ensures member { SameMember self.old self.new }
+    {
+        self.table.join_in(room, other);
+    }
+
+    /// Refutes what others say of the member (SWIM paper, section 4.2: a suspected member answers
+    /// with an Alive under an incremented incarnation; the rest is own).
+    ///
+    /// This is due where a Suspect of the member stands, or an Alive with details that are not its
+    /// own. The table then takes in an Alive with its own details and the incarnation that follows
+    /// the one that stands, which is answered. Where nothing is due the answer is none, and nothing
+    /// changes.
+    ///
+    /// # Errors
+    ///
+    /// The table is then as it was.
+    ///
+    /// - `Gone` where a Confirm or a Leave of the member stands, with its incarnation.
+    /// - `Exhausted` where a refutation is due, and 4,294,967,295 stands.
+    /// - `Memory` where a refutation is due, and memory for its claim is refused.
+    pub fn refute(&mut self) -> Result<Option<u32>, RefuteFault>
+        ensures refuted { IfOk result (λ answer. IfSome answer (IsRefutedBy self.old self.new)) }
+        ensures rest { (result ≡ Ok None) → IsAtRest self.old × (self.new ≡ self.old) }
+        ensures exhausted { (result ≡ Err fault.Exhausted) → IsExhausted self.old }
+        ensures gone { (inc : ℕ) → result ≡ Err (fault.Gone inc) → IsGone self.old inc }
+        ensures memory { (result ≡ Err fault.Memory) → IsDueInRange self.old }
+        ensures err { OnErr result (self.new ≡ self.old) }
+
+        ensures member { SameMember self.old self.new }
+    {
+        let inc = match self.word() {
+            Word::Own => return Ok(None),
+            Word::Gone { inc } => return Err(RefuteFault::Gone { inc }),
+            Word::Disputed { inc } => inc,
+        };
+        let Some(next) = inc.checked_add(1) else {
+            return Err(RefuteFault::Exhausted);
+        };
+        let refutation = alive(self.alloc, &self.name, &self.details, next)?;
+        match self.table.take(refutation) {
+            Ok(_) => Ok(Some(next)),
+            Err(_) => unreachable!(),
+        }
+    }
+
+    /// What stands of the member.
+    fn word(&self) -> Word
+        ensures word { IsWordOf self.now result }
+        ensures legal { IsLegalTable self.now.table }
+    {
+        let Some(entry) = self.table().get(self.name.bytes()) else {
+            return Word::Own;
+        };
+        let inc = entry.inc();
+        match entry.kind() {
+            Kind::Suspect => Word::Disputed { inc },
+            Kind::Confirm | Kind::Leave => Word::Gone { inc },
+            Kind::Alive => {
+                if has_home_of(entry, &self.details) {
+                    Word::Own
+                } else {
+                    Word::Disputed { inc }
+                }
+            }
+        }
+    }
+}
+
+/// The Alive of copies of the name and the details.
+fn alive(alloc: Global, name: &Name, details: &Details, inc: u32) -> Result<Claim, AllocError>
+    ensures { IfOk result (λ claim. claim ≡ Alive name.now inc details.now) }
+{
+    Ok(Claim::Alive {
+        name: name.try_clone(alloc)?,
+        inc,
+        details: details.try_clone(alloc)?,
+    })
+}
+
+/// Whether the newest Alive of an entry has these details.
+fn has_home_of(entry: &Entry, details: &Details) -> bool
+    ensures { IsTrue result ↔ (option_and_then details_of entry.now.home ≡ Some details.now) }
+{
+    match entry.home_details() {
+        Some(home) => *home == *details,
+        None => false,
+    }
 }

@@ -1,4 +1,5 @@
 mod dumps;
+mod node;
 mod plain;
 
 use crate::{Relation, Room, Table, Taken, list, relation};
