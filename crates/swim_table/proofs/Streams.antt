@@ -33,7 +33,7 @@ behind a b x y same e = append_cancel_left b x y (ap (λ (z : List ℕ). z ++ x)
 -- the records that are to come, where some of them are read
 to_come : (a b x y : List ℕ) (claims others : List Claim) → StateTexts a claims → StateTexts b others → length claims ≤ length others → a ++ x ≡ b ++ y
     → (rest : List ℕ) × (more : List Claim) × StateTexts rest more × (length claims + length more ≡ length others) × (x ≡ rest ++ y)
-to_come _ b x y _ others none texts le e = (b, others, texts, refl, e)
+to_come _ b x y _ others none texts le e = (b, others, texts, omega arith, e)
 to_come _ _ x y _ _ (one a rest c claims text texts) none le e = absurd (omega arith)
 to_come _ _ x y _ _ (one a left c claims text texts) (one b right d others text' texts') le e =
     let parts : a ++ (left ++ x) ≡ b ++ (right ++ y) = sym (append_assoc a left x) ∙ e ∙ append_assoc b right y in
@@ -51,6 +51,9 @@ by_records reader now user rest _ _ none left long parts = (user, rest, wants.us
 by_records reader now user rest _ _ (one b records c claims text texts) left long parts =
     (b, records ++ (user ++ rest), wants.record_of c (omega (arith, left)) text, parts ∙ append_assoc b records (user ++ rest))
 
+in_parts : (head records user more : List ℕ) → (head ++ records ++ user) ++ more ≡ head ++ (records ++ (user ++ more))
+in_parts head records user more = simp append_assoc
+
 -- in a stream it is what the next step wants
 wanted : (reader : Streaming) (claims all : List Claim) (join : Bool) (begun now text rest : List ℕ) → BeginText begun reader.header claims → length claims + reader.left ≡ reader.header.nodes
     → StreamText text all join → begun ++ now ≡ text ++ rest → (front : List ℕ) × (back : List ℕ) × IsWanted reader front × (now ≡ front ++ back)
@@ -64,9 +67,6 @@ wanted reader claims all join begun now text rest b counted t e =
     let left = to_come b.records t.records now (t.user ++ rest) claims all b.record_texts t.record_texts le (behind b.head t.head _ _ heads.0 parts) in
     let sum = left.3 in
     by_records reader now t.user rest left.0 left.1 left.2 (omega (arith, counted, nodes, promised, sum)) (t.user_len ∙ sym (ap (λ (h : Header). h.user_len) heads.1)) left.4
-  where
-    in_parts : (head records user more : List ℕ) → (head ++ records ++ user) ++ more ≡ head ++ (records ++ (user ++ more))
-    in_parts head records user more = simp append_assoc
 
 -- ---- reads one after the other
 
@@ -78,9 +78,9 @@ Takes-then (Some xs) (Some ys) (Some zs) P Q R join p q =
     (p.0 ++ q.0, join p.0 q.0 p.1 q.1, p.2 ∙ ap (λ (l : List ℕ). p.0 ++ l) q.2 ∙ sym (append_assoc p.0 q.0 zs))
 
 Takes-as : (a b : Option (List ℕ)) (P Q : List ℕ → Type 0) → ((x : List ℕ) → P x → Q x) → TakesKnown a b P → TakesKnown a b Q
-Takes-as None b P Q as p = tt
-Takes-as (Some xs) None P Q as p = absurd p
-Takes-as (Some xs) (Some ys) P Q as p = (p.0, as p.0 p.1, p.2)
+Takes-as None b P Q weaken p = tt
+Takes-as (Some xs) None P Q weaken p = absurd p
+Takes-as (Some xs) (Some ys) P Q weaken p = (p.0, weaken p.0 p.1, p.2)
 
 -- What was taken since the stream began: its header, and the records of some claims, of which this is the table.
 pub record ReadSome (old new : Source) (reader : Streaming) : Type 0 where
@@ -93,7 +93,7 @@ pub started : (old new : Source) (reader : Streaming) → Takes old new (λ b. H
 started old new reader taken fresh = record {
   claims = [];
   table = subst (λ (t : Entries). TableOf t []) (sym fresh.1) (TableOf-table_of []);
-  counted = fresh.0;
+  counted = omega (arith, fresh.0);
   taken = Takes-as old.coming new.coming _ _ (λ b text. record { head = b; records = []; bytes = sym (append-nil b); head_text = text; record_texts = none }) taken;
 }
 
@@ -135,7 +135,7 @@ whole header claims x y count begun long = record {
   head = begun.head;
   records = begun.records;
   user = y;
-  bytes = ap (λ (z : List ℕ). z ++ y) begun.bytes ∙ append_assoc begun.head begun.records y;
+  bytes = ap (λ (z : List ℕ). z ++ y) begun.bytes;
   head_text = begun.head_text;
   flag = refl;
   nodes = count;
@@ -168,7 +168,7 @@ no_header old lacks = known old.coming lacks
     known None lacks = tt
     known (Some bytes) lacks = λ text rest is parts.
         let t = is.2 in
-        lacks t.head ((t.records ++ t.user) ++ rest) (t.header, t.head_text) (parts ∙ ap (λ (z : List ℕ). z ++ rest) t.bytes ∙ append_assoc t.head (t.records ++ t.user) rest)
+        lacks t.head (t.records ++ (t.user ++ rest)) (t.header, t.head_text) (parts ∙ ap (λ (z : List ℕ). z ++ rest) t.bytes ∙ in_parts t.head t.records t.user rest)
 
 pub none_wanted : (old mid : Source) (reader : Streaming) → ReadSome old mid reader → Lacks mid (IsWanted reader) → Lacks old IsStream
 none_wanted old mid reader some lacks = known old.coming mid.coming some.taken lacks
