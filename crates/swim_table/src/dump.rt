@@ -1,12 +1,11 @@
-//! The canonical dump of a table, and the reading of whole dumps.
+//! The canonical dump of a table.
 
-ghost use Rattle.std.specs.Prelude.{◌≡◌, ◌≢◌, ◌↔◌, ◌<◌, ◌≤◌, ◌++◌, ◌∷◌, ℕ, Bool, List, length, IfOk, IfErr, OnOk};
+ghost use Rattle.std.specs.Prelude.{◌≡◌, ◌↔◌, ◌<◌, ◌++◌, length, IfOk, OnOk};
 ghost use Rattle.std.specs.List.{flat_map};
-ghost use Rattle.swim_claim.specs.declared.claim.Claim.{Claim};
 ghost use Rattle.swim_wire.specs.Canonical.{state_bytes};
 ghost use Rattle.swim_wire.specs.Streams.{StreamText};
 ghost use Rattle.swim_table.specs.Dump.{dump_bytes};
-ghost use Rattle.swim_table.specs.Table.{kept, Entries, Reduced, TableOf, IsLegalTable};
+ghost use Rattle.swim_table.specs.Table.{kept, Reduced};
 
 use crate::entry::Entry;
 use crate::fault::EncodeFault;
