@@ -160,16 +160,6 @@ ended old mid new reader table join some (steps.user_state is left taken) =
 abbrev IsStream : List ℕ → Type 0
 IsStream b = (claims : List Claim) × (join : Bool) × StreamText b claims join
 
-pub no_header : (old : Source) → Lacks old (λ b. (header : Header) × HeaderText b header) → Lacks old IsStream
-no_header old lacks = known old.coming lacks
-  where
-    known : (old : Option (List ℕ)) → IfSome old (λ bytes. (text rest : List ℕ) → ((header : Header) × HeaderText text header) → bytes ≡ text ++ rest → ⊥)
-        → IfSome old (λ bytes. (text rest : List ℕ) → IsStream text → bytes ≡ text ++ rest → ⊥)
-    known None lacks = tt
-    known (Some bytes) lacks = λ text rest is parts.
-        let t = is.2 in
-        lacks t.head (t.records ++ (t.user ++ rest)) (t.header, t.head_text) (parts ∙ ap (λ (z : List ℕ). z ++ rest) t.bytes ∙ in_parts t.head t.records t.user rest)
-
 pub none_wanted : (old mid : Source) (reader : Streaming) → ReadSome old mid reader → Lacks mid (IsWanted reader) → Lacks old IsStream
 none_wanted old mid reader some lacks = known old.coming mid.coming some.taken lacks
   where

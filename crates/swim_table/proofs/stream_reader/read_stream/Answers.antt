@@ -1,9 +1,9 @@
-use Rattle.std.proofs.Common.{◌++◌, ◌≤◌, arith}
+use Rattle.std.proofs.Common.{◌++◌, arith}
 use Rattle.std.proofs.KnownBytes.{Consumes-trans}
 use Rattle.std.proofs.lemmas.Result.{err_from_is_err_and}
 use Rattle.swim_pack.proofs.Composing.{UnlessFailed-weaker}
 use Rattle.swim_wire.specs.Reading.{wire_cause}
-use Rattle.swim_table.proofs.Streams.{started, stepped, ended, no_header, none_wanted, step_explains}
+use Rattle.swim_table.proofs.Streams.{started, stepped, ended, none_wanted, step_explains}
 use Rattle.swim_table.proofs.stream_reader.read_stream.Goals as goal
 
 pub loop-next-init : goal.loop-next-init
