@@ -118,8 +118,8 @@ stepped_to old mid new reader next c some left taken table header =
       table = table some.claims some.table;
       counted = omega (arith, count, nodes, before, left);
       taken =
-        subst (λ (h : Header). Takes old new (λ b. BeginText b h (some.claims ++ c ∷ []))) (sym header)
-        (Takes-then old.coming mid.coming new.coming _ _ _ (begun_more reader.header some.claims c) some.taken taken);
+          subst (λ (h : Header). Takes old new (λ b. BeginText b h (some.claims ++ c ∷ []))) (sym header)
+          (Takes-then old.coming mid.coming new.coming _ _ _ (begun_more reader.header some.claims c) some.taken taken);
     }
 
 pub stepped : (old mid new : Source) (reader next : Streaming) → ReadSome old mid reader → Steps reader mid new (More next) → ReadSome old new next
@@ -150,10 +150,12 @@ ended old mid new reader table join some (steps.user_state is left taken) =
     let the_table : reader.table ≡ table = cc in
     let the_flag : reader.header.join ≡ join = cc in
     let before = some.counted in
-    let count : length some.claims ≡ reader.header.nodes = omega (arith, before, left) in
-    (some.claims, subst (λ (t : Entries). TableOf t some.claims) the_table some.table,
-    subst (λ (j : Bool). Takes old new (λ b. StreamText b some.claims j)) the_flag
-    (Takes-then old.coming mid.coming new.coming _ _ _ (λ x y. whole reader.header some.claims x y count) some.taken taken))
+    let count : length some.claims ≡ reader.header.nodes = omega (arith, before, left) in (
+      some.claims,
+      subst (λ (t : Entries). TableOf t some.claims) the_table some.table,
+      subst (λ (j : Bool). Takes old new (λ b. StreamText b some.claims j)) the_flag
+          (Takes-then old.coming mid.coming new.coming _ _ _ (λ x y. whole reader.header some.claims x y count) some.taken taken),
+    )
 
 -- ---- no stream stands at the front, and why
 

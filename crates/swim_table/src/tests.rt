@@ -1,4 +1,5 @@
 mod plain;
+mod streams;
 
 use crate::{Relation, Room, Table, Taken, list, relation};
 use std::alloc::{AllocError, Global};

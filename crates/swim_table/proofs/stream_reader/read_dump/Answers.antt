@@ -42,6 +42,8 @@ returns-else-is_empty-clause-refuses c other claims join whole =
 pub returns-else-is_empty-clause-back : goal.returns-else-is_empty-clause-back
 returns-else-is_empty-clause-back c table join legal few is =
     let read = c.in_ok-read.ensures.takes in
-    let more : c.read_stream.new.inlet ≢ [] = search rules in
-    (tt, absurd (trailing_whole c.args.bytes.now read.2.0 c.read_stream.new.inlet read.0 (Reduced table) c.in_ok-read.read.1 join read.2.1 (sym c.new-inlet.ensures ∙ read.2.2) more
-    (dumped c.args.bytes.now table join legal few is)))
+    let more : c.read_stream.new.inlet ≢ [] = search rules in (
+      tt,
+      absurd (trailing_whole c.args.bytes.now read.2.0 c.read_stream.new.inlet read.0 (Reduced table) c.in_ok-read.read.1 join read.2.1 (sym c.new-inlet.ensures ∙ read.2.2) more
+          (dumped c.args.bytes.now table join legal few is)),
+    )
