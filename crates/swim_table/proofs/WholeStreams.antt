@@ -22,12 +22,12 @@ refused_whole Fault bytes none no_fault no_memory claims join text = no_fault re
 refused_whole Memory bytes none no_fault no_memory claims join text = no_memory refl
 refused_whole error bytes none no_fault no_memory claims join text = none bytes [] (claims, join, text) (sym (append-nil bytes))
 
--- what is a stream is refused for want of memory alone
-pub refused_stream : (fault : WireFault) (bytes : List ℕ) (claims : List Claim) (join : Bool) → UnlessFailed (wire_cause fault) (HasNone bytes) → (fault ≡ Fault → ⊥)
-    → StreamText bytes claims join → fault ≡ Memory
-refused_stream Fault bytes claims join none no_fault text = absurd (no_fault refl)
-refused_stream Memory bytes claims join none no_fault text = refl
-refused_stream error bytes claims join none no_fault text = absurd (none bytes [] (claims, join, text) (sym (append-nil bytes)))
+-- where a stream stands at the front the bytes are refused for want of memory alone
+pub refused_front : (fault : WireFault) (bytes front rest : List ℕ) (claims : List Claim) (join : Bool) → UnlessFailed (wire_cause fault) (HasNone bytes) → (fault ≡ Fault → ⊥)
+    → StreamText front claims join → bytes ≡ front ++ rest → fault ≡ Memory
+refused_front Fault bytes front rest claims join none no_fault text parts = absurd (no_fault refl)
+refused_front Memory bytes front rest claims join none no_fault text parts = refl
+refused_front error bytes front rest claims join none no_fault text parts = absurd (none front rest (claims, join, text) parts)
 
 -- a stream and bytes after it are no stream
 pub trailing_whole : (bytes text rest : List ℕ) (claims others : List Claim) (join flag : Bool) → StreamText text claims join → bytes ≡ text ++ rest → rest ≢ []

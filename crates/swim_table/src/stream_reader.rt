@@ -1,6 +1,6 @@
 //! Push/pull streams, read record by record, as a whole, or as a dump.
 
-ghost use Rattle.std.specs.Prelude.{◌≡◌, ◌≢◌, ◌≤◌, ◌++◌, ℕ, [], Bool, List, length, IfOk, IfErr, IsErrOf};
+ghost use Rattle.std.specs.Prelude.{◌≡◌, ◌≢◌, ◌≤◌, ◌++◌, ◌⊎◌, ℕ, [], Bool, List, length, IfOk, IfErr, IsErrOf};
 ghost use Rattle.swim_claim.specs.declared.claim.Claim.{Claim};
 ghost use Rattle.swim_pack.specs.Ends.{Takes, Lacks, Skips, Rises};
 ghost use Rattle.swim_pack.specs.Composing.{UnlessFailed};
@@ -178,6 +178,8 @@ pub fn read_dump(alloc: Global, bytes: &[u8]) -> Result<(Table, bool), WireFault
     ensures refuses { IfErr result (λ fault. fault ≢ WireFault.Memory → (claims : List Claim) (join : Bool) → ¬ StreamText bytes.now claims join) }
     ensures explains { IfErr result (λ fault. fault ≢ WireFault.Trailing → ExplainsStream fault bytes.now) }
     ensures trailing { IsErrOf result WireFault.Trailing → (front rest : List ℕ) × (claims : List Claim) × (join : Bool) × StreamText front claims join × (rest ≢ []) × (bytes.now ≡ front ++ rest) }
+    ensures after { (front rest : List ℕ) (claims : List Claim) (join : Bool) → StreamText front claims join → rest ≢ [] → bytes.now ≡ front ++ rest
+        → IsErrOf result WireFault.Trailing ⊎ IsErrOf result WireFault.Memory }
     ensures no_fault { ¬ IsErrOf result WireFault.Fault }
 
     // A canonical dump is read back, and refused for want of memory alone.
