@@ -1,15 +1,16 @@
 //! Push/pull streams, read record by record, as a whole, or as a dump.
 
-ghost use Rattle.std.specs.Prelude.{◌≡◌, ◌≢◌, ◌≤◌, ◌++◌, ◌×◌, ℕ, [], Bool, List, length, IfOk, IfErr, IsErrOf};
+ghost use Rattle.std.specs.Prelude.{◌≡◌, ◌≢◌, ◌≤◌, ◌++◌, ◌⊎◌, ℕ, [], Bool, List, length, IfOk, IfErr, IsErrOf};
 ghost use Rattle.swim_claim.specs.declared.claim.Claim.{Claim};
 ghost use Rattle.swim_pack.specs.Ends.{Takes, Lacks, Skips, Rises};
 ghost use Rattle.swim_pack.specs.Composing.{UnlessFailed};
 ghost use Rattle.swim_wire.specs.declared.stream.Header.{Header};
+ghost use Rattle.swim_wire.specs.Checks.{ExplainsHeader, ExplainsStart};
 ghost use Rattle.swim_wire.specs.Reading.{wire_cause};
 ghost use Rattle.swim_wire.specs.Streams.{StreamText};
 ghost use Rattle.swim_wire.specs.Texts.{HeaderText};
 ghost use Rattle.swim_table.specs.Dump.{dump_bytes};
-ghost use Rattle.swim_table.specs.Steps.{Steps, IsWanted};
+ghost use Rattle.swim_table.specs.Steps.{Steps, IsWanted, ExplainsStep, ExplainsStream};
 ghost use Rattle.swim_table.specs.Table.{Entries, Reduced, TableOf, IsLegalTable};
 
 use crate::table::Table;
@@ -57,8 +58,12 @@ impl StreamReader {
         ensures takes { IfOk result (λ reader. Takes (I.seen inlet.old) (I.seen inlet.new) (λ b. HeaderText b reader.header)) }
         ensures fresh { IfOk result (λ reader. (reader.left ≡ reader.header.nodes) × (reader.table ≡ [])) }
 
-        // Refused for another cause than a failing end no header stands at the front.
+        // Also where the inlet tells no bytes.
+        ensures within { IfOk result (λ reader. (reader.header.nodes ≤ 131072) × (reader.header.user_len ≤ 20971520)) }
+
+        // Refused for another cause than a failing end no header stands at the front, and the refusal says why.
         ensures lacks { IfErr result (λ fault. UnlessFailed (wire_cause fault) (Lacks (I.seen inlet.old) (λ b. (header : Header) × HeaderText b header))) }
+        ensures explains { IfErr result (λ fault. ExplainsStart (ExplainsHeader fault) (I.seen inlet.old)) }
         ensures no_memory { ¬ IsErrOf result WireFault.Memory }
         ensures fault { IsErrOf result WireFault.Fault → Rises (I.seen inlet.old).faults (I.seen inlet.new).faults }
         ensures rest { Skips (I.seen inlet.old).coming (I.seen inlet.new).coming }
@@ -105,8 +110,11 @@ impl StreamReader {
         // The bytes taken are a record, whose claim is in the table, or at the end the user state.
         ensures takes { IfOk result (λ step. Steps self (I.seen inlet.old) (I.seen inlet.new) step) }
 
-        // Refused for another cause than a failing end or memory what was wanted does not stand at the front.
+        // Refused for another cause than a failing end or memory what was wanted does not stand at the
+        // front, and the refusal says why. The end takes no memory.
         ensures lacks { IfErr result (λ fault. UnlessFailed (wire_cause fault) (Lacks (I.seen inlet.old) (IsWanted self))) }
+        ensures explains { IfErr result (λ fault. ExplainsStart (ExplainsStep self fault) (I.seen inlet.old)) }
+        ensures no_memory { self.left ≡ 0 → ¬ IsErrOf result WireFault.Memory }
         ensures fault { IsErrOf result WireFault.Fault → Rises (I.seen inlet.old).faults (I.seen inlet.new).faults }
         ensures rest { Skips (I.seen inlet.old).coming (I.seen inlet.new).coming }
         ensures faults_stay { (I.seen inlet.old).faults ≤ (I.seen inlet.new).faults }
@@ -145,8 +153,10 @@ pub fn read_stream<I: Inlet>(alloc: Global, inlet: &mut I) -> Result<(Table, boo
     // The bytes taken are one stream, and the table is that of its claims.
     ensures takes { IfOk result (λ read. (claims : List Claim) × TableOf read.0 claims × Takes (I.seen inlet.old) (I.seen inlet.new) (λ b. StreamText b claims read.1)) }
 
-    // Refused for another cause than a failing end or memory no stream stands at the front.
+    // Refused for another cause than a failing end or memory no stream stands at the front, and the
+    // refusal says why.
     ensures lacks { IfErr result (λ fault. UnlessFailed (wire_cause fault) (Lacks (I.seen inlet.old) (λ b. (claims : List Claim) × (join : Bool) × StreamText b claims join))) }
+    ensures explains { IfErr result (λ fault. ExplainsStart (ExplainsStream fault) (I.seen inlet.old)) }
     ensures fault { IsErrOf result WireFault.Fault → Rises (I.seen inlet.old).faults (I.seen inlet.new).faults }
     ensures rest { Skips (I.seen inlet.old).coming (I.seen inlet.new).coming }
     ensures faults_stay { (I.seen inlet.old).faults ≤ (I.seen inlet.new).faults }
@@ -170,9 +180,16 @@ pub fn read_dump(alloc: Global, bytes: &[u8]) -> Result<(Table, bool), WireFault
     // The bytes are one stream, and the table is that of its claims.
     ensures reads { IfOk result (λ read. (claims : List Claim) × TableOf read.0 claims × StreamText bytes.now claims read.1) }
 
-    // Refused for another cause than memory they are none.
+    // Refused for another cause than memory they are none, and the refusal says why.
     ensures refuses { IfErr result (λ fault. fault ≢ WireFault.Memory → (claims : List Claim) (join : Bool) → ¬ StreamText bytes.now claims join) }
+    ensures explains { IfErr result (λ fault. fault ≢ WireFault.Trailing → ExplainsStream fault bytes.now) }
+
+    // `Trailing` says that bytes follow a stream, and where they do no other refusal comes but `Memory`.
     ensures trailing { IsErrOf result WireFault.Trailing → (front rest : List ℕ) × (claims : List Claim) × (join : Bool) × StreamText front claims join × (rest ≢ []) × (bytes.now ≡ front ++ rest) }
+    ensures after { (front rest : List ℕ) (claims : List Claim) (join : Bool) → StreamText front claims join → rest ≢ [] → bytes.now ≡ front ++ rest
+        → IsErrOf result WireFault.Trailing ⊎ IsErrOf result WireFault.Memory }
+
+    // A slice never fails.
     ensures no_fault { ¬ IsErrOf result WireFault.Fault }
 
     // A canonical dump is read back, and refused for want of memory alone.

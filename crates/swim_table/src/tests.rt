@@ -1,6 +1,7 @@
 mod dumps;
 mod node;
 mod plain;
+mod streams;
 
 use crate::{Relation, Room, Table, Taken, list, relation};
 use std::alloc::{AllocError, Global};

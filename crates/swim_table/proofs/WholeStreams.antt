@@ -1,0 +1,51 @@
+-- A stream with nothing after it, and a canonical dump that is read back.
+use Rattle.std.proofs.Common.{◌≡◌, ◌≢◌, ℕ, ◌≤◌, Bool, List, [], ◌++◌, length, refl, sym, ap, subst, ◌∙◌, append-nil}
+use Rattle.std.proofs.lemmas.List.{append_cancel_left}
+use Rattle.swim_claim.specs.declared.claim.Claim.{Claim}
+use Rattle.swim_pack.specs.Composing.{UnlessFailed}
+use Rattle.swim_wire.specs.declared.fault.WireFault.{WireFault}
+use Rattle.swim_wire.specs.declared.fault.WireFault.TheVariants.{Fault, Memory}
+use Rattle.swim_wire.specs.Reading.{wire_cause}
+use Rattle.swim_wire.specs.Streams.{StreamText}
+use Rattle.swim_wire.proofs.OneStream.{one_stream}
+use Rattle.swim_table.specs.Dump.{dump_bytes}
+use Rattle.swim_table.specs.Table.{Entries, Reduced, TableOf, IsLegalTable}
+use Rattle.swim_table.proofs.Dumps.{dump_is_stream, dump_read_back}
+
+-- no stream stands at the front of the bytes
+abbrev pub HasNone : List ℕ → Type 0
+HasNone bytes = (text rest : List ℕ) → ((claims : List Claim) × (join : Bool) × StreamText text claims join) → bytes ≡ text ++ rest → ⊥
+
+pub refused_whole : (fault : WireFault) (bytes : List ℕ) → UnlessFailed (wire_cause fault) (HasNone bytes) → (fault ≡ Fault → ⊥) → fault ≢ Memory
+    → (claims : List Claim) (join : Bool) → ¬ StreamText bytes claims join
+refused_whole Fault bytes none no_fault no_memory claims join text = no_fault refl
+refused_whole Memory bytes none no_fault no_memory claims join text = no_memory refl
+refused_whole error bytes none no_fault no_memory claims join text = none bytes [] (claims, join, text) (sym (append-nil bytes))
+
+-- where a stream stands at the front the bytes are refused for want of memory alone
+pub refused_front : (fault : WireFault) (bytes front rest : List ℕ) (claims : List Claim) (join : Bool) → UnlessFailed (wire_cause fault) (HasNone bytes) → (fault ≡ Fault → ⊥)
+    → StreamText front claims join → bytes ≡ front ++ rest → fault ≡ Memory
+refused_front Fault bytes front rest claims join none no_fault text parts = absurd (no_fault refl)
+refused_front Memory bytes front rest claims join none no_fault text parts = refl
+refused_front error bytes front rest claims join none no_fault text parts = absurd (none front rest (claims, join, text) parts)
+
+-- a stream and bytes after it are no stream
+pub trailing_whole : (bytes text rest : List ℕ) (claims others : List Claim) (join flag : Bool) → StreamText text claims join → bytes ≡ text ++ rest → rest ≢ []
+    → ¬ StreamText bytes others flag
+trailing_whole bytes text rest claims others join flag front parts more whole =
+    let same : text ≡ bytes = (one_stream text bytes rest [] claims others join flag front whole (sym parts ∙ sym (append-nil bytes))).0 in
+    more (append_cancel_left text rest [] (sym parts ∙ sym same ∙ sym (append-nil text)))
+
+-- a stream with nothing after it
+pub all_taken : (bytes text rest : List ℕ) (claims : List Claim) (join : Bool) → StreamText text claims join → bytes ≡ text ++ rest → rest ≡ [] → StreamText bytes claims join
+all_taken bytes text rest claims join whole parts none =
+    subst (λ (b : List ℕ). StreamText b claims join) (sym (parts ∙ ap (λ (r : List ℕ). text ++ r) none ∙ append-nil text)) whole
+
+-- the bytes are the canonical dump of a table
+pub dumped : (bytes : List ℕ) (table : Entries) (join : Bool) → IsLegalTable table → length (Reduced table) ≤ 131072 → bytes ≡ dump_bytes table join → StreamText bytes (Reduced table) join
+dumped bytes table join legal few is = subst (λ (b : List ℕ). StreamText b (Reduced table) join) (sym is) (dump_is_stream table join legal few)
+
+pub read_back : (bytes : List ℕ) (table other : Entries) (join flag : Bool) (claims : List Claim) → IsLegalTable table → length (Reduced table) ≤ 131072 → bytes ≡ dump_bytes table join
+    → TableOf other claims → StreamText bytes claims flag → (other ≡ table) × (flag ≡ join)
+read_back bytes table other join flag claims legal few is of text =
+    dump_read_back table other join flag claims legal few of (subst (λ (b : List ℕ). StreamText b claims flag) is text)

@@ -1,0 +1,24 @@
+use Rattle.std.proofs.Common.{◌≡◌, ◌≢◌, ◌+◌, ◌-◌, ◌++◌, ◌∷◌, [], List, subst, refl, arith}
+use Rattle.swim_claim.specs.declared.claim.Claim.{Claim}
+use Rattle.swim_pack.specs.Ends.{Source, Takes}
+use Rattle.swim_wire.specs.Texts.{StateText}
+use Rattle.swim_table.specs.declared.stream_reader.Step.TheVariants.{More}
+use Rattle.swim_table.specs.Streaming.{Streaming}
+use Rattle.swim_table.specs.Steps.{Steps}
+use Rattle.swim_table.specs.Steps.Steps.{record_of}
+use Rattle.swim_table.specs.Table.{Entries, TableOf, Reduced}
+use Rattle.swim_table.proofs.stream_reader.StreamReader.step.Goals as goal
+
+one_record : (reader inside : Streaming) (old new : Source) (c : Claim) (table : Entries) → inside ≡ reader → inside.left ≢ 0 → Takes old new (λ b. StateText b c)
+    → TableOf table (Reduced inside.table ++ c ∷ []) → ((claims : List Claim) → TableOf inside.table claims → TableOf table (claims ++ c ∷ []))
+    → Steps reader old new (More (record { header = inside.header; left = inside.left - 1; table = table }))
+one_record reader inside old new c table same some taken reduced all =
+    let sum : inside.left ≡ (inside.left - 1) + 1 = omega (arith, some) in
+    subst (λ (r : Streaming). Steps r old new (More (record { header = inside.header; left = inside.left - 1; table = table }))) same
+    (record_of c (record { header = inside.header; left = inside.left - 1; table = table }) refl sum taken reduced all refl)
+
+pub returns-in-Ok-clause-takes : goal.returns-in-Ok-clause-takes
+returns-in-Ok-clause-takes g c =
+    let inside : Streaming = record { header = c.self.inside.header; left = c.self.inside.left; table = c.self.inside.table } in
+    let same : inside ≡ c.args.self = cc in
+    one_record c.args.self inside _ _ c.in_ok-claim.claim c.take.new.self same c.if-left-eq0.false c.in_ok-claim.ensures.takes c.in-Ok.ensures.ok c.in-Ok.ensures.all
