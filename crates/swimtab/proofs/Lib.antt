@@ -1,1 +1,3 @@
+mod Commands
+mod FileByFile
 mod LineByLine

@@ -1,2 +1,5 @@
+pub mod Chosen
+pub mod Files
 pub mod Lines
 pub mod Report
+pub mod Words

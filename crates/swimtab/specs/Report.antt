@@ -1,5 +1,8 @@
 -- Where a run was refused, and the exit status.
-use Rattle.std.specs.Prelude.{ℕ, ◌<◌}
+use Rattle.std.specs.Prelude.{ℕ, ◌<◌, Some, None}
+use Rattle.swim_wire.specs.declared.fault.WireFault.{WireFault}
+use Rattle.swim_wire.specs.declared.fault.WireFault.TheVariants as wire
+use Rattle.swim_wire.specs.Fault.{number_of}
 use Rattle.swimtab.specs.declared.report.Place.{Place}
 use Rattle.swimtab.specs.declared.report.Place.TheVariants.{Line, File, Input, Output, Loop}
 use Rattle.swimtab.specs.declared.report.What.{What}
@@ -18,3 +21,11 @@ abbrev pub status_of : What → ℕ
 status_of (Refused number found) = 3
 status_of Device = 4
 status_of Memory = 5
+
+-- what is said of a message that is refused: an inlet that failed is a device
+abbrev pub what_of : WireFault → What
+what_of wire.Memory = Memory
+what_of wire.Fault = Device
+what_of (wire.WrongType found) = Refused 16 (Some found)
+what_of (wire.BadState found) = Refused 19 (Some found)
+what_of fault = Refused (number_of fault) None

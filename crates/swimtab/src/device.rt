@@ -4,6 +4,7 @@ ghost use Rattle.std.specs.Prelude.{◌+◌, ◌≤◌, length, IfOk};
 
 use crate::report::What;
 use std::alloc::Global;
+use std::fs::File;
 use std::io::{ErrorKind, Read, Write};
 use swim_pack::{Outlet, PushFault, ToWrite};
 
@@ -36,6 +37,14 @@ pub fn read_to_bound<R: Read>(alloc: Global, reader: &mut R) -> Result<Vec<u8>, 
         }
     }
     Ok(bytes)
+}
+
+/// Reads a file as [`read_to_bound`] does. One that cannot be opened is a device fault.
+pub(crate) fn read_file(rt: &HostRuntime, path: &str) -> Result<Vec<u8>, What> {
+    match File::open(rt, path) {
+        Ok(mut file) => read_to_bound(rt.alloc(), &mut file),
+        Err(_) => Err(What::Device),
+    }
 }
 
 /// Writes the bytes at once. An error, an answer of 0 and the 1,001st interruption is a device fault.

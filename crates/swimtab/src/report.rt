@@ -1,9 +1,8 @@
 //! What is said of a run that was refused, and its exit status.
 
-ghost use Rattle.std.specs.Prelude.{◌≡◌, ◌≢◌, None, length};
-ghost use Rattle.swim_wire.specs.declared.fault.WireFault.TheVariants as wire;
+ghost use Rattle.std.specs.Prelude.{◌≡◌, None, length};
 ghost use Rattle.swimtab.specs.declared.report.What.TheVariants.{Refused, Memory};
-ghost use Rattle.swimtab.specs.Report.{IsAmong, status_of};
+ghost use Rattle.swimtab.specs.Report.{IsAmong, status_of, what_of};
 
 use std::alloc::{AllocError, Global};
 use swim_wire::WireFault;
@@ -56,6 +55,13 @@ impl What {
         What::refused(32)
     }
 
+    /// A table that has more records than a dump may have.
+    pub(crate) fn too_many_records() -> What
+        ensures { result ≡ Refused 23 None }
+    {
+        What::refused(23)
+    }
+
     fn refused(number: u32) -> What
         ensures { result ≡ Refused number None }
     {
@@ -82,7 +88,7 @@ impl From<AllocError> for What {
 }
 
 impl From<WireFault> for What {
-    ghost from_gives = { λ fault what. what ≢ Memory → fault ≢ wire.Memory };
+    ghost from_gives = { λ fault what. what ≡ what_of fault };
 
     fn from(fault: WireFault) -> What {
         match fault {

@@ -1,45 +1,104 @@
 //! What the words of a command line ask for.
 
+ghost use Rattle.std.specs.Prelude.{◌≡◌, ◌≢◌, [], map, string_bytes};
+ghost use Rattle.clap.specs.Words.{kind_of};
+ghost use Rattle.clap.specs.declared.error.kind.ErrorKind.TheVariants.{OutOfMemory};
+ghost use Rattle.swimtab.specs.declared.verb.WordFault.TheVariants as words;
+ghost use Rattle.swimtab.specs.Words.{verb_of};
+
 use clap::error::ErrorKind;
+use std::alloc::AllocError;
+use std::marker::Model;
 
 /// What the program is asked to do.
 #[derive(Clone, Copy, Debug, PartialEq, Eq)]
 pub enum Verb {
     /// To list the table of the packets on standard input.
     Packets,
+    /// To list the join of the tables of dumps.
+    List,
+    /// To print the canonical dump of the join of the tables of dumps.
+    Merge,
+    /// To tell how the tables of two dumps relate.
+    Relate,
 }
 
-/// What the words ask for.
-#[derive(Clone, Copy, Debug, PartialEq, Eq)]
+impl Verb {
+    /// What the command of this name asks for.
+    pub(crate) fn named(name: &str) -> Option<Verb>
+        ensures { result ≡ verb_of name.now }
+    {
+        match name {
+            "list" => Some(Verb::List),
+            "merge" => Some(Verb::Merge),
+            "relate" => Some(Verb::Relate),
+            _ => None,
+        }
+    }
+}
+
+/// What the words ask for: a verb, and the words that name files, in their order.
+#[derive(Debug, Drop)]
 pub struct Chosen {
     verb: Verb,
+    files: Vec<String>,
+}
+
+impl Model for Chosen {
+    ghost use Rattle.std.specs.Prelude.{map, string_bytes};
+    ghost use Rattle.swimtab.specs.Chosen.{Choice};
+
+    ghost Value = { Choice };
+
+    ghost view = { λ c. record { verb = c.verb; files = map string_bytes c.files.items } };
+}
+
+impl Chosen {
+    pub(crate) fn new(verb: Verb, files: Vec<String>) -> Chosen
+        ensures { result ≡ record { verb = verb; files = map string_bytes files.items } }
+    {
+        Chosen { verb, files }
+    }
+
+    /// What the program is asked to do.
+    pub fn verb(&self) -> Verb
+        ensures { result ≡ self.now.verb }
+    {
+        self.verb
+    }
+
+    /// The words that name files, in their order.
+    pub fn files(&self) -> &[String]
+        ensures { map string_bytes result.now ≡ self.now.files }
+    {
+        &self.files
+    }
 }
 
 /// Why the words were refused.
 #[derive(Debug, Drop)]
 pub enum WordFault {
-    /// They ask for nothing that there is, or for help.
+    /// They ask for nothing that there is, or for help or the version.
     Words(clap::Error),
     /// A growth of memory was refused.
     Memory,
 }
 
-impl Chosen {
-    pub(crate) fn new(verb: Verb) -> Chosen {
-        Chosen { verb }
-    }
-
-    /// What the program is asked to do.
-    pub fn verb(&self) -> Verb {
-        self.verb
-    }
-}
-
 impl From<clap::Error> for WordFault {
+    ghost from_gives = { λ error fault. kind_of error ≡ OutOfMemory → fault ≡ words.Memory };
+
     fn from(error: clap::Error) -> WordFault {
         match error.kind() {
             ErrorKind::OutOfMemory => WordFault::Memory,
             _ => WordFault::Words(error),
         }
+    }
+}
+
+impl From<AllocError> for WordFault {
+    ghost from_gives = { λ _ fault. fault ≡ words.Memory };
+
+    fn from(_error: AllocError) -> WordFault {
+        WordFault::Memory
     }
 }

@@ -1,9 +1,10 @@
-use Rattle.std.proofs.Common.{◌≡◌, ◌∙◌, Ok, rules}
+use Rattle.std.proofs.Common.{◌≡◌, ◌∙◌, Ok, ap, rules}
 use Rattle.std.proofs.lemmas.Iterator.{YieldsList-from_map, items_from_collect}
 use Rattle.std.proofs.lemmas.Iterator.Adapters.{YieldsList-from_vec}
 use Rattle.std.proofs.lemmas.Iterator.Consumers.{YieldsList-at}
 use Rattle.std.proofs.lemmas.Result.{err_from_is_err_and}
 use Rattle.hex.specs.Hex.{decode_of}
+use Rattle.swimtab.specs.Report.{what_of}
 use Rattle.swimtab.proofs.LineByLine.{text_claims, no_text_claims}
 use Rattle.swimtab.proofs.packets.read_claims.Goals as goal
 
@@ -11,7 +12,7 @@ pub returns-in_err-packets-clause-refuses : goal.returns-in_err-packets-clause-r
 returns-in_err-packets-clause-refuses c =
     let p = err_from_is_err_and c.from_residual-in_err-packets.result c.from_residual-in_err-packets.ensures.1 in
     let decoded : decode_of c.args.text.now ≡ Ok c.deref.result.now = search rules in
-    rw p.1 (λ seen claims. no_text_claims c.args.text.now c.deref.result.now claims c.requires decoded (c.in_err-packets.ensures.refuses (p.2 seen)))
+    rw p.1 (λ seen claims. no_text_claims c.args.text.now c.deref.result.now claims c.requires decoded (c.in_err-packets.ensures.refuses (λ m. seen (p.2 ∙ ap what_of m))))
 
 pub returns-clause-reads : goal.returns-clause-reads
 returns-clause-reads c =

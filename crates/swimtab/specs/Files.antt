@@ -1,0 +1,62 @@
+-- Files with dumps, the claims that they make, and why they are refused.
+use Rattle.std.specs.Prelude.{◌≡◌, ℕ, ◌<◌, ◌≤◌, Bool, List, [], ◌∷◌, ◌++◌, length, All, None}
+use Rattle.swim_claim.specs.declared.claim.Claim.{Claim}
+use Rattle.swim_wire.specs.declared.fault.WireFault.{WireFault}
+use Rattle.swim_wire.specs.Streams.{StreamText}
+use Rattle.swim_table.specs.Table.{Entries, TableOf, Reduced}
+use Rattle.swimtab.specs.declared.report.Place.TheVariants.{File, Output}
+use Rattle.swimtab.specs.declared.report.What.TheVariants.{Refused, Memory}
+use Rattle.swimtab.specs.declared.report.Report.{Report}
+use Rattle.swimtab.specs.Report.{what_of}
+
+-- the file is one stream of these claims, with any join flag
+abbrev pub FileClaims : List ℕ → List Claim → Type 0
+FileClaims file claims = (join : Bool) × StreamText file claims join
+
+-- the files make these claims, one file after the other
+abbrev pub FilesClaims : List (List ℕ) → List Claim → Type 0
+FilesClaims [] claims = claims ≡ []
+FilesClaims (file ∷ files) claims =
+    (own : List Claim) × (others : List Claim) × FileClaims file own × FilesClaims files others × (claims ≡ own ++ others)
+
+-- no file is longer than its bound
+abbrev pub AreShort : List (List ℕ) → Type 0
+AreShort files = All (λ file. length file ≤ 268435456) files
+
+-- the file at place k is longer than its bound, and none before it is
+pub record IsFirstLong (files : List (List ℕ)) (k : ℕ) : Type 0 where
+  pub before : List (List ℕ)
+  pub file : List ℕ
+  pub after : List (List ℕ)
+  pub parts : files ≡ before ++ file ∷ after
+  pub place : length before ≡ k
+  pub short : AreShort before
+  pub long : 268435456 < length file
+
+-- the file at place k is no stream, and each before it is one
+pub record IsFirstWrong (files : List (List ℕ)) (k : ℕ) : Type 0 where
+  pub before : List (List ℕ)
+  pub file : List ℕ
+  pub after : List (List ℕ)
+  pub parts : files ≡ before ++ file ∷ after
+  pub place : length before ≡ k
+  pub claims : List Claim
+  pub right : FilesClaims before claims
+  pub wrong : (own : List Claim) → ¬ FileClaims file own
+
+-- Why files are refused: one is too long, or else one is no stream, or there is no memory.
+pub data AreRefused (files : List (List ℕ)) (report : Report) : Type 0 where
+  too_long : (k : ℕ) → IsFirstLong files k → report.place ≡ File k → report.what ≡ Refused 32 None → AreRefused files report
+  no_stream : (k : ℕ) (fault : WireFault) → AreShort files → IsFirstWrong files k → report.place ≡ File k → report.what ≡ what_of fault → AreRefused files report
+  memory : AreShort files → report.what ≡ Memory → AreRefused files report
+
+-- the table of the claims of the files has more records than a dump
+pub record HaveTooMany (files : List (List ℕ)) (report : Report) : Type 0 where
+  pub claims : List Claim
+  pub table : Entries
+  pub short : AreShort files
+  pub made : FilesClaims files claims
+  pub table_of : TableOf table claims
+  pub many : 131072 < length (Reduced table)
+  pub place : report.place ≡ Output
+  pub what : report.what ≡ Refused 23 None

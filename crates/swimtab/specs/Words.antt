@@ -1,0 +1,45 @@
+-- The words of a command line, and what they ask for.
+use Rattle.std.specs.Prelude.{◌≡◌, true, List, [], Option, Some, None, codes, if◌then◌else◌, unwrap_or}
+use Rattle.std.specs.Str.{bytes_eq}
+use Rattle.clap.specs.Lexer.{usize_max}
+use Rattle.clap.specs.Words.{App, Row, Rule, Text, all_of, new_app, new_rule, with_rule, with_subcommand}
+use Rattle.swimtab.specs.declared.verb.Verb.{Verb}
+use Rattle.swimtab.specs.declared.verb.Verb.TheVariants as verb
+use Rattle.swimtab.specs.Chosen.{Choice}
+
+-- ---- the commands, as `clap` sees them
+
+-- the words that name files: one at least
+abbrev pub files_rule : Rule
+files_rule = record (new_rule (codes "FILE")) { required = true; range = Some (record { start_inclusive = 1; end_inclusive = usize_max }) }
+
+-- two of them
+abbrev pub pair_rule : Rule
+pair_rule = record (new_rule (codes "FILE")) { required = true; value_names = 2 }
+
+abbrev pub files_command : Text → App
+files_command name = with_rule (new_app name) files_rule
+
+abbrev pub pair_command : Text → App
+pair_command name = with_rule (new_app name) pair_rule
+
+abbrev pub bare : App
+bare = record (new_app (codes "swimtab")) { top = record (new_app (codes "swimtab")).top { no_binary_name = true; disable_help_subcommand = true; has_version = true } }
+
+-- no words, or `list`, `merge` or `relate` with files
+abbrev pub program : App
+program = with_subcommand (with_subcommand (with_subcommand bare (files_command (codes "list")).top) (files_command (codes "merge")).top) (pair_command (codes "relate")).top
+
+-- ---- what the words ask for
+
+abbrev pub verb_of : Text → Option Verb
+verb_of name =
+    if bytes_eq name (codes "list") then Some verb.List
+    else (if bytes_eq name (codes "merge") then Some verb.Merge
+    else (if bytes_eq name (codes "relate") then Some verb.Relate
+    else None))
+
+-- without a command the packets are listed, and a command has the files that its words name
+abbrev pub AsksFor : Option (Text × List Row) → Choice → Type 0
+AsksFor None choice = (choice.verb ≡ verb.Packets) × (choice.files ≡ [])
+AsksFor (Some command) choice = (verb_of command.0 ≡ Some choice.verb) × (choice.files ≡ unwrap_or (all_of (codes "FILE") command.1) [])

@@ -1,0 +1,141 @@
+//! Dumps in files: their listing, their join, and how two of them relate.
+
+ghost use Rattle.std.specs.Prelude.{◌≡◌, ◌⊎◌, ◌<◌, ◌≤◌, ◌∷◌, [], false, List, map, length, IfOk, IfErr, OnOk, OnErr};
+ghost use Rattle.swim_claim.specs.declared.claim.Claim.{Claim};
+ghost use Rattle.swim_wire.specs.declared.fault.WireFault.{WireFault};
+ghost use Rattle.swim_table.specs.Covering.{IsRelation};
+ghost use Rattle.swim_table.specs.Dump.{dump_bytes};
+ghost use Rattle.swim_table.specs.Listing.{listing};
+ghost use Rattle.swim_table.specs.Table.{Entries, TableOf};
+ghost use Rattle.swimtab.specs.Files.{FileClaims, FilesClaims, AreShort, IsFirstLong, AreRefused, HaveTooMany};
+ghost use Rattle.swimtab.specs.Report.{IsAmong, what_of};
+
+use crate::device::BOUND;
+use crate::report::{Place, Report, What};
+use std::alloc::{AllocError, Global};
+use swim_table::{EncodeFault, Relation, Table, encode, list, read_dump, relation};
+
+/// The listing of the table of all claims of the files, each of which is a dump: one push/pull
+/// stream.
+///
+/// First the lengths of all files are checked: one of more than 268,435,456 bytes is refused
+/// (InputTooLong). Then the files are read in their order, and the first that is refused is reported
+/// with the fault of its stream.
+pub fn listed(alloc: Global, files: &[Vec<u8>]) -> Result<Vec<u8>, Report>
+    // The text is the listing of the table of the claims that the files make.
+    ensures lists { IfOk result (λ text. (claims : List Claim) × (table : Entries) × AreShort (map (λ file. file.items) files.now)
+        × FilesClaims (map (λ file. file.items) files.now) claims × TableOf table claims × (text.items ≡ listing table)) }
+
+    ensures refuses { IfErr result (AreRefused (map (λ file. file.items) files.now)) }
+    ensures place { IfErr result (λ report. IsAmong report.place (length files.now)) }
+{
+    let table = joined(alloc, files)?;
+    match list(alloc, &table) {
+        Ok(text) => Ok(text),
+        Err(AllocError) => Err(What::Memory.at(Place::Output)),
+    }
+}
+
+/// The canonical dump of the table of all claims of the files, with the join flag false.
+///
+/// It is refused as [`listed`] is, and at the output where the table has more than 131,072 records
+/// (TooManyRecords).
+pub fn merged(alloc: Global, files: &[Vec<u8>]) -> Result<Vec<u8>, Report>
+    // The bytes are the dump of the table of the claims that the files make.
+    ensures merges { IfOk result (λ bytes. (claims : List Claim) × (table : Entries) × AreShort (map (λ file. file.items) files.now)
+        × FilesClaims (map (λ file. file.items) files.now) claims × TableOf table claims × (bytes.items ≡ dump_bytes table false)) }
+
+    ensures refuses { IfErr result (λ report. AreRefused (map (λ file. file.items) files.now) report ⊎ HaveTooMany (map (λ file. file.items) files.now) report) }
+    ensures place { IfErr result (λ report. IsAmong report.place (length files.now)) }
+{
+    let table = joined(alloc, files)?;
+    match encode(alloc, &table, false) {
+        Ok(bytes) => Ok(bytes),
+        Err(EncodeFault::TooManyRecords) => Err(What::too_many_records().at(Place::Output)),
+        Err(EncodeFault::Memory) => Err(What::Memory.at(Place::Output)),
+    }
+}
+
+/// How the table of a first dump relates to that of a second one. The join flags and the user state
+/// do not count.
+///
+/// It is refused as [`listed`] is.
+pub fn related(alloc: Global, first: &[u8], second: &[u8]) -> Result<Relation, Report>
+    ensures relates { IfOk result (λ relation. (claims others : List Claim) × (table other : Entries) × AreShort (first.now ∷ second.now ∷ [])
+        × FileClaims first.now claims × FileClaims second.now others
+        × TableOf table claims × TableOf other others × IsRelation table other relation) }
+
+    ensures refuses { IfErr result (AreRefused (first.now ∷ second.now ∷ [])) }
+    ensures place { IfErr result (λ report. IsAmong report.place 2) }
+{
+    check_length(first, 0)?;
+    check_length(second, 1)?;
+    let table = read_file(alloc, first, 0)?;
+    let other = read_file(alloc, second, 1)?;
+    Ok(relation(&table, &other))
+}
+
+/// The line that says how two tables relate, with its line feed.
+pub fn relation_line(relation: Relation) -> &'static str {
+    match relation {
+        Relation::Equal => "equal\n",
+        Relation::Behind => "behind\n",
+        Relation::Ahead => "ahead\n",
+        Relation::Apart => "apart\n",
+    }
+}
+
+/// The table of all claims of the files.
+fn joined(alloc: Global, files: &[Vec<u8>]) -> Result<Table, Report>
+    ensures joins { IfOk result (λ table. (claims : List Claim) × AreShort (map (λ file. file.items) files.now)
+        × FilesClaims (map (λ file. file.items) files.now) claims × TableOf table claims) }
+    ensures refuses { IfErr result (AreRefused (map (λ file. file.items) files.now)) }
+    ensures place { IfErr result (λ report. IsAmong report.place (length files.now)) }
+{
+    check_lengths(files)?;
+    let mut table = Table::new(alloc);
+    for (place, file) in files.iter().enumerate() {
+        let other = read_file(alloc, file, place)?;
+        match table.join(other) {
+            Ok(()) => {}
+            Err(_) => return Err(What::Memory.at(Place::File(place))),
+        }
+    }
+    Ok(table)
+}
+
+fn check_lengths(files: &[Vec<u8>]) -> Result<(), Report>
+    ensures short { OnOk result (AreShort (map (λ file. file.items) files.now)) }
+    ensures refuses { IfErr result (AreRefused (map (λ file. file.items) files.now)) }
+    ensures place { IfErr result (λ report. IsAmong report.place (length files.now)) }
+{
+    for (place, file) in files.iter().enumerate() {
+        check_length(file, place)?;
+    }
+    Ok(())
+}
+
+/// That a file is no longer than its bound.
+fn check_length(file: &[u8], place: usize) -> Result<(), Report>
+    ensures short { OnOk result (length file.now ≤ 268435456) }
+    ensures long { IfErr result (λ report. (268435456 < length file.now) × (report ≡ record { place = Place.File place; what = What.Refused 32 None })) }
+{
+    if file.len() > BOUND {
+        Err(What::input_too_long().at(Place::File(place)))
+    } else {
+        Ok(())
+    }
+}
+
+/// The table of the claims of one file.
+fn read_file(alloc: Global, file: &[u8], place: usize) -> Result<Table, Report>
+    ensures reads { IfOk result (λ table. (claims : List Claim) × FileClaims file.now claims × TableOf table claims) }
+    ensures refuses { IfErr result (λ report. (report.what ≡ What.Memory)
+        ⊎ (((claims : List Claim) → ¬ FileClaims file.now claims) × ((fault : WireFault) × (report.what ≡ what_of fault)))) }
+    ensures place { IfErr result (λ report. report.place ≡ Place.File place) }
+{
+    match read_dump(alloc, file) {
+        Ok((table, _)) => Ok(table),
+        Err(fault) => Err(What::from(fault).at(Place::File(place))),
+    }
+}
