@@ -52,8 +52,8 @@ enum Word {
 
 impl Node {
     /// The member of this name and these details. Its table holds its start claim alone: the Alive
-    /// of both at the incarnation `inc`, 0 to 4,294,967,295 (own). What grows later takes memory from
-    /// the same allocator.
+    /// of both at the incarnation `inc`, 0 to 4,294,967,295 (own). What grows later takes memory
+    /// from the same allocator.
     ///
     /// # Errors
     ///
@@ -161,8 +161,8 @@ impl Node {
     pub fn join_in(&mut self, room: Room, other: Table)
         requires { length self.old.table + length other ≤ room }
         ensures join { self.new.table ≡ Join self.old.table other }
-        ensures all { (claims others : List Claim) → TableOf self.old.table claims → TableOf other others
-            → TableOf self.new.table (claims ++ others) }
+        ensures all { (claims others : List Claim) → TableOf self.old.table claims
+            → TableOf other others → TableOf self.new.table (claims ++ others) }
 
         ensures member { SameMember self.old self.new }
     {
