@@ -13,6 +13,19 @@ use std::{env, io};
 /// The words that stand for the two files of `relate`.
 static PAIR: [&str; 2] = ["A", "B"];
 
+/// What help says beside the commands.
+static EXAMPLES: &str = "\
+Without a command, the packets on standard input, in hexadecimal and one a line, are
+taken in, and the table is listed: a line for each member, 'name state inc home'.
+
+Examples:
+  swimtab < packets.hex          lists the table of the packets
+  swimtab list a.bin b.bin       lists the table of two dumps (push/pull streams)
+  swimtab merge a.bin b.bin > c  writes one dump that says what both say
+  swimtab relate a.bin b.bin     prints equal, behind, ahead or apart
+
+Exit status: 0 done, 1 not equal, 2 words or help, 3 input refused, 4 device, 5 memory";
+
 /// Reads the words after the program's name: none, or `list FILE..`, `merge FILE..` or `relate A B`.
 ///
 /// # Errors
@@ -40,22 +53,23 @@ fn command<'a>(alloc: Global) -> Result<Command<'a>, AllocError>
     ensures { IfOk result (λ command. app_of command ≡ program) }
 {
     let bare = Command::new(alloc, "swimtab")
-        .about("Lists, joins and compares membership tables of memberlist clusters")
+        .about("Membership tables of SWIM clusters, from the messages of memberlist")
+        .after_help(EXAMPLES)
         .version("0.1.0")
         .no_binary_name(true)
         .disable_help_subcommand(true);
-    let listing = add_files(alloc, bare, "list", "Lists the table of all dumps together")?;
+    let listing = add_files(alloc, bare, "list", "Lists the table of all claims in the dumps")?;
     let merging = add_files(
         alloc,
         listing,
         "merge",
-        "Prints the dump of all dumps together",
+        "Prints the canonical dump of that table",
     )?;
     add_pair(
         alloc,
         merging,
         "relate",
-        "Tells how the tables of two dumps relate",
+        "Tells how the tables of two dumps relate: equal, behind, ahead or apart",
     )
 }
 

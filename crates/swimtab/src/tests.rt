@@ -2,13 +2,13 @@
 
 ghost use Rattle.swimtab.specs.Report.{IsAmong};
 
+mod dumps;
 mod spellings;
 mod streams;
+mod words;
 
-use crate::command_line::chosen;
 use crate::packets::packets;
 use crate::report::{Place, What, report_text, status};
-use crate::verb::{Verb, WordFault};
 use spellings::{ALIVE, CONFIRM, LEAVE, SUSPECT};
 use std::alloc::Global;
 use std::process::Abort;
@@ -368,24 +368,6 @@ fn want_of_memory_is_answered_as_such_and_then_repeated(rt: HostRuntime) -> Resu
             assert_eq!(rt; status(&report), 5);
             assert_eq!(rt; listing(rt.alloc(), input)?.as_slice(), wanted.as_bytes());
         }
-    }
-    Ok(())
-}
-
-#[test]
-fn words_ask_for_the_listing_of_packets_alone(rt: HostRuntime) -> Result<(), Fail> {
-    let alloc = rt.alloc();
-    match chosen(alloc, &[]) {
-        Ok(chosen) => assert_eq!(rt; chosen.verb(), Verb::Packets),
-        Err(fault) => return Err(Fail::from(fault)),
-    }
-    for word in ["list", "swap", "--help", "--version", "-"] {
-        let words = vec![in alloc; String::from_str(alloc, word)?]?;
-        let refused = matches!(
-            chosen(alloc, words.as_slice()),
-            Err(WordFault::Words(_) | WordFault::Memory)
-        );
-        assert!(rt; refused, "{word}");
     }
     Ok(())
 }

@@ -1,0 +1,103 @@
+//! The words of the command line.
+
+use crate::command_line::chosen;
+use crate::verb::{Verb, WordFault};
+use std::alloc::Global;
+use std::test::Fail;
+
+/// Words that are taken, what they ask for, and the words that name files.
+const TAKEN: [(&[&str], Verb, &[&str]); 7] = [
+    (&[], Verb::Packets, &[]),
+    (&["merge", "x", "y"], Verb::Merge, &["x", "y"]),
+    (&["list", "x"], Verb::List, &["x"]),
+    (&["list", "list", "-", ""], Verb::List, &["list", "-", ""]),
+    (&["relate", "x", "y"], Verb::Relate, &["x", "y"]),
+    (&["relate", "--", "-x", "--help"], Verb::Relate, &["-x", "--help"]),
+    (&["merge", "x", "x", "x"], Verb::Merge, &["x", "x", "x"]),
+];
+
+/// Words that are refused.
+const REFUSED: [&[&str]; 14] = [
+    &["list"],
+    &["merge"],
+    &["relate"],
+    &["relate", "x"],
+    &["relate", "x", "y", "z"],
+    &["swap"],
+    &["lis", "x"],
+    &["help"],
+    &["-"],
+    &[""],
+    &["--help"],
+    &["--version"],
+    &["list", "--help"],
+    &["merge", "--force", "x"],
+];
+
+fn texts(alloc: Global, words: &[&str]) -> Result<Vec<String>, Fail> {
+    let mut texts = Vec::new(alloc);
+    for word in words {
+        texts.push(String::from_str(alloc, word)?)?;
+    }
+    Ok(texts)
+}
+
+#[test]
+fn words_ask_for_a_verb_and_its_files(rt: HostRuntime) -> Result<(), Fail> {
+    let alloc = rt.alloc();
+    for (words, verb, files) in TAKEN {
+        let words = texts(alloc, words)?;
+        match chosen(alloc, words.as_slice()) {
+            Ok(chosen) => {
+                assert_eq!(rt; chosen.verb(), verb);
+                assert_eq!(rt; chosen.files().len(), files.len());
+                for (file, wanted) in chosen.files().iter().zip(files) {
+                    assert_eq!(rt; file.as_str(), *wanted);
+                }
+            }
+            Err(fault) => return Err(Fail::from(fault)),
+        }
+    }
+    Ok(())
+}
+
+#[test]
+fn other_words_are_refused_with_a_text(rt: HostRuntime) -> Result<(), Fail> {
+    let alloc = rt.alloc();
+    for words in REFUSED {
+        let texts = texts(alloc, words)?;
+        match chosen(alloc, texts.as_slice()) {
+            Ok(chosen) => assert!(rt; false, "{words:?} ask for {chosen:?}"),
+            Err(WordFault::Words(error)) => {
+                let text = format!(in alloc; "{error}")?;
+                assert!(rt; !text.is_empty(), "{words:?}");
+            }
+            Err(WordFault::Memory) => return Err(Fail::from(WordFault::Memory)),
+        }
+    }
+    Ok(())
+}
+
+#[test]
+fn help_and_version_tell_what_there_is(rt: HostRuntime) -> Result<(), Fail> {
+    let alloc = rt.alloc();
+    let asked: [(&[&str], &[&str]); 3] = [
+        (&["--help"], &["list", "merge", "relate", "hexadecimal"]),
+        (&["--version"], &["swimtab"]),
+        (&["relate", "--help"], &["<A> <B>"]),
+    ];
+    for (words, wanted) in asked {
+        let words = texts(alloc, words)?;
+        match chosen(alloc, words.as_slice()) {
+            Ok(_) => assert!(rt; false, "help is no command"),
+            Err(WordFault::Words(error)) => {
+                let text = format!(in alloc; "{error}")?;
+                for part in wanted {
+                    assert!(rt; text.contains(part), "{part:?} in {text}");
+                }
+            }
+            Err(WordFault::Memory) => return Err(Fail::from(WordFault::Memory)),
+        }
+    }
+    Ok(())
+}
