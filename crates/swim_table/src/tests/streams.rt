@@ -1,13 +1,15 @@
 //! Push/pull streams by their bytes, read step by step, as a whole, and as dumps.
 
 use super::assert_lists;
-use crate::{Relation, Step, StreamReader, Table, encode, read_dump, read_stream, relation};
-use std::alloc::Global;
+use crate::{
+    EncodeFault, Relation, Step, StreamReader, Table, encode, read_dump, read_stream, relation,
+};
+use std::alloc::{AllocError, Global};
 use std::io;
 use std::io::Read;
 use std::process::Abort;
 use std::test::Fail;
-use swim_pack::{FromRead, SliceInlet, StopInlet};
+use swim_pack::{FromRead, Inlet, SliceInlet, StopInlet};
 use swim_wire::{Header, WireFault};
 
 /// Of `a` an Alive at incarnation 4, at 127.0.0.1 and port 7947, and then a Suspect at incarnation 5.
@@ -58,6 +60,18 @@ fn read_front(alloc: Global, bytes: &[u8]) -> Result<(Table, usize), WireFault> 
     };
     let (table, _) = answer?;
     Ok((table, inlet.rest().len()))
+}
+
+/// Reads a stream from the inlet. Where memory is refused the repeat reads it from the other one.
+fn read_either<I: Inlet>(
+    alloc: Global,
+    inlet: &mut I,
+    other: &mut I,
+) -> Result<(Table, bool), WireFault> {
+    match read_stream(alloc, inlet) {
+        Err(WireFault::Memory) => read_stream(alloc, other),
+        answer => answer,
+    }
 }
 
 /// Asserts that the bytes are no dump, for this cause, and begin with no stream for the same one.
@@ -113,6 +127,13 @@ fn a_stream_that_is_cut_anywhere_ends_too_soon(rt: HostRuntime) {
     }
 }
 
+/// The bytes, and one more.
+fn followed_by(alloc: Global, bytes: &[u8], byte: u8) -> Result<Vec<u8>, AllocError> {
+    let mut all = bytes.to_vec(alloc)?;
+    all.push(byte)?;
+    Ok(all)
+}
+
 #[test]
 fn bytes_after_a_stream_are_no_part_of_it(rt: HostRuntime) -> Result<(), Fail> {
     let alloc = rt.alloc();
@@ -120,8 +141,7 @@ fn bytes_after_a_stream_are_no_part_of_it(rt: HostRuntime) -> Result<(), Fail> {
         (ALIVE, 0, "a alive 0 0/7f000001/7946//\n"),
         (USER_STATE, 0xff, ""),
     ] {
-        let mut bytes = stream.to_vec(alloc)?;
-        bytes.push(byte)?;
+        let bytes = followed_by(alloc, stream, byte)?;
         match read(alloc, &bytes) {
             Ok(_) => panic!(rt; "bytes after the stream are read"),
             Err(fault) => assert_eq!(rt; fault, WireFault::Trailing),
@@ -193,9 +213,8 @@ fn next(rt: &impl Abort, step: Step) -> StreamReader {
     }
 }
 
-#[test]
-fn each_step_reads_one_record_and_the_last_one_the_end(rt: HostRuntime) -> Result<(), Fail> {
-    let alloc = rt.alloc();
+/// Reads the stream of a Suspect step by step.
+fn read_by_steps(rt: &impl Abort, alloc: Global) -> Result<(), WireFault> {
     let mut inlet = SliceInlet::new(SUSPECTED);
     let mut reader = StreamReader::begin(alloc, &mut inlet)?;
     let header = Header {
@@ -207,14 +226,14 @@ fn each_step_reads_one_record_and_the_last_one_the_end(rt: HostRuntime) -> Resul
     assert_eq!(rt; reader.left(), 2);
     assert!(rt; reader.table().is_empty());
     for (left, listing) in [(1, "a alive 4 4/7f000001/7947//\n"), (0, SUSPECTED_LISTING)] {
-        reader = next(&rt, reader.step(&mut inlet)?);
+        reader = next(rt, reader.step(&mut inlet)?);
         assert_eq!(rt; reader.left(), left);
-        assert_lists(&rt, alloc, reader.table(), listing)?;
+        assert_lists(rt, alloc, reader.table(), listing)?;
     }
     match reader.step(&mut inlet)? {
         Step::More(_) => panic!(rt; "a third record is read"),
         Step::End(table, join) => {
-            assert_lists(&rt, alloc, &table, SUSPECTED_LISTING)?;
+            assert_lists(rt, alloc, &table, SUSPECTED_LISTING)?;
             assert!(rt; !join);
         }
     }
@@ -222,13 +241,23 @@ fn each_step_reads_one_record_and_the_last_one_the_end(rt: HostRuntime) -> Resul
     Ok(())
 }
 
+/// Where memory is refused the reader is gone, and the stream is read from its beginning.
+#[test]
+fn each_step_reads_one_record_and_the_last_one_the_end(rt: HostRuntime) -> Result<(), Fail> {
+    match read_by_steps(&rt, rt.alloc()) {
+        Err(WireFault::Memory) => Ok(read_by_steps(&rt, rt.alloc())?),
+        answer => Ok(answer?),
+    }
+}
+
 #[test]
 fn an_inlet_that_fails_at_any_call_is_a_fault(rt: HostRuntime) -> Result<(), Fail> {
     let alloc = rt.alloc();
     for calls in 1..200 {
-        match read_stream(alloc, &mut StopInlet::new(SUSPECTED, calls)) {
+        let mut inlet = StopInlet::new(SUSPECTED, calls);
+        let mut other = StopInlet::new(SUSPECTED, calls);
+        match read_either(alloc, &mut inlet, &mut other) {
             Ok((table, _)) => return Ok(assert_lists(&rt, alloc, &table, SUSPECTED_LISTING)?),
-            Err(WireFault::Memory) => return Err(Fail::from(WireFault::Memory)),
             Err(fault) => assert_eq!(rt; fault, WireFault::Fault, "at call {calls}"),
         }
     }
@@ -240,6 +269,12 @@ fn an_inlet_that_fails_at_any_call_is_a_fault(rt: HostRuntime) -> Result<(), Fai
 struct Pieces<'a> {
     bytes: &'a [u8],
     most: usize,
+}
+
+impl<'a> Pieces<'a> {
+    fn new(bytes: &'a [u8], most: usize) -> Pieces<'a> {
+        Pieces { bytes, most }
+    }
 }
 
 impl Read for Pieces<'_> {
@@ -256,11 +291,9 @@ impl Read for Pieces<'_> {
 fn a_stream_in_pieces_of_any_size_is_read(rt: HostRuntime) -> Result<(), Fail> {
     let alloc = rt.alloc();
     for most in 1..=SUSPECTED.len() {
-        let mut inlet = FromRead::new(Pieces {
-            bytes: SUSPECTED,
-            most,
-        });
-        let (table, join) = read_stream(alloc, &mut inlet)?;
+        let mut inlet = FromRead::new(Pieces::new(SUSPECTED, most));
+        let mut other = FromRead::new(Pieces::new(SUSPECTED, most));
+        let (table, join) = read_either(alloc, &mut inlet, &mut other)?;
         assert_lists(&rt, alloc, &table, SUSPECTED_LISTING)?;
         assert!(rt; !join);
     }
@@ -271,7 +304,10 @@ fn a_stream_in_pieces_of_any_size_is_read(rt: HostRuntime) -> Result<(), Fail> {
 /// an equal table.
 fn assert_dumped_alike(rt: &impl Abort, alloc: Global, bytes: &[u8]) -> Result<(), Fail> {
     if let Ok((table, _)) = read(alloc, bytes) {
-        let dump = encode(alloc, &table, false)?;
+        let dump = match encode(alloc, &table, false) {
+            Err(EncodeFault::Memory) => encode(alloc, &table, false)?,
+            answer => answer?,
+        };
         let (again, _) = read(alloc, &dump)?;
         assert_eq!(rt; relation(&table, &again), Relation::Equal);
     }
