@@ -61,42 +61,36 @@ fn words_ask_for_a_verb_and_its_files(rt: HostRuntime) -> Result<(), Fail> {
     Ok(())
 }
 
+/// The text with which words are refused, or none where they are taken.
+fn refusal(alloc: Global, words: &[&str]) -> Result<Option<String>, Fail> {
+    let words = texts(alloc, words)?;
+    match chosen(alloc, words.as_slice()) {
+        Ok(_chosen) => Ok(None),
+        Err(WordFault::Words(error)) => Ok(Some(format!(in alloc; "{error}")?)),
+        Err(WordFault::Memory) => Err(Fail::from(WordFault::Memory)),
+    }
+}
+
 #[test]
 fn other_words_are_refused_with_a_text(rt: HostRuntime) -> Result<(), Fail> {
-    let alloc = rt.alloc();
     for words in REFUSED {
-        let texts = texts(alloc, words)?;
-        match chosen(alloc, texts.as_slice()) {
-            Ok(chosen) => assert!(rt; false, "{words:?} ask for {chosen:?}"),
-            Err(WordFault::Words(error)) => {
-                let text = format!(in alloc; "{error}")?;
-                assert!(rt; !text.is_empty(), "{words:?}");
-            }
-            Err(WordFault::Memory) => return Err(Fail::from(WordFault::Memory)),
-        }
+        let text = refusal(rt.alloc(), words)?.expect(&rt, "a refusal");
+        assert!(rt; !text.is_empty(), "{words:?}");
     }
     Ok(())
 }
 
 #[test]
 fn help_and_version_tell_what_there_is(rt: HostRuntime) -> Result<(), Fail> {
-    let alloc = rt.alloc();
     let asked: [(&[&str], &[&str]); 3] = [
         (&["--help"], &["list", "merge", "relate", "hexadecimal"]),
         (&["--version"], &["swimtab"]),
         (&["relate", "--help"], &["<A> <B>"]),
     ];
     for (words, wanted) in asked {
-        let words = texts(alloc, words)?;
-        match chosen(alloc, words.as_slice()) {
-            Ok(_) => assert!(rt; false, "help is no command"),
-            Err(WordFault::Words(error)) => {
-                let text = format!(in alloc; "{error}")?;
-                for part in wanted {
-                    assert!(rt; text.contains(part), "{part:?} in {text}");
-                }
-            }
-            Err(WordFault::Memory) => return Err(Fail::from(WordFault::Memory)),
+        let text = refusal(rt.alloc(), words)?.expect(&rt, "a text");
+        for part in wanted {
+            assert!(rt; text.contains(part), "{part:?} in {text}");
         }
     }
     Ok(())
