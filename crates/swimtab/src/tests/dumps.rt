@@ -93,6 +93,20 @@ fn said(rt: &impl Abort, alloc: Global, report: &Report) -> Result<(String, u8),
     Ok((report_text(alloc, report, &words)?, status(report)))
 }
 
+/// That the report is there, with this text and the status of a wrong input.
+fn assert_refused(
+    rt: &impl Abort,
+    alloc: Global,
+    report: Option<Report>,
+    wanted: &str,
+) -> Result<(), Fail> {
+    let report = report.expect(rt, "a refusal");
+    let (text, status) = said(rt, alloc, &report)?;
+    assert_eq!(rt; text.as_str(), wanted);
+    assert_eq!(rt; status, 3, "{wanted}");
+    Ok(())
+}
+
 /// The dump of so many suspected members, from a first number on.
 fn suspects(rt: &impl Abort, alloc: Global, from: u32, count: u32) -> Result<Vec<u8>, Fail> {
     let mut table = Table::new(alloc);
@@ -150,18 +164,10 @@ fn dumps_relate_as_their_tables_do(rt: HostRuntime) -> Result<(), Fail> {
 fn a_file_that_is_no_dump_is_named(rt: HostRuntime) -> Result<(), Fail> {
     let alloc = rt.alloc();
     for (bad, wanted) in REFUSED {
-        let files = files(alloc, &[P, bad])?;
-        let refusals = [
-            listed(alloc, &files).err(),
-            merged(alloc, &files).err(),
-            related(alloc, &files[0], &files[1]).err(),
-        ];
-        for report in refusals {
-            let report = report.expect(&rt, "a refusal");
-            let (text, status) = said(&rt, alloc, &report)?;
-            assert_eq!(rt; text.as_str(), wanted);
-            assert_eq!(rt; status, 3, "{wanted}");
-        }
+        let files = [hex::decode(alloc, P)?, hex::decode(alloc, bad)?];
+        assert_refused(&rt, alloc, listed(alloc, &files).err(), wanted)?;
+        assert_refused(&rt, alloc, merged(alloc, &files).err(), wanted)?;
+        assert_refused(&rt, alloc, related(alloc, &files[0], &files[1]).err(), wanted)?;
     }
     Ok(())
 }
@@ -171,21 +177,14 @@ fn lengths_are_checked_before_the_first_file_is_read(rt: HostRuntime) -> Result<
     let alloc = rt.alloc();
     let piece = [0; 65536];
     let mut long = Vec::with_capacity(alloc, BOUND + piece.len())?;
-    while long.len() <= BOUND {
+    for _ in 0..=BOUND / 65536 {
         long.extend_from_slice(&piece)?;
     }
     let files = [Vec::new(alloc), long];
     let wanted = "swimtab: no dump: fault 32 InputTooLong";
-    let refusals = [
-        listed(alloc, &files).err(),
-        merged(alloc, &files).err(),
-        related(alloc, &files[0], &files[1]).err(),
-    ];
-    for report in refusals {
-        let (text, _) = said(&rt, alloc, &report.expect(&rt, "a refusal"))?;
-        assert_eq!(rt; text.as_str(), wanted);
-    }
-    Ok(())
+    assert_refused(&rt, alloc, listed(alloc, &files).err(), wanted)?;
+    assert_refused(&rt, alloc, merged(alloc, &files).err(), wanted)?;
+    assert_refused(&rt, alloc, related(alloc, &files[0], &files[1]).err(), wanted)
 }
 
 #[test]
@@ -207,7 +206,7 @@ fn a_join_of_too_many_records_is_listed_and_not_dumped(rt: HostRuntime) -> Resul
 #[test]
 fn want_of_memory_for_dumps_is_answered_as_such(rt: HostRuntime) -> Result<(), Fail> {
     let alloc = rt.alloc();
-    let files = files(alloc, &[P, Q])?;
+    let files = [hex::decode(alloc, P)?, hex::decode(alloc, Q)?];
     let wanted = hex::decode(alloc, R)?;
     if let Err(report) = merged(alloc, &files) {
         assert_eq!(rt; report.what, What::Memory);
