@@ -1,0 +1,4 @@
+pub mod Fault
+pub mod Heard
+pub mod Levels
+pub mod Paths

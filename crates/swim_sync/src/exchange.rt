@@ -1,0 +1,1 @@
+//! The exchange of two members' tables.

@@ -1,0 +1,1 @@
+//! Why an exchange was refused.
