@@ -1,0 +1,4 @@
+pub mod Levelling
+pub mod Routes
+pub mod Runs
+pub mod Shown
