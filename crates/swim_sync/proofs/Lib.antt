@@ -1,4 +1,5 @@
 pub mod Levelling
+pub mod Refutations
 pub mod Routes
 pub mod Runs
 pub mod Shown

@@ -43,6 +43,17 @@ pub fn two_members()
         → (claims ≡ Reduced table) × (flag ≡ join) }
 {}
 
+/// A member's refutation is its Alive at the next incarnation where one is due and this incarnation is
+/// at most 4,294,967,295, and else nothing.
+pub fn refutations()
+    ensures due { (member : Member) (claims : List Claim) (inc : ℕ) → Due claims member.name member.details
+        → IsNext claims member.name inc → inc ≤ 4294967295
+        → refutation member claims ≡ Alive member.name inc member.details ∷ [] }
+    ensures none { (member : Member) (claims : List Claim)
+        → ((inc : ℕ) → Due claims member.name member.details → IsNext claims member.name inc → ¬ (inc ≤ 4294967295))
+        → refutation member claims ≡ [] }
+{}
+
 /// The list of exchanges that levels a cluster has two exchanges for each node, less three. After it
 /// each node has heard exactly what all nodes had heard together.
 pub fn levels()
