@@ -1,5 +1,5 @@
 -- A member refutes exactly where a refutation is due, by its Alive at the next incarnation.
-use Rattle.std.proofs.Common.{◌≡◌, ◌≢◌, ◌⊎◌, ℕ, ◌+◌, ◌<◌, ◌≤◌, Bool, true, false, if◌then◌else◌, IsTrue, Option, Some, None, List, [], ◌∷◌, Contains, refl, sym, ap, subst, ◌∙◌, inl, inr, arith}
+use Rattle.std.proofs.Common.{◌≡◌, ◌≢◌, ◌⊎◌, ℕ, ◌+◌, ◌<◌, ◌≤◌, Bool, true, false, if◌then◌else◌, Option, Some, None, List, [], ◌∷◌, refl, sym, ap, subst, ◌∙◌, inl, inr, arith}
 use Rattle.std.specs.Prelude.{nat_le}
 use Rattle.std.specs.Ordering.{is_eq}
 use Rattle.std.specs.declared.cmp.Ordering.{Ordering}
@@ -12,12 +12,12 @@ use Rattle.swim_claim.specs.declared.claim.Claim.{Claim}
 use Rattle.swim_claim.specs.declared.claim.Claim.TheVariants.{Alive, Suspect, Confirm, Leave}
 use Rattle.swim_claim.specs.Claim.{name_of, inc_of, details_of, Overrides}
 use Rattle.swim_claim.specs.Overriding.{overrides_irreflexive}
-use Rattle.swim_claim.specs.Details.{DetailsValue, details_cmp}
+use Rattle.swim_claim.specs.Details.{details_cmp}
 use Rattle.swim_table.specs.Standing.{Standing}
-use Rattle.swim_table.specs.Table.{Entries, get, name_cmp, Says, Stands, IsStandingOf}
+use Rattle.swim_table.specs.Table.{get, name_cmp, Says, Stands, IsStandingOf}
 use Rattle.swim_table.specs.Join.{greater_home, table_of}
 use Rattle.swim_table.specs.Refuting.{Due, IsFinal, IsNext}
-use Rattle.swim_table.proofs.Greatest.{Greatest, IsGreatest, Greatest-unique, Greatest-append}
+use Rattle.swim_table.proofs.Greatest.{Greatest, Greatest-unique, Greatest-append}
 use Rattle.swim_table.proofs.Lookups.{only_one}
 use Rattle.swim_table.proofs.Refuting.{Due-top, IsNext-top, same_details}
 use Rattle.swim_table.proofs.Tables.{IsAbout, top_of, parts, TableOf-table_of}

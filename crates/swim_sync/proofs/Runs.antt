@@ -1,9 +1,9 @@
 -- What one event adds to what each node has heard.
-use Rattle.std.proofs.Common.{◌≡◌, ◌≢◌, ◌⊎◌, ℕ, ◌<◌, ◌≤◌, Bool, true, false, not, ◌&&◌, if◌then◌else◌, List, [], ◌∷◌, ◌++◌, length, get_or, set, Contains, refl, sym, ap, subst, ◌∙◌, inl, inr, arith, length-set, get_or-set_same, get_or-set_other}
+use Rattle.std.proofs.Common.{◌≡◌, ◌≢◌, ◌⊎◌, ℕ, ◌+◌, ◌<◌, ◌≤◌, Bool, true, false, not, ◌&&◌, if◌then◌else◌, List, [], ◌∷◌, ◌++◌, length, get_or, set, take, Contains, refl, sym, ap, subst, ◌∙◌, inl, inr, arith, length-set, get_or-set_same, get_or-set_other}
 use Rattle.std.specs.Prelude.{nat_eq, nat_lt}
 use Rattle.std.proofs.lemmas.Bool.{and_parts, and_from, cases_eq, cases_lt}
 use Rattle.std.proofs.lemmas.Bool.Decides.{nat_tests}
-use Rattle.std.proofs.lemmas.List.{set_past}
+use Rattle.std.proofs.lemmas.List.{set_past, take_more}
 use Rattle.std.proofs.lemmas.List.Elements.{Contains-append_left, Contains-append_right, Contains-append_cases}
 use Rattle.swim_claim.specs.declared.claim.Claim.{Claim}
 use Rattle.swim_table.proofs.Lookups.{only_one}
@@ -59,7 +59,23 @@ pub length-heard : (members : List Member) (start : List (List Claim)) (events :
 length-heard members start [] = refl
 length-heard members start (event ∷ events) = length-heard members (after members start event) events ∙ length-after members start event
 
+-- ---- runs in parts
+
+pub heard-append : (members : List Member) (start : List (List Claim)) (events others : List Event) → heard members start (events ++ others) ≡ heard members (heard members start events) others
+heard-append members start [] others = refl
+heard-append members start (event ∷ events) others = heard-append members (after members start event) events others
+
+-- a run of one more event
+pub heard_more : (members : List Member) (start : List (List Claim)) (events : List Event) (i : ℕ) (event : Event) → i < length events → heard members start (take (i + 1) events) ≡ after members (heard members start (take i events)) (get_or events i event)
+heard_more members start events i event below = ap (heard members start) (take_more events i event below) ∙ heard-append members start (take i events) (get_or events i event ∷ [])
+
 -- ---- one node hears more
+
+pub hear_same : (lists : List (List Claim)) (k : ℕ) (claims : List Claim) → k < length lists → heard_by (hear lists k claims) k ≡ heard_by lists k ++ claims
+hear_same lists k claims below = get_or-set_same lists k (heard_by lists k ++ claims) [] below
+
+pub hear_other : (lists : List (List Claim)) (k : ℕ) (claims : List Claim) (y : ℕ) → y ≢ k → heard_by (hear lists k claims) y ≡ heard_by lists y
+hear_other lists k claims y other = get_or-set_other lists k y (heard_by lists k ++ claims) [] other
 
 -- of node y's list either nothing changed, or it is node k's
 abbrev IsHeard : List (List Claim) → ℕ → List Claim → ℕ → List Claim → Type 0
@@ -70,10 +86,10 @@ hear_list : (lists : List (List Claim)) (k : ℕ) (claims : List Claim) (y : ℕ
 hear_list lists k claims y = elim (cases_eq y k) [
   | inl same ↦
       elim (cases_lt y (length lists)) [
-        | inl below ↦ inr (same, below, subst (λ m. get_or (set lists k (heard_by lists k ++ claims)) m [] ≡ heard_by lists k ++ claims) (sym same) (get_or-set_same lists k (heard_by lists k ++ claims) [] (subst (λ m. m < length lists) same below)))
+        | inl below ↦ inr (same, below, subst (λ m. get_or (set lists k (heard_by lists k ++ claims)) m [] ≡ heard_by lists k ++ claims) (sym same) (hear_same lists k claims (subst (λ m. m < length lists) same below)))
         | inr past ↦ inl (ap (λ l. get_or l y []) (set_past lists k (heard_by lists k ++ claims) (subst (λ m. length lists ≤ m) same past)))
       ]
-  | inr other ↦ inl (get_or-set_other lists k y (heard_by lists k ++ claims) [] other)
+  | inr other ↦ inl (hear_other lists k claims y other)
 ]
 
 hear_cases : (lists : List (List Claim)) (k : ℕ) (claims : List Claim) (y : ℕ) (c : Claim) → Contains (heard_by (hear lists k claims) y) c → Contains (heard_by lists y) c ⊎ ((y ≡ k) × (y < length lists) × Contains claims c)
@@ -94,17 +110,17 @@ hear_kept lists k claims y c made = elim (hear_list lists k claims y) [
 
 hear_new : (lists : List (List Claim)) (k : ℕ) (claims : List Claim) (c : Claim) → k < length lists → Contains claims c → Contains (heard_by (hear lists k claims) k) c
 hear_new lists k claims c below made =
-    subst (λ l. Contains l c) (sym (get_or-set_same lists k (heard_by lists k ++ claims) [] below)) (Contains-append_right (heard_by lists k) claims c made)
+    subst (λ l. Contains l c) (sym (hear_same lists k claims below)) (Contains-append_right (heard_by lists k) claims c made)
 
 -- ---- two nodes hear the same
 
-both_first : (lists : List (List Claim)) (j k : ℕ) (claims : List Claim) → AreTwoNodes (length lists) j k → heard_by (hear_both lists j k claims) j ≡ claims
+pub both_first : (lists : List (List Claim)) (j k : ℕ) (claims : List Claim) → AreTwoNodes (length lists) j k → heard_by (hear_both lists j k claims) j ≡ claims
 both_first lists j k claims two = get_or-set_other (set lists j claims) k j claims [] two.2 ∙ get_or-set_same lists j claims [] two.0
 
-both_second : (lists : List (List Claim)) (j k : ℕ) (claims : List Claim) → AreTwoNodes (length lists) j k → heard_by (hear_both lists j k claims) k ≡ claims
+pub both_second : (lists : List (List Claim)) (j k : ℕ) (claims : List Claim) → AreTwoNodes (length lists) j k → heard_by (hear_both lists j k claims) k ≡ claims
 both_second lists j k claims two = get_or-set_same (set lists j claims) k claims [] (subst (λ n. k < n) (sym (length-set lists j claims)) two.1)
 
-both_other : (lists : List (List Claim)) (j k : ℕ) (claims : List Claim) (y : ℕ) → y ≢ j → y ≢ k → heard_by (hear_both lists j k claims) y ≡ heard_by lists y
+pub both_other : (lists : List (List Claim)) (j k : ℕ) (claims : List Claim) (y : ℕ) → y ≢ j → y ≢ k → heard_by (hear_both lists j k claims) y ≡ heard_by lists y
 both_other lists j k claims y first second = get_or-set_other (set lists j claims) k y claims [] second ∙ get_or-set_other lists j y claims [] first
 
 -- ---- one event
