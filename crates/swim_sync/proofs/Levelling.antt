@@ -139,3 +139,10 @@ module _ (members : List Member) (start : List (List Claim)) (k : ℕ) (c : Clai
 
 pub level : (members : List Member) (start : List (List Claim)) (k : ℕ) → k < length start → Same (heard_by (heard members start (level_list (length start))) k) (all_heard start)
 level members start k below c = (heard_before members start k c, heard_now members start k c below)
+
+-- each node has heard what each other one has
+pub level_both : (members : List Member) (start : List (List Claim)) (j k : ℕ) → j < length start → k < length start → Same (heard_by (heard members start (level_list (length start))) j) (heard_by (heard members start (level_list (length start))) k)
+level_both members start j k first second c =
+    let one = level members start j first c in
+    let other = level members start k second c in
+    (λ made. other.1 (one.0 made), λ made. one.1 (other.0 made))

@@ -1,5 +1,5 @@
 -- A member refutes exactly where a refutation is due, by its Alive at the next incarnation.
-use Rattle.std.proofs.Common.{◌≡◌, ◌≢◌, ◌⊎◌, ℕ, ◌+◌, ◌<◌, ◌≤◌, Bool, true, false, if◌then◌else◌, Option, Some, None, List, [], ◌∷◌, refl, sym, ap, subst, ◌∙◌, inl, inr, arith}
+use Rattle.std.proofs.Common.{◌≡◌, ◌≢◌, ◌⊎◌, ℕ, ◌+◌, ◌<◌, ◌≤◌, Bool, true, false, if◌then◌else◌, Option, Some, None, List, [], ◌∷◌, ◌++◌, refl, sym, ap, subst, ◌∙◌, inl, inr, arith}
 use Rattle.std.specs.Prelude.{nat_le}
 use Rattle.std.specs.Ordering.{is_eq}
 use Rattle.std.specs.declared.cmp.Ordering.{Ordering}
@@ -14,9 +14,10 @@ use Rattle.swim_claim.specs.Claim.{name_of, inc_of, details_of, Overrides}
 use Rattle.swim_claim.specs.Overriding.{overrides_irreflexive}
 use Rattle.swim_claim.specs.Details.{details_cmp}
 use Rattle.swim_table.specs.Standing.{Standing}
-use Rattle.swim_table.specs.Table.{get, name_cmp, Says, Stands, IsStandingOf}
+use Rattle.swim_table.specs.Table.{get, name_cmp, Says, Stands, IsStandingOf, TableOf}
 use Rattle.swim_table.specs.Join.{greater_home, table_of}
-use Rattle.swim_table.specs.Refuting.{Due, IsFinal, IsNext}
+use Rattle.swim_table.specs.Node.{NodeValue}
+use Rattle.swim_table.specs.Refuting.{Due, IsFinal, IsNext, IsRefutedBy, IsAtRest, IsExhausted, IsGone}
 use Rattle.swim_table.proofs.Greatest.{Greatest, Greatest-unique, Greatest-append}
 use Rattle.swim_table.proofs.Lookups.{only_one}
 use Rattle.swim_table.proofs.Refuting.{Due-top, IsNext-top, same_details}
@@ -140,3 +141,29 @@ module _ (claims : List Claim) (member : Member) where
     | inl at ↦ absurd (not_due at.0 at.1.0 at.1.1 at.1.2)
     | inr none ↦ none.0
   ]
+
+-- ---- a node's refutation
+
+-- who the node is
+abbrev pub member_of : NodeValue → Member
+member_of node = record { name = node.name; details = node.details }
+
+-- a node that refuted has the table of what it had heard and its refutation
+pub refuted_table : (old new : NodeValue) (inc : ℕ) → IsRefutedBy old new inc → inc ≤ 4294967295 → (claims : List Claim) → TableOf old.table claims → TableOf new.table (claims ++ refutation (member_of old) claims)
+refuted_table old new inc r within claims h =
+    let by = r.due.all claims h in
+    subst (λ added. TableOf new.table (claims ++ added)) (sym (refutation-due claims (member_of old) inc by.0 by.1 within)) (r.taken.all claims h)
+
+-- one that is at rest, exhausted or gone adds nothing
+pub at_rest_adds : (node : NodeValue) → IsAtRest node → (claims : List Claim) → TableOf node.table claims → refutation (member_of node) claims ≡ []
+at_rest_adds node r claims h = refutation-none claims (member_of node) (λ inc due next within. (r.all claims h).0 due)
+
+pub exhausted_adds : (node : NodeValue) → IsExhausted node → (claims : List Claim) → TableOf node.table claims → refutation (member_of node) claims ≡ []
+exhausted_adds node e claims h =
+    refutation-none claims (member_of node) (λ inc due next within. (
+    let same = IsNext-unique claims node.name inc e.0 next (e.1.all claims h).1 in
+    omega (arith, same, within, e.2)))
+
+pub gone_adds : (node : NodeValue) (inc : ℕ) → IsGone node inc → (claims : List Claim) → TableOf node.table claims → refutation (member_of node) claims ≡ []
+gone_adds node inc g claims h =
+    refutation-none claims (member_of node) (λ next due _ within. (let final = g.all claims h in due.not_final final.0 final.1.made final.3 final.2))

@@ -59,6 +59,25 @@ pub length-heard : (members : List Member) (start : List (List Claim)) (events :
 length-heard members start [] = refl
 length-heard members start (event ∷ events) = length-heard members (after members start event) events ∙ length-after members start event
 
+-- ---- events that change nothing
+
+pub hear_nowhere : (lists : List (List Claim)) (k : ℕ) (claims : List Claim) → length lists ≤ k → hear lists k claims ≡ lists
+hear_nowhere lists k claims past = set_past lists k (heard_by lists k ++ claims) past
+
+pub exchange_nothing : (members : List Member) (lists : List (List Claim)) (j k : ℕ) → ¬ AreTwoNodes (length lists) j k → after members lists (Exchange j k) ≡ lists
+exchange_nothing members lists j k not_two = by_test (are_two_nodes (length lists) j k) refl
+  where
+    by_test : (b : Bool) → are_two_nodes (length lists) j k ≡ b → (if b then hear_both lists j k (heard_by lists j ++ heard_by lists k) else lists) ≡ lists
+    by_test true test = absurd (not_two (two_nodes (length lists) j k test))
+    by_test false test = refl
+
+pub half_nothing : (members : List Member) (lists : List (List Claim)) (j k : ℕ) → ¬ AreTwoNodes (length lists) j k → after members lists (Half j k) ≡ lists
+half_nothing members lists j k not_two = by_test (are_two_nodes (length lists) j k) refl
+  where
+    by_test : (b : Bool) → are_two_nodes (length lists) j k ≡ b → (if b then hear lists k (heard_by lists j) else lists) ≡ lists
+    by_test true test = absurd (not_two (two_nodes (length lists) j k test))
+    by_test false test = refl
+
 -- ---- runs in parts
 
 pub heard-append : (members : List Member) (start : List (List Claim)) (events others : List Event) → heard members start (events ++ others) ≡ heard members (heard members start events) others
@@ -87,7 +106,7 @@ hear_list lists k claims y = elim (cases_eq y k) [
   | inl same ↦
       elim (cases_lt y (length lists)) [
         | inl below ↦ inr (same, below, subst (λ m. get_or (set lists k (heard_by lists k ++ claims)) m [] ≡ heard_by lists k ++ claims) (sym same) (hear_same lists k claims (subst (λ m. m < length lists) same below)))
-        | inr past ↦ inl (ap (λ l. get_or l y []) (set_past lists k (heard_by lists k ++ claims) (subst (λ m. length lists ≤ m) same past)))
+        | inr past ↦ inl (ap (λ l. get_or l y []) (hear_nowhere lists k claims (subst (λ m. length lists ≤ m) same past)))
       ]
   | inr other ↦ inl (hear_other lists k claims y other)
 ]

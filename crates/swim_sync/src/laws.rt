@@ -11,9 +11,10 @@ ghost use Rattle.swim_table.specs.Dump.{dump_bytes};
 ghost use Rattle.swim_table.specs.Listing.{listing};
 ghost use Rattle.swim_table.specs.Refuting.{Due, IsNext};
 ghost use Rattle.swim_sync.specs.declared.event.Event.{Event};
-ghost use Rattle.swim_sync.specs.Heard.{Member, heard, heard_by, refutation};
+ghost use Rattle.swim_sync.specs.declared.event.Event.TheVariants.{Hear, HearAll, Exchange, Half, Refute};
+ghost use Rattle.swim_sync.specs.Heard.{Member, after, heard, heard_by, refutation};
 ghost use Rattle.swim_sync.specs.Levels.{level_list, all_heard};
-ghost use Rattle.swim_sync.specs.Paths.{Reaches};
+ghost use Rattle.swim_sync.specs.Paths.{AreTwoNodes, Reaches};
 
 /// Two members that take in the same claims, in any order and grouping and however often, have one
 /// table, one listing and one dump. Joining their tables is commutative, associative and idempotent.
@@ -55,11 +56,33 @@ pub fn refutations()
 {}
 
 /// The list of exchanges that levels a cluster has two exchanges for each node, less three. After it
-/// each node has heard exactly what all nodes had heard together.
+/// each node has heard exactly what all nodes had heard together, and so all have one table.
 pub fn levels()
     ensures count { (nodes : ℕ) → 2 ≤ nodes → length (level_list nodes) ≡ 2 * nodes - 3 }
     ensures level { (members : List Member) (start : List (List Claim)) → (k : ℕ) → k < length start
         → Same (heard_by (heard members start (level_list (length start))) k) (all_heard start) }
+    ensures one_table { (members : List Member) (start : List (List Claim)) → (j k : ℕ) (table other : Entries)
+        → j < length start → k < length start
+        → TableOf table (heard_by (heard members start (level_list (length start))) j)
+        → TableOf other (heard_by (heard members start (level_list (length start))) k)
+        → table ≡ other }
+{}
+
+/// An event with a number that is no node's, and an exchange of a node with itself, change nothing. No
+/// event adds a node or takes one away.
+pub fn idle_events()
+    ensures hear { (members : List Member) (lists : List (List Claim)) (k : ℕ) (claim : Claim) → length lists ≤ k
+        → after members lists (Hear k claim) ≡ lists }
+    ensures hear_all { (members : List Member) (lists : List (List Claim)) (k : ℕ) (claims : List Claim) → length lists ≤ k
+        → after members lists (HearAll k claims) ≡ lists }
+    ensures exchange { (members : List Member) (lists : List (List Claim)) (j k : ℕ) → ¬ AreTwoNodes (length lists) j k
+        → after members lists (Exchange j k) ≡ lists }
+    ensures half { (members : List Member) (lists : List (List Claim)) (j k : ℕ) → ¬ AreTwoNodes (length lists) j k
+        → after members lists (Half j k) ≡ lists }
+    ensures refute { (members : List Member) (lists : List (List Claim)) (k : ℕ) → length lists ≤ k
+        → after members lists (Refute k) ≡ lists }
+    ensures nodes { (members : List Member) (start : List (List Claim)) (events : List Event)
+        → length (heard members start events) ≡ length start }
 {}
 
 /// A node has heard a claim exactly where the claim entered some node, at the start or with an event,
