@@ -1,5 +1,5 @@
 -- A member refutes exactly where a refutation is due, by its Alive at the next incarnation.
-use Rattle.std.proofs.Common.{◌≡◌, ◌≢◌, ◌⊎◌, ℕ, ◌+◌, ◌<◌, ◌≤◌, Bool, true, false, if◌then◌else◌, Option, Some, None, List, [], ◌∷◌, ◌++◌, refl, sym, ap, subst, ◌∙◌, inl, inr, arith}
+use Rattle.std.proofs.Common.{◌≡◌, ◌≢◌, ◌⊎◌, ℕ, ◌+◌, ◌<◌, ◌≤◌, Bool, true, false, if◌then◌else◌, Option, Some, None, List, [], ◌∷◌, ◌++◌, Contains, refl, sym, ap, subst, ◌∙◌, inl, inr, arith}
 use Rattle.std.specs.Prelude.{nat_le}
 use Rattle.std.specs.Ordering.{is_eq}
 use Rattle.std.specs.declared.cmp.Ordering.{Ordering}
@@ -140,6 +140,13 @@ module _ (claims : List Claim) (member : Member) where
   refutation-none not_due = elim refutes [
     | inl at ↦ absurd (not_due at.0 at.1.0 at.1.1 at.1.2)
     | inr none ↦ none.0
+  ]
+
+  -- it says only what is due
+  pub refutation-said : (c : Claim) → Contains (refutation member claims) c → (inc : ℕ) × (c ≡ Alive member.name inc member.details) × Due claims member.name member.details × IsNext claims member.name inc × (inc ≤ 4294967295)
+  refutation-said c made = elim refutes [
+    | inl at ↦ (at.0, sym (only_one (Alive member.name at.0 member.details) c (subst (λ l. Contains l c) at.2 made)), at.1.0, at.1.1, at.1.2)
+    | inr none ↦ (let nowhere : Contains [] c = subst (λ l. Contains l c) none.0 made in absurd (omega (arith, nowhere.1)))
   ]
 
 -- ---- a node's refutation

@@ -53,6 +53,9 @@ pub fn refutations()
     ensures none { (member : Member) (claims : List Claim)
         → ((inc : ℕ) → Due claims member.name member.details → IsNext claims member.name inc → ¬ (inc ≤ 4294967295))
         → refutation member claims ≡ [] }
+    ensures said { (member : Member) (claims : List Claim) (said : Claim) → Contains (refutation member claims) said
+        → (inc : ℕ) × (said ≡ Alive member.name inc member.details) × Due claims member.name member.details
+        × IsNext claims member.name inc × (inc ≤ 4294967295) }
 {}
 
 /// The list of exchanges that levels a cluster has two exchanges for each node, less three. After it
