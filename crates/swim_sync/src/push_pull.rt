@@ -72,11 +72,11 @@ pub fn answer<I: Inlet, O: Outlet>(
     ensures rest { OnErr result (Skips (I.seen inlet.old).coming (I.seen inlet.new).coming) }
     ensures refused { IfErr result (IsAnswerRefused (I.seen inlet.old) (I.seen inlet.new) (O.seen outlet.old) (O.seen outlet.new) table.old) }
 {
-    let (theirs, join) = read_stream(alloc, inlet)?;
+    let (offered, join) = read_stream(alloc, inlet)?;
     let reply = encode(alloc, table, join)?;
-    let room = room_for_both(alloc, table, &theirs)?;
+    let room = room_for_both(alloc, table, &offered)?;
     outlet.push(&reply)?;
-    table.join_in(room, theirs);
+    table.join_in(room, offered);
     Ok(join)
 }
 
@@ -97,9 +97,9 @@ pub fn finish<I: Inlet>(alloc: Global, inlet: &mut I, table: &mut Table) -> Resu
     ensures rest { OnErr result (Skips (I.seen inlet.old).coming (I.seen inlet.new).coming) }
     ensures refused { IfErr result (IsFinishRefused (I.seen inlet.old) (I.seen inlet.new)) }
 {
-    let (theirs, join) = read_stream(alloc, inlet)?;
-    let room = room_for_both(alloc, table, &theirs)?;
-    table.join_in(room, theirs);
+    let (replied, join) = read_stream(alloc, inlet)?;
+    let room = room_for_both(alloc, table, &replied)?;
+    table.join_in(room, replied);
     Ok(join)
 }
 

@@ -32,7 +32,8 @@ fn after_a_reply_that_was_cut_a_whole_exchange_joins_both(
         let mut first = alive_table(&rt, alloc)?;
         let mut second = suspect_table(&rt, alloc)?;
         let reply = answered(&rt, alloc, ALIVE_OFFER, &mut second, true)?;
-        assert_finishes(&rt, alloc, &reply.bytes()[..len], &mut first, ENDED)?;
+        assert_eq!(rt; reply.bytes(), SUSPECT_OFFER);
+        assert_finishes(&rt, alloc, &SUSPECT_OFFER[..len], &mut first, ENDED)?;
         assert_lists(&rt, alloc, &first, ALIVE_LISTING)?;
         assert_lists(&rt, alloc, &second, JOINED_LISTING)?;
         assert_exchanges(&rt, alloc, &mut first, &mut second)?;

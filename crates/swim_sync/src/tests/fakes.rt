@@ -41,7 +41,7 @@ impl Taker {
 
 impl Write for Taker {
     fn write(&mut self, buf: &[u8]) -> io::Result<usize> {
-        if self.len + 1 >= self.fails_at || self.len >= 80 {
+        if self.len >= 80 || self.len + 1 >= self.fails_at {
             return Err(Error::from(ErrorKind::ConnectionReset));
         }
         let Some(first) = buf.first() else {
