@@ -1,9 +1,8 @@
 -- Tables that take a stream's claims in, and tables that come back from their dumps.
-use Rattle.std.proofs.Common.{◌≡◌, ◌↔◌, ℕ, ◌<◌, ◌≤◌, Bool, false, List, ◌++◌, length, Result, Ok, Err, refl, sym, ap, subst, ◌∙◌, arith}
+use Rattle.std.proofs.Common.{◌≡◌, ◌↔◌, ℕ, ◌≤◌, Bool, false, List, ◌++◌, length, Ok, Err, sym, ap, subst, ◌∙◌, arith}
 use Rattle.swim_claim.specs.declared.claim.Claim.{Claim}
 use Rattle.swim_pack.specs.Ends.{Source, Takes}
 use Rattle.swim_wire.specs.Streams.{StreamText}
-use Rattle.swim_table.specs.declared.fault.EncodeFault.{EncodeFault}
 use Rattle.swim_table.specs.declared.fault.EncodeFault.TheVariants.{TooManyRecords}
 use Rattle.swim_table.specs.Dump.{dump_bytes}
 use Rattle.swim_table.specs.Join.{Join}

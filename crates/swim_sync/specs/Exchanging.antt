@@ -49,7 +49,8 @@ IsOfferRefused old new table join Memory = Keeps old.written new.written
 abbrev pub IsAnswerRefused : Source → Source → Sink → Sink → Entries → SyncFault → Type 0
 IsAnswerRefused old new out_old out_new table (Wire error) = LacksStream old new error × Keeps out_old.written out_new.written
 IsAnswerRefused old new out_old out_new table TooManyRecords = HasTooMany table × Keeps out_old.written out_new.written
-IsAnswerRefused old new out_old out_new table Push = (join : Bool) × PushesFront out_old out_new table join
+IsAnswerRefused old new out_old out_new table Push =
+    (claims : List Claim) × (join : Bool) × Takes old new (λ b. StreamText b claims join) × PushesFront out_old out_new table join
 IsAnswerRefused old new out_old out_new table Memory = Keeps out_old.written out_new.written
 
 -- why a reply is not taken in
