@@ -1,3 +1,4 @@
+pub mod Exchanging
 pub mod Levelling
 pub mod Refutations
 pub mod Routes

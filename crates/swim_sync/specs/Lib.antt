@@ -1,3 +1,4 @@
+pub mod Exchanging
 pub mod Fault
 pub mod Heard
 pub mod Levels

@@ -2,12 +2,12 @@
 #![tactic(auto)]
 
 mod event;
-mod exchange;
 mod fault;
 pub mod laws;
+mod push_pull;
 #[cfg(test)]
 mod tests;
 
 pub use event::{Claims, Event};
-pub use exchange::{answer, exchange, finish, offer};
 pub use fault::SyncFault;
+pub use push_pull::{answer, exchange, finish, offer};

@@ -1,1 +1,0 @@
-//! The exchange of two members' tables.
