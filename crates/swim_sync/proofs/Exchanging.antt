@@ -1,0 +1,50 @@
+-- Tables that take a stream's claims in, and tables that come back from their dumps.
+use Rattle.std.proofs.Common.{◌≡◌, ◌↔◌, ℕ, ◌≤◌, Bool, false, List, ◌++◌, length, Ok, Err, sym, ap, subst, ◌∙◌, arith}
+use Rattle.swim_claim.specs.declared.claim.Claim.{Claim}
+use Rattle.swim_pack.specs.Ends.{Source, Takes}
+use Rattle.swim_wire.specs.Streams.{StreamText}
+use Rattle.swim_table.specs.declared.fault.EncodeFault.TheVariants.{TooManyRecords}
+use Rattle.swim_table.specs.Dump.{dump_bytes}
+use Rattle.swim_table.specs.Join.{Join}
+use Rattle.swim_table.specs.Table.{Entries, Reduced, TableOf, IsLegalTable}
+use Rattle.swim_table.proofs.Showing.{TableOf-sent}
+use Rattle.swim_table.proofs.Tables.{TableOf-table_of, TableOf-Reduced, TableOf-Join, Join-comm}
+use Rattle.swim_sync.specs.Exchanging.{TakesStream, HasTooMany}
+
+-- a stream was read, and its table joined in
+pub joined_in : (old new : Source) (before theirs after : Entries) (join : Bool)
+    → ((claims : List Claim) × TableOf theirs claims × Takes old new (λ b. StreamText b claims join))
+    → after ≡ Join before theirs → ((claims others : List Claim) → TableOf before claims → TableOf theirs others → TableOf after (claims ++ others))
+    → TakesStream old new before after join
+joined_in old new before theirs after join read is all =
+    let kept : TableOf after (Reduced before ++ Reduced theirs) = subst (λ t. TableOf t (Reduced before ++ Reduced theirs)) (sym is) (TableOf-table_of (Reduced before ++ Reduced theirs)) in
+    record {
+      claims = read.0;
+      taken = read.2;
+      reduced = TableOf-sent theirs after (Reduced theirs) read.0 (Reduced before) (TableOf-Reduced theirs read.0 read.1) read.1 kept;
+      all = λ others h. all others read.0 h read.1;
+    }
+
+-- a table that has a dump has few enough records
+few_enough : {V : Type 0} (bytes : V) (table : Entries) → ((Ok bytes ≡ Err TooManyRecords) ↔ HasTooMany table) → length (Reduced table) ≤ 131072
+few_enough bytes table many =
+    let few : ¬ HasTooMany table = λ h. let e = many.1 h in absurd cc in
+    omega (arith, few)
+
+-- a table that was dumped and read back
+pub sent : {V : Type 0} (bytes : V) (dump : List ℕ) (table other : Entries) (flag : Bool) → IsLegalTable table → ((Ok bytes ≡ Err TooManyRecords) ↔ HasTooMany table)
+    → dump ≡ dump_bytes table false
+    → ((t : Entries) (join : Bool) → IsLegalTable t → length (Reduced t) ≤ 131072 → dump ≡ dump_bytes t join → ((other ≡ t) × (flag ≡ join)) × Unit {0})
+    → other ≡ table
+sent bytes dump table other flag legal many is back = (back table false legal (few_enough bytes table many) is).0.0
+
+-- each of two tables has the other joined in
+pub both_joined : (first second a b theirs ours : Entries) → theirs ≡ second → ours ≡ first → a ≡ Join first theirs → b ≡ Join second ours
+    → (a ≡ Join first second) × (b ≡ Join first second)
+both_joined first second a b theirs ours e f p q = (p ∙ ap (Join first) e, q ∙ ap (Join second) f ∙ Join-comm second first)
+
+pub both_take : (first second a b : Entries) → (a ≡ Join first second) × (b ≡ Join first second) → (claims others : List Claim) → TableOf first claims → TableOf second others
+    → TableOf a (claims ++ others) × TableOf b (claims ++ others)
+both_take first second a b same claims others h g =
+    let joined = TableOf-Join first second claims others h g in
+    (subst (λ t. TableOf t (claims ++ others)) (sym same.0) joined, subst (λ t. TableOf t (claims ++ others)) (sym same.1) joined)

@@ -1,0 +1,68 @@
+-- What the halves of an exchange do to the two ends and to the table, and why they are refused.
+use Rattle.std.specs.Prelude.{◌≡◌, ◌≢◌, ◌<◌, ◌⊎◌, Bool, List, ◌++◌, length}
+use Rattle.std.specs.Io.KnownBytes.{Keeps}
+use Rattle.swim_claim.specs.declared.claim.Claim.{Claim}
+use Rattle.swim_pack.specs.Composing.{UnlessFailed}
+use Rattle.swim_pack.specs.Ends.{Source, Sink, Takes, Lacks, Rises, AppendsFront}
+use Rattle.swim_wire.specs.declared.fault.WireFault.{WireFault}
+use Rattle.swim_wire.specs.declared.fault.WireFault.TheVariants as wire
+use Rattle.swim_wire.specs.Checks.{ExplainsStart}
+use Rattle.swim_wire.specs.Reading.{wire_cause}
+use Rattle.swim_wire.specs.Streams.{StreamText}
+use Rattle.swim_table.specs.Dump.{dump_bytes}
+use Rattle.swim_table.specs.Steps.{ExplainsStream}
+use Rattle.swim_table.specs.Table.{Entries, Reduced, TableOf}
+use Rattle.swim_sync.specs.declared.fault.SyncFault.{SyncFault}
+use Rattle.swim_sync.specs.declared.fault.SyncFault.TheVariants.{Wire, TooManyRecords, Push, Memory}
+
+-- One stream with this join flag is gone from the front, and the table took its claims in.
+pub record TakesStream (old new : Source) (before after : Entries) (join : Bool) : Type 0 where
+  pub claims : List Claim
+  pub taken : Takes old new (λ b. StreamText b claims join)
+  pub reduced : TableOf after (Reduced before ++ claims)
+  pub all : (others : List Claim) → TableOf before others → TableOf after (others ++ claims)
+
+-- more records than a dump has
+abbrev pub HasTooMany : Entries → Type 0
+HasTooMany table = 131072 < length (Reduced table)
+
+-- No stream stands at the front, and the fault says why; or the inlet failed.
+pub record LacksStream (old new : Source) (fault : WireFault) : Type 0 where
+  pub no_memory : fault ≢ wire.Memory
+  pub lacks : UnlessFailed (wire_cause fault) (Lacks old (λ b. (claims : List Claim) × (join : Bool) × StreamText b claims join))
+  pub explains : ExplainsStart (ExplainsStream fault) old
+  pub failed : fault ≡ wire.Fault → Rises old.faults new.faults
+
+-- The outlet failed, and a front of the table's dump with this join flag was pushed.
+pub record PushesFront (old new : Sink) (table : Entries) (join : Bool) : Type 0 where
+  pub failed : Rises old.faults new.faults
+  pub front : AppendsFront old.written new.written (dump_bytes table join)
+
+-- why a table is not offered
+abbrev pub IsOfferRefused : Sink → Sink → Entries → Bool → SyncFault → Type 0
+IsOfferRefused old new table join (Wire error) = ⊥
+IsOfferRefused old new table join TooManyRecords = HasTooMany table × Keeps old.written new.written
+IsOfferRefused old new table join Push = PushesFront old new table join
+IsOfferRefused old new table join Memory = Keeps old.written new.written
+
+-- why a stream is not answered
+abbrev pub IsAnswerRefused : Source → Source → Sink → Sink → Entries → SyncFault → Type 0
+IsAnswerRefused old new out_old out_new table (Wire error) = LacksStream old new error × Keeps out_old.written out_new.written
+IsAnswerRefused old new out_old out_new table TooManyRecords = HasTooMany table × Keeps out_old.written out_new.written
+IsAnswerRefused old new out_old out_new table Push =
+    (claims : List Claim) × (join : Bool) × Takes old new (λ b. StreamText b claims join) × PushesFront out_old out_new table join
+IsAnswerRefused old new out_old out_new table Memory = Keeps out_old.written out_new.written
+
+-- why a reply is not taken in
+abbrev pub IsFinishRefused : Source → Source → SyncFault → Type 0
+IsFinishRefused old new (Wire error) = LacksStream old new error
+IsFinishRefused old new TooManyRecords = ⊥
+IsFinishRefused old new Push = ⊥
+IsFinishRefused old new Memory = Unit {0}
+
+-- why two tables are not exchanged
+abbrev pub IsExchangeRefused : Entries → Entries → SyncFault → Type 0
+IsExchangeRefused first second (Wire error) = ⊥
+IsExchangeRefused first second TooManyRecords = HasTooMany first ⊎ HasTooMany second
+IsExchangeRefused first second Push = ⊥
+IsExchangeRefused first second Memory = Unit {0}

@@ -1,0 +1,5 @@
+pub mod Exchanging
+pub mod Fault
+pub mod Heard
+pub mod Levels
+pub mod Paths

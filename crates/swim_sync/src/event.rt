@@ -1,0 +1,56 @@
+//! What happens in a cluster.
+
+ghost use Rattle.std.specs.Prelude.{◌≡◌, List};
+ghost use Rattle.swim_claim.specs.declared.claim.Claim.{Claim};
+
+use std::marker::Model;
+use swim_claim::Claim;
+
+/// Claims, as those of one datagram, that a node takes in together. Contracts see them as the list
+/// of the claims.
+#[derive(Drop, Debug)]
+pub struct Claims {
+    claims: Vec<Claim>,
+}
+
+impl Model for Claims {
+    ghost use Rattle.std.specs.Prelude.{List};
+    ghost use Rattle.swim_claim.specs.declared.claim.Claim.{Claim};
+
+    ghost Value = { List Claim };
+
+    ghost view = { λ c. c.claims.items };
+}
+
+impl Claims {
+    /// These claims, in their order. It takes no memory.
+    pub fn new(claims: Vec<Claim>) -> Claims
+        ensures { result ≡ claims.items }
+    {
+        Claims { claims }
+    }
+
+    /// The claims, in their order. It takes no memory.
+    pub fn claims(&self) -> &[Claim]
+        ensures { result.now ≡ self.now }
+    {
+        &self.claims
+    }
+}
+
+/// What happens in a cluster. A node is named by its number, counted from 0.
+#[derive(Drop, Debug)]
+pub enum Event {
+    /// The node takes in a copy of the claim.
+    Hear(usize, Claim),
+    /// The node takes in copies of all the claims, or of none.
+    HearAll(usize, Claims),
+    /// The two nodes exchange their tables: each takes in the other's.
+    Exchange(usize, usize),
+    /// An exchange whose reply is lost: the second node takes in the first node's table, and the
+    /// first node does not change.
+    Half(usize, usize),
+    /// The node refutes what is claimed of it. A refutation that is exhausted, or that comes from a
+    /// node that is gone, stops nothing.
+    Refute(usize),
+}

@@ -1,0 +1,145 @@
+//! The exchange of two members' tables, in halves over ends of bytes and as a whole over memory.
+//!
+//! The member that begins offers its table as a stream. The other one answers: it reads the whole
+//! stream, writes its own table as a stream, and then takes in what it read. The first one finishes:
+//! it reads that reply and takes it in. The order is memberlist's (`net.go`, `state.go`).
+
+ghost use Rattle.std.specs.Prelude.{◌≡◌, ◌↔◌, ◌⊎◌, ◌+◌, ◌≤◌, ◌++◌, List, length, IsErr, IfOk, IfErr, OnOk, OnErr};
+ghost use Rattle.std.specs.Io.KnownBytes.{Appends};
+ghost use Rattle.swim_claim.specs.declared.claim.Claim.{Claim};
+ghost use Rattle.swim_pack.specs.Ends.{Skips};
+ghost use Rattle.swim_table.specs.Dump.{dump_bytes};
+ghost use Rattle.swim_table.specs.Join.{Join};
+ghost use Rattle.swim_table.specs.Table.{TableOf};
+ghost use Rattle.swim_sync.specs.Exchanging.{HasTooMany, TakesStream, IsOfferRefused, IsAnswerRefused, IsFinishRefused, IsExchangeRefused};
+
+use crate::fault::SyncFault;
+use std::alloc::Global;
+use swim_pack::{Inlet, Outlet};
+use swim_table::{Room, Table, encode, read_dump, read_stream};
+
+/// Offers a table: writes its canonical dump, with this join flag, by one push. This begins an
+/// exchange.
+///
+/// # Errors
+///
+/// - `TooManyRecords` exactly where the table keeps more than 131,072 records. Nothing was pushed.
+/// - `Push` where the outlet failed. Some of the dump, from its front, may have been pushed.
+/// - `Memory` where memory is refused. Nothing was pushed.
+pub fn offer<O: Outlet>(
+    alloc: Global,
+    outlet: &mut O,
+    table: &Table,
+    join: bool,
+) -> Result<(), SyncFault>
+    ensures pushes { OnOk result (Appends (O.seen outlet.old).written (O.seen outlet.new).written (dump_bytes table.now join)) }
+    ensures too_many { (result ≡ Err SyncFault.TooManyRecords) ↔ HasTooMany table.now }
+    ensures refused { IfErr result (IsOfferRefused (O.seen outlet.old) (O.seen outlet.new) table.now join) }
+{
+    let dump = encode(alloc, table, join)?;
+    outlet.push(&dump)?;
+    Ok(())
+}
+
+/// Answers an offer: reads one stream, writes the canonical dump of the own table with the same join
+/// flag by one push, and then takes the stream's claims in. Answers the flag.
+///
+/// All memory is obtained before the push, so after it nothing is refused. Bytes after the stream
+/// stay in the inlet.
+///
+/// # Errors
+///
+/// The table is then as it was, and what is left in the inlet are bytes from the end of those before.
+/// Nothing was pushed, except by `Push`.
+///
+/// - `Wire` where no stream stands at the front of the inlet, or the inlet failed.
+/// - `TooManyRecords` where the own table keeps more than 131,072 records. It is then never answered.
+/// - `Push` where the outlet failed. Some of the dump, from its front, may have been pushed.
+/// - `Memory` where memory is refused.
+pub fn answer<I: Inlet, O: Outlet>(
+    alloc: Global,
+    inlet: &mut I,
+    outlet: &mut O,
+    table: &mut Table,
+) -> Result<bool, SyncFault>
+    // The table of before was pushed, and has the claims of the stream now.
+    ensures takes { IfOk result (TakesStream (I.seen inlet.old) (I.seen inlet.new) table.old table.new) }
+    ensures replies { IfOk result (λ join. Appends (O.seen outlet.old).written (O.seen outlet.new).written (dump_bytes table.old join)) }
+    ensures too_many { HasTooMany table.old → IsErr result }
+
+    // What a refusal leaves, and why it came.
+    ensures unchanged { OnErr result (table.new ≡ table.old) }
+    ensures rest { OnErr result (Skips (I.seen inlet.old).coming (I.seen inlet.new).coming) }
+    ensures refused { IfErr result (IsAnswerRefused (I.seen inlet.old) (I.seen inlet.new) (O.seen outlet.old) (O.seen outlet.new) table.old) }
+{
+    let (offered, join) = read_stream(alloc, inlet)?;
+    let reply = encode(alloc, table, join)?;
+    let room = room_for_both(alloc, table, &offered)?;
+    outlet.push(&reply)?;
+    table.join_in(room, offered);
+    Ok(join)
+}
+
+/// Finishes an exchange: reads the reply, one stream, and takes its claims in. Answers the stream's
+/// join flag. Bytes after the stream stay in the inlet.
+///
+/// # Errors
+///
+/// The table is then as it was, and what is left in the inlet are bytes from the end of those before.
+///
+/// - `Wire` where no stream stands at the front of the inlet, or the inlet failed.
+/// - `Memory` where memory is refused.
+pub fn finish<I: Inlet>(alloc: Global, inlet: &mut I, table: &mut Table) -> Result<bool, SyncFault>
+    ensures takes { IfOk result (TakesStream (I.seen inlet.old) (I.seen inlet.new) table.old table.new) }
+
+    // What a refusal leaves, and why it came.
+    ensures unchanged { OnErr result (table.new ≡ table.old) }
+    ensures rest { OnErr result (Skips (I.seen inlet.old).coming (I.seen inlet.new).coming) }
+    ensures refused { IfErr result (IsFinishRefused (I.seen inlet.old) (I.seen inlet.new)) }
+{
+    let (replied, join) = read_stream(alloc, inlet)?;
+    let room = room_for_both(alloc, table, &replied)?;
+    table.join_in(room, replied);
+    Ok(join)
+}
+
+/// Exchanges two tables over memory: each is sent as a stream without the join flag, and both are
+/// then the table of all claims that either took in.
+///
+/// # Errors
+///
+/// Both tables are then as they were.
+///
+/// - `TooManyRecords` where one of the tables keeps more than 131,072 records. They are then never
+///   exchanged.
+/// - `Memory` where memory is refused.
+pub fn exchange(alloc: Global, first: &mut Table, second: &mut Table) -> Result<(), SyncFault>
+    // Both are the join, and the table of all claims of which the two were tables.
+    ensures joins { OnOk result ((first.new ≡ Join first.old second.old) × (second.new ≡ Join first.old second.old)) }
+    ensures all { OnOk result ((claims others : List Claim) → TableOf first.old claims → TableOf second.old others
+        → TableOf first.new (claims ++ others) × TableOf second.new (claims ++ others)) }
+    ensures too_many { HasTooMany first.old ⊎ HasTooMany second.old → IsErr result }
+
+    // What a refusal leaves, and why it came.
+    ensures unchanged { OnErr result ((first.new ≡ first.old) × (second.new ≡ second.old)) }
+    ensures refused { IfErr result (IsExchangeRefused first.old second.old) }
+{
+    let size = first.len() + second.len();
+    let offered = encode(alloc, first, false)?;
+    let replied = encode(alloc, second, false)?;
+    let (offered, _) = read_dump(alloc, &offered)?;
+    let (replied, _) = read_dump(alloc, &replied)?;
+    let own_room = Room::new(alloc, size)?;
+    let other_room = Room::new(alloc, size)?;
+    first.join_in(own_room, replied);
+    second.join_in(other_room, offered);
+    Ok(())
+}
+
+/// Room for the entries of both tables.
+fn room_for_both(alloc: Global, table: &Table, other: &Table) -> Result<Room, SyncFault>
+    ensures room { IfOk result (λ room. length table.now + length other.now ≤ room) }
+    ensures memory { IfErr result (λ fault. fault ≡ SyncFault.Memory) }
+{
+    Ok(Room::new(alloc, table.len() + other.len())?)
+}

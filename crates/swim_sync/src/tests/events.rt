@@ -1,0 +1,37 @@
+//! Claims that a node takes in together.
+use crate::Claims;
+use std::alloc::{AllocError, Global};
+use std::process::Abort;
+use swim_claim::{Claim, Kind, Name};
+
+fn suspect(
+    rt: &impl Abort,
+    alloc: Global,
+    name: &'static [u8],
+    inc: u32,
+) -> Result<Claim, AllocError> {
+    let name = Name::new(name.to_vec(alloc)?).expect(rt, "a legal name");
+    Ok(Claim::Suspect { name, inc })
+}
+
+#[test]
+fn claims_are_those_given_in_their_order(rt: HostRuntime) -> Result<(), AllocError> {
+    let given = [
+        (b"b".as_slice(), 1),
+        (b"a".as_slice(), 5),
+        (b"b".as_slice(), 1),
+    ];
+    let mut list = Vec::new(rt.alloc());
+    for (name, inc) in given {
+        list.push(suspect(&rt, rt.alloc(), name, inc)?)?;
+    }
+    let claims = Claims::new(list);
+    assert_eq!(rt; claims.claims().len(), 3);
+    for (claim, (name, inc)) in claims.claims().iter().zip(given) {
+        assert_eq!(rt; claim.kind(), Kind::Suspect);
+        assert_eq!(rt; claim.name().bytes(), name);
+        assert_eq!(rt; claim.inc(), inc);
+    }
+    assert!(rt; Claims::new(Vec::new(rt.alloc())).claims().is_empty());
+    Ok(())
+}

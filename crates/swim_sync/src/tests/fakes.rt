@@ -1,0 +1,58 @@
+//! A reader and a writer that do as they are told.
+
+use std::io;
+use std::io::{Error, ErrorKind, Read, Write};
+
+/// Gives its bytes, at most so many a read.
+#[derive(Drop)]
+pub struct Pieces<'a> {
+    pub bytes: &'a [u8],
+    pub most: usize,
+}
+
+impl Read for Pieces<'_> {
+    fn read(&mut self, buf: &mut [u8]) -> io::Result<usize> {
+        let count = self.most.min(buf.len()).min(self.bytes.len());
+        let (front, rest) = self.bytes.split_at(count);
+        buf[..count].copy_from_slice(front);
+        self.bytes = rest;
+        Ok(count)
+    }
+}
+
+/// Takes one byte a write, and 80 in all.
+#[derive(Drop)]
+pub struct Taker {
+    pub taken: [u8; 80],
+    pub len: usize,
+    /// Of the writes, counted from 1, this one fails.
+    pub fails_at: usize,
+}
+
+impl Taker {
+    pub fn new(fails_at: usize) -> Taker {
+        Taker {
+            taken: [0; 80],
+            len: 0,
+            fails_at,
+        }
+    }
+}
+
+impl Write for Taker {
+    fn write(&mut self, buf: &[u8]) -> io::Result<usize> {
+        if self.len >= 80 || self.len + 1 >= self.fails_at {
+            return Err(Error::from(ErrorKind::ConnectionReset));
+        }
+        let Some(first) = buf.first() else {
+            return Ok(0);
+        };
+        self.taken[self.len] = *first;
+        self.len += 1;
+        Ok(1)
+    }
+
+    fn flush(&mut self) -> io::Result<()> {
+        Ok(())
+    }
+}

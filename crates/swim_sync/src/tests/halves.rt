@@ -1,0 +1,130 @@
+//! Exchanges in halves and over memory, with ends that fail and tables that are too large.
+
+use super::{
+    ALIVE_LISTING, ALIVE_OFFER, JOINED_LISTING, SUSPECT_LISTING, SUSPECT_OFFER, SUSPECTED_OFFER,
+    alive_table, answered, assert_exchanges, assert_finishes, assert_lists, suspect_table, take,
+};
+use crate::{SyncFault, answer, exchange, offer};
+use std::alloc::{AllocError, Global};
+use std::process::Abort;
+use swim_claim::{Claim, Name};
+use swim_pack::{Inlet, SliceInlet, StopInlet, StopOutlet, VecOutlet};
+use swim_table::Table;
+use swim_wire::WireFault;
+
+#[test]
+fn an_offer_is_the_dump_of_the_table(rt: HostRuntime) -> Result<(), AllocError> {
+    let alloc = rt.alloc();
+    let table = alive_table(&rt, alloc)?;
+    let mut outlet = VecOutlet::new(alloc);
+    if let Err(fault) = offer(alloc, &mut outlet, &table, true) {
+        assert_eq!(rt; fault, SyncFault::Memory);
+        assert!(rt; outlet.bytes().is_empty());
+        assert_eq!(rt; offer(alloc, &mut outlet, &table, true), Ok(()));
+    }
+    assert_eq!(rt; outlet.bytes(), ALIVE_OFFER);
+    assert_lists(&rt, alloc, &table, ALIVE_LISTING)
+}
+
+#[test]
+fn an_offer_is_answered_and_finished(rt: HostRuntime) -> Result<(), AllocError> {
+    let alloc = rt.alloc();
+    let mut first = alive_table(&rt, alloc)?;
+    let mut second = suspect_table(&rt, alloc)?;
+    let reply = answered(&rt, alloc, ALIVE_OFFER, &mut second, true)?;
+    assert_eq!(rt; reply.bytes(), SUSPECT_OFFER);
+    assert_lists(&rt, alloc, &second, JOINED_LISTING)?;
+    assert_finishes(&rt, alloc, reply.bytes(), &mut first, Ok(true))?;
+    assert_lists(&rt, alloc, &first, JOINED_LISTING)
+}
+
+#[test]
+fn a_reply_has_the_flag_of_its_offer(rt: HostRuntime) -> Result<(), AllocError> {
+    let alloc = rt.alloc();
+    let mut table = suspect_table(&rt, alloc)?;
+    let reply = answered(&rt, alloc, SUSPECTED_OFFER, &mut table, false)?;
+    let header = b"\x06\x83\xa4Join\xc2\xa5Nodes\x01\xacUserStateLen\0";
+    assert_eq!(rt; reply.bytes().len(), 80);
+    assert!(rt; reply.bytes().starts_with(header));
+    assert!(rt; reply.bytes().ends_with(&SUSPECT_OFFER[header.len()..]));
+    let listing = "a suspect 5 4/7f000001/7947//\nb suspect 1 -\n";
+    assert_lists(&rt, alloc, &table, listing)
+}
+
+#[test]
+fn an_exchange_over_memory_joins_both(rt: HostRuntime) -> Result<(), AllocError> {
+    let alloc = rt.alloc();
+    let mut first = alive_table(&rt, alloc)?;
+    let mut second = suspect_table(&rt, alloc)?;
+    assert_exchanges(&rt, alloc, &mut first, &mut second)
+}
+
+/// Asserts that the offer is not answered with the table of `b`, for this fault, and that the table
+/// stays and nothing is pushed.
+fn assert_unanswered<I: Inlet>(
+    rt: &impl Abort,
+    alloc: Global,
+    inlet: &mut I,
+    outlet: &mut StopOutlet,
+    fault: SyncFault,
+) -> Result<(), AllocError> {
+    let mut table = suspect_table(rt, alloc)?;
+    let answer = answer(alloc, inlet, outlet, &mut table);
+    assert_lists(rt, alloc, &table, SUSPECT_LISTING)?;
+    assert!(rt; outlet.bytes().is_empty());
+    if answer != Err(SyncFault::Memory) {
+        assert_eq!(rt; answer, Err(fault));
+    }
+    Ok(())
+}
+
+#[test]
+fn an_outlet_or_inlet_that_fails_leaves_the_table(rt: HostRuntime) -> Result<(), AllocError> {
+    let alloc = rt.alloc();
+    let mut inlet = SliceInlet::new(ALIVE_OFFER);
+    let mut outlet = StopOutlet::new(alloc, 1);
+    assert_unanswered(&rt, alloc, &mut inlet, &mut outlet, SyncFault::Push)?;
+    let mut inlet = StopInlet::new(ALIVE_OFFER, 1);
+    let mut outlet = StopOutlet::new(alloc, 2);
+    let fault = SyncFault::Wire(WireFault::Fault);
+    assert_eq!(rt; fault.number(), 9);
+    assert_unanswered(&rt, alloc, &mut inlet, &mut outlet, fault)
+}
+
+/// The table of so many Suspects.
+fn table_of_suspects(rt: &impl Abort, alloc: Global, count: u32) -> Result<Table, AllocError> {
+    let mut table = Table::new(alloc);
+    for number in 0..count {
+        let name = Name::new(number.to_be_bytes().to_vec(alloc)?).expect(rt, "a legal name");
+        take(&mut table, Claim::Suspect { name, inc: 0 })?;
+    }
+    Ok(table)
+}
+
+#[test]
+fn a_table_of_131073_records_is_not_exchanged(rt: HostRuntime) -> Result<(), AllocError> {
+    let alloc = rt.alloc();
+    let mut first = alive_table(&rt, alloc)?;
+    let mut second = table_of_suspects(&rt, alloc, 131_073)?;
+    let too_many = Err(SyncFault::TooManyRecords);
+    let mut answers = [
+        exchange(alloc, &mut second, &mut first),
+        exchange(alloc, &mut first, &mut second),
+    ];
+    for answer in &mut answers {
+        if *answer == Err(SyncFault::Memory) {
+            *answer = exchange(alloc, &mut first, &mut second);
+        }
+        assert_eq!(rt; *answer, too_many);
+    }
+    assert_lists(&rt, alloc, &first, ALIVE_LISTING)?;
+    assert_eq!(rt; second.len(), 131_073);
+    assert!(rt; second.get(b"a").is_none());
+    let mut outlet = VecOutlet::new(alloc);
+    assert_eq!(rt;
+        offer(alloc, &mut outlet, &second, true),
+        Err(SyncFault::TooManyRecords)
+    );
+    assert!(rt; outlet.bytes().is_empty());
+    Ok(())
+}
