@@ -58,7 +58,12 @@ fn command<'a>(alloc: Global) -> Result<Command<'a>, AllocError>
         .version("0.1.0")
         .no_binary_name(true)
         .disable_help_subcommand(true);
-    let listing = add_files(alloc, bare, "list", "Lists the table of all claims in the dumps")?;
+    let listing = add_files(
+        alloc,
+        bare,
+        "list",
+        "Lists the table of all claims in the dumps",
+    )?;
     let merging = add_files(
         alloc,
         listing,

@@ -12,7 +12,11 @@ const TAKEN: [(&[&str], Verb, &[&str]); 7] = [
     (&["list", "x"], Verb::List, &["x"]),
     (&["list", "list", "-", ""], Verb::List, &["list", "-", ""]),
     (&["relate", "x", "y"], Verb::Relate, &["x", "y"]),
-    (&["relate", "--", "-x", "--help"], Verb::Relate, &["-x", "--help"]),
+    (
+        &["relate", "--", "-x", "--help"],
+        Verb::Relate,
+        &["-x", "--help"],
+    ),
     (&["merge", "x", "x", "x"], Verb::Merge, &["x", "x", "x"]),
 ];
 
