@@ -215,26 +215,54 @@ fn a_join_of_too_many_records_is_listed_and_not_dumped(rt: HostRuntime) -> Resul
     let (text, status) = said(&rt, alloc, &report)?;
     assert_eq!(rt; text.as_str(), "swimtab: output: fault 23 TooManyRecords");
     assert_eq!(rt; status, 3);
-    assert!(rt; listed(alloc, &files).is_ok());
+    let text = listed(alloc, &files)?;
+    assert!(rt; !text.is_empty());
     Ok(())
 }
 
 #[test]
-fn want_of_memory_for_dumps_is_answered_as_such(rt: HostRuntime) -> Result<(), Fail> {
+fn want_of_memory_for_a_listing_of_dumps_is_answered_as_such(rt: HostRuntime) -> Result<(), Fail> {
+    let alloc = rt.alloc();
+    let files = [hex::decode(alloc, P)?, hex::decode(alloc, Q)?];
+    let wanted = "a alive 0 0/7f000001/7946//\nb suspect 1 -\n";
+    let text = match listed(alloc, &files) {
+        Ok(text) => text,
+        Err(report) => {
+            assert_eq!(rt; report.what, What::Memory);
+            listed(alloc, &files)?
+        }
+    };
+    assert_eq!(rt; text.as_slice(), wanted.as_bytes());
+    Ok(())
+}
+
+#[test]
+fn want_of_memory_for_a_merge_is_answered_as_such(rt: HostRuntime) -> Result<(), Fail> {
     let alloc = rt.alloc();
     let files = [hex::decode(alloc, P)?, hex::decode(alloc, Q)?];
     let wanted = hex::decode(alloc, R)?;
-    if let Err(report) = merged(alloc, &files) {
-        assert_eq!(rt; report.what, What::Memory);
-    }
-    assert_eq!(rt; merged(alloc, &files)?.as_slice(), wanted.as_slice());
-    if let Err(report) = listed(alloc, &files) {
-        assert_eq!(rt; report.what, What::Memory);
-    }
-    assert!(rt; listed(alloc, &files).is_ok());
-    if let Err(report) = related(alloc, &files[0], &files[1]) {
-        assert_eq!(rt; report.what, What::Memory);
-    }
-    assert_eq!(rt; related(alloc, &files[0], &files[1])?, Relation::Apart);
+    let dump = match merged(alloc, &files) {
+        Ok(dump) => dump,
+        Err(report) => {
+            assert_eq!(rt; report.what, What::Memory);
+            merged(alloc, &files)?
+        }
+    };
+    assert_eq!(rt; dump.as_slice(), wanted.as_slice());
+    Ok(())
+}
+
+#[test]
+fn want_of_memory_for_a_relation_is_answered_as_such(rt: HostRuntime) -> Result<(), Fail> {
+    let alloc = rt.alloc();
+    let files = [hex::decode(alloc, P)?, hex::decode(alloc, Q)?];
+    let relation = match related(alloc, &files[0], &files[1]) {
+        Ok(relation) => relation,
+        Err(report) => {
+            assert_eq!(rt; report.what, What::Memory);
+            related(alloc, &files[0], &files[1])?
+        }
+    };
+    assert_eq!(rt; relation, Relation::Apart);
     Ok(())
 }
