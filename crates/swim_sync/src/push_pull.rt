@@ -18,12 +18,13 @@ use std::alloc::Global;
 use swim_pack::{Inlet, Outlet};
 use swim_table::{Room, Table, encode, read_dump, read_stream};
 
-/// Offers a table: writes its canonical dump, with this join flag, by one push. This begins an
-/// exchange.
+/// Offers a table: writes its canonical dump, with this join flag, by one push. With this a member
+/// begins an exchange (memberlist's `net.go`).
 ///
 /// # Errors
 ///
-/// - `TooManyRecords` exactly where the table keeps more than 131,072 records. Nothing was pushed.
+/// - `TooManyRecords` exactly where the table keeps more than 131,072 records (own). Nothing was
+///   pushed.
 /// - `Push` where the outlet failed. Some of the dump, from its front, may have been pushed.
 /// - `Memory` where memory is refused. Nothing was pushed.
 pub fn offer<O: Outlet>(
@@ -42,10 +43,10 @@ pub fn offer<O: Outlet>(
 }
 
 /// Answers an offer: reads one stream, writes the canonical dump of the own table with the same join
-/// flag by one push, and then takes the stream's claims in. Answers the flag.
+/// flag by one push, and then takes the stream's claims in (memberlist's `net.go`). Answers the flag.
 ///
-/// All memory is obtained before the push, so after it nothing is refused. Bytes after the stream
-/// stay in the inlet.
+/// All memory is obtained before the push, so that nothing is refused after a push that succeeds
+/// (own). Bytes after the stream stay in the inlet.
 ///
 /// # Errors
 ///
@@ -53,7 +54,8 @@ pub fn offer<O: Outlet>(
 /// Nothing was pushed, except by `Push`.
 ///
 /// - `Wire` where no stream stands at the front of the inlet, or the inlet failed.
-/// - `TooManyRecords` where the own table keeps more than 131,072 records. It is then never answered.
+/// - `TooManyRecords` where the own table keeps more than 131,072 records. With it no stream is ever
+///   answered.
 /// - `Push` where the outlet failed. Some of the dump, from its front, may have been pushed.
 /// - `Memory` where memory is refused.
 pub fn answer<I: Inlet, O: Outlet>(
@@ -80,8 +82,8 @@ pub fn answer<I: Inlet, O: Outlet>(
     Ok(join)
 }
 
-/// Finishes an exchange: reads the reply, one stream, and takes its claims in. Answers the stream's
-/// join flag. Bytes after the stream stay in the inlet.
+/// Finishes an exchange: reads the reply, one stream, and takes its claims in (memberlist's `net.go`).
+/// Answers the stream's join flag. Bytes after the stream stay in the inlet.
 ///
 /// # Errors
 ///
@@ -104,7 +106,7 @@ pub fn finish<I: Inlet>(alloc: Global, inlet: &mut I, table: &mut Table) -> Resu
 }
 
 /// Exchanges two tables over memory: each is sent as a stream without the join flag, and both are
-/// then the table of all claims that either took in.
+/// then the table of all claims that either took in (own).
 ///
 /// # Errors
 ///

@@ -8,7 +8,7 @@ use crate::{SyncFault, answer, exchange, offer};
 use std::alloc::{AllocError, Global};
 use std::process::Abort;
 use swim_claim::{Claim, Name};
-use swim_pack::{Inlet, SliceInlet, StopInlet, StopOutlet, VecOutlet};
+use swim_pack::{StopInlet, StopOutlet, VecOutlet};
 use swim_table::Table;
 use swim_wire::WireFault;
 
@@ -59,36 +59,37 @@ fn an_exchange_over_memory_joins_both(rt: HostRuntime) -> Result<(), AllocError>
     assert_exchanges(&rt, alloc, &mut first, &mut second)
 }
 
-/// Asserts that the offer is not answered with the table of `b`, for this fault, and that the table
-/// stays and nothing is pushed.
-fn assert_unanswered<I: Inlet>(
+/// Asserts that the offer is not answered with the table of `b`, for this fault, where the inlet and
+/// the outlet fail from these calls on: the table stays, and nothing is pushed. Where memory is
+/// refused the repeat answers so.
+fn assert_unanswered(
     rt: &impl Abort,
     alloc: Global,
-    inlet: &mut I,
-    outlet: &mut StopOutlet,
+    pulls: usize,
+    pushes: usize,
     fault: SyncFault,
 ) -> Result<(), AllocError> {
     let mut table = suspect_table(rt, alloc)?;
-    let answer = answer(alloc, inlet, outlet, &mut table);
-    assert_lists(rt, alloc, &table, SUSPECT_LISTING)?;
-    assert!(rt; outlet.bytes().is_empty());
-    if answer != Err(SyncFault::Memory) {
-        assert_eq!(rt; answer, Err(fault));
+    let mut outlet = StopOutlet::new(alloc, pushes);
+    let mut inlet = StopInlet::new(ALIVE_OFFER, pulls);
+    let mut answered = answer(alloc, &mut inlet, &mut outlet, &mut table);
+    if answered == Err(SyncFault::Memory) {
+        assert_lists(rt, alloc, &table, SUSPECT_LISTING)?;
+        inlet = StopInlet::new(ALIVE_OFFER, pulls);
+        answered = answer(alloc, &mut inlet, &mut outlet, &mut table);
     }
-    Ok(())
+    assert_eq!(rt; answered, Err(fault));
+    assert!(rt; outlet.bytes().is_empty());
+    assert_lists(rt, alloc, &table, SUSPECT_LISTING)
 }
 
 #[test]
 fn an_outlet_or_inlet_that_fails_leaves_the_table(rt: HostRuntime) -> Result<(), AllocError> {
     let alloc = rt.alloc();
-    let mut inlet = SliceInlet::new(ALIVE_OFFER);
-    let mut outlet = StopOutlet::new(alloc, 1);
-    assert_unanswered(&rt, alloc, &mut inlet, &mut outlet, SyncFault::Push)?;
-    let mut inlet = StopInlet::new(ALIVE_OFFER, 1);
-    let mut outlet = StopOutlet::new(alloc, 2);
+    assert_unanswered(&rt, alloc, 1000, 1, SyncFault::Push)?;
     let fault = SyncFault::Wire(WireFault::Fault);
     assert_eq!(rt; fault.number(), 9);
-    assert_unanswered(&rt, alloc, &mut inlet, &mut outlet, fault)
+    assert_unanswered(&rt, alloc, 1, 2, fault)
 }
 
 /// The table of so many Suspects.
