@@ -1,5 +1,8 @@
+pub mod Clusters
 pub mod Exchanging
 pub mod Levelling
+pub mod Nodes
+pub mod OverMemory
 pub mod Refutations
 pub mod Routes
 pub mod Runs

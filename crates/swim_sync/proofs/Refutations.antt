@@ -22,6 +22,7 @@ use Rattle.swim_table.proofs.Greatest.{Greatest, Greatest-unique, Greatest-appen
 use Rattle.swim_table.proofs.Lookups.{only_one}
 use Rattle.swim_table.proofs.Refuting.{Due-top, IsNext-top, same_details}
 use Rattle.swim_table.proofs.Tables.{IsAbout, top_of, parts, TableOf-table_of}
+use Rattle.swim_sync.specs.Cluster.{member_of}
 use Rattle.swim_sync.specs.Heard.{Member, standing_with, what_stands, alive_at, refuted, refutation}
 
 -- ---- the claim that stands
@@ -150,10 +151,6 @@ module _ (claims : List Claim) (member : Member) where
   ]
 
 -- ---- a node's refutation
-
--- who the node is
-abbrev pub member_of : NodeValue → Member
-member_of node = record { name = node.name; details = node.details }
 
 -- a node that refuted has the table of what it had heard and its refutation
 pub refuted_table : (old new : NodeValue) (inc : ℕ) → IsRefutedBy old new inc → inc ≤ 4294967295 → (claims : List Claim) → TableOf old.table claims → TableOf new.table (claims ++ refutation (member_of old) claims)

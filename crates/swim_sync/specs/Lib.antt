@@ -1,5 +1,7 @@
+pub mod Cluster
 pub mod Exchanging
 pub mod Fault
 pub mod Heard
 pub mod Levels
+pub mod OverMemory
 pub mod Paths

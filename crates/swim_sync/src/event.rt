@@ -1,8 +1,9 @@
 //! What happens in a cluster.
 
-ghost use Rattle.std.specs.Prelude.{◌≡◌, List};
+ghost use Rattle.std.specs.Prelude.{◌≡◌, List, IfOk};
 ghost use Rattle.swim_claim.specs.declared.claim.Claim.{Claim};
 
+use std::alloc::{AllocError, Global};
 use std::marker::Model;
 use swim_claim::Claim;
 
@@ -35,6 +36,17 @@ impl Claims {
         ensures { result.now ≡ self.now }
     {
         &self.claims
+    }
+
+    /// Copies of the claims, in their order.
+    pub(crate) fn copies(&self, alloc: Global) -> Result<Vec<Claim>, AllocError>
+        ensures { IfOk result (λ copies. copies.items ≡ self.now) }
+    {
+        let mut copies = Vec::with_capacity(alloc, self.claims.len())?;
+        for claim in self.claims() {
+            copies.push(claim.try_clone(alloc)?)?;
+        }
+        Ok(copies)
     }
 }
 

@@ -186,6 +186,7 @@ impl Node {
     /// - `Memory` where a refutation is due, and memory for its claim is refused.
     pub fn refute(&mut self) -> Result<Option<u32>, RefuteFault>
         ensures refuted { IfOk result (λ answer. IfSome answer (IsRefutedBy self.old self.new)) }
+        ensures range { IfOk result (λ answer. IfSome answer (λ inc. inc ≤ 4294967295)) }
         ensures rest { (result ≡ Ok None) → IsAtRest self.old × (self.new ≡ self.old) }
         ensures exhausted { (result ≡ Err fault.Exhausted) → IsExhausted self.old }
         ensures gone { (inc : ℕ) → result ≡ Err (fault.Gone inc) → IsGone self.old inc }

@@ -1,0 +1,20 @@
+use Rattle.std.proofs.Common.{◌≡◌, ◌<◌, Some, refl, List, [], ◌∷◌, ◌++◌, length, set, sym, ap, subst, ◌∙◌, arith}
+use Rattle.std.specs.Prelude.{slice_get}
+use Rattle.swim_claim.specs.declared.claim.Claim.{Claim}
+use Rattle.swim_table.specs.Node.{NodeValue}
+use Rattle.swim_table.specs.Table.{TableOf}
+use Rattle.swim_sync.specs.declared.event.Event.TheVariants.{Refute}
+use Rattle.swim_sync.specs.Cluster.{Ran}
+use Rattle.swim_sync.proofs.Clusters.{node_at, ran_refute, not_memory, refute_takes}
+use Rattle.swim_sync.proofs.cluster.Cluster.refute.Goals as goal
+
+pub returns-clause-ok : goal.returns-clause-ok
+returns-clause-ok c =
+    let number = c.len.ensures in
+    let below = c.if-k-len.false in
+    let within : c.args.k < length c.self.inside.nodes.items = (let same = ap length c.self.view_is in omega (arith, number, below, same)) in
+    let at = node_at c.self.inside.nodes.items c.args.k c.index_mut.result.now within c.index_mut.ensures.value in
+    subst (λ (nodes : List NodeValue). Ran nodes (set c.self.inside.nodes.items c.args.k c.refute.new.self) (Refute c.args.k ∷ [])) c.self.view_is
+    (ran_refute c.self.inside.nodes.items c.args.k c.index_mut.result.now c.refute.new.self at c.refute.ensures.member
+    (refute_takes c.index_mut.result.now c.refute.new.self c.refute.result c.refute.ensures.range c.refute.ensures.refuted c.refute.ensures.rest c.refute.ensures.exhausted c.refute.ensures.gone
+      c.refute.ensures.err (not_memory _ _ refl c.refute.result c.if-eq.ensures)))

@@ -1,0 +1,63 @@
+//! Exchanges over memory, where no end fails.
+
+ghost use Rattle.std.specs.Prelude.{◌≡◌, ◌⊎◌, ◌++◌, List, IfOk, IfErr, OnOk, OnErr};
+ghost use Rattle.swim_claim.specs.declared.claim.Claim.{Claim};
+ghost use Rattle.swim_table.specs.Table.{Entries, TableOf, IsLegalTable};
+ghost use Rattle.swim_sync.specs.Exchanging.{HasTooMany};
+ghost use Rattle.swim_sync.specs.OverMemory.{IsOffer, TakesTable, Hinders};
+
+use crate::fault::SyncFault;
+use crate::push_pull::{answer, exchange, offer};
+use crate::stop::Why;
+use std::alloc::Global;
+use swim_pack::{SliceInlet, VecOutlet};
+use swim_table::Table;
+
+/// The offer of a table.
+pub(crate) fn offered(alloc: Global, table: &Table) -> Result<VecOutlet, Why>
+    ensures offers { IfOk result (IsOffer table.now) }
+    ensures refused { IfErr result (Hinders (HasTooMany table.now)) }
+{
+    let _ = table.len();
+    let mut outlet = VecOutlet::new(alloc);
+    match offer(alloc, &mut outlet, table, false) {
+        Ok(()) => Ok(outlet),
+        Err(SyncFault::TooManyRecords) => Err(Why::TooManyRecords),
+        Err(SyncFault::Memory) => Err(Why::Memory),
+        Err(SyncFault::Wire(_) | SyncFault::Push) => unreachable!(),
+    }
+}
+
+/// Answers the offer of a table, and loses the reply. Where it is refused, the table is as it was.
+pub(crate) fn answered(alloc: Global, offer: &[u8], table: &mut Table) -> Result<(), Why>
+    requires { (other : Entries) × IsOffer other offer.now }
+    ensures takes { OnOk result ((other : Entries) → IsOffer other offer.now → TakesTable table.old table.new other) }
+    ensures few { OnOk result (¬ HasTooMany table.old) }
+    ensures unchanged { OnErr result (table.new ≡ table.old) }
+    ensures refused { IfErr result (Hinders (HasTooMany table.old)) }
+{
+    let mut lost = VecOutlet::new(alloc);
+    match answer(alloc, &mut SliceInlet::new(offer), &mut lost, table) {
+        Ok(_) => Ok(()),
+        Err(SyncFault::TooManyRecords) => Err(Why::TooManyRecords),
+        Err(SyncFault::Memory) => Err(Why::Memory),
+        Err(SyncFault::Wire(_)) => unreachable!(),
+        Err(SyncFault::Push) => unreachable!(),
+    }
+}
+
+/// Exchanges two tables. Where it is refused, both are as they were.
+pub(crate) fn exchanged(alloc: Global, first: &mut Table, second: &mut Table) -> Result<(), Why>
+    ensures all { OnOk result ((claims others : List Claim) → TableOf first.old claims → TableOf second.old others
+        → TableOf first.new (claims ++ others) × TableOf second.new (claims ++ others)) }
+    ensures few { OnOk result (¬ (HasTooMany first.old ⊎ HasTooMany second.old)) }
+    ensures unchanged { OnErr result ((first.new ≡ first.old) × (second.new ≡ second.old)) }
+    ensures refused { IfErr result (Hinders (HasTooMany first.old ⊎ HasTooMany second.old)) }
+{
+    match exchange(alloc, first, second) {
+        Ok(()) => Ok(()),
+        Err(SyncFault::TooManyRecords) => Err(Why::TooManyRecords),
+        Err(SyncFault::Memory) => Err(Why::Memory),
+        Err(SyncFault::Wire(_) | SyncFault::Push) => unreachable!(),
+    }
+}

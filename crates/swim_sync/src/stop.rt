@@ -1,0 +1,42 @@
+//! Why a run stopped.
+
+ghost use Rattle.std.specs.Prelude.{◌≡◌};
+ghost use Rattle.swim_sync.specs.declared.stop.Why.TheVariants as why;
+
+use std::alloc::AllocError;
+use thiserror::Error;
+
+/// Where a run of events stopped, and why. What the events before did stays.
+#[derive(Clone, Copy, Debug, PartialEq, Eq, Error)]
+#[error("stopped after {done} events: {why}")]
+pub struct Stop {
+    /// How many events happened: the place, from 0, of the one that did not.
+    pub done: usize,
+    /// Why that event did not happen.
+    pub why: Why,
+}
+
+/// Why an event did not happen. It changed nothing.
+#[derive(Clone, Copy, Debug, PartialEq, Eq, Error)]
+pub enum Why {
+    /// The event has a number that is no node's.
+    #[error("there is no such node")]
+    NoSuchNode,
+    /// The event is an exchange of a node with itself.
+    #[error("a node cannot exchange with itself")]
+    SameNode,
+    /// A table that the event sends keeps more than 131,072 records (own).
+    #[error("a table has more than 131,072 records")]
+    TooManyRecords,
+    /// A growth of memory was refused.
+    #[error("out of memory")]
+    Memory,
+}
+
+impl From<AllocError> for Why {
+    ghost from_gives = { λ _ fault. fault ≡ why.Memory };
+
+    fn from(_error: AllocError) -> Why {
+        Why::Memory
+    }
+}
