@@ -17,7 +17,7 @@ use Rattle.swim_sync.proofs.Routes.{came, reached}
 
 -- ---- the events of the list
 
-length-meet_each : (count : ℕ) → length (meet_each count) ≡ count
+pub length-meet_each : (count : ℕ) → length (meet_each count) ≡ count
 length-meet_each count = length-map (range_with_len 1 count) (λ k. Exchange 0 k) ∙ length-range_with_len 1 count
 
 pub length-level_list : (nodes : ℕ) → 2 ≤ nodes → length (level_list nodes) ≡ 2 * nodes - 3
@@ -32,12 +32,16 @@ get-meet a zero i below = absurd (omega (arith, below))
 get-meet a (suc count) zero below = ap (λ k. Some (Exchange 0 k)) (omega arith)
 get-meet a (suc count) (suc i) below = get-meet (a + 1) count i (omega (arith, below)) ∙ ap (λ k. Some (Exchange 0 k)) (omega arith)
 
-get-front : (xs ys : List Event) (i : ℕ) (e : Event) → slice_get xs i ≡ Some e → slice_get (xs ++ ys) i ≡ Some e
+-- the event at a place of a meeting of each
+pub met_at : (count i : ℕ) → i < count → slice_get (meet_each count) i ≡ Some (Exchange 0 (i + 1))
+met_at count i below = get-meet 1 count i below ∙ ap (λ k. Some (Exchange 0 k)) (omega arith)
+
+pub get-front : (xs ys : List Event) (i : ℕ) (e : Event) → slice_get xs i ≡ Some e → slice_get (xs ++ ys) i ≡ Some e
 get-front [] ys i e at = absurd (cc (at))
 get-front (x ∷ xs) ys zero e at = at
 get-front (x ∷ xs) ys (suc i) e at = get-front xs ys i e at
 
-get-back : (xs ys : List Event) (i : ℕ) → slice_get (xs ++ ys) (length xs + i) ≡ slice_get ys i
+pub get-back : (xs ys : List Event) (i : ℕ) → slice_get (xs ++ ys) (length xs + i) ≡ slice_get ys i
 get-back [] ys i = let e : 0 + i ≡ i = omega arith in ap (slice_get ys) e
 get-back (x ∷ xs) ys i =
     let e : suc (length xs) + i ≡ suc (length xs + i) = omega arith in

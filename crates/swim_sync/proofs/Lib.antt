@@ -1,5 +1,6 @@
 pub mod Clusters
 pub mod Exchanging
+pub mod Levelled
 pub mod Levelling
 pub mod Nodes
 pub mod OverMemory

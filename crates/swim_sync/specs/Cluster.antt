@@ -1,16 +1,17 @@
 -- What events do to the nodes of a cluster, and why an event does not happen.
-use Rattle.std.specs.Prelude.{◌≡◌, ◌⊎◌, ℕ, ◌<◌, Some, List, [], ◌∷◌, ◌++◌, length, map, set, slice_get}
+use Rattle.std.specs.Prelude.{◌≡◌, ◌⊎◌, ℕ, ◌-◌, ◌*◌, ◌<◌, Some, List, [], ◌∷◌, ◌++◌, length, map, set, take, slice_get}
 use Rattle.swim_claim.specs.declared.claim.Claim.{Claim}
 use Rattle.swim_table.specs.Lending.{with_table}
 use Rattle.swim_table.specs.Node.{NodeValue}
 use Rattle.swim_table.specs.Table.{Entries, TableOf}
 use Rattle.swim_sync.specs.declared.event.Event.{Event}
 use Rattle.swim_sync.specs.declared.event.Event.TheVariants.{Hear, HearAll, Exchange, Half, Refute}
+use Rattle.swim_sync.specs.declared.stop.Stop.{Stop}
 use Rattle.swim_sync.specs.declared.stop.Why.{Why}
 use Rattle.swim_sync.specs.declared.stop.Why.TheVariants.{NoSuchNode, SameNode, TooManyRecords, Memory}
 use Rattle.swim_sync.specs.Exchanging.{HasTooMany}
 use Rattle.swim_sync.specs.Heard.{Member, after, heard, heard_by}
-use Rattle.swim_sync.specs.Levels.{all_heard}
+use Rattle.swim_sync.specs.Levels.{level_list, all_heard}
 
 -- who the node is
 abbrev pub member_of : NodeValue → Member
@@ -94,9 +95,17 @@ StopsBy nodes event Memory = NamesNodes (length nodes) event × (¬ NamesOneTwic
 abbrev pub StopsAt : List NodeValue → List Event → ℕ → Why → Type 0
 StopsAt nodes events place why = (event : Event) × (slice_get events place ≡ Some event) × StopsBy nodes event why
 
--- an exchange that levels stops only by too many records, or where memory was refused
-abbrev pub StopsLevelling : Why → Type 0
-StopsLevelling why = (why ≡ TooManyRecords) ⊎ (why ≡ Memory)
+-- The run of the events stopped: those before the place happened, and the one at the place does not.
+pub record Stopped (old new : List NodeValue) (events : List Event) (stop : Stop) : Type 0 where
+  pub before : stop.done < length events
+  pub ran : Ran old new (take stop.done events)
+  pub why : StopsAt new events stop.done stop.why
+
+-- Levelling stopped, by a table of too many records or where memory was refused.
+pub record LevelStopped (old new : List NodeValue) (stop : Stop) : Type 0 where
+  pub stopped : Stopped old new (level_list (length old)) stop
+  pub done : stop.done < 2 * length old - 3
+  pub cause : (stop.why ≡ TooManyRecords) ⊎ (stop.why ≡ Memory)
 
 -- each node's table is that of all claims that any node had, and so all nodes have one table
 pub record AreLevel (old new : List NodeValue) : Type 0 where

@@ -1,9 +1,9 @@
 //! A cluster of nodes, and what happens to it.
 
 ghost use Rattle.std.specs.Option.{option_copied};
-ghost use Rattle.std.specs.Prelude.{◌≡◌, ◌<◌, ◌∷◌, [], length, take, slice_get, OnOk, OnErr, IfErr};
+ghost use Rattle.std.specs.Prelude.{◌≡◌, ◌<◌, ◌∷◌, [], length, slice_get, OnOk, OnErr, IfErr};
 ghost use Rattle.swim_sync.specs.declared.event.Event.TheVariants as event;
-ghost use Rattle.swim_sync.specs.Cluster.{BothExchange, DumpsTooMany, Ran, StopsBy, StopsAt};
+ghost use Rattle.swim_sync.specs.Cluster.{BothExchange, DumpsTooMany, Ran, Stopped, StopsBy};
 ghost use Rattle.swim_sync.specs.OverMemory.{Hinders};
 ghost use Rattle.swim_sync.specs.Paths.{AreTwoNodes};
 
@@ -68,9 +68,7 @@ impl Cluster {
     /// - `Memory` where memory is refused.
     pub fn run(&mut self, events: &[Event]) -> Result<(), Stop>
         ensures ok { OnOk result (Ran self.old self.new events.now) }
-        ensures stopped { IfErr result (λ stop. Ran self.old self.new (take stop.done events.now)) }
-        ensures why { IfErr result (λ stop. StopsAt self.new events.now stop.done stop.why) }
-        ensures done { IfErr result (λ stop. stop.done < length events.now) }
+        ensures stopped { IfErr result (Stopped self.old self.new events.now) }
     {
         for (done, event) in events.iter().enumerate() {
             if let Err(why) = self.happen(event) {

@@ -1,8 +1,8 @@
 //! Levelling: exchanges after which all nodes of a cluster have one table.
 
-ghost use Rattle.std.specs.Prelude.{◌≡◌, ◌≤◌, ◌<◌, ◌+◌, ◌-◌, ◌*◌, ℕ, length, take, IsOk, IfErr, OnOk};
+ghost use Rattle.std.specs.Prelude.{◌≡◌, ◌≤◌, ◌<◌, ◌+◌, ◌-◌, ℕ, length, take, IsOk, IfErr, OnOk};
 ghost use Rattle.swim_sync.specs.declared.event.Event.TheVariants as event;
-ghost use Rattle.swim_sync.specs.Cluster.{AreLevel, Ran, StopsAt, StopsBy, StopsLevelling};
+ghost use Rattle.swim_sync.specs.Cluster.{AreLevel, LevelStopped, Ran, StopsBy};
 ghost use Rattle.swim_sync.specs.Levels.{level_list, meet_each};
 
 use crate::cluster::Cluster;
@@ -27,10 +27,7 @@ impl Cluster {
         ensures level { OnOk result (AreLevel self.old self.new) }
         ensures idle { length self.old ≤ 1 → IsOk result × (self.new ≡ self.old) }
 
-        ensures stopped { IfErr result (λ stop. Ran self.old self.new (take stop.done (level_list (length self.old)))) }
-        ensures why { IfErr result (λ stop. StopsAt self.new (level_list (length self.old)) stop.done stop.why) }
-        ensures cause { IfErr result (λ stop. StopsLevelling stop.why) }
-        ensures done { IfErr result (λ stop. stop.done < 2 * length self.old - 3) }
+        ensures stopped { IfErr result (LevelStopped self.old self.new) }
     {
         let others = self.len().saturating_sub(1);
         self.meet_each(others, 0)?;

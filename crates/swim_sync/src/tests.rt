@@ -1,8 +1,11 @@
+mod clusters;
+mod crowded;
 mod cuts;
 mod events;
 mod fakes;
 mod faults;
 mod halves;
+mod random_runs;
 
 use crate::{SyncFault, answer, exchange, finish};
 use std::alloc::{AllocError, Global};
@@ -44,11 +47,21 @@ fn alive_table(rt: &impl Abort, alloc: Global) -> Result<Table, AllocError> {
     Ok(table)
 }
 
+/// A Suspect of the name at the incarnation.
+fn suspect(
+    rt: &impl Abort,
+    alloc: Global,
+    name: &'static [u8],
+    inc: u32,
+) -> Result<Claim, AllocError> {
+    let name = Name::new(name.to_vec(alloc)?).expect(rt, "a legal name");
+    Ok(Claim::Suspect { name, inc })
+}
+
 /// The table of `b`, suspected at incarnation 1.
 fn suspect_table(rt: &impl Abort, alloc: Global) -> Result<Table, AllocError> {
-    let name = Name::new(b"b".to_vec(alloc)?).expect(rt, "a legal name");
     let mut table = Table::new(alloc);
-    take(&mut table, Claim::Suspect { name, inc: 1 })?;
+    take(&mut table, suspect(rt, alloc, b"b", 1)?)?;
     Ok(table)
 }
 

@@ -1,18 +1,8 @@
 //! Claims that a node takes in together.
 use crate::Claims;
-use std::alloc::{AllocError, Global};
-use std::process::Abort;
-use swim_claim::{Claim, Kind, Name};
-
-fn suspect(
-    rt: &impl Abort,
-    alloc: Global,
-    name: &'static [u8],
-    inc: u32,
-) -> Result<Claim, AllocError> {
-    let name = Name::new(name.to_vec(alloc)?).expect(rt, "a legal name");
-    Ok(Claim::Suspect { name, inc })
-}
+use crate::tests::suspect;
+use std::alloc::AllocError;
+use swim_claim::Kind;
 
 #[test]
 fn claims_are_those_given_in_their_order(rt: HostRuntime) -> Result<(), AllocError> {

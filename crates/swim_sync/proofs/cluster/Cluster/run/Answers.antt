@@ -11,14 +11,15 @@ pub loop-done-init : goal.loop-done-init
 loop-done-init c = ran_nothing c.args.self.now
 
 pub returns-in-Err-clause-stopped : goal.returns-in-Err-clause-stopped
-returns-in-Err-clause-stopped c = subst (λ (nodes : List NodeValue). Ran c.args.self.now nodes (take c.loop-done.done c.args.events.now)) (sym c.in-Err.ensures.unchanged) c.loop-done.invariant
-
-pub returns-in-Err-clause-why : goal.returns-in-Err-clause-why
-returns-in-Err-clause-why c = (
-  c.index-events-done.result,
-  slice_get_read c.args.events.now (length c.args.events.now) c.loop-done.done c.index-events-done.result refl c.loop-done-test.true c.index-events-done.is,
-  subst (λ (nodes : List NodeValue). StopsBy nodes c.index-events-done.result c.in-Err.why) (sym c.in-Err.ensures.unchanged) c.in-Err.ensures.refused,
-)
+returns-in-Err-clause-stopped c = record {
+  before = c.loop-done-test.true;
+  ran = subst (λ (nodes : List NodeValue). Ran c.args.self.now nodes (take c.loop-done.done c.args.events.now)) (sym c.in-Err.ensures.unchanged) c.loop-done.invariant;
+  why = (
+    c.index-events-done.result,
+    slice_get_read c.args.events.now (length c.args.events.now) c.loop-done.done c.index-events-done.result refl c.loop-done-test.true c.index-events-done.is,
+    subst (λ (nodes : List NodeValue). StopsBy nodes c.index-events-done.result c.in-Err.why) (sym c.in-Err.ensures.unchanged) c.in-Err.ensures.refused,
+  );
+}
 
 pub loop-done-preserved : goal.loop-done-preserved
 loop-done-preserved c = ran_more c.args.self.now c.loop-done.self c.happen.new.self c.args.events.now c.loop-done.done c.index-events-done.result c.loop-done-test.true c.index-events-done.is c.loop-done.invariant c.in_default.ensures.ok
