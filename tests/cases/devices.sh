@@ -1,5 +1,5 @@
-# Files, standard input and standard output that fail, end early or come in pieces.
-# shellcheck shell=sh disable=SC2154
+# Files, standard input, standard output and memory that fail, end early or come in pieces.
+# shellcheck shell=sh disable=SC2154,SC3045
 
 # Files that cannot be read.
 for verb in list merge relate; do
@@ -168,3 +168,17 @@ refuses 'standard input is too long' 3 'swimtab: input: fault 32 InputTooLong'
 timeout 120 "$program" < /dev/zero > out 2> err
 status=$?
 refuses 'standard input without an end' 3 'swimtab: input: fault 32 InputTooLong'
+
+# Want of memory: the program has less than the input needs.
+small() {
+    (ulimit -v 100000 && timeout 120 "$program" "$@" > out 2> err)
+    status=$?
+}
+for verb in list merge relate; do
+    small $verb p.bin bound.bin
+    refuses "$verb: there is no memory" 5 'swimtab: out of memory'
+done
+small < bound.bin
+refuses 'packets: there is no memory' 5 'swimtab: out of memory'
+small list p.bin
+prints 'list: there is enough memory' 0 "$line_a"

@@ -79,6 +79,15 @@ refused "070200330001${alive_a}04" '1 Ended'
 refused '0701' '1 Ended'
 refused '070000' '22 Trailing'
 
+# What a running cluster sends: with checksums, and without them and without messages that make no claims.
+run < "$here/../examples/default-cluster.hex"
+refuses 'a packet with a checksum' 3 'swimtab: line 1: fault 16 WrongType 12'
+sed 's/^0c........//' "$here/../examples/default-cluster.hex" | grep '^0[3457]' > cluster.hex
+run < cluster.hex
+prints 'the packets of a running cluster' 0 \
+    'd3 leave 1 1/7f000503/7946//010502000000' \
+    'd4 suspect 1 1/7f000504/7946//010502000000'
+
 # Refused packets.
 while read -r packet fault; do
     refused "$packet" "$fault"
