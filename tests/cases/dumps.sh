@@ -142,26 +142,50 @@ while [ $length -lt $((${#dump_v} / 2)) ]; do
 done
 count 'each beginning of a dump is Ended' "$fault"
 
-# As many records as a dump may have: 131,072 suspects named 000000 to 131071.
+# As many records as a dump may have: 131,072. Their parts with stand-ins for the bytes that are no
+# letters: ( is a4, ) a5, + a6, = a0, * ab, ; a3, [ 87, ~ 7f, @ 00 and ! 01.
+suspect_part='[(Addr=*Incarnation@(Meta=(Name+%06d(Port@)State!;Vsn='
+alive_part='[(Addr(~@@!*Incarnation@(Meta=(Name+%06d(Port@)State@;Vsn='
+
+# many RECORDS MEMBERS PART..: a dump of so many records, one or two for each of the members 000000,
+# 000001, ..
+many() {
+    bytes "0683a44a6f696ec2a54e6f646573ce$(printf %08x "$1")ac5573657253746174654c656e00"
+    awk -v members="$2" -v part="$3" -v other="${4-}" 'BEGIN {
+        for (i = 0; i < members; i++) {
+            printf part, i
+            if (other != "")
+                printf other, i
+        }
+    }' | tr '()+=*;[~@!' '\244\245\246\240\253\243\207\177\000\001'
+}
+too_many='swimtab: output: fault 23 TooManyRecords'
+
 awk 'BEGIN { for (i = 0; i < 131072; i++) printf "%06d suspect 0 -\n", i }' > most.txt
-{
-    bytes 0683a44a6f696ec2a54e6f646573ce00020000ac5573657253746174654c656e00
-    # stand-ins: ( a4, ) a5, [ 87, = a0, * ab, + a6, @ 00, ! 01, ; a3
-    awk 'BEGIN {
-        for (i = 0; i < 131072; i++)
-            printf "[(Addr=*Incarnation@(Meta=(Name+%06d(Port@)State!;Vsn=", i
-    }' | tr '()[=*+@!;' '\244\245\207\240\253\246\000\001\243'
-} > most.bin
+many 131072 131072 "$suspect_part" > most.bin
 run list most.bin
 prints_file '131,072 members are listed' most.txt
 run merge most.bin
 prints_file '131,072 records are merged' most.bin
 run merge most.bin p.bin
-refuses '131,073 records have no dump' 3 'swimtab: output: fault 23 TooManyRecords'
+refuses '131,073 records have no dump' 3 "$too_many"
 run merge p.bin most.bin
-refuses '131,073 records have no dump, in the other order' 3 'swimtab: output: fault 23 TooManyRecords'
+refuses '131,073 records have no dump, in the other order' 3 "$too_many"
 run list most.bin p.bin
 { cat most.txt && echo "$line_a"; } > more.txt
 prints_file '131,073 members are listed' more.txt
 run relate p.bin most.bin
 prints '131,072 members and another one' 1 apart
+
+# A member that is suspected and has an address has two records.
+many 65536 65536 "$alive_part" > half.bin
+many 131072 65536 "$alive_part" "$suspect_part" > both.bin
+run merge most.bin half.bin
+refuses '131,072 members with 65,536 addresses have no dump' 3 "$too_many"
+many 65536 65536 "$suspect_part" > suspects.bin
+run merge half.bin suspects.bin
+prints_file '65,536 members with two records each are merged' both.bin
+run merge half.bin suspects.bin q.bin
+refuses '65,537 members with 131,073 records have no dump' 3 "$too_many"
+run relate suspects.bin most.bin
+prints '65,536 of 131,072 members' 1 behind
