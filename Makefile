@@ -3,7 +3,7 @@
 #   make            the program, at build/swimtab
 #   make run        the listing of examples/packets.hex
 #   make test       the gate
-#   make install    copies the program to PREFIX/bin
+#   make install    copies the program to PREFIX/bin, and its page to PREFIX/share/man/man1
 #   make clean      removes what was built
 
 PREFIX ?= /usr/local
@@ -27,8 +27,9 @@ test: kit
 	@.ci/gate
 
 install: build/swimtab
-	@mkdir -p '$(DESTDIR)$(PREFIX)/bin'
+	@mkdir -p '$(DESTDIR)$(PREFIX)/bin' '$(DESTDIR)$(PREFIX)/share/man/man1'
 	install -m 755 build/swimtab '$(DESTDIR)$(PREFIX)/bin/swimtab'
+	install -m 644 docs/swimtab.1 '$(DESTDIR)$(PREFIX)/share/man/man1/swimtab.1'
 
 clean:
 	rm -rf build crates/*/out
