@@ -195,13 +195,16 @@ pub ran_half : (nodes : List NodeValue) (j k : ℕ) (first second new : NodeValu
 ran_half nodes j k first second new two at_first at_second same few takes = record {
   members = members_same nodes k second new at_second (member_same second new same);
   tables = λ lists h.
-    subst (TablesOf (set nodes k new)) (sym (after_half (members_of nodes) lists j k (two_heard nodes lists j k h two)))
-    (one_hears nodes lists k second new (heard_by lists j) h at_second (λ own. takes (heard_by lists k) (heard_by lists j) own (h.each j first at_first)));
-  could = λ lists h. (record {
-    named = ((two_heard nodes lists j k h two).0, (two_heard nodes lists j k h two).1);
-    differ = two.2;
-    few = few_both nodes lists j k first second h at_first at_second few;
-  }, tt);
+      subst (TablesOf (set nodes k new)) (sym (after_half (members_of nodes) lists j k (two_heard nodes lists j k h two)))
+      (one_hears nodes lists k second new (heard_by lists j) h at_second (λ own. takes (heard_by lists k) (heard_by lists j) own (h.each j first at_first)));
+  could = λ lists h. (
+    record {
+      named = ((two_heard nodes lists j k h two).0, (two_heard nodes lists j k h two).1);
+      differ = two.2;
+      few = few_both nodes lists j k first second h at_first at_second few;
+    },
+    tt,
+  );
 }
 
 -- two nodes hear what both had heard
@@ -231,17 +234,20 @@ ran_both : (nodes : List NodeValue) (j k : ℕ) (first second a b : NodeValue) �
     → Ran nodes (set (set nodes j a) k b) (Exchange j k ∷ [])
 ran_both nodes j k first second a b two at_first at_second same_first same_second few takes = record {
   members =
-    members_same (set nodes j a) k second b (kept_at nodes j k a second at_second (λ same. two.2 (sym same))) (member_same second b same_second)
-    ∙ members_same nodes j first a at_first (member_same first a same_first);
+      members_same (set nodes j a) k second b (kept_at nodes j k a second at_second (λ same. two.2 (sym same))) (member_same second b same_second)
+      ∙ members_same nodes j first a at_first (member_same first a same_first);
   tables = λ lists h.
-    (let joined = takes (heard_by lists j) (heard_by lists k) (h.each j first at_first) (h.each k second at_second) in
-    subst (TablesOf (set (set nodes j a) k b)) (sym (after_exchange (members_of nodes) lists j k (two_heard nodes lists j k h two)))
-    (two_hear nodes lists j k a b (heard_by lists j ++ heard_by lists k) h (two_heard nodes lists j k h two) joined.0 joined.1));
-  could = λ lists h. (record {
-    named = ((two_heard nodes lists j k h two).0, (two_heard nodes lists j k h two).1);
-    differ = two.2;
-    few = few_both nodes lists j k first second h at_first at_second few;
-  }, tt);
+      (let joined = takes (heard_by lists j) (heard_by lists k) (h.each j first at_first) (h.each k second at_second) in
+      subst (TablesOf (set (set nodes j a) k b)) (sym (after_exchange (members_of nodes) lists j k (two_heard nodes lists j k h two)))
+      (two_hear nodes lists j k a b (heard_by lists j ++ heard_by lists k) h (two_heard nodes lists j k h two) joined.0 joined.1));
+  could = λ lists h. (
+    record {
+      named = ((two_heard nodes lists j k h two).0, (two_heard nodes lists j k h two).1);
+      differ = two.2;
+      few = few_both nodes lists j k first second h at_first at_second few;
+    },
+    tt,
+  );
 }
 
 pub ran_exchange : (nodes new : List NodeValue) (j k : ℕ) → AreTwoNodes (length nodes) j k → BothExchange nodes new j k → Ran nodes new (Exchange j k ∷ [])
@@ -349,11 +355,11 @@ pub ran-append : (old mid new : List NodeValue) (events others : List Event) →
 ran-append old mid new events others r s = record {
   members = s.members ∙ r.members;
   tables = λ start h.
-    subst (TablesOf new) (sym (heard-append (members_of old) start events others))
-    (subst (λ (members : List Member). TablesOf new (heard members (heard (members_of old) start events) others)) r.members (s.tables (heard (members_of old) start events) (r.tables start h)));
+      subst (TablesOf new) (sym (heard-append (members_of old) start events others))
+      (subst (λ (members : List Member). TablesOf new (heard members (heard (members_of old) start events) others)) r.members (s.tables (heard (members_of old) start events) (r.tables start h)));
   could = λ start h.
-    could-append (members_of old) start events others (r.could start h)
-    (subst (λ (members : List Member). EachCanHappen members (heard (members_of old) start events) others) r.members (s.could (heard (members_of old) start events) (r.tables start h)));
+      could-append (members_of old) start events others (r.could start h)
+      (subst (λ (members : List Member). EachCanHappen members (heard (members_of old) start events) others) r.members (s.could (heard (members_of old) start events) (r.tables start h)));
 }
 
 -- a run of one more event

@@ -35,7 +35,7 @@ pub are_level : (old new : List NodeValue) → Ran old new (level_list (length o
 are_level old new r = record {
   all = all;
   one_table = λ start h j k node other at_node at_other.
-    TableOf-unique node.table other.table (all_heard start) (all_heard start) (all start h j node at_node) (all start h k other at_other) (λ c. (λ made. made, λ made. made));
+      TableOf-unique node.table other.table (all_heard start) (all_heard start) (all start h j node at_node) (all start h k other at_other) (λ c. (λ made. made, λ made. made));
 }
   where
     all : (start : List (List Claim)) → TablesOf old start → (k : ℕ) (node : NodeValue) → slice_get new k ≡ Some node → TableOf node.table (all_heard start)
@@ -85,13 +85,13 @@ stopped_again old mid new others again i stop one two below done r s stops =
     let place : stop.done ≡ length (meet_each (length old - 1)) + i = omega (arith, done, number, one) in
     let front : take (length (meet_each (length old - 1)) + i) (level_list (length old)) ≡ meet_each (length old - 1) ++ take i (meet_each (length old - 2)) = take-append-add (meet_each (length old - 1)) (meet_each (length old - 2)) i in
     let at : slice_get (level_list (length old)) (length (meet_each (length old - 1)) + i) ≡ Some (Exchange 0 (i + 1)) =
-        get-back (meet_each (length old - 1)) (meet_each (length old - 2)) i ∙ met_at (length old - 2) i (omega (arith, two, below)) in
+    get-back (meet_each (length old - 1)) (meet_each (length old - 2)) i ∙ met_at (length old - 2) i (omega (arith, two, below)) in
     record {
       stopped = record {
         before = omega (arith, done, count, one, two, below);
         ran = subst (λ (n : ℕ). Ran old new (take n (level_list (length old)))) (sym place) (subst (Ran old new) (sym front)
-          (ran-append old mid new (meet_each (length old - 1)) (take i (meet_each (length old - 2)))
-          (subst (λ (n : ℕ). Ran old mid (meet_each n)) one r) (subst (λ (n : ℕ). Ran mid new (take i (meet_each n))) two s)));
+            (ran-append old mid new (meet_each (length old - 1)) (take i (meet_each (length old - 2)))
+            (subst (λ (n : ℕ). Ran old mid (meet_each n)) one r) (subst (λ (n : ℕ). Ran mid new (take i (meet_each n))) two s)));
         why = (Exchange 0 (i + 1), ap (slice_get (level_list (length old))) place ∙ at, stops);
       };
       done = omega (arith, done, one, two, below);

@@ -1,5 +1,4 @@
 mod clusters;
-mod crowded;
 mod cuts;
 mod events;
 mod fakes;
@@ -63,6 +62,20 @@ fn suspect_table(rt: &impl Abort, alloc: Global) -> Result<Table, AllocError> {
     let mut table = Table::new(alloc);
     take(&mut table, suspect(rt, alloc, b"b", 1)?)?;
     Ok(table)
+}
+
+/// Takes so many Suspects into the table, of names of four bytes each.
+fn take_suspects(
+    rt: &impl Abort,
+    alloc: Global,
+    table: &mut Table,
+    count: u32,
+) -> Result<(), AllocError> {
+    for number in 0..count {
+        let name = Name::new(number.to_be_bytes().to_vec(alloc)?).expect(rt, "a legal name");
+        take(table, Claim::Suspect { name, inc: 0 })?;
+    }
+    Ok(())
 }
 
 fn take(table: &mut Table, claim: Claim) -> Result<(), AllocError> {

@@ -1,5 +1,5 @@
 //! Runs of events and levelling, on the nodes of three members.
-use crate::tests::{assert_lists, suspect};
+use crate::tests::{assert_lists, suspect, take_suspects};
 use crate::{Claims, Cluster, Event, Stop, Why};
 use std::alloc::{AllocError, Global};
 use std::process::Abort;
@@ -16,12 +16,7 @@ const ALL_LISTING: &str =
     "a alive 0 0/7f000001/7946//\nb alive 0 0/7f000002/7946//\nc alive 0 0/7f000003/7946//\n";
 
 /// The node of this name at 127.0.0.x and port 7946, at incarnation 0.
-fn node(
-    rt: &impl Abort,
-    alloc: Global,
-    name: &'static [u8],
-    last: u8,
-) -> Result<Node, AllocError> {
+fn node(rt: &impl Abort, alloc: Global, name: &'static [u8], last: u8) -> Result<Node, AllocError> {
     let name = Name::new(name.to_vec(alloc)?).expect(rt, "a legal name");
     let addr = [127, 0, 0, last].as_slice().to_vec(alloc)?;
     let details = Details::new(addr, 7946, Vec::new(alloc), Vec::new(alloc));
@@ -29,8 +24,12 @@ fn node(
 }
 
 /// The cluster of the first so many of the members a, b and c.
-fn cluster(rt: &impl Abort, alloc: Global, size: usize) -> Result<Cluster, AllocError> {
-    let members = [(b"a".as_slice(), 1), (b"b".as_slice(), 2), (b"c".as_slice(), 3)];
+pub(super) fn cluster(rt: &impl Abort, alloc: Global, size: usize) -> Result<Cluster, AllocError> {
+    let members = [
+        (b"a".as_slice(), 1),
+        (b"b".as_slice(), 2),
+        (b"c".as_slice(), 3),
+    ];
     let mut nodes = Vec::new(alloc);
     for (name, last) in members.into_iter().take(size) {
         nodes.push(node(rt, alloc, name, last)?)?;
@@ -56,7 +55,7 @@ fn assert_nodes(
 
 /// Runs the events, which all happen. Where memory is refused the run goes on at the event that did
 /// not happen.
-fn assert_runs(rt: &impl Abort, cluster: &mut Cluster, events: &[Event]) {
+pub(super) fn assert_runs(rt: &impl Abort, cluster: &mut Cluster, events: &[Event]) {
     if let Err(stop) = cluster.run(events) {
         assert_eq!(rt; stop.why, Why::Memory);
         assert_eq!(rt; cluster.run(&events[stop.done..]), Ok(()));
@@ -67,7 +66,13 @@ fn assert_runs(rt: &impl Abort, cluster: &mut Cluster, events: &[Event]) {
 fn assert_stops(rt: &impl Abort, cluster: &mut Cluster, events: &[Event], expected: Stop) {
     let mut stop = cluster.run(events);
     let mut before = 0;
-    if let Err(Stop { done, why: Why::Memory }) = stop {
+    if let Err(
+        Stop {
+            done,
+            why: Why::Memory,
+        },
+    ) = stop
+    {
         before = done;
         stop = cluster.run(&events[done..]);
     }
@@ -133,8 +138,14 @@ fn claims_are_heard_together(rt: HostRuntime) -> Result<(), AllocError> {
 fn events_that_name_no_two_nodes_stop_a_run(rt: HostRuntime) -> Result<(), AllocError> {
     let alloc = rt.alloc();
     let cases = [
-        (Event::Hear(2, suspect(&rt, alloc, b"a", 1)?), Why::NoSuchNode),
-        (Event::HearAll(2, Claims::new(Vec::new(alloc))), Why::NoSuchNode),
+        (
+            Event::Hear(2, suspect(&rt, alloc, b"a", 1)?),
+            Why::NoSuchNode,
+        ),
+        (
+            Event::HearAll(2, Claims::new(Vec::new(alloc))),
+            Why::NoSuchNode,
+        ),
         (Event::Refute(2), Why::NoSuchNode),
         (Event::Exchange(0, 2), Why::NoSuchNode),
         (Event::Exchange(2, 0), Why::NoSuchNode),
@@ -147,9 +158,52 @@ fn events_that_name_no_two_nodes_stop_a_run(rt: HostRuntime) -> Result<(), Alloc
     ];
     for (event, why) in cases {
         let mut cluster = cluster(&rt, alloc, 2)?;
-        assert_stops(&rt, &mut cluster, &[Event::Refute(0), event], Stop { done: 1, why });
+        assert_stops(
+            &rt,
+            &mut cluster,
+            &[Event::Refute(0), event],
+            Stop { done: 1, why },
+        );
         assert_nodes(&rt, alloc, &cluster, &[A_LISTING, B_LISTING])?;
     }
+    Ok(())
+}
+
+#[test]
+fn a_crowded_table_stops_exchanges_alone(rt: HostRuntime) -> Result<(), AllocError> {
+    let alloc = rt.alloc();
+    let mut crowded = node(&rt, alloc, b"a", 1)?;
+    take_suspects(&rt, alloc, crowded.table_mut(), 131_072)?;
+    let mut nodes = Vec::new(alloc);
+    nodes.push(crowded)?;
+    nodes.push(node(&rt, alloc, b"b", 2)?)?;
+    let mut cluster = Cluster::new(alloc, nodes);
+    let why = Why::TooManyRecords;
+    let exchanges = [
+        Event::Exchange(0, 1),
+        Event::Exchange(1, 0),
+        Event::Half(0, 1),
+        Event::Half(1, 0),
+    ];
+    for exchange in exchanges {
+        let heard = Event::Hear(0, suspect(&rt, alloc, b"x", 1)?);
+        assert_stops(&rt, &mut cluster, &[heard, exchange], Stop { done: 1, why });
+        let first = cluster.node(0).expect(&rt, "a node");
+        assert_eq!(rt; first.table().len(), 131_074);
+        assert!(rt; first.table().get(b"b").is_none());
+        let second = cluster.node(1).expect(&rt, "a node");
+        assert_lists(&rt, alloc, second.table(), B_LISTING)?;
+    }
+    let mut level = cluster.level();
+    if level
+        == Err(Stop {
+            done: 0,
+            why: Why::Memory,
+        })
+    {
+        level = cluster.level();
+    }
+    assert_eq!(rt; level, Err(Stop { done: 0, why }));
     Ok(())
 }
 
@@ -215,7 +269,11 @@ fn levelling_that_is_refused_memory_leaves_what_was_done(
     let mut levelled = cluster(&rt, alloc, 3)?;
     if let Err(Stop { done, why }) = levelled.level() {
         assert_eq!(rt; why, Why::Memory);
-        let exchanges = [Event::Exchange(0, 1), Event::Exchange(0, 2), Event::Exchange(0, 1)];
+        let exchanges = [
+            Event::Exchange(0, 1),
+            Event::Exchange(0, 2),
+            Event::Exchange(0, 1),
+        ];
         assert!(rt; done < exchanges.len());
         let mut run = cluster(&rt, alloc, 3)?;
         assert_eq!(rt; run.run(&exchanges[..done]), Ok(()));

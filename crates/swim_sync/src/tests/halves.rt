@@ -2,12 +2,12 @@
 
 use super::{
     ALIVE_LISTING, ALIVE_OFFER, JOINED_LISTING, SUSPECT_LISTING, SUSPECT_OFFER, SUSPECTED_OFFER,
-    alive_table, answered, assert_exchanges, assert_finishes, assert_lists, suspect_table, take,
+    alive_table, answered, assert_exchanges, assert_finishes, assert_lists, suspect_table,
+    take_suspects,
 };
 use crate::{SyncFault, answer, exchange, offer};
 use std::alloc::{AllocError, Global};
 use std::process::Abort;
-use swim_claim::{Claim, Name};
 use swim_pack::{StopInlet, StopOutlet, VecOutlet};
 use swim_table::Table;
 use swim_wire::WireFault;
@@ -92,21 +92,12 @@ fn an_outlet_or_inlet_that_fails_leaves_the_table(rt: HostRuntime) -> Result<(),
     assert_unanswered(&rt, alloc, 1, 2, fault)
 }
 
-/// The table of so many Suspects.
-fn table_of_suspects(rt: &impl Abort, alloc: Global, count: u32) -> Result<Table, AllocError> {
-    let mut table = Table::new(alloc);
-    for number in 0..count {
-        let name = Name::new(number.to_be_bytes().to_vec(alloc)?).expect(rt, "a legal name");
-        take(&mut table, Claim::Suspect { name, inc: 0 })?;
-    }
-    Ok(table)
-}
-
 #[test]
 fn a_table_of_131073_records_is_not_exchanged(rt: HostRuntime) -> Result<(), AllocError> {
     let alloc = rt.alloc();
     let mut first = alive_table(&rt, alloc)?;
-    let mut second = table_of_suspects(&rt, alloc, 131_073)?;
+    let mut second = Table::new(alloc);
+    take_suspects(&rt, alloc, &mut second, 131_073)?;
     let too_many = Err(SyncFault::TooManyRecords);
     let mut answers = [
         exchange(alloc, &mut second, &mut first),

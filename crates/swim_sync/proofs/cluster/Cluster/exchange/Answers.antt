@@ -23,12 +23,12 @@ returns-clause-ok c =
     let high = c.max-high.ensures in
     on_ok_weaker c.exchange_nodes.result
     (λ swapped. (
-      let both : BothExchange items new c.min-low.result c.max-high.result = subst (λ (l : List NodeValue). BothExchange l new c.min-low.result c.max-high.result) same swapped in
-      let written = all_written items new c.self.inside.nodes.len (sym number ∙ ap length same) (length-exchanged items new c.min-low.result c.max-high.result both) in
-      subst (λ (l : List NodeValue). Ran c.args.self.now l (Exchange c.args.first c.args.second ∷ [])) (sym written)
-      (subst (λ (l : List NodeValue). Ran l new (Exchange c.args.first c.args.second ∷ [])) c.self.view_is
-      (elim (cases_lt c.args.first c.args.second) [
-        | inl less ↦ ran_exchange items new c.args.first c.args.second two (subst (λ (i : ℕ). BothExchange items new i c.args.second) (omega (arith, low, less)) (subst (λ (i : ℕ). BothExchange items new c.min-low.result i) (omega (arith, high, less)) both))
-        | inr past ↦ exchange_turned items new c.args.first c.args.second two (subst (λ (i : ℕ). BothExchange items new i c.args.first) (omega (arith, low, past)) (subst (λ (i : ℕ). BothExchange items new c.min-low.result i) (omega (arith, high, past)) both))
-      ]))))
+    let both : BothExchange items new c.min-low.result c.max-high.result = subst (λ (l : List NodeValue). BothExchange l new c.min-low.result c.max-high.result) same swapped in
+    let written = all_written items new c.self.inside.nodes.len (sym number ∙ ap length same) (length-exchanged items new c.min-low.result c.max-high.result both) in
+    subst (λ (l : List NodeValue). Ran c.args.self.now l (Exchange c.args.first c.args.second ∷ [])) (sym written)
+    (subst (λ (l : List NodeValue). Ran l new (Exchange c.args.first c.args.second ∷ [])) c.self.view_is
+    (elim (cases_lt c.args.first c.args.second) [
+      | inl less ↦ ran_exchange items new c.args.first c.args.second two (subst (λ (i : ℕ). BothExchange items new i c.args.second) (omega (arith, low, less)) (subst (λ (i : ℕ). BothExchange items new c.min-low.result i) (omega (arith, high, less)) both))
+      | inr past ↦ exchange_turned items new c.args.first c.args.second two (subst (λ (i : ℕ). BothExchange items new i c.args.first) (omega (arith, low, past)) (subst (λ (i : ℕ). BothExchange items new c.min-low.result i) (omega (arith, high, past)) both))
+    ]))))
     c.exchange_nodes.ensures.exchanges

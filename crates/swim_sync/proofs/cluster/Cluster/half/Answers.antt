@@ -21,10 +21,10 @@ returns-clause-ok c =
     let theirs = c.table_mut.ensures.table in
     ok_both c.answered.result
     (λ takes few. subst (λ (nodes : List NodeValue). Ran nodes (set c.self.inside.nodes.items c.args.second (with_table c.index_mut.result.now c.answered.new.table)) (Half c.args.first c.args.second ∷ [])) c.self.view_is
-      (ran_half c.self.inside.nodes.items c.args.first c.args.second c.index.result.now c.index_mut.result.now (with_table c.index_mut.result.now c.answered.new.table) two at_first at_second
-      (record { name = refl; details = refl })
-      (subst (λ (t : Entries). ¬ HasTooMany t) own (few_enough c.table.result.now c.in_ok-offer.ensures.offers.few), subst (λ (t : Entries). ¬ HasTooMany t) theirs few)
-      (λ claims others h g. takes c.table.result.now (subst (IsOffer c.table.result.now) (sym c.bytes.ensures) c.in_ok-offer.ensures.offers) claims others (subst (λ (t : Entries). TableOf t claims) (sym theirs) h) (subst (λ (t : Entries). TableOf t others) (sym own) g))))
+    (ran_half c.self.inside.nodes.items c.args.first c.args.second c.index.result.now c.index_mut.result.now (with_table c.index_mut.result.now c.answered.new.table) two at_first at_second
+    (record { name = refl; details = refl })
+    (subst (λ (t : Entries). ¬ HasTooMany t) own (few_enough c.table.result.now c.in_ok-offer.ensures.offers.few), subst (λ (t : Entries). ¬ HasTooMany t) theirs few)
+    (λ claims others h g. takes c.table.result.now (subst (IsOffer c.table.result.now) (sym c.bytes.ensures) c.in_ok-offer.ensures.offers) claims others (subst (λ (t : Entries). TableOf t claims) (sym theirs) h) (subst (λ (t : Entries). TableOf t others) (sym own) g))))
     c.answered.ensures.takes c.answered.ensures.few
 
 pub returns-clause-refused : goal.returns-clause-refused
@@ -33,6 +33,6 @@ returns-clause-refused c =
     let at_second = node_at c.self.inside.nodes.items c.args.second c.index_mut.result.now two.1 c.index_mut.ensures.value in
     IfErr-weaker c.answered.result _ _
     (λ why hinders. subst (λ (nodes : List NodeValue). StopsBy nodes (Half c.args.first c.args.second) why) c.self.view_is
-      (stops_half c.self.inside.nodes.items c.args.first c.args.second c.args.second c.index_mut.result.now two at_second (inr refl) why
-      (subst (λ (t : Entries). Hinders (HasTooMany t) why) c.table_mut.ensures.table hinders)))
+    (stops_half c.self.inside.nodes.items c.args.first c.args.second c.args.second c.index_mut.result.now two at_second (inr refl) why
+    (subst (λ (t : Entries). Hinders (HasTooMany t) why) c.table_mut.ensures.table hinders)))
     c.answered.ensures.refused

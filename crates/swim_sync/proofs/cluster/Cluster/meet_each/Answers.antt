@@ -15,8 +15,7 @@ loop-met-init c = (ran_nothing c.args.self.now, λ none. refl)
 
 pub returns-in-Err-clause-stopped : goal.returns-in-Err-clause-stopped
 returns-in-Err-clause-stopped c =
-    let same = c.in-Err.ensures.unchanged in
-    (
+    let same = c.in-Err.ensures.unchanged in (
       c.loop-met.met,
       c.loop-met-test.true,
       refl,
@@ -29,8 +28,7 @@ loop-met-preserved c =
     let event = Exchange 0 (c.loop-met.met + 1) in
     let number = length-meet_each c.args.count in
     let below = c.loop-met-test.true in
-    let at = get_or_from_slice_get (meet_each c.args.count) c.loop-met.met event event (met_at c.args.count c.loop-met.met below) in
-    (
+    let at = get_or_from_slice_get (meet_each c.args.count) c.loop-met.met event event (met_at c.args.count c.loop-met.met below) in (
       ran_more c.args.self.now c.loop-met.self c.exchange.new.self (meet_each c.args.count) c.loop-met.met event (omega (arith, number, below)) (sym at) c.loop-met.invariant.0 c.in_default.ensures.ok,
       λ none. absurd (omega (arith, none)),
     )
