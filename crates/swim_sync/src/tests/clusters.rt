@@ -62,6 +62,12 @@ pub(super) fn assert_runs(rt: &impl Abort, cluster: &mut Cluster, events: &[Even
     }
 }
 
+/// Levels a cluster of three nodes at most.
+fn level(rt: &impl Abort, cluster: &mut Cluster) -> Result<(), Stop> {
+    assert!(rt; cluster.len() <= 3);
+    cluster.level()
+}
+
 /// Runs the events, of which that at the place does not happen, and not for want of memory.
 fn assert_stops(rt: &impl Abort, cluster: &mut Cluster, events: &[Event], expected: Stop) {
     let mut stop = cluster.run(events);
@@ -194,16 +200,16 @@ fn a_crowded_table_stops_exchanges_alone(rt: HostRuntime) -> Result<(), AllocErr
         let second = cluster.node(1).expect(&rt, "a node");
         assert_lists(&rt, alloc, second.table(), B_LISTING)?;
     }
-    let mut level = cluster.level();
-    if level
+    let mut levelled = level(&rt, &mut cluster);
+    if levelled
         == Err(Stop {
             done: 0,
             why: Why::Memory,
         })
     {
-        level = cluster.level();
+        levelled = level(&rt, &mut cluster);
     }
-    assert_eq!(rt; level, Err(Stop { done: 0, why }));
+    assert_eq!(rt; levelled, Err(Stop { done: 0, why }));
     Ok(())
 }
 
@@ -243,18 +249,18 @@ fn nodes_that_heard_the_same_list_the_same(rt: HostRuntime) -> Result<(), AllocE
 #[test]
 fn levelling_gives_all_nodes_one_table(rt: HostRuntime) -> Result<(), AllocError> {
     let alloc = rt.alloc();
-    let cases: [&[&str]; 4] = [
-        &[],
-        &[A_LISTING],
-        &[BOTH_LISTING, BOTH_LISTING],
-        &[ALL_LISTING, ALL_LISTING, ALL_LISTING],
+    let cases: [(&[&str], usize); 4] = [
+        (&[], 0),
+        (&[A_LISTING], 0),
+        (&[BOTH_LISTING, BOTH_LISTING], 1),
+        (&[ALL_LISTING, ALL_LISTING, ALL_LISTING], 3),
     ];
-    for listings in cases {
+    for (listings, exchanges) in cases {
         let mut cluster = cluster(&rt, alloc, listings.len())?;
-        if let Err(stop) = cluster.level() {
+        if let Err(stop) = level(&rt, &mut cluster) {
             assert_eq!(rt; stop.why, Why::Memory);
-            assert!(rt; stop.done < 2 * listings.len() - 3);
-            assert_eq!(rt; cluster.level(), Ok(()));
+            assert!(rt; stop.done < exchanges);
+            assert_eq!(rt; level(&rt, &mut cluster), Ok(()));
         }
         assert_nodes(&rt, alloc, &cluster, listings)?;
     }
@@ -267,7 +273,7 @@ fn levelling_that_is_refused_memory_leaves_what_was_done(
 ) -> Result<(), AllocError> {
     let alloc = rt.alloc();
     let mut levelled = cluster(&rt, alloc, 3)?;
-    if let Err(Stop { done, why }) = levelled.level() {
+    if let Err(Stop { done, why }) = level(&rt, &mut levelled) {
         assert_eq!(rt; why, Why::Memory);
         let exchanges = [
             Event::Exchange(0, 1),
