@@ -1,7 +1,7 @@
 -- What one event does to the nodes of a cluster.
-use Rattle.std.proofs.Common.{◌≡◌, ◌≢◌, ◌↔◌, ◌⊎◌, ℕ, ◌+◌, ◌<◌, ◌≤◌, Bool, true, false, Option, Some, None, Result, Ok, Err, List, [], ◌∷◌, ◌++◌, length, map, get_or, set, take, drop, if◌then◌else◌, refl, sym, ap, subst, ◌∙◌, inl, inr, arith, length-set, append-nil}
+use Rattle.std.proofs.Common.{◌≡◌, ◌≢◌, ◌⊎◌, ℕ, ◌+◌, ◌<◌, ◌≤◌, Bool, true, false, Option, Some, None, Result, Ok, Err, List, [], ◌∷◌, ◌++◌, length, get_or, set, take, drop, if◌then◌else◌, refl, sym, ap, subst, ◌∙◌, inl, inr, arith, length-set, append-nil}
 use Rattle.std.specs.Option.{option_map}
-use Rattle.std.specs.Prelude.{slice_get, IfOk, IfSome, OnOk, OnErr, IfErr}
+use Rattle.std.specs.Prelude.{slice_get, IfOk, IfSome, OnOk, OnErr}
 use Rattle.std.specs.Result.{result_eq}
 use Rattle.std.proofs.lemmas.List.{set-get_or, take_more, drop_all, take_all}
 use Rattle.std.proofs.lemmas.Option.{slice_get_within, slice_get-map, slice_get_read, get_or_from_slice_get}
@@ -18,14 +18,14 @@ use Rattle.swim_sync.specs.declared.event.Event.{Event}
 use Rattle.swim_sync.specs.declared.event.Event.TheVariants.{Hear, HearAll, Exchange, Half, Refute}
 use Rattle.swim_sync.specs.declared.stop.Why.{Why}
 use Rattle.swim_sync.specs.declared.stop.Why.TheVariants as why
-use Rattle.swim_sync.specs.Cluster.{member_of, members_of, TablesOf, NamesNodes, Dumps, CanHappen, EachCanHappen, Ran, BothExchange, DumpsTooMany, StopsBy}
+use Rattle.swim_sync.specs.Cluster.{member_of, members_of, TablesOf, Dumps, CanHappen, EachCanHappen, Ran, BothExchange, DumpsTooMany, StopsBy}
 use Rattle.swim_sync.specs.OverMemory.{Hinders}
 use Rattle.swim_sync.specs.Exchanging.{HasTooMany}
 use Rattle.swim_sync.specs.Heard.{Member, heard, heard_by, hear, hear_both, after, refutation, refutation_of, refutation_by}
 use Rattle.swim_sync.specs.Paths.{AreTwoNodes}
 use Rattle.swim_sync.proofs.Nodes.{replaced, kept_at, members_same, in_parts, set_swap, at_front, at_back}
 use Rattle.swim_sync.proofs.Refutations.{refuted_table, at_rest_adds, exhausted_adds, gone_adds}
-use Rattle.swim_sync.proofs.Runs.{heard-append, hear_same, hear_other, both_first, both_second, both_other, two_nodes_test, turned}
+use Rattle.swim_sync.proofs.Runs.{heard-append, hear_same, hear_other, both_first, both_second, both_other, two_nodes_test}
 
 -- ---- answers
 

@@ -1,6 +1,5 @@
 -- The answer to an offer that is the canonical dump of a table.
-use Rattle.std.proofs.Common.{◌≡◌, ℕ, Bool, false, Some, List, [], ◌++◌, sym, subst, ◌∙◌, append-nil, arith}
-use Rattle.swim_claim.specs.declared.claim.Claim.{Claim}
+use Rattle.std.proofs.Common.{ℕ, Bool, false, Some, List, [], ◌++◌, sym, subst, ◌∙◌, append-nil, arith}
 use Rattle.swim_wire.specs.declared.fault.WireFault.{WireFault}
 use Rattle.swim_wire.proofs.OneStream.{one_stream}
 use Rattle.swim_table.specs.Dump.{dump_bytes}

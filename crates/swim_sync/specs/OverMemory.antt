@@ -1,11 +1,10 @@
 -- Exchanges over memory: what a dump is there, and why one is not made or not answered.
-use Rattle.std.specs.Prelude.{◌≡◌, ◌≤◌, Bool, false, ℕ, List, ◌++◌, length}
+use Rattle.std.specs.Prelude.{◌≡◌, ◌≤◌, false, ℕ, List, ◌++◌, length}
 use Rattle.swim_claim.specs.declared.claim.Claim.{Claim}
 use Rattle.swim_table.specs.Dump.{dump_bytes}
 use Rattle.swim_table.specs.Table.{Entries, Reduced, TableOf, IsLegalTable}
 use Rattle.swim_sync.specs.declared.stop.Why.{Why}
 use Rattle.swim_sync.specs.declared.stop.Why.TheVariants.{NoSuchNode, SameNode, TooManyRecords, Memory}
-use Rattle.swim_sync.specs.Exchanging.{HasTooMany}
 
 -- the bytes are the canonical dump of the table, without the join flag
 pub record IsOffer (table : Entries) (bytes : List ℕ) : Type 0 where

@@ -1,8 +1,7 @@
-use Rattle.std.proofs.Common.{◌≡◌, ◌⊎◌, ℕ, inl, inr, sym, ap, subst, get_or, length, arith}
+use Rattle.std.proofs.Common.{inl, inr, sym, ap, subst, get_or, arith}
 use Rattle.std.proofs.lemmas.Result.{IfErr-weaker}
 use Rattle.swim_table.specs.Table.{Entries, TableOf}
 use Rattle.swim_sync.specs.declared.event.Event.TheVariants.{Exchange}
-use Rattle.swim_sync.specs.Cluster.{DumpsTooMany}
 use Rattle.swim_sync.specs.Exchanging.{HasTooMany}
 use Rattle.swim_sync.proofs.Nodes.{at_front, at_back}
 use Rattle.swim_sync.proofs.Clusters.{both_in_parts, ok_both, hinders_as, too_many_at}

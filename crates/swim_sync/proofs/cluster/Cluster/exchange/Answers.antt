@@ -1,11 +1,8 @@
-use Rattle.std.proofs.Common.{◌≡◌, ◌<◌, ℕ, Some, List, [], ◌∷◌, ◌++◌, length, set, sym, ap, subst, ◌∙◌, inl, inr, refl, arith}
-use Rattle.std.specs.Prelude.{slice_get}
-use Rattle.std.proofs.lemmas.Result.{IfErr-weaker, on_ok_weaker}
-use Rattle.swim_table.specs.Lending.{with_table}
+use Rattle.std.proofs.Common.{ℕ, List, [], ◌∷◌, length, sym, ap, subst, ◌∙◌, inl, inr, arith}
+use Rattle.std.proofs.lemmas.Result.{on_ok_weaker}
 use Rattle.swim_table.specs.Node.{NodeValue}
-use Rattle.swim_table.specs.Table.{Entries, TableOf}
 use Rattle.swim_sync.specs.declared.event.Event.TheVariants.{Exchange}
-use Rattle.swim_sync.specs.Cluster.{Ran, StopsBy, BothExchange}
+use Rattle.swim_sync.specs.Cluster.{Ran, BothExchange}
 use Rattle.swim_sync.specs.Paths.{AreTwoNodes}
 use Rattle.std.proofs.lemmas.Bool.{cases_lt}
 use Rattle.swim_sync.proofs.Clusters.{ran_exchange, exchange_turned, all_written, length-exchanged}

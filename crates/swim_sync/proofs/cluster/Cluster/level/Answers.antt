@@ -1,4 +1,4 @@
-use Rattle.std.proofs.Common.{◌≡◌, ◌-◌, ap, subst, sym, ◌∙◌, refl, List, Result, Err, take, length, arith}
+use Rattle.std.proofs.Common.{◌≡◌, ◌-◌, ap, subst, sym, ◌∙◌, Result, Err, length, arith}
 use Rattle.std.proofs.lemmas.Result.{IfErr-weaker, on_ok_weaker, err_from_is_err_and}
 use Rattle.std.specs.Prelude.{IfErr}
 use Rattle.swim_sync.specs.declared.stop.Stop.{Stop}

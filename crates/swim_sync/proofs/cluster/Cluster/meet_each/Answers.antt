@@ -1,4 +1,4 @@
-use Rattle.std.proofs.Common.{◌≡◌, ◌+◌, ap, subst, sym, ◌∙◌, refl, List, take, length, arith}
+use Rattle.std.proofs.Common.{◌+◌, subst, sym, refl, List, take, arith}
 use Rattle.std.proofs.lemmas.List.{take_all}
 use Rattle.std.proofs.lemmas.Option.{get_or_from_slice_get}
 use Rattle.swim_table.specs.Node.{NodeValue}

@@ -1,8 +1,5 @@
-use Rattle.std.proofs.Common.{◌≡◌, ◌<◌, Some, refl, List, [], ◌∷◌, ◌++◌, length, set, sym, ap, subst, ◌∙◌, arith}
-use Rattle.std.specs.Prelude.{slice_get}
-use Rattle.swim_claim.specs.declared.claim.Claim.{Claim}
+use Rattle.std.proofs.Common.{◌<◌, refl, List, [], ◌∷◌, length, set, ap, subst, arith}
 use Rattle.swim_table.specs.Node.{NodeValue}
-use Rattle.swim_table.specs.Table.{TableOf}
 use Rattle.swim_sync.specs.declared.event.Event.TheVariants.{Refute}
 use Rattle.swim_sync.specs.Cluster.{Ran}
 use Rattle.swim_sync.proofs.Clusters.{node_at, ran_refute, not_memory, refute_takes}
