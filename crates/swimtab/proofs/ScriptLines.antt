@@ -1,6 +1,15 @@
 -- The words of one line of a script, and what they say.
-use Rattle.std.proofs.Common.{◌≡◌, ◌≢◌, ℕ, ◌+◌, ◌*◌, ◌<◌, ◌≤◌, ◌⊎◌, inl, inr, Bool, true, List, [], ◌∷◌, Ok, length, map, drop, get_or, codes, Bor, refl, sym, ap, subst, ◌∙◌, arith}
+use Rattle.std.proofs.Common.{None, ◌≡◌, ◌≢◌, ℕ, ◌+◌, ◌*◌, ◌<◌, ◌≤◌, ◌⊎◌, inl, inr, Bool, true, List, [], ◌∷◌, Ok, length, map, drop, get_or, codes, Bor, refl, sym, ap, subst, ◌∙◌, arith}
 use Rattle.hex.specs.Hex.{decode_of}
+use Rattle.hex.specs.declared.error.FromHexError.{FromHexError}
+use Rattle.hex.specs.declared.error.FromHexError.TheVariants as hex
+use Rattle.swim_claim.specs.declared.fault.ClaimFault.{ClaimFault}
+use Rattle.swim_claim.specs.declared.fault.ClaimFault.TheVariants as claim
+use Rattle.swim_claim.specs.Fault.{number_of}
+use Rattle.swim_wire.specs.declared.fault.WireFault.{WireFault}
+use Rattle.swim_wire.specs.declared.fault.WireFault.TheVariants as wire
+use Rattle.swimtab.specs.declared.report.What.TheVariants.{Refused}
+use Rattle.swimtab.specs.Report.{IsOfReading, what_of, what_of_hex}
 use Rattle.swim_sync.specs.declared.event.Event.{Event}
 use Rattle.swim_sync.specs.declared.event.Event.TheVariants.{Exchange, Half, Refute}
 use Rattle.swim_wire.specs.Packet.{PacketValue}
@@ -280,3 +289,43 @@ event_letters_of words event (hear node datagram k bytes e n h b) = let own : fi
 event_letters_of words event (exchange first second j k e m n is) = let own : first_letters words ≡ 101120 = ap first_letters e in (λ f. omega (arith, own, f), λ f. omega (arith, own, f))
 event_letters_of words event (half first second j k e m n is) = let own : first_letters words ≡ 104097 = ap first_letters e in (λ f. omega (arith, own, f), λ f. omega (arith, own, f))
 event_letters_of words event (refute node k e n is) = let own : first_letters words ≡ 114101 = ap first_letters e in (λ f. omega (arith, own, f), λ f. omega (arith, own, f))
+
+-- ---- why a line is not read
+
+-- no message is refused for an event
+pub wire_of_reading : (fault : WireFault) → IsOfReading (what_of fault)
+wire_of_reading wire.Ended = refl
+wire_of_reading wire.NotUnsigned = refl
+wire_of_reading wire.OutOfRange = refl
+wire_of_reading wire.NotBool = refl
+wire_of_reading wire.NotRaw = refl
+wire_of_reading wire.TooLong = refl
+wire_of_reading wire.NotMap = refl
+wire_of_reading wire.MapCount = refl
+wire_of_reading wire.Fault = tt
+wire_of_reading wire.Memory = tt
+wire_of_reading wire.NameEmpty = refl
+wire_of_reading wire.BadAddress = refl
+wire_of_reading wire.BadVersions = refl
+wire_of_reading (wire.WrongType found) = refl
+wire_of_reading wire.UnknownKey = refl
+wire_of_reading wire.DuplicateKey = refl
+wire_of_reading (wire.BadState found) = refl
+wire_of_reading wire.TooManyNodes = refl
+wire_of_reading wire.UserTooLong = refl
+wire_of_reading wire.Trailing = refl
+
+-- nor is a name, or are details
+pub claim_of_reading : (fault : ClaimFault) → IsOfReading (Refused (number_of fault) None)
+claim_of_reading claim.NameEmpty = refl
+claim_of_reading claim.NameTooLong = refl
+claim_of_reading claim.BadAddress = refl
+claim_of_reading claim.MetaTooLong = refl
+claim_of_reading claim.BadVersions = refl
+
+-- nor a text that is no hexadecimal
+pub hex_of_reading : (error : FromHexError) → IsOfReading (what_of_hex error)
+hex_of_reading hex.OddLength = refl
+hex_of_reading hex.InvalidStringLength = refl
+hex_of_reading (hex.InvalidHexCharacter byte index) = refl
+hex_of_reading hex.OutOfMemory = tt

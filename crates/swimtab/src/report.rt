@@ -1,10 +1,9 @@
 //! What is said of a run that was refused, and its exit status.
 
 ghost use Rattle.std.specs.Prelude.{◌≡◌, None, length};
-ghost use Rattle.hex.specs.declared.error.FromHexError.TheVariants.{OutOfMemory};
 ghost use Rattle.swim_claim.specs.Fault.{number_of};
 ghost use Rattle.swimtab.specs.declared.report.What.TheVariants.{Refused, Memory};
-ghost use Rattle.swimtab.specs.Report.{IsAmong, status_of, what_of};
+ghost use Rattle.swimtab.specs.Report.{IsAmong, status_of, what_of, what_of_hex};
 
 use hex::FromHexError;
 use std::alloc::{AllocError, Global};
@@ -100,7 +99,7 @@ impl From<AllocError> for What {
 
 /// A text that is no hexadecimal.
 impl From<FromHexError> for What {
-    ghost from_gives = { λ error what. error ≡ OutOfMemory → what ≡ Memory };
+    ghost from_gives = { λ error what. what ≡ what_of_hex error };
 
     fn from(error: FromHexError) -> What {
         match error {

@@ -3,7 +3,7 @@
 ghost use Rattle.std.specs.Prelude.{◌≡◌, ◌≢◌, ◌↔◌, ◌<◌, ◌≤◌, [], List, length, None, IfOk, IfErr, OnOk};
 ghost use Rattle.std.specs.Str.Lines.{strip_carriage_return};
 ghost use Rattle.swim_sync.specs.declared.event.Event.{Event};
-ghost use Rattle.swimtab.specs.Report.{IsAmong};
+ghost use Rattle.swimtab.specs.Report.{IsAmong, IsOfReading};
 ghost use Rattle.swimtab.specs.Script.{Script, Start, AreStarted};
 ghost use Rattle.swimtab.specs.ScriptReading.{Adds, TakesLine, IsOutOfPlace, plan_events};
 
@@ -46,6 +46,7 @@ impl Plan {
     fn take_line(&mut self, alloc: Global, line: &[u8], number: u64) -> Result<(), What>
         ensures takes { OnOk result (TakesLine line.now self.old self.new) }
         ensures refuses { IfErr result (λ what. what ≢ What.Memory → IsOutOfPlace line.now self.old) }
+        ensures kind { IfErr result IsOfReading }
     {
         if line.is_empty() {
             return Ok(());
@@ -89,6 +90,7 @@ pub(crate) fn read_script(alloc: Global, input: &[u8]) -> Result<Plan, Report>
     ensures refuses { IfErr result (λ report. report.what ≢ What.Memory → length input.now ≤ 268435456
         → (starts : List Start) → (events : List Event) → ¬ Script input.now starts events) }
     ensures long { (268435456 < length input.now) ↔ (result ≡ Err (record { place = Place.Input; what = What.Refused 32 None })) }
+    ensures kind { IfErr result (λ report. IsOfReading report.what) }
     ensures place { IfErr result (λ report. IsAmong report.place 0) }
 {
     if input.len() > BOUND {

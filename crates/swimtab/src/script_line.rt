@@ -4,6 +4,7 @@ ghost use Rattle.std.specs.Prelude.{◌≡◌, ◌≢◌, ◌∷◌, ℕ, List, 
 ghost use Rattle.swim_sync.specs.declared.event.Event.{Event};
 ghost use Rattle.swim_wire.specs.Packet.{PacketValue};
 ghost use Rattle.swim_wire.specs.Texts.{DatagramText};
+ghost use Rattle.swimtab.specs.Report.{IsOfReading};
 ghost use Rattle.swimtab.specs.Script.{Start, IsStarted, NodeWords, EventWords, HearsBytes, NodeNumber, words};
 ghost use Rattle.swimtab.specs.ScriptReading.{OneNumber, SpellsLine, SpellsNothing, TwoNumbers, word_of};
 
@@ -51,6 +52,7 @@ pub(crate) enum Line {
 pub(crate) fn read_line(alloc: Global, line: &[u8], nodes_may_come: bool) -> Result<Line, What>
     ensures reads { IfOk result (SpellsLine nodes_may_come (words line.now)) }
     ensures refuses { IfErr result (λ what. what ≢ What.Memory → SpellsNothing nodes_may_come (words line.now)) }
+    ensures kind { IfErr result IsOfReading }
 {
     let words = words_of(alloc, line)?;
     let Some((first, fields)) = words.split_first() else {
@@ -70,6 +72,7 @@ pub(crate) fn read_line(alloc: Global, line: &[u8], nodes_may_come: bool) -> Res
 fn read_node(alloc: Global, fields: &[&[u8]]) -> Result<Node, What>
     ensures reads { IfOk result (λ node. (start : Start) × NodeWords (codes "node" ∷ map (λ word. word.now) fields.now) start × IsStarted node start) }
     ensures refuses { IfErr result (λ what. what ≢ What.Memory → (start : Start) → ¬ NodeWords (codes "node" ∷ map (λ word. word.now) fields.now) start) }
+    ensures kind { IfErr result IsOfReading }
 {
     let [name, addr, port, meta, vsn, inc] = fields else {
         return Err(What::bad_script());
@@ -89,6 +92,7 @@ fn read_node(alloc: Global, fields: &[&[u8]]) -> Result<Node, What>
 fn read_event(alloc: Global, keyword: Keyword, fields: &[&[u8]]) -> Result<Event, What>
     ensures reads { IfOk result (EventWords (word_of keyword ∷ map (λ word. word.now) fields.now)) }
     ensures refuses { IfErr result (λ what. what ≢ What.Memory → (event : Event) → ¬ EventWords (word_of keyword ∷ map (λ word. word.now) fields.now) event) }
+    ensures kind { IfErr result IsOfReading }
 {
     match keyword {
         Keyword::Hear => read_hear(alloc, fields),
@@ -109,6 +113,7 @@ fn read_event(alloc: Global, keyword: Keyword, fields: &[&[u8]]) -> Result<Event
 fn read_hear(alloc: Global, fields: &[&[u8]]) -> Result<Event, What>
     ensures reads { IfOk result (EventWords (codes "hear" ∷ map (λ word. word.now) fields.now)) }
     ensures refuses { IfErr result (λ what. what ≢ What.Memory → (event : Event) → ¬ EventWords (codes "hear" ∷ map (λ word. word.now) fields.now) event) }
+    ensures kind { IfErr result IsOfReading }
 {
     let [node, datagram] = fields else {
         return Err(What::bad_script());
@@ -122,6 +127,7 @@ fn read_hear(alloc: Global, fields: &[&[u8]]) -> Result<Event, What>
 fn heard(alloc: Global, node: usize, datagram: &[u8]) -> Result<Event, What>
     ensures reads { IfOk result (HearsBytes node datagram.now) }
     ensures refuses { IfErr result (λ what. what ≢ What.Memory → (event : Event) → ¬ HearsBytes node datagram.now event) }
+    ensures kind { IfErr result IsOfReading }
 {
     match datagram {
         [COMPOUND, ..] => Ok(Event::HearAll(node, claims_of(alloc, datagram)?)),
@@ -133,6 +139,7 @@ fn heard(alloc: Global, node: usize, datagram: &[u8]) -> Result<Event, What>
 fn claims_of(alloc: Global, datagram: &[u8]) -> Result<Claims, What>
     ensures reads { IfOk result (λ claims. (packets : List PacketValue) × DatagramText datagram.now packets × (claims ≡ map (λ p. p.claim) packets)) }
     ensures refuses { IfErr result (λ what. what ≢ What.Memory → (packets : List PacketValue) → ¬ DatagramText datagram.now packets) }
+    ensures kind { IfErr result IsOfReading }
 {
     let claims = decode_datagram(alloc, datagram)?
         .into_iter()
@@ -145,6 +152,7 @@ fn claims_of(alloc: Global, datagram: &[u8]) -> Result<Claims, What>
 fn two_numbers(fields: &[&[u8]]) -> Result<(usize, usize), What>
     ensures reads { IfOk result (λ nodes. TwoNumbers (map (λ word. word.now) fields.now) nodes.0 nodes.1) }
     ensures refuses { IfErr result (λ what. (j k : ℕ) → ¬ TwoNumbers (map (λ word. word.now) fields.now) j k) }
+    ensures kind { IfErr result IsOfReading }
 {
     let [first, second] = fields else {
         return Err(What::bad_script());
@@ -156,6 +164,7 @@ fn two_numbers(fields: &[&[u8]]) -> Result<(usize, usize), What>
 fn one_number(fields: &[&[u8]]) -> Result<usize, What>
     ensures reads { IfOk result (OneNumber (map (λ word. word.now) fields.now)) }
     ensures refuses { IfErr result (λ what. (k : ℕ) → ¬ OneNumber (map (λ word. word.now) fields.now) k) }
+    ensures kind { IfErr result IsOfReading }
 {
     let [node] = fields else {
         return Err(What::bad_script());
@@ -167,6 +176,7 @@ fn one_number(fields: &[&[u8]]) -> Result<usize, What>
 fn node_number(word: &[u8]) -> Result<usize, What>
     ensures reads { IfOk result (NodeNumber word.now) }
     ensures refuses { IfErr result (λ what. (k : ℕ) → ¬ NodeNumber word.now k) }
+    ensures kind { IfErr result IsOfReading }
 {
     Ok(number_of(word, MOST_NODE)? as usize)
 }

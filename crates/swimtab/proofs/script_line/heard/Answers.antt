@@ -3,7 +3,7 @@ use Rattle.std.proofs.lemmas.Result.{err_from_is_err_and}
 use Rattle.swim_sync.specs.declared.event.Event.TheVariants.{Hear, HearAll}
 use Rattle.swimtab.specs.Report.{what_of}
 use Rattle.swimtab.specs.Script.HearsBytes.{packet, compound}
-use Rattle.swimtab.proofs.ScriptLines.{no_compound, no_packet, none_first, seven_first}
+use Rattle.swimtab.proofs.ScriptLines.{wire_of_reading, no_compound, no_packet, none_first, seven_first}
 use Rattle.swimtab.proofs.script_line.heard.Goals as goal
 use Rattle.swimtab.proofs.script_line.heard.Goals.{in_default-via-then-datagram-lt1, in_default-via-else-datagram-lt1+in_default-1}
 
@@ -28,3 +28,8 @@ returns-in_ok-claims_of-in-7-clause-reads c =
 pub returns-in_ok-decode_packet-in_default-clause-reads : goal.returns-in_ok-decode_packet-in_default-clause-reads
 returns-in_ok-decode_packet-in_default-clause-reads c =
     packet c.in_ok-decode_packet-in_default.field-0 c.in_ok-decode_packet-in_default.ensures.reads (ap (Hear c.args.node) c.into_claim.ensures)
+
+pub returns-in_err-decode_packet-in_default-clause-kind : goal.returns-in_err-decode_packet-in_default-clause-kind
+returns-in_err-decode_packet-in_default-clause-kind c =
+    let p = err_from_is_err_and c.from_residual-in_err-decode_packet-in_default.result c.from_residual-in_err-decode_packet-in_default.ensures.1 in
+    rw (p.1, p.2) (wire_of_reading c.in_err-decode_packet-in_default.field-0.0)

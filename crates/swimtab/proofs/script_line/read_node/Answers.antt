@@ -3,7 +3,7 @@ use Rattle.std.proofs.lemmas.Result.{err_from_is_err_and}
 use Rattle.swim_claim.specs.Details.{DetailsValue, IsLegalDetails}
 use Rattle.swim_claim.specs.Name.{IsLegalName}
 use Rattle.swimtab.specs.Script.{Start, HexBytes, Decimal}
-use Rattle.swimtab.proofs.ScriptLines.{node_told, node_tells, details_told}
+use Rattle.swimtab.proofs.ScriptLines.{claim_of_reading, node_told, node_tells, details_told}
 use Rattle.swimtab.proofs.script_line.read_node.Goals as goal
 
 pub returns-in_err-addr-clause-refuses : goal.returns-in_err-addr-clause-refuses
@@ -56,3 +56,13 @@ returns-clause-reads c =
       }),
       (c.in_ok-new.ensures.name, c.in_ok-new.ensures.details, c.in_ok-new.ensures.table),
     )
+
+pub returns-in_err-name-2-clause-kind : goal.returns-in_err-name-2-clause-kind
+returns-in_err-name-2-clause-kind c =
+    let p = err_from_is_err_and c.from_residual-in_err-name-2.result c.from_residual-in_err-name-2.ensures.1 in
+    rw (p.1, p.2) (claim_of_reading c.in_err-name-2.field-0.0)
+
+pub returns-in_err-details-clause-kind : goal.returns-in_err-details-clause-kind
+returns-in_err-details-clause-kind c =
+    let p = err_from_is_err_and c.from_residual-in_err-details.result c.from_residual-in_err-details.ensures.1 in
+    rw (p.1, p.2) (claim_of_reading c.in_err-details.field-0.0)
