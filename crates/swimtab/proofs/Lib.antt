@@ -1,3 +1,6 @@
 mod Commands
 mod FileByFile
 mod LineByLine
+mod ScriptLines
+mod ScriptRun
+mod ScriptWords

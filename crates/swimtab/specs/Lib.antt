@@ -2,4 +2,6 @@ pub mod Chosen
 pub mod Files
 pub mod Lines
 pub mod Report
+pub mod Script
+pub mod ScriptReading
 pub mod Words

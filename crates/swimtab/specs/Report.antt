@@ -1,5 +1,7 @@
 -- Where a run was refused, and the exit status.
-use Rattle.std.specs.Prelude.{ℕ, ◌<◌, Some, None}
+use Rattle.std.specs.Prelude.{◌≡◌, ℕ, ◌<◌, Bool, false, ◌||◌, ◌==◌, Some, None}
+use Rattle.hex.specs.declared.error.FromHexError.{FromHexError}
+use Rattle.hex.specs.declared.error.FromHexError.TheVariants.{OutOfMemory}
 use Rattle.swim_wire.specs.declared.fault.WireFault.{WireFault}
 use Rattle.swim_wire.specs.declared.fault.WireFault.TheVariants as wire
 use Rattle.swim_wire.specs.Fault.{number_of}
@@ -21,6 +23,21 @@ abbrev pub status_of : What → ℕ
 status_of (Refused number found) = 3
 status_of Device = 4
 status_of Memory = 5
+
+-- what is said of a text that is no hexadecimal
+abbrev pub what_of_hex : FromHexError → What
+what_of_hex OutOfMemory = Memory
+what_of_hex error = Refused 30 None
+
+-- the fault is that of an event that is refused: TooManyRecords, NoSuchNode or SameNode
+abbrev pub is_of_event : ℕ → Bool
+is_of_event number = (number == 23 || number == 26) || number == 27
+
+-- it is no fault of an event
+abbrev pub IsOfReading : What → Type 0
+IsOfReading (Refused number found) = is_of_event number ≡ false
+IsOfReading Device = Unit {0}
+IsOfReading Memory = Unit {0}
 
 -- what is said of a message that is refused: an inlet that failed is a device
 abbrev pub what_of : WireFault → What

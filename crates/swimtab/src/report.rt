@@ -1,10 +1,13 @@
 //! What is said of a run that was refused, and its exit status.
 
 ghost use Rattle.std.specs.Prelude.{◌≡◌, None, length};
+ghost use Rattle.swim_claim.specs.Fault.{number_of};
 ghost use Rattle.swimtab.specs.declared.report.What.TheVariants.{Refused, Memory};
-ghost use Rattle.swimtab.specs.Report.{IsAmong, status_of, what_of};
+ghost use Rattle.swimtab.specs.Report.{IsAmong, status_of, what_of, what_of_hex};
 
+use hex::FromHexError;
 use std::alloc::{AllocError, Global};
+use swim_claim::ClaimFault;
 use swim_wire::WireFault;
 
 /// Where a run was refused.
@@ -48,6 +51,13 @@ impl What {
         What::refused(30)
     }
 
+    /// A line that is no line of a script, or not where it stands.
+    pub(crate) fn bad_script() -> What
+        ensures { result ≡ Refused 31 None }
+    {
+        What::refused(31)
+    }
+
     /// An input that is longer than its bound.
     pub(crate) fn input_too_long() -> What
         ensures { result ≡ Refused 32 None }
@@ -84,6 +94,26 @@ impl From<AllocError> for What {
 
     fn from(_error: AllocError) -> What {
         What::Memory
+    }
+}
+
+/// A text that is no hexadecimal.
+impl From<FromHexError> for What {
+    ghost from_gives = { λ error what. what ≡ what_of_hex error };
+
+    fn from(error: FromHexError) -> What {
+        match error {
+            FromHexError::OutOfMemory => What::Memory,
+            _ => What::bad_hex(),
+        }
+    }
+}
+
+impl From<ClaimFault> for What {
+    ghost from_gives = { λ fault what. what ≡ Refused (number_of fault) None };
+
+    fn from(fault: ClaimFault) -> What {
+        What::refused(fault.number())
     }
 }
 

@@ -3,9 +3,11 @@
 ghost use Rattle.swimtab.specs.Report.{IsAmong};
 
 mod dumps;
+mod scripts;
 mod spellings;
 mod streams;
 mod words;
+mod wrong_scripts;
 
 use crate::packets::packets;
 use crate::report::{Place, What, report_text, status};

@@ -1,0 +1,351 @@
+-- What was read of a script, line by line.
+use Rattle.std.proofs.Common.{◌≡◌, ◌≢◌, ℕ, zero, suc, ◌+◌, ◌<◌, ◌⊎◌, inl, inr, Bool, true, false, List, [], ◌∷◌, ◌++◌, Option, Some, None, is_some, length, map, take, drop, get_or, Bor, refl, sym, ap, ap₂, subst, ◌∙◌, append_assoc, append-nil, eqb-true, ne_eqb, IsSome, arith}
+use Rattle.std.proofs.lemmas.Iterator.{YieldsList}
+use Rattle.std.proofs.lemmas.Iterator.Consumers.{YieldsList-so_far, YieldsList-turn}
+use Rattle.std.specs.Iterator.{Yields}
+use Rattle.std.proofs.lemmas.List.{length-append, map-append}
+use Rattle.std.specs.Str.Lines.{strip_carriage_return}
+use Rattle.std.specs.Prelude.{◌==◌}
+use Rattle.std.specs.List.{enumerate_from}
+use Rattle.swim_sync.specs.declared.event.Event.{Event}
+use Rattle.swim_sync.specs.Levels.{level_list}
+use Rattle.swim_table.specs.Node.{NodeValue}
+use Rattle.swimtab.specs.declared.script.Plan.{Plan}
+use Rattle.swimtab.specs.declared.script_line.Line.TheVariants as line
+use Rattle.swimtab.specs.Script.{Start, IsStarted, AreStarted, NodeWords, EventWords, LevelWords, NodeLines, EventLines, LastLine, Script, not_empty, script_lines, words}
+use Rattle.swimtab.specs.Lines.{input_lines}
+use Rattle.swimtab.specs.ScriptReading.{Adds, SpellsLine, SpellsNothing, TakesLine, IsOutOfPlace, plan_events}
+use Rattle.swimtab.proofs.ScriptLines.{node_letters_of, event_letters_of, level_letters_of}
+
+-- ---- what may still follow, without what it says
+
+-- lines of nodes where they may come, then lines of events, then `level`, unless that came
+abbrev pub Follows : Bool → Bool → List (List ℕ) → Type 0
+Follows nodes ended [] = Unit {0}
+Follows nodes ended (line ∷ lines) =
+    (ended ≡ false)
+    × (((nodes ≡ true) × ((start : Start) × NodeWords (words line) start) × Follows true false lines)
+    ⊎ ((((event : Event) × EventWords (words line) event) × Follows false false lines)
+    ⊎ (LevelWords (words line) × Follows false true lines)))
+
+follows_last : (nodes : Bool) (count : ℕ) (last : List (List ℕ)) (levelled : List Event) → LastLine count last levelled → Follows nodes false last
+follows_last nodes count [] levelled own = tt
+follows_last nodes count (line ∷ lines) levelled own = (refl, inr (inr (own.0, subst (Follows false true) (sym own.1) tt)))
+
+follows_events : (nodes : Bool) (count : ℕ) (lines last : List (List ℕ)) (told levelled : List Event) → EventLines lines told → LastLine count last levelled → Follows nodes false (lines ++ last)
+follows_events nodes count [] last told levelled each own = follows_last nodes count last levelled own
+follows_events nodes count (line ∷ lines) last told levelled each own =
+    (refl, inr (inl ((each.0, each.2), follows_events false count lines last each.1 levelled each.3 own)))
+
+follows_nodes : (count : ℕ) (first lines last : List (List ℕ)) (starts : List Start) (told levelled : List Event) → NodeLines first starts → EventLines lines told → LastLine count last levelled
+    → Follows true false (first ++ (lines ++ last))
+follows_nodes count [] lines last starts told levelled nodes each own = follows_events true count lines last told levelled each own
+follows_nodes count (line ∷ first) lines last starts told levelled nodes each own =
+    (refl, inl (refl, (nodes.0, nodes.2), follows_nodes count first lines last nodes.1 told levelled nodes.3 each own))
+
+-- a script is lines that may follow from the start on
+pub script_follows : (input : List ℕ) (starts : List Start) (events : List Event) → Script input starts events → Follows true false (script_lines input)
+script_follows input starts events script =
+    subst (Follows true false) (sym (script.lines ∙ append_assoc script.node_lines script.event_lines script.last))
+    (follows_nodes (length starts) script.node_lines script.event_lines script.last starts script.told script.levelled script.nodes script.each script.ends)
+
+-- after a line of a node the same may follow
+after_node : (nodes ended : Bool) (line : List ℕ) (lines : List (List ℕ)) (start : Start) → NodeWords (words line) start → Follows nodes ended (line ∷ lines) → Follows true false lines
+after_node nodes ended line lines start own (e, inl h) = h.2
+after_node nodes ended line lines start own (e, inr (inl h)) = absurd ((event_letters_of (words line) h.0.0 h.0.1).0 (node_letters_of (words line) start own))
+after_node nodes ended line lines start own (e, inr (inr h)) = let bad : 110111 ≡ 108101 = sym (node_letters_of (words line) start own) ∙ level_letters_of (words line) h.0 in absurd (omega (arith, bad))
+
+-- after a line of an event no node may follow
+after_event : (nodes ended : Bool) (line : List ℕ) (lines : List (List ℕ)) (event : Event) → EventWords (words line) event → Follows nodes ended (line ∷ lines) → Follows false false lines
+after_event nodes ended line lines event own (e, inl h) = absurd ((event_letters_of (words line) event own).0 (node_letters_of (words line) h.1.0 h.1.1))
+after_event nodes ended line lines event own (e, inr (inl h)) = h.1
+after_event nodes ended line lines event own (e, inr (inr h)) = absurd ((event_letters_of (words line) event own).1 (level_letters_of (words line) h.0))
+
+-- after `level` nothing may follow
+after_level : (nodes ended : Bool) (line : List ℕ) (lines : List (List ℕ)) → LevelWords (words line) → Follows nodes ended (line ∷ lines) → Follows false true lines
+after_level nodes ended line lines own (e, inl h) = let bad : 110111 ≡ 108101 = sym (node_letters_of (words line) h.1.0 h.1.1) ∙ level_letters_of (words line) own in absurd (omega (arith, bad))
+after_level nodes ended line lines own (e, inr (inl h)) = absurd ((event_letters_of (words line) h.0.0 h.0.1).1 (level_letters_of (words line) own))
+after_level nodes ended line lines own (e, inr (inr h)) = h.1
+
+-- a line that says nothing does not follow
+nothing_follows : (nodes ended : Bool) (line : List ℕ) (lines : List (List ℕ)) → SpellsNothing nodes (words line) → ¬ Follows nodes ended (line ∷ lines)
+nothing_follows nodes ended line lines none (e, inl h) = none.node h.0 h.1.0 h.1.1
+nothing_follows nodes ended line lines none (e, inr (inl h)) = none.event h.0.0 h.0.1
+nothing_follows nodes ended line lines none (e, inr (inr h)) = none.level h.0
+
+-- ---- what was read so far
+
+-- `level` was read, or was not
+abbrev EndsWith : List (List ℕ) → Option ℕ → Type 0
+EndsWith last None = last ≡ []
+EndsWith last (Some number) = (line : List ℕ) × (last ≡ line ∷ []) × LevelWords (words line)
+
+-- these lines that are not empty were read into the plan
+pub record WasRead (lines : List (List ℕ)) (plan : Plan) : Type 0 where
+  pub starts : List Start
+  pub node_lines : List (List ℕ)
+  pub event_lines : List (List ℕ)
+  pub last : List (List ℕ)
+  pub whole : lines ≡ node_lines ++ event_lines ++ last
+  pub started : AreStarted plan.nodes.items starts
+  pub nodes : NodeLines node_lines starts
+  pub each : EventLines event_lines plan.events.items
+  pub ends : EndsWith last plan.level
+  pub count : length plan.lines.items ≡ length plan.events.items
+  pub follows : (rest : List (List ℕ)) → Follows true false (lines ++ rest) → Follows (length plan.events.items == 0) (is_some plan.level) rest
+
+-- nothing yet
+pub nothing_read : (plan : Plan) → plan.nodes.items ≡ [] → plan.events.items ≡ [] → plan.lines.items ≡ [] → plan.level ≡ None → WasRead [] plan
+nothing_read plan nodes events lines level = record {
+  starts = [];
+  node_lines = [];
+  event_lines = [];
+  last = [];
+  whole = refl;
+  started = subst (λ n. AreStarted n []) (sym nodes) refl;
+  nodes = refl;
+  each = events;
+  ends = subst (EndsWith []) (sym level) refl;
+  count = ap length lines ∙ sym (ap length events);
+  follows = λ rest f. subst (λ e. Follows (length e == 0) (is_some plan.level) rest) (sym events) (subst (λ o. Follows true (is_some o) rest) (sym level) f);
+}
+
+-- one node more
+started_push : (nodes : List NodeValue) (starts : List Start) (node : NodeValue) (start : Start) → AreStarted nodes starts → IsStarted node start → AreStarted (nodes ++ node ∷ []) (starts ++ start ∷ [])
+started_push [] starts node start each own = (start, [], own, refl, ap (λ s. s ++ start ∷ []) each)
+started_push (first ∷ nodes) starts node start each own =
+    (each.0, each.1 ++ start ∷ [], each.2, started_push nodes each.1 node start each.3 own, ap (λ s. s ++ start ∷ []) each.4)
+
+node_lines_push : (lines : List (List ℕ)) (starts : List Start) (line : List ℕ) (start : Start) → NodeLines lines starts → NodeWords (words line) start → NodeLines (lines ++ line ∷ []) (starts ++ start ∷ [])
+node_lines_push [] starts line start each own = (start, [], own, refl, ap (λ s. s ++ start ∷ []) each)
+node_lines_push (first ∷ lines) starts line start each own =
+    (each.0, each.1 ++ start ∷ [], each.2, node_lines_push lines each.1 line start each.3 own, ap (λ s. s ++ start ∷ []) each.4)
+
+event_lines_push : (lines : List (List ℕ)) (events : List Event) (line : List ℕ) (event : Event) → EventLines lines events → EventWords (words line) event → EventLines (lines ++ line ∷ []) (events ++ event ∷ [])
+event_lines_push [] events line event each own = (event, [], own, refl, ap (λ s. s ++ event ∷ []) each)
+event_lines_push (first ∷ lines) events line event each own =
+    (each.0, each.1 ++ event ∷ [], each.2, event_lines_push lines each.1 line event each.3 own, ap (λ s. s ++ event ∷ []) each.4)
+
+-- no event has no line
+no_event_lines : (lines : List (List ℕ)) (events : List Event) → EventLines lines events → length events ≡ 0 → lines ≡ []
+no_event_lines [] events each none = refl
+no_event_lines (line ∷ lines) events each none = absurd (omega (arith, none, ap length each.4))
+
+not_empty_append : (lines others : List (List ℕ)) → not_empty (lines ++ others) ≡ not_empty lines ++ not_empty others
+not_empty_append [] others = refl
+not_empty_append ([] ∷ lines) others = not_empty_append lines others
+not_empty_append ((byte ∷ bytes) ∷ lines) others = ap (λ l. (byte ∷ bytes) ∷ l) (not_empty_append lines others)
+
+-- a line that is not empty stays
+not_empty_one : (line : List ℕ) → line ≢ [] → not_empty (line ∷ []) ≡ line ∷ []
+not_empty_one [] none = absurd (none refl)
+not_empty_one (byte ∷ bytes) none = refl
+
+nil_of_length : {A : Type 0} (xs : List A) → length xs ≡ 0 → xs ≡ []
+nil_of_length [] l = refl
+nil_of_length (x ∷ xs) l = absurd (omega (arith, l))
+
+pushed_some : {A : Type 0} (xs : List A) (x : A) → (length (xs ++ x ∷ []) == 0) ≡ false
+pushed_some xs x = ne_eqb (length (xs ++ x ∷ [])) 0 (λ e. omega (arith, e, length-append xs (x ∷ [])))
+
+-- where nothing was read after the lines of nodes, those are all
+only_nodes : (node_lines event_lines last : List (List ℕ)) → event_lines ≡ [] → last ≡ [] → node_lines ++ event_lines ++ last ≡ node_lines
+only_nodes node_lines event_lines last none nothing =
+    ap₂ (λ e l. node_lines ++ e ++ l) none nothing ∙ append-nil (node_lines ++ []) ∙ append-nil node_lines
+
+-- the rest after one line more
+after_one : (lines : List (List ℕ)) (text : List ℕ) (rest : List (List ℕ)) → Follows true false ((lines ++ text ∷ []) ++ rest) → Follows true false (lines ++ text ∷ rest)
+after_one lines text rest f = subst (Follows true false) (append_assoc lines (text ∷ []) rest) f
+
+-- a line of a node was read
+read_node_line : (lines : List (List ℕ)) (text : List ℕ) (old new : Plan) (node : NodeValue) → WasRead lines old → old.level ≡ None
+    → SpellsLine (length old.events.items == 0) (words text) (line.Node node) → Adds old (line.Node node) new → WasRead (lines ++ text ∷ []) new
+read_node_line lines text old new node was unended spelled added =
+    let none : length old.events.items ≡ 0 = eqb-true (length old.events.items) 0 spelled.0 in
+    let no_events : was.event_lines ≡ [] = no_event_lines was.event_lines old.events.items was.each none in
+    let no_last : was.last ≡ [] = subst (EndsWith was.last) unended was.ends in
+    let all = was.whole ∙ only_nodes was.node_lines was.event_lines was.last no_events no_last in
+    let level = added.2 ∙ unended in
+    record {
+      starts = was.starts ++ spelled.1 ∷ [];
+      node_lines = was.node_lines ++ text ∷ [];
+      event_lines = [];
+      last = [];
+      whole = ap (λ l. l ++ text ∷ []) all ∙ sym (only_nodes (was.node_lines ++ text ∷ []) [] [] refl refl);
+      started = subst (λ n. AreStarted n (was.starts ++ spelled.1 ∷ [])) (sym added.0) (started_push old.nodes.items was.starts node spelled.1 was.started spelled.3);
+      nodes = node_lines_push was.node_lines was.starts text spelled.1 was.nodes spelled.2;
+      each = added.1 ∙ nil_of_length old.events.items none;
+      ends = subst (EndsWith []) (sym level) refl;
+      count = added.3 ∙ was.count ∙ sym (ap length added.1);
+      follows = λ rest f.
+          let next = after_node (length old.events.items == 0) (is_some old.level) text rest spelled.1 spelled.2 (was.follows (text ∷ rest) (after_one lines text rest f)) in
+          let here : (length new.events.items == 0) ≡ true = ap (λ e. length e == 0) added.1 ∙ spelled.0 in
+          subst (λ b. Follows b (is_some new.level) rest) (sym here) (subst (λ o. Follows true (is_some o) rest) (sym level) next);
+    }
+
+-- a line of an event was read
+read_event_line : (lines : List (List ℕ)) (text : List ℕ) (old new : Plan) (event : Event) → WasRead lines old → old.level ≡ None
+    → SpellsLine (length old.events.items == 0) (words text) (line.Event event) → Adds old (line.Event event) new → WasRead (lines ++ text ∷ []) new
+read_event_line lines text old new event was unended spelled added =
+    let no_last : was.last ≡ [] = subst (EndsWith was.last) unended was.ends in
+    let all : lines ≡ was.node_lines ++ was.event_lines = was.whole ∙ ap (λ l. was.node_lines ++ was.event_lines ++ l) no_last ∙ append-nil (was.node_lines ++ was.event_lines) in
+    let level = added.2 ∙ unended in
+    record {
+      starts = was.starts;
+      node_lines = was.node_lines;
+      event_lines = was.event_lines ++ text ∷ [];
+      last = [];
+      whole = ap (λ l. l ++ text ∷ []) all ∙ append_assoc was.node_lines was.event_lines (text ∷ []) ∙ sym (append-nil (was.node_lines ++ (was.event_lines ++ text ∷ [])));
+      started = subst (λ n. AreStarted n was.starts) (sym added.0) was.started;
+      nodes = was.nodes;
+      each = subst (EventLines (was.event_lines ++ text ∷ [])) (sym added.1) (event_lines_push was.event_lines old.events.items text event was.each spelled);
+      ends = subst (EndsWith []) (sym level) refl;
+      count = added.3 ∙ ap (λ n. n + 1) was.count ∙ sym (ap length added.1 ∙ length-append old.events.items (event ∷ []));
+      follows = λ rest f.
+          let next = after_event (length old.events.items == 0) (is_some old.level) text rest event spelled (was.follows (text ∷ rest) (after_one lines text rest f)) in
+          let here : (length new.events.items == 0) ≡ false = ap (λ e. length e == 0) added.1 ∙ pushed_some old.events.items event in
+          subst (λ b. Follows b (is_some new.level) rest) (sym here) (subst (λ o. Follows false (is_some o) rest) (sym level) next);
+    }
+
+ends_some : (text : List ℕ) (level : Option ℕ) → IsSome level → LevelWords (words text) → EndsWith (text ∷ []) level
+ends_some text None some own = absurd cc
+ends_some text (Some number) some own = (text, refl, own)
+
+-- after `level` nothing follows, whatever came before
+ended_any : (nodes : Bool) (level : Option ℕ) (rest : List (List ℕ)) → IsSome level → Follows false true rest → Follows nodes (is_some level) rest
+ended_any nodes level [] some f = tt
+ended_any nodes level (line ∷ rest) some f = let bad : true ≡ false = f.0 in absurd cc
+
+-- `level` was read
+read_level_line : (lines : List (List ℕ)) (text : List ℕ) (old new : Plan) → WasRead lines old → old.level ≡ None
+    → SpellsLine (length old.events.items == 0) (words text) line.Level → Adds old line.Level new → WasRead (lines ++ text ∷ []) new
+read_level_line lines text old new was unended spelled added =
+    let no_last : was.last ≡ [] = subst (EndsWith was.last) unended was.ends in
+    let all : lines ≡ was.node_lines ++ was.event_lines = was.whole ∙ ap (λ l. was.node_lines ++ was.event_lines ++ l) no_last ∙ append-nil (was.node_lines ++ was.event_lines) in
+    record {
+      starts = was.starts;
+      node_lines = was.node_lines;
+      event_lines = was.event_lines;
+      last = text ∷ [];
+      whole = ap (λ l. l ++ text ∷ []) all;
+      started = subst (λ n. AreStarted n was.starts) (sym added.0) was.started;
+      nodes = was.nodes;
+      each = subst (EventLines was.event_lines) (sym added.1) was.each;
+      ends = ends_some text new.level added.2 spelled;
+      count = added.3 ∙ was.count ∙ sym (ap length added.1);
+      follows = λ rest f.
+          let next = after_level (length old.events.items == 0) (is_some old.level) text rest spelled (was.follows (text ∷ rest) (after_one lines text rest f)) in
+          ended_any (length new.events.items == 0) new.level rest added.2 next;
+    }
+
+-- one line more was read
+pub read_more : (lines : List (List ℕ)) (text : List ℕ) (old new : Plan) → WasRead lines old → TakesLine text old new → WasRead (lines ++ not_empty (text ∷ [])) new
+read_more lines text old new was (inl (none, same)) =
+    subst (WasRead (lines ++ not_empty (text ∷ []))) (sym same) (subst (λ t. WasRead (lines ++ not_empty (t ∷ [])) old) (sym none) (subst (λ l. WasRead l old) (sym (append-nil lines)) was))
+read_more lines text old new was (inr (some, unended, (line.Node node, spelled, added))) =
+    subst (λ l. WasRead (lines ++ l) new) (sym (not_empty_one text some)) (read_node_line lines text old new node was unended spelled added)
+read_more lines text old new was (inr (some, unended, (line.Event event, spelled, added))) =
+    subst (λ l. WasRead (lines ++ l) new) (sym (not_empty_one text some)) (read_event_line lines text old new event was unended spelled added)
+read_more lines text old new was (inr (some, unended, (line.Level, spelled, added))) =
+    subst (λ l. WasRead (lines ++ l) new) (sym (not_empty_one text some)) (read_level_line lines text old new was unended spelled added)
+
+-- ---- all lines
+
+started_length : (nodes : List NodeValue) (starts : List Start) → AreStarted nodes starts → length nodes ≡ length starts
+started_length [] starts each = sym (ap length each)
+started_length (node ∷ nodes) starts each = ap suc (started_length nodes each.1 each.3) ∙ sym (ap length each.4)
+
+spelled_whole : (input : List ℕ) (node_lines event_lines last : List (List ℕ)) (starts : List Start) (events : List Event) (level : Option ℕ) (count : ℕ)
+    → script_lines input ≡ node_lines ++ event_lines ++ last → NodeLines node_lines starts → EventLines event_lines events → EndsWith last level → count ≡ length starts
+    → Script input starts (plan_events events count level)
+spelled_whole input node_lines event_lines last starts events None count lines nodes each ends same = record {
+  node_lines = node_lines;
+  event_lines = event_lines;
+  last = last;
+  told = events;
+  levelled = [];
+  lines = lines;
+  nodes = nodes;
+  each = each;
+  ends = subst (λ l. LastLine (length starts) l []) (sym ends) refl;
+  whole = sym (append-nil events);
+}
+spelled_whole input node_lines event_lines last starts events (Some number) count lines nodes each ends same = record {
+  node_lines = node_lines;
+  event_lines = event_lines;
+  last = last;
+  told = events;
+  levelled = level_list (length starts);
+  lines = lines;
+  nodes = nodes;
+  each = each;
+  ends = subst (λ l. LastLine (length starts) l (level_list (length starts))) (sym ends.1) (ends.2, refl, refl);
+  whole = ap (λ n. events ++ level_list n) same;
+}
+
+-- the plan is that of the script
+pub was_read_whole : (input : List ℕ) (plan : Plan) → WasRead (script_lines input) plan
+    → (starts : List Start) × AreStarted plan.nodes.items starts × Script input starts (plan_events plan.events.items (length plan.nodes.items) plan.level)
+was_read_whole input plan was =
+    (was.starts, was.started, spelled_whole input was.node_lines was.event_lines was.last was.starts plan.events.items plan.level (length plan.nodes.items) was.whole was.nodes was.each was.ends (started_length plan.nodes.items was.starts was.started))
+
+-- ---- a line that is out of place
+
+no_follow : (nodes : Bool) (level : Option ℕ) (text : List ℕ) (rest : List (List ℕ)) → (level ≡ None → SpellsNothing nodes (words text)) → ¬ Follows nodes (is_some level) (text ∷ rest)
+no_follow nodes None text rest none f = nothing_follows nodes false text rest (none refl) f
+no_follow nodes (Some number) text rest none f = let bad : true ≡ false = f.0 in absurd cc
+
+-- the input is no script
+pub no_script : (input : List ℕ) (lines : List (List ℕ)) (text : List ℕ) (rest : List (List ℕ)) (plan : Plan) → script_lines input ≡ lines ++ text ∷ rest → WasRead lines plan
+    → IsOutOfPlace text plan → (starts : List Start) (events : List Event) → ¬ Script input starts events
+no_script input lines text rest plan parts was wrong starts events script =
+    no_follow (length plan.events.items == 0) plan.level text rest wrong.1 (was.follows (text ∷ rest) (subst (Follows true false) parts (script_follows input starts events script)))
+
+-- ---- lines by their places
+
+-- what is known of an item that is yielded, and of those before it
+pub yielded_at : {S A B : Type 0} {steps : S → Option A → S → Type 0} {v : A → B} {s : S} {all : List B} (e : YieldsList steps v s all) (xs : List A) (t : S) (y : Yields steps s xs t)
+    → (r : Option A) (u : S) (x : A) → r ≡ Some x → steps t r u → (length xs < length all) × (v x ≡ get_or all (length xs) (v x)) × (map v xs ≡ take (length xs) all)
+yielded_at e xs t y r u x is p = let here = YieldsList-turn e xs t y r u x is p in (here.0, here.1, YieldsList-so_far e xs t y)
+
+-- the lines of the first items of a count
+pub first_counted : (xs : List (ℕ × Bor (List ℕ))) (k n : ℕ) (lines : List (List ℕ)) → map (λ p. (p.0, p.1.now)) xs ≡ take n (enumerate_from k lines) → map (λ p. p.1.now) xs ≡ take n lines
+first_counted [] k zero lines e = refl
+first_counted [] k (suc n) [] e = refl
+first_counted [] k (suc n) (line ∷ lines) e = absurd (omega (arith, ap length e))
+first_counted (x ∷ xs) k zero lines e = absurd (omega (arith, ap length e))
+first_counted (x ∷ xs) k (suc n) [] e = absurd (omega (arith, ap length e))
+first_counted (x ∷ xs) k (suc n) (line ∷ lines) e =
+    let here = ap (λ l. get_or l 0 (k, line)) e in
+    let rest = first_counted xs (k + 1) n lines (ap (drop 1) e) in
+    ap₂ (λ a b. a ∷ b) (ap (λ p. p.1) here) rest
+
+parts_at : (lines : List (List ℕ)) (n : ℕ) (line : List ℕ) → n < length lines → line ≡ get_or lines n line → lines ≡ take n lines ++ line ∷ drop (suc n) lines
+parts_at [] n line l e = absurd (omega (arith, l))
+parts_at (first ∷ lines) zero line l e = ap (λ w. w ∷ lines) (sym e)
+parts_at (first ∷ lines) (suc n) line l e = ap (λ w. first ∷ w) (parts_at lines n line (omega (arith, l)) e)
+
+not_empty_first : (text : List ℕ) (more : List (List ℕ)) → text ≢ [] → not_empty (text ∷ more) ≡ text ∷ not_empty more
+not_empty_first [] more some = absurd (some refl)
+not_empty_first (byte ∷ bytes) more some = refl
+
+-- the lines of a script around one of them
+pub script_parts : (input : List ℕ) (read : List (List ℕ)) (n : ℕ) (line text : List ℕ) → read ≡ take n (input_lines input) → n < length (input_lines input) → line ≡ get_or (input_lines input) n line
+    → text ≡ strip_carriage_return line → text ≢ [] → script_lines input ≡ not_empty (map strip_carriage_return read) ++ text ∷ not_empty (map strip_carriage_return (drop (suc n) (input_lines input)))
+script_parts input read n line text before within here strips some =
+    let lines = input_lines input in
+    let more = map strip_carriage_return (drop (suc n) lines) in
+    let parts : lines ≡ read ++ line ∷ drop (suc n) lines = parts_at lines n line within here ∙ ap (λ r. r ++ line ∷ drop (suc n) lines) (sym before) in
+    ap (λ l. not_empty (map strip_carriage_return l)) parts
+    ∙ ap not_empty (map-append strip_carriage_return read (line ∷ drop (suc n) lines))
+    ∙ not_empty_append (map strip_carriage_return read) (strip_carriage_return line ∷ more)
+    ∙ ap (λ t. not_empty (map strip_carriage_return read) ++ not_empty (t ∷ more)) (sym strips)
+    ∙ ap (λ l. not_empty (map strip_carriage_return read) ++ l) (not_empty_first text more some)
+
+-- one line more of those that are not empty
+pub one_more_line : (read : List (List ℕ)) (line text : List ℕ) → text ≡ strip_carriage_return line
+    → not_empty (map strip_carriage_return (read ++ line ∷ [])) ≡ not_empty (map strip_carriage_return read) ++ not_empty (text ∷ [])
+one_more_line read line text strips =
+    ap not_empty (map-append strip_carriage_return read (line ∷ []))
+    ∙ not_empty_append (map strip_carriage_return read) (strip_carriage_return line ∷ [])
+    ∙ ap (λ t. not_empty (map strip_carriage_return read) ++ not_empty (t ∷ [])) (sym strips)

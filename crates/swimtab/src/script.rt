@@ -1,0 +1,117 @@
+//! Scripts: the nodes of a cluster, and what happens in it.
+
+ghost use Rattle.std.specs.Prelude.{◌≡◌, ◌≢◌, ◌↔◌, ◌<◌, ◌≤◌, [], List, length, None, IfOk, IfErr, OnOk};
+ghost use Rattle.std.specs.Str.Lines.{strip_carriage_return};
+ghost use Rattle.swim_sync.specs.declared.event.Event.{Event};
+ghost use Rattle.swimtab.specs.Report.{IsAmong, IsOfReading};
+ghost use Rattle.swimtab.specs.Script.{Script, Start, AreStarted};
+ghost use Rattle.swimtab.specs.ScriptReading.{Adds, TakesLine, IsOutOfPlace, plan_events};
+
+use crate::device::BOUND;
+use crate::report::{Place, Report, What};
+use crate::script_line::{Line, read_line};
+use std::alloc::{AllocError, Global};
+use swim_sync::Event;
+use swim_table::Node;
+
+/// What a script asks for.
+#[derive(Debug, Drop)]
+pub(crate) struct Plan {
+    /// The nodes, each with its start claim alone.
+    pub(crate) nodes: Vec<Node>,
+    /// The events of the lines before `level`.
+    pub(crate) events: Vec<Event>,
+    /// For each event the number of its line, from 1.
+    pub(crate) lines: Vec<u64>,
+    /// The number of the line `level`, where the script ends with it.
+    pub(crate) level: Option<u64>,
+}
+
+impl Plan {
+    fn new(alloc: Global) -> Plan
+        ensures nodes { result.nodes.items ≡ [] }
+        ensures events { result.events.items ≡ [] }
+        ensures lines { result.lines.items ≡ [] }
+        ensures level { result.level ≡ None }
+    {
+        Plan {
+            nodes: Vec::new(alloc),
+            events: Vec::new(alloc),
+            lines: Vec::new(alloc),
+            level: None,
+        }
+    }
+
+    /// Takes in a line by its number, if the line is not empty.
+    fn take_line(&mut self, alloc: Global, line: &[u8], number: u64) -> Result<(), What>
+        ensures takes { OnOk result (TakesLine line.now self.old self.new) }
+        ensures refuses { IfErr result (λ what. what ≢ What.Memory → IsOutOfPlace line.now self.old) }
+        ensures kind { IfErr result IsOfReading }
+    {
+        if line.is_empty() {
+            return Ok(());
+        }
+        if self.level.is_some() {
+            return Err(What::bad_script());
+        }
+        let nodes_may_come = self.events.is_empty();
+        self.add(read_line(alloc, line, nodes_may_come)?, number)?;
+        Ok(())
+    }
+
+    /// One line more.
+    fn add(&mut self, line: Line, number: u64) -> Result<(), AllocError>
+        ensures { OnOk result (Adds self.old line self.new) }
+    {
+        match line {
+            Line::Node(node) => self.nodes.push(node)?,
+            Line::Event(event) => {
+                self.events.push(event)?;
+                self.lines.push(number)?;
+            }
+            Line::Level => self.level = Some(number),
+        }
+        Ok(())
+    }
+}
+
+/// The nodes and events that a script spells.
+///
+/// Lines end as those of packets do, and empty ones are skipped. First come the lines of nodes, then
+/// those of events; the last may be `level`. The first line that is refused is reported by its number
+/// from 1, and an input of more than 268,435,456 bytes is refused as a whole (InputTooLong).
+pub(crate) fn read_script(alloc: Global, input: &[u8]) -> Result<Plan, Report>
+    // The lines spell the nodes of the plan and its events.
+    ensures reads { IfOk result (λ plan. (starts : List Start) × AreStarted plan.nodes.items starts
+        × Script input.now starts (plan_events plan.events.items (length plan.nodes.items) plan.level)) }
+    ensures lines { IfOk result (λ plan. length plan.lines.items ≡ length plan.events.items) }
+
+    // Refused for another cause than memory and its length, the input is no script.
+    ensures refuses { IfErr result (λ report. report.what ≢ What.Memory → length input.now ≤ 268435456
+        → (starts : List Start) → (events : List Event) → ¬ Script input.now starts events) }
+    ensures long { (268435456 < length input.now) ↔ (result ≡ Err (record { place = Place.Input; what = What.Refused 32 None })) }
+    ensures kind { IfErr result (λ report. IsOfReading report.what) }
+    ensures place { IfErr result (λ report. IsAmong report.place 0) }
+{
+    if input.len() > BOUND {
+        return Err(What::input_too_long().at(Place::Input));
+    }
+    let mut plan = Plan::new(alloc);
+    for (index, line) in input.split(|byte| *byte == b'\n').enumerate() {
+        let number = index as u64 + 1;
+        if let Err(what) = plan.take_line(alloc, without_return(line), number) {
+            return Err(what.at(Place::Line(number)));
+        }
+    }
+    Ok(plan)
+}
+
+/// A line less the one carriage return at its end, if it has one.
+fn without_return(line: &[u8]) -> &[u8]
+    ensures { result.now ≡ strip_carriage_return line.now }
+{
+    match line.split_last() {
+        Some((b'\r', text)) => text,
+        _ => line,
+    }
+}
