@@ -1,7 +1,6 @@
 //! A table from packets, and its listing.
 
 ghost use Rattle.std.specs.Prelude.{◌≡◌, ◌≢◌, ◌↔◌, ◌<◌, ◌≤◌, ◌++◌, List, length, IfOk, IfErr, OnOk};
-ghost use Rattle.std.specs.Str.Lines.{strip_carriage_return};
 ghost use Rattle.swim_claim.specs.declared.claim.Claim.{Claim};
 ghost use Rattle.swim_table.specs.Listing.{listing};
 ghost use Rattle.swim_table.specs.Table.{Entries, TableOf};
@@ -9,6 +8,7 @@ ghost use Rattle.swimtab.specs.Lines.{TextClaims, LineClaims, PacketLines};
 ghost use Rattle.swimtab.specs.Report.{IsAmong};
 
 use crate::device::BOUND;
+use crate::lines::without_return;
 use crate::report::{Place, Report, What};
 use hex::FromHexError;
 use std::alloc::{AllocError, Global};
@@ -54,16 +54,6 @@ fn take_line(alloc: Global, table: &mut Table, line: &[u8]) -> Result<(), What>
     ensures refuses { IfErr result (λ what. what ≢ What.Memory → (claims : List Claim) → ¬ LineClaims line.now claims) }
 {
     take_text(alloc, table, without_return(line))
-}
-
-/// A line less the one carriage return at its end, if it has one.
-fn without_return(line: &[u8]) -> &[u8]
-    ensures { result.now ≡ strip_carriage_return line.now }
-{
-    match line.split_last() {
-        Some((b'\r', text)) => text,
-        _ => line,
-    }
 }
 
 fn take_text(alloc: Global, table: &mut Table, text: &[u8]) -> Result<(), What>

@@ -1,13 +1,13 @@
 //! Scripts: the nodes of a cluster, and what happens in it.
 
 ghost use Rattle.std.specs.Prelude.{◌≡◌, ◌≢◌, ◌↔◌, ◌<◌, ◌≤◌, [], List, length, None, IfOk, IfErr, OnOk};
-ghost use Rattle.std.specs.Str.Lines.{strip_carriage_return};
 ghost use Rattle.swim_sync.specs.declared.event.Event.{Event};
 ghost use Rattle.swimtab.specs.Report.{IsAmong, IsOfReading};
 ghost use Rattle.swimtab.specs.Script.{Script, Start, AreStarted};
 ghost use Rattle.swimtab.specs.ScriptReading.{Adds, TakesLine, IsOutOfPlace, plan_events};
 
 use crate::device::BOUND;
+use crate::lines::without_return;
 use crate::report::{Place, Report, What};
 use crate::script_line::{Line, read_line};
 use std::alloc::{AllocError, Global};
@@ -104,14 +104,4 @@ pub(crate) fn read_script(alloc: Global, input: &[u8]) -> Result<Plan, Report>
         }
     }
     Ok(plan)
-}
-
-/// A line less the one carriage return at its end, if it has one.
-fn without_return(line: &[u8]) -> &[u8]
-    ensures { result.now ≡ strip_carriage_return line.now }
-{
-    match line.split_last() {
-        Some((b'\r', text)) => text,
-        _ => line,
-    }
 }
