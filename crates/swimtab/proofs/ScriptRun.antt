@@ -1,9 +1,11 @@
 -- What was read of a script, line by line.
-use Rattle.std.proofs.Common.{◌≡◌, ◌≢◌, ℕ, zero, suc, ◌+◌, ◌<◌, ◌⊎◌, inl, inr, Bool, true, false, List, [], ◌∷◌, ◌++◌, Option, Some, None, is_some, length, map, take, drop, get_or, Bor, refl, sym, ap, ap₂, subst, ◌∙◌, append_assoc, append-nil, eqb-true, ne_eqb, IsSome, arith}
+use Rattle.std.proofs.Common.{◌≡◌, ◌≢◌, ℕ, zero, suc, ◌+◌, ◌<◌, ◌≤◌, ◌⊎◌, inl, inr, Bool, true, false, List, [], ◌∷◌, ◌++◌, Option, Some, None, is_some, length, map, take, drop, get_or, Bor, refl, sym, ap, ap₂, subst, ◌∙◌, append_assoc, append-nil, eqb-true, ne_eqb, IsSome, arith}
 use Rattle.std.proofs.lemmas.Iterator.{YieldsList}
 use Rattle.std.proofs.lemmas.Iterator.Consumers.{YieldsList-so_far, YieldsList-turn}
+use Rattle.std.proofs.lemmas.List.Splits.{length-slice_split}
+use Rattle.std.proofs.lemmas.List.Sums.{count_by-le-length}
 use Rattle.std.specs.Iterator.{Yields}
-use Rattle.std.proofs.lemmas.List.{length-append, map-append}
+use Rattle.std.proofs.lemmas.List.{length-append, length-map, map-append}
 use Rattle.std.specs.Str.Lines.{strip_carriage_return}
 use Rattle.std.specs.Prelude.{◌==◌}
 use Rattle.std.specs.List.{enumerate_from}
@@ -349,3 +351,23 @@ one_more_line read line text strips =
     ap not_empty (map-append strip_carriage_return read (line ∷ []))
     ∙ not_empty_append (map strip_carriage_return read) (strip_carriage_return line ∷ [])
     ∙ ap (λ t. not_empty (map strip_carriage_return read) ++ not_empty (t ∷ [])) (sym strips)
+
+-- ---- how many nodes there are
+
+few_kept : (lines : List (List ℕ)) → length (not_empty lines) ≤ length lines
+few_kept [] = omega arith
+few_kept ([] ∷ lines) = omega (arith, few_kept lines)
+few_kept ((byte ∷ bytes) ∷ lines) = omega (arith, few_kept lines)
+
+few_starts : (lines : List (List ℕ)) (starts : List Start) → NodeLines lines starts → length starts ≡ length lines
+few_starts [] starts each = ap length each
+few_starts (line ∷ lines) starts each = ap length each.4 ∙ ap suc (few_starts lines each.1 each.3)
+
+-- no more than there are bytes, and one
+pub few_nodes : (input : List ℕ) (nodes : List NodeValue) (starts : List Start) (events : List Event) → AreStarted nodes starts → Script input starts events → length nodes ≤ length input + 1
+few_nodes input nodes starts events started script =
+    let kept = few_kept (map strip_carriage_return (input_lines input)) in
+    let whole = ap length script.lines in
+    let parts = length-append (script.node_lines ++ script.event_lines) script.last in
+    let first = length-append script.node_lines script.event_lines in
+    omega (arith, kept, whole, parts, first, length-map (input_lines input) strip_carriage_return, length-slice_split (λ b. b == 10) input, count_by-le-length (λ b. b == 10) input, few_starts script.node_lines starts script.nodes, started_length nodes starts started)

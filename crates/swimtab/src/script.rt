@@ -84,6 +84,9 @@ pub(crate) fn read_script(alloc: Global, input: &[u8]) -> Result<Plan, Report>
     // The lines spell the nodes of the plan and its events.
     ensures reads { IfOk result (λ plan. (starts : List Start) × AreStarted plan.nodes.items starts
         × Script input.now starts (plan_events plan.events.items (length plan.nodes.items) plan.level)) }
+
+    // There are at most as many nodes as bytes, and one event for each number of a line.
+    ensures few { IfOk result (λ plan. length plan.nodes.items ≤ 268435457) }
     ensures lines { IfOk result (λ plan. length plan.lines.items ≡ length plan.events.items) }
 
     // Refused for another cause than memory and its length, the input is no script.

@@ -8,7 +8,7 @@ use Rattle.std.proofs.lemmas.List.FromFn.{length-enumerate_from, get_or-enumerat
 use Rattle.swimtab.specs.Lines.{input_lines}
 use Rattle.swimtab.specs.Script.{not_empty}
 use Rattle.swimtab.proofs.LineByLine.{counted_lines}
-use Rattle.swimtab.proofs.ScriptRun.{WasRead, nothing_read, read_more, was_read_whole, no_script, first_counted, script_parts, one_more_line, yielded_at}
+use Rattle.swimtab.proofs.ScriptRun.{WasRead, nothing_read, read_more, was_read_whole, no_script, first_counted, script_parts, one_more_line, yielded_at, few_nodes}
 use Rattle.swimtab.proofs.script.read_script.Goals as goal
 
 pub loop-index-init : goal.loop-index-init
@@ -41,3 +41,11 @@ returns-clause-reads c =
     let start : c.into_iter-index-iterator.result ≡ c.enumerate-index-items.result = search rules in
     let all = YieldsList-end (YieldsList-at start (YieldsList-from_enumerate (YieldsList-at c.enumerate-index-items.ensures.source (YieldsList-from_slice_split _ (λ b. eqb b 10) c.args.input.now c.split.ensures.rest c.split.ensures.done c.split.ensures.closure (λ x r q k. search (rules, tests)))) c.enumerate-index-items.ensures.count)) c.loop-index.yielded _ c.loop-index.yielded_by _ _ c.in-None.is c.next.ensures.steps in
     was_read_whole c.args.input.now c.loop-index.plan (subst (λ lines. WasRead (not_empty (map strip_carriage_return lines)) c.loop-index.plan) (counted_lines c.loop-index.yielded 0 _ all.0) c.loop-index.invariant.2)
+
+pub returns-clause-few : goal.returns-clause-few
+returns-clause-few c =
+    let start : c.into_iter-index-iterator.result ≡ c.enumerate-index-items.result = search rules in
+    let all = YieldsList-end (YieldsList-at start (YieldsList-from_enumerate (YieldsList-at c.enumerate-index-items.ensures.source (YieldsList-from_slice_split _ (λ b. eqb b 10) c.args.input.now c.split.ensures.rest c.split.ensures.done c.split.ensures.closure (λ x r q k. search (rules, tests)))) c.enumerate-index-items.ensures.count)) c.loop-index.yielded _ c.loop-index.yielded_by _ _ c.in-None.is c.next.ensures.steps in
+    let whole = was_read_whole c.args.input.now c.loop-index.plan (subst (λ lines. WasRead (not_empty (map strip_carriage_return lines)) c.loop-index.plan) (counted_lines c.loop-index.yielded 0 _ all.0) c.loop-index.invariant.2) in
+    let nodes = few_nodes c.args.input.now c.loop-index.plan.nodes.items whole.0 _ whole.1 whole.2 in
+    omega (arith, nodes, c.if-input-gt-BOUND.false)
