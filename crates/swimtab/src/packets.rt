@@ -10,7 +10,6 @@ ghost use Rattle.swimtab.specs.Report.{IsAmong};
 use crate::device::BOUND;
 use crate::lines::without_return;
 use crate::report::{Place, Report, What};
-use hex::FromHexError;
 use std::alloc::{AllocError, Global};
 use swim_claim::Claim;
 use swim_table::{Table, list};
@@ -75,20 +74,11 @@ fn read_claims(alloc: Global, text: &[u8]) -> Result<Vec<Claim>, What>
     ensures reads { IfOk result (λ claims. TextClaims text.now claims.items) }
     ensures refuses { IfErr result (λ what. what ≢ What.Memory → (claims : List Claim) → ¬ TextClaims text.now claims) }
 {
-    let bytes = hex::decode(alloc, text).map_err(not_hexadecimal)?;
+    let bytes = hex::decode(alloc, text)?;
     let packets = decode_datagram(alloc, &bytes)?;
     let claims = packets
         .into_iter()
         .map(|packet| packet.into_claim())
         .collect(alloc)?;
     Ok(claims)
-}
-
-fn not_hexadecimal(error: FromHexError) -> What
-    ensures { result ≢ What.Memory → error ≢ FromHexError.OutOfMemory }
-{
-    match error {
-        FromHexError::OutOfMemory => What::Memory,
-        _ => What::bad_hex(),
-    }
 }
