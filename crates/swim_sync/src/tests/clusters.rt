@@ -1,5 +1,7 @@
 //! Runs of events and levelling, on the nodes of three members.
-use crate::tests::{assert_lists, suspect, take_suspects};
+use crate::tests::{
+    JOINED_LISTING, SUSPECT_OFFER, assert_finishes, assert_lists, suspect, take_suspects,
+};
 use crate::{Claims, Cluster, Event, Stop, Why};
 use std::alloc::{AllocError, Global};
 use std::process::Abort;
@@ -96,6 +98,30 @@ fn half_an_exchange_tells_the_second_node_alone(rt: HostRuntime) -> Result<(), A
     assert_nodes(&rt, alloc, &cluster, &[A_LISTING, BOTH_LISTING])?;
     assert_runs(&rt, &mut cluster, &[Event::Exchange(0, 1)]);
     assert_nodes(&rt, alloc, &cluster, &[BOTH_LISTING, BOTH_LISTING])
+}
+
+#[test]
+fn a_run_that_memory_stopped_goes_on_where_it_stopped(rt: HostRuntime) -> Result<(), AllocError> {
+    let alloc = rt.alloc();
+    let mut cluster = cluster(&rt, alloc, 2)?;
+    assert_runs(
+        &rt,
+        &mut cluster,
+        &[Event::Half(0, 1), Event::Exchange(0, 1)],
+    );
+    assert_nodes(&rt, alloc, &cluster, &[BOTH_LISTING, BOTH_LISTING])
+}
+
+#[test]
+fn a_node_finishes_an_exchange_and_stays_the_member(rt: HostRuntime) -> Result<(), AllocError> {
+    let alloc = rt.alloc();
+    let mut node = node(&rt, alloc, b"a", 1)?;
+    assert_finishes(&rt, alloc, SUSPECT_OFFER, node.table_mut(), Ok(true))?;
+    assert_lists(&rt, alloc, node.table(), JOINED_LISTING)?;
+    assert_eq!(rt; node.name().bytes(), b"a".as_slice());
+    assert_eq!(rt; node.details().addr(), [127, 0, 0, 1].as_slice());
+    assert_eq!(rt; node.details().port(), 7946);
+    Ok(())
 }
 
 #[test]
