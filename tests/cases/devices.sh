@@ -109,6 +109,8 @@ output_fails list p.bin q.bin
 output_fails merge p.bin q.bin
 output_fails relate p.bin p.bin
 output_fails relate p.bin r.bin
+printf 'node a 7f000001 7946 - - 0\n' > packets.hex
+output_fails run
 
 # A reader that goes before the end of a long listing, and one that is slow.
 letters=$(printf '%01000d' 0)

@@ -1,10 +1,10 @@
 # The words after the program's name.
 # shellcheck shell=sh disable=SC2154
 
-commands='list merge relate'
+commands='list merge relate run'
 
 # Help and the version are on standard error, with status 2.
-for words in --help -h --version -V 'list --help' 'list -h' 'merge --help' 'relate --help' 'list p.bin --help' '--help list'; do
+for words in --help -h --version -V 'list --help' 'list -h' 'merge --help' 'relate --help' 'run --help' 'list p.bin --help' '--help list'; do
     # shellcheck disable=SC2086
     feed "$alive_a" $words
     explains "swimtab $words"
@@ -21,7 +21,7 @@ done
 # Words that ask for nothing.
 for words in swap help LIST lis 'help list' p.bin -x --foo '-- swap' 'swap p.bin' list merge relate 'list --' \
     'relate p.bin' 'relate p.bin q.bin r.bin' 'list --foo p.bin' 'list p.bin --foo' 'list -x.bin' 'merge -x p.bin' \
-    'relate -x p.bin' '--foo list p.bin'; do
+    'relate -x p.bin' '--foo list p.bin' 'run p.bin' 'run --foo'; do
     # shellcheck disable=SC2086
     feed "$alive_a" $words
     explains "swimtab $words"

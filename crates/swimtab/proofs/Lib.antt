@@ -4,3 +4,4 @@ mod LineByLine
 mod ScriptLines
 mod ScriptRun
 mod ScriptWords
+pub mod Replaying

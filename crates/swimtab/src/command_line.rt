@@ -3,7 +3,7 @@
 ghost use Rattle.std.specs.Prelude.{◌≡◌, true, [], codes, map, string_bytes, unwrap_or, IfOk, IfErr};
 ghost use Rattle.clap.specs.Words.{app_of, found_of, rows_of, takes, subcommand_of, with_subcommand};
 ghost use Rattle.clap.specs.Walk.{all_of};
-ghost use Rattle.swimtab.specs.Words.{program, files_command, pair_command, AsksFor};
+ghost use Rattle.swimtab.specs.Words.{program, files_command, lone_command, pair_command, AsksFor};
 
 use crate::verb::{Chosen, Verb, WordFault};
 use clap::{Arg, ArgMatches, Command};
@@ -23,10 +23,12 @@ Examples:
   swimtab list a.bin b.bin       lists the table of two dumps (push/pull streams)
   swimtab merge a.bin b.bin > c  writes one dump that says what both say
   swimtab relate a.bin b.bin     prints equal, behind, ahead or apart
+  swimtab run < incident.script  replays a script, and lists each node's table
 
 Exit status: 0 done, 1 not equal, 2 words or help, 3 input refused, 4 device, 5 memory";
 
-/// Reads the words after the program's name: none, or `list FILE..`, `merge FILE..` or `relate A B`.
+/// Reads the words after the program's name: none, or `list FILE..`, `merge FILE..`, `relate A B` or
+/// `run`.
 ///
 /// # Errors
 ///
@@ -70,11 +72,17 @@ fn command<'a>(alloc: Global) -> Result<Command<'a>, AllocError>
         "merge",
         "Prints the canonical dump of that table",
     )?;
-    add_pair(
+    let relating = add_pair(
         alloc,
         merging,
         "relate",
         "Tells how the tables of two dumps relate: equal, behind, ahead or apart",
+    )?;
+    add_lone(
+        alloc,
+        relating,
+        "run",
+        "Replays the script on standard input, and lists what each node knows at its end",
     )
 }
 
@@ -106,6 +114,18 @@ fn add_pair<'a>(
         .value_names(PAIR.as_slice());
     let added = Command::new(alloc, name).about(about).arg(pair)?;
     command.subcommand(added)
+}
+
+/// Adds a command whose words name no file.
+fn add_lone<'a>(
+    alloc: Global,
+    command: Command<'a>,
+    name: &'a str,
+    about: &'a str,
+) -> Result<Command<'a>, AllocError>
+    ensures { IfOk result (λ whole. app_of whole ≡ with_subcommand (app_of command.entry) (lone_command name.now).top) }
+{
+    command.subcommand(Command::new(alloc, name).about(about))
 }
 
 /// The words that name files.

@@ -3,11 +3,13 @@
 ghost use Rattle.std.specs.Prelude.{◌≡◌, None, length};
 ghost use Rattle.swim_claim.specs.Fault.{number_of};
 ghost use Rattle.swimtab.specs.declared.report.What.TheVariants.{Refused, Memory};
+ghost use Rattle.swimtab.specs.Replay.{what_of_why};
 ghost use Rattle.swimtab.specs.Report.{IsAmong, status_of, what_of, what_of_hex};
 
 use hex::FromHexError;
 use std::alloc::{AllocError, Global};
 use swim_claim::ClaimFault;
+use swim_sync::Why;
 use swim_wire::WireFault;
 
 /// Where a run was refused.
@@ -114,6 +116,20 @@ impl From<ClaimFault> for What {
 
     fn from(fault: ClaimFault) -> What {
         What::refused(fault.number())
+    }
+}
+
+/// Why an event did not happen.
+impl From<Why> for What {
+    ghost from_gives = { λ why what. what ≡ what_of_why why };
+
+    fn from(why: Why) -> What {
+        match why {
+            Why::NoSuchNode => What::refused(26),
+            Why::SameNode => What::refused(27),
+            Why::TooManyRecords => What::too_many_records(),
+            Why::Memory => What::Memory,
+        }
     }
 }
 

@@ -21,6 +21,8 @@ pub enum Verb {
     Merge,
     /// To tell how the tables of two dumps relate.
     Relate,
+    /// To replay the script on standard input.
+    Run,
 }
 
 impl Verb {
@@ -32,6 +34,7 @@ impl Verb {
             "list" => Some(Verb::List),
             "merge" => Some(Verb::Merge),
             "relate" => Some(Verb::Relate),
+            "run" => Some(Verb::Run),
             _ => None,
         }
     }

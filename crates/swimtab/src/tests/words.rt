@@ -6,8 +6,9 @@ use std::alloc::Global;
 use std::test::Fail;
 
 /// Words that are taken, what they ask for, and the words that name files.
-const TAKEN: [(&[&str], Verb, &[&str]); 7] = [
+const TAKEN: [(&[&str], Verb, &[&str]); 8] = [
     (&[], Verb::Packets, &[]),
+    (&["run"], Verb::Run, &[]),
     (&["merge", "x", "y"], Verb::Merge, &["x", "y"]),
     (&["list", "x"], Verb::List, &["x"]),
     (&["list", "list", "-", ""], Verb::List, &["list", "-", ""]),
@@ -21,7 +22,9 @@ const TAKEN: [(&[&str], Verb, &[&str]); 7] = [
 ];
 
 /// Words that are refused.
-const REFUSED: [&[&str]; 14] = [
+const REFUSED: [&[&str]; 16] = [
+    &["run", "x"],
+    &["run", "--help"],
     &["list"],
     &["merge"],
     &["relate"],
@@ -87,7 +90,10 @@ fn other_words_are_refused_with_a_text(rt: HostRuntime) -> Result<(), Fail> {
 #[test]
 fn help_and_version_tell_what_there_is(rt: HostRuntime) -> Result<(), Fail> {
     let asked: [(&[&str], &[&str]); 3] = [
-        (&["--help"], &["list", "merge", "relate", "hexadecimal"]),
+        (
+            &["--help"],
+            &["list", "merge", "relate", "run", "hexadecimal"],
+        ),
         (&["--version"], &["swimtab"]),
         (&["relate", "--help"], &["<A> <B>"]),
     ];

@@ -1,0 +1,30 @@
+use Rattle.std.proofs.Common.{◌≡◌, ◌∙◌, ap, subst, sym, List, length}
+use Rattle.std.proofs.lemmas.Result.{IfOk-weaker, IfErr-weaker}
+use Rattle.swim_table.specs.Node.{NodeValue}
+use Rattle.swim_sync.specs.declared.event.Event.{Event}
+use Rattle.swim_sync.specs.Cluster.{Ran, Stopped}
+use Rattle.swimtab.specs.declared.report.Report.{Report}
+use Rattle.swimtab.proofs.Replaying.{stopped_in_plan, ran_plan, stops_plan}
+use Rattle.swimtab.proofs.replay.played.Goals as goal
+
+pub returns-in-Err-clause-stops : goal.returns-in-Err-clause-stops
+returns-in-Err-clause-stops c =
+    let stopped = subst (λ (events : List Event). Stopped c.args.plan.nodes.items c.run.new.self events c.in-Err.stop) c.deref.ensures.value
+    (subst (λ (nodes : List NodeValue). Stopped nodes c.run.new.self c.deref.result.now c.in-Err.stop) c.new-cluster.ensures c.in-Err.ensures.stopped) in (
+      c.run.new.self,
+      c.in-Err.stop,
+      stopped_in_plan c.args.plan.nodes.items c.run.new.self c.args.plan.events.items (length c.args.plan.nodes.items) c.args.plan.level c.in-Err.stop stopped,
+      ap (λ (r : Report). r.what) c.at.ensures ∙ c.from.ensures,
+    )
+
+pub returns-in-Some-clause-runs : goal.returns-in-Some-clause-runs
+returns-in-Some-clause-runs c =
+    let ran = subst (λ (events : List Event). Ran c.args.plan.nodes.items c.run.new.self events) c.deref.ensures.value
+    (subst (λ (nodes : List NodeValue). Ran nodes c.run.new.self c.deref.result.now) c.new-cluster.ensures c.in_default.ensures.ok) in
+    IfOk-weaker c.levelled.result _ _ (λ new. ran_plan c.args.plan.nodes.items c.run.new.self new c.args.plan.events.items c.args.plan.level c.in-Some.line c.in-Some.is ran) c.levelled.ensures.runs
+
+pub returns-in-Some-clause-stops : goal.returns-in-Some-clause-stops
+returns-in-Some-clause-stops c =
+    let ran = subst (λ (events : List Event). Ran c.args.plan.nodes.items c.run.new.self events) c.deref.ensures.value
+    (subst (λ (nodes : List NodeValue). Ran nodes c.run.new.self c.deref.result.now) c.new-cluster.ensures c.in_default.ensures.ok) in
+    IfErr-weaker c.levelled.result _ _ (λ report. stops_plan c.args.plan.nodes.items c.run.new.self c.args.plan.events.items c.args.plan.level c.in-Some.line report.what c.in-Some.is ran) c.levelled.ensures.stops

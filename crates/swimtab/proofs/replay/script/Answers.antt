@@ -1,0 +1,25 @@
+use Rattle.std.proofs.Common.{◌≡◌, ◌∙◌, Err, ap, length}
+use Rattle.std.proofs.lemmas.Result.{err_from_is_err_and}
+use Rattle.swimtab.specs.declared.report.Report.{Report}
+use Rattle.swimtab.specs.ScriptReading.{plan_events}
+use Rattle.swimtab.proofs.Replaying.{replayed, refused_event}
+use Rattle.swimtab.proofs.replay.script.Goals as goal
+
+pub returns-in_err-plan-clause-refuses : goal.returns-in_err-plan-clause-refuses
+returns-in_err-plan-clause-refuses c =
+    let err = err_from_is_err_and c.from_residual.result c.from_residual.ensures.1 in
+    rw (err.1 ∙ ap (λ (r : Report). Err r) err.2) (λ not_memory short other. c.in_err-plan.ensures.refuses not_memory short)
+
+pub returns-in_err-cluster-clause-events : goal.returns-in_err-cluster-clause-events
+returns-in_err-cluster-clause-events c =
+    let err = err_from_is_err_and c.from_residual-in_err-cluster.result c.from_residual-in_err-cluster.ensures.1 in
+    let read = c.in_ok-plan.ensures.reads in
+    let plan = c.in_ok-plan.plan in
+    rw (err.1 ∙ ap (λ (r : Report). Err r) err.2)
+    (λ of. refused_event c.args.input.now plan.nodes.items read.0 (plan_events plan.events.items (length plan.nodes.items) plan.level) c.in_err-cluster.field-0.0.what read.1 read.2 c.in_err-cluster.ensures.stops)
+
+pub returns-in-Ok-clause-replays : goal.returns-in-Ok-clause-replays
+returns-in-Ok-clause-replays c =
+    let read = c.in_ok-plan.ensures.reads in
+    let plan = c.in_ok-plan.plan in
+    replayed c.args.input.now c.in-Ok.text.items plan.nodes.items c.in_ok-cluster.cluster read.0 (plan_events plan.events.items (length plan.nodes.items) plan.level) read.1 read.2 c.in_ok-cluster.ensures.runs c.in-Ok.ensures

@@ -1,0 +1,81 @@
+-- What a script shows: for each node its number, and the listing of the table of what it has heard.
+use Rattle.std.specs.Prelude.{◌≡◌, ℕ, ◌+◌, Bool, true, Some, None, List, [], ◌∷◌, ◌++◌, codes, decimal, length, map, take, slice_get}
+use Rattle.swim_claim.specs.declared.claim.Claim.{Claim}
+use Rattle.swim_table.specs.Listing.{listing}
+use Rattle.swim_table.specs.Node.{NodeValue}
+use Rattle.swim_table.specs.Table.{Entries, TableOf}
+use Rattle.swim_sync.specs.declared.event.Event.{Event}
+use Rattle.swim_sync.specs.declared.stop.Stop.{Stop}
+use Rattle.swim_sync.specs.declared.stop.Why.{Why}
+use Rattle.swim_sync.specs.declared.stop.Why.TheVariants as why
+use Rattle.swim_sync.specs.Cluster.{NamesNodes, NamesOneTwice, Dumps, Stopped}
+use Rattle.swim_sync.specs.Exchanging.{HasTooMany}
+use Rattle.swim_sync.specs.Heard.{heard, heard_by}
+use Rattle.swimtab.specs.declared.report.What.{What}
+use Rattle.swimtab.specs.declared.report.What.TheVariants.{Refused, Device, Memory}
+use Rattle.swimtab.specs.Report.{is_of_event}
+use Rattle.swimtab.specs.Script.{Start, Script, member_of, start_claims}
+
+-- the line with a node's number
+abbrev pub node_line : ℕ → List ℕ
+node_line k = codes "node " ++ decimal k ++ codes "\n"
+
+-- for each table, from node k on, the line of its node and the listing
+abbrev pub shown_from : ℕ → List Entries → List ℕ
+shown_from k [] = []
+shown_from k (table ∷ tables) = node_line k ++ listing table ++ shown_from (k + 1) tables
+
+-- each table is that of its list
+abbrev pub EachTable : List Entries → List (List Claim) → Type 0
+EachTable [] lists = lists ≡ []
+EachTable (table ∷ tables) lists =
+    (claims : List Claim) × (rest : List (List Claim)) × TableOf table claims × EachTable tables rest × (lists ≡ claims ∷ rest)
+
+-- what each node has heard after the events
+abbrev pub heard_after : List Start → List Event → List (List Claim)
+heard_after starts events = heard (map member_of starts) (map start_claims starts) events
+
+-- The input is a script, and the text shows what its nodes have heard at its end.
+pub record Replays (input text : List ℕ) : Type 0 where
+  pub starts : List Start
+  pub events : List Event
+  pub script : Script input starts events
+  pub tables : List Entries
+  pub each : EachTable tables (heard_after starts events)
+  pub shown : text ≡ shown_from 0 tables
+
+-- why an event of a script does not happen, by the number of the fault
+abbrev pub Refuses : List (List Claim) → Event → What → Type 0
+Refuses lists event (Refused number found) =
+    (number ≡ 26 → ¬ NamesNodes (length lists) event)
+    × (number ≡ 27 → NamesNodes (length lists) event × NamesOneTwice event)
+    × (number ≡ 23 → (k : ℕ) × (table : Entries) × Dumps event k × TableOf table (heard_by lists k) × HasTooMany table)
+Refuses lists event Device = ⊥
+Refuses lists event Memory = Unit {0}
+
+-- The input is a script with an event that does not happen after those before it.
+pub record RefusedEvent (input : List ℕ) (what : What) : Type 0 where
+  pub starts : List Start
+  pub events : List Event
+  pub script : Script input starts events
+  pub place : ℕ
+  pub event : Event
+  pub at : slice_get events place ≡ Some event
+  pub refuses : Refuses (heard_after starts (take place events)) event what
+
+-- the fault of a stop
+abbrev pub what_of_why : Why → What
+what_of_why why.NoSuchNode = Refused 26 None
+what_of_why why.SameNode = Refused 27 None
+what_of_why why.TooManyRecords = Refused 23 None
+what_of_why why.Memory = Memory
+
+-- a run of the events on the nodes stops so
+abbrev pub StopsSo : List NodeValue → List Event → What → Type 0
+StopsSo nodes events what = (new : List NodeValue) × (stop : Stop) × Stopped nodes new events stop × (what ≡ what_of_why stop.why)
+
+-- it is the fault of an event
+abbrev pub IsOfEvent : What → Type 0
+IsOfEvent (Refused number found) = is_of_event number ≡ true
+IsOfEvent Device = ⊥
+IsOfEvent Memory = ⊥
