@@ -1,6 +1,7 @@
 mod Commands
 mod FileByFile
 mod LineByLine
+mod Looping
 mod ScriptLines
 mod ScriptRun
 mod ScriptWords
