@@ -1,4 +1,5 @@
 mod Commands
+mod FewRecords
 mod FileByFile
 mod LineByLine
 mod Looping

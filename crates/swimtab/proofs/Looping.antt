@@ -1,4 +1,4 @@
--- Tables that fit a loop have few records, why a file is refused for a loop, and why an exchange is.
+-- Why a file is refused for a loop, why an exchange is, and whether two tables are equal.
 use Rattle.std.proofs.Common.{◌≡◌, ◌≢◌, ◌↔◌, ℕ, ◌<◌, ◌≤◌, ◌⊎◌, inl, inr, false, List, [], ◌∷◌, length, refl, length-append, arith}
 use Rattle.std.specs.Prelude.{IsTrue}
 use Rattle.std.specs.List.{flat_map}
@@ -25,24 +25,6 @@ use Rattle.swimtab.specs.Files.{FileClaims}
 use Rattle.swimtab.specs.Looping.{FitsLoop, IsLoopRefused}
 use Rattle.swimtab.specs.Looping.IsLoopRefused.{no_stream, memory}
 use Rattle.swimtab.specs.Report.{what_of, what_of_sync}
-
--- ---- how many records a dump has
-
-state_some : (c : Claim) → 0 < length (state_bytes c)
-state_some (Alive name inc details) = omega arith
-state_some (Suspect name inc) = omega arith
-state_some (Confirm name inc) = omega arith
-state_some (Leave name inc) = omega arith
-
--- each record has a byte at least
-a_byte_each : (claims : List Claim) → length claims ≤ length (flat_map state_bytes claims)
-a_byte_each [] = omega arith
-a_byte_each (c ∷ claims) = omega (arith, state_some c, a_byte_each claims, length-append (state_bytes c) (flat_map state_bytes claims))
-
--- a table whose dump is short has few records
-pub fits_few : (table : Entries) → FitsLoop table → ¬ HasTooMany table
-fits_few table fits many =
-    omega (arith, fits, many, a_byte_each (Reduced table), length-append (header_bytes (record { nodes = length (Reduced table); user_len = 0; join = false })) (flat_map state_bytes (Reduced table)))
 
 -- ---- why a file is refused
 

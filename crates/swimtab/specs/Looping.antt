@@ -22,7 +22,6 @@ pub record IsLoopTable (file : List ℕ) (table : Entries) : Type 0 where
   pub claims : List Claim
   pub made : FileClaims file claims
   pub table_of : TableOf table claims
-  pub few : length (Reduced table) ≤ 131072
   pub fits : FitsLoop table
 
 -- Why a file gives no table that can be sent: it is too long, no stream, or that of too great a table, or there is no memory.
@@ -30,10 +29,8 @@ pub data IsLoopRefused (file : List ℕ) (what : What) : Type 0 where
   too_long : 268435456 < length file → what ≡ Refused 32 None → IsLoopRefused file what
   no_stream : (fault : WireFault) → length file ≤ 268435456 → ((claims : List Claim) → ¬ FileClaims file claims)
       → what ≡ what_of fault → IsLoopRefused file what
-  too_many : (claims : List Claim) (table : Entries) → length file ≤ 268435456 → FileClaims file claims → TableOf table claims
-      → 131072 < length (Reduced table) → what ≡ Refused 23 None → IsLoopRefused file what
   too_large : (claims : List Claim) (table : Entries) → length file ≤ 268435456 → FileClaims file claims → TableOf table claims
-      → length (Reduced table) ≤ 131072 → 16384 < length (dump_bytes table false) → what ≡ Refused 28 None → IsLoopRefused file what
+      → 16384 < length (dump_bytes table false) → what ≡ Refused 28 None → IsLoopRefused file what
   memory : length file ≤ 268435456 → what ≡ Memory → IsLoopRefused file what
 
 -- The table took these claims in, and lost none of its own.

@@ -21,14 +21,14 @@ const MOST_BYTES: usize = 16_384;
 /// The table of a dump for [`looped`]: a file that is one push/pull stream, and whose table has a
 /// canonical dump of at most 16,384 bytes.
 ///
-/// A report names the file by its place, and says:
+/// A report names the file by its place, and says one of these. TooManyRecords never comes, since one
+/// stream has at most 131,072 records.
 ///
-/// - InputTooLong exactly where the file has more than 268,435,456 bytes,
-/// - the fault of the stream where the file is none,
-/// - TooManyRecords only where the table has more than 131,072 records,
-/// - TooLargeForLoop only where the table's canonical dump is longer than 16,384 bytes, whatever the
-///   length of the file (own),
-/// - or that memory was refused.
+/// - InputTooLong exactly where the file has more than 268,435,456 bytes (own).
+/// - The fault of the stream where the file is none.
+/// - TooLargeForLoop only where the table's canonical dump has more than 16,384 bytes, whatever the
+///   length of the file (own).
+/// - Want of memory.
 pub fn loop_table(alloc: Global, dump: &[u8], file: usize) -> Result<Table, Report>
     // The table is that of the file's claims, and can be sent.
     ensures reads { IfOk result (IsLoopTable dump.now) }
@@ -42,7 +42,8 @@ pub fn loop_table(alloc: Global, dump: &[u8], file: usize) -> Result<Table, Repo
     let what = match encode(alloc, &table, false) {
         Ok(bytes) if bytes.len() <= MOST_BYTES => return Ok(table),
         Ok(_) => What::too_large_for_loop(),
-        Err(EncodeFault::TooManyRecords) => What::too_many_records(),
+        // one stream has no more records than a dump
+        Err(EncodeFault::TooManyRecords) => unreachable!(),
         Err(EncodeFault::Memory) => What::Memory,
     };
     Err(what.at(Place::File(file)))

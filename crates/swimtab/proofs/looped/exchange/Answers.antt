@@ -1,7 +1,8 @@
 use Rattle.std.proofs.Common.{refl}
 use Rattle.std.proofs.lemmas.Result.{err_from_is_err_and}
 use Rattle.swim_wire.specs.declared.fault.WireFault.TheVariants as wire
-use Rattle.swimtab.proofs.Looping.{fits_few, told_as_of_stream}
+use Rattle.swimtab.proofs.FewRecords.{fits_few}
+use Rattle.swimtab.proofs.Looping.{told_as_of_stream}
 use Rattle.swimtab.proofs.looped.exchange.Goals as goal
 
 pub returns-in-Err-clause-stops : goal.returns-in-Err-clause-stops
