@@ -44,17 +44,18 @@ name_kept None words = refl
 name_kept (Some s) words = refl
 
 is_command : (n : Text) (stop : Option (Text × List Text)) → option_map (λ p. p.0) (entered (built program) stop) ≡ Some n
-    → IsIn (codes "list" ∷ codes "merge" ∷ codes "relate" ∷ codes "run" ∷ []) n
+    → IsIn (codes "list" ∷ codes "merge" ∷ codes "relate" ∷ codes "loop" ∷ codes "run" ∷ []) n
 is_command n None e = absurd cc
 is_command n (Some p) e =
     found_in (λ s. answers_to p.0 (label_of s)) (λ (s : Shape). s.name) n (built program).subs (sym (name_kept (find (λ s. answers_to p.0 (label_of s)) (built program).subs) p.1) ∙ e)
 
-has_verb : (n : Text) → IsIn (codes "list" ∷ codes "merge" ∷ codes "relate" ∷ codes "run" ∷ []) n → verb_of n ≢ None
+has_verb : (n : Text) → IsIn (codes "list" ∷ codes "merge" ∷ codes "relate" ∷ codes "loop" ∷ codes "run" ∷ []) n → verb_of n ≢ None
 has_verb n (inl e) none = let bad : verb_of (codes "list") ≡ None = ap verb_of (sym e) ∙ none in absurd cc
 has_verb n (inr (inl e)) none = let bad : verb_of (codes "merge") ≡ None = ap verb_of (sym e) ∙ none in absurd cc
 has_verb n (inr (inr (inl e))) none = let bad : verb_of (codes "relate") ≡ None = ap verb_of (sym e) ∙ none in absurd cc
-has_verb n (inr (inr (inr (inl e)))) none = let bad : verb_of (codes "run") ≡ None = ap verb_of (sym e) ∙ none in absurd cc
-has_verb n (inr (inr (inr (inr h)))) none = h
+has_verb n (inr (inr (inr (inl e)))) none = let bad : verb_of (codes "loop") ≡ None = ap verb_of (sym e) ∙ none in absurd cc
+has_verb n (inr (inr (inr (inr (inl e))))) none = let bad : verb_of (codes "run") ≡ None = ap verb_of (sym e) ∙ none in absurd cc
+has_verb n (inr (inr (inr (inr (inr h))))) none = h
 
 -- a command that was found has a verb
 pub found_verb : (m : ArgMatches) (words : List Text) (n : Text) → subcommand_rows_of m ≡ subcommand_of program words → Some n ≡ subcommand_name_of m → verb_of n ≢ None

@@ -1,5 +1,5 @@
 -- Runs of the events of a script, and what is shown of the nodes.
-use Rattle.std.proofs.Common.{◌≡◌, ◌≢◌, ◌⊎◌, ℕ, zero, suc, ◌+◌, ◌<◌, ◌≤◌, Option, Some, None, List, [], ◌∷◌, ◌++◌, length, map, take, get_or, refl, sym, ap, subst, ◌∙◌, inl, inr, arith, length-append, append-nil}
+use Rattle.std.proofs.Common.{◌≡◌, ℕ, zero, suc, ◌+◌, ◌<◌, Option, Some, None, List, [], ◌∷◌, ◌++◌, length, map, take, get_or, refl, sym, ap, subst, ◌∙◌, arith, length-append, append-nil}
 use Rattle.std.specs.Prelude.{slice_get}
 use Rattle.std.proofs.Math.Seq.{take-append-add}
 use Rattle.std.proofs.lemmas.List.{append_assoc, take_more, take-append-le, length-take-le}
@@ -20,7 +20,7 @@ use Rattle.swim_sync.proofs.Levelling.{get-front, get-back}
 use Rattle.swimtab.specs.declared.report.What.{What}
 use Rattle.swimtab.specs.Replay.{node_line, shown_from, EachTable, heard_after, Replays, Refuses, RefusedEvent, StopsSo, what_of_why}
 use Rattle.swimtab.specs.ScriptReading.{plan_events}
-use Rattle.swimtab.specs.Script.{Start, Script, IsStarted, AreStarted, member_of, start_claims}
+use Rattle.swimtab.specs.Script.{Start, Script, AreStarted, member_of, start_claims}
 
 -- ---- stops of a run in two parts
 

@@ -1,5 +1,5 @@
 -- What a script shows: for each node its number, and the listing of the table of what it has heard.
-use Rattle.std.specs.Prelude.{◌≡◌, ℕ, ◌+◌, Bool, true, Some, None, List, [], ◌∷◌, ◌++◌, codes, decimal, length, map, take, slice_get}
+use Rattle.std.specs.Prelude.{◌≡◌, ℕ, ◌+◌, true, Some, None, List, [], ◌∷◌, ◌++◌, codes, decimal, length, map, take, slice_get}
 use Rattle.swim_claim.specs.declared.claim.Claim.{Claim}
 use Rattle.swim_table.specs.Listing.{listing}
 use Rattle.swim_table.specs.Node.{NodeValue}

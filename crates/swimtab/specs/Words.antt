@@ -23,20 +23,20 @@ files_command name = with_rule (new_app name) files_rule
 abbrev pub pair_command : Text → App
 pair_command name = with_rule (new_app name) pair_rule
 
--- a command that names no file
-abbrev pub lone_command : Text → App
-lone_command name = new_app name
-
 abbrev pub bare : App
 bare = record (new_app (codes "swimtab")) { top = record (new_app (codes "swimtab")).top { no_binary_name = true; disable_help_subcommand = true; has_version = true } }
 
+-- a command beside those before it
+abbrev pub beside : App → App → App
+beside before command = with_subcommand before command.top
+
 -- the commands that name files
 abbrev pub filing : App
-filing = with_subcommand (with_subcommand (with_subcommand bare (files_command (codes "list")).top) (files_command (codes "merge")).top) (pair_command (codes "relate")).top
+filing = beside (beside (beside (beside bare (files_command (codes "list"))) (files_command (codes "merge"))) (pair_command (codes "relate"))) (pair_command (codes "loop"))
 
--- no words, or `list`, `merge` or `relate` with files, or `run`
+-- no words, or `list`, `merge`, `relate` or `loop` with files, or `run`
 abbrev pub program : App
-program = with_subcommand filing (lone_command (codes "run")).top
+program = beside filing (new_app (codes "run"))
 
 -- ---- what the words ask for
 
@@ -45,8 +45,9 @@ verb_of name =
     if bytes_eq name (codes "list") then Some verb.List
     else (if bytes_eq name (codes "merge") then Some verb.Merge
     else (if bytes_eq name (codes "relate") then Some verb.Relate
+    else (if bytes_eq name (codes "loop") then Some verb.Loop
     else (if bytes_eq name (codes "run") then Some verb.Run
-    else None)))
+    else None))))
 
 -- without a command the packets are listed, and a command has the files that its words name
 abbrev pub AsksFor : Option (Text × List Row) → Choice → Type 0

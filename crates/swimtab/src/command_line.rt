@@ -1,34 +1,21 @@
 //! The words after the program's name.
 
 ghost use Rattle.std.specs.Prelude.{◌≡◌, true, [], codes, map, string_bytes, unwrap_or, IfOk, IfErr};
-ghost use Rattle.clap.specs.Words.{app_of, found_of, rows_of, takes, subcommand_of, with_subcommand};
+ghost use Rattle.clap.specs.Words.{app_of, found_of, rows_of, takes, subcommand_of, new_app};
 ghost use Rattle.clap.specs.Walk.{all_of};
-ghost use Rattle.swimtab.specs.Words.{program, files_command, lone_command, pair_command, AsksFor};
+ghost use Rattle.swimtab.specs.Words.{program, bare, beside, files_command, pair_command, AsksFor};
 
+use crate::help;
 use crate::verb::{Chosen, Verb, WordFault};
 use clap::{Arg, ArgMatches, Command};
 use std::alloc::{AllocError, Global};
 use std::{env, io};
 
-/// The words that stand for the two files of `relate`.
+/// The words that stand for the two files of `relate` and `loop`.
 static PAIR: [&str; 2] = ["A", "B"];
 
-/// What help says beside the commands.
-static EXAMPLES: &str = "\
-Without a command, the packets on standard input, in hexadecimal and one a line, are
-taken in, and the table is listed: a line for each member, 'name state inc home'.
-
-Examples:
-  swimtab < packets.hex          lists the table of the packets
-  swimtab list a.bin b.bin       lists the table of two dumps (push/pull streams)
-  swimtab merge a.bin b.bin > c  writes one dump that says what both say
-  swimtab relate a.bin b.bin     prints equal, behind, ahead or apart
-  swimtab run < incident.script  replays a script, and lists each node's table
-
-Exit status: 0 done, 1 not equal, 2 words or help, 3 input refused, 4 device, 5 memory";
-
-/// Reads the words after the program's name: none, or `list FILE..`, `merge FILE..`, `relate A B` or
-/// `run`.
+/// Reads the words after the program's name: none, or `list FILE..`, `merge FILE..`, `relate A B`,
+/// `loop A B` or `run`.
 ///
 /// # Errors
 ///
@@ -50,53 +37,75 @@ pub fn chosen(alloc: Global, words: &[String]) -> Result<Chosen, WordFault>
     }
 }
 
+/// What help says of a command.
+#[derive(Clone, Copy)]
+struct Page<'a> {
+    name: &'a str,
+    about: &'a str,
+    example: &'a str,
+}
+
 /// The program's commands.
 fn command<'a>(alloc: Global) -> Result<Command<'a>, AllocError>
     ensures { IfOk result (λ command. app_of command ≡ program) }
 {
-    let bare = Command::new(alloc, "swimtab")
+    let list = Page {
+        name: "list",
+        about: "Lists the table of all claims in the dumps",
+        example: help::LIST,
+    };
+    let merge = Page {
+        name: "merge",
+        about: "Prints the canonical dump of that table",
+        example: help::MERGE,
+    };
+    let relate = Page {
+        name: "relate",
+        about: "Tells how the tables of two dumps relate: equal, behind, ahead or apart",
+        example: help::RELATE,
+    };
+    let exchange = Page {
+        name: "loop",
+        about: "Exchanges the tables of two dumps over a socket, and lists the first",
+        example: help::LOOP,
+    };
+    let run = Page {
+        name: "run",
+        about: "Replays the script on standard input, and lists what each node knows at its end",
+        example: help::RUN,
+    };
+    let with_list = add_files(alloc, lone_program(alloc), list)?;
+    let with_merge = add_files(alloc, with_list, merge)?;
+    let with_relate = add_pair(alloc, with_merge, relate)?;
+    let with_loop = add_pair(alloc, with_relate, exchange)?;
+    add_lone(alloc, with_loop, run)?.bin_name("swimtab")
+}
+
+/// The program without its commands.
+fn lone_program<'a>(alloc: Global) -> Command<'a>
+    ensures { app_of result ≡ bare }
+{
+    Command::new(alloc, "swimtab")
         .about("Membership tables of SWIM clusters, from the messages of memberlist")
-        .after_help(EXAMPLES)
-        .version("0.1.0")
+        .after_help(help::PROGRAM)
+        .version(help::VERSION)
         .no_binary_name(true)
-        .disable_help_subcommand(true);
-    let listing = add_files(
-        alloc,
-        bare,
-        "list",
-        "Lists the table of all claims in the dumps",
-    )?;
-    let merging = add_files(
-        alloc,
-        listing,
-        "merge",
-        "Prints the canonical dump of that table",
-    )?;
-    let relating = add_pair(
-        alloc,
-        merging,
-        "relate",
-        "Tells how the tables of two dumps relate: equal, behind, ahead or apart",
-    )?;
-    add_lone(
-        alloc,
-        relating,
-        "run",
-        "Replays the script on standard input, and lists what each node knows at its end",
-    )
+        .disable_help_subcommand(true)
 }
 
 /// Adds a command whose words name one file at least.
 fn add_files<'a>(
     alloc: Global,
     command: Command<'a>,
-    name: &'a str,
-    about: &'a str,
+    page: Page<'a>,
 ) -> Result<Command<'a>, AllocError>
-    ensures { IfOk result (λ whole. app_of whole ≡ with_subcommand (app_of command.entry) (files_command name.now).top) }
+    ensures { IfOk result (λ whole. app_of whole ≡ beside (app_of command.entry) (files_command page.entry.name.now)) }
 {
     let files = Arg::new(alloc, "FILE").required(true).num_args(1..);
-    let added = Command::new(alloc, name).about(about).arg(files)?;
+    let added = Command::new(alloc, page.name)
+        .about(page.about)
+        .after_help(page.example)
+        .arg(files)?;
     command.subcommand(added)
 }
 
@@ -104,15 +113,17 @@ fn add_files<'a>(
 fn add_pair<'a>(
     alloc: Global,
     command: Command<'a>,
-    name: &'a str,
-    about: &'a str,
+    page: Page<'a>,
 ) -> Result<Command<'a>, AllocError>
-    ensures { IfOk result (λ whole. app_of whole ≡ with_subcommand (app_of command.entry) (pair_command name.now).top) }
+    ensures { IfOk result (λ whole. app_of whole ≡ beside (app_of command.entry) (pair_command page.entry.name.now)) }
 {
     let pair = Arg::new(alloc, "FILE")
         .required(true)
         .value_names(PAIR.as_slice());
-    let added = Command::new(alloc, name).about(about).arg(pair)?;
+    let added = Command::new(alloc, page.name)
+        .about(page.about)
+        .after_help(page.example)
+        .arg(pair)?;
     command.subcommand(added)
 }
 
@@ -120,12 +131,14 @@ fn add_pair<'a>(
 fn add_lone<'a>(
     alloc: Global,
     command: Command<'a>,
-    name: &'a str,
-    about: &'a str,
+    page: Page<'a>,
 ) -> Result<Command<'a>, AllocError>
-    ensures { IfOk result (λ whole. app_of whole ≡ with_subcommand (app_of command.entry) (lone_command name.now).top) }
+    ensures { IfOk result (λ whole. app_of whole ≡ beside (app_of command.entry) (new_app page.entry.name.now)) }
 {
-    command.subcommand(Command::new(alloc, name).about(about))
+    let added = Command::new(alloc, page.name)
+        .about(page.about)
+        .after_help(page.example);
+    command.subcommand(added)
 }
 
 /// The words that name files.

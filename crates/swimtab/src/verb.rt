@@ -21,6 +21,8 @@ pub enum Verb {
     Merge,
     /// To tell how the tables of two dumps relate.
     Relate,
+    /// To exchange the tables of two dumps over a socket, and to list the first.
+    Loop,
     /// To replay the script on standard input.
     Run,
 }
@@ -34,6 +36,7 @@ impl Verb {
             "list" => Some(Verb::List),
             "merge" => Some(Verb::Merge),
             "relate" => Some(Verb::Relate),
+            "loop" => Some(Verb::Loop),
             "run" => Some(Verb::Run),
             _ => None,
         }

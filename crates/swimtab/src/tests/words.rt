@@ -6,13 +6,14 @@ use std::alloc::Global;
 use std::test::Fail;
 
 /// Words that are taken, what they ask for, and the words that name files.
-const TAKEN: [(&[&str], Verb, &[&str]); 8] = [
+const TAKEN: [(&[&str], Verb, &[&str]); 9] = [
     (&[], Verb::Packets, &[]),
     (&["run"], Verb::Run, &[]),
     (&["merge", "x", "y"], Verb::Merge, &["x", "y"]),
     (&["list", "x"], Verb::List, &["x"]),
     (&["list", "list", "-", ""], Verb::List, &["list", "-", ""]),
     (&["relate", "x", "y"], Verb::Relate, &["x", "y"]),
+    (&["loop", "y", "x"], Verb::Loop, &["y", "x"]),
     (
         &["relate", "--", "-x", "--help"],
         Verb::Relate,
@@ -22,7 +23,7 @@ const TAKEN: [(&[&str], Verb, &[&str]); 8] = [
 ];
 
 /// Words that are refused.
-const REFUSED: [&[&str]; 16] = [
+const REFUSED: [&[&str]; 19] = [
     &["run", "x"],
     &["run", "--help"],
     &["list"],
@@ -30,6 +31,9 @@ const REFUSED: [&[&str]; 16] = [
     &["relate"],
     &["relate", "x"],
     &["relate", "x", "y", "z"],
+    &["loop"],
+    &["loop", "x"],
+    &["loop", "x", "y", "z"],
     &["swap"],
     &["lis", "x"],
     &["help"],
@@ -89,13 +93,23 @@ fn other_words_are_refused_with_a_text(rt: HostRuntime) -> Result<(), Fail> {
 
 #[test]
 fn help_and_version_tell_what_there_is(rt: HostRuntime) -> Result<(), Fail> {
-    let asked: [(&[&str], &[&str]); 3] = [
+    let asked: [(&[&str], &[&str]); 7] = [
         (
             &["--help"],
-            &["list", "merge", "relate", "run", "hexadecimal"],
+            &["list", "merge", "relate", "loop", "run", "hexadecimal"],
         ),
-        (&["--version"], &["swimtab"]),
-        (&["relate", "--help"], &["<A> <B>"]),
+        (&["--version"], &["swimtab 0.1.0", "rattle-kit-13b"]),
+        (&["list", "--help"], &["swimtab list <FILE>...", "Example"]),
+        (
+            &["merge", "--help"],
+            &["swimtab merge <FILE>...", "Example"],
+        ),
+        (
+            &["relate", "--help"],
+            &["swimtab relate <A> <B>", "Example"],
+        ),
+        (&["loop", "--help"], &["swimtab loop <A> <B>", "Example"]),
+        (&["run", "--help"], &["swimtab run", "Example"]),
     ];
     for (words, wanted) in asked {
         let text = refusal(rt.alloc(), words)?.expect(&rt, "a text");

@@ -1,8 +1,8 @@
 use Rattle.std.proofs.Common.{◌≡◌, ◌∙◌, rules, ap, ap₂, codes, true, Some}
 use Rattle.std.proofs.lemmas.Result.{IfOk-weaker}
 use Rattle.clap.specs.Lexer.{usize_max}
-use Rattle.clap.specs.Words.{App, Rule, app_of, rule_of, new_app, new_rule, with_rule, with_subcommand}
-use Rattle.swimtab.specs.Words.{files_rule, files_command}
+use Rattle.clap.specs.Words.{Rule, app_of, rule_of, new_app, new_rule, with_rule}
+use Rattle.swimtab.specs.Words.{beside, files_rule, files_command}
 use Rattle.swimtab.proofs.Commands.{some_of}
 use Rattle.swimtab.proofs.command_line.add_files.Goals as goal
 
@@ -13,6 +13,6 @@ returns c =
     let rule : rule_of c.num_args-files.result ≡ files_rule = ap rule_of c.num_args-files.ensures.0
     ∙ ap (λ n. record (rule_of c.required.result) { range = n }) one
     ∙ ap (λ (r : Rule). record r { range = Some (record { start_inclusive = 1; end_inclusive = usize_max }) }) required in
-    let named : app_of c.about.result ≡ new_app c.args.name.now = search rules in
-    let added : app_of c.in_ok-added.added ≡ files_command c.args.name.now = c.in_ok-added.ensures.shape (search rules) ∙ ap₂ with_rule named rule in
-    IfOk-weaker c.subcommand.result _ _ (λ whole h. h.shape (search rules) ∙ ap (λ (a : App). with_subcommand (app_of c.args.command) a.top) added) c.subcommand.ensures
+    let named : app_of c.after_help.result ≡ new_app c.args.page.name.now = search rules in
+    let added : app_of c.in_ok-added.added ≡ files_command c.args.page.name.now = c.in_ok-added.ensures.shape (search rules) ∙ ap₂ with_rule named rule in
+    IfOk-weaker c.subcommand.result _ _ (λ whole h. h.shape (search rules) ∙ ap (beside (app_of c.args.command)) added) c.subcommand.ensures

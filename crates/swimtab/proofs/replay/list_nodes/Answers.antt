@@ -1,11 +1,11 @@
-use Rattle.std.proofs.Common.{◌≡◌, ℕ, ◌<◌, Some, List, ◌++◌, ◌∙◌, sym, ap, ap₂, map, length, get_or, take, arith}
+use Rattle.std.proofs.Common.{ℕ, ◌<◌, List, ◌++◌, ◌∙◌, sym, ap, ap₂, map, length, arith}
 use Rattle.std.specs.Option.{option_map}
 use Rattle.std.proofs.lemmas.List.{length-map}
 use Rattle.std.proofs.lemmas.Option.{slice_get-map, get_or_from_slice_get}
 use Rattle.swim_table.specs.Listing.{listing}
 use Rattle.swim_table.specs.Node.{NodeValue}
 use Rattle.swim_table.specs.Table.{Entries}
-use Rattle.swimtab.specs.Replay.{node_line, shown_from}
+use Rattle.swimtab.specs.Replay.{node_line}
 use Rattle.swimtab.proofs.Replaying.{shown_more}
 use Rattle.swimtab.proofs.replay.list_nodes.Goals as goal
 

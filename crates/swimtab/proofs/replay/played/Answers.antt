@@ -1,4 +1,4 @@
-use Rattle.std.proofs.Common.{◌≡◌, ◌∙◌, ap, subst, sym, List, length}
+use Rattle.std.proofs.Common.{◌∙◌, ap, subst, List, length}
 use Rattle.std.proofs.lemmas.Result.{IfOk-weaker, IfErr-weaker}
 use Rattle.swim_table.specs.Node.{NodeValue}
 use Rattle.swim_sync.specs.declared.event.Event.{Event}

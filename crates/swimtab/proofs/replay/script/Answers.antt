@@ -1,4 +1,4 @@
-use Rattle.std.proofs.Common.{◌≡◌, ◌∙◌, Err, ap, length}
+use Rattle.std.proofs.Common.{◌∙◌, Err, ap, length}
 use Rattle.std.proofs.lemmas.Result.{err_from_is_err_and}
 use Rattle.swimtab.specs.declared.report.Report.{Report}
 use Rattle.swimtab.specs.ScriptReading.{plan_events}

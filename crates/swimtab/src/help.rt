@@ -1,0 +1,77 @@
+//! The texts that help and the version show, beside what `clap` makes of the commands.
+
+/// The version of the program, and what it was proved with.
+pub(crate) static VERSION: &str = "0.1.0, proved with rattle-kit-13b, logic dac8208d650f15bf";
+
+pub(crate) static PROGRAM: &str = "\
+Without a command, the packets on standard input, in hexadecimal and one a line, are
+taken in, and the table is listed: a line for each member, 'name state inc home'.
+
+Examples:
+  swimtab < packets.hex          lists the table of the packets
+  swimtab list a.bin b.bin       lists the table of two dumps (push/pull streams)
+  swimtab merge a.bin b.bin > c  writes one dump that says what both say
+  swimtab relate a.bin b.bin     prints equal, behind, ahead or apart
+  swimtab loop a.bin b.bin       exchanges both over a socket, and lists the first
+  swimtab run < incident.script  replays a script, and lists each node's table
+
+  $ echo 0383a446726f6da178ab496e6361726e6174696f6e01a44e6f6465a162 | swimtab
+  b suspect 1 -
+
+Exit status: 0 done, 1 not equal, 2 words or help, 3 input refused, 4 device, 5 memory";
+
+pub(crate) static LIST: &str = "\
+The order of the files makes no difference, nor does a file that is named twice.
+
+Example:
+  $ swimtab list examples/three.bin
+  l1 alive 1 1/7f000401/43227//010502000000
+  l2 alive 1 1/7f000402/45729//010502000000
+  l3 alive 1 1/7f000403/33603//010502000000";
+
+pub(crate) static MERGE: &str = "\
+The dump is a push/pull stream as memberlist reads it, without the join flag.
+
+Example:
+  $ swimtab merge examples/three.bin examples/user-state.bin > both.bin
+  $ swimtab list both.bin | wc -l
+  6";
+
+pub(crate) static RELATE: &str = "\
+Behind is a table of which the other one knows all, and more; ahead is the opposite.
+The exit status is 1 where the tables are not equal.
+
+Example:
+  $ swimtab relate examples/three.bin examples/user-state.bin
+  apart";
+
+pub(crate) static LOOP: &str = "\
+A offers its table on a connection of 127.0.0.1, B answers with its own, and A takes
+the answer in. Each canonical dump has at most 16,384 bytes. The exit status is 1
+where the tables are not equal at the end.
+
+Example:
+  $ swimtab loop examples/three.bin examples/user-state.bin | cut -d ' ' -f 1-3
+  l1 alive 1
+  l2 alive 1
+  l3 alive 1
+  u1 alive 1
+  u2 alive 1
+  u3 alive 1";
+
+pub(crate) static RUN: &str = "\
+A line of a script is one of:
+  node NAME ADDR PORT META VSN INC   a node, by number from 0; these lines come first
+  hear K HEX                         node K takes a packet or compound packet in
+  exchange J K                       nodes J and K exchange their tables
+  half J K                           the same, but J never gets the answer
+  refute K                           node K refutes what it knows of itself
+  level                              all nodes get to know all; the last line
+
+Example:
+  $ swimtab run < examples/lost-reply.script
+  node 0
+  a alive 0 0/7f000001/7946//
+  node 1
+  a alive 0 0/7f000001/7946//
+  b alive 0 0/7f000002/7946//";
