@@ -38,7 +38,7 @@ kept_combined s t =
       home_either s.home t.home,
       length-append (option_to_list s.home) (beside_home s.top),
       length-append (option_to_list t.home) (beside_home t.top),
-      length-append (option_to_list (greater_home s.home t.home)) (beside_home (greater s.top t.top))
+      length-append (option_to_list (greater_home s.home t.home)) (beside_home (greater s.top t.top)),
     )
 
 kept_one : (c : Claim) → length (kept (standing_of c)) ≡ 1

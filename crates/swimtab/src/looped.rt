@@ -10,7 +10,7 @@ use crate::dumps::{check_length, read_file};
 use crate::report::{Place, Report, What};
 use std::alloc::{AllocError, Global};
 use std::io;
-use std::net::{TcpListener, TcpStream};
+use std::net::{Ipv4Addr, TcpListener, TcpStream};
 use swim_pack::{FromRead, ToWrite};
 use swim_sync::{answer, finish, offer};
 use swim_table::{EncodeFault, Relation, Table, encode, list, relation};
@@ -47,6 +47,17 @@ pub fn loop_table(alloc: Global, dump: &[u8], file: usize) -> Result<Table, Repo
         Err(EncodeFault::Memory) => What::Memory,
     };
     Err(what.at(Place::File(file)))
+}
+
+/// A listener for [`looped`], on this machine alone and on a port that the system picks. Where there
+/// is none, that is a device fault at the loop.
+pub fn local_listener(rt: &HostRuntime) -> Result<TcpListener, Report>
+    ensures { IfErr result (λ report. report ≡ record { place = Place.Loop; what = What.Device }) }
+{
+    match TcpListener::bind(rt, (Ipv4Addr::LOCALHOST, 0)) {
+        Ok(listener) => Ok(listener),
+        Err(_) => Err(What::Device.at(Place::Loop)),
+    }
 }
 
 /// Exchanges two tables over a connection to the listener and lists the first one, with whether both

@@ -1,10 +1,10 @@
 //! Tables that are exchanged over a connection of this process to itself.
 
-use crate::looped::{loop_table, looped};
+use crate::looped::{local_listener, loop_table, looped};
 use crate::report::{Place, Report, What};
 use crate::tests::dumps::{P, Q, suspect};
 use std::alloc::Global;
-use std::net::{Ipv4Addr, TcpListener, TcpStream};
+use std::net::TcpStream;
 use std::process::Abort;
 use std::test::Fail;
 use swim_table::{Table, encode};
@@ -33,11 +33,6 @@ fn numbered(rt: &impl Abort, alloc: Global, from: u32, count: u32) -> Result<Vec
         suspect(rt, &mut table, name.as_bytes().to_vec(alloc)?)?;
     }
     Ok(encode(alloc, &table, false)?)
-}
-
-/// A listener on a port of its own.
-fn listener(rt: &HostRuntime) -> Result<TcpListener, Fail> {
-    Ok(TcpListener::bind(rt, (Ipv4Addr::LOCALHOST, 0))?)
 }
 
 /// That the dump is refused for a loop by the fault of this number, whichever file it is.
@@ -70,7 +65,7 @@ fn two_tables_end_equal(rt: HostRuntime) -> Result<(), Fail> {
     let alloc = rt.alloc();
     let first = loop_table(alloc, &hex::decode(alloc, P)?, 0)?;
     let second = loop_table(alloc, &hex::decode(alloc, Q)?, 1)?;
-    let (text, equal) = looped(&rt, listener(&rt)?, first, second)?;
+    let (text, equal) = looped(&rt, local_listener(&rt)?, first, second)?;
     assert_eq!(rt;
         text.as_slice(),
         "a alive 0 0/7f000001/7946//\nb suspect 1 -\n".as_bytes()
@@ -84,7 +79,7 @@ fn the_first_table_offers_to_who_connected_before(rt: HostRuntime) -> Result<(),
     let alloc = rt.alloc();
     let first = loop_table(alloc, &hex::decode(alloc, P)?, 0)?;
     let second = loop_table(alloc, &hex::decode(alloc, Q)?, 1)?;
-    let listener = listener(&rt)?;
+    let listener = local_listener(&rt)?;
     let stranger = TcpStream::connect(&rt, listener.local_addr()?)?;
     drop(stranger);
     let report = looped(&rt, listener, first, second)
@@ -106,7 +101,7 @@ fn the_greatest_tables_of_a_loop_do_not_wait_for_each_other(rt: HostRuntime) -> 
     let alloc = rt.alloc();
     let first = loop_table(alloc, &numbered(&rt, alloc, 0, 308)?, 0)?;
     let second = loop_table(alloc, &numbered(&rt, alloc, 308, 308)?, 1)?;
-    let (text, equal) = looped(&rt, listener(&rt)?, first, second)?;
+    let (text, equal) = looped(&rt, local_listener(&rt)?, first, second)?;
     let mut lines = String::new(alloc);
     for i in 0..616 {
         lines.push_str(format!(in alloc; "{i:03} suspect 0 -\n")?.as_str())?;
@@ -165,7 +160,7 @@ fn want_of_memory_for_a_loop_is_answered_as_such(rt: HostRuntime) -> Result<(), 
         }
     };
     let other = loop_table(alloc, &dump, 1)?;
-    match looped(&rt, listener(&rt)?, table, other) {
+    match looped(&rt, local_listener(&rt)?, table, other) {
         Ok((text, equal)) => {
             assert_eq!(rt; text.as_slice(), "a alive 0 0/7f000001/7946//\n".as_bytes());
             assert!(rt; equal);
