@@ -1,28 +1,24 @@
 -- Why a file is refused for a loop, why an exchange is, and whether two tables are equal.
-use Rattle.std.proofs.Common.{◌≡◌, ◌≢◌, ◌↔◌, ℕ, ◌<◌, ◌≤◌, ◌⊎◌, inl, inr, false, List, [], ◌∷◌, length, refl, length-append, arith}
+use Rattle.std.proofs.Common.{◌≡◌, ◌≢◌, ◌↔◌, ℕ, ◌≤◌, ◌⊎◌, inl, inr, List, length, refl}
 use Rattle.std.specs.Prelude.{IsTrue}
-use Rattle.std.specs.List.{flat_map}
 use Rattle.swim_claim.specs.declared.claim.Claim.{Claim}
-use Rattle.swim_claim.specs.declared.claim.Claim.TheVariants.{Alive, Suspect, Confirm, Leave}
 use Rattle.swim_wire.specs.declared.fault.WireFault.{WireFault}
 use Rattle.swim_wire.specs.declared.fault.WireFault.TheVariants as wire
-use Rattle.swim_wire.specs.Canonical.{header_bytes, state_bytes}
 use denote.Enum.Bare.{sameb}
 use Rattle.swim_table.specs.contracts.table.Relation.{the_type}
 use Rattle.swim_table.specs.declared.table.Relation.{Relation}
 use Rattle.swim_table.specs.declared.table.Relation.TheVariants.{Equal, Behind, Ahead, Apart}
 use Rattle.swim_table.specs.Covering.{IsRelation}
 use Rattle.swim_table.specs.Join.{Below}
-use Rattle.swim_table.specs.Table.{Entries, Reduced, TableOf}
+use Rattle.swim_table.specs.Table.{Entries, TableOf}
 use Rattle.swim_table.proofs.Showing.{below_join, below_both}
 use Rattle.swim_table.proofs.Tables.{TableOf-Reduced, Join-itself}
 use Rattle.swim_sync.specs.declared.fault.SyncFault.{SyncFault}
 use Rattle.swim_sync.specs.declared.fault.SyncFault.TheVariants as sync
-use Rattle.swim_sync.specs.Exchanging.{HasTooMany}
 use Rattle.swimtab.specs.declared.report.What.{What}
 use Rattle.swimtab.specs.declared.report.What.TheVariants.{Memory}
 use Rattle.swimtab.specs.Files.{FileClaims}
-use Rattle.swimtab.specs.Looping.{FitsLoop, IsLoopRefused}
+use Rattle.swimtab.specs.Looping.{IsLoopRefused}
 use Rattle.swimtab.specs.Looping.IsLoopRefused.{no_stream, memory}
 use Rattle.swimtab.specs.Report.{what_of, what_of_sync}
 
