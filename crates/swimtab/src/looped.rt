@@ -98,8 +98,8 @@ pub fn looped(
 
 /// Exchanges two tables over a connection to the listener.
 ///
-/// Each side writes its whole dump before the other side reads it. Nobody waits for ever: a dump
-/// that fits a loop fits the buffers of the sockets.
+/// Each side writes its whole dump before the other side reads it. Nobody waits for ever, since a
+/// dump of at most 16,384 bytes fits the buffers of the sockets.
 fn exchange(
     rt: &HostRuntime,
     listener: &TcpListener,
