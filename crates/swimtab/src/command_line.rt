@@ -101,7 +101,10 @@ fn add_files<'a>(
 ) -> Result<Command<'a>, AllocError>
     ensures { IfOk result (λ whole. app_of whole ≡ beside (app_of command.entry) (files_command page.entry.name.now)) }
 {
-    let files = Arg::new(alloc, "FILE").required(true).num_args(1..);
+    let files = Arg::new(alloc, "FILE")
+        .help(help::FILE)
+        .required(true)
+        .num_args(1..);
     let added = Command::new(alloc, page.name)
         .about(page.about)
         .after_help(page.example)
@@ -118,6 +121,7 @@ fn add_pair<'a>(
     ensures { IfOk result (λ whole. app_of whole ≡ beside (app_of command.entry) (pair_command page.entry.name.now)) }
 {
     let pair = Arg::new(alloc, "FILE")
+        .help(help::FILE)
         .required(true)
         .value_names(PAIR.as_slice());
     let added = Command::new(alloc, page.name)

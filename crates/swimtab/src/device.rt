@@ -1,6 +1,7 @@
 //! Standard input to its bound, and standard output.
 
-ghost use Rattle.std.specs.Prelude.{◌+◌, ◌≤◌, length, IfOk};
+ghost use Rattle.std.specs.Prelude.{◌≤◌, length, IfOk};
+ghost use Rattle.std.specs.Io.KnownBytes.{Consumes, IsAtEnd};
 
 use crate::report::What;
 use std::alloc::Global;
@@ -19,14 +20,19 @@ const PIECE: usize = 65536;
 
 /// Reads to the end, and at most one byte past the bound, so that the length tells a longer input.
 /// An error, and the 1,001st interruption, is a device fault.
-pub fn read_to_bound<R: Read>(alloc: Global, reader: &mut R) -> Result<Vec<u8>, What> {
+pub fn read_to_bound<R: Read>(alloc: Global, reader: &mut R) -> Result<Vec<u8>, What>
+    // Of a reader that tells its bytes these are the next ones, and all that there are within the bound.
+    ensures reads { IfOk result (λ bytes. Consumes (R.remaining reader.old) (R.remaining reader.new) bytes.items) }
+    ensures whole { IfOk result (λ bytes. length bytes.items ≤ 268435456 → IsAtEnd (R.remaining reader.new)) }
+    ensures within { IfOk result (λ bytes. length bytes.items ≤ 268435457) }
+{
     let mut bytes = Vec::new(alloc);
     let mut piece = [0; PIECE];
     let mut interruptions = 0;
     while bytes.len() <= BOUND {
         let wanted = (BOUND + 1 - bytes.len()).min(PIECE);
         match reader.read(&mut piece[..wanted]) {
-            Ok(0) => break,
+            Ok(0) => return Ok(bytes),
             Ok(count) => bytes.extend_from_slice(&piece[..count])?,
             Err(error) => {
                 if !matches!(error.kind(), ErrorKind::Interrupted) || interruptions == RETRIES {

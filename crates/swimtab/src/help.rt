@@ -3,6 +3,8 @@
 /// The version of the program, and what it was proved with.
 pub(crate) static VERSION: &str = "0.1.0, proved with rattle-kit-13b, logic dac8208d650f15bf";
 
+pub(crate) static FILE: &str = "A dump: one push/pull stream of memberlist";
+
 pub(crate) static PROGRAM: &str = "\
 Without a command, the packets on standard input, in hexadecimal and one a line, are
 taken in, and the table is listed: a line for each member, 'name state inc home'.
