@@ -1,6 +1,8 @@
 mod Commands
+mod FewRecords
 mod FileByFile
 mod LineByLine
+mod Looping
 mod ScriptLines
 mod ScriptRun
 mod ScriptWords

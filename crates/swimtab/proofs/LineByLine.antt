@@ -1,12 +1,15 @@
 -- The claims of the lines, one line after the other.
-use Rattle.std.proofs.Common.{◌≡◌, ℕ, ◌+◌, ◌<◌, List, [], ◌∷◌, ◌++◌, length, map, get_or, Ok, Bor, refl, sym, ap, subst, ◌∙◌, append_assoc, append-nil, zero, suc, drop, arith}
+use Rattle.std.proofs.Common.{◌≡◌, ℕ, ◌+◌, ◌<◌, List, [], ◌∷◌, ◌++◌, length, map, get_or, Ok, Bor, refl, sym, ap, ap₂, subst, ◌∙◌, take, length-take-le, append_assoc, append-nil, zero, suc, drop, arith}
 use Rattle.std.specs.List.{enumerate_from}
 use Rattle.std.proofs.lemmas.List.FromFn.{length-enumerate_from, get_or-enumerate_from}
 use Rattle.hex.specs.Hex.{decode_of}
 use Rattle.swim_claim.specs.declared.claim.Claim.{Claim}
 use Rattle.swim_wire.specs.Packet.{PacketValue}
 use Rattle.swim_wire.specs.Texts.{DatagramText}
-use Rattle.swimtab.specs.Lines.{TextClaims, LineClaims, EachLine}
+use Rattle.std.proofs.Math.Seq.{split_at}
+use Rattle.swimtab.specs.declared.report.Place.{Place}
+use Rattle.swimtab.specs.declared.report.Place.TheVariants.{Line}
+use Rattle.swimtab.specs.Lines.{TextClaims, LineClaims, EachLine, IsFirstWrong, input_lines}
 
 -- the packets of the bytes of a text make its claims
 pub text_claims : (text bytes : List ℕ) (packets : List PacketValue) (claims : List Claim) → 0 < length text → decode_of text ≡ Ok bytes
@@ -54,3 +57,25 @@ no_claims_at lines n index line claims here none each =
     let same : line ≡ get_or lines n line = ap (λ p. p.1) (here.1 ∙ get_or-enumerate_from 0 lines n (index, line) within) in
     let own = EachLine-at lines n line claims within each in
     none own.0 (subst (λ l. LineClaims l own.0) (sym same) own.1)
+
+-- a line that makes no claims, after lines that make some
+pub first_wrong : (input : List ℕ) (before : List (List ℕ)) (n index : ℕ) (line : List ℕ) (claims : List Claim) (place : Place)
+    → before ≡ take n (input_lines input)
+    → (n < length (enumerate_from 0 (input_lines input))) × ((index, line) ≡ get_or (enumerate_from 0 (input_lines input)) n (index, line))
+    → EachLine before claims → ((own : List Claim) → ¬ LineClaims line own) → place ≡ Line (index + 1) → IsFirstWrong input place
+first_wrong input before n index line claims place front here each none named =
+    let lines = input_lines input in
+    let within : n < length lines = omega (arith, here.0, length-enumerate_from 0 lines) in
+    let at : (index, line) ≡ (0 + n, get_or lines n line) = here.1 ∙ get_or-enumerate_from 0 lines n (index, line) within in
+    let counted : index ≡ 0 + n = ap (λ (p : ℕ × List ℕ). p.0) at in
+    let many : length before ≡ n = ap length front ∙ length-take-le n lines (omega (arith, within)) in
+    record {
+      before = before;
+      line = line;
+      after = drop (suc n) lines;
+      lines = split_at lines n line within ∙ ap₂ (λ xs x. xs ++ x ∷ drop (suc n) lines) (sym front) (sym (ap (λ (p : ℕ × List ℕ). p.1) at));
+      claims = claims;
+      right = each;
+      wrong = none;
+      named = named ∙ ap Line (omega (arith, counted, many));
+    }

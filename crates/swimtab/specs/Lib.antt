@@ -1,6 +1,7 @@
 pub mod Chosen
 pub mod Files
 pub mod Lines
+pub mod Looping
 pub mod Replay
 pub mod Report
 pub mod Script

@@ -1,11 +1,13 @@
 -- The lines of an input, and the claims that they make.
-use Rattle.std.specs.Prelude.{◌≡◌, ℕ, List, [], ◌∷◌, ◌++◌, map, Ok, ◌==◌}
+use Rattle.std.specs.Prelude.{◌≡◌, ℕ, ◌+◌, List, [], ◌∷◌, ◌++◌, length, map, Ok, ◌==◌}
 use Rattle.std.specs.List.{slice_split}
 use Rattle.std.specs.Str.Lines.{strip_carriage_return}
 use Rattle.hex.specs.Hex.{decode_of}
 use Rattle.swim_claim.specs.declared.claim.Claim.{Claim}
 use Rattle.swim_wire.specs.Packet.{PacketValue}
 use Rattle.swim_wire.specs.Texts.{DatagramText}
+use Rattle.swimtab.specs.declared.report.Place.{Place}
+use Rattle.swimtab.specs.declared.report.Place.TheVariants.{Line}
 
 -- the lines between the line feeds
 abbrev pub input_lines : List ℕ → List (List ℕ)
@@ -31,3 +33,14 @@ EachLine (line ∷ lines) claims =
 -- the lines of the input make these claims
 abbrev pub PacketLines : List ℕ → List Claim → Type 0
 PacketLines input claims = EachLine (input_lines input) claims
+
+-- The place is the first line that makes no claims, counted from 1.
+pub record IsFirstWrong (input : List ℕ) (place : Place) : Type 0 where
+  pub before : List (List ℕ)
+  pub line : List ℕ
+  pub after : List (List ℕ)
+  pub lines : input_lines input ≡ before ++ line ∷ after
+  pub claims : List Claim
+  pub right : EachLine before claims
+  pub wrong : (own : List Claim) → ¬ LineClaims line own
+  pub named : place ≡ Line (length before + 1)

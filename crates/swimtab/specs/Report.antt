@@ -5,6 +5,8 @@ use Rattle.hex.specs.declared.error.FromHexError.TheVariants.{OutOfMemory}
 use Rattle.swim_wire.specs.declared.fault.WireFault.{WireFault}
 use Rattle.swim_wire.specs.declared.fault.WireFault.TheVariants as wire
 use Rattle.swim_wire.specs.Fault.{number_of}
+use Rattle.swim_sync.specs.declared.fault.SyncFault.{SyncFault}
+use Rattle.swim_sync.specs.declared.fault.SyncFault.TheVariants as sync
 use Rattle.swimtab.specs.declared.report.Place.{Place}
 use Rattle.swimtab.specs.declared.report.Place.TheVariants.{Line, File, Input, Output, Loop}
 use Rattle.swimtab.specs.declared.report.What.{What}
@@ -46,3 +48,10 @@ what_of wire.Fault = Device
 what_of (wire.WrongType found) = Refused 16 (Some found)
 what_of (wire.BadState found) = Refused 19 (Some found)
 what_of fault = Refused (number_of fault) None
+
+-- what is said of an exchange that is refused: an outlet that failed is a device
+abbrev pub what_of_sync : SyncFault → What
+what_of_sync (sync.Wire fault) = what_of fault
+what_of_sync sync.TooManyRecords = Refused 23 None
+what_of_sync sync.Push = Device
+what_of_sync sync.Memory = Memory

@@ -116,7 +116,7 @@ fn check_lengths(files: &[Vec<u8>]) -> Result<(), Report>
 }
 
 /// That a file is no longer than its bound.
-fn check_length(file: &[u8], place: usize) -> Result<(), Report>
+pub(crate) fn check_length(file: &[u8], place: usize) -> Result<(), Report>
     ensures short { OnOk result (length file.now ≤ 268435456) }
     ensures long { IfErr result (λ report. (268435456 < length file.now) × (report ≡ record { place = Place.File place; what = What.Refused 32 None })) }
 {
@@ -128,7 +128,7 @@ fn check_length(file: &[u8], place: usize) -> Result<(), Report>
 }
 
 /// The table of the claims of one file.
-fn read_file(alloc: Global, file: &[u8], place: usize) -> Result<Table, Report>
+pub(crate) fn read_file(alloc: Global, file: &[u8], place: usize) -> Result<Table, Report>
     ensures reads { IfOk result (λ table. (claims : List Claim) × FileClaims file.now claims × TableOf table claims) }
     ensures refuses { IfErr result (λ report. (report.what ≡ What.Memory)
         ⊎ (((claims : List Claim) → ¬ FileClaims file.now claims) × ((fault : WireFault) × (report.what ≡ what_of fault)))) }

@@ -4,7 +4,7 @@ ghost use Rattle.std.specs.Prelude.{◌≡◌, ◌≢◌, ◌↔◌, ◌<◌, �
 ghost use Rattle.swim_claim.specs.declared.claim.Claim.{Claim};
 ghost use Rattle.swim_table.specs.Listing.{listing};
 ghost use Rattle.swim_table.specs.Table.{Entries, TableOf};
-ghost use Rattle.swimtab.specs.Lines.{TextClaims, LineClaims, PacketLines};
+ghost use Rattle.swimtab.specs.Lines.{TextClaims, LineClaims, PacketLines, IsFirstWrong};
 ghost use Rattle.swimtab.specs.Report.{IsAmong};
 
 use crate::device::BOUND;
@@ -28,6 +28,8 @@ pub fn packets(alloc: Global, input: &[u8]) -> Result<Vec<u8>, Report>
 
     // Refused for another cause than memory and its length, the lines make no claims.
     ensures refuses { IfErr result (λ report. report.what ≢ What.Memory → length input.now ≤ 268435456 → (claims : List Claim) → ¬ PacketLines input.now claims) }
+    // And the report names the first line that makes none.
+    ensures line { IfErr result (λ report. report.what ≢ What.Memory → length input.now ≤ 268435456 → IsFirstWrong input.now report.place) }
     ensures long { (268435456 < length input.now) ↔ (result ≡ Err (record { place = Place.Input; what = What.Refused 32 None })) }
     ensures place { IfErr result (λ report. IsAmong report.place 0) }
 {

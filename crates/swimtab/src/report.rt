@@ -4,12 +4,12 @@ ghost use Rattle.std.specs.Prelude.{◌≡◌, None, length};
 ghost use Rattle.swim_claim.specs.Fault.{number_of};
 ghost use Rattle.swimtab.specs.declared.report.What.TheVariants.{Refused, Memory};
 ghost use Rattle.swimtab.specs.Replay.{what_of_why};
-ghost use Rattle.swimtab.specs.Report.{IsAmong, status_of, what_of, what_of_hex};
+ghost use Rattle.swimtab.specs.Report.{IsAmong, status_of, what_of, what_of_hex, what_of_sync};
 
 use hex::FromHexError;
 use std::alloc::{AllocError, Global};
 use swim_claim::ClaimFault;
-use swim_sync::Why;
+use swim_sync::{SyncFault, Why};
 use swim_wire::WireFault;
 
 /// Where a run was refused.
@@ -72,6 +72,13 @@ impl What {
         ensures { result ≡ Refused 23 None }
     {
         What::refused(23)
+    }
+
+    /// A table whose canonical dump is too long to be sent to this process itself.
+    pub(crate) fn too_large_for_loop() -> What
+        ensures { result ≡ Refused 28 None }
+    {
+        What::refused(28)
     }
 
     fn refused(number: u32) -> What
@@ -149,6 +156,20 @@ impl From<WireFault> for What {
                 found: Some(found),
             },
             _ => What::refused(fault.number()),
+        }
+    }
+}
+
+/// Why an exchange was refused.
+impl From<SyncFault> for What {
+    ghost from_gives = { λ fault what. what ≡ what_of_sync fault };
+
+    fn from(fault: SyncFault) -> What {
+        match fault {
+            SyncFault::Wire(fault) => What::from(fault),
+            SyncFault::TooManyRecords => What::too_many_records(),
+            SyncFault::Push => What::Device,
+            SyncFault::Memory => What::Memory,
         }
     }
 }

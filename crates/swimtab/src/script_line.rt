@@ -152,7 +152,7 @@ fn claims_of(alloc: Global, datagram: &[u8]) -> Result<Claims, What>
 fn two_numbers(fields: &[&[u8]]) -> Result<(usize, usize), What>
     ensures reads { IfOk result (λ nodes. TwoNumbers (map (λ word. word.now) fields.now) nodes.0 nodes.1) }
     ensures refuses { IfErr result (λ what. (j k : ℕ) → ¬ TwoNumbers (map (λ word. word.now) fields.now) j k) }
-    ensures kind { IfErr result IsOfReading }
+    ensures fault { IfErr result (λ what. what ≡ What.Refused 31 None) }
 {
     let [first, second] = fields else {
         return Err(What::bad_script());
@@ -164,7 +164,7 @@ fn two_numbers(fields: &[&[u8]]) -> Result<(usize, usize), What>
 fn one_number(fields: &[&[u8]]) -> Result<usize, What>
     ensures reads { IfOk result (OneNumber (map (λ word. word.now) fields.now)) }
     ensures refuses { IfErr result (λ what. (k : ℕ) → ¬ OneNumber (map (λ word. word.now) fields.now) k) }
-    ensures kind { IfErr result IsOfReading }
+    ensures fault { IfErr result (λ what. what ≡ What.Refused 31 None) }
 {
     let [node] = fields else {
         return Err(What::bad_script());
@@ -176,7 +176,7 @@ fn one_number(fields: &[&[u8]]) -> Result<usize, What>
 fn node_number(word: &[u8]) -> Result<usize, What>
     ensures reads { IfOk result (NodeNumber word.now) }
     ensures refuses { IfErr result (λ what. (k : ℕ) → ¬ NodeNumber word.now k) }
-    ensures kind { IfErr result IsOfReading }
+    ensures fault { IfErr result (λ what. what ≡ What.Refused 31 None) }
 {
     Ok(number_of(word, MOST_NODE)? as usize)
 }

@@ -23,7 +23,7 @@ const MOST_DIGITS: usize = 20;
 pub(crate) fn words_of(alloc: Global, line: &[u8]) -> Result<Vec<&[u8]>, What>
     ensures words { IfOk result (λ list. map (λ word. word.now) list.items ≡ words line.now) }
     ensures many { IfErr result (λ what. what ≢ What.Memory → 7 < length (words line.now)) }
-    ensures kind { IfErr result IsOfReading }
+    ensures fault { IfErr result (λ what. what ≢ What.Memory → what ≡ What.Refused 31 None) }
 {
     let words = line
         .split(|byte| *byte == b' ')
@@ -43,7 +43,7 @@ pub(crate) fn words_of(alloc: Global, line: &[u8]) -> Result<Vec<&[u8]>, What>
 pub(crate) fn number_of(word: &[u8], most: u64) -> Result<u64, What>
     ensures reads { IfOk result (Decimal most word.now) }
     ensures refuses { IfErr result (λ what. (n : ℕ) → ¬ Decimal most word.now n) }
-    ensures kind { IfErr result IsOfReading }
+    ensures fault { IfErr result (λ what. what ≡ What.Refused 31 None) }
 {
     // parse takes a plus, and a text of any length
     if word.len() > MOST_DIGITS || word.first() == Some(&b'+') {
@@ -66,7 +66,7 @@ pub(crate) fn number_of(word: &[u8], most: u64) -> Result<u64, What>
 pub(crate) fn bytes_of(alloc: Global, word: &[u8]) -> Result<Vec<u8>, What>
     ensures reads { IfOk result (λ bytes. HexBytes word.now bytes.items) }
     ensures refuses { IfErr result (λ what. what ≢ What.Memory → (bytes : List ℕ) → ¬ HexBytes word.now bytes) }
-    ensures kind { IfErr result IsOfReading }
+    ensures fault { IfErr result (λ what. what ≢ What.Memory → what ≡ What.Refused 30 None) }
 {
     match word {
         b"-" => Ok(Vec::new(alloc)),

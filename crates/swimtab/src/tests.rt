@@ -3,6 +3,7 @@
 ghost use Rattle.swimtab.specs.Report.{IsAmong};
 
 mod dumps;
+mod looping;
 mod replays;
 mod scripts;
 mod spellings;

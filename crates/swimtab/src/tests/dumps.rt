@@ -10,11 +10,11 @@ use swim_claim::{Claim, Name};
 use swim_table::{Relation, Table, encode};
 
 /// An Alive of `a`.
-const P: &str =
+pub(crate) const P: &str =
     "0683a44a6f696ec2a54e6f64657301ac5573657253746174654c656e0087a441646472a47f000001ab496e6361726e6174696f6e00a44d657461a0a44e616d65a161a4506f7274cd1f0aa5537461746500a356736ea0";
 
 /// A Suspect of `b`.
-const Q: &str =
+pub(crate) const Q: &str =
     "0683a44a6f696ec2a54e6f64657301ac5573657253746174654c656e0087a441646472a0ab496e6361726e6174696f6e01a44d657461a0a44e616d65a162a4506f727400a5537461746501a356736ea0";
 
 /// Both.
@@ -113,14 +113,20 @@ fn assert_refused(
     Ok(())
 }
 
+/// Takes in a Suspect of this name.
+pub(crate) fn suspect(rt: &impl Abort, table: &mut Table, name: Vec<u8>) -> Result<(), Fail> {
+    let name = Name::new(name).expect(rt, "a legal name");
+    match table.take(Claim::Suspect { name, inc: 0 }) {
+        Ok(_) => Ok(()),
+        Err(_) => Err(Fail::from(AllocError)),
+    }
+}
+
 /// The dump of so many suspected members, from a first number on.
 fn suspects(rt: &impl Abort, alloc: Global, from: u32, count: u32) -> Result<Vec<u8>, Fail> {
     let mut table = Table::new(alloc);
     for i in from..from.saturating_add(count) {
-        let name = Name::new(i.to_be_bytes().to_vec(alloc)?).expect(rt, "a legal name");
-        if table.take(Claim::Suspect { name, inc: 0 }).is_err() {
-            return Err(Fail::from(AllocError));
-        }
+        suspect(rt, &mut table, i.to_be_bytes().to_vec(alloc)?)?;
     }
     Ok(encode(alloc, &table, false)?)
 }

@@ -1,0 +1,137 @@
+//! Two tables that are exchanged over one connection, in one process.
+
+ghost use Rattle.std.specs.Prelude.{◌≡◌, ◌↔◌, ◌<◌, ◌≤◌, List, length, None, IfOk, IfErr, OnOk};
+ghost use Rattle.swim_claim.specs.declared.claim.Claim.{Claim};
+ghost use Rattle.swim_wire.specs.declared.fault.WireFault.{WireFault};
+ghost use Rattle.swimtab.specs.Looping.{FitsLoop, IsLoopTable, IsLoopRefused, TakesIn, IsLooped, IsLoopStopped};
+ghost use Rattle.swimtab.specs.Report.{IsAmong, what_of};
+
+use crate::dumps::{check_length, read_file};
+use crate::report::{Place, Report, What};
+use std::alloc::{AllocError, Global};
+use std::io;
+use std::net::{Ipv4Addr, TcpListener, TcpStream};
+use swim_pack::{FromRead, ToWrite};
+use swim_sync::{answer, finish, offer};
+use swim_table::{EncodeFault, Relation, Table, encode, list, relation};
+
+/// The most bytes of a canonical dump that is sent over a connection to this process itself.
+const MOST_BYTES: usize = 16_384;
+
+/// The table of a dump for [`looped`]: a file that is one push/pull stream, and whose table has a
+/// canonical dump of at most 16,384 bytes.
+///
+/// A report names the file by its place, and says one of these. TooManyRecords never comes, since one
+/// stream has at most 131,072 records.
+///
+/// - InputTooLong exactly where the file has more than 268,435,456 bytes (own).
+/// - The fault of the stream where the file is none.
+/// - TooLargeForLoop only where the table's canonical dump has more than 16,384 bytes, whatever the
+///   length of the file (own).
+/// - Want of memory.
+pub fn loop_table(alloc: Global, dump: &[u8], file: usize) -> Result<Table, Report>
+    // The table is that of the file's claims, and can be sent.
+    ensures reads { IfOk result (IsLoopTable dump.now) }
+
+    ensures refuses { IfErr result (λ report. IsLoopRefused dump.now report.what) }
+    ensures long { (268435456 < length dump.now) ↔ (result ≡ Err (record { place = Place.File file; what = What.Refused 32 None })) }
+    ensures place { IfErr result (λ report. report.place ≡ Place.File file) }
+{
+    check_length(dump, file)?;
+    let table = read_file(alloc, dump, file)?;
+    let what = match encode(alloc, &table, false) {
+        Ok(bytes) if bytes.len() <= MOST_BYTES => return Ok(table),
+        Ok(_) => What::too_large_for_loop(),
+        // one stream has no more records than a dump
+        Err(EncodeFault::TooManyRecords) => unreachable!(),
+        Err(EncodeFault::Memory) => What::Memory,
+    };
+    Err(what.at(Place::File(file)))
+}
+
+/// A listener for [`looped`], on this machine alone and on a port that the system picks. Where there
+/// is none, that is a device fault at the loop.
+pub fn local_listener(rt: &HostRuntime) -> Result<TcpListener, Report>
+    ensures { IfErr result (λ report. report ≡ record { place = Place.Loop; what = What.Device }) }
+{
+    match TcpListener::bind(rt, (Ipv4Addr::LOCALHOST, 0)) {
+        Ok(listener) => Ok(listener),
+        Err(_) => Err(What::Device.at(Place::Loop)),
+    }
+}
+
+/// Exchanges two tables over a connection to the listener and lists the first one, with whether both
+/// ended equal. The first table offers, the second answers, and the first finishes, as memberlist's
+/// push/pull does (`net.go`).
+///
+/// The connection is the one that the listener gives next: with another one before it the members
+/// are not connected to each other.
+///
+/// A report says, at the loop, that the listener cannot be connected to or gives no connection, that
+/// the connection failed (all of these a device fault), or with which fault no stream came over it;
+/// and at the output that there is no memory for the listing. TooManyRecords never comes.
+pub fn looped(
+    rt: &HostRuntime,
+    listener: TcpListener,
+    first: Table,
+    second: Table,
+) -> Result<(Vec<u8>, bool), Report>
+    requires first { FitsLoop first }
+    requires second { FitsLoop second }
+
+    // A socket does not tell its bytes: some claims came to each table, and neither lost any.
+    ensures loops { IfOk result (λ ended. IsLooped first second ended.0.items ended.1) }
+
+    ensures stops { IfErr result IsLoopStopped }
+    ensures place { IfErr result (λ report. IsAmong report.place 0) }
+{
+    let mut first = first;
+    let mut second = second;
+    if let Err(what) = exchange(rt, &listener, &mut first, &mut second) {
+        return Err(what.at(Place::Loop));
+    }
+    match list(rt.alloc(), &first) {
+        Ok(text) => Ok((text, relation(&first, &second) == Relation::Equal)),
+        Err(AllocError) => Err(What::Memory.at(Place::Output)),
+    }
+}
+
+/// Exchanges two tables over a connection to the listener.
+///
+/// Each side writes its whole dump before the other side reads it. Nobody waits for ever, since a
+/// dump of at most 16,384 bytes fits the buffers of the sockets.
+fn exchange(
+    rt: &HostRuntime,
+    listener: &TcpListener,
+    first: &mut Table,
+    second: &mut Table,
+) -> Result<(), What>
+    requires first { FitsLoop first.old }
+    requires second { FitsLoop second.old }
+    ensures first { OnOk result ((claims : List Claim) × TakesIn first.old first.new claims) }
+    ensures second { OnOk result ((claims : List Claim) × TakesIn second.old second.new claims) }
+    ensures stops { IfErr result (λ what. (fault : WireFault) × (what ≡ what_of fault)) }
+{
+    let alloc = rt.alloc();
+    let (near, far) = match connect(rt, listener) {
+        Ok(ends) => ends,
+        Err(_) => return Err(What::Device),
+    };
+    offer(alloc, &mut ToWrite::new(&near), first, false)?;
+    answer(
+        alloc,
+        &mut FromRead::new(&far),
+        &mut ToWrite::new(&far),
+        second,
+    )?;
+    finish(alloc, &mut FromRead::new(&near), first)?;
+    Ok(())
+}
+
+/// Both ends of a connection to the listener: the one that connects, and the one that the listener
+/// gives next.
+fn connect(rt: &HostRuntime, listener: &TcpListener) -> io::Result<(TcpStream, TcpStream)> {
+    let near = TcpStream::connect(rt, listener.local_addr()?)?;
+    let (far, _) = listener.accept()?;
+    Ok((near, far))
+}
