@@ -2,7 +2,7 @@
 # shellcheck shell=sh disable=SC2154,SC3045
 
 # Files that cannot be read.
-for verb in list merge relate; do
+for verb in list merge relate loop; do
     run $verb missing.bin p.bin
     refuses "$verb: the first file is missing" 4 'swimtab: missing.bin: device fault'
     run $verb p.bin missing.bin
@@ -109,6 +109,7 @@ output_fails list p.bin q.bin
 output_fails merge p.bin q.bin
 output_fails relate p.bin p.bin
 output_fails relate p.bin r.bin
+output_fails loop p.bin q.bin
 printf 'node a 7f000001 7946 - - 0\n' > packets.hex
 output_fails run
 
@@ -176,7 +177,7 @@ small() {
     (ulimit -v 100000 && timeout 120 "$program" "$@" > out 2> err)
     status=$?
 }
-for verb in list merge relate; do
+for verb in list merge relate loop; do
     small $verb p.bin bound.bin
     refuses "$verb: there is no memory" 5 'swimtab: out of memory'
 done

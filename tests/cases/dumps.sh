@@ -25,7 +25,7 @@ merges() {
     prints_file "$case_name" "$merged"
 }
 
-# refused FAULT HEX: a dump of these bytes is refused so by list and merge, and by relate in each place.
+# refused FAULT HEX: a dump of these bytes is refused so by list and merge, and by relate and loop in each place.
 refused() {
     bytes "$2" > bad.bin
     text="swimtab: bad.bin: fault $1"
@@ -33,10 +33,12 @@ refused() {
     refuses "list $2" 3 "$text"
     run merge bad.bin
     refuses "merge $2" 3 "$text"
-    run relate bad.bin p.bin
-    refuses "relate $2 p" 3 "$text"
-    run relate p.bin bad.bin
-    refuses "relate p $2" 3 "$text"
+    for verb in relate loop; do
+        run $verb bad.bin p.bin
+        refuses "$verb $2 p" 3 "$text"
+        run $verb p.bin bad.bin
+        refuses "$verb p $2" 3 "$text"
+    done
 }
 
 lists_files 'list p' p.bin -- "$line_a"
@@ -121,7 +123,7 @@ run list cut.bin p.bin
 refuses 'list: the first file is faulty' 3 'swimtab: cut.bin: fault 1 Ended'
 run merge p.bin q.bin cut.bin c.bin
 refuses 'merge: the third file is faulty' 3 'swimtab: cut.bin: fault 1 Ended'
-for verb in list merge relate; do
+for verb in list merge relate loop; do
     run $verb p.bin long.bin
     refuses "$verb: the second file is too long by a byte" 3 'swimtab: long.bin: fault 22 Trailing'
     run $verb cut.bin long.bin

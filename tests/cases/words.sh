@@ -1,10 +1,10 @@
 # The words after the program's name.
 # shellcheck shell=sh disable=SC2154
 
-commands='list merge relate run'
+commands='list merge relate loop run'
 
 # Help and the version are on standard error, with status 2.
-for words in --help -h --version -V 'list --help' 'list -h' 'merge --help' 'relate --help' 'run --help' 'list p.bin --help' '--help list'; do
+for words in --help -h --version -V 'list --help' 'list -h' 'merge --help' 'relate --help' 'loop --help' 'loop -h' 'run --help' 'list p.bin --help' '--help list'; do
     # shellcheck disable=SC2086
     feed "$alive_a" $words
     explains "swimtab $words"
@@ -19,9 +19,10 @@ for command in $commands; do
 done
 
 # Words that ask for nothing.
-for words in swap help LIST lis 'help list' p.bin -x --foo '-- swap' 'swap p.bin' list merge relate 'list --' \
-    'relate p.bin' 'relate p.bin q.bin r.bin' 'list --foo p.bin' 'list p.bin --foo' 'list -x.bin' 'merge -x p.bin' \
-    'relate -x p.bin' '--foo list p.bin' 'run p.bin' 'run --foo'; do
+for words in swap help LIST lis 'help list' p.bin -x --foo '-- swap' 'swap p.bin' list merge relate loop 'list --' \
+    'relate p.bin' 'relate p.bin q.bin r.bin' 'loop p.bin' 'loop p.bin q.bin r.bin' 'list --foo p.bin' \
+    'list p.bin --foo' 'list -x.bin' 'merge -x p.bin' 'relate -x p.bin' 'loop -x p.bin' 'loop p.bin q.bin --foo' \
+    '--foo list p.bin' 'run p.bin' 'run --foo'; do
     # shellcheck disable=SC2086
     feed "$alive_a" $words
     explains "swimtab $words"
@@ -51,6 +52,8 @@ run list ./-x.bin
 prints 'a file whose name begins with -, by its path' 0 "$line_a"
 run relate -- -x.bin merge
 prints 'relate with --' 1 behind
+run loop -- -x.bin q.bin
+prints 'loop with --' 0 "$line_a" "$line_b"
 run merge -- -x.bin -
 prints_file 'merge with --' r.bin
 run list -
