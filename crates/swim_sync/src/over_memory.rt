@@ -2,7 +2,7 @@
 
 ghost use Rattle.std.specs.Prelude.{◌≡◌, ◌⊎◌, ◌++◌, List, IfOk, IfErr, OnOk, OnErr};
 ghost use Rattle.swim_claim.specs.declared.claim.Claim.{Claim};
-ghost use Rattle.swim_table.specs.Table.{Entries, TableOf, IsLegalTable};
+ghost use Rattle.swim_table.specs.Table.{Entries, TableOf};
 ghost use Rattle.swim_sync.specs.Exchanging.{HasTooMany};
 ghost use Rattle.swim_sync.specs.OverMemory.{IsOffer, TakesTable, Hinders};
 

@@ -1,6 +1,6 @@
 //! Datagrams: one packet each, or a compound packet of several.
 
-ghost use Rattle.std.specs.Prelude.{◌≡◌, ◌≢◌, ◌++◌, [], List, IfOk, IfErr, OnOk, OnErr};
+ghost use Rattle.std.specs.Prelude.{◌≢◌, [], List, IfOk, IfErr};
 ghost use Rattle.swim_wire.specs.Datagrams.{alone, packets_of, parts_at, compound_at, whole_datagram, ExplainsDatagram};
 ghost use Rattle.swim_wire.specs.Packet.{PacketValue};
 ghost use Rattle.swim_wire.specs.Reading.{nothing_after, whole_packet};

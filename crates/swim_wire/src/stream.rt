@@ -1,6 +1,6 @@
 //! The parts of a push/pull stream: its header, its state records and its user state.
 
-ghost use Rattle.std.specs.Prelude.{◌≡◌, ℕ, List, ◌≤◌, if◌then◌else◌, ◌==◌, IfOk, IfErr, IsErrOf};
+ghost use Rattle.std.specs.Prelude.{◌≤◌, if◌then◌else◌, ◌==◌, IfOk, IfErr, IsErrOf};
 ghost use Rattle.swim_claim.specs.declared.claim.Claim.{Claim};
 ghost use Rattle.swim_pack.specs.Ends.{Takes, Lacks};
 ghost use Rattle.swim_pack.specs.Composing.{ReadsAs, UnlessFailed, same, refuses};

@@ -1,13 +1,13 @@
 //! Dumps in files: their listing, their join, and how two of them relate.
 
-ghost use Rattle.std.specs.Prelude.{◌≡◌, ◌⊎◌, ◌<◌, ◌≤◌, ◌∷◌, [], false, List, map, length, IfOk, IfErr, OnOk, OnErr};
+ghost use Rattle.std.specs.Prelude.{◌≡◌, ◌⊎◌, ◌<◌, ◌≤◌, ◌∷◌, [], false, List, map, length, IfOk, IfErr, OnOk};
 ghost use Rattle.swim_claim.specs.declared.claim.Claim.{Claim};
 ghost use Rattle.swim_wire.specs.declared.fault.WireFault.{WireFault};
 ghost use Rattle.swim_table.specs.Covering.{IsRelation};
 ghost use Rattle.swim_table.specs.Dump.{dump_bytes};
 ghost use Rattle.swim_table.specs.Listing.{listing};
 ghost use Rattle.swim_table.specs.Table.{Entries, TableOf};
-ghost use Rattle.swimtab.specs.Files.{FileClaims, FilesClaims, AreShort, IsFirstLong, AreRefused, HaveTooMany};
+ghost use Rattle.swimtab.specs.Files.{FileClaims, FilesClaims, AreShort, AreRefused, HaveTooMany};
 ghost use Rattle.swimtab.specs.Report.{IsAmong, what_of};
 
 use crate::device::BOUND;

@@ -1,6 +1,6 @@
 //! Two tables that are exchanged over one connection, in one process.
 
-ghost use Rattle.std.specs.Prelude.{◌≡◌, ◌↔◌, ◌<◌, ◌≤◌, List, length, None, IfOk, IfErr, OnOk};
+ghost use Rattle.std.specs.Prelude.{◌≡◌, ◌↔◌, ◌<◌, List, length, None, IfOk, IfErr, OnOk};
 ghost use Rattle.swim_claim.specs.declared.claim.Claim.{Claim};
 ghost use Rattle.swim_wire.specs.declared.fault.WireFault.{WireFault};
 ghost use Rattle.swimtab.specs.Looping.{FitsLoop, IsLoopTable, IsLoopRefused, TakesIn, IsLooped, IsLoopStopped};

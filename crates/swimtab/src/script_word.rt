@@ -2,7 +2,6 @@
 
 ghost use Rattle.std.specs.Prelude.{◌≡◌, ◌≢◌, ◌<◌, ℕ, List, length, map, IfOk, IfErr};
 ghost use Rattle.percent_encoding.specs.Percent.{percent_decode};
-ghost use Rattle.swimtab.specs.Report.{IsOfReading};
 ghost use Rattle.swimtab.specs.Script.{Decimal, HexBytes, words};
 
 use crate::report::What;
