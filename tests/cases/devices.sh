@@ -1,4 +1,4 @@
-# Files, standard input, standard output and memory that fail, end early or come in pieces.
+# Files, sockets, standard input, standard output and memory that fail, end early or come in pieces.
 # shellcheck shell=sh disable=SC2154,SC3045
 
 # Files that cannot be read.
@@ -55,6 +55,16 @@ prints 'list does without standard input' 0 "$line_a" "$line_b"
 timeout 120 "$program" relate q.bin r.bin < / > out 2> err
 status=$?
 prints 'relate does without standard input' 1 behind
+timeout 120 "$program" loop p.bin q.bin <&- > out 2> err
+status=$?
+prints 'loop does without standard input' 0 "$line_a" "$line_b"
+
+# Sockets that are refused: the connection, or its other end, since no more files may be open.
+for limit in 4 5; do
+    (ulimit -n $limit && timeout 120 "$program" loop p.bin q.bin) > out 2> err 3>&- 4>&-
+    status=$?
+    refuses "loop: a socket is refused, with $limit open files" 4 'swimtab: loop: device fault'
+done
 
 # Standard input in pieces.
 {
