@@ -64,12 +64,13 @@ pub fn local_listener(rt: &HostRuntime) -> Result<TcpListener, Report>
 /// ended equal. The first table offers, the second answers, and the first finishes, as memberlist's
 /// push/pull does (`net.go`).
 ///
-/// The connection is the one that the listener gives next: with another one before it the members
-/// are not connected to each other.
+/// The condition is that each table's canonical dump has at most 16,384 bytes (own). The second table
+/// answers on the connection that the listener gives next: where another one was made before, that
+/// one.
 ///
-/// A report says, at the loop, that the listener cannot be connected to or gives no connection, that
-/// the connection failed (all of these a device fault), or with which fault no stream came over it;
-/// and at the output that there is no memory for the listing. TooManyRecords never comes.
+/// A report says, at the loop, that there was no connection or that it failed (a device fault), with
+/// which fault no stream came over it, or that memory was refused; and at the output that there was
+/// no memory for the listing. TooManyRecords never comes.
 pub fn looped(
     rt: &HostRuntime,
     listener: TcpListener,

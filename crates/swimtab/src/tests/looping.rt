@@ -75,7 +75,7 @@ fn two_tables_end_equal(rt: HostRuntime) -> Result<(), Fail> {
 }
 
 #[test]
-fn the_first_table_offers_to_who_connected_before(rt: HostRuntime) -> Result<(), Fail> {
+fn the_second_table_answers_who_connected_before(rt: HostRuntime) -> Result<(), Fail> {
     let alloc = rt.alloc();
     let first = loop_table(alloc, &hex::decode(alloc, P)?, 0)?;
     let second = loop_table(alloc, &hex::decode(alloc, Q)?, 1)?;
