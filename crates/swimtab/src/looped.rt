@@ -11,12 +11,16 @@ use crate::report::{Place, Report, What};
 use std::alloc::{AllocError, Global};
 use std::io;
 use std::net::{Ipv4Addr, TcpListener, TcpStream};
+use std::time::Duration;
 use swim_pack::{FromRead, ToWrite};
 use swim_sync::{answer, finish, offer};
 use swim_table::{EncodeFault, Relation, Table, encode, list, relation};
 
 /// The most bytes of a canonical dump that is sent over a connection to this process itself.
 const MOST_BYTES: usize = 16_384;
+
+/// How many seconds one read or write over the connection waits.
+const PATIENCE: u64 = 10;
 
 /// The table of a dump for [`looped`]: a file that is one push/pull stream, and whose table has a
 /// canonical dump of at most 16,384 bytes.
@@ -68,9 +72,9 @@ pub fn local_listener(rt: &HostRuntime) -> Result<TcpListener, Report>
 /// answers on the connection that the listener gives next: where another one was made before, that
 /// one.
 ///
-/// A report says, at the loop, that there was no connection or that it failed (a device fault), with
-/// which fault no stream came over it, or that memory was refused; and at the output that there was
-/// no memory for the listing. TooManyRecords never comes.
+/// A report says, at the loop, that there was no connection, that it failed or kept silent for 10
+/// seconds (both a device fault), with which fault no stream came over it, or that memory was refused;
+/// and at the output that there was no memory for the listing. TooManyRecords never comes.
 pub fn looped(
     rt: &HostRuntime,
     listener: TcpListener,
@@ -99,8 +103,9 @@ pub fn looped(
 
 /// Exchanges two tables over a connection to the listener.
 ///
-/// Each side writes its whole dump before the other side reads it. Nobody waits for ever, since a
-/// dump of at most 16,384 bytes fits the buffers of the sockets.
+/// Each side writes its whole dump before the other side reads it. Nobody waits, since a dump of at
+/// most 16,384 bytes fits the buffers of the sockets; but where the listener gives the connection of
+/// a stranger, it may keep silent.
 fn exchange(
     rt: &HostRuntime,
     listener: &TcpListener,
@@ -134,5 +139,10 @@ fn exchange(
 fn connect(rt: &HostRuntime, listener: &TcpListener) -> io::Result<(TcpStream, TcpStream)> {
     let near = TcpStream::connect(rt, listener.local_addr()?)?;
     let (far, _) = listener.accept()?;
+    let patience = Some(Duration::from_secs(PATIENCE));
+    for end in [&near, &far] {
+        end.set_read_timeout(patience)?;
+        end.set_write_timeout(patience)?;
+    }
     Ok((near, far))
 }
