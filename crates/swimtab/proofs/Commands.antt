@@ -1,5 +1,5 @@
 -- The commands that `clap` is given.
-use Rattle.std.proofs.Common.{◌≡◌, ◌⊎◌, ◌∙◌, inl, inr, Bool, true, false, List, [], ◌∷◌, Option, Some, None, refl, ap, map, codes, sym}
+use Rattle.std.proofs.Common.{◌≡◌, ◌⊎◌, ◌∙◌, inl, inr, Bool, true, false, List, [], ◌∷◌, Option, Some, None, refl, ap, map, codes, subst, sym}
 use Rattle.std.specs.Prelude.{◌≢◌, find, option_map, unwrap_or, Box}
 use Rattle.std.specs.Box.{box_value}
 use Rattle.std.specs.Option.{IsSomeAnd}
@@ -7,12 +7,18 @@ use Rattle.clap.specs.Matches.{subcommand_name_of}
 use Rattle.clap.specs.Simple.{argument_words, built, entered, label_of, names_of, rows_at}
 use Rattle.clap.specs.Walk.{all_of, answers_to, stop_after}
 use Rattle.clap.specs.declared.parser.matches.SubCommand.{SubCommand}
-use Rattle.clap.specs.Words.{Row, Shape, Text, is_simple, subcommand_of, subcommand_rows, subcommand_rows_of}
+use Rattle.clap.specs.Words.{Row, Shape, Text, is_simple, is_simple_and_free, subcommand_of, subcommand_rows, subcommand_rows_of}
 use Rattle.clap.specs.declared.parser.matches.ArgMatches.{ArgMatches}
 use Rattle.clap.specs.declared.parser.matches.ArgMatches.TheViews.{out-ArgMatches, out-SubCommand}
 use Rattle.clap.proofs.OnLiterals.{clap_on_literals}
+use Rattle.clap.specs.Kinds.{HasKind, IsAmong, Kinds}
+use Rattle.clap.specs.Values.{kind_of}
+use Rattle.clap.specs.declared.error.Error.{Error}
+use Rattle.clap.specs.declared.error.kind.ErrorKind.TheVariants.{OutOfMemory}
 use Rattle.swimtab.specs.Chosen.{Choice}
-use Rattle.swimtab.specs.Words.{AsksFor, program, verb_of}
+use Rattle.swimtab.specs.declared.verb.WordFault.{WordFault}
+use Rattle.swimtab.specs.declared.verb.WordFault.TheVariants as fault
+use Rattle.swimtab.specs.Words.{AsksFor, IsFaultOf, IsRefusal, program, verb_of}
 
 pub some_of : {T : Type 0} (o : Option T) (x : T) → IsSomeAnd o (λ y. y ≡ x) → o ≡ Some x
 some_of None x h = absurd h
@@ -22,6 +28,20 @@ some_of (Some y) x h = ap Some h
 pub program_is_simple : is_simple program ≡ true
 unfolding clap_on_literals
 program_is_simple = refl
+
+-- and of those of which it gives the faults
+pub program_is_free : is_simple_and_free program ≡ true
+unfolding clap_on_literals
+program_is_free = refl
+
+pub memory_of : (error : Error) (f : WordFault) → IsFaultOf error f → kind_of error ≡ OutOfMemory → f ≡ fault.Memory
+memory_of error (fault.Words other) h oom = absurd (h.1 oom)
+memory_of error fault.Memory h oom = refl
+
+pub refusal : (error : Error) (f : WordFault) (kinds : Kinds) → IsFaultOf error f → HasKind kinds error → IsRefusal kinds f
+refusal error (fault.Words other) kinds h (inl oom) = absurd (h.1 oom)
+refusal error (fault.Words other) kinds h (inr among) = subst (λ e. IsAmong (kind_of e) kinds) (sym h.0) among
+refusal error fault.Memory kinds h either = tt
 
 abbrev IsIn : List Text → Text → Type 0
 IsIn [] n = ⊥

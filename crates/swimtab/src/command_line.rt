@@ -1,9 +1,9 @@
 //! The words after the program's name.
 
 ghost use Rattle.std.specs.Prelude.{◌≡◌, true, [], codes, map, string_bytes, unwrap_or, IfOk, IfErr};
-ghost use Rattle.clap.specs.Words.{app_of, found_of, rows_of, takes, subcommand_of, new_app};
+ghost use Rattle.clap.specs.Words.{app_of, fault_of, found_of, rows_of, takes, subcommand_of, new_app};
 ghost use Rattle.clap.specs.Walk.{all_of};
-ghost use Rattle.swimtab.specs.Words.{program, bare, beside, files_command, pair_command, AsksFor};
+ghost use Rattle.swimtab.specs.Words.{program, bare, IsRefusal, beside, files_command, pair_command, AsksFor};
 
 use crate::help;
 use crate::verb::{Chosen, Verb, WordFault};
@@ -24,6 +24,9 @@ static PAIR: [&str; 2] = ["A", "B"];
 pub fn chosen(alloc: Global, words: &[String]) -> Result<Chosen, WordFault>
     // The verb and the files are those of the command that clap finds in the words.
     ensures asks { IfOk result (AsksFor (subcommand_of program (map string_bytes words.now))) }
+    // They are taken only where clap finds no fault in them, and refused by a fault that it finds.
+    ensures faultless { IfOk result (λ _. fault_of program (map string_bytes words.now) ≡ []) }
+    ensures faulty { IfErr result (IsRefusal (fault_of program (map string_bytes words.now))) }
     // Words that clap takes are refused for want of memory alone.
     ensures takes { IfErr result (λ fault. takes program (map string_bytes words.now) ≡ true → fault ≡ WordFault.Memory) }
 {

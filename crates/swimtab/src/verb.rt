@@ -1,10 +1,8 @@
 //! What the words of a command line ask for.
 
 ghost use Rattle.std.specs.Prelude.{◌≡◌, map, string_bytes};
-ghost use Rattle.clap.specs.Words.{kind_of};
-ghost use Rattle.clap.specs.declared.error.kind.ErrorKind.TheVariants.{OutOfMemory};
 ghost use Rattle.swimtab.specs.declared.verb.WordFault.TheVariants as words;
-ghost use Rattle.swimtab.specs.Words.{verb_of};
+ghost use Rattle.swimtab.specs.Words.{IsFaultOf, verb_of};
 
 use clap::error::ErrorKind;
 use std::alloc::AllocError;
@@ -91,7 +89,7 @@ pub enum WordFault {
 }
 
 impl From<clap::Error> for WordFault {
-    ghost from_gives = { λ error fault. kind_of error ≡ OutOfMemory → fault ≡ words.Memory };
+    ghost from_gives = { λ error fault. IsFaultOf error fault };
 
     fn from(error: clap::Error) -> WordFault {
         match error.kind() {
