@@ -1,5 +1,5 @@
 -- Runs of the events of a script, and what is shown of the nodes.
-use Rattle.std.proofs.Common.{◌≡◌, ℕ, zero, suc, ◌+◌, ◌<◌, Option, Some, None, List, [], ◌∷◌, ◌++◌, length, map, take, get_or, refl, sym, ap, subst, ◌∙◌, arith, length-append, append-nil}
+use Rattle.std.proofs.Common.{◌≡◌, ◌≢◌, ℕ, zero, suc, ◌+◌, ◌<◌, Option, Some, None, List, [], ◌∷◌, ◌++◌, length, map, take, get_or, refl, sym, ap, subst, ◌∙◌, arith, length-append, append-nil}
 use Rattle.std.specs.Prelude.{slice_get}
 use Rattle.std.proofs.Math.Seq.{take-append-add}
 use Rattle.std.proofs.lemmas.List.{append_assoc, take_more, take-append-le, length-take-le}
@@ -18,7 +18,8 @@ use Rattle.swim_sync.specs.Levels.{level_list}
 use Rattle.swim_sync.proofs.Levelled.{length-ran}
 use Rattle.swim_sync.proofs.Levelling.{get-front, get-back}
 use Rattle.swimtab.specs.declared.report.What.{What}
-use Rattle.swimtab.specs.Replay.{node_line, shown_from, EachTable, heard_after, Replays, Refuses, RefusedEvent, StopsSo, what_of_why}
+use Rattle.swimtab.specs.declared.report.What.TheVariants.{Memory}
+use Rattle.swimtab.specs.Replay.{IsOfEvent, node_line, shown_from, EachTable, heard_after, Replays, Refuses, RefusedEvent, StopsSo, what_of_why}
 use Rattle.swimtab.specs.ScriptReading.{plan_events}
 use Rattle.swimtab.specs.Script.{Start, Script, AreStarted, member_of, start_claims}
 
@@ -152,6 +153,13 @@ refuses_so new lists event why.TooManyRecords h stops = (
   λ same. (stops.2.0, stops.2.1.table, stops.2.2, h.each stops.2.0 stops.2.1 stops.2.3, stops.2.4),
 )
 refuses_so new lists event why.Memory h stops = tt
+
+-- a stop for another cause than memory is the fault of an event
+pub why_of_event : (cause : Why) → what_of_why cause ≢ Memory → IsOfEvent (what_of_why cause)
+why_of_event why.NoSuchNode other = refl
+why_of_event why.SameNode other = refl
+why_of_event why.TooManyRecords other = refl
+why_of_event why.Memory other = absurd (other refl)
 
 pub refused_event : (input : List ℕ) (nodes : List NodeValue) (starts : List Start) (events : List Event) (what : What) → AreStarted nodes starts → Script input starts events → StopsSo nodes events what
     → RefusedEvent input what

@@ -14,8 +14,10 @@ use Rattle.swim_sync.specs.Levels.{level_list}
 use Rattle.swim_table.specs.Node.{NodeValue}
 use Rattle.swimtab.specs.declared.script.Plan.{Plan}
 use Rattle.swimtab.specs.declared.script_line.Line.TheVariants as line
-use Rattle.swimtab.specs.Script.{Start, IsStarted, AreStarted, NodeWords, EventWords, LevelWords, NodeLines, EventLines, LastLine, Script, not_empty, script_lines, words}
+use Rattle.swimtab.specs.Script.{Start, IsStarted, AreStarted, NodeWords, EventWords, LevelWords, NodeLines, EventLines, LastLine, ScriptOf, Script, IsFirstWrongLine, not_empty, script_lines, words}
 use Rattle.swimtab.specs.Lines.{input_lines}
+use Rattle.swimtab.specs.declared.report.Place.{Place}
+use Rattle.swimtab.specs.declared.report.Place.TheVariants as place
 use Rattle.swimtab.specs.ScriptReading.{Adds, SpellsLine, SpellsNothing, TakesLine, IsOutOfPlace, plan_events}
 use Rattle.swimtab.proofs.ScriptLines.{node_letters_of, event_letters_of, level_letters_of}
 
@@ -46,8 +48,8 @@ follows_nodes count (line ∷ first) lines last starts told levelled nodes each 
     (refl, inl (refl, (nodes.0, nodes.2), follows_nodes count first lines last nodes.1 told levelled nodes.3 each own))
 
 -- a script is lines that may follow from the start on
-pub script_follows : (input : List ℕ) (starts : List Start) (events : List Event) → Script input starts events → Follows true false (script_lines input)
-script_follows input starts events script =
+script_follows : (lines : List (List ℕ)) (starts : List Start) (events : List Event) → ScriptOf lines starts events → Follows true false (script_lines lines)
+script_follows lines starts events script =
     subst (Follows true false) (sym (script.lines ∙ append_assoc script.node_lines script.event_lines script.last))
     (follows_nodes (length starts) script.node_lines script.event_lines script.last starts script.told script.levelled script.nodes script.each script.ends)
 
@@ -82,9 +84,8 @@ abbrev EndsWith : List (List ℕ) → Option ℕ → Type 0
 EndsWith last None = last ≡ []
 EndsWith last (Some number) = (line : List ℕ) × (last ≡ line ∷ []) × LevelWords (words line)
 
--- these lines that are not empty were read into the plan
-pub record WasRead (lines : List (List ℕ)) (plan : Plan) : Type 0 where
-  pub starts : List Start
+-- these lines that are not empty were read into the plan, with nodes that start so
+pub record WasRead (lines : List (List ℕ)) (starts : List Start) (plan : Plan) : Type 0 where
   pub node_lines : List (List ℕ)
   pub event_lines : List (List ℕ)
   pub last : List (List ℕ)
@@ -97,9 +98,8 @@ pub record WasRead (lines : List (List ℕ)) (plan : Plan) : Type 0 where
   pub follows : (rest : List (List ℕ)) → Follows true false (lines ++ rest) → Follows (length plan.events.items == 0) (is_some plan.level) rest
 
 -- nothing yet
-pub nothing_read : (plan : Plan) → plan.nodes.items ≡ [] → plan.events.items ≡ [] → plan.lines.items ≡ [] → plan.level ≡ None → WasRead [] plan
+pub nothing_read : (plan : Plan) → plan.nodes.items ≡ [] → plan.events.items ≡ [] → plan.lines.items ≡ [] → plan.level ≡ None → WasRead [] [] plan
 nothing_read plan nodes events lines level = record {
-  starts = [];
   node_lines = [];
   event_lines = [];
   last = [];
@@ -160,22 +160,21 @@ after_one : (lines : List (List ℕ)) (text : List ℕ) (rest : List (List ℕ))
 after_one lines text rest f = subst (Follows true false) (append_assoc lines (text ∷ []) rest) f
 
 -- a line of a node was read
-read_node_line : (lines : List (List ℕ)) (text : List ℕ) (old new : Plan) (node : NodeValue) → WasRead lines old → old.level ≡ None
-    → SpellsLine (length old.events.items == 0) (words text) (line.Node node) → Adds old (line.Node node) new → WasRead (lines ++ text ∷ []) new
-read_node_line lines text old new node was unended spelled added =
+read_node_line : (lines : List (List ℕ)) (text : List ℕ) (starts : List Start) (old new : Plan) (node : NodeValue) → WasRead lines starts old → old.level ≡ None
+    → (spelled : SpellsLine (length old.events.items == 0) (words text) (line.Node node)) → Adds old (line.Node node) new → WasRead (lines ++ text ∷ []) (starts ++ spelled.1 ∷ []) new
+read_node_line lines text starts old new node was unended spelled added =
     let none : length old.events.items ≡ 0 = eqb-true (length old.events.items) 0 spelled.0 in
     let no_events : was.event_lines ≡ [] = no_event_lines was.event_lines old.events.items was.each none in
     let no_last : was.last ≡ [] = subst (EndsWith was.last) unended was.ends in
     let all = was.whole ∙ only_nodes was.node_lines was.event_lines was.last no_events no_last in
     let level = added.2 ∙ unended in
     record {
-      starts = was.starts ++ spelled.1 ∷ [];
       node_lines = was.node_lines ++ text ∷ [];
       event_lines = [];
       last = [];
       whole = ap (λ l. l ++ text ∷ []) all ∙ sym (only_nodes (was.node_lines ++ text ∷ []) [] [] refl refl);
-      started = subst (λ n. AreStarted n (was.starts ++ spelled.1 ∷ [])) (sym added.0) (started_push old.nodes.items was.starts node spelled.1 was.started spelled.3);
-      nodes = node_lines_push was.node_lines was.starts text spelled.1 was.nodes spelled.2;
+      started = subst (λ n. AreStarted n (starts ++ spelled.1 ∷ [])) (sym added.0) (started_push old.nodes.items starts node spelled.1 was.started spelled.3);
+      nodes = node_lines_push was.node_lines starts text spelled.1 was.nodes spelled.2;
       each = added.1 ∙ nil_of_length old.events.items none;
       ends = subst (EndsWith []) (sym level) refl;
       count = added.3 ∙ was.count ∙ sym (ap length added.1);
@@ -186,19 +185,18 @@ read_node_line lines text old new node was unended spelled added =
     }
 
 -- a line of an event was read
-read_event_line : (lines : List (List ℕ)) (text : List ℕ) (old new : Plan) (event : Event) → WasRead lines old → old.level ≡ None
-    → SpellsLine (length old.events.items == 0) (words text) (line.Event event) → Adds old (line.Event event) new → WasRead (lines ++ text ∷ []) new
-read_event_line lines text old new event was unended spelled added =
+read_event_line : (lines : List (List ℕ)) (text : List ℕ) (starts : List Start) (old new : Plan) (event : Event) → WasRead lines starts old → old.level ≡ None
+    → SpellsLine (length old.events.items == 0) (words text) (line.Event event) → Adds old (line.Event event) new → WasRead (lines ++ text ∷ []) starts new
+read_event_line lines text starts old new event was unended spelled added =
     let no_last : was.last ≡ [] = subst (EndsWith was.last) unended was.ends in
     let all : lines ≡ was.node_lines ++ was.event_lines = was.whole ∙ ap (λ l. was.node_lines ++ was.event_lines ++ l) no_last ∙ append-nil (was.node_lines ++ was.event_lines) in
     let level = added.2 ∙ unended in
     record {
-      starts = was.starts;
       node_lines = was.node_lines;
       event_lines = was.event_lines ++ text ∷ [];
       last = [];
       whole = ap (λ l. l ++ text ∷ []) all ∙ append_assoc was.node_lines was.event_lines (text ∷ []) ∙ sym (append-nil (was.node_lines ++ (was.event_lines ++ text ∷ [])));
-      started = subst (λ n. AreStarted n was.starts) (sym added.0) was.started;
+      started = subst (λ n. AreStarted n starts) (sym added.0) was.started;
       nodes = was.nodes;
       each = subst (EventLines (was.event_lines ++ text ∷ [])) (sym added.1) (event_lines_push was.event_lines old.events.items text event was.each spelled);
       ends = subst (EndsWith []) (sym level) refl;
@@ -219,18 +217,17 @@ ended_any nodes level [] some f = tt
 ended_any nodes level (line ∷ rest) some f = let bad : true ≡ false = f.0 in absurd cc
 
 -- `level` was read
-read_level_line : (lines : List (List ℕ)) (text : List ℕ) (old new : Plan) → WasRead lines old → old.level ≡ None
-    → SpellsLine (length old.events.items == 0) (words text) line.Level → Adds old line.Level new → WasRead (lines ++ text ∷ []) new
-read_level_line lines text old new was unended spelled added =
+read_level_line : (lines : List (List ℕ)) (text : List ℕ) (starts : List Start) (old new : Plan) → WasRead lines starts old → old.level ≡ None
+    → SpellsLine (length old.events.items == 0) (words text) line.Level → Adds old line.Level new → WasRead (lines ++ text ∷ []) starts new
+read_level_line lines text starts old new was unended spelled added =
     let no_last : was.last ≡ [] = subst (EndsWith was.last) unended was.ends in
     let all : lines ≡ was.node_lines ++ was.event_lines = was.whole ∙ ap (λ l. was.node_lines ++ was.event_lines ++ l) no_last ∙ append-nil (was.node_lines ++ was.event_lines) in
     record {
-      starts = was.starts;
       node_lines = was.node_lines;
       event_lines = was.event_lines;
       last = text ∷ [];
       whole = ap (λ l. l ++ text ∷ []) all;
-      started = subst (λ n. AreStarted n was.starts) (sym added.0) was.started;
+      started = subst (λ n. AreStarted n starts) (sym added.0) was.started;
       nodes = was.nodes;
       each = subst (EventLines was.event_lines) (sym added.1) was.each;
       ends = ends_some text new.level added.2 spelled;
@@ -240,16 +237,17 @@ read_level_line lines text old new was unended spelled added =
           ended_any (length new.events.items == 0) new.level rest added.2 next;
     }
 
--- one line more was read
-pub read_more : (lines : List (List ℕ)) (text : List ℕ) (old new : Plan) → WasRead lines old → TakesLine text old new → WasRead (lines ++ not_empty (text ∷ [])) new
-read_more lines text old new was (inl (none, same)) =
-    subst (WasRead (lines ++ not_empty (text ∷ []))) (sym same) (subst (λ t. WasRead (lines ++ not_empty (t ∷ [])) old) (sym none) (subst (λ l. WasRead l old) (sym (append-nil lines)) was))
-read_more lines text old new was (inr (some, unended, (line.Node node, spelled, added))) =
-    subst (λ l. WasRead (lines ++ l) new) (sym (not_empty_one text some)) (read_node_line lines text old new node was unended spelled added)
-read_more lines text old new was (inr (some, unended, (line.Event event, spelled, added))) =
-    subst (λ l. WasRead (lines ++ l) new) (sym (not_empty_one text some)) (read_event_line lines text old new event was unended spelled added)
-read_more lines text old new was (inr (some, unended, (line.Level, spelled, added))) =
-    subst (λ l. WasRead (lines ++ l) new) (sym (not_empty_one text some)) (read_level_line lines text old new was unended spelled added)
+-- one line more was read, and maybe one more node
+pub read_more : (lines : List (List ℕ)) (text : List ℕ) (starts : List Start) (old new : Plan) → WasRead lines starts old → TakesLine text old new
+    → (more : List Start) × WasRead (lines ++ not_empty (text ∷ [])) more new
+read_more lines text starts old new was (inl (none, same)) =
+    (starts, subst (WasRead (lines ++ not_empty (text ∷ [])) starts) (sym same) (subst (λ t. WasRead (lines ++ not_empty (t ∷ [])) starts old) (sym none) (subst (λ l. WasRead l starts old) (sym (append-nil lines)) was)))
+read_more lines text starts old new was (inr (some, unended, (line.Node node, spelled, added))) =
+    (starts ++ spelled.1 ∷ [], subst (λ l. WasRead (lines ++ l) (starts ++ spelled.1 ∷ []) new) (sym (not_empty_one text some)) (read_node_line lines text starts old new node was unended spelled added))
+read_more lines text starts old new was (inr (some, unended, (line.Event event, spelled, added))) =
+    (starts, subst (λ l. WasRead (lines ++ l) starts new) (sym (not_empty_one text some)) (read_event_line lines text starts old new event was unended spelled added))
+read_more lines text starts old new was (inr (some, unended, (line.Level, spelled, added))) =
+    (starts, subst (λ l. WasRead (lines ++ l) starts new) (sym (not_empty_one text some)) (read_level_line lines text starts old new was unended spelled added))
 
 -- ---- all lines
 
@@ -257,28 +255,28 @@ started_length : (nodes : List NodeValue) (starts : List Start) → AreStarted n
 started_length [] starts each = sym (ap length each)
 started_length (node ∷ nodes) starts each = ap suc (started_length nodes each.1 each.3) ∙ sym (ap length each.4)
 
-spelled_whole : (input : List ℕ) (node_lines event_lines last : List (List ℕ)) (starts : List Start) (events : List Event) (level : Option ℕ) (count : ℕ)
-    → script_lines input ≡ node_lines ++ event_lines ++ last → NodeLines node_lines starts → EventLines event_lines events → EndsWith last level → count ≡ length starts
-    → Script input starts (plan_events events count level)
-spelled_whole input node_lines event_lines last starts events None count lines nodes each ends same = record {
+spelled_whole : (lines node_lines event_lines last : List (List ℕ)) (starts : List Start) (events : List Event) (level : Option ℕ) (count : ℕ)
+    → script_lines lines ≡ node_lines ++ event_lines ++ last → NodeLines node_lines starts → EventLines event_lines events → EndsWith last level → count ≡ length starts
+    → ScriptOf lines starts (plan_events events count level)
+spelled_whole lines node_lines event_lines last starts events None count parts nodes each ends same = record {
   node_lines = node_lines;
   event_lines = event_lines;
   last = last;
   told = events;
   levelled = [];
-  lines = lines;
+  lines = parts;
   nodes = nodes;
   each = each;
   ends = subst (λ l. LastLine (length starts) l []) (sym ends) refl;
   whole = sym (append-nil events);
 }
-spelled_whole input node_lines event_lines last starts events (Some number) count lines nodes each ends same = record {
+spelled_whole lines node_lines event_lines last starts events (Some number) count parts nodes each ends same = record {
   node_lines = node_lines;
   event_lines = event_lines;
   last = last;
   told = events;
   levelled = level_list (length starts);
-  lines = lines;
+  lines = parts;
   nodes = nodes;
   each = each;
   ends = subst (λ l. LastLine (length starts) l (level_list (length starts))) (sym ends.1) (ends.2, refl, refl);
@@ -286,10 +284,9 @@ spelled_whole input node_lines event_lines last starts events (Some number) coun
 }
 
 -- the plan is that of the script
-pub was_read_whole : (input : List ℕ) (plan : Plan) → WasRead (script_lines input) plan
-    → (starts : List Start) × AreStarted plan.nodes.items starts × Script input starts (plan_events plan.events.items (length plan.nodes.items) plan.level)
-was_read_whole input plan was =
-    (was.starts, was.started, spelled_whole input was.node_lines was.event_lines was.last was.starts plan.events.items plan.level (length plan.nodes.items) was.whole was.nodes was.each was.ends (started_length plan.nodes.items was.starts was.started))
+pub was_read_whole : (lines : List (List ℕ)) (starts : List Start) (plan : Plan) → WasRead (script_lines lines) starts plan → ScriptOf lines starts (plan_events plan.events.items (length plan.nodes.items) plan.level)
+was_read_whole lines starts plan was =
+    spelled_whole lines was.node_lines was.event_lines was.last starts plan.events.items plan.level (length plan.nodes.items) was.whole was.nodes was.each was.ends (started_length plan.nodes.items starts was.started)
 
 -- ---- a line that is out of place
 
@@ -297,11 +294,11 @@ no_follow : (nodes : Bool) (level : Option ℕ) (text : List ℕ) (rest : List (
 no_follow nodes None text rest none f = nothing_follows nodes false text rest (none refl) f
 no_follow nodes (Some number) text rest none f = let bad : true ≡ false = f.0 in absurd cc
 
--- the input is no script
-pub no_script : (input : List ℕ) (lines : List (List ℕ)) (text : List ℕ) (rest : List (List ℕ)) (plan : Plan) → script_lines input ≡ lines ++ text ∷ rest → WasRead lines plan
-    → IsOutOfPlace text plan → (starts : List Start) (events : List Event) → ¬ Script input starts events
-no_script input lines text rest plan parts was wrong starts events script =
-    no_follow (length plan.events.items == 0) plan.level text rest wrong.1 (was.follows (text ∷ rest) (subst (Follows true false) parts (script_follows input starts events script)))
+-- the lines are no script
+no_script : (all lines : List (List ℕ)) (text : List ℕ) (rest : List (List ℕ)) (starts : List Start) (plan : Plan) → script_lines all ≡ lines ++ text ∷ rest → WasRead lines starts plan
+    → IsOutOfPlace text plan → (nodes : List Start) (events : List Event) → ¬ ScriptOf all nodes events
+no_script all lines text rest starts plan parts was wrong nodes events script =
+    no_follow (length plan.events.items == 0) plan.level text rest wrong.1 (was.follows (text ∷ rest) (subst (Follows true false) parts (script_follows all nodes events script)))
 
 -- ---- lines by their places
 
@@ -332,25 +329,42 @@ not_empty_first [] more some = absurd (some refl)
 not_empty_first (byte ∷ bytes) more some = refl
 
 -- the lines of a script around one of them
-pub script_parts : (input : List ℕ) (read : List (List ℕ)) (n : ℕ) (line text : List ℕ) → read ≡ take n (input_lines input) → n < length (input_lines input) → line ≡ get_or (input_lines input) n line
-    → text ≡ strip_carriage_return line → text ≢ [] → script_lines input ≡ not_empty (map strip_carriage_return read) ++ text ∷ not_empty (map strip_carriage_return (drop (suc n) (input_lines input)))
-script_parts input read n line text before within here strips some =
-    let lines = input_lines input in
-    let more = map strip_carriage_return (drop (suc n) lines) in
-    let parts : lines ≡ read ++ line ∷ drop (suc n) lines = parts_at lines n line within here ∙ ap (λ r. r ++ line ∷ drop (suc n) lines) (sym before) in
-    ap (λ l. not_empty (map strip_carriage_return l)) parts
-    ∙ ap not_empty (map-append strip_carriage_return read (line ∷ drop (suc n) lines))
-    ∙ not_empty_append (map strip_carriage_return read) (strip_carriage_return line ∷ more)
-    ∙ ap (λ t. not_empty (map strip_carriage_return read) ++ not_empty (t ∷ more)) (sym strips)
-    ∙ ap (λ l. not_empty (map strip_carriage_return read) ++ l) (not_empty_first text more some)
+script_parts : (before : List (List ℕ)) (line text : List ℕ) (after : List (List ℕ)) → text ≡ strip_carriage_return line → text ≢ []
+    → script_lines (before ++ line ∷ after) ≡ script_lines before ++ text ∷ script_lines after
+script_parts before line text after strips some =
+    ap not_empty (map-append strip_carriage_return before (line ∷ after))
+    ∙ not_empty_append (map strip_carriage_return before) (strip_carriage_return line ∷ map strip_carriage_return after)
+    ∙ ap (λ t. script_lines before ++ not_empty (t ∷ map strip_carriage_return after)) (sym strips)
+    ∙ ap (λ l. script_lines before ++ l) (not_empty_first text (map strip_carriage_return after) some)
+
+-- the line that is out of place is the first that makes the input no script
+pub first_wrong_line : (input : List ℕ) (before : List (List ℕ)) (line text : List ℕ) (starts : List Start) (plan : Plan) (at : Place)
+    → before ≡ take (length before) (input_lines input) → length before < length (input_lines input) → line ≡ get_or (input_lines input) (length before) line
+    → text ≡ strip_carriage_return line → WasRead (script_lines before) starts plan → IsOutOfPlace text plan → at ≡ place.Line (length before + 1) → IsFirstWrongLine input at
+first_wrong_line input before line text starts plan at first within here strips was wrong named =
+    let after = drop (suc (length before)) (input_lines input) in
+    record {
+      before = before;
+      line = line;
+      after = after;
+      parts = parts_at (input_lines input) (length before) line within here ∙ ap (λ b. b ++ line ∷ after) (sym first);
+      starts = starts;
+      events = plan_events plan.events.items (length plan.nodes.items) plan.level;
+      right = was_read_whole before starts plan was;
+      wrong = λ more nodes told. no_script (before ++ line ∷ more) (script_lines before) text (script_lines more) starts plan (script_parts before line text more strips wrong.0) was wrong nodes told;
+      named = named;
+    }
+
+-- an input with such a line is no script
+pub wrong_line_no_script : (input : List ℕ) (at : Place) → IsFirstWrongLine input at → (starts : List Start) (events : List Event) → ¬ Script input starts events
+wrong_line_no_script input at own starts events script = own.wrong own.after starts events (subst (λ l. ScriptOf l starts events) own.parts script)
 
 -- one line more of those that are not empty
-pub one_more_line : (read : List (List ℕ)) (line text : List ℕ) → text ≡ strip_carriage_return line
-    → not_empty (map strip_carriage_return (read ++ line ∷ [])) ≡ not_empty (map strip_carriage_return read) ++ not_empty (text ∷ [])
+pub one_more_line : (read : List (List ℕ)) (line text : List ℕ) → text ≡ strip_carriage_return line → script_lines (read ++ line ∷ []) ≡ script_lines read ++ not_empty (text ∷ [])
 one_more_line read line text strips =
     ap not_empty (map-append strip_carriage_return read (line ∷ []))
     ∙ not_empty_append (map strip_carriage_return read) (strip_carriage_return line ∷ [])
-    ∙ ap (λ t. not_empty (map strip_carriage_return read) ++ not_empty (t ∷ [])) (sym strips)
+    ∙ ap (λ t. script_lines read ++ not_empty (t ∷ [])) (sym strips)
 
 -- ---- how many nodes there are
 

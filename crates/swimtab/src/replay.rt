@@ -6,7 +6,7 @@ ghost use Rattle.swim_sync.specs.Cluster.{Ran};
 ghost use Rattle.swim_sync.specs.Levels.{level_list};
 ghost use Rattle.swimtab.specs.Replay.{IsOfEvent, RefusedEvent, Replays, StopsSo, node_line, shown_from};
 ghost use Rattle.swimtab.specs.Report.{IsAmong};
-ghost use Rattle.swimtab.specs.Script.{Script, Start};
+ghost use Rattle.swimtab.specs.Script.{Script, Start, IsFirstWrongLine};
 ghost use Rattle.swimtab.specs.ScriptReading.{plan_events};
 
 use crate::report::{Place, Report, What};
@@ -27,10 +27,11 @@ pub fn script(alloc: Global, input: &[u8]) -> Result<Vec<u8>, Report>
     // The input is a script, and the text shows what its nodes have heard.
     ensures replays { IfOk result (λ text. Replays input.now text.items) }
 
-    // Refused for the fault of an event, it is a script with such an event; else it is none.
+    // Refused for the fault of an event, it is a script with such an event; else it is none, from the line on that the report names.
     ensures events { IfErr result (λ report. IsOfEvent report.what → RefusedEvent input.now report.what) }
     ensures refuses { IfErr result (λ report. report.what ≢ What.Memory → length input.now ≤ 268435456 → ¬ IsOfEvent report.what
         → (starts : List Start) → (events : List Event) → ¬ Script input.now starts events) }
+    ensures line { IfErr result (λ report. report.what ≢ What.Memory → length input.now ≤ 268435456 → ¬ IsOfEvent report.what → IsFirstWrongLine input.now report.place) }
     ensures long { (268435456 < length input.now) ↔ (result ≡ Err (record { place = Place.Input; what = What.Refused 32 None })) }
     ensures place { IfErr result (λ report. IsAmong report.place 0) }
 {

@@ -1,9 +1,8 @@
 //! Scripts: the nodes of a cluster, and what happens in it.
 
 ghost use Rattle.std.specs.Prelude.{◌≡◌, ◌≢◌, ◌↔◌, ◌<◌, ◌≤◌, [], List, length, None, IfOk, IfErr, OnOk};
-ghost use Rattle.swim_sync.specs.declared.event.Event.{Event};
 ghost use Rattle.swimtab.specs.Report.{IsAmong, IsOfReading};
-ghost use Rattle.swimtab.specs.Script.{Script, Start, AreStarted};
+ghost use Rattle.swimtab.specs.Script.{Script, Start, AreStarted, IsFirstWrongLine};
 ghost use Rattle.swimtab.specs.ScriptReading.{Adds, TakesLine, IsOutOfPlace, plan_events};
 
 use crate::device::BOUND;
@@ -89,9 +88,8 @@ pub(crate) fn read_script(alloc: Global, input: &[u8]) -> Result<Plan, Report>
     ensures few { IfOk result (λ plan. length plan.nodes.items ≤ 268435457) }
     ensures lines { IfOk result (λ plan. length plan.lines.items ≡ length plan.events.items) }
 
-    // Refused for another cause than memory and its length, the input is no script.
-    ensures refuses { IfErr result (λ report. report.what ≢ What.Memory → length input.now ≤ 268435456
-        → (starts : List Start) → (events : List Event) → ¬ Script input.now starts events) }
+    // Refused for another cause than memory and its length, the report names the first line that makes the input no script.
+    ensures line { IfErr result (λ report. report.what ≢ What.Memory → length input.now ≤ 268435456 → IsFirstWrongLine input.now report.place) }
     ensures long { (268435456 < length input.now) ↔ (result ≡ Err (record { place = Place.Input; what = What.Refused 32 None })) }
     ensures kind { IfErr result (λ report. IsOfReading report.what) }
     ensures place { IfErr result (λ report. IsAmong report.place 0) }
