@@ -1,10 +1,11 @@
 -- What was read of a script, line by line.
-use Rattle.std.proofs.Common.{◌≡◌, ◌≢◌, ℕ, zero, suc, ◌+◌, ◌<◌, ◌≤◌, ◌⊎◌, inl, inr, Bool, true, false, List, [], ◌∷◌, ◌++◌, Option, Some, None, is_some, length, map, take, drop, get_or, Bor, refl, sym, ap, ap₂, subst, ◌∙◌, append_assoc, append-nil, eqb-true, ne_eqb, IsSome, arith}
+use Rattle.std.proofs.Common.{◌≡◌, ◌≢◌, ℕ, zero, suc, ◌+◌, ◌<◌, ◌≤◌, ◌⊎◌, inl, inr, Bool, true, false, List, [], ◌∷◌, ◌++◌, Option, Some, None, is_some, length, map, take, drop, get_or, Bor, refl, sym, ap, ap₂, subst, ◌∙◌, append_assoc, append-nil, eqb-true, ne_eqb, arith}
 use Rattle.std.proofs.lemmas.Iterator.{YieldsList}
 use Rattle.std.proofs.lemmas.Iterator.Consumers.{YieldsList-so_far, YieldsList-turn}
 use Rattle.std.proofs.lemmas.List.Splits.{length-slice_split}
 use Rattle.std.proofs.lemmas.List.Sums.{count_by-le-length}
 use Rattle.std.specs.Iterator.{Yields}
+use Rattle.std.proofs.lemmas.List.FromFn.{length-enumerate_from, get_or-enumerate_from}
 use Rattle.std.proofs.lemmas.List.{length-append, length-map, map-append}
 use Rattle.std.specs.Str.Lines.{strip_carriage_return}
 use Rattle.std.specs.Prelude.{◌==◌}
@@ -18,7 +19,7 @@ use Rattle.swimtab.specs.Script.{Start, IsStarted, AreStarted, NodeWords, EventW
 use Rattle.swimtab.specs.Lines.{input_lines}
 use Rattle.swimtab.specs.declared.report.Place.{Place}
 use Rattle.swimtab.specs.declared.report.Place.TheVariants as place
-use Rattle.swimtab.specs.ScriptReading.{Adds, SpellsLine, SpellsNothing, TakesLine, IsOutOfPlace, plan_events}
+use Rattle.swimtab.specs.ScriptReading.{Adds, SpellsLine, SpellsNothing, IsOutOfPlace, plan_events}
 use Rattle.swimtab.proofs.ScriptLines.{node_letters_of, event_letters_of, level_letters_of}
 
 -- ---- what may still follow, without what it says
@@ -139,11 +140,11 @@ not_empty_append ([] ∷ lines) others = not_empty_append lines others
 not_empty_append ((byte ∷ bytes) ∷ lines) others = ap (λ l. (byte ∷ bytes) ∷ l) (not_empty_append lines others)
 
 -- a line that is not empty stays
-not_empty_one : (line : List ℕ) → line ≢ [] → not_empty (line ∷ []) ≡ line ∷ []
+pub not_empty_one : (line : List ℕ) → line ≢ [] → not_empty (line ∷ []) ≡ line ∷ []
 not_empty_one [] none = absurd (none refl)
 not_empty_one (byte ∷ bytes) none = refl
 
-nil_of_length : {A : Type 0} (xs : List A) → length xs ≡ 0 → xs ≡ []
+pub nil_of_length : {A : Type 0} (xs : List A) → length xs ≡ 0 → xs ≡ []
 nil_of_length [] l = refl
 nil_of_length (x ∷ xs) l = absurd (omega (arith, l))
 
@@ -160,9 +161,9 @@ after_one : (lines : List (List ℕ)) (text : List ℕ) (rest : List (List ℕ))
 after_one lines text rest f = subst (Follows true false) (append_assoc lines (text ∷ []) rest) f
 
 -- a line of a node was read
-read_node_line : (lines : List (List ℕ)) (text : List ℕ) (starts : List Start) (old new : Plan) (node : NodeValue) → WasRead lines starts old → old.level ≡ None
-    → (spelled : SpellsLine (length old.events.items == 0) (words text) (line.Node node)) → Adds old (line.Node node) new → WasRead (lines ++ text ∷ []) (starts ++ spelled.1 ∷ []) new
-read_node_line lines text starts old new node was unended spelled added =
+pub read_node_line : (lines : List (List ℕ)) (text : List ℕ) (starts : List Start) (number : ℕ) (old new : Plan) (node : NodeValue) → WasRead lines starts old → old.level ≡ None
+    → (spelled : SpellsLine (length old.events.items == 0) (words text) (line.Node node)) → Adds number old (line.Node node) new → WasRead (lines ++ text ∷ []) (starts ++ spelled.1 ∷ []) new
+read_node_line lines text starts number old new node was unended spelled added =
     let none : length old.events.items ≡ 0 = eqb-true (length old.events.items) 0 spelled.0 in
     let no_events : was.event_lines ≡ [] = no_event_lines was.event_lines old.events.items was.each none in
     let no_last : was.last ≡ [] = subst (EndsWith was.last) unended was.ends in
@@ -177,7 +178,7 @@ read_node_line lines text starts old new node was unended spelled added =
       nodes = node_lines_push was.node_lines starts text spelled.1 was.nodes spelled.2;
       each = added.1 ∙ nil_of_length old.events.items none;
       ends = subst (EndsWith []) (sym level) refl;
-      count = added.3 ∙ was.count ∙ sym (ap length added.1);
+      count = ap length added.3 ∙ was.count ∙ sym (ap length added.1);
       follows = λ rest f.
           let next = after_node (length old.events.items == 0) (is_some old.level) text rest spelled.1 spelled.2 (was.follows (text ∷ rest) (after_one lines text rest f)) in
           let here : (length new.events.items == 0) ≡ true = ap (λ e. length e == 0) added.1 ∙ spelled.0 in
@@ -185,9 +186,9 @@ read_node_line lines text starts old new node was unended spelled added =
     }
 
 -- a line of an event was read
-read_event_line : (lines : List (List ℕ)) (text : List ℕ) (starts : List Start) (old new : Plan) (event : Event) → WasRead lines starts old → old.level ≡ None
-    → SpellsLine (length old.events.items == 0) (words text) (line.Event event) → Adds old (line.Event event) new → WasRead (lines ++ text ∷ []) starts new
-read_event_line lines text starts old new event was unended spelled added =
+pub read_event_line : (lines : List (List ℕ)) (text : List ℕ) (starts : List Start) (number : ℕ) (old new : Plan) (event : Event) → WasRead lines starts old → old.level ≡ None
+    → SpellsLine (length old.events.items == 0) (words text) (line.Event event) → Adds number old (line.Event event) new → WasRead (lines ++ text ∷ []) starts new
+read_event_line lines text starts number old new event was unended spelled added =
     let no_last : was.last ≡ [] = subst (EndsWith was.last) unended was.ends in
     let all : lines ≡ was.node_lines ++ was.event_lines = was.whole ∙ ap (λ l. was.node_lines ++ was.event_lines ++ l) no_last ∙ append-nil (was.node_lines ++ was.event_lines) in
     let level = added.2 ∙ unended in
@@ -200,26 +201,22 @@ read_event_line lines text starts old new event was unended spelled added =
       nodes = was.nodes;
       each = subst (EventLines (was.event_lines ++ text ∷ [])) (sym added.1) (event_lines_push was.event_lines old.events.items text event was.each spelled);
       ends = subst (EndsWith []) (sym level) refl;
-      count = added.3 ∙ ap (λ n. n + 1) was.count ∙ sym (ap length added.1 ∙ length-append old.events.items (event ∷ []));
+      count = ap length added.3 ∙ length-append old.lines.items (number ∷ []) ∙ ap (λ n. n + 1) was.count ∙ sym (ap length added.1 ∙ length-append old.events.items (event ∷ []));
       follows = λ rest f.
           let next = after_event (length old.events.items == 0) (is_some old.level) text rest event spelled (was.follows (text ∷ rest) (after_one lines text rest f)) in
           let here : (length new.events.items == 0) ≡ false = ap (λ e. length e == 0) added.1 ∙ pushed_some old.events.items event in
           subst (λ b. Follows b (is_some new.level) rest) (sym here) (subst (λ o. Follows false (is_some o) rest) (sym level) next);
     }
 
-ends_some : (text : List ℕ) (level : Option ℕ) → IsSome level → LevelWords (words text) → EndsWith (text ∷ []) level
-ends_some text None some own = absurd cc
-ends_some text (Some number) some own = (text, refl, own)
-
 -- after `level` nothing follows, whatever came before
-ended_any : (nodes : Bool) (level : Option ℕ) (rest : List (List ℕ)) → IsSome level → Follows false true rest → Follows nodes (is_some level) rest
-ended_any nodes level [] some f = tt
-ended_any nodes level (line ∷ rest) some f = let bad : true ≡ false = f.0 in absurd cc
+ended_any : (nodes ended : Bool) (rest : List (List ℕ)) → Follows false true rest → Follows nodes ended rest
+ended_any nodes ended [] f = tt
+ended_any nodes ended (line ∷ rest) f = let bad : true ≡ false = f.0 in absurd cc
 
 -- `level` was read
-read_level_line : (lines : List (List ℕ)) (text : List ℕ) (starts : List Start) (old new : Plan) → WasRead lines starts old → old.level ≡ None
-    → SpellsLine (length old.events.items == 0) (words text) line.Level → Adds old line.Level new → WasRead (lines ++ text ∷ []) starts new
-read_level_line lines text starts old new was unended spelled added =
+pub read_level_line : (lines : List (List ℕ)) (text : List ℕ) (starts : List Start) (number : ℕ) (old new : Plan) → WasRead lines starts old → old.level ≡ None
+    → SpellsLine (length old.events.items == 0) (words text) line.Level → Adds number old line.Level new → WasRead (lines ++ text ∷ []) starts new
+read_level_line lines text starts number old new was unended spelled added =
     let no_last : was.last ≡ [] = subst (EndsWith was.last) unended was.ends in
     let all : lines ≡ was.node_lines ++ was.event_lines = was.whole ∙ ap (λ l. was.node_lines ++ was.event_lines ++ l) no_last ∙ append-nil (was.node_lines ++ was.event_lines) in
     record {
@@ -230,24 +227,12 @@ read_level_line lines text starts old new was unended spelled added =
       started = subst (λ n. AreStarted n starts) (sym added.0) was.started;
       nodes = was.nodes;
       each = subst (EventLines was.event_lines) (sym added.1) was.each;
-      ends = ends_some text new.level added.2 spelled;
-      count = added.3 ∙ was.count ∙ sym (ap length added.1);
+      ends = subst (EndsWith (text ∷ [])) (sym added.2) (text, refl, spelled);
+      count = ap length added.3 ∙ was.count ∙ sym (ap length added.1);
       follows = λ rest f.
           let next = after_level (length old.events.items == 0) (is_some old.level) text rest spelled (was.follows (text ∷ rest) (after_one lines text rest f)) in
-          ended_any (length new.events.items == 0) new.level rest added.2 next;
+          ended_any (length new.events.items == 0) (is_some new.level) rest next;
     }
-
--- one line more was read, and maybe one more node
-pub read_more : (lines : List (List ℕ)) (text : List ℕ) (starts : List Start) (old new : Plan) → WasRead lines starts old → TakesLine text old new
-    → (more : List Start) × WasRead (lines ++ not_empty (text ∷ [])) more new
-read_more lines text starts old new was (inl (none, same)) =
-    (starts, subst (WasRead (lines ++ not_empty (text ∷ [])) starts) (sym same) (subst (λ t. WasRead (lines ++ not_empty (t ∷ [])) starts old) (sym none) (subst (λ l. WasRead l starts old) (sym (append-nil lines)) was)))
-read_more lines text starts old new was (inr (some, unended, (line.Node node, spelled, added))) =
-    (starts ++ spelled.1 ∷ [], subst (λ l. WasRead (lines ++ l) (starts ++ spelled.1 ∷ []) new) (sym (not_empty_one text some)) (read_node_line lines text starts old new node was unended spelled added))
-read_more lines text starts old new was (inr (some, unended, (line.Event event, spelled, added))) =
-    (starts, subst (λ l. WasRead (lines ++ l) starts new) (sym (not_empty_one text some)) (read_event_line lines text starts old new event was unended spelled added))
-read_more lines text starts old new was (inr (some, unended, (line.Level, spelled, added))) =
-    (starts, subst (λ l. WasRead (lines ++ l) starts new) (sym (not_empty_one text some)) (read_level_line lines text starts old new was unended spelled added))
 
 -- ---- all lines
 
@@ -318,6 +303,14 @@ first_counted (x ∷ xs) k (suc n) (line ∷ lines) e =
     let here = ap (λ l. get_or l 0 (k, line)) e in
     let rest = first_counted xs (k + 1) n lines (ap (drop 1) e) in
     ap₂ (λ a b. a ∷ b) (ap (λ p. p.1) here) rest
+
+-- the number of the item that is yielded
+pub number_of_line : (xs : List (ℕ × Bor (List ℕ))) (lines : List (List ℕ)) (index : ℕ) (line : List ℕ)
+    → (length xs < length (enumerate_from 0 lines)) × ((index, line) ≡ get_or (enumerate_from 0 lines) (length xs) (index, line)) → index + 1 ≡ length (map (λ p. p.1.now) xs) + 1
+number_of_line xs lines index line here =
+    let inside : length xs < length lines = omega (arith, here.0, length-enumerate_from 0 lines) in
+    let place : index ≡ 0 + length xs = ap (λ p. p.0) (here.1 ∙ get_or-enumerate_from 0 lines (length xs) (index, line) inside) in
+    omega (arith, place, length-map xs (λ p. p.1.now))
 
 parts_at : (lines : List (List ℕ)) (n : ℕ) (line : List ℕ) → n < length lines → line ≡ get_or lines n line → lines ≡ take n lines ++ line ∷ drop (suc n) lines
 parts_at [] n line l e = absurd (omega (arith, l))

@@ -162,3 +162,19 @@ pub record IsFirstWrongLine (input : List ℕ) (place : Place) : Type 0 where
   pub right : ScriptOf before starts events
   pub wrong : (more : List (List ℕ)) (nodes : List Start) (told : List Event) → ¬ ScriptOf (before ++ line ∷ more) nodes told
   pub named : place ≡ Line (length before + 1)
+
+-- Event k comes with the line, counted from 1, that the place names: the lines before it tell of earlier events alone, and with it also of that one.
+pub record ComesWith (lines : List (List ℕ)) (starts : List Start) (events : List Event) (k : ℕ) (place : Place) : Type 0 where
+  pub before : List (List ℕ)
+  pub line : List ℕ
+  pub after : List (List ℕ)
+  pub parts : lines ≡ before ++ line ∷ after
+  pub earlier : List Event
+  pub own : List Event
+  pub later : List Event
+  pub order : events ≡ (earlier ++ own) ++ later
+  pub without : ScriptOf before starts earlier
+  pub tells : ScriptOf (before ++ line ∷ []) starts (earlier ++ own)
+  pub not_before : length earlier ≤ k
+  pub not_after : k < length (earlier ++ own)
+  pub named : place ≡ Line (length before + 1)

@@ -24,14 +24,14 @@ returns-in_err-cluster-clause-events c =
     let read = c.in_ok-plan.ensures.reads in
     let plan = c.in_ok-plan.plan in
     rw (err.1 ∙ ap (λ (r : Report). Err r) err.2)
-    (λ of. refused_event c.args.input.now plan.nodes.items read.0 (plan_events plan.events.items (length plan.nodes.items) plan.level) c.in_err-cluster.field-0.0.what read.1 read.2 c.in_err-cluster.ensures.stops)
+    (λ of. refused_event c.args.input.now plan.nodes.items read.0 (plan_events plan.events.items (length plan.nodes.items) plan.level) plan.lines.items plan.level c.in_err-cluster.field-0.0 read.1 read.2 read.3 c.in_err-cluster.ensures.stops)
 
 pub returns-in_err-cluster-clause-line : goal.returns-in_err-cluster-clause-line
 returns-in_err-cluster-clause-line c =
     let err = err_from_is_err_and c.from_residual-in_err-cluster.result c.from_residual-in_err-cluster.ensures.1 in
     let stops = c.in_err-cluster.ensures.stops in
     rw (err.1 ∙ ap (λ (r : Report). Err r) err.2)
-    (λ not_memory short other. absurd (other (subst IsOfEvent (sym stops.3) (why_of_event stops.1.why (λ memory. not_memory (stops.3 ∙ memory))))))
+    (λ not_memory short other. absurd (other (subst IsOfEvent (sym stops.4) (why_of_event stops.1.why (λ memory. not_memory (stops.4 ∙ memory))))))
 
 pub returns-in-Ok-clause-replays : goal.returns-in-Ok-clause-replays
 returns-in-Ok-clause-replays c =
