@@ -1,5 +1,5 @@
 -- Runs of the events of a script, and what is shown of the nodes.
-use Rattle.std.proofs.Common.{◌≡◌, ℕ, zero, suc, ◌+◌, ◌<◌, Option, Some, None, List, [], ◌∷◌, ◌++◌, length, map, take, get_or, refl, sym, ap, subst, ◌∙◌, arith, length-append, append-nil}
+use Rattle.std.proofs.Common.{◌≡◌, ◌≢◌, ℕ, zero, suc, ◌+◌, ◌<◌, Option, Some, None, List, [], ◌∷◌, ◌++◌, length, map, take, get_or, refl, sym, ap, subst, ◌∙◌, arith, length-append, append-nil}
 use Rattle.std.specs.Prelude.{slice_get}
 use Rattle.std.proofs.Math.Seq.{take-append-add}
 use Rattle.std.proofs.lemmas.List.{append_assoc, take_more, take-append-le, length-take-le}
@@ -17,10 +17,13 @@ use Rattle.swim_sync.proofs.Clusters.{ran-append}
 use Rattle.swim_sync.specs.Levels.{level_list}
 use Rattle.swim_sync.proofs.Levelled.{length-ran}
 use Rattle.swim_sync.proofs.Levelling.{get-front, get-back}
-use Rattle.swimtab.specs.declared.report.What.{What}
-use Rattle.swimtab.specs.Replay.{node_line, shown_from, EachTable, heard_after, Replays, Refuses, RefusedEvent, StopsSo, what_of_why}
-use Rattle.swimtab.specs.ScriptReading.{plan_events}
-use Rattle.swimtab.specs.Script.{Start, Script, AreStarted, member_of, start_claims}
+use Rattle.swimtab.specs.declared.report.Report.{Report}
+use Rattle.swimtab.specs.declared.report.What.TheVariants.{Memory}
+use Rattle.swimtab.specs.Lines.{input_lines}
+use Rattle.swimtab.specs.Replay.{IsOfEvent, node_line, shown_from, EachTable, heard_after, Replays, Refuses, RefusedEvent, StopsSo, what_of_why}
+use Rattle.swimtab.specs.ScriptReading.{AreNumbered, plan_events}
+use Rattle.swimtab.specs.Script.{Start, Script, ComesWith, AreStarted, member_of, start_claims}
+use Rattle.swimtab.proofs.ScriptNumbers.{event_line_past}
 
 -- ---- stops of a run in two parts
 
@@ -53,14 +56,17 @@ ran_plan old mid new events level line is r s =
     subst (λ (o : Option ℕ). Ran old new (plan_events events (length old) o)) (sym is)
     (ran-append old mid new events (level_list (length old)) r (subst (λ (n : ℕ). Ran mid new (level_list n)) (length-ran old mid events r) s))
 
-pub stops_plan : (old mid : List NodeValue) (events : List Event) (level : Option ℕ) (line : ℕ) (what : What) → level ≡ Some line → Ran old mid events → StopsSo mid (level_list (length mid)) what
-    → StopsSo old (plan_events events (length old) level) what
-stops_plan old mid events level line what is r (new, stop, stopped, same) = (
+pub stops_plan : (old mid : List NodeValue) (events : List Event) (numbers : List ℕ) (level : Option ℕ) (line : ℕ) (report : Report) → level ≡ Some line → length numbers ≡ length events → Ran old mid events
+    → StopsSo mid (level_list (length mid)) [] (Some line) report → StopsSo old (plan_events events (length old) level) numbers level report
+stops_plan old mid events numbers level line report is count r (new, stop, number, stopped, same, numbered, named) = (
   new,
   record { done = length events + stop.done; why = stop.why },
+  number,
   subst (λ (o : Option ℕ). Stopped old new (plan_events events (length old) o) (record { done = length events + stop.done; why = stop.why })) (sym is)
       (stopped_later old mid new events (level_list (length old)) stop r (subst (λ (n : ℕ). Stopped mid new (level_list n) stop) (length-ran old mid events r) stopped)),
   same,
+  event_line_past numbers level (length events + stop.done) (omega (arith, count)) ∙ is ∙ numbered,
+  named,
 )
 
 -- ---- what is shown
@@ -153,15 +159,23 @@ refuses_so new lists event why.TooManyRecords h stops = (
 )
 refuses_so new lists event why.Memory h stops = tt
 
-pub refused_event : (input : List ℕ) (nodes : List NodeValue) (starts : List Start) (events : List Event) (what : What) → AreStarted nodes starts → Script input starts events → StopsSo nodes events what
-    → RefusedEvent input what
-refused_event input nodes starts events what are script (new, stop, stopped, is) = record {
+-- a stop for another cause than memory is the fault of an event
+pub why_of_event : (cause : Why) → what_of_why cause ≢ Memory → IsOfEvent (what_of_why cause)
+why_of_event why.NoSuchNode other = refl
+why_of_event why.SameNode other = refl
+why_of_event why.TooManyRecords other = refl
+why_of_event why.Memory other = absurd (other refl)
+
+pub refused_event : (input : List ℕ) (nodes : List NodeValue) (starts : List Start) (events : List Event) (numbers : List ℕ) (level : Option ℕ) (report : Report)
+    → AreStarted nodes starts → Script input starts events → AreNumbered (input_lines input) starts events numbers level → StopsSo nodes events numbers level report → RefusedEvent input report
+refused_event input nodes starts events numbers level report are script each (new, stop, number, stopped, is, numbered, named) = record {
   starts = starts;
   events = events;
   script = script;
-  place = stop.done;
+  done = stop.done;
   event = stopped.why.0;
   at = stopped.why.1;
   refuses = subst (Refuses (heard_after starts (take stop.done events)) stopped.why.0) (sym is)
       (refuses_so new (heard_after starts (take stop.done events)) stopped.why.0 stop.why (tables_after nodes new starts (take stop.done events) are stopped.ran) stopped.why.2);
+  line = subst (ComesWith (input_lines input) starts events stop.done) (sym named) (each stop.done number stopped.before numbered);
 }

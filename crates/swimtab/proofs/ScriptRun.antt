@@ -1,10 +1,11 @@
 -- What was read of a script, line by line.
-use Rattle.std.proofs.Common.{◌≡◌, ◌≢◌, ℕ, zero, suc, ◌+◌, ◌<◌, ◌≤◌, ◌⊎◌, inl, inr, Bool, true, false, List, [], ◌∷◌, ◌++◌, Option, Some, None, is_some, length, map, take, drop, get_or, Bor, refl, sym, ap, ap₂, subst, ◌∙◌, append_assoc, append-nil, eqb-true, ne_eqb, IsSome, arith}
+use Rattle.std.proofs.Common.{◌≡◌, ◌≢◌, ℕ, zero, suc, ◌+◌, ◌<◌, ◌≤◌, ◌⊎◌, inl, inr, Bool, true, false, List, [], ◌∷◌, ◌++◌, Option, Some, None, is_some, length, map, take, drop, get_or, Bor, refl, sym, ap, ap₂, subst, ◌∙◌, append_assoc, append-nil, eqb-true, ne_eqb, arith}
 use Rattle.std.proofs.lemmas.Iterator.{YieldsList}
 use Rattle.std.proofs.lemmas.Iterator.Consumers.{YieldsList-so_far, YieldsList-turn}
 use Rattle.std.proofs.lemmas.List.Splits.{length-slice_split}
 use Rattle.std.proofs.lemmas.List.Sums.{count_by-le-length}
 use Rattle.std.specs.Iterator.{Yields}
+use Rattle.std.proofs.lemmas.List.FromFn.{length-enumerate_from, get_or-enumerate_from}
 use Rattle.std.proofs.lemmas.List.{length-append, length-map, map-append}
 use Rattle.std.specs.Str.Lines.{strip_carriage_return}
 use Rattle.std.specs.Prelude.{◌==◌}
@@ -14,9 +15,11 @@ use Rattle.swim_sync.specs.Levels.{level_list}
 use Rattle.swim_table.specs.Node.{NodeValue}
 use Rattle.swimtab.specs.declared.script.Plan.{Plan}
 use Rattle.swimtab.specs.declared.script_line.Line.TheVariants as line
-use Rattle.swimtab.specs.Script.{Start, IsStarted, AreStarted, NodeWords, EventWords, LevelWords, NodeLines, EventLines, LastLine, Script, not_empty, script_lines, words}
+use Rattle.swimtab.specs.Script.{Start, IsStarted, AreStarted, NodeWords, EventWords, LevelWords, NodeLines, EventLines, LastLine, ScriptOf, Script, IsFirstWrongLine, not_empty, script_lines, words}
 use Rattle.swimtab.specs.Lines.{input_lines}
-use Rattle.swimtab.specs.ScriptReading.{Adds, SpellsLine, SpellsNothing, TakesLine, IsOutOfPlace, plan_events}
+use Rattle.swimtab.specs.declared.report.Place.{Place}
+use Rattle.swimtab.specs.declared.report.Place.TheVariants as place
+use Rattle.swimtab.specs.ScriptReading.{Adds, SpellsLine, SpellsNothing, IsOutOfPlace, plan_events}
 use Rattle.swimtab.proofs.ScriptLines.{node_letters_of, event_letters_of, level_letters_of}
 
 -- ---- what may still follow, without what it says
@@ -46,8 +49,8 @@ follows_nodes count (line ∷ first) lines last starts told levelled nodes each 
     (refl, inl (refl, (nodes.0, nodes.2), follows_nodes count first lines last nodes.1 told levelled nodes.3 each own))
 
 -- a script is lines that may follow from the start on
-pub script_follows : (input : List ℕ) (starts : List Start) (events : List Event) → Script input starts events → Follows true false (script_lines input)
-script_follows input starts events script =
+script_follows : (lines : List (List ℕ)) (starts : List Start) (events : List Event) → ScriptOf lines starts events → Follows true false (script_lines lines)
+script_follows lines starts events script =
     subst (Follows true false) (sym (script.lines ∙ append_assoc script.node_lines script.event_lines script.last))
     (follows_nodes (length starts) script.node_lines script.event_lines script.last starts script.told script.levelled script.nodes script.each script.ends)
 
@@ -82,9 +85,8 @@ abbrev EndsWith : List (List ℕ) → Option ℕ → Type 0
 EndsWith last None = last ≡ []
 EndsWith last (Some number) = (line : List ℕ) × (last ≡ line ∷ []) × LevelWords (words line)
 
--- these lines that are not empty were read into the plan
-pub record WasRead (lines : List (List ℕ)) (plan : Plan) : Type 0 where
-  pub starts : List Start
+-- these lines that are not empty were read into the plan, with nodes that start so
+pub record WasRead (lines : List (List ℕ)) (starts : List Start) (plan : Plan) : Type 0 where
   pub node_lines : List (List ℕ)
   pub event_lines : List (List ℕ)
   pub last : List (List ℕ)
@@ -97,9 +99,8 @@ pub record WasRead (lines : List (List ℕ)) (plan : Plan) : Type 0 where
   pub follows : (rest : List (List ℕ)) → Follows true false (lines ++ rest) → Follows (length plan.events.items == 0) (is_some plan.level) rest
 
 -- nothing yet
-pub nothing_read : (plan : Plan) → plan.nodes.items ≡ [] → plan.events.items ≡ [] → plan.lines.items ≡ [] → plan.level ≡ None → WasRead [] plan
+pub nothing_read : (plan : Plan) → plan.nodes.items ≡ [] → plan.events.items ≡ [] → plan.lines.items ≡ [] → plan.level ≡ None → WasRead [] [] plan
 nothing_read plan nodes events lines level = record {
-  starts = [];
   node_lines = [];
   event_lines = [];
   last = [];
@@ -139,11 +140,11 @@ not_empty_append ([] ∷ lines) others = not_empty_append lines others
 not_empty_append ((byte ∷ bytes) ∷ lines) others = ap (λ l. (byte ∷ bytes) ∷ l) (not_empty_append lines others)
 
 -- a line that is not empty stays
-not_empty_one : (line : List ℕ) → line ≢ [] → not_empty (line ∷ []) ≡ line ∷ []
+pub not_empty_one : (line : List ℕ) → line ≢ [] → not_empty (line ∷ []) ≡ line ∷ []
 not_empty_one [] none = absurd (none refl)
 not_empty_one (byte ∷ bytes) none = refl
 
-nil_of_length : {A : Type 0} (xs : List A) → length xs ≡ 0 → xs ≡ []
+pub nil_of_length : {A : Type 0} (xs : List A) → length xs ≡ 0 → xs ≡ []
 nil_of_length [] l = refl
 nil_of_length (x ∷ xs) l = absurd (omega (arith, l))
 
@@ -160,25 +161,24 @@ after_one : (lines : List (List ℕ)) (text : List ℕ) (rest : List (List ℕ))
 after_one lines text rest f = subst (Follows true false) (append_assoc lines (text ∷ []) rest) f
 
 -- a line of a node was read
-read_node_line : (lines : List (List ℕ)) (text : List ℕ) (old new : Plan) (node : NodeValue) → WasRead lines old → old.level ≡ None
-    → SpellsLine (length old.events.items == 0) (words text) (line.Node node) → Adds old (line.Node node) new → WasRead (lines ++ text ∷ []) new
-read_node_line lines text old new node was unended spelled added =
+pub read_node_line : (lines : List (List ℕ)) (text : List ℕ) (starts : List Start) (number : ℕ) (old new : Plan) (node : NodeValue) → WasRead lines starts old → old.level ≡ None
+    → (spelled : SpellsLine (length old.events.items == 0) (words text) (line.Node node)) → Adds number old (line.Node node) new → WasRead (lines ++ text ∷ []) (starts ++ spelled.1 ∷ []) new
+read_node_line lines text starts number old new node was unended spelled added =
     let none : length old.events.items ≡ 0 = eqb-true (length old.events.items) 0 spelled.0 in
     let no_events : was.event_lines ≡ [] = no_event_lines was.event_lines old.events.items was.each none in
     let no_last : was.last ≡ [] = subst (EndsWith was.last) unended was.ends in
     let all = was.whole ∙ only_nodes was.node_lines was.event_lines was.last no_events no_last in
     let level = added.2 ∙ unended in
     record {
-      starts = was.starts ++ spelled.1 ∷ [];
       node_lines = was.node_lines ++ text ∷ [];
       event_lines = [];
       last = [];
       whole = ap (λ l. l ++ text ∷ []) all ∙ sym (only_nodes (was.node_lines ++ text ∷ []) [] [] refl refl);
-      started = subst (λ n. AreStarted n (was.starts ++ spelled.1 ∷ [])) (sym added.0) (started_push old.nodes.items was.starts node spelled.1 was.started spelled.3);
-      nodes = node_lines_push was.node_lines was.starts text spelled.1 was.nodes spelled.2;
+      started = subst (λ n. AreStarted n (starts ++ spelled.1 ∷ [])) (sym added.0) (started_push old.nodes.items starts node spelled.1 was.started spelled.3);
+      nodes = node_lines_push was.node_lines starts text spelled.1 was.nodes spelled.2;
       each = added.1 ∙ nil_of_length old.events.items none;
       ends = subst (EndsWith []) (sym level) refl;
-      count = added.3 ∙ was.count ∙ sym (ap length added.1);
+      count = ap length added.3 ∙ was.count ∙ sym (ap length added.1);
       follows = λ rest f.
           let next = after_node (length old.events.items == 0) (is_some old.level) text rest spelled.1 spelled.2 (was.follows (text ∷ rest) (after_one lines text rest f)) in
           let here : (length new.events.items == 0) ≡ true = ap (λ e. length e == 0) added.1 ∙ spelled.0 in
@@ -186,70 +186,53 @@ read_node_line lines text old new node was unended spelled added =
     }
 
 -- a line of an event was read
-read_event_line : (lines : List (List ℕ)) (text : List ℕ) (old new : Plan) (event : Event) → WasRead lines old → old.level ≡ None
-    → SpellsLine (length old.events.items == 0) (words text) (line.Event event) → Adds old (line.Event event) new → WasRead (lines ++ text ∷ []) new
-read_event_line lines text old new event was unended spelled added =
+pub read_event_line : (lines : List (List ℕ)) (text : List ℕ) (starts : List Start) (number : ℕ) (old new : Plan) (event : Event) → WasRead lines starts old → old.level ≡ None
+    → SpellsLine (length old.events.items == 0) (words text) (line.Event event) → Adds number old (line.Event event) new → WasRead (lines ++ text ∷ []) starts new
+read_event_line lines text starts number old new event was unended spelled added =
     let no_last : was.last ≡ [] = subst (EndsWith was.last) unended was.ends in
     let all : lines ≡ was.node_lines ++ was.event_lines = was.whole ∙ ap (λ l. was.node_lines ++ was.event_lines ++ l) no_last ∙ append-nil (was.node_lines ++ was.event_lines) in
     let level = added.2 ∙ unended in
     record {
-      starts = was.starts;
       node_lines = was.node_lines;
       event_lines = was.event_lines ++ text ∷ [];
       last = [];
       whole = ap (λ l. l ++ text ∷ []) all ∙ append_assoc was.node_lines was.event_lines (text ∷ []) ∙ sym (append-nil (was.node_lines ++ (was.event_lines ++ text ∷ [])));
-      started = subst (λ n. AreStarted n was.starts) (sym added.0) was.started;
+      started = subst (λ n. AreStarted n starts) (sym added.0) was.started;
       nodes = was.nodes;
       each = subst (EventLines (was.event_lines ++ text ∷ [])) (sym added.1) (event_lines_push was.event_lines old.events.items text event was.each spelled);
       ends = subst (EndsWith []) (sym level) refl;
-      count = added.3 ∙ ap (λ n. n + 1) was.count ∙ sym (ap length added.1 ∙ length-append old.events.items (event ∷ []));
+      count = ap length added.3 ∙ length-append old.lines.items (number ∷ []) ∙ ap (λ n. n + 1) was.count ∙ sym (ap length added.1 ∙ length-append old.events.items (event ∷ []));
       follows = λ rest f.
           let next = after_event (length old.events.items == 0) (is_some old.level) text rest event spelled (was.follows (text ∷ rest) (after_one lines text rest f)) in
           let here : (length new.events.items == 0) ≡ false = ap (λ e. length e == 0) added.1 ∙ pushed_some old.events.items event in
           subst (λ b. Follows b (is_some new.level) rest) (sym here) (subst (λ o. Follows false (is_some o) rest) (sym level) next);
     }
 
-ends_some : (text : List ℕ) (level : Option ℕ) → IsSome level → LevelWords (words text) → EndsWith (text ∷ []) level
-ends_some text None some own = absurd cc
-ends_some text (Some number) some own = (text, refl, own)
-
 -- after `level` nothing follows, whatever came before
-ended_any : (nodes : Bool) (level : Option ℕ) (rest : List (List ℕ)) → IsSome level → Follows false true rest → Follows nodes (is_some level) rest
-ended_any nodes level [] some f = tt
-ended_any nodes level (line ∷ rest) some f = let bad : true ≡ false = f.0 in absurd cc
+ended_any : (nodes ended : Bool) (rest : List (List ℕ)) → Follows false true rest → Follows nodes ended rest
+ended_any nodes ended [] f = tt
+ended_any nodes ended (line ∷ rest) f = let bad : true ≡ false = f.0 in absurd cc
 
 -- `level` was read
-read_level_line : (lines : List (List ℕ)) (text : List ℕ) (old new : Plan) → WasRead lines old → old.level ≡ None
-    → SpellsLine (length old.events.items == 0) (words text) line.Level → Adds old line.Level new → WasRead (lines ++ text ∷ []) new
-read_level_line lines text old new was unended spelled added =
+pub read_level_line : (lines : List (List ℕ)) (text : List ℕ) (starts : List Start) (number : ℕ) (old new : Plan) → WasRead lines starts old → old.level ≡ None
+    → SpellsLine (length old.events.items == 0) (words text) line.Level → Adds number old line.Level new → WasRead (lines ++ text ∷ []) starts new
+read_level_line lines text starts number old new was unended spelled added =
     let no_last : was.last ≡ [] = subst (EndsWith was.last) unended was.ends in
     let all : lines ≡ was.node_lines ++ was.event_lines = was.whole ∙ ap (λ l. was.node_lines ++ was.event_lines ++ l) no_last ∙ append-nil (was.node_lines ++ was.event_lines) in
     record {
-      starts = was.starts;
       node_lines = was.node_lines;
       event_lines = was.event_lines;
       last = text ∷ [];
       whole = ap (λ l. l ++ text ∷ []) all;
-      started = subst (λ n. AreStarted n was.starts) (sym added.0) was.started;
+      started = subst (λ n. AreStarted n starts) (sym added.0) was.started;
       nodes = was.nodes;
       each = subst (EventLines was.event_lines) (sym added.1) was.each;
-      ends = ends_some text new.level added.2 spelled;
-      count = added.3 ∙ was.count ∙ sym (ap length added.1);
+      ends = subst (EndsWith (text ∷ [])) (sym added.2) (text, refl, spelled);
+      count = ap length added.3 ∙ was.count ∙ sym (ap length added.1);
       follows = λ rest f.
           let next = after_level (length old.events.items == 0) (is_some old.level) text rest spelled (was.follows (text ∷ rest) (after_one lines text rest f)) in
-          ended_any (length new.events.items == 0) new.level rest added.2 next;
+          ended_any (length new.events.items == 0) (is_some new.level) rest next;
     }
-
--- one line more was read
-pub read_more : (lines : List (List ℕ)) (text : List ℕ) (old new : Plan) → WasRead lines old → TakesLine text old new → WasRead (lines ++ not_empty (text ∷ [])) new
-read_more lines text old new was (inl (none, same)) =
-    subst (WasRead (lines ++ not_empty (text ∷ []))) (sym same) (subst (λ t. WasRead (lines ++ not_empty (t ∷ [])) old) (sym none) (subst (λ l. WasRead l old) (sym (append-nil lines)) was))
-read_more lines text old new was (inr (some, unended, (line.Node node, spelled, added))) =
-    subst (λ l. WasRead (lines ++ l) new) (sym (not_empty_one text some)) (read_node_line lines text old new node was unended spelled added)
-read_more lines text old new was (inr (some, unended, (line.Event event, spelled, added))) =
-    subst (λ l. WasRead (lines ++ l) new) (sym (not_empty_one text some)) (read_event_line lines text old new event was unended spelled added)
-read_more lines text old new was (inr (some, unended, (line.Level, spelled, added))) =
-    subst (λ l. WasRead (lines ++ l) new) (sym (not_empty_one text some)) (read_level_line lines text old new was unended spelled added)
 
 -- ---- all lines
 
@@ -257,28 +240,28 @@ started_length : (nodes : List NodeValue) (starts : List Start) → AreStarted n
 started_length [] starts each = sym (ap length each)
 started_length (node ∷ nodes) starts each = ap suc (started_length nodes each.1 each.3) ∙ sym (ap length each.4)
 
-spelled_whole : (input : List ℕ) (node_lines event_lines last : List (List ℕ)) (starts : List Start) (events : List Event) (level : Option ℕ) (count : ℕ)
-    → script_lines input ≡ node_lines ++ event_lines ++ last → NodeLines node_lines starts → EventLines event_lines events → EndsWith last level → count ≡ length starts
-    → Script input starts (plan_events events count level)
-spelled_whole input node_lines event_lines last starts events None count lines nodes each ends same = record {
+spelled_whole : (lines node_lines event_lines last : List (List ℕ)) (starts : List Start) (events : List Event) (level : Option ℕ) (count : ℕ)
+    → script_lines lines ≡ node_lines ++ event_lines ++ last → NodeLines node_lines starts → EventLines event_lines events → EndsWith last level → count ≡ length starts
+    → ScriptOf lines starts (plan_events events count level)
+spelled_whole lines node_lines event_lines last starts events None count parts nodes each ends same = record {
   node_lines = node_lines;
   event_lines = event_lines;
   last = last;
   told = events;
   levelled = [];
-  lines = lines;
+  lines = parts;
   nodes = nodes;
   each = each;
   ends = subst (λ l. LastLine (length starts) l []) (sym ends) refl;
   whole = sym (append-nil events);
 }
-spelled_whole input node_lines event_lines last starts events (Some number) count lines nodes each ends same = record {
+spelled_whole lines node_lines event_lines last starts events (Some number) count parts nodes each ends same = record {
   node_lines = node_lines;
   event_lines = event_lines;
   last = last;
   told = events;
   levelled = level_list (length starts);
-  lines = lines;
+  lines = parts;
   nodes = nodes;
   each = each;
   ends = subst (λ l. LastLine (length starts) l (level_list (length starts))) (sym ends.1) (ends.2, refl, refl);
@@ -286,10 +269,9 @@ spelled_whole input node_lines event_lines last starts events (Some number) coun
 }
 
 -- the plan is that of the script
-pub was_read_whole : (input : List ℕ) (plan : Plan) → WasRead (script_lines input) plan
-    → (starts : List Start) × AreStarted plan.nodes.items starts × Script input starts (plan_events plan.events.items (length plan.nodes.items) plan.level)
-was_read_whole input plan was =
-    (was.starts, was.started, spelled_whole input was.node_lines was.event_lines was.last was.starts plan.events.items plan.level (length plan.nodes.items) was.whole was.nodes was.each was.ends (started_length plan.nodes.items was.starts was.started))
+pub was_read_whole : (lines : List (List ℕ)) (starts : List Start) (plan : Plan) → WasRead (script_lines lines) starts plan → ScriptOf lines starts (plan_events plan.events.items (length plan.nodes.items) plan.level)
+was_read_whole lines starts plan was =
+    spelled_whole lines was.node_lines was.event_lines was.last starts plan.events.items plan.level (length plan.nodes.items) was.whole was.nodes was.each was.ends (started_length plan.nodes.items starts was.started)
 
 -- ---- a line that is out of place
 
@@ -297,11 +279,11 @@ no_follow : (nodes : Bool) (level : Option ℕ) (text : List ℕ) (rest : List (
 no_follow nodes None text rest none f = nothing_follows nodes false text rest (none refl) f
 no_follow nodes (Some number) text rest none f = let bad : true ≡ false = f.0 in absurd cc
 
--- the input is no script
-pub no_script : (input : List ℕ) (lines : List (List ℕ)) (text : List ℕ) (rest : List (List ℕ)) (plan : Plan) → script_lines input ≡ lines ++ text ∷ rest → WasRead lines plan
-    → IsOutOfPlace text plan → (starts : List Start) (events : List Event) → ¬ Script input starts events
-no_script input lines text rest plan parts was wrong starts events script =
-    no_follow (length plan.events.items == 0) plan.level text rest wrong.1 (was.follows (text ∷ rest) (subst (Follows true false) parts (script_follows input starts events script)))
+-- the lines are no script
+no_script : (all lines : List (List ℕ)) (text : List ℕ) (rest : List (List ℕ)) (starts : List Start) (plan : Plan) → script_lines all ≡ lines ++ text ∷ rest → WasRead lines starts plan
+    → IsOutOfPlace text plan → (nodes : List Start) (events : List Event) → ¬ ScriptOf all nodes events
+no_script all lines text rest starts plan parts was wrong nodes events script =
+    no_follow (length plan.events.items == 0) plan.level text rest wrong.1 (was.follows (text ∷ rest) (subst (Follows true false) parts (script_follows all nodes events script)))
 
 -- ---- lines by their places
 
@@ -322,6 +304,14 @@ first_counted (x ∷ xs) k (suc n) (line ∷ lines) e =
     let rest = first_counted xs (k + 1) n lines (ap (drop 1) e) in
     ap₂ (λ a b. a ∷ b) (ap (λ p. p.1) here) rest
 
+-- the number of the item that is yielded
+pub number_of_line : (xs : List (ℕ × Bor (List ℕ))) (lines : List (List ℕ)) (index : ℕ) (line : List ℕ)
+    → (length xs < length (enumerate_from 0 lines)) × ((index, line) ≡ get_or (enumerate_from 0 lines) (length xs) (index, line)) → index + 1 ≡ length (map (λ p. p.1.now) xs) + 1
+number_of_line xs lines index line here =
+    let inside : length xs < length lines = omega (arith, here.0, length-enumerate_from 0 lines) in
+    let place : index ≡ 0 + length xs = ap (λ p. p.0) (here.1 ∙ get_or-enumerate_from 0 lines (length xs) (index, line) inside) in
+    omega (arith, place, length-map xs (λ p. p.1.now))
+
 parts_at : (lines : List (List ℕ)) (n : ℕ) (line : List ℕ) → n < length lines → line ≡ get_or lines n line → lines ≡ take n lines ++ line ∷ drop (suc n) lines
 parts_at [] n line l e = absurd (omega (arith, l))
 parts_at (first ∷ lines) zero line l e = ap (λ w. w ∷ lines) (sym e)
@@ -332,25 +322,42 @@ not_empty_first [] more some = absurd (some refl)
 not_empty_first (byte ∷ bytes) more some = refl
 
 -- the lines of a script around one of them
-pub script_parts : (input : List ℕ) (read : List (List ℕ)) (n : ℕ) (line text : List ℕ) → read ≡ take n (input_lines input) → n < length (input_lines input) → line ≡ get_or (input_lines input) n line
-    → text ≡ strip_carriage_return line → text ≢ [] → script_lines input ≡ not_empty (map strip_carriage_return read) ++ text ∷ not_empty (map strip_carriage_return (drop (suc n) (input_lines input)))
-script_parts input read n line text before within here strips some =
-    let lines = input_lines input in
-    let more = map strip_carriage_return (drop (suc n) lines) in
-    let parts : lines ≡ read ++ line ∷ drop (suc n) lines = parts_at lines n line within here ∙ ap (λ r. r ++ line ∷ drop (suc n) lines) (sym before) in
-    ap (λ l. not_empty (map strip_carriage_return l)) parts
-    ∙ ap not_empty (map-append strip_carriage_return read (line ∷ drop (suc n) lines))
-    ∙ not_empty_append (map strip_carriage_return read) (strip_carriage_return line ∷ more)
-    ∙ ap (λ t. not_empty (map strip_carriage_return read) ++ not_empty (t ∷ more)) (sym strips)
-    ∙ ap (λ l. not_empty (map strip_carriage_return read) ++ l) (not_empty_first text more some)
+script_parts : (before : List (List ℕ)) (line text : List ℕ) (after : List (List ℕ)) → text ≡ strip_carriage_return line → text ≢ []
+    → script_lines (before ++ line ∷ after) ≡ script_lines before ++ text ∷ script_lines after
+script_parts before line text after strips some =
+    ap not_empty (map-append strip_carriage_return before (line ∷ after))
+    ∙ not_empty_append (map strip_carriage_return before) (strip_carriage_return line ∷ map strip_carriage_return after)
+    ∙ ap (λ t. script_lines before ++ not_empty (t ∷ map strip_carriage_return after)) (sym strips)
+    ∙ ap (λ l. script_lines before ++ l) (not_empty_first text (map strip_carriage_return after) some)
+
+-- the line that is out of place is the first that makes the input no script
+pub first_wrong_line : (input : List ℕ) (before : List (List ℕ)) (line text : List ℕ) (starts : List Start) (plan : Plan) (at : Place)
+    → before ≡ take (length before) (input_lines input) → length before < length (input_lines input) → line ≡ get_or (input_lines input) (length before) line
+    → text ≡ strip_carriage_return line → WasRead (script_lines before) starts plan → IsOutOfPlace text plan → at ≡ place.Line (length before + 1) → IsFirstWrongLine input at
+first_wrong_line input before line text starts plan at first within here strips was wrong named =
+    let after = drop (suc (length before)) (input_lines input) in
+    record {
+      before = before;
+      line = line;
+      after = after;
+      parts = parts_at (input_lines input) (length before) line within here ∙ ap (λ b. b ++ line ∷ after) (sym first);
+      starts = starts;
+      events = plan_events plan.events.items (length plan.nodes.items) plan.level;
+      right = was_read_whole before starts plan was;
+      wrong = λ more nodes told. no_script (before ++ line ∷ more) (script_lines before) text (script_lines more) starts plan (script_parts before line text more strips wrong.0) was wrong nodes told;
+      named = named;
+    }
+
+-- an input with such a line is no script
+pub wrong_line_no_script : (input : List ℕ) (at : Place) → IsFirstWrongLine input at → (starts : List Start) (events : List Event) → ¬ Script input starts events
+wrong_line_no_script input at own starts events script = own.wrong own.after starts events (subst (λ l. ScriptOf l starts events) own.parts script)
 
 -- one line more of those that are not empty
-pub one_more_line : (read : List (List ℕ)) (line text : List ℕ) → text ≡ strip_carriage_return line
-    → not_empty (map strip_carriage_return (read ++ line ∷ [])) ≡ not_empty (map strip_carriage_return read) ++ not_empty (text ∷ [])
+pub one_more_line : (read : List (List ℕ)) (line text : List ℕ) → text ≡ strip_carriage_return line → script_lines (read ++ line ∷ []) ≡ script_lines read ++ not_empty (text ∷ [])
 one_more_line read line text strips =
     ap not_empty (map-append strip_carriage_return read (line ∷ []))
     ∙ not_empty_append (map strip_carriage_return read) (strip_carriage_return line ∷ [])
-    ∙ ap (λ t. not_empty (map strip_carriage_return read) ++ not_empty (t ∷ [])) (sym strips)
+    ∙ ap (λ t. script_lines read ++ not_empty (t ∷ [])) (sym strips)
 
 -- ---- how many nodes there are
 

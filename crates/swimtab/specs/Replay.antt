@@ -1,5 +1,5 @@
 -- What a script shows: for each node its number, and the listing of the table of what it has heard.
-use Rattle.std.specs.Prelude.{◌≡◌, ℕ, ◌+◌, true, Some, None, List, [], ◌∷◌, ◌++◌, codes, decimal, length, map, take, slice_get}
+use Rattle.std.specs.Prelude.{◌≡◌, ℕ, ◌+◌, true, Option, Some, None, List, [], ◌∷◌, ◌++◌, codes, decimal, length, map, take, slice_get}
 use Rattle.swim_claim.specs.declared.claim.Claim.{Claim}
 use Rattle.swim_table.specs.Listing.{listing}
 use Rattle.swim_table.specs.Node.{NodeValue}
@@ -11,10 +11,14 @@ use Rattle.swim_sync.specs.declared.stop.Why.TheVariants as why
 use Rattle.swim_sync.specs.Cluster.{NamesNodes, NamesOneTwice, Dumps, Stopped}
 use Rattle.swim_sync.specs.Exchanging.{HasTooMany}
 use Rattle.swim_sync.specs.Heard.{heard, heard_by}
+use Rattle.swimtab.specs.declared.report.Place.TheVariants.{Line}
+use Rattle.swimtab.specs.declared.report.Report.{Report}
 use Rattle.swimtab.specs.declared.report.What.{What}
 use Rattle.swimtab.specs.declared.report.What.TheVariants.{Refused, Device, Memory}
+use Rattle.swimtab.specs.Lines.{input_lines}
 use Rattle.swimtab.specs.Report.{is_of_event}
-use Rattle.swimtab.specs.Script.{Start, Script, member_of, start_claims}
+use Rattle.swimtab.specs.Script.{Start, Script, ComesWith, member_of, start_claims}
+use Rattle.swimtab.specs.ScriptReading.{event_line}
 
 -- the line with a node's number
 abbrev pub node_line : ℕ → List ℕ
@@ -53,15 +57,16 @@ Refuses lists event (Refused number found) =
 Refuses lists event Device = ⊥
 Refuses lists event Memory = Unit {0}
 
--- The input is a script with an event that does not happen after those before it.
-pub record RefusedEvent (input : List ℕ) (what : What) : Type 0 where
+-- The input is a script with an event that does not happen after those before it, and the place names the line that it comes with.
+pub record RefusedEvent (input : List ℕ) (report : Report) : Type 0 where
   pub starts : List Start
   pub events : List Event
   pub script : Script input starts events
-  pub place : ℕ
+  pub done : ℕ
   pub event : Event
-  pub at : slice_get events place ≡ Some event
-  pub refuses : Refuses (heard_after starts (take place events)) event what
+  pub at : slice_get events done ≡ Some event
+  pub refuses : Refuses (heard_after starts (take done events)) event report.what
+  pub line : ComesWith (input_lines input) starts events done report.place
 
 -- the fault of a stop
 abbrev pub what_of_why : Why → What
@@ -70,9 +75,11 @@ what_of_why why.SameNode = Refused 27 None
 what_of_why why.TooManyRecords = Refused 23 None
 what_of_why why.Memory = Memory
 
--- a run of the events on the nodes stops so
-abbrev pub StopsSo : List NodeValue → List Event → What → Type 0
-StopsSo nodes events what = (new : List NodeValue) × (stop : Stop) × Stopped nodes new events stop × (what ≡ what_of_why stop.why)
+-- a run of the events, which lines of these numbers tell, on the nodes stops so
+abbrev pub StopsSo : List NodeValue → List Event → List ℕ → Option ℕ → Report → Type 0
+StopsSo nodes events numbers level report =
+    (new : List NodeValue) × (stop : Stop) × (number : ℕ) × Stopped nodes new events stop × (report.what ≡ what_of_why stop.why)
+    × (event_line numbers level stop.done ≡ Some number) × (report.place ≡ Line number)
 
 -- it is the fault of an event
 abbrev pub IsOfEvent : What → Type 0

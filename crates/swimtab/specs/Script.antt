@@ -1,5 +1,5 @@
 -- Scripts: which lines spell which nodes and which events.
-use Rattle.std.specs.Prelude.{◌≡◌, ℕ, ◌<◌, ◌≤◌, ◌⊎◌, List, [], ◌∷◌, ◌++◌, length, map, Ok, codes, ◌==◌}
+use Rattle.std.specs.Prelude.{◌≡◌, ℕ, ◌+◌, ◌<◌, ◌≤◌, ◌⊎◌, List, [], ◌∷◌, ◌++◌, length, map, Ok, codes, ◌==◌}
 use Rattle.std.specs.List.{slice_split}
 use Rattle.std.specs.Str.Lines.{strip_carriage_return}
 use Rattle.std.specs.Str.Parse.{IsNumeral, digits_value}
@@ -17,6 +17,8 @@ use Rattle.swim_sync.specs.declared.event.Event.{Event}
 use Rattle.swim_sync.specs.declared.event.Event.TheVariants.{Hear, HearAll, Exchange, Half, Refute}
 use Rattle.swim_sync.specs.Heard.{Member}
 use Rattle.swim_sync.specs.Levels.{level_list}
+use Rattle.swimtab.specs.declared.report.Place.{Place}
+use Rattle.swimtab.specs.declared.report.Place.TheVariants.{Line}
 use Rattle.swimtab.specs.Lines.{input_lines}
 
 -- ---- words
@@ -112,8 +114,8 @@ not_empty ([] ∷ lines) = not_empty lines
 not_empty ((byte ∷ bytes) ∷ lines) = (byte ∷ bytes) ∷ not_empty lines
 
 -- the lines of a script: one carriage return at the end of each is dropped, and empty lines are skipped
-abbrev pub script_lines : List ℕ → List (List ℕ)
-script_lines input = not_empty (map strip_carriage_return (input_lines input))
+abbrev pub script_lines : List (List ℕ) → List (List ℕ)
+script_lines lines = not_empty (map strip_carriage_return lines)
 
 -- each line tells of one node
 abbrev pub NodeLines : List (List ℕ) → List Start → Type 0
@@ -132,15 +134,47 @@ abbrev pub LastLine : ℕ → List (List ℕ) → List Event → Type 0
 LastLine nodes [] events = events ≡ []
 LastLine nodes (line ∷ lines) events = LevelWords (words line) × (lines ≡ []) × (events ≡ level_list nodes)
 
--- The input is the script of these nodes and these events: lines of nodes, then lines of events, and `level` may end it.
-pub record Script (input : List ℕ) (starts : List Start) (events : List Event) : Type 0 where
+-- The lines are the script of these nodes and these events: lines of nodes, then lines of events, and `level` may end it.
+pub record ScriptOf (all : List (List ℕ)) (starts : List Start) (events : List Event) : Type 0 where
   pub node_lines : List (List ℕ)
   pub event_lines : List (List ℕ)
   pub last : List (List ℕ)
   pub told : List Event
   pub levelled : List Event
-  pub lines : script_lines input ≡ node_lines ++ event_lines ++ last
+  pub lines : script_lines all ≡ node_lines ++ event_lines ++ last
   pub nodes : NodeLines node_lines starts
   pub each : EventLines event_lines told
   pub ends : LastLine (length starts) last levelled
   pub whole : events ≡ told ++ levelled
+
+-- the input is the script of these nodes and these events
+abbrev pub Script : List ℕ → List Start → List Event → Type 0
+Script input starts events = ScriptOf (input_lines input) starts events
+
+-- The place names the line, counted from 1, that makes the input no script: those before it are one, and with it, whatever follows, they are none.
+pub record IsFirstWrongLine (input : List ℕ) (place : Place) : Type 0 where
+  pub before : List (List ℕ)
+  pub line : List ℕ
+  pub after : List (List ℕ)
+  pub parts : input_lines input ≡ before ++ line ∷ after
+  pub starts : List Start
+  pub events : List Event
+  pub right : ScriptOf before starts events
+  pub wrong : (more : List (List ℕ)) (nodes : List Start) (told : List Event) → ¬ ScriptOf (before ++ line ∷ more) nodes told
+  pub named : place ≡ Line (length before + 1)
+
+-- Event k comes with the line, counted from 1, that the place names: the lines before it tell of earlier events alone, and with it also of that one.
+pub record ComesWith (lines : List (List ℕ)) (starts : List Start) (events : List Event) (k : ℕ) (place : Place) : Type 0 where
+  pub before : List (List ℕ)
+  pub line : List ℕ
+  pub after : List (List ℕ)
+  pub parts : lines ≡ before ++ line ∷ after
+  pub earlier : List Event
+  pub own : List Event
+  pub later : List Event
+  pub order : events ≡ (earlier ++ own) ++ later
+  pub without : ScriptOf before starts earlier
+  pub tells : ScriptOf (before ++ line ∷ []) starts (earlier ++ own)
+  pub not_before : length earlier ≤ k
+  pub not_after : k < length (earlier ++ own)
+  pub named : place ≡ Line (length before + 1)

@@ -1,5 +1,5 @@
 -- What a reader of scripts knows of the words of one line, and of the lines so far.
-use Rattle.std.specs.Prelude.{◌≡◌, ◌≢◌, ℕ, ◌+◌, Bool, true, ◌⊎◌, Option, Some, None, IsSome, List, [], ◌∷◌, ◌++◌, length, codes, ◌==◌}
+use Rattle.std.specs.Prelude.{◌≡◌, ◌≢◌, ℕ, zero, suc, ◌<◌, Bool, true, ◌⊎◌, Option, Some, None, List, [], ◌∷◌, ◌++◌, length, codes, ◌==◌}
 use Rattle.swim_sync.specs.declared.event.Event.{Event}
 use Rattle.swim_sync.specs.Levels.{level_list}
 use Rattle.swimtab.specs.declared.keyword.Keyword.{Keyword}
@@ -7,7 +7,8 @@ use Rattle.swimtab.specs.declared.keyword.Keyword.TheVariants as key
 use Rattle.swimtab.specs.declared.script_line.Line.{Line}
 use Rattle.swimtab.specs.declared.script_line.Line.TheVariants as line
 use Rattle.swimtab.specs.declared.script.Plan.{Plan}
-use Rattle.swimtab.specs.Script.{Start, IsStarted, NodeWords, EventWords, LevelWords, NodeNumber, words}
+use Rattle.swimtab.specs.declared.report.Place.TheVariants as place
+use Rattle.swimtab.specs.Script.{Start, IsStarted, NodeWords, EventWords, LevelWords, NodeNumber, ComesWith, words}
 
 -- the first word of a line of this kind
 abbrev pub word_of : Keyword → List ℕ
@@ -40,20 +41,20 @@ pub record SpellsNothing (nodes : Bool) (words : List (List ℕ)) : Type 0 where
 
 -- ---- line by line
 
--- the line is added to the plan
-abbrev pub Adds : Plan → Line → Plan → Type 0
-Adds old (line.Node node) new =
-    (new.nodes.items ≡ old.nodes.items ++ node ∷ []) × (new.events.items ≡ old.events.items) × (new.level ≡ old.level) × (length new.lines.items ≡ length old.lines.items)
-Adds old (line.Event event) new =
-    (new.nodes.items ≡ old.nodes.items) × (new.events.items ≡ old.events.items ++ event ∷ []) × (new.level ≡ old.level) × (length new.lines.items ≡ length old.lines.items + 1)
-Adds old line.Level new =
-    (new.nodes.items ≡ old.nodes.items) × (new.events.items ≡ old.events.items) × IsSome new.level × (length new.lines.items ≡ length old.lines.items)
+-- the line of this number is added to the plan
+abbrev pub Adds : ℕ → Plan → Line → Plan → Type 0
+Adds number old (line.Node node) new =
+    (new.nodes.items ≡ old.nodes.items ++ node ∷ []) × (new.events.items ≡ old.events.items) × (new.level ≡ old.level) × (new.lines.items ≡ old.lines.items)
+Adds number old (line.Event event) new =
+    (new.nodes.items ≡ old.nodes.items) × (new.events.items ≡ old.events.items ++ event ∷ []) × (new.level ≡ old.level) × (new.lines.items ≡ old.lines.items ++ number ∷ [])
+Adds number old line.Level new =
+    (new.nodes.items ≡ old.nodes.items) × (new.events.items ≡ old.events.items) × (new.level ≡ Some number) × (new.lines.items ≡ old.lines.items)
 
 -- an empty line is skipped; another one is added, nodes only before all events, and nothing after `level`
-abbrev pub TakesLine : List ℕ → Plan → Plan → Type 0
-TakesLine text old new =
+abbrev pub TakesLine : List ℕ → ℕ → Plan → Plan → Type 0
+TakesLine text number old new =
     ((text ≡ []) × (new ≡ old))
-    ⊎ ((text ≢ []) × (old.level ≡ None) × ((said : Line) × SpellsLine (length old.events.items == 0) (words text) said × Adds old said new))
+    ⊎ ((text ≢ []) × (old.level ≡ None) × ((said : Line) × SpellsLine (length old.events.items == 0) (words text) said × Adds number old said new))
 
 -- the line is not empty, and after `level` or says nothing that may stand here
 abbrev pub IsOutOfPlace : List ℕ → Plan → Type 0
@@ -63,3 +64,14 @@ IsOutOfPlace text old = (text ≢ []) × (old.level ≡ None → SpellsNothing (
 abbrev pub plan_events : List Event → ℕ → Option ℕ → List Event
 plan_events events nodes None = events
 plan_events events nodes (Some number) = events ++ level_list nodes
+
+-- the number of the line of event k: its own, or else that of `level`
+abbrev pub event_line : List ℕ → Option ℕ → ℕ → Option ℕ
+event_line [] level k = level
+event_line (number ∷ numbers) level zero = Some number
+event_line (number ∷ numbers) level (suc k) = event_line numbers level k
+
+-- each event comes with the line of its number
+abbrev pub AreNumbered : List (List ℕ) → List Start → List Event → List ℕ → Option ℕ → Type 0
+AreNumbered lines starts events numbers level =
+    (k number : ℕ) → k < length events → event_line numbers level k ≡ Some number → ComesWith lines starts events k (place.Line number)

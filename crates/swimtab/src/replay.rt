@@ -1,12 +1,12 @@
 //! Scripts that are replayed: what the nodes of a cluster list after all that happened.
 
-ghost use Rattle.std.specs.Prelude.{◌≡◌, ◌≢◌, ◌↔◌, ◌<◌, ◌≤◌, ◌++◌, List, length, map, None, IfOk, IfErr, OnOk};
+ghost use Rattle.std.specs.Prelude.{◌≡◌, ◌≢◌, ◌↔◌, ◌<◌, ◌≤◌, ◌++◌, [], List, length, map, Some, None, IfOk, IfErr, OnOk};
 ghost use Rattle.swim_sync.specs.declared.event.Event.{Event};
 ghost use Rattle.swim_sync.specs.Cluster.{Ran};
 ghost use Rattle.swim_sync.specs.Levels.{level_list};
 ghost use Rattle.swimtab.specs.Replay.{IsOfEvent, RefusedEvent, Replays, StopsSo, node_line, shown_from};
 ghost use Rattle.swimtab.specs.Report.{IsAmong};
-ghost use Rattle.swimtab.specs.Script.{Script, Start};
+ghost use Rattle.swimtab.specs.Script.{Script, Start, IsFirstWrongLine};
 ghost use Rattle.swimtab.specs.ScriptReading.{plan_events};
 
 use crate::report::{Place, Report, What};
@@ -27,10 +27,12 @@ pub fn script(alloc: Global, input: &[u8]) -> Result<Vec<u8>, Report>
     // The input is a script, and the text shows what its nodes have heard.
     ensures replays { IfOk result (λ text. Replays input.now text.items) }
 
-    // Refused for the fault of an event, it is a script with such an event; else it is none.
-    ensures events { IfErr result (λ report. IsOfEvent report.what → RefusedEvent input.now report.what) }
+    // Refused for the fault of an event, it is a script with such an event, on the line that the report names;
+    // else it is none, from the line on that the report names.
+    ensures events { IfErr result (λ report. IsOfEvent report.what → RefusedEvent input.now report) }
     ensures refuses { IfErr result (λ report. report.what ≢ What.Memory → length input.now ≤ 268435456 → ¬ IsOfEvent report.what
         → (starts : List Start) → (events : List Event) → ¬ Script input.now starts events) }
+    ensures line { IfErr result (λ report. report.what ≢ What.Memory → length input.now ≤ 268435456 → ¬ IsOfEvent report.what → IsFirstWrongLine input.now report.place) }
     ensures long { (268435456 < length input.now) ↔ (result ≡ Err (record { place = Place.Input; what = What.Refused 32 None })) }
     ensures place { IfErr result (λ report. IsAmong report.place 0) }
 {
@@ -47,7 +49,7 @@ fn played(alloc: Global, plan: Plan) -> Result<Cluster, Report>
     requires lines { length plan.lines.items ≡ length plan.events.items }
     requires few { length plan.nodes.items ≤ 268435457 }
     ensures runs { IfOk result (λ cluster. Ran plan.nodes.items cluster (plan_events plan.events.items (length plan.nodes.items) plan.level)) }
-    ensures stops { IfErr result (λ report. StopsSo plan.nodes.items (plan_events plan.events.items (length plan.nodes.items) plan.level) report.what) }
+    ensures stops { IfErr result (λ report. StopsSo plan.nodes.items (plan_events plan.events.items (length plan.nodes.items) plan.level) plan.lines.items plan.level report) }
     ensures place { IfErr result (λ report. IsAmong report.place 0) }
 {
     let Plan {
@@ -70,7 +72,7 @@ fn played(alloc: Global, plan: Plan) -> Result<Cluster, Report>
 fn levelled(mut cluster: Cluster, line: u64) -> Result<Cluster, Report>
     requires { length cluster ≤ 2147483648 }
     ensures runs { IfOk result (λ new. Ran cluster new (level_list (length cluster))) }
-    ensures stops { IfErr result (λ report. StopsSo cluster (level_list (length cluster)) report.what) }
+    ensures stops { IfErr result (λ report. StopsSo cluster (level_list (length cluster)) [] (Some line) report) }
     ensures place { IfErr result (λ report. IsAmong report.place 0) }
 {
     match cluster.level() {

@@ -1,10 +1,10 @@
 //! Scripts: the nodes of a cluster, and what happens in it.
 
 ghost use Rattle.std.specs.Prelude.{◌≡◌, ◌≢◌, ◌↔◌, ◌<◌, ◌≤◌, [], List, length, None, IfOk, IfErr, OnOk};
-ghost use Rattle.swim_sync.specs.declared.event.Event.{Event};
+ghost use Rattle.swimtab.specs.Lines.{input_lines};
 ghost use Rattle.swimtab.specs.Report.{IsAmong, IsOfReading};
-ghost use Rattle.swimtab.specs.Script.{Script, Start, AreStarted};
-ghost use Rattle.swimtab.specs.ScriptReading.{Adds, TakesLine, IsOutOfPlace, plan_events};
+ghost use Rattle.swimtab.specs.Script.{Script, Start, AreStarted, IsFirstWrongLine};
+ghost use Rattle.swimtab.specs.ScriptReading.{Adds, AreNumbered, TakesLine, IsOutOfPlace, plan_events};
 
 use crate::device::BOUND;
 use crate::lines::without_return;
@@ -42,9 +42,9 @@ impl Plan {
         }
     }
 
-    /// Takes in a line by its number, if the line is not empty.
+    /// Takes in the line of this number, if the line is not empty.
     fn take_line(&mut self, alloc: Global, line: &[u8], number: u64) -> Result<(), What>
-        ensures takes { OnOk result (TakesLine line.now self.old self.new) }
+        ensures takes { OnOk result (TakesLine line.now number self.old self.new) }
         ensures refuses { IfErr result (λ what. what ≢ What.Memory → IsOutOfPlace line.now self.old) }
         ensures kind { IfErr result IsOfReading }
     {
@@ -59,9 +59,9 @@ impl Plan {
         Ok(())
     }
 
-    /// One line more.
+    /// One line more, by its number.
     fn add(&mut self, line: Line, number: u64) -> Result<(), AllocError>
-        ensures { OnOk result (Adds self.old line self.new) }
+        ensures { OnOk result (Adds number self.old line self.new) }
     {
         match line {
             Line::Node(node) => self.nodes.push(node)?,
@@ -81,17 +81,17 @@ impl Plan {
 /// those of events; the last may be `level`. The first line that is refused is reported by its number
 /// from 1, and an input of more than 268,435,456 bytes is refused as a whole (InputTooLong).
 pub(crate) fn read_script(alloc: Global, input: &[u8]) -> Result<Plan, Report>
-    // The lines spell the nodes of the plan and its events.
+    // The lines spell the nodes of the plan and its events, and each event comes with the line of its number.
     ensures reads { IfOk result (λ plan. (starts : List Start) × AreStarted plan.nodes.items starts
-        × Script input.now starts (plan_events plan.events.items (length plan.nodes.items) plan.level)) }
+        × Script input.now starts (plan_events plan.events.items (length plan.nodes.items) plan.level)
+        × AreNumbered (input_lines input.now) starts (plan_events plan.events.items (length plan.nodes.items) plan.level) plan.lines.items plan.level) }
 
     // There are at most as many nodes as bytes, and one event for each number of a line.
     ensures few { IfOk result (λ plan. length plan.nodes.items ≤ 268435457) }
     ensures lines { IfOk result (λ plan. length plan.lines.items ≡ length plan.events.items) }
 
-    // Refused for another cause than memory and its length, the input is no script.
-    ensures refuses { IfErr result (λ report. report.what ≢ What.Memory → length input.now ≤ 268435456
-        → (starts : List Start) → (events : List Event) → ¬ Script input.now starts events) }
+    // Refused for another cause than memory and its length, the report names the first line that makes the input no script.
+    ensures line { IfErr result (λ report. report.what ≢ What.Memory → length input.now ≤ 268435456 → IsFirstWrongLine input.now report.place) }
     ensures long { (268435456 < length input.now) ↔ (result ≡ Err (record { place = Place.Input; what = What.Refused 32 None })) }
     ensures kind { IfErr result (λ report. IsOfReading report.what) }
     ensures place { IfErr result (λ report. IsAmong report.place 0) }
