@@ -3,28 +3,32 @@
 #   make            the program, at build/swimtab
 #   make run        the listing of examples/packets.hex
 #   make test       the gate
+#   make bench      what a record costs, by size and by order of the names; some minutes
 #   make install    copies the program to PREFIX/bin, and its page to PREFIX/share/man/man1
 #   make clean      removes what was built
 
 PREFIX ?= /usr/local
 SOURCES := $(shell find crates -type f -not -path '*/out/*') crates.txt HANDLES
 
-.PHONY: all run test install clean kit
+.PHONY: all run test bench install clean kit
 
 all: build/swimtab
 
-build/swimtab: $(SOURCES) | kit
+build/swimtab build/swimbench: build/%: $(SOURCES) | kit
 	@mkdir -p build
-	@echo 'proving and building swimtab; the first time takes some minutes'
-	@cd crates/swimtab && rt run < /dev/null > out.log 2>&1 || { cat out.log; rm -f out.log; exit 1; }
-	@rm -f crates/swimtab/out.log
-	@cp crates/swimtab/out/swimtab build/swimtab
+	@echo 'proving and building $*; the first time takes some minutes'
+	@cd crates/$* && rt run < /dev/null > out.log 2>&1 || { cat out.log; rm -f out.log; exit 1; }
+	@rm -f crates/$*/out.log
+	@cp crates/$*/out/$* build/$*
 
 run: build/swimtab
 	@build/swimtab < examples/packets.hex
 
 test: kit
 	@.ci/gate
+
+bench: build/swimbench
+	@build/swimbench
 
 install: build/swimtab
 	@mkdir -p '$(DESTDIR)$(PREFIX)/bin' '$(DESTDIR)$(PREFIX)/share/man/man1'

@@ -1,9 +1,10 @@
 -- Refused pulls of inlets over memory, which leave all the bytes.
-use Rattle.std.proofs.Common.{◌≡◌, ℕ, ◌<◌, ◌≤◌, List, [], Some, Result, Ok, Err, refl, sym, arith}
-use Rattle.std.specs.Prelude.{OnErr, IsOk, ◌↔◌}
+use Rattle.std.proofs.Common.{◌≡◌, ℕ, ◌<◌, ◌≤◌, Bool, true, false, List, [], ◌++◌, length, take, drop, Some, Result, Ok, Err, refl, sym, ap, ◌∙◌, arith}
+use Rattle.std.proofs.lemmas.List.{length-take-le, take-append-drop}
+use Rattle.std.specs.Prelude.{OnErr, IsOk, IsTrue, MatchBool, ◌↔◌}
 use Rattle.swim_pack.specs.declared.fault.PullFault.{PullFault}
 use Rattle.swim_pack.specs.declared.fault.PullFault.TheVariants.{Ended, Fault}
-use Rattle.swim_pack.specs.Ends.{Skips}
+use Rattle.swim_pack.specs.Ends.{Source, Skips, Passes}
 
 -- bytes that stay are an end of themselves
 pub Skips-kept : {A E : Type 0} (r : Result A E) (old new : List ℕ) → OnErr r (new ≡ old) → OnErr r (Skips (Some old) (Some new))
@@ -20,3 +21,15 @@ pub ok_where_empty : {A : Type 0} (r : Result A PullFault) (wanted left calls : 
 ok_where_empty (Ok x) wanted left calls stops ended none = refl
 ok_where_empty (Err Ended) wanted left calls stops ended none = let short = ended refl in absurd (omega arith)
 ok_where_empty (Err Fault) wanted left calls stops ended none = let room = (stops.0 refl).0 in absurd (omega arith)
+
+-- bytes that tell themselves, of which none failed
+abbrev told : List ℕ → Source
+told bytes = record { coming = Some bytes; faults = 0 }
+
+-- so many bytes of the front are gone where so many were there
+pub passed_front : (b : Bool) (count : ℕ) (old new : List ℕ) → MatchBool b (new ≡ drop count old) (new ≡ old) → (IsTrue b ↔ (count ≤ length old))
+    → MatchBool b (Passes (told old) (told new) count) (told new ≡ told old)
+passed_front true count old new is enough =
+    let long : count ≤ length old = enough.0 refl in
+    ((take count old, length-take-le count old long, sym (take-append-drop count old) ∙ ap (λ (r : List ℕ). take count old ++ r) (sym is)), refl)
+passed_front false count old new is enough = ap told is

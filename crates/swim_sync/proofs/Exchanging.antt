@@ -1,7 +1,10 @@
 -- Tables that take a stream's claims in, and tables that come back from their dumps.
-use Rattle.std.proofs.Common.{◌≡◌, ◌↔◌, ℕ, ◌≤◌, Bool, false, List, ◌++◌, length, Ok, Err, sym, ap, subst, ◌∙◌, arith}
+use Rattle.std.proofs.Common.{◌≡◌, ◌↔◌, ℕ, ◌≤◌, Bool, false, List, ◌++◌, length, Ok, Err, refl, sym, ap, subst, ◌∙◌, arith}
 use Rattle.swim_claim.specs.declared.claim.Claim.{Claim}
-use Rattle.swim_pack.specs.Ends.{Source, Takes}
+use Rattle.std.specs.Io.KnownBytes.{Keeps}
+use Rattle.swim_pack.specs.declared.fault.PushFault.{PushFault}
+use Rattle.swim_pack.specs.declared.fault.PushFault.TheVariants as push
+use Rattle.swim_pack.specs.Ends.{Source, Sink, Takes, Rises, AppendsFront}
 use Rattle.swim_wire.specs.Streams.{StreamText}
 use Rattle.swim_table.specs.declared.fault.EncodeFault.TheVariants.{TooManyRecords}
 use Rattle.swim_table.specs.Dump.{dump_bytes}
@@ -9,7 +12,8 @@ use Rattle.swim_table.specs.Join.{Join}
 use Rattle.swim_table.specs.Table.{Entries, Reduced, TableOf, IsLegalTable}
 use Rattle.swim_table.proofs.Showing.{TableOf-sent}
 use Rattle.swim_table.proofs.Tables.{TableOf-table_of, TableOf-Reduced, TableOf-Join, Join-comm}
-use Rattle.swim_sync.specs.Exchanging.{TakesStream, HasTooMany}
+use Rattle.swim_sync.specs.Exchanging.{TakesStream, HasTooMany, IsAnswerRefused}
+use Rattle.swim_sync.specs.Fault.{fault_of_push}
 
 -- a stream was read, and its table joined in
 pub joined_in : (old new : Source) (before theirs after : Entries) (join : Bool)
@@ -48,3 +52,11 @@ pub both_take : (first second a b : Entries) → (a ≡ Join first second) × (b
 both_take first second a b same claims others h g =
     let joined = TableOf-Join first second claims others h g in
     (subst (λ t. TableOf t (claims ++ others)) (sym same.0) joined, subst (λ t. TableOf t (claims ++ others)) (sym same.1) joined)
+
+-- a dump was not pushed
+pub push_refused : (old new : Source) (out_old out_new : Sink) (table theirs : Entries) (join : Bool) (bytes : List ℕ) → bytes ≡ dump_bytes table join
+    → ((claims : List Claim) × TableOf theirs claims × Takes old new (λ b. StreamText b claims join))
+    → (e : PushFault) → (e ≡ push.Fault → Rises out_old.faults out_new.faults) → (e ≡ push.Fault → AppendsFront out_old.written out_new.written bytes) → (e ≡ push.Memory → Keeps out_old.written out_new.written)
+    → IsAnswerRefused old new out_old out_new table (fault_of_push e)
+push_refused old new out_old out_new table theirs join bytes is read push.Fault failed front kept = (read.0, join, read.2, record { failed = failed refl; front = subst (AppendsFront out_old.written out_new.written) is (front refl) })
+push_refused old new out_old out_new table theirs join bytes is read push.Memory failed front kept = kept refl

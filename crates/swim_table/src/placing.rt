@@ -1,31 +1,71 @@
 //! Where a name is among entries in the order of their names, and how an entry gets there.
-ghost use Rattle.std.specs.Prelude.{◌≡◌, ◌+◌, ◌≤◌, ◌<◌, length, vec_capacity, IfOk, IfErr};
+ghost use Rattle.std.specs.Prelude.{◌≡◌, ◌+◌, ◌≤◌, ◌<◌, length, IfOk, IfErr, MatchResult, OnOk, OnErr};
 ghost use Rattle.swim_claim.specs.Claim.{name_of};
-ghost use Rattle.swim_table.specs.Table.{name_cmp, IsAscending};
+ghost use Rattle.std.specs.List.Sorted.{IsPermutation};
+ghost use Rattle.swim_table.specs.Table.{Entries, name_cmp, IsAscending};
 ghost use Rattle.swim_table.specs.Place.{IsAt, IsGapFor};
+ghost use Rattle.tiered_vec.specs.Tiers.{items, index_of, room, IsPlace, IsGap};
 ghost use Rattle.swim_table.specs.Join.{put, put_each};
 
 use crate::entry::Entry;
+use std::alloc::AllocError;
 use std::cmp::Ordering;
+use tiered_vec::{Place, TieredVec};
 
-/// Where the name is, or else where it would go.
-pub(crate) fn find_place(entries: &[Entry], name: &[u8]) -> Result<usize, usize>
-    requires { IsAscending entries.now }
-    ensures found { IfOk result (IsAt entries.now name.now) }
-    ensures absent { IfErr result (IsGapFor entries.now name.now) }
+/// Where the name is, or else where it would go. A name above the last one, as each is where names
+/// come in ascending order, costs one comparison.
+pub(crate) fn find_place(entries: &TieredVec<Entry>, name: &[u8]) -> Result<Place, Place>
+    requires { IsAscending (items entries.now) }
+    ensures range { MatchResult result (IsPlace entries.now.blocks) (IsGap entries.now.blocks) }
+    ensures found { IfOk result (λ p. IsAt (items entries.now) name.now (index_of entries.now.blocks p)) }
+    ensures absent { IfErr result (λ p. IsGapFor (items entries.now) name.now (index_of entries.now.blocks p)) }
 {
-    entries.binary_search_by(
+    if let Some(last) = entries.last() {
+        if last.name().bytes().cmp(name).is_lt() {
+            return Err(entries.end());
+        }
+    }
+    search_place(entries, name)
+}
+
+/// Where the name is, or else where it would go, by a binary search.
+fn search_place(entries: &TieredVec<Entry>, name: &[u8]) -> Result<Place, Place>
+    requires { IsAscending (items entries.now) }
+    ensures range { MatchResult result (IsPlace entries.now.blocks) (IsGap entries.now.blocks) }
+    ensures found { IfOk result (λ p. IsAt (items entries.now) name.now (index_of entries.now.blocks p)) }
+    ensures absent { IfErr result (λ p. IsGapFor (items entries.now) name.now (index_of entries.now.blocks p)) }
+{
+    entries.find_by(
         |entry: &Entry| -> Ordering
             ensures { result ≡ name_cmp (name_of entry.now.top) name.entry.now }
         { entry.name().bytes().cmp(name) },
     )
 }
 
+/// Puts each entry at its place in the order of their names, so that one goes near the one before.
+/// There is memory for the order and for all entries, or nothing changes.
+pub(crate) fn put_sorted(
+    entries: &mut TieredVec<Entry>,
+    others: Vec<Entry>,
+) -> Result<(), AllocError>
+    requires { IsAscending (items entries.old) }
+    ensures ok { OnOk result ((sorted : Entries) × IsPermutation others.items sorted × (items entries.new ≡ put_each (items entries.old) sorted)) }
+    ensures err { OnErr result (items entries.new ≡ items entries.old) }
+{
+    let mut others = others;
+    others.sort_by(|one: &Entry, other: &Entry| -> Ordering {
+        one.name().bytes().cmp(other.name().bytes())
+    })?;
+    entries.reserve(others.len())?;
+    put_all(entries, others);
+    Ok(())
+}
+
 /// Puts each entry at its place, or combines it with the one that is there. There is room for all.
-pub(crate) fn put_all(entries: &mut Vec<Entry>, others: Vec<Entry>)
-    requires ascending { IsAscending entries.old.items }
-    requires room { length entries.old.items + length others.items ≤ vec_capacity entries.old }
-    ensures { entries.new.items ≡ put_each entries.old.items others.items }
+fn put_all(entries: &mut TieredVec<Entry>, others: Vec<Entry>)
+    requires ascending { IsAscending (items entries.old) }
+    requires room { length others.items ≤ room entries.old }
+    ensures { items entries.new ≡ put_each (items entries.old) others.items }
 {
     for other in others {
         put_in_room(entries, other);
@@ -33,15 +73,18 @@ pub(crate) fn put_all(entries: &mut Vec<Entry>, others: Vec<Entry>)
 }
 
 /// Puts an entry, for which there is room, at its place, or combines it with the one that is there.
-fn put_in_room(entries: &mut Vec<Entry>, other: Entry)
-    requires ascending { IsAscending entries.old.items }
-    requires room { length entries.old.items < vec_capacity entries.old }
-    ensures items { entries.new.items ≡ put entries.old.items other }
-    ensures capacity { vec_capacity entries.old ≤ vec_capacity entries.new }
+fn put_in_room(entries: &mut TieredVec<Entry>, other: Entry)
+    requires ascending { IsAscending (items entries.old) }
+    requires room { 0 < room entries.old }
+    ensures items { items entries.new ≡ put (items entries.old) other }
+    ensures room { room entries.old ≤ room entries.new + 1 }
 {
     match find_place(entries, other.name().bytes()) {
-        Ok(place) => entries[place].combine(other),
-        Err(place) => match entries.insert(place, other) {
+        Ok(place) => {
+            let entry = entries.get_mut_at(place);
+            entry.combine(other);
+        }
+        Err(place) => match entries.insert_at(place, other) {
             Ok(()) => {}
             Err(_) => unreachable!(),
         },

@@ -27,3 +27,5 @@ pub mod Explaining
 pub mod Parts
 pub mod WholeDatagrams
 pub mod UserState
+pub mod InOrder
+pub mod AtHand

@@ -10,4 +10,6 @@ pub mod Checks
 pub mod Datagrams
 pub mod Pairs
 pub mod Parts
+pub mod PacketList
 pub mod Streams
+pub mod InOrder

@@ -1,7 +1,9 @@
 //! Datagrams: one packet each, or a compound packet of several.
 
-ghost use Rattle.std.specs.Prelude.{◌≢◌, [], List, IfOk, IfErr};
+ghost use Rattle.std.specs.Prelude.{◌≡◌, ◌≢◌, ◌↔◌, [], List, IfOk, IfErr};
+ghost use Rattle.swim_wire.specs.Checks.{BeginsWith};
 ghost use Rattle.swim_wire.specs.Datagrams.{alone, packets_of, parts_at, compound_at, whole_datagram, ExplainsDatagram};
+ghost use Rattle.swim_wire.specs.PacketList.{packets_in, IsCompound};
 ghost use Rattle.swim_wire.specs.Packet.{PacketValue};
 ghost use Rattle.swim_wire.specs.Reading.{nothing_after, whole_packet};
 ghost use Rattle.swim_wire.specs.Texts.{DatagramText};
@@ -11,6 +13,54 @@ use crate::WireFault;
 use crate::message::COMPOUND_MESSAGE;
 use crate::packet::{Packet, decode_whole};
 use std::alloc::{AllocError, Global};
+
+/// What a datagram carries: a packet by itself, or the packets of a compound packet.
+#[derive(Drop, Debug)]
+pub enum Datagram {
+    /// A packet by itself.
+    Packet(Packet),
+    /// The packets of a compound packet, in their order. There may be none.
+    Compound(Vec<Packet>),
+}
+
+impl Datagram {
+    /// Reads a datagram as [`decode_datagram`] does, and tells a packet by itself from a compound
+    /// packet. For a packet by itself no list of packets takes memory.
+    ///
+    /// # Errors
+    ///
+    /// Those of [`decode_datagram`].
+    pub fn decode(alloc: Global, bytes: &[u8]) -> Result<Datagram, WireFault>
+        // The bytes are a datagram of the packets, and a compound packet begins with its type byte.
+        ensures reads { IfOk result (λ datagram. DatagramText bytes.now (packets_in datagram)) }
+        ensures compound { IfOk result (λ datagram. IsCompound datagram ↔ BeginsWith 7 bytes.now) }
+
+        // Refused for another cause than memory they are no datagram, and the refusal says why.
+        ensures refuses { IfErr result (λ fault. fault ≢ WireFault.Memory
+            → (packets : List PacketValue) → ¬ DatagramText bytes.now packets) }
+        ensures explains { IfErr result (λ fault. fault ≢ WireFault.Memory → ExplainsDatagram fault bytes.now) }
+    {
+        decode_either(alloc, bytes)
+    }
+
+    /// The packets as a list.
+    ///
+    /// # Errors
+    ///
+    /// Memory for the list of a packet by itself is refused.
+    pub fn into_packets(self, alloc: Global) -> Result<Vec<Packet>, AllocError>
+        ensures { IfOk result (λ packets. packets.items ≡ packets_in self) }
+    {
+        match self {
+            Datagram::Packet(packet) => {
+                let mut packets = Vec::new(alloc);
+                packets.push(packet)?;
+                Ok(packets)
+            }
+            Datagram::Compound(packets) => Ok(packets),
+        }
+    }
+}
 
 /// Reads the packets of a datagram: one packet, or a compound packet. That has its type byte, the
 /// count of its parts in one byte, their lengths in two bytes each with the higher first, and the
@@ -32,26 +82,36 @@ pub fn decode_datagram(alloc: Global, bytes: &[u8]) -> Result<Vec<Packet>, WireF
     ensures refuses { IfErr result (λ fault. fault ≢ WireFault.Memory → (packets : List PacketValue) → ¬ DatagramText bytes.now packets) }
     ensures explains { IfErr result (λ fault. fault ≢ WireFault.Memory → ExplainsDatagram fault bytes.now) }
 {
-    decode_either(alloc, bytes)
+    decode_all(alloc, bytes)
 }
 
-fn decode_either(alloc: Global, bytes: &[u8]) -> Result<Vec<Packet>, WireFault>
+fn decode_all(alloc: Global, bytes: &[u8]) -> Result<Vec<Packet>, WireFault>
     ensures { ListsUnlessMemory (λ packets. packets.items) (whole_datagram bytes.now) result }
 {
+    let packets = decode_either(alloc, bytes)?.into_packets(alloc)?;
+    Ok(packets)
+}
+
+fn decode_either(alloc: Global, bytes: &[u8]) -> Result<Datagram, WireFault>
+    ensures lists { ListsUnlessMemory packets_in (whole_datagram bytes.now) result }
+    ensures compound { IfOk result (λ datagram. IsCompound datagram ↔ BeginsWith 7 bytes.now) }
+{
     match bytes.split_first() {
-        Some((first, body)) if *first == COMPOUND_MESSAGE => decode_compound(alloc, body),
+        Some((first, body)) if *first == COMPOUND_MESSAGE => {
+            let packets = decode_compound(alloc, body)?;
+            Ok(Datagram::Compound(packets))
+        }
         _ => decode_alone(alloc, bytes),
     }
 }
 
 /// A packet by itself.
-fn decode_alone(alloc: Global, bytes: &[u8]) -> Result<Vec<Packet>, WireFault>
-    ensures { ListsUnlessMemory (λ packets. packets.items) (alone (whole_packet bytes.now)) result }
+fn decode_alone(alloc: Global, bytes: &[u8]) -> Result<Datagram, WireFault>
+    ensures lists { ListsUnlessMemory packets_in (alone (whole_packet bytes.now)) result }
+    ensures alone { IfOk result (λ datagram. ¬ IsCompound datagram) }
 {
     let packet = decode_whole(alloc, bytes)?;
-    let mut packets = Vec::new(alloc);
-    packets.push(packet).map_err(AllocError::from)?;
-    Ok(packets)
+    Ok(Datagram::Packet(packet))
 }
 
 /// What follows the type byte of a compound packet.

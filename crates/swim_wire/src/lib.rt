@@ -5,6 +5,7 @@ mod canonical;
 mod canonical_law;
 mod datagram;
 mod fault;
+mod in_order;
 pub mod laws;
 mod layout;
 mod map;
@@ -15,7 +16,7 @@ mod stream_law;
 mod user_state;
 
 pub use canonical::{encode_compound, encode_packet, write_header, write_state};
-pub use datagram::decode_datagram;
+pub use datagram::{Datagram, decode_datagram};
 pub use fault::WireFault;
 pub use packet::{Packet, decode_packet};
 pub use stream::{Header, read_header, read_state};

@@ -10,6 +10,7 @@ ghost use Rattle.swim_wire.specs.Reading.{wire_cause, packet_at, alive_at, suspe
 ghost use Rattle.swim_wire.specs.Texts.{PacketText};
 
 use crate::WireFault;
+use crate::in_order::packet_in_order;
 use crate::layout::{ACCUSATION, ALIVE};
 use crate::map::read_map;
 use crate::message::{ALIVE_MESSAGE, Accusation, Alive, DEAD_MESSAGE, SUSPECT_MESSAGE};
@@ -87,6 +88,16 @@ pub fn decode_packet(alloc: Global, bytes: &[u8]) -> Result<Packet, WireFault>
 }
 
 pub(crate) fn decode_whole(alloc: Global, bytes: &[u8]) -> Result<Packet, WireFault>
+    ensures { AnswersUnlessMemory (whole_packet bytes.now) result }
+{
+    match packet_in_order(alloc, bytes)? {
+        Some(packet) => Ok(packet),
+        None => decode_any(alloc, bytes),
+    }
+}
+
+/// The packet, however its map is written.
+pub(crate) fn decode_any(alloc: Global, bytes: &[u8]) -> Result<Packet, WireFault>
     ensures { AnswersUnlessMemory (whole_packet bytes.now) result }
 {
     let mut inlet = SliceInlet::new(bytes);

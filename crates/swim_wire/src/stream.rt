@@ -12,6 +12,7 @@ ghost use Rattle.swim_wire.specs.Slots.{FitsEach, slots_of};
 ghost use Rattle.swim_wire.specs.Texts.{HeaderText, StateText};
 
 use crate::WireFault;
+use crate::in_order::{read_header_in_order, read_state_in_order};
 use crate::layout::{HEADER, STATE};
 use crate::map::{Values, read_map};
 use crate::message::{PUSH_PULL_MESSAGE, PushNodeState, PushPullHeader};
@@ -21,10 +22,10 @@ use swim_claim::{Claim, Details, Name};
 use swim_pack::Inlet;
 
 /// The most state records of a stream.
-const MOST_NODES: u64 = 131_072;
+pub(crate) const MOST_NODES: u64 = 131_072;
 
 /// The most bytes of user state of a stream.
-const MOST_USER_STATE: u64 = 20_971_520;
+pub(crate) const MOST_USER_STATE: u64 = 20_971_520;
 
 /// What a push/pull stream begins with.
 #[derive(Clone, Copy, Debug, PartialEq, Eq)]
@@ -61,6 +62,18 @@ pub fn read_header<I: Inlet>(inlet: &mut I) -> Result<Header, WireFault>
 }
 
 fn read_whole_header<I: Inlet>(inlet: &mut I) -> Result<Header, WireFault>
+    ensures exact { ReadsAs wire_cause same header_at (I.seen inlet.old) (I.seen inlet.new) result }
+    ensures no_memory { ¬ IsErrOf result WireFault.Memory }
+    ensures within { IfOk result (λ header. (header.nodes ≤ 131072) × (header.user_len ≤ 20971520)) }
+{
+    match read_header_in_order(inlet) {
+        Some(header) => Ok(header),
+        None => read_any_header(inlet),
+    }
+}
+
+/// Reads a header, however its map is written.
+fn read_any_header<I: Inlet>(inlet: &mut I) -> Result<Header, WireFault>
     ensures exact { ReadsAs wire_cause same header_at (I.seen inlet.old) (I.seen inlet.new) result }
     ensures no_memory { ¬ IsErrOf result WireFault.Memory }
     ensures within { IfOk result (λ header. (header.nodes ≤ 131072) × (header.user_len ≤ 20971520)) }
@@ -115,6 +128,16 @@ pub fn read_state<I: Inlet>(alloc: Global, inlet: &mut I) -> Result<Claim, WireF
 }
 
 fn read_whole_state<I: Inlet>(alloc: Global, inlet: &mut I) -> Result<Claim, WireFault>
+    ensures { ReadsAs wire_cause same state_at (I.seen inlet.old) (I.seen inlet.new) result }
+{
+    match read_state_in_order(alloc, inlet) {
+        Some(read) => read,
+        None => read_any_state(alloc, inlet),
+    }
+}
+
+/// Reads a state record, however its map is written.
+fn read_any_state<I: Inlet>(alloc: Global, inlet: &mut I) -> Result<Claim, WireFault>
     ensures { ReadsAs wire_cause same state_at (I.seen inlet.old) (I.seen inlet.new) result }
 {
     let state = PushNodeState::new(alloc, read_map(Some(alloc), inlet, &STATE)?);

@@ -1,5 +1,6 @@
 //! Packets by their bytes.
 
+mod both_ways;
 mod canonical;
 mod datagrams;
 mod streams;

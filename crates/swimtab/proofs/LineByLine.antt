@@ -1,5 +1,5 @@
 -- The claims of the lines, one line after the other.
-use Rattle.std.proofs.Common.{◌≡◌, ℕ, ◌+◌, ◌<◌, List, [], ◌∷◌, ◌++◌, length, map, get_or, Ok, Bor, refl, sym, ap, ap₂, subst, ◌∙◌, take, length-take-le, append_assoc, append-nil, zero, suc, drop, arith}
+use Rattle.std.proofs.Common.{◌≡◌, ℕ, ◌+◌, ◌<◌, List, [], ◌∷◌, ◌++◌, length, map, get_or, Result, Ok, Err, OnOk, IfErr, ◌≢◌, Bor, refl, sym, ap, ap₂, subst, ◌∙◌, take, length-take-le, append_assoc, append-nil, zero, suc, drop, arith}
 use Rattle.std.specs.List.{enumerate_from}
 use Rattle.std.proofs.lemmas.List.FromFn.{length-enumerate_from, get_or-enumerate_from}
 use Rattle.hex.specs.Hex.{decode_of}
@@ -7,7 +7,10 @@ use Rattle.swim_claim.specs.declared.claim.Claim.{Claim}
 use Rattle.swim_wire.specs.Packet.{PacketValue}
 use Rattle.swim_wire.specs.Texts.{DatagramText}
 use Rattle.std.proofs.Math.Seq.{split_at}
+use Rattle.swim_table.specs.Table.{Entries, TableOf}
 use Rattle.swimtab.specs.declared.report.Place.{Place}
+use Rattle.swimtab.specs.declared.report.What.{What}
+use Rattle.swimtab.specs.declared.report.What.TheVariants.{Memory}
 use Rattle.swimtab.specs.declared.report.Place.TheVariants.{Line}
 use Rattle.swimtab.specs.Lines.{TextClaims, LineClaims, EachLine, IsFirstWrong, input_lines}
 
@@ -25,6 +28,20 @@ no_text_claims (digit ∷ digits) bytes claims some e none t =
     let one : Ok t.0 ≡ Ok bytes = sym t.2 ∙ e in
     let same : t.0 ≡ bytes = cc in
     none t.1 (subst (λ b. DatagramText b t.1) same t.3)
+
+-- what takes the claims of the packets of a text in takes those of the text in
+pub text_taken : {X : Type 0} (text bytes : List ℕ) (old new : Entries) (result : Result X What) → 0 < length text → decode_of text ≡ Ok bytes
+    → OnOk result ((packets : List PacketValue) × DatagramText bytes packets × ((taken : List Claim) → TableOf old taken → TableOf new (taken ++ map (λ p. p.claim) packets)))
+    → OnOk result ((claims : List Claim) × TextClaims text claims × ((taken : List Claim) → TableOf old taken → TableOf new (taken ++ claims)))
+text_taken text bytes old new (Ok done) some e took = (map (λ p. p.claim) took.0, text_claims text bytes took.0 (map (λ p. p.claim) took.0) some e took.1 refl, took.2)
+text_taken text bytes old new (Err what) some e took = tt
+
+-- and what is refused for packets is refused for the text
+pub text_refused : {X : Type 0} (text bytes : List ℕ) (result : Result X What) → 0 < length text → decode_of text ≡ Ok bytes
+    → IfErr result (λ what. what ≢ Memory → (packets : List PacketValue) → ¬ DatagramText bytes packets)
+    → IfErr result (λ what. what ≢ Memory → (claims : List Claim) → ¬ TextClaims text claims)
+text_refused text bytes (Ok done) some e none = tt
+text_refused text bytes (Err what) some e none = λ seen claims. no_text_claims text bytes claims some e (none seen)
 
 -- one more line
 pub EachLine-push : (lines : List (List ℕ)) (line : List ℕ) (claims own : List Claim) → EachLine lines claims → LineClaims line own → EachLine (lines ++ line ∷ []) (claims ++ own)

@@ -1,19 +1,22 @@
 //! A table from packets, and its listing.
 
-ghost use Rattle.std.specs.Prelude.{◌≡◌, ◌≢◌, ◌↔◌, ◌<◌, ◌≤◌, ◌++◌, List, length, IfOk, IfErr, OnOk};
+ghost use Rattle.std.specs.Prelude.{◌≡◌, ◌≢◌, ◌↔◌, ◌<◌, ◌≤◌, ◌++◌, ◌∷◌, [], List, map, length, IfOk, IfErr, OnOk};
 ghost use Rattle.swim_claim.specs.declared.claim.Claim.{Claim};
 ghost use Rattle.swim_table.specs.Listing.{listing};
 ghost use Rattle.swim_table.specs.Table.{Entries, TableOf};
+ghost use Rattle.swim_wire.specs.Packet.{PacketValue};
+ghost use Rattle.swim_wire.specs.Texts.{DatagramText};
 ghost use Rattle.swimtab.specs.Lines.{TextClaims, LineClaims, PacketLines, IsFirstWrong};
 ghost use Rattle.swimtab.specs.Report.{IsAmong};
 
+use crate::claims::into_claims;
 use crate::device::BOUND;
 use crate::lines::without_return;
 use crate::report::{Place, Report, What};
 use std::alloc::{AllocError, Global};
 use swim_claim::Claim;
 use swim_table::{Table, list};
-use swim_wire::decode_datagram;
+use swim_wire::Datagram;
 
 /// The listing of the table of the datagrams, packets and compound packets, which are given in
 /// hexadecimal, one a line.
@@ -65,22 +68,32 @@ fn take_text(alloc: Global, table: &mut Table, text: &[u8]) -> Result<(), What>
     if text.is_empty() {
         return Ok(());
     }
-    let claims = read_claims(alloc, text)?;
-    table.take_all(claims)?;
+    let bytes = hex::decode(alloc, text)?;
+    take_datagram(alloc, table, &bytes)
+}
+
+/// Takes in the claim of a packet by itself, or all claims of a compound packet.
+fn take_datagram(alloc: Global, table: &mut Table, bytes: &[u8]) -> Result<(), What>
+    ensures takes { OnOk result ((packets : List PacketValue) × DatagramText bytes.now packets
+        × ((taken : List Claim) → TableOf table.old taken
+        → TableOf table.new (taken ++ map (λ p. p.claim) packets))) }
+    ensures refuses { IfErr result (λ what. what ≢ What.Memory
+        → (packets : List PacketValue) → ¬ DatagramText bytes.now packets) }
+{
+    match Datagram::decode(alloc, bytes)? {
+        Datagram::Packet(packet) => take_claim(table, packet.into_claim())?,
+        Datagram::Compound(packets) => table.take_all(into_claims(alloc, packets)?)?,
+    }
     Ok(())
 }
 
-/// The claims of the datagram that a text is in hexadecimal.
-fn read_claims(alloc: Global, text: &[u8]) -> Result<Vec<Claim>, What>
-    requires { 0 < length text.now }
-    ensures reads { IfOk result (λ claims. TextClaims text.now claims.items) }
-    ensures refuses { IfErr result (λ what. what ≢ What.Memory → (claims : List Claim) → ¬ TextClaims text.now claims) }
+/// Takes in the claim of a packet by itself. About a name that is known that takes no memory.
+fn take_claim(table: &mut Table, claim: Claim) -> Result<(), AllocError>
+    ensures { OnOk result ((taken : List Claim) → TableOf table.old taken
+        → TableOf table.new (taken ++ claim ∷ [])) }
 {
-    let bytes = hex::decode(alloc, text)?;
-    let packets = decode_datagram(alloc, &bytes)?;
-    let claims = packets
-        .into_iter()
-        .map(|packet| packet.into_claim())
-        .collect(alloc)?;
-    Ok(claims)
+    match table.take(claim) {
+        Ok(_) => Ok(()),
+        Err((_, error)) => Err(error),
+    }
 }

@@ -8,6 +8,7 @@ ghost use Rattle.swimtab.specs.Report.{IsOfReading};
 ghost use Rattle.swimtab.specs.Script.{Start, IsStarted, NodeWords, EventWords, HearsBytes, NodeNumber, words};
 ghost use Rattle.swimtab.specs.ScriptReading.{OneNumber, SpellsLine, SpellsNothing, TwoNumbers, word_of};
 
+use crate::claims::into_claims;
 use crate::keyword::Keyword;
 use crate::report::What;
 use crate::script_word::{bytes_of, name_of, number_of, words_of};
@@ -141,11 +142,8 @@ fn claims_of(alloc: Global, datagram: &[u8]) -> Result<Claims, What>
     ensures refuses { IfErr result (λ what. what ≢ What.Memory → (packets : List PacketValue) → ¬ DatagramText datagram.now packets) }
     ensures kind { IfErr result IsOfReading }
 {
-    let claims = decode_datagram(alloc, datagram)?
-        .into_iter()
-        .map(|packet| packet.into_claim())
-        .collect(alloc)?;
-    Ok(Claims::new(claims))
+    let packets = decode_datagram(alloc, datagram)?;
+    Ok(Claims::new(into_claims(alloc, packets)?))
 }
 
 /// The numbers of two nodes, which are all the fields.

@@ -9,7 +9,7 @@ use std::test::Fail;
 use swim_claim::Claim;
 
 /// `ALIVE` in other forms and another order, where Meta is nil and Vsn is absent.
-const OTHER_ALIVE: &[u8] =
+pub(crate) const OTHER_ALIVE: &[u8] =
     b"\x04\x85\xa4Port\xcf\0\0\0\0\0\0\x1f\x0a\xa4Node\xa1a\xa4Meta\xc0\xabIncarnation\xd2\0\0\0\0\xa4Addr\xc4\x04\x7f\0\0\x01";
 
 /// A Leave of `c` at incarnation 3.

@@ -1,7 +1,7 @@
 //! Datagrams and user state by their bytes.
 
 use super::{ALIVE, SUSPECT};
-use crate::{Packet, WireFault, decode_datagram, skip_user};
+use crate::{Datagram, Packet, WireFault, decode_datagram, skip_user};
 use std::alloc::Global;
 use std::process::Abort;
 use std::test::Fail;
@@ -35,6 +35,20 @@ fn a_datagram_has_the_packets_of_its_parts(rt: HostRuntime) -> Result<(), Fail> 
         for (packet, name) in packets.iter().zip(names) {
             assert_eq!(rt; packet.claim().name().bytes(), [*name].as_slice());
         }
+    }
+    Ok(())
+}
+
+#[test]
+fn a_packet_by_itself_is_told_from_a_compound_packet(rt: HostRuntime) -> Result<(), Fail> {
+    for (bytes, alone) in [
+        (ALIVE, true),
+        (SUSPECT, true),
+        (BOTH, false),
+        (b"\x07\0", false),
+    ] {
+        let datagram = Datagram::decode(rt.alloc(), bytes)?;
+        assert_eq!(rt; matches!(datagram, Datagram::Packet(_)), alone, "{bytes:?}");
     }
     Ok(())
 }

@@ -1,22 +1,20 @@
 use Rattle.std.proofs.Common.{◌∙◌, length, sym, ap, subst, arith}
 use Rattle.std.specs.Vec.Iter.{into_iter_items}
+use Rattle.tiered_vec.specs.Tiers.{items}
 use Rattle.swim_table.specs.Table.{IsAscending}
 use Rattle.swim_table.specs.Join.{put_each}
 use Rattle.swim_table.proofs.Lookups.{IsAscending-put}
-use Rattle.swim_table.proofs.Place.{length-put}
 use Rattle.swim_table.proofs.placing.put_all.Goals as goal
 
 pub loop-other-preserved : goal.loop-other-preserved
 loop-other-preserved c =
-    let old = c.loop-other.entries.items in
+    let old = items c.loop-other.entries in
     let is = c.put_in_room.ensures.items in
     let next = c.in-Some.ensures.steps in
-    let longer = ap length is in
-    let most = length-put old c.in-Some.other in
     let fewer = ap length next.0 in
     record {
       whole = ap (λ t. put_each t (into_iter_items c.next.new.self)) is ∙ sym (ap (put_each old) next.0) ∙ c.loop-other.invariant.whole;
       ascending = subst IsAscending (sym is) (IsAscending-put old c.in-Some.other c.loop-other.invariant.ascending);
-      room = omega (arith, longer, most, fewer, c.loop-other.invariant.room, c.put_in_room.ensures.capacity);
+      room = omega (arith, fewer, c.loop-other.invariant.room, c.put_in_room.ensures.room);
       counted = omega (arith, next.1, fewer, c.loop-other.invariant.counted);
     }

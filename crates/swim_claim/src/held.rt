@@ -1,0 +1,76 @@
+//! Bytes, a few of them held in place.
+ghost use Rattle.std.specs.Prelude.{◌≡◌, IfOk};
+ghost use Rattle.swim_claim.specs.Held.{held_bytes};
+
+use crate::short::Short;
+use std::alloc::{AllocError, Global};
+use std::marker::Model;
+
+/// The most bytes that are held in place.
+const IN_PLACE: usize = 30;
+
+/// Bytes, of which at most 30 take no memory of their own.
+///
+/// It is no enum of both forms, since each of those is a case of its own wherever a name is let go.
+#[derive(Drop, Debug)]
+pub(crate) struct Held {
+    // empty where the bytes are apart
+    in_place: Short<IN_PLACE>,
+    // empty, and then without memory, where they are in place
+    apart: Vec<u8>,
+}
+
+impl Model for Held {
+    ghost use Rattle.std.specs.Prelude.{ℕ, List};
+    ghost use Rattle.swim_claim.specs.Held.{held_bytes};
+
+    ghost Value = { List ℕ };
+
+    ghost view = { λ held. held_bytes held.in_place held.apart.items };
+}
+
+impl Held {
+    /// These bytes.
+    pub(crate) fn new(alloc: Global, bytes: Vec<u8>) -> Held
+        ensures { result ≡ bytes.items }
+    {
+        if bytes.len() <= IN_PLACE {
+            Held {
+                in_place: Short::new(&bytes),
+                apart: Vec::new(alloc),
+            }
+        } else {
+            Held {
+                in_place: Short::new(&[]),
+                apart: bytes,
+            }
+        }
+    }
+
+    /// These bytes, copied.
+    pub(crate) fn copied(alloc: Global, bytes: &[u8]) -> Result<Held, AllocError>
+        ensures { IfOk result (λ held. held ≡ bytes.now) }
+    {
+        if bytes.len() <= IN_PLACE {
+            Ok(Held {
+                in_place: Short::new(bytes),
+                apart: Vec::new(alloc),
+            })
+        } else {
+            Ok(Held {
+                in_place: Short::new(&[]),
+                apart: bytes.to_vec(alloc)?,
+            })
+        }
+    }
+
+    pub(crate) fn bytes(&self) -> &[u8]
+        ensures { result.now ≡ self.now }
+    {
+        if self.apart.is_empty() {
+            self.in_place.bytes()
+        } else {
+            &self.apart
+        }
+    }
+}

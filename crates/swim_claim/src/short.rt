@@ -1,0 +1,52 @@
+//! A few bytes, held in place.
+ghost use Rattle.std.specs.Prelude.{◌≡◌, ◌≤◌, length};
+
+use std::marker::Model;
+
+/// At most N bytes, without memory of their own.
+#[derive(Drop, Debug)]
+pub(crate) struct Short<const N: usize> {
+    bytes: [u8; N],
+    len: u8,
+}
+
+impl<const N: usize> Model for Short<N> {
+    ghost use Rattle.std.specs.Prelude.{ℕ, List, ◌≤◌, take};
+
+    ghost Value = { List ℕ };
+
+    ghost view = { λ s. take s.len s.bytes };
+
+    ghost invariant = { λ s. s.len ≤ N };
+}
+
+impl<const N: usize> Short<N> {
+    pub(crate) fn new(bytes: &[u8]) -> Short<N>
+        requires fits { length bytes.now ≤ N }
+        requires small { length bytes.now ≤ 255 }
+        ensures { result ≡ bytes.now }
+    {
+        let mut held = [0; N];
+        held[..bytes.len()].copy_from_slice(bytes);
+        Short {
+            bytes: held,
+            len: bytes.len() as u8,
+        }
+    }
+
+    pub(crate) fn bytes(&self) -> &[u8]
+        ensures { result.now ≡ self.now }
+    {
+        &self.bytes[..usize::from(self.len)]
+    }
+
+    /// The same bytes again.
+    pub(crate) fn again(&self) -> Short<N>
+        ensures { result ≡ self.now }
+    {
+        Short {
+            bytes: self.bytes,
+            len: self.len,
+        }
+    }
+}

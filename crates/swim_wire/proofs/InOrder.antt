@@ -1,0 +1,199 @@
+-- Maps that have all their keys in alphabetical order, and what they tell.
+use Rattle.std.proofs.Common.{◌≡◌, ℕ, suc, ◌<◌, ◌≤◌, Bool, false, List, [], ◌∷◌, ◌++◌, length, take, drop, Option, Some, None, Result, Ok, Err, refl, sym, ap, ◌∙◌, ltb, le-ltb, arith}
+use Rattle.std.proofs.lemmas.List.{length-append, take-append-drop}
+use Rattle.std.specs.Prelude.{slice_set, IfOk, IfSome}
+use Rattle.swim_claim.specs.declared.claim.Claim.{Claim}
+use Rattle.swim_claim.specs.declared.claim.Claim.TheVariants.{Alive}
+use Rattle.swim_claim.specs.Details.{DetailsValue}
+use Rattle.swim_pack.specs.Spelling.{raw_text, Count as counts}
+use Rattle.swim_pack.proofs.Canonical.{raw_text_is}
+use Rattle.swim_pack.proofs.Numbers.{raw_again, count_again}
+use Rattle.swim_wire.specs.declared.layout.Limit.{Limit}
+use Rattle.swim_wire.specs.declared.layout.Limit.TheVariants as limits
+use Rattle.swim_wire.specs.InOrder.{state_slots, alive_slots, accusation_slots, header_slots}
+use Rattle.swim_wire.specs.Layout.{Layout, Spelled, alive_layout, accusation_layout, header_layout, state_layout}
+use Rattle.swim_wire.specs.Layout.Spelled.{number, raw, flag}
+use Rattle.swim_wire.specs.Packet.{PacketValue}
+use Rattle.swim_wire.specs.Reading.{claim_of_state, with_details, alive_of, alive_at, suspect_of, suspect_at, dead_of, dead_at, packet_at, whole_packet, state_of, Slots, slot, value_at, limit_at, key_at, pair_at, pairs_at, no_slots, map_at, state_at, header_at}
+use Rattle.swim_wire.proofs.Checking.{with_name_ok, with_name_again, with_details_ok, with_details_again}
+use Rattle.swim_wire.proofs.Keys.{IsLegalLayout, key_in, all_at, own_place, alive_legal, accusation_legal, header_legal, state_legal}
+use Rattle.swim_wire.proofs.Maps.{map_takes}
+use Rattle.swim_wire.proofs.Readings.{read}
+
+-- the bytes are their front and what is behind it
+pub split_front : (n : ℕ) (bytes front rest text : List ℕ) → front ≡ take n bytes → rest ≡ drop n bytes → front ≡ text → bytes ≡ text ++ rest
+split_front n bytes front rest text front_is rest_is same = rw (← same, front_is, rest_is) (sym (take-append-drop n bytes))
+
+-- a key at the front, and a value within its limit behind it
+pair_in_order : (layout : Layout) (slots : Slots) (place : ℕ) (bytes mid rest : List ℕ) (value : Spelled) → IsLegalLayout layout → place < length layout → slot slots place ≡ None
+    → bytes ≡ raw_text (key_in layout place) ++ mid → value_at (limit_at layout place) mid ≡ read value rest → pair_at layout slots bytes ≡ read (slice_set slots place (Some value)) rest
+unfolding pair_at key_at
+pair_in_order layout slots place bytes mid rest value legal inside vacant is e =
+    let key = key_in layout place in
+    let short : length key ≤ 12 = all_at (λ k. length k ≤ 12) layout place legal.short inside in
+    let again = raw_again 12 (raw_text key) mid key short (raw_text_is key (omega (arith, short))) in
+    rw (is, again, own_place layout place legal.distinct inside, vacant, e) refl
+
+-- a value behind a text
+abbrev pub Behind : List ℕ → Limit → List ℕ → Spelled → List ℕ → Type 0
+Behind bytes limit key value rest = (mid : List ℕ) × (bytes ≡ key ++ mid) × (value_at limit mid ≡ read value rest)
+
+-- a pair, and then the others
+pairs_in_order : (layout : Layout) (n : ℕ) (slots : Slots) (place : ℕ) (bytes mid rest : List ℕ) (value : Spelled) (out : Slots) (end : List ℕ) → IsLegalLayout layout → place < length layout → slot slots place ≡ None
+    → bytes ≡ raw_text (key_in layout place) ++ mid → value_at (limit_at layout place) mid ≡ read value rest → pairs_at layout n (slice_set slots place (Some value)) rest ≡ read out end
+    → pairs_at layout (suc n) slots bytes ≡ read out end
+unfolding pairs_at
+pairs_in_order layout n slots place bytes mid rest value out end legal inside vacant is e more =
+    rw (pair_in_order layout slots place bytes mid rest value legal inside vacant is e) more
+
+-- ---- maps
+
+-- a state record
+pub state_map : (bytes b1 b2 b3 b4 b5 b6 rest addr meta name vsn : List ℕ) (inc port state : ℕ)
+    → Behind bytes (limits.Raw 16) (0x87 ∷ 0xa4 ∷ 65 ∷ 100 ∷ 100 ∷ 114 ∷ []) (raw addr) b1
+    → Behind b1 (limits.Number 0xffff_ffff) (0xab ∷ 73 ∷ 110 ∷ 99 ∷ 97 ∷ 114 ∷ 110 ∷ 97 ∷ 116 ∷ 105 ∷ 111 ∷ 110 ∷ []) (number inc) b2
+    → Behind b2 (limits.Raw 512) (0xa4 ∷ 77 ∷ 101 ∷ 116 ∷ 97 ∷ []) (raw meta) b3
+    → Behind b3 (limits.Raw 1024) (0xa4 ∷ 78 ∷ 97 ∷ 109 ∷ 101 ∷ []) (raw name) b4
+    → Behind b4 (limits.Number 0xffff) (0xa4 ∷ 80 ∷ 111 ∷ 114 ∷ 116 ∷ []) (number port) b5
+    → Behind b5 (limits.Number 0xffff_ffff_ffff_ffff) (0xa5 ∷ 83 ∷ 116 ∷ 97 ∷ 116 ∷ 101 ∷ []) (number state) b6
+    → Behind b6 (limits.Raw 6) (0xa3 ∷ 86 ∷ 115 ∷ 110 ∷ []) (raw vsn) rest
+    → map_at state_layout bytes ≡ read (state_slots addr inc meta name port state vsn) rest
+unfolding map_at pairs_at raw_text
+state_map bytes b1 b2 b3 b4 b5 b6 rest addr meta name vsn inc port state first second third fourth fifth sixth seventh =
+    let out = state_slots addr inc meta name port state vsn in
+    let p6 = pairs_in_order state_layout 0 _ 6 b6 seventh.0 rest (raw vsn) out rest state_legal (omega arith) refl seventh.1 seventh.2 refl in
+    let p5 = pairs_in_order state_layout 1 _ 5 b5 sixth.0 b6 (number state) out rest state_legal (omega arith) refl sixth.1 sixth.2 p6 in
+    let p4 = pairs_in_order state_layout 2 _ 4 b4 fifth.0 b5 (number port) out rest state_legal (omega arith) refl fifth.1 fifth.2 p5 in
+    let p3 = pairs_in_order state_layout 3 _ 3 b3 fourth.0 b4 (raw name) out rest state_legal (omega arith) refl fourth.1 fourth.2 p4 in
+    let p2 = pairs_in_order state_layout 4 _ 2 b2 third.0 b3 (raw meta) out rest state_legal (omega arith) refl third.1 third.2 p3 in
+    let p1 = pairs_in_order state_layout 5 _ 1 b1 second.0 b2 (number inc) out rest state_legal (omega arith) refl second.1 second.2 p2 in
+    let start = 0xa4 ∷ 65 ∷ 100 ∷ 100 ∷ 114 ∷ first.0 in
+    let p0 = pairs_in_order state_layout 6 no_slots 0 start first.0 b1 (raw addr) out rest state_legal (omega arith) refl refl first.2 p1 in
+    let count = count_again 7 (0x87 ∷ []) start 7 (omega arith) (counts.fixmap (omega arith) refl) in
+    rw (first.1, count) p0
+
+-- an alive message behind its type byte
+pub alive_map : (bytes b1 b2 b3 b4 b5 rest addr meta node vsn : List ℕ) (inc port : ℕ)
+    → Behind bytes (limits.Raw 16) (0x86 ∷ 0xa4 ∷ 65 ∷ 100 ∷ 100 ∷ 114 ∷ []) (raw addr) b1
+    → Behind b1 (limits.Number 0xffff_ffff) (0xab ∷ 73 ∷ 110 ∷ 99 ∷ 97 ∷ 114 ∷ 110 ∷ 97 ∷ 116 ∷ 105 ∷ 111 ∷ 110 ∷ []) (number inc) b2
+    → Behind b2 (limits.Raw 512) (0xa4 ∷ 77 ∷ 101 ∷ 116 ∷ 97 ∷ []) (raw meta) b3
+    → Behind b3 (limits.Raw 1024) (0xa4 ∷ 78 ∷ 111 ∷ 100 ∷ 101 ∷ []) (raw node) b4
+    → Behind b4 (limits.Number 0xffff) (0xa4 ∷ 80 ∷ 111 ∷ 114 ∷ 116 ∷ []) (number port) b5
+    → Behind b5 (limits.Raw 6) (0xa3 ∷ 86 ∷ 115 ∷ 110 ∷ []) (raw vsn) rest
+    → map_at alive_layout bytes ≡ read (alive_slots addr inc meta node port vsn) rest
+unfolding map_at pairs_at raw_text
+alive_map bytes b1 b2 b3 b4 b5 rest addr meta node vsn inc port first second third fourth fifth sixth =
+    let out = alive_slots addr inc meta node port vsn in
+    let p5 = pairs_in_order alive_layout 0 _ 5 b5 sixth.0 rest (raw vsn) out rest alive_legal (omega arith) refl sixth.1 sixth.2 refl in
+    let p4 = pairs_in_order alive_layout 1 _ 4 b4 fifth.0 b5 (number port) out rest alive_legal (omega arith) refl fifth.1 fifth.2 p5 in
+    let p3 = pairs_in_order alive_layout 2 _ 3 b3 fourth.0 b4 (raw node) out rest alive_legal (omega arith) refl fourth.1 fourth.2 p4 in
+    let p2 = pairs_in_order alive_layout 3 _ 2 b2 third.0 b3 (raw meta) out rest alive_legal (omega arith) refl third.1 third.2 p3 in
+    let p1 = pairs_in_order alive_layout 4 _ 1 b1 second.0 b2 (number inc) out rest alive_legal (omega arith) refl second.1 second.2 p2 in
+    let start = 0xa4 ∷ 65 ∷ 100 ∷ 100 ∷ 114 ∷ first.0 in
+    let p0 = pairs_in_order alive_layout 5 no_slots 0 start first.0 b1 (raw addr) out rest alive_legal (omega arith) refl refl first.2 p1 in
+    let count = count_again 6 (0x86 ∷ []) start 6 (omega arith) (counts.fixmap (omega arith) refl) in
+    rw (first.1, count) p0
+
+-- a suspect or dead message behind its type byte
+pub accusation_map : (bytes b1 b2 rest from node : List ℕ) (inc : ℕ)
+    → Behind bytes (limits.Raw 1024) (0x83 ∷ 0xa4 ∷ 70 ∷ 114 ∷ 111 ∷ 109 ∷ []) (raw from) b1
+    → Behind b1 (limits.Number 0xffff_ffff) (0xab ∷ 73 ∷ 110 ∷ 99 ∷ 97 ∷ 114 ∷ 110 ∷ 97 ∷ 116 ∷ 105 ∷ 111 ∷ 110 ∷ []) (number inc) b2
+    → Behind b2 (limits.Raw 1024) (0xa4 ∷ 78 ∷ 111 ∷ 100 ∷ 101 ∷ []) (raw node) rest
+    → map_at accusation_layout bytes ≡ read (accusation_slots from inc node) rest
+unfolding map_at pairs_at raw_text
+accusation_map bytes b1 b2 rest from node inc first second third =
+    let out = accusation_slots from inc node in
+    let p2 = pairs_in_order accusation_layout 0 _ 2 b2 third.0 rest (raw node) out rest accusation_legal (omega arith) refl third.1 third.2 refl in
+    let p1 = pairs_in_order accusation_layout 1 _ 1 b1 second.0 b2 (number inc) out rest accusation_legal (omega arith) refl second.1 second.2 p2 in
+    let start = 0xa4 ∷ 70 ∷ 114 ∷ 111 ∷ 109 ∷ first.0 in
+    let p0 = pairs_in_order accusation_layout 2 no_slots 0 start first.0 b1 (raw from) out rest accusation_legal (omega arith) refl refl first.2 p1 in
+    let count = count_again 3 (0x83 ∷ []) start 3 (omega arith) (counts.fixmap (omega arith) refl) in
+    rw (first.1, count) p0
+
+-- a header, type byte included
+pub header_map : (bytes b1 b2 rest : List ℕ) (join : Bool) (nodes user_len : ℕ)
+    → Behind bytes limits.Flag (6 ∷ 0x83 ∷ 0xa4 ∷ 74 ∷ 111 ∷ 105 ∷ 110 ∷ []) (flag join) b1
+    → Behind b1 (limits.Number 0xffff_ffff_ffff_ffff) (0xa5 ∷ 78 ∷ 111 ∷ 100 ∷ 101 ∷ 115 ∷ []) (number nodes) b2
+    → Behind b2 (limits.Number 0xffff_ffff_ffff_ffff) (0xac ∷ 85 ∷ 115 ∷ 101 ∷ 114 ∷ 83 ∷ 116 ∷ 97 ∷ 116 ∷ 101 ∷ 76 ∷ 101 ∷ 110 ∷ []) (number user_len) rest
+    → (body : List ℕ) × (bytes ≡ 6 ∷ body) × (map_at header_layout body ≡ read (header_slots join nodes user_len) rest)
+unfolding map_at pairs_at raw_text
+header_map bytes b1 b2 rest join nodes user_len first second third =
+    let out = header_slots join nodes user_len in
+    let p2 = pairs_in_order header_layout 0 _ 2 b2 third.0 rest (number user_len) out rest header_legal (omega arith) refl third.1 third.2 refl in
+    let p1 = pairs_in_order header_layout 1 _ 1 b1 second.0 b2 (number nodes) out rest header_legal (omega arith) refl second.1 second.2 p2 in
+    let start = 0xa4 ∷ 74 ∷ 111 ∷ 105 ∷ 110 ∷ first.0 in
+    let p0 = pairs_in_order header_layout 2 no_slots 0 start first.0 b1 (flag join) out rest header_legal (omega arith) refl refl first.2 p1 in
+    let count = count_again 3 (0x83 ∷ []) start 3 (omega arith) (counts.fixmap (omega arith) refl) in
+    (0x83 ∷ start, first.1, rw count p0)
+
+-- ---- what is behind them is shorter
+
+pub state_shorter : (bytes rest : List ℕ) (slots : Slots) → map_at state_layout bytes ≡ read slots rest → length rest ≤ length bytes
+state_shorter bytes rest slots e =
+    let parts = (map_takes state_layout bytes slots rest state_legal e).3 in
+    let text = (map_takes state_layout bytes slots rest state_legal e).0 in
+    omega (arith, ap length parts ∙ length-append text rest)
+
+pub header_shorter : (bytes body rest : List ℕ) (slots : Slots) → bytes ≡ 6 ∷ body → map_at header_layout body ≡ read slots rest → length rest ≤ length bytes
+header_shorter bytes body rest slots is e =
+    let parts = (map_takes header_layout body slots rest header_legal e).3 in
+    let text = (map_takes header_layout body slots rest header_legal e).0 in
+    omega (arith, ap length parts ∙ length-append text rest, ap length is)
+
+-- ---- what they tell
+
+-- an alive message claims what a record of state 0 does
+pub alive_claimed : (addr meta name vsn : List ℕ) (inc port : ℕ) (claim : Claim) → state_of (state_slots addr inc meta name port 0 vsn) ≡ Ok claim
+    → alive_of (alive_slots addr inc meta name port vsn) ≡ Ok (record { claim = claim; from = [] })
+alive_claimed addr meta name vsn inc port claim e =
+    let slots = state_slots addr inc meta name port 0 vsn in
+    let named = with_name_ok name (claim_of_state slots 0) claim e in
+    let d : DetailsValue = record { addr = addr; port = port; meta = meta; vsn = vsn } in
+    let detailed = with_details_ok d (λ details. Alive name inc details) claim named.1 in
+    let packet_of : DetailsValue → PacketValue = λ details. record { claim = Alive name inc details; from = [] } in
+    rw (detailed.2) (with_name_again name (with_details d packet_of) named.0 ∙ with_details_again d packet_of detailed.0 detailed.1)
+
+pub alive_told : (body rest : List ℕ) (slots : Slots) (packet : PacketValue) → map_at alive_layout body ≡ read slots rest → rest ≡ [] → alive_of slots ≡ Ok packet → alive_at body ≡ read packet []
+unfolding alive_at
+alive_told body rest slots packet e none is = rw (e, none, is) refl
+
+pub suspect_told : (body rest : List ℕ) (slots : Slots) (packet : PacketValue) → map_at accusation_layout body ≡ read slots rest → rest ≡ [] → suspect_of slots ≡ Ok packet → suspect_at body ≡ read packet []
+unfolding suspect_at
+suspect_told body rest slots packet e none is = rw (e, none, is) refl
+
+pub dead_told : (body rest : List ℕ) (slots : Slots) (packet : PacketValue) → map_at accusation_layout body ≡ read slots rest → rest ≡ [] → dead_of slots ≡ Ok packet → dead_at body ≡ read packet []
+unfolding dead_at
+dead_told body rest slots packet e none is = rw (e, none, is) refl
+
+-- behind its type byte
+pub packet_of_alive : (bytes body : List ℕ) (packet : PacketValue) → bytes ≡ 4 ∷ body → alive_at body ≡ read packet [] → whole_packet bytes ≡ Ok packet
+unfolding packet_at
+packet_of_alive bytes body packet first e = rw (first, e) refl
+
+pub packet_of_suspect : (bytes body : List ℕ) (packet : PacketValue) → bytes ≡ 3 ∷ body → suspect_at body ≡ read packet [] → whole_packet bytes ≡ Ok packet
+unfolding packet_at
+packet_of_suspect bytes body packet first e = rw (first, e) refl
+
+pub packet_of_dead : (bytes body : List ℕ) (packet : PacketValue) → bytes ≡ 5 ∷ body → dead_at body ≡ read packet [] → whole_packet bytes ≡ Ok packet
+unfolding packet_at
+packet_of_dead bytes body packet first e = rw (first, e) refl
+
+pub state_told : (bytes rest : List ℕ) (slots : Slots) (claim : Claim) → map_at state_layout bytes ≡ read slots rest → state_of slots ≡ Ok claim → state_at bytes ≡ read claim rest
+unfolding state_at
+state_told bytes rest slots claim e is = rw (e, is) refl
+
+-- a header within its limits
+pub header_told : (bytes body rest : List ℕ) (join : Bool) (nodes user_len : ℕ) → bytes ≡ 6 ∷ body → map_at header_layout body ≡ read (header_slots join nodes user_len) rest
+    → nodes ≤ 131072 → user_len ≤ 20971520 → header_at bytes ≡ read (record { nodes = nodes; user_len = user_len; join = join }) rest
+unfolding header_at
+header_told bytes body rest join nodes user_len first e few short =
+    let few_is : ltb 131072 nodes ≡ false = le-ltb _ _ few in
+    let short_is : ltb 20971520 user_len ≡ false = le-ltb _ _ short in
+    rw (first, e, few_is, short_is) refl
+
+-- ---- what was made, seen as more
+
+pub each_made : {E P : Type 0} (A B : P → Type 0) (r : Result (Option P) E) → ((p : P) → A p → B p) → IfOk r (λ made. IfSome made A) → IfOk r (λ made. IfSome made B)
+each_made A B (Ok (Some p)) f h = f p h
+each_made A B (Ok None) f h = h
+each_made A B (Err error) f h = h

@@ -1,0 +1,11 @@
+use Rattle.std.proofs.Common.{arith}
+use Rattle.swim_wire.proofs.AtHand.{state_passed}
+use Rattle.swim_wire.proofs.InOrder.{state_told}
+use Rattle.swim_wire.proofs.in_order.read_state_in_order.Goals as goal
+
+pub returns-then-pass-clause-read : goal.returns-then-pass-clause-read
+returns-then-pass-clause-read g c =
+    let found = c.in_ok-state.ensures in
+    let shorter = found.shorter in
+    state_passed _ _ c.at_hand-hand.result.now c.in_ok-state.state.rest.now c.in-Ok-Some.claim _ c.at_hand-hand.ensures.front
+    (state_told _ _ _ _ found.reads (rw c.in-Ok-Some.field-0-is at c.in-Ok-Some.ensures)) (omega (arith, shorter)) c.if-pass.ensures.passed

@@ -1,0 +1,125 @@
+//! A program that measures the table: nanoseconds and bytes a record, by size and by order of the
+//! names.
+#![tactic(auto)]
+
+mod agreement;
+mod failure;
+mod figures;
+mod memory;
+mod order;
+mod reading;
+mod tables;
+mod timing;
+mod work;
+mod workload;
+
+use agreement::check;
+use failure::Failure;
+use figures::Figures;
+use memory::{Footprint, Kept};
+use order::Order;
+use std::alloc::AllocError;
+use std::env;
+use std::process::ExitCode;
+use work::{Making, Work};
+
+/// How many records a measurement has.
+const SIZES: [u32; 3] = [1_000, 10_000, 100_000];
+
+/// How many records each measurement has under the word `check`.
+const FEW: u32 = 100;
+
+/// How the program is called.
+const USAGE: &str =
+    "swimbench: takes no word, or the word check, or a count of 1 to 100000 records";
+
+/// What the words ask for.
+#[derive(Clone, Copy, Debug, PartialEq, Eq)]
+enum Wish {
+    /// The whole table.
+    All,
+    /// The rows of one size.
+    One(u32),
+    /// That the measurements agree with each other.
+    Check,
+}
+
+fn main(rt: HostRuntime) -> ExitCode {
+    match run(&rt) {
+        Ok(()) => ExitCode::SUCCESS,
+        Err(failure) => {
+            let _ = rt.eprintln(failure);
+            ExitCode::FAILURE
+        }
+    }
+}
+
+fn run(rt: &HostRuntime) -> Result<(), Failure> {
+    match wished(rt)? {
+        Wish::All => print_all(rt, &SIZES),
+        Wish::One(size) => print_all(rt, &[size]),
+        Wish::Check => check(rt, FEW),
+    }
+}
+
+/// What the words after the program's name ask for.
+fn wished(rt: &HostRuntime) -> Result<Wish, Failure> {
+    let words = env::args(rt)?.skip(1).collect::<Vec<String>>(rt.alloc())?;
+    match words.as_slice() {
+        [] => Ok(Wish::All),
+        [word] if word.as_str() == "check" => Ok(Wish::Check),
+        [word] => match word.parse::<u32>() {
+            Ok(size) if 0 < size && size <= 100_000 => Ok(Wish::One(size)),
+            _ => Err(Failure::Words(USAGE)),
+        },
+        _ => Err(Failure::Words(USAGE)),
+    }
+}
+
+fn print_all(rt: &HostRuntime, sizes: &[u32]) -> Result<(), Failure> {
+    print_footprints(rt, sizes)?;
+    print_times(rt, sizes)
+}
+
+/// The bytes a record. The tables stay until all are measured, so that none takes the memory that
+/// another one gave back.
+fn print_footprints(rt: &HostRuntime, sizes: &[u32]) -> Result<(), Failure> {
+    println!(rt;
+        "bytes a record: what the resident pages of /proc/self/statm grew by, of 4,096 bytes each"
+    )?;
+    println!(rt;
+        "{:<24} {:<10} {:>7} {:>8}",
+        "table made by", "order", "records", "bytes"
+    )?;
+    let mut all_kept: Vec<Kept> = Vec::new(rt.alloc());
+    for &size in sizes {
+        for order in Order::ALL {
+            for making in Making::ALL {
+                let (kept, footprint) = Footprint::of(rt, making, order, size)?;
+                println!(rt; "{footprint}")?;
+                all_kept.push(kept).map_err(AllocError::from)?;
+            }
+        }
+    }
+    Ok(())
+}
+
+/// The nanoseconds a record.
+fn print_times(rt: &HostRuntime, sizes: &[u32]) -> Result<(), Failure> {
+    println!(rt;
+        "nanoseconds a record: processor time of the process, the least and the median of the runs"
+    )?;
+    println!(rt;
+        "{:<24} {:<10} {:>7} {:>4} {:>8} {:>8}",
+        "measured", "order", "records", "runs", "least", "median"
+    )?;
+    for &size in sizes {
+        for work in Work::ALL {
+            for order in Order::ALL {
+                let figures = Figures::of(rt, work, order, size)?;
+                println!(rt; "{figures}")?;
+            }
+        }
+    }
+    Ok(())
+}

@@ -1,0 +1,15 @@
+//! A vector in blocks, in which an insertion in the middle is cheap: it moves the elements of one
+//! block. To its callers it is one list.
+#![tactic(auto)]
+
+mod blocks;
+mod iter;
+mod place;
+mod tiered_vec;
+
+pub use iter::{IntoIter, Iter};
+pub use place::Place;
+pub use tiered_vec::TieredVec;
+
+#[cfg(test)]
+mod tests;

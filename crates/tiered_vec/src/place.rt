@@ -1,0 +1,22 @@
+//! Where an element is among the blocks.
+use std::marker::Model;
+
+/// Where an element is, or would go: in which block, and where in it. It is got from the list in which
+/// it is used, and holds until an insertion or a push there succeeds.
+#[derive(Clone, Copy, Debug)]
+pub struct Place {
+    pub(crate) block: usize,
+    pub(crate) at: usize,
+}
+
+impl Model for Place {
+    ghost use Rattle.tiered_vec.specs.Place.{Position, position_code};
+
+    ghost Value = { Position };
+
+    ghost coded = { position_code };
+
+    ghost view = { λ p. record { block = p.block; at = p.at } };
+
+    ghost inverse = { λ p. record { block = p.block; at = p.at } };
+}
