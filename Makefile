@@ -14,10 +14,11 @@ SOURCES := $(shell find crates -type f -not -path '*/out/*') crates.txt HANDLES
 
 all: build/swimtab
 
+build/swimbench: words := -- check
 build/swimtab build/swimbench: build/%: $(SOURCES) | kit
 	@mkdir -p build
 	@echo 'proving and building $*; the first time takes some minutes'
-	@cd crates/$* && rt run < /dev/null > out.log 2>&1 || { cat out.log; rm -f out.log; exit 1; }
+	@cd crates/$* && rt run $(words) < /dev/null > out.log 2>&1 || { cat out.log; rm -f out.log; exit 1; }
 	@rm -f crates/$*/out.log
 	@cp crates/$*/out/$* build/$*
 

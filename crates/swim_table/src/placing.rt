@@ -14,6 +14,8 @@ use tiered_vec::{Place, TieredVec};
 
 /// Where the name is, or else where it would go. A name above the last one, as each is where names
 /// come in ascending order, costs one comparison.
+// Inlined, LLVM makes a search without branches, which waits for each entry in turn.
+#[inline(never)]
 pub(crate) fn find_place(entries: &TieredVec<Entry>, name: &[u8]) -> Result<Place, Place>
     requires { IsAscending (items entries.now) }
     ensures range { MatchResult result (IsPlace entries.now.blocks) (IsGap entries.now.blocks) }

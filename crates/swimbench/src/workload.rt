@@ -1,6 +1,7 @@
 //! Claims, packets and streams as a real memberlist has them.
 
-ghost use Rattle.std.specs.Prelude.{◌<◌};
+ghost use Rattle.std.specs.Prelude.{◌<◌, [], IfOk};
+ghost use Rattle.swim_wire.specs.Packet.{IsLegalPacket};
 
 use crate::failure::Failure;
 use crate::order::Order;
@@ -95,7 +96,9 @@ impl Workload {
     }
 
     /// That the member is alive whose name has this place in ascending order.
-    pub(crate) fn claim(&self, alloc: Global, place: u32) -> Result<Claim, Failure> {
+    pub(crate) fn claim(&self, alloc: Global, place: u32) -> Result<Claim, Failure>
+        ensures { IfOk result (λ claim. IsLegalPacket claim []) }
+    {
         Ok(Claim::Alive {
             name: self.name(alloc, place)?,
             inc: self.inc,

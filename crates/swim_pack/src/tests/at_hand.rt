@@ -40,9 +40,17 @@ fn bytes_at_hand_are_found_with_what_is_behind_them(rt: HostRuntime) {
         b"\xc6\x00\x00\x00\x02ab!",
     ] {
         let found = raw_at_hand(bytes, 2);
-        assert_eq!(rt; found, Some((b"ab".as_slice(), b"!".as_slice())), "{bytes:?}");
+        assert_eq!(rt;
+            found,
+            Some((b"ab".as_slice(), b"!".as_slice())),
+            "{bytes:?}"
+        );
         assert_eq!(rt; raw_at_hand(bytes, 1), None, "{bytes:?}");
-        assert_eq!(rt; raw_at_hand(&bytes[..bytes.len() - 2], 2), None, "{bytes:?}");
+        assert_eq!(rt;
+            raw_at_hand(&bytes[..bytes.len() - 2], 2),
+            None,
+            "{bytes:?}"
+        );
     }
     let nothing = (b"".as_slice(), b"!".as_slice());
     assert_eq!(rt; raw_at_hand(b"\xc0!", 0), Some(nothing));
@@ -57,7 +65,11 @@ fn a_truth_value_at_hand_is_found_with_what_is_behind_it(rt: HostRuntime) {
         (b"\xc2!", false),
         (b"\xc3!", true),
     ] {
-        assert_eq!(rt; bool_at_hand(bytes), Some((flag, b"!".as_slice())), "{bytes:?}");
+        assert_eq!(rt;
+            bool_at_hand(bytes),
+            Some((flag, b"!".as_slice())),
+            "{bytes:?}"
+        );
     }
     for bytes in [b"".as_slice(), b"\x00", b"\xc1"] {
         assert_eq!(rt; bool_at_hand(bytes), None, "{bytes:?}");
