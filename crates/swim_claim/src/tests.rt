@@ -5,6 +5,7 @@ ghost use Rattle.swim_claim.specs.Claim.{name_of};
 use crate::*;
 use std::alloc::{AllocError, Global};
 use std::cmp::Ordering;
+use std::process::Abort;
 use std::test::Fail;
 
 const IPV4: [u8; 4] = [0x7f, 0, 0, 1];
@@ -137,6 +138,14 @@ fn a_fault_has_its_number_and_its_text(rt: HostRuntime) -> Result<(), Fail> {
     Ok(())
 }
 
+/// Whether the first of two claims about one name overrides the second.
+fn assert_overrides(rt: &impl Abort, claim: &Claim, other: &Claim, answer: bool)
+    requires { name_of claim.now ≡ name_of other.now }
+{
+    assert_eq!(rt; overrides(claim, other), answer, "{claim:?}, {other:?}");
+    assert_eq!(rt; outranks(claim.facts(), other.facts()), answer);
+}
+
 #[test]
 fn overriding_follows_the_table_of_kinds(rt: HostRuntime) -> Result<(), Fail> {
     use Kind::{Alive, Confirm, Leave, Suspect};
@@ -165,14 +174,29 @@ fn overriding_follows_the_table_of_kinds(rt: HostRuntime) -> Result<(), Fail> {
         for (inc, answer) in [(4, below), (5, at), (6, above)] {
             let claim = claim_of_kind(rt.alloc(), kind, &name, inc, &details)?;
             let other = claim_of_kind(rt.alloc(), other_kind, &name, 5, &details)?;
-            assert_eq!(rt;
-                overrides(&claim, &other),
-                answer,
-                "{kind:?} {inc}, {other_kind:?} 5"
-            );
-            assert_eq!(rt; outranks(claim.facts(), other.facts()), answer);
+            assert_overrides(&rt, &claim, &other, answer);
         }
     }
+    Ok(())
+}
+
+fn assert_less(rt: &impl Abort, lesser: &Details, greater: &Details) {
+    assert_eq!(rt; lesser.cmp(greater), Ordering::Less);
+    assert!(rt; greater > lesser && greater != lesser && greater == greater);
+}
+
+/// Of two Alives about the name the one of the greater details overrides.
+fn assert_alives(
+    rt: &impl Abort,
+    alloc: Global,
+    name: &Name,
+    lesser: &Details,
+    greater: &Details,
+) -> Result<(), Fail> {
+    let first = claim_of_kind(alloc, Kind::Alive, name, 1, lesser)?;
+    let second = claim_of_kind(alloc, Kind::Alive, name, 1, greater)?;
+    assert_overrides(rt, &second, &first, true);
+    assert_overrides(rt, &first, &second, false);
     Ok(())
 }
 
@@ -206,14 +230,30 @@ fn of_two_alives_of_one_incarnation_the_greater_details_override(
     ] in rows {
         let lesser = details_of_parts(rt.alloc(), addr, port, meta, vsn)?;
         let greater = details_of_parts(rt.alloc(), other_addr, other_port, other_meta, other_vsn)?;
-        assert_eq!(rt; lesser.cmp(&greater), Ordering::Less);
-        assert!(rt; greater > lesser && greater != lesser && greater == greater);
-        let first = claim_of_kind(rt.alloc(), Kind::Alive, &name, 1, &lesser)?;
-        let second = claim_of_kind(rt.alloc(), Kind::Alive, &name, 1, &greater)?;
-        assert!(rt; overrides(&second, &first));
-        assert!(rt; !overrides(&first, &second));
+        assert_less(&rt, &lesser, &greater);
+        assert_alives(&rt, rt.alloc(), &name, &lesser, &greater)?;
     }
     Ok(())
+}
+
+/// The claim again. Where a growth is refused, the next call finds memory.
+fn copy_of(alloc: Global, claim: &Claim) -> Result<Claim, AllocError> {
+    match claim.try_clone(alloc) {
+        Ok(copy) => Ok(copy),
+        Err(AllocError) => claim.try_clone(alloc),
+    }
+}
+
+/// That the claim is about `a`, and has these parts.
+fn assert_parts(rt: &impl Abort, claim: &Claim, kind: Kind, inc: u32, details: Option<&Details>) {
+    assert_eq!(rt; claim.name().bytes(), b"a".as_slice());
+    assert_eq!(rt; claim.inc(), inc);
+    assert_eq!(rt; claim.kind(), kind);
+    assert_eq!(rt; claim.details(), details);
+    let facts = claim.facts();
+    assert_eq!(rt; facts.kind, kind);
+    assert_eq!(rt; facts.inc, inc);
+    assert_eq!(rt; facts.details, details);
 }
 
 #[test]
@@ -235,50 +275,41 @@ fn readers_give_the_parts_of_a_claim_and_of_its_copy(rt: HostRuntime) -> Result<
         (Kind::Leave, 3, &plain),
     ];
     for (kind, inc, details) in rows {
-        let claim = claim_of_kind(rt.alloc(), kind, &name, inc, details)?;
-        let copy = match claim.try_clone(rt.alloc()) {
-            Ok(copy) => copy,
-            // where a growth is refused, the next call finds memory
-            Err(AllocError) => claim.try_clone(rt.alloc())?,
-        };
-        let wanted = if kind == Kind::Alive {
-            Some(details)
-        } else {
-            None
-        };
-        for claim in [&claim, &copy] {
-            assert_eq!(rt; claim.name().bytes(), b"a".as_slice());
-            assert_eq!(rt; claim.inc(), inc);
-            assert_eq!(rt; claim.kind(), kind);
-            assert_eq!(rt; claim.details(), wanted);
-            let facts = claim.facts();
-            assert_eq!(rt; facts.kind, kind);
-            assert_eq!(rt; facts.inc, inc);
-            assert_eq!(rt; facts.details, wanted);
-        }
+        let details = (kind == Kind::Alive).then_some(details);
+        let claim = claim_of_kind(rt.alloc(), kind, &name, inc, details.unwrap_or(&plain))?;
+        assert_parts(&rt, &claim, kind, inc, details);
+        let copy = copy_of(rt.alloc(), &claim)?;
+        assert_parts(&rt, &copy, kind, inc, details);
     }
     Ok(())
 }
 
 #[test]
-fn names_and_details_give_their_parts_and_so_do_their_copies(rt: HostRuntime) -> Result<(), Fail> {
+fn a_name_gives_its_bytes_and_so_does_its_copy(rt: HostRuntime) -> Result<(), Fail> {
     let name = name_of_bytes(rt.alloc(), b"\x00a\xff")?;
     let copy = match name.try_clone(rt.alloc()) {
         Ok(copy) => copy,
         Err(AllocError) => name.try_clone(rt.alloc())?,
     };
     assert_eq!(rt; copy.bytes(), b"\x00a\xff".as_slice());
+    Ok(())
+}
 
+fn assert_full(rt: &impl Abort, details: &Details) {
+    assert_eq!(rt; details.addr(), IPV6.as_slice());
+    assert_eq!(rt; details.port(), 255);
+    assert_eq!(rt; details.meta(), b"web".as_slice());
+    assert_eq!(rt; details.vsn(), b"\x01\x05\x02\x02\x05\x04".as_slice());
+}
+
+#[test]
+fn details_give_their_parts_and_so_do_their_copies(rt: HostRuntime) -> Result<(), Fail> {
     let details = details_of_parts(rt.alloc(), &IPV6, 255, b"web", b"\x01\x05\x02\x02\x05\x04")?;
+    assert_full(&rt, &details);
     let copy = match details.try_clone(rt.alloc()) {
         Ok(copy) => copy,
         Err(AllocError) => details.try_clone(rt.alloc())?,
     };
-    for details in [&details, &copy] {
-        assert_eq!(rt; details.addr(), IPV6.as_slice());
-        assert_eq!(rt; details.port(), 255);
-        assert_eq!(rt; details.meta(), b"web".as_slice());
-        assert_eq!(rt; details.vsn(), b"\x01\x05\x02\x02\x05\x04".as_slice());
-    }
+    assert_full(&rt, &copy);
     Ok(())
 }
