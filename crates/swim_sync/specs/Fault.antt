@@ -9,6 +9,8 @@ use Rattle.swim_wire.specs.declared.fault.WireFault.TheVariants as wire
 use Rattle.swim_wire.specs.Fault.{number_of}
 use Rattle.swim_sync.specs.declared.fault.SyncFault.{SyncFault}
 use Rattle.swim_sync.specs.declared.fault.SyncFault.TheVariants.{Wire, TooManyRecords, Push, Memory}
+use Rattle.swim_sync.specs.declared.stop.Why.{Why}
+use Rattle.swim_sync.specs.declared.stop.Why.TheVariants as why
 
 -- the number by which reports name a fault
 abbrev pub sync_number : SyncFault → ℕ
@@ -16,6 +18,13 @@ sync_number (Wire fault) = number_of fault
 sync_number TooManyRecords = 23
 sync_number Push = 29
 sync_number Memory = 10
+
+-- the number by which reports name why an event did not happen
+abbrev pub why_number : Why → ℕ
+why_number why.NoSuchNode = 26
+why_number why.SameNode = 27
+why_number why.TooManyRecords = 23
+why_number why.Memory = 10
 
 -- a stream that is refused; want of memory is the same in every layer
 abbrev pub fault_of_wire : WireFault → SyncFault

@@ -2,6 +2,7 @@
 
 ghost use Rattle.std.specs.Prelude.{◌≡◌};
 ghost use Rattle.swim_sync.specs.declared.stop.Why.TheVariants as why;
+ghost use Rattle.swim_sync.specs.Fault.{why_number};
 
 use std::alloc::AllocError;
 use thiserror::Error;
@@ -31,6 +32,20 @@ pub enum Why {
     /// A growth of memory was refused.
     #[error("out of memory")]
     Memory,
+}
+
+impl Why {
+    /// The number by which reports name the fault: 26, 27, 23, or 10 for want of memory (own).
+    pub fn number(self) -> u32
+        ensures { result ≡ why_number self }
+    {
+        match self {
+            Why::NoSuchNode => 26,
+            Why::SameNode => 27,
+            Why::TooManyRecords => 23,
+            Why::Memory => 10,
+        }
+    }
 }
 
 impl From<AllocError> for Why {

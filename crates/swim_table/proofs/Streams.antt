@@ -1,11 +1,15 @@
 -- A push/pull stream of which a part is read.
-use Rattle.std.proofs.Common.{◌≡◌, ℕ, ◌+◌, ◌≤◌, Bool, List, [], ◌∷◌, ◌++◌, length, Option, Some, None, refl, sym, ap, subst, ◌∙◌, append_assoc, append-nil, length-append, arith}
+use Rattle.std.proofs.Common.{◌≡◌, ℕ, ◌+◌, ◌≤◌, ◌<◌, ◌⊎◌, inl, inr, Bool, List, [], ◌∷◌, ◌++◌, length, take, drop, Option, Some, None, refl, sym, ap, subst, ◌∙◌, append_assoc, append-nil, length-append, arith}
+use Rattle.std.proofs.Math.Nat.{lt_of_not-le}
 use Rattle.std.specs.Prelude.{IfSome}
-use Rattle.std.proofs.lemmas.List.{append_cancel_left}
+use Rattle.std.proofs.lemmas.List.{append_cancel_left, length-take-le, take-append-drop}
 use Rattle.swim_claim.specs.declared.claim.Claim.{Claim}
+use Rattle.swim_pack.specs.Composing.{UnlessFailed}
 use Rattle.swim_pack.specs.Ends.{Source, Takes, TakesKnown, Lacks}
 use Rattle.swim_wire.specs.declared.fault.WireFault.{WireFault}
+use Rattle.swim_wire.specs.declared.fault.WireFault.TheVariants.{Ended, Fault}
 use Rattle.swim_wire.specs.declared.stream.Header.{Header}
+use Rattle.swim_wire.specs.Reading.{wire_cause}
 use Rattle.swim_wire.specs.Streams.{StateTexts, StreamText}
 use Rattle.swim_wire.specs.Streams.StateTexts.{none, one}
 use Rattle.swim_wire.specs.Texts.{HeaderText, StateText}
@@ -180,9 +184,29 @@ step_explains fault old mid reader some says = known old.coming mid.coming some.
     because bytes front now begun parts (why_step.record_of more why) =
         let sum = some.counted in
         why_stream.record_of front now reader.header some.claims begun (omega (arith, sum, more)) parts why
-    because bytes front now begun parts (why_step.user_state over why) = why_stream.user_state why
+    because bytes front now begun parts (why_step.user_state over why) =
+        let sum = some.counted in
+        why_stream.user_state front now reader.header some.claims begun (omega (arith, sum, over)) parts why
 
     known : (old mid : Option (List ℕ)) → TakesKnown old mid (λ b. BeginText b reader.header some.claims) → IfSome mid (ExplainsStep reader fault) → IfSome old (ExplainsStream fault)
     known None mid taken says = tt
     known (Some bytes) None taken says = absurd taken
     known (Some bytes) (Some now) taken says = because bytes taken.0 now taken.1 taken.2 says
+
+-- ---- which refusal
+
+-- fewer bytes than n where no n of them stand at the front
+fewer : (bytes : List ℕ) (n : ℕ) → ((text rest : List ℕ) → length text ≡ n → bytes ≡ text ++ rest → ⊥) → length bytes < n
+fewer bytes n lacks = lt_of_not-le (λ le. lacks (take n bytes) (drop n bytes) (length-take-le n bytes le) (sym (take-append-drop n bytes)))
+
+pub user_explains : (reader inside : Streaming) (fault : WireFault) (old : Source) → inside ≡ reader → inside.left ≡ 0 → (fault ≡ Ended) ⊎ (fault ≡ Fault)
+    → UnlessFailed (wire_cause fault) (Lacks old (λ b. length b ≡ inside.header.user_len)) → IfSome old.coming (ExplainsStep reader fault)
+user_explains reader inside fault old same over which lacks = subst (λ (r : Streaming). IfSome old.coming (ExplainsStep r fault)) same (known old.coming which lacks)
+  where
+    known : (old : Option (List ℕ)) → (fault ≡ Ended) ⊎ (fault ≡ Fault)
+        → UnlessFailed (wire_cause fault) (IfSome old (λ bytes. (text rest : List ℕ) → length text ≡ inside.header.user_len → bytes ≡ text ++ rest → ⊥)) → IfSome old (ExplainsStep inside fault)
+    known None which lacks = tt
+    known (Some bytes) (inl is) lacks =
+        let short = subst (λ (f : WireFault). UnlessFailed (wire_cause f) ((text rest : List ℕ) → length text ≡ inside.header.user_len → bytes ≡ text ++ rest → ⊥)) is lacks in
+        why_step.user_state over (inl (is, fewer bytes inside.header.user_len short))
+    known (Some bytes) (inr is) lacks = why_step.user_state over (inr is)

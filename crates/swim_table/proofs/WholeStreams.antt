@@ -1,14 +1,16 @@
 -- A stream with nothing after it, and a canonical dump that is read back.
-use Rattle.std.proofs.Common.{◌≡◌, ◌≢◌, ℕ, ◌≤◌, Bool, List, [], ◌++◌, length, refl, sym, ap, subst, ◌∙◌, append-nil}
+use Rattle.std.proofs.Common.{◌≡◌, ◌≢◌, inl, inr, ℕ, ◌≤◌, Bool, List, [], ◌++◌, length, refl, sym, ap, subst, ◌∙◌, append-nil}
 use Rattle.std.proofs.lemmas.List.{append_cancel_left}
 use Rattle.swim_claim.specs.declared.claim.Claim.{Claim}
 use Rattle.swim_pack.specs.Composing.{UnlessFailed}
 use Rattle.swim_wire.specs.declared.fault.WireFault.{WireFault}
-use Rattle.swim_wire.specs.declared.fault.WireFault.TheVariants.{Fault, Memory}
+use Rattle.swim_wire.specs.declared.fault.WireFault.TheVariants.{Fault, Memory, Trailing}
 use Rattle.swim_wire.specs.Reading.{wire_cause}
 use Rattle.swim_wire.specs.Streams.{StreamText}
 use Rattle.swim_wire.proofs.OneStream.{one_stream}
 use Rattle.swim_table.specs.Dump.{dump_bytes}
+use Rattle.swim_table.specs.Steps.{ExplainsStream, ExplainsDump}
+use Rattle.swim_table.specs.Steps.ExplainsStream.{header, record_of, user_state}
 use Rattle.swim_table.specs.Table.{Entries, Reduced, TableOf, IsLegalTable}
 use Rattle.swim_table.proofs.Dumps.{dump_is_stream, dump_read_back}
 
@@ -49,3 +51,16 @@ pub read_back : (bytes : List ℕ) (table other : Entries) (join flag : Bool) (c
     → TableOf other claims → StreamText bytes claims flag → (other ≡ table) × (flag ≡ join)
 read_back bytes table other join flag claims legal few is of text =
     dump_read_back table other join flag claims legal few of (subst (λ (b : List ℕ). StreamText b claims flag) is text)
+
+-- no part of a stream is followed by bytes
+not_trailing : (bytes : List ℕ) → ¬ ExplainsStream Trailing bytes
+not_trailing bytes (header why) = why.0
+not_trailing bytes (record_of front rest h claims begun more parts why) = why.0
+not_trailing bytes (user_state front rest h claims begun all parts (inl (is, short))) = cc
+not_trailing bytes (user_state front rest h claims begun all parts (inr is)) = cc
+
+-- why no stream stands at the front is why the bytes are no dump
+pub no_dump : (fault : WireFault) (bytes : List ℕ) → (fault ≡ Fault → ⊥) → ExplainsStream fault bytes → ExplainsDump fault bytes
+no_dump Trailing bytes no_fault why = absurd (not_trailing bytes why)
+no_dump Fault bytes no_fault why = absurd (no_fault refl)
+no_dump fault bytes no_fault why = why

@@ -1,12 +1,14 @@
 -- What one step of reading a stream reads.
-use Rattle.std.specs.Prelude.{◌≡◌, ℕ, ◌+◌, ◌<◌, List, [], ◌∷◌, ◌++◌, ◌⊎◌, length}
+use Rattle.std.specs.Prelude.{◌≡◌, ◌≢◌, ℕ, ◌+◌, ◌<◌, Bool, List, [], ◌∷◌, ◌++◌, ◌⊎◌, length, Err}
 use Rattle.swim_claim.specs.declared.claim.Claim.{Claim}
+use Rattle.swim_pack.specs.Composing.{UnlessFailed}
 use Rattle.swim_pack.specs.Ends.{Source, Takes}
 use Rattle.swim_wire.specs.declared.fault.WireFault.{WireFault}
-use Rattle.swim_wire.specs.declared.fault.WireFault.TheVariants.{Ended, Fault}
+use Rattle.swim_wire.specs.declared.fault.WireFault.TheVariants.{Ended, Fault, Trailing}
 use Rattle.swim_wire.specs.declared.stream.Header.{Header}
 use Rattle.swim_wire.specs.Checks.{ExplainsHeader, ExplainsState}
-use Rattle.swim_wire.specs.Streams.{StateTexts}
+use Rattle.swim_wire.specs.Reading.{Reading, wire_cause, header_at, state_at}
+use Rattle.swim_wire.specs.Streams.{StateTexts, StreamText}
 use Rattle.swim_wire.specs.Texts.{HeaderText, StateText}
 use Rattle.swim_table.specs.declared.stream_reader.Step.{Step}
 use Rattle.swim_table.specs.declared.stream_reader.Step.TheVariants.{More, End}
@@ -36,15 +38,42 @@ pub record BeginText (b : List ℕ) (header : Header) (claims : List Claim) : Ty
   pub head_text : HeaderText head header
   pub record_texts : StateTexts records claims
 
+-- The reading of the bytes stops with this fault, unless the inlet failed or memory ran out.
+abbrev pub StopsAt : {A : Type 0} → Reading A → WireFault → List ℕ → Type 0
+StopsAt reading fault bytes = UnlessFailed (wire_cause fault) (reading bytes ≡ Err fault)
+
+-- What a refusal says of bytes that begin with no header, and where the reading of one stops.
+abbrev pub ExplainsBegin : WireFault → List ℕ → Type 0
+ExplainsBegin fault bytes = ExplainsHeader fault bytes × StopsAt header_at fault bytes
+
+-- The same of a state record.
+abbrev pub ExplainsRecord : WireFault → List ℕ → Type 0
+ExplainsRecord fault bytes = ExplainsState fault bytes × StopsAt state_at fault bytes
+
+-- What a refusal says of bytes that are to begin with so many of user state: fewer are left, or the inlet failed.
+abbrev pub ExplainsUser : ℕ → WireFault → List ℕ → Type 0
+ExplainsUser user_len fault bytes = ((fault ≡ Ended) × (length bytes < user_len)) ⊎ (fault ≡ Fault)
+
 -- What a refusal of a step says of the bytes: no record stands there, or the user state is cut short.
 pub data ExplainsStep (reader : Streaming) (fault : WireFault) (bytes : List ℕ) : Type 0 where
-  record_of : 0 < reader.left → ExplainsState fault bytes → ExplainsStep reader fault bytes
-  user_state : reader.left ≡ 0 → (fault ≡ Ended) ⊎ (fault ≡ Fault) → ExplainsStep reader fault bytes
+  record_of : 0 < reader.left → ExplainsRecord fault bytes → ExplainsStep reader fault bytes
+  user_state : reader.left ≡ 0 → ExplainsUser reader.header.user_len fault bytes → ExplainsStep reader fault bytes
 
 -- What a refusal of a stream says of the bytes: they begin with no header, behind the header and some
--- records that it promises stands no further one, or the user state is cut short.
+-- records that it promises stands no further one, or behind all of them the user state is cut short.
 pub data ExplainsStream (fault : WireFault) (bytes : List ℕ) : Type 0 where
-  header : ExplainsHeader fault bytes → ExplainsStream fault bytes
+  header : ExplainsBegin fault bytes → ExplainsStream fault bytes
   record_of : (front rest : List ℕ) (h : Header) (claims : List Claim) → BeginText front h claims → length claims < h.nodes
-      → bytes ≡ front ++ rest → ExplainsState fault rest → ExplainsStream fault bytes
-  user_state : (fault ≡ Ended) ⊎ (fault ≡ Fault) → ExplainsStream fault bytes
+      → bytes ≡ front ++ rest → ExplainsRecord fault rest → ExplainsStream fault bytes
+  user_state : (front rest : List ℕ) (h : Header) (claims : List Claim) → BeginText front h claims → length claims ≡ h.nodes
+      → bytes ≡ front ++ rest → ExplainsUser h.user_len fault rest → ExplainsStream fault bytes
+
+-- a stream, and at least one byte after it
+abbrev pub HasTrailingStream : List ℕ → Type 0
+HasTrailingStream bytes = (front rest : List ℕ) × (claims : List Claim) × (join : Bool) × StreamText front claims join × (rest ≢ []) × (bytes ≡ front ++ rest)
+
+-- What a refusal of a dump says of its bytes: something follows a stream, or they begin with none. Bytes do not fail.
+abbrev pub ExplainsDump : WireFault → List ℕ → Type 0
+ExplainsDump Trailing bytes = HasTrailingStream bytes
+ExplainsDump Fault bytes = ⊥
+ExplainsDump fault bytes = ExplainsStream fault bytes

@@ -5,12 +5,12 @@ ghost use Rattle.swim_claim.specs.declared.claim.Claim.{Claim};
 ghost use Rattle.swim_pack.specs.Ends.{Takes, Lacks, Skips, Rises};
 ghost use Rattle.swim_pack.specs.Composing.{UnlessFailed};
 ghost use Rattle.swim_wire.specs.declared.stream.Header.{Header};
-ghost use Rattle.swim_wire.specs.Checks.{ExplainsHeader, ExplainsStart};
+ghost use Rattle.swim_wire.specs.Checks.{ExplainsStart};
 ghost use Rattle.swim_wire.specs.Reading.{wire_cause};
 ghost use Rattle.swim_wire.specs.Streams.{StreamText};
 ghost use Rattle.swim_wire.specs.Texts.{HeaderText};
 ghost use Rattle.swim_table.specs.Dump.{dump_bytes};
-ghost use Rattle.swim_table.specs.Steps.{Steps, IsWanted, ExplainsStep, ExplainsStream};
+ghost use Rattle.swim_table.specs.Steps.{Steps, IsWanted, ExplainsBegin, ExplainsStep, ExplainsStream, ExplainsDump};
 ghost use Rattle.swim_table.specs.Table.{Entries, Reduced, TableOf, IsLegalTable};
 
 use crate::table::Table;
@@ -63,7 +63,7 @@ impl StreamReader {
 
         // Refused for another cause than a failing end no header stands at the front, and the refusal says why.
         ensures lacks { IfErr result (λ fault. UnlessFailed (wire_cause fault) (Lacks (I.seen inlet.old) (λ b. (header : Header) × HeaderText b header))) }
-        ensures explains { IfErr result (λ fault. ExplainsStart (ExplainsHeader fault) (I.seen inlet.old)) }
+        ensures explains { IfErr result (λ fault. ExplainsStart (ExplainsBegin fault) (I.seen inlet.old)) }
         ensures no_memory { ¬ IsErrOf result WireFault.Memory }
         ensures fault { IsErrOf result WireFault.Fault → Rises (I.seen inlet.old).faults (I.seen inlet.new).faults }
         ensures rest { Skips (I.seen inlet.old).coming (I.seen inlet.new).coming }
@@ -182,15 +182,11 @@ pub fn read_dump(alloc: Global, bytes: &[u8]) -> Result<(Table, bool), WireFault
 
     // Refused for another cause than memory they are none, and the refusal says why.
     ensures refuses { IfErr result (λ fault. fault ≢ WireFault.Memory → (claims : List Claim) (join : Bool) → ¬ StreamText bytes.now claims join) }
-    ensures explains { IfErr result (λ fault. fault ≢ WireFault.Trailing → ExplainsStream fault bytes.now) }
+    ensures explains { IfErr result (λ fault. ExplainsDump fault bytes.now) }
 
-    // `Trailing` says that bytes follow a stream, and where they do no other refusal comes but `Memory`.
-    ensures trailing { IsErrOf result WireFault.Trailing → (front rest : List ℕ) × (claims : List Claim) × (join : Bool) × StreamText front claims join × (rest ≢ []) × (bytes.now ≡ front ++ rest) }
+    // Where bytes follow a stream no other refusal comes but `Memory`.
     ensures after { (front rest : List ℕ) (claims : List Claim) (join : Bool) → StreamText front claims join → rest ≢ [] → bytes.now ≡ front ++ rest
         → IsErrOf result WireFault.Trailing ⊎ IsErrOf result WireFault.Memory }
-
-    // A slice never fails.
-    ensures no_fault { ¬ IsErrOf result WireFault.Fault }
 
     // A canonical dump is read back, and refused for want of memory alone.
     ensures back { (table : Entries) (join : Bool) → IsLegalTable table → length (Reduced table) ≤ 131072 → bytes.now ≡ dump_bytes table join

@@ -1,4 +1,5 @@
 mod dumps;
+mod many;
 mod node;
 mod plain;
 mod streams;

@@ -28,4 +28,5 @@ pub mod Parts
 pub mod WholeDatagrams
 pub mod UserState
 pub mod InOrder
+pub mod Prompt
 pub mod AtHand

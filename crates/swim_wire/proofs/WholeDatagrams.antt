@@ -1,5 +1,5 @@
 -- A datagram that is read as a whole, or the refusal.
-use Rattle.std.proofs.Common.{◌≢◌, inl, inr, List, ℕ, Result, Ok, Err, IfOk, IfErr}
+use Rattle.std.proofs.Common.{◌≡◌, ◌≢◌, inl, inr, List, ℕ, Result, Ok, Err, IfOk, IfErr}
 use Rattle.swim_claim.specs.Bytes.{AreBytes}
 use Rattle.swim_wire.specs.declared.fault.WireFault.{WireFault}
 use Rattle.swim_wire.specs.declared.fault.WireFault.TheVariants.{Memory}
@@ -26,3 +26,10 @@ pub datagram_explains : {X : Type 0} (items : X → List PacketValue) (b : List 
 datagram_explains items b (Ok packets) are h = tt
 datagram_explains items b (Err error) are (inl e) = λ _. datagram_refusal b error are e
 datagram_explains items b (Err error) are (inr e) = λ other. absurd (other e)
+
+-- the refusal is the one at which the reading stops
+pub datagram_exact : {X : Type 0} (items : X → List PacketValue) (b : List ℕ) (r : Result X WireFault) → ListsUnlessMemory items (whole_datagram b) r
+    → IfErr r (λ error. error ≢ Memory → whole_datagram b ≡ Err error)
+datagram_exact items b (Ok packets) h = tt
+datagram_exact items b (Err error) (inl e) = λ _. e
+datagram_exact items b (Err error) (inr e) = λ other. absurd (other e)

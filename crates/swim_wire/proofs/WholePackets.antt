@@ -30,3 +30,10 @@ pub packet_explains : (b : List ℕ) (r : Result PacketValue WireFault) → Answ
 packet_explains b (Ok p) h = tt
 packet_explains b (Err error) (inl e) = λ _. whole_refusal b error (sym e)
 packet_explains b (Err error) (inr e) = λ other. absurd (other (memory_is error (Err error) refl e))
+
+-- the refusal is the one at which the reading stops
+pub packet_exact : (b : List ℕ) (r : Result PacketValue WireFault) → AnswersUnlessMemory (whole_packet b) r
+    → IfErr r (λ error. error ≢ Memory → whole_packet b ≡ Err error)
+packet_exact b (Ok p) h = tt
+packet_exact b (Err error) (inl e) = λ _. sym e
+packet_exact b (Err error) (inr e) = λ other. absurd (other (memory_is error (Err error) refl e))

@@ -1,16 +1,16 @@
 -- The checks of a message as a whole, as names and details make them.
 use Rattle.std.proofs.Common.{◌≡◌, ◌≢◌, ℕ, ◌<◌, ◌≤◌, ◌↔◌, ◌⊎◌, inl, inr, Bool, false, List, [], length, Option, Result, Ok, Err, refl, ap, sym, ◌∙◌, arith}
-use Rattle.std.proofs.Common.{nat_lt}
+use Rattle.std.proofs.Common.{nat_lt, if◌then◌else◌, ◌==◌}
 use Rattle.std.proofs.lemmas.Bool.Decides.{nat_tests}
 use Rattle.swim_claim.specs.declared.fault.ClaimFault.{ClaimFault}
 use Rattle.swim_claim.specs.declared.fault.ClaimFault.TheVariants as claims
 use Rattle.swim_claim.specs.Details.{DetailsValue, IsAddress, IsVersions}
 use Rattle.swim_pack.specs.Ends.{Source}
-use Rattle.swim_pack.specs.Composing.{ReadsAs, same, ◌>>=◌}
+use Rattle.swim_pack.specs.Composing.{ReadsAs, same, refuses, ◌>>=◌}
 use Rattle.swim_pack.specs.Composing.Cause.{by_bytes}
 use Rattle.swim_pack.proofs.Composing.{Reads-then, Reads-gives, Reads-refuses}
 use Rattle.swim_wire.specs.declared.fault.WireFault.{WireFault}
-use Rattle.swim_wire.specs.declared.fault.WireFault.TheVariants.{NameEmpty, BadAddress, BadVersions, TooManyNodes, UserTooLong}
+use Rattle.swim_wire.specs.declared.fault.WireFault.TheVariants.{NameEmpty, BadAddress, BadVersions, WrongType, TooManyNodes, UserTooLong}
 use Rattle.swim_wire.specs.declared.map.Value.{Value}
 use Rattle.swim_wire.specs.Fault.{fault_of_claim}
 use Rattle.swim_wire.specs.Reading.{Reading, Slots, wire_cause, checked, with_name, with_details, number_in, flag_in, header_of}
@@ -85,6 +85,13 @@ pub name_made : {T : Type 0} (name : List ℕ) (r : Result T ClaimFault) (x : T)
 name_made name r x ok empty none = ok≢err r x claims.NameEmpty ok (empty.1 none)
 
 -- ---- headers
+
+-- another type byte
+pub Reads-wrong_type : {X V : Type 0} {view : X → V} {a : Source} (found : ℕ) (reading : Reading V) → found ≢ 6
+    → ReadsAs {X = X} wire_cause view (if found == 6 then reading else refuses (WrongType found)) a a (Err (WrongType found))
+Reads-wrong_type found reading other =
+    let no : (found == 6) ≡ false = grind (arith, nat_tests) in
+    rw no (Reads-refuses (WrongType found) refl)
 
 pub header_many : (slots : Slots) (nodes : ℕ) → nodes ≡ number_in slots 1 → 131072 < nodes → header_of slots ≡ Err TooManyNodes
 header_many slots nodes is above = grind (arith, nat_tests)

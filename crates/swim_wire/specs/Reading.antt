@@ -5,11 +5,11 @@ use Rattle.swim_claim.specs.declared.claim.Claim.{Claim}
 use Rattle.swim_claim.specs.declared.claim.Claim.TheVariants.{Alive, Suspect, Confirm, Leave}
 use Rattle.swim_claim.specs.Details.{DetailsValue}
 use Rattle.swim_pack.specs.Composing.{Cause, ◌>>=◌, gives, refuses, some_or, lift}
-use Rattle.swim_pack.specs.Composing.Cause.{by_bytes, by_inlet, by_memory}
+use Rattle.swim_pack.specs.Composing.Cause.{by_end, by_bytes, by_inlet, by_memory}
 use Rattle.swim_pack.specs.Composing as composing
 use Rattle.swim_pack.specs.Reading.{next_byte, uint_at, flag_at, raw_at, count_at}
 use Rattle.swim_wire.specs.declared.fault.WireFault.{WireFault}
-use Rattle.swim_wire.specs.declared.fault.WireFault.TheVariants.{Fault, Memory, NameEmpty, BadAddress, BadVersions, WrongType, UnknownKey, DuplicateKey, BadState, TooManyNodes, UserTooLong, Trailing}
+use Rattle.swim_wire.specs.declared.fault.WireFault.TheVariants.{Ended, Fault, Memory, NameEmpty, BadAddress, BadVersions, WrongType, UnknownKey, DuplicateKey, BadState, TooManyNodes, UserTooLong, Trailing}
 use Rattle.swim_wire.specs.declared.layout.Limit.{Limit}
 use Rattle.swim_wire.specs.declared.layout.Limit.TheVariants as limits
 use Rattle.swim_wire.specs.declared.stream.Header.{Header}
@@ -23,6 +23,7 @@ Reading V = composing.Reading WireFault V
 
 -- what a refusal comes from
 abbrev pub wire_cause : WireFault → Cause
+wire_cause Ended = by_end
 wire_cause Fault = by_inlet
 wire_cause Memory = by_memory
 wire_cause error = by_bytes

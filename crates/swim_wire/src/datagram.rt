@@ -1,6 +1,6 @@
 //! Datagrams: one packet each, or a compound packet of several.
 
-ghost use Rattle.std.specs.Prelude.{◌≡◌, ◌≢◌, ◌↔◌, [], List, IfOk, IfErr};
+ghost use Rattle.std.specs.Prelude.{◌≡◌, ◌≢◌, ◌↔◌, [], List, Err, IfOk, IfErr, IsErrOf};
 ghost use Rattle.swim_wire.specs.Checks.{BeginsWith};
 ghost use Rattle.swim_wire.specs.Datagrams.{alone, packets_of, parts_at, compound_at, whole_datagram, ExplainsDatagram};
 ghost use Rattle.swim_wire.specs.PacketList.{packets_in, IsCompound};
@@ -39,6 +39,10 @@ impl Datagram {
         ensures refuses { IfErr result (λ fault. fault ≢ WireFault.Memory
             → (packets : List PacketValue) → ¬ DatagramText bytes.now packets) }
         ensures explains { IfErr result (λ fault. fault ≢ WireFault.Memory → ExplainsDatagram fault bytes.now) }
+
+        // It is the one at which the reading stops. A slice never fails.
+        ensures exact { IfErr result (λ fault. fault ≢ WireFault.Memory → whole_datagram bytes.now ≡ Err fault) }
+        ensures no_fault { ¬ IsErrOf result WireFault.Fault }
     {
         decode_either(alloc, bytes)
     }
@@ -81,12 +85,17 @@ pub fn decode_datagram(alloc: Global, bytes: &[u8]) -> Result<Vec<Packet>, WireF
     // Refused for another cause than memory they are no datagram, and the refusal says why.
     ensures refuses { IfErr result (λ fault. fault ≢ WireFault.Memory → (packets : List PacketValue) → ¬ DatagramText bytes.now packets) }
     ensures explains { IfErr result (λ fault. fault ≢ WireFault.Memory → ExplainsDatagram fault bytes.now) }
+
+    // It is the one at which the reading stops. A slice never fails.
+    ensures exact { IfErr result (λ fault. fault ≢ WireFault.Memory → whole_datagram bytes.now ≡ Err fault) }
+    ensures no_fault { ¬ IsErrOf result WireFault.Fault }
 {
     decode_all(alloc, bytes)
 }
 
 fn decode_all(alloc: Global, bytes: &[u8]) -> Result<Vec<Packet>, WireFault>
-    ensures { ListsUnlessMemory (λ packets. packets.items) (whole_datagram bytes.now) result }
+    ensures lists { ListsUnlessMemory (λ packets. packets.items) (whole_datagram bytes.now) result }
+    ensures no_fault { ¬ IsErrOf result WireFault.Fault }
 {
     let packets = decode_either(alloc, bytes)?.into_packets(alloc)?;
     Ok(packets)
@@ -94,6 +103,7 @@ fn decode_all(alloc: Global, bytes: &[u8]) -> Result<Vec<Packet>, WireFault>
 
 fn decode_either(alloc: Global, bytes: &[u8]) -> Result<Datagram, WireFault>
     ensures lists { ListsUnlessMemory packets_in (whole_datagram bytes.now) result }
+    ensures no_fault { ¬ IsErrOf result WireFault.Fault }
     ensures compound { IfOk result (λ datagram. IsCompound datagram ↔ BeginsWith 7 bytes.now) }
 {
     match bytes.split_first() {
@@ -108,6 +118,7 @@ fn decode_either(alloc: Global, bytes: &[u8]) -> Result<Datagram, WireFault>
 /// A packet by itself.
 fn decode_alone(alloc: Global, bytes: &[u8]) -> Result<Datagram, WireFault>
     ensures lists { ListsUnlessMemory packets_in (alone (whole_packet bytes.now)) result }
+    ensures no_fault { ¬ IsErrOf result WireFault.Fault }
     ensures alone { IfOk result (λ datagram. ¬ IsCompound datagram) }
 {
     let packet = decode_whole(alloc, bytes)?;
@@ -116,7 +127,8 @@ fn decode_alone(alloc: Global, bytes: &[u8]) -> Result<Datagram, WireFault>
 
 /// What follows the type byte of a compound packet.
 fn decode_compound(alloc: Global, body: &[u8]) -> Result<Vec<Packet>, WireFault>
-    ensures { ListsUnlessMemory (λ packets. packets.items) (nothing_after (compound_at body.now)) result }
+    ensures lists { ListsUnlessMemory (λ packets. packets.items) (nothing_after (compound_at body.now)) result }
+    ensures no_fault { ¬ IsErrOf result WireFault.Fault }
 {
     let Some((count, rest)) = body.split_first() else {
         return Err(WireFault::Ended);
@@ -130,7 +142,8 @@ fn decode_compound(alloc: Global, body: &[u8]) -> Result<Vec<Packet>, WireFault>
 
 /// Parts of these lengths, each of two bytes.
 fn decode_parts(alloc: Global, lengths: &[u8], parts: &[u8]) -> Result<Vec<Packet>, WireFault>
-    ensures { ListsUnlessMemory (λ packets. packets.items) (nothing_after (parts_at (lengths_in lengths.now) [] parts.now)) result }
+    ensures lists { ListsUnlessMemory (λ packets. packets.items) (nothing_after (parts_at (lengths_in lengths.now) [] parts.now)) result }
+    ensures no_fault { ¬ IsErrOf result WireFault.Fault }
 {
     let mut packets = Vec::new(alloc);
     let mut lengths = lengths;
@@ -153,7 +166,8 @@ fn decode_parts(alloc: Global, lengths: &[u8], parts: &[u8]) -> Result<Vec<Packe
 
 /// Adds the packet of a part, unless the part is passed over.
 fn take_part(alloc: Global, part: &[u8], packets: &mut Vec<Packet>) -> Result<(), WireFault>
-    ensures { GrowsBy (packets_of part.now) packets.old.items packets.new.items result }
+    ensures grows { GrowsBy (packets_of part.now) packets.old.items packets.new.items result }
+    ensures no_fault { ¬ IsErrOf result WireFault.Fault }
 {
     if let Some(3..=5) = part.first() {
         let packet = decode_whole(alloc, part)?;

@@ -13,31 +13,31 @@ use thiserror::Error;
 #[derive(Clone, Copy, Debug, PartialEq, Eq, Error)]
 pub enum WireFault {
     /// The bytes end before the message does.
-    #[error("the bytes end too soon")]
+    #[error("the input ends too early")]
     Ended,
     /// A number was wanted, and what stands there is none, or is negative.
-    #[error("not an unsigned number")]
+    #[error("expected a number that is not negative")]
     NotUnsigned,
     /// The number is above the greatest value of its key.
-    #[error("the number is out of range")]
+    #[error("the number is too large")]
     OutOfRange,
     /// A truth value was wanted.
-    #[error("not a truth value")]
+    #[error("expected true or false")]
     NotBool,
     /// Text or bytes were wanted.
-    #[error("not text or bytes")]
+    #[error("expected text or bytes")]
     NotRaw,
     /// The text or bytes are longer than their key allows.
     #[error("the text or bytes are too long")]
     TooLong,
     /// A map was wanted.
-    #[error("not a map")]
+    #[error("expected a map")]
     NotMap,
     /// The map has more pairs than its layout has keys.
-    #[error("the map has too many pairs")]
+    #[error("the map has too many entries")]
     MapCount,
     /// The end that the bytes come from failed.
-    #[error("the inlet failed")]
+    #[error("the input could not be read")]
     Fault,
     /// A growth of memory was refused.
     #[error("out of memory")]
@@ -49,7 +49,7 @@ pub enum WireFault {
     #[error("the address has neither 4 nor 16 bytes")]
     BadAddress,
     /// The versions of a member that is alive are neither none nor 6 bytes.
-    #[error("there are neither 0 nor 6 version bytes")]
+    #[error("the versions have neither 0 nor 6 bytes")]
     BadVersions,
     /// The message does not begin with a type that is read here.
     #[error("a message of type {found} is not read here")]

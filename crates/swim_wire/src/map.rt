@@ -90,8 +90,16 @@ fn read_key_text<I: Inlet>(inlet: &mut I, text: &mut [u8; 12]) -> Result<usize, 
 {
     match read_key(inlet, text) {
         Ok(len) => Ok(len),
-        Err(PackFault::TooLong) => Err(WireFault::UnknownKey),
-        Err(fault) => Err(WireFault::from(fault)),
+        Err(fault) => Err(fault_of_key(fault)),
+    }
+}
+
+fn fault_of_key(fault: PackFault) -> WireFault
+    ensures { result ≡ fault_of_key fault }
+{
+    match fault {
+        PackFault::TooLong => WireFault::UnknownKey,
+        _ => WireFault::from(fault),
     }
 }
 

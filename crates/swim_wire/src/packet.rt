@@ -1,6 +1,6 @@
 //! Packets: one claim each.
 
-ghost use Rattle.std.specs.Prelude.{◌≡◌, ◌≢◌, IfOk, IfErr, IsErrOf};
+ghost use Rattle.std.specs.Prelude.{◌≡◌, ◌≢◌, Err, IfOk, IfErr, IsErrOf};
 ghost use Rattle.swim_pack.specs.Composing.{ReadsAs, same, lift};
 ghost use Rattle.swim_pack.specs.Reading.{next_byte};
 ghost use Rattle.swim_wire.specs.Checks.{ExplainsWhole};
@@ -83,12 +83,17 @@ pub fn decode_packet(alloc: Global, bytes: &[u8]) -> Result<Packet, WireFault>
     // Refused for another cause than memory they are no packet, and the refusal says why.
     ensures refuses { IfErr result (λ fault. fault ≢ WireFault.Memory → (p : PacketValue) → ¬ PacketText bytes.now p) }
     ensures explains { IfErr result (λ fault. fault ≢ WireFault.Memory → ExplainsWhole fault bytes.now) }
+
+    // It is the one at which the reading stops. A slice never fails.
+    ensures exact { IfErr result (λ fault. fault ≢ WireFault.Memory → whole_packet bytes.now ≡ Err fault) }
+    ensures no_fault { ¬ IsErrOf result WireFault.Fault }
 {
     decode_whole(alloc, bytes)
 }
 
 pub(crate) fn decode_whole(alloc: Global, bytes: &[u8]) -> Result<Packet, WireFault>
-    ensures { AnswersUnlessMemory (whole_packet bytes.now) result }
+    ensures answers { AnswersUnlessMemory (whole_packet bytes.now) result }
+    ensures no_fault { ¬ IsErrOf result WireFault.Fault }
 {
     match packet_in_order(alloc, bytes)? {
         Some(packet) => Ok(packet),
@@ -98,7 +103,8 @@ pub(crate) fn decode_whole(alloc: Global, bytes: &[u8]) -> Result<Packet, WireFa
 
 /// The packet, however its map is written.
 pub(crate) fn decode_any(alloc: Global, bytes: &[u8]) -> Result<Packet, WireFault>
-    ensures { AnswersUnlessMemory (whole_packet bytes.now) result }
+    ensures answers { AnswersUnlessMemory (whole_packet bytes.now) result }
+    ensures no_fault { ¬ IsErrOf result WireFault.Fault }
 {
     let mut inlet = SliceInlet::new(bytes);
     let packet = read_packet(alloc, &mut inlet)?;

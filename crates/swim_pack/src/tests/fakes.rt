@@ -3,14 +3,16 @@
 use std::io;
 use std::io::{Error, ErrorKind, Read, Write};
 
-/// Gives its bytes, at most so many a read, after it was interrupted so many times.
+/// Gives its bytes, at most so many a read, after it was interrupted so many times, and before each
+/// further read so many times again.
 #[derive(Drop)]
 pub struct Pieces<'a> {
     pub bytes: &'a [u8],
     pub most: usize,
     pub interruptions: u32,
-    /// Behind its bytes it fails, and does not end.
-    pub fails: bool,
+    pub again: u32,
+    /// Behind its bytes it fails so, and does not end.
+    pub fails: Option<ErrorKind>,
     /// How often it was asked.
     pub reads: u32,
 }
@@ -21,7 +23,8 @@ impl<'a> Pieces<'a> {
             bytes,
             most,
             interruptions: 0,
-            fails: false,
+            again: 0,
+            fails: None,
             reads: 0,
         }
     }
@@ -34,8 +37,9 @@ impl Read for Pieces<'_> {
             self.interruptions -= 1;
             return Err(Error::from(ErrorKind::Interrupted));
         }
-        if self.fails && self.bytes.is_empty() {
-            return Err(Error::from(ErrorKind::ConnectionReset));
+        self.interruptions = self.again;
+        if let (Some(kind), true) = (self.fails, self.bytes.is_empty()) {
+            return Err(Error::from(kind));
         }
         let count = self.most.min(buf.len()).min(self.bytes.len());
         let (front, rest) = self.bytes.split_at(count);
@@ -49,7 +53,7 @@ impl Read for Pieces<'_> {
 #[derive(Clone, Copy)]
 pub enum Refusal {
     Nothing,
-    Error,
+    Error(ErrorKind),
 }
 
 /// Takes up to 8 bytes, at most so many a write, after it was interrupted so many times.
@@ -59,7 +63,7 @@ pub struct Taker {
     pub len: usize,
     pub most: usize,
     pub interruptions: u32,
-    /// From the write of this number on, counted from 1, it refuses.
+    /// It refuses the write of this number, counted from 1, and takes those behind it.
     pub refuses_at: u32,
     pub refusal: Refusal,
 }
@@ -72,7 +76,7 @@ impl Taker {
             most,
             interruptions: 0,
             refuses_at: u32::MAX,
-            refusal: Refusal::Error,
+            refusal: Refusal::Error(ErrorKind::ConnectionReset),
         }
     }
 }
@@ -83,13 +87,14 @@ impl Write for Taker {
             self.interruptions -= 1;
             return Err(Error::from(ErrorKind::Interrupted));
         }
-        if self.refuses_at <= 1 {
+        self.refuses_at = self.refuses_at.saturating_sub(1);
+        if self.refuses_at == 0 {
+            self.refuses_at = u32::MAX;
             return match self.refusal {
                 Refusal::Nothing => Ok(0),
-                Refusal::Error => Err(Error::from(ErrorKind::ConnectionReset)),
+                Refusal::Error(kind) => Err(Error::from(kind)),
             };
         }
-        self.refuses_at -= 1;
         let start = self.len.min(8);
         let count = self.most.min(buf.len()).min(8 - start);
         self.taken[start..start + count].copy_from_slice(&buf[..count]);

@@ -1,5 +1,6 @@
 use crate::tests::fakes::Pieces;
 use crate::{FromRead, Inlet, PullFault, SliceInlet, StopInlet};
+use std::io::ErrorKind;
 
 #[test]
 fn bytes_in_memory_come_in_order_and_then_end(rt: HostRuntime) {
@@ -60,7 +61,12 @@ fn a_reader_is_asked_only_where_the_buffer_is_empty(rt: HostRuntime) {
 
 #[test]
 fn a_reader_may_be_interrupted_a_thousand_times_a_pull(rt: HostRuntime) {
-    for (interruptions, answer) in [(0, Ok(())), (1000, Ok(())), (1001, Err(PullFault::Fault))] {
+    for (interruptions, answer) in [
+        (0, Ok(())),
+        (1, Ok(())),
+        (1000, Ok(())),
+        (1001, Err(PullFault::Fault)),
+    ] {
         let mut reader = Pieces::new(b"ab", 1);
         reader.interruptions = interruptions;
         let mut inlet = FromRead::new(reader);
@@ -75,9 +81,32 @@ fn a_reader_may_be_interrupted_a_thousand_times_a_pull(rt: HostRuntime) {
 }
 
 #[test]
+fn interruptions_are_counted_for_each_pull(rt: HostRuntime) {
+    for (wanted, answer) in [(1, Ok(())), (2, Err(PullFault::Fault))] {
+        let mut reader = Pieces::new(b"abcd", 1);
+        (reader.interruptions, reader.again) = (600, 600);
+        let mut inlet = FromRead::new(reader);
+        let mut buf = [0; 2];
+        assert_eq!(rt; inlet.pull(&mut buf[..wanted]), answer);
+        assert_eq!(rt; inlet.pull(&mut buf[..1]), Ok(()));
+    }
+}
+
+#[test]
+fn each_other_error_of_a_reader_is_a_fault_at_once(rt: HostRuntime) {
+    for kind in [ErrorKind::WouldBlock, ErrorKind::TimedOut, ErrorKind::Other] {
+        let mut reader = Pieces::new(b"", 1);
+        reader.fails = Some(kind);
+        let mut inlet = FromRead::new(&mut reader);
+        assert_eq!(rt; inlet.pull(&mut [0; 1]), Err(PullFault::Fault));
+        assert_eq!(rt; reader.reads, 1);
+    }
+}
+
+#[test]
 fn a_reader_that_fails_in_mid_stream_is_a_fault(rt: HostRuntime) {
     let mut reader = Pieces::new(b"abc", 2);
-    reader.fails = true;
+    reader.fails = Some(ErrorKind::ConnectionReset);
     let mut inlet = FromRead::new(reader);
     assert_eq!(rt; inlet.pull(&mut [0; 1]), Ok(()));
     assert!(rt; inlet.unbroken());

@@ -1,5 +1,6 @@
 use crate::tests::fakes::{Refusal, Taker};
-use crate::{Outlet, PushFault, StopOutlet, ToWrite, VecOutlet};
+use crate::{Outlet, PushFault, StopOutlet, ToWrite, VecOutlet, write_whole};
+use std::io::ErrorKind;
 
 #[test]
 fn a_push_that_is_refused_memory_writes_nothing(rt: HostRuntime) {
@@ -43,15 +44,20 @@ fn a_writer_gets_all_bytes_however_few_it_takes(rt: HostRuntime) {
         let mut writer = Taker::new(most);
         let mut outlet = ToWrite::new(&mut writer);
         assert_eq!(rt; outlet.push(b"abc"), Ok(()), "{most}");
-        assert_eq!(rt; outlet.push(b"defgh"), Ok(()), "{most}");
         assert_eq!(rt; outlet.push(b""), Ok(()), "{most}");
+        assert_eq!(rt; write_whole(&mut writer, b"defgh"), Ok(()), "{most}");
         assert_eq!(rt; writer.taken, *b"abcdefgh", "{most}");
     }
 }
 
 #[test]
 fn a_writer_that_takes_nothing_or_fails_is_a_fault(rt: HostRuntime) {
-    for refusal in [Refusal::Nothing, Refusal::Error] {
+    for refusal in [
+        Refusal::Nothing,
+        Refusal::Error(ErrorKind::WouldBlock),
+        Refusal::Error(ErrorKind::TimedOut),
+        Refusal::Error(ErrorKind::ConnectionReset),
+    ] {
         for good in 0..5 {
             let mut writer = Taker::new(1);
             writer.refuses_at = good as u32 + 1;

@@ -90,6 +90,23 @@ fn assert_stops(rt: &impl Abort, cluster: &mut Cluster, events: &[Event], expect
 }
 
 #[test]
+fn three_hundred_events_happen(rt: HostRuntime) -> Result<(), AllocError> {
+    let alloc = rt.alloc();
+    let mut cluster = cluster(&rt, alloc, 3)?;
+    let mut events = Vec::new(alloc);
+    for _ in 0..100 {
+        events.push(Event::Exchange(0, 1))?;
+        events.push(Event::Half(1, 2))?;
+        events.push(Event::Refute(2))?;
+    }
+    if let Err(stop) = cluster.run(&events) {
+        assert_eq!(rt; stop.why, Why::Memory);
+        return Err(AllocError);
+    }
+    Ok(())
+}
+
+#[test]
 fn half_an_exchange_tells_the_second_node_alone(rt: HostRuntime) -> Result<(), AllocError> {
     let alloc = rt.alloc();
     let mut cluster = cluster(&rt, alloc, 2)?;

@@ -1,6 +1,6 @@
 //! The numbers and texts of the faults.
 
-use crate::SyncFault;
+use crate::{SyncFault, Why};
 use std::alloc::{AllocError, Global};
 use std::process::Abort;
 use swim_pack::PushFault;
@@ -28,10 +28,10 @@ fn each_fault_has_its_number_and_text(rt: HostRuntime) -> Result<(), AllocError>
     let push = "the output could not be written";
     assert_shows(&rt, alloc, SyncFault::Push, 29, push)?;
     assert_shows(&rt, alloc, SyncFault::Memory, 10, "out of memory")?;
-    let ended = "the stream of the other member was refused: the bytes end too soon";
+    let ended = "the stream of the other member was refused: the input ends too early";
     assert_shows(&rt, alloc, SyncFault::Wire(WireFault::Ended), 1, ended)?;
     let failed = SyncFault::Wire(WireFault::Fault);
-    let text = "the stream of the other member was refused: the inlet failed";
+    let text = "the stream of the other member was refused: the input could not be read";
     assert_shows(&rt, alloc, failed, 9, text)?;
     assert_eq!(rt;
         SyncFault::Wire(WireFault::WrongType { found: 9 }).number(),
@@ -52,4 +52,23 @@ fn want_of_memory_is_the_same_from_every_layer(rt: HostRuntime) {
     let many = SyncFault::from(EncodeFault::TooManyRecords);
     assert_eq!(rt; many, SyncFault::TooManyRecords);
     assert_eq!(rt; SyncFault::from(PushFault::Fault), SyncFault::Push);
+}
+
+#[test]
+fn each_cause_of_a_stop_has_its_number_and_text(rt: HostRuntime) -> Result<(), AllocError> {
+    for (why, number, text) in [
+        (Why::NoSuchNode, 26, "there is no such node"),
+        (Why::SameNode, 27, "a node cannot exchange with itself"),
+        (
+            Why::TooManyRecords,
+            23,
+            "a table has more than 131,072 records",
+        ),
+        (Why::Memory, 10, "out of memory"),
+    ] {
+        assert_eq!(rt; why.number(), number);
+        let shown = format!(in rt.alloc(); "{why}")?;
+        assert_eq!(rt; shown.as_str(), text);
+    }
+    Ok(())
 }

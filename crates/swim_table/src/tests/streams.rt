@@ -74,7 +74,29 @@ fn read_either<I: Inlet>(
     }
 }
 
-/// Asserts that the bytes are no dump, for this cause, and begin with no stream for the same one.
+/// Reads a stream from the front of the bytes step by step. Where memory is refused the repeat reads it.
+fn read_steps(alloc: Global, bytes: &[u8]) -> Result<Table, WireFault> {
+    match read_steps_once(alloc, bytes) {
+        Err(WireFault::Memory) => read_steps_once(alloc, bytes),
+        answer => answer,
+    }
+}
+
+fn read_steps_once(alloc: Global, bytes: &[u8]) -> Result<Table, WireFault> {
+    let mut inlet = SliceInlet::new(bytes);
+    let mut reader = StreamReader::begin(alloc, &mut inlet)?;
+    for _ in 0..=reader.left() {
+        match reader.step(&mut inlet)? {
+            Step::More(next) => reader = next,
+            Step::End(table, _) => return Ok(table),
+        }
+    }
+    // more steps than records and an end, which no expected cause allows for
+    Err(WireFault::Fault)
+}
+
+/// Asserts that the bytes are no dump, for this cause, and begin with no stream for the same one, read as a
+/// whole or step by step.
 fn assert_refused(rt: &impl Abort, alloc: Global, bytes: &[u8], cause: WireFault) {
     match read(alloc, bytes) {
         Ok(_) => panic!(rt; "{bytes:?} is read as a dump"),
@@ -82,6 +104,10 @@ fn assert_refused(rt: &impl Abort, alloc: Global, bytes: &[u8], cause: WireFault
     }
     match read_front(alloc, bytes) {
         Ok(_) => panic!(rt; "a stream is read from {bytes:?}"),
+        Err(fault) => assert_eq!(rt; fault, cause, "{bytes:?}"),
+    }
+    match read_steps(alloc, bytes) {
+        Ok(_) => panic!(rt; "a stream is read by steps from {bytes:?}"),
         Err(fault) => assert_eq!(rt; fault, cause, "{bytes:?}"),
     }
 }
@@ -157,6 +183,36 @@ fn bytes_after_a_stream_are_no_part_of_it(rt: HostRuntime) -> Result<(), Fail> {
 fn a_stream_is_refused_for_its_first_fault(rt: HostRuntime) {
     for (bytes, cause) in [
         (b"\x09".as_slice(), WireFault::WrongType { found: 9 }),
+        (b"\x06\x81\xa5Nodes\xa0", WireFault::NotUnsigned),
+        (
+            b"\x06\x81\xa5Nodes\x01\x81\xa4Port\xce\0\x01\0\0",
+            WireFault::OutOfRange,
+        ),
+        (b"\x06\x81\xa4Join\0", WireFault::NotBool),
+        (b"\x06\x81\xa5Nodes\x01\x81\xa4Name\x01", WireFault::NotRaw),
+        (b"\x06\x81\xa5Nodes\x01\x81\xa4Addr\xb1", WireFault::TooLong),
+        (b"\x06\x90", WireFault::NotMap),
+        (b"\x06\x81\xa5Nodes\x01\x01", WireFault::NotMap),
+        (b"\x06\x81\xa5Nodes\x01\x80", WireFault::NameEmpty),
+        (
+            b"\x06\x81\xa5Nodes\x01\x81\xa4Name\xa1a",
+            WireFault::BadAddress,
+        ),
+        (
+            b"\x06\x81\xa5Nodes\x01\x83\xa4Addr\xa4\x7f\0\0\x01\xa4Name\xa1a\xa3Vsn\xa1\x01",
+            WireFault::BadVersions,
+        ),
+        (b"\x06\x81\xa1A\0", WireFault::UnknownKey),
+        (b"\x06\x81\xa5Nodes\x01\x81\xa1A\0", WireFault::UnknownKey),
+        (b"\x06\x82\xa4Join\xc2\xa4Join", WireFault::DuplicateKey),
+        (
+            b"\x06\x81\xa5Nodes\x01\x82\xa4Name\xa1a\xa4Name",
+            WireFault::DuplicateKey,
+        ),
+        (
+            b"\x06\x81\xa5Nodes\x02\x82\xa4Name\xa1a\xa5State\x01\x80",
+            WireFault::NameEmpty,
+        ),
         (b"\x06\x84", WireFault::MapCount),
         (b"\x06\x81\xa5Nodes\x01\x88", WireFault::MapCount),
         (STATE_4, WireFault::BadState { found: 4 }),
@@ -175,10 +231,20 @@ fn a_stream_is_refused_for_its_first_fault(rt: HostRuntime) {
 
 #[test]
 fn a_header_or_a_record_is_refused_for_its_first_fault(rt: HostRuntime) -> Result<(), Fail> {
-    let many = b"\x06\x83\xa4Join\xc2\xa5Nodes\xce\0\x02\0\x01\xacUserStateLen\0";
-    match StreamReader::begin(rt.alloc(), &mut SliceInlet::new(many)) {
-        Ok(_) => panic!(rt; "131,073 members are read"),
-        Err(fault) => assert_eq!(rt; fault, WireFault::TooManyNodes),
+    for (bytes, cause) in [
+        (
+            b"\x06\x81\xa5Nodes\xce\0\x02\0\x01".as_slice(),
+            WireFault::TooManyNodes,
+        ),
+        (
+            b"\x06\x81\xacUserStateLen\xce\x01\x40\0\x01",
+            WireFault::UserTooLong,
+        ),
+    ] {
+        match StreamReader::begin(rt.alloc(), &mut SliceInlet::new(bytes)) {
+            Ok(_) => panic!(rt; "a header is read from {bytes:?}"),
+            Err(fault) => assert_eq!(rt; fault, cause),
+        }
     }
     let mut inlet = SliceInlet::new(STATE_4);
     let reader = StreamReader::begin(rt.alloc(), &mut inlet)?;
@@ -190,16 +256,17 @@ fn a_header_or_a_record_is_refused_for_its_first_fault(rt: HostRuntime) -> Resul
     Ok(())
 }
 
-/// The promised records and the promised user state take no memory before they come, so that a refusal
-/// of memory can't be the answer.
+/// The promised records and the promised user state take no memory before they come.
 #[test]
-fn what_a_header_promises_sizes_nothing(rt: HostRuntime) {
+fn a_header_that_promises_much_asks_for_little(rt: HostRuntime) {
     for bytes in [
         b"\x06\x83\xa4Join\xc2\xa5Nodes\xce\0\x02\0\0\xacUserStateLen\0".as_slice(),
+        b"\x06\x81\xa5Nodes\xce\0\x02\0\0\x83\xa4Name\xa1c\xabIncarnation\x03\xa5State\x01",
         b"\x06\x83\xa4Join\xc2\xa5Nodes\0\xacUserStateLen\xce\x01\x40\0\0",
     ] {
         match read_stream(rt.alloc(), &mut SliceInlet::new(bytes)) {
             Ok(_) => panic!(rt; "what was promised is read"),
+            Err(WireFault::Memory) => {}
             Err(fault) => assert_eq!(rt; fault, WireFault::Ended),
         }
     }

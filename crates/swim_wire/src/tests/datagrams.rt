@@ -1,7 +1,7 @@
 //! Datagrams and user state by their bytes.
 
 use super::{ALIVE, SUSPECT};
-use crate::{Datagram, Packet, WireFault, decode_datagram, skip_user};
+use crate::{Datagram, Packet, WireFault, decode_datagram, encode_compound, skip_user};
 use std::alloc::Global;
 use std::process::Abort;
 use std::test::Fail;
@@ -40,6 +40,22 @@ fn a_datagram_has_the_packets_of_its_parts(rt: HostRuntime) -> Result<(), Fail> 
 }
 
 #[test]
+fn two_hundred_and_fifty_five_packets_are_one_compound(rt: HostRuntime) -> Result<(), Fail> {
+    let mut bytes = b"\x07\xff".to_vec(rt.alloc())?;
+    for _ in 0..255 {
+        bytes.extend_from_slice(b"\0\x1d")?;
+    }
+    for _ in 0..255 {
+        bytes.extend_from_slice(SUSPECT)?;
+    }
+    let packets = decode_datagram(rt.alloc(), &bytes)?;
+    assert_eq!(rt; packets.len(), 255);
+    let count = packets.len().min(255);
+    assert_eq!(rt; encode_compound(rt.alloc(), &packets[..count])?, bytes);
+    Ok(())
+}
+
+#[test]
 fn a_packet_by_itself_is_told_from_a_compound_packet(rt: HostRuntime) -> Result<(), Fail> {
     for (bytes, alone) in [
         (ALIVE, true),
@@ -73,6 +89,22 @@ fn a_datagram_is_refused_at_its_first_fault(rt: HostRuntime) -> Result<(), Fail>
         (b"\x07\x01\0\x01", WireFault::Ended),
         (b"\x07\x02\0\x02\xff\xff\x03\x80", WireFault::NameEmpty),
         (CUT_PACKET, WireFault::Ended),
+    ] {
+        assert_eq!(rt; refusal(&rt, rt.alloc(), bytes)?, fault);
+    }
+    Ok(())
+}
+
+#[test]
+fn a_datagram_that_claims_much_asks_for_little(rt: HostRuntime) -> Result<(), Fail> {
+    // 255 parts of 1,028 bytes each, and none of them
+    let mut parts = [4; 512];
+    (parts[0], parts[1]) = (7, 255);
+    for (bytes, fault) in [
+        (parts.as_slice(), WireFault::Ended),
+        (b"\x07\xff", WireFault::Ended),
+        (b"\x04\x81\xa4Meta\xc6\xff\xff\xff\xff", WireFault::TooLong),
+        (b"\x04\x81\xa4Node\xda\x04\x00a", WireFault::Ended),
     ] {
         assert_eq!(rt; refusal(&rt, rt.alloc(), bytes)?, fault);
     }

@@ -3,7 +3,7 @@ use Rattle.std.proofs.lemmas.List.{nil_from_length}
 use Rattle.std.proofs.lemmas.Result.{err_from_is_err_and}
 use Rattle.swim_wire.specs.Streams.{StreamText}
 use Rattle.swim_table.specs.Table.{Reduced}
-use Rattle.swim_table.proofs.WholeStreams.{refused_whole, refused_front, trailing_whole, all_taken, dumped, read_back}
+use Rattle.swim_table.proofs.WholeStreams.{refused_whole, refused_front, trailing_whole, all_taken, dumped, read_back, no_dump}
 use Rattle.swim_table.proofs.stream_reader.read_dump.Goals as goal
 
 pub returns-in_err-read-clause-refuses : goal.returns-in_err-read-clause-refuses
@@ -16,7 +16,13 @@ pub returns-in_err-read-clause-explains : goal.returns-in_err-read-clause-explai
 returns-in_err-read-clause-explains c =
     let p = err_from_is_err_and c.from_residual.result c.from_residual.ensures.1 in
     let why = c.in_err-read.ensures in
-    rw (p.1, p.2) (λ other. rw c.new-inlet.ensures at why.explains)
+    rw (p.1, p.2) (no_dump c.in_err-read.field-0.0 c.args.bytes.now (λ e. absurd (search rules)) (rw c.new-inlet.ensures at why.explains))
+
+pub returns-else-is_empty-clause-explains : goal.returns-else-is_empty-clause-explains
+returns-else-is_empty-clause-explains c =
+    let read = c.in_ok-read.ensures.takes in
+    let more : c.read_stream.new.inlet ≢ [] = search rules in
+    (read.2.0, c.read_stream.new.inlet, read.0, c.in_ok-read.read.1, read.2.1, more, sym c.new-inlet.ensures ∙ read.2.2)
 
 pub returns-in_err-read-clause-back : goal.returns-in_err-read-clause-back
 returns-in_err-read-clause-back c table join legal few is =

@@ -6,8 +6,8 @@ use Rattle.swim_wire.specs.Reading.{nothing_after}
 use Rattle.swim_wire.proofs.Parts.{parts_cut, next_part, wrong_part, all_read, left_over}
 use Rattle.swim_wire.proofs.datagram.decode_parts.Goals as goal
 
-pub returns-in_default-split_at_checked : goal.returns-in_default-split_at_checked
-returns-in_default-split_at_checked c =
+pub returns-in_default-split_at_checked-clause-lists : goal.returns-in_default-split_at_checked-clause-lists
+returns-in_default-split_at_checked-clause-lists c =
     let pair = c.in-Some.ensures.cases in
     let sum = pair.2 in
     let le : 2 ≤ length c.loop-length.lengths.now = omega arith in
@@ -15,15 +15,15 @@ returns-in_default-split_at_checked c =
     let lt : length c.loop-length.rest.now < c.from-len.result = search rules in
     inl (ap nothing_after (c.loop-length.invariant ∙ parts_cut _ _ _ _ _ le pair.0 len lt))
 
-pub returns-in_err-take_part : goal.returns-in_err-take_part
-returns-in_err-take_part c =
+pub returns-in_err-take_part-clause-lists : goal.returns-in_err-take_part-clause-lists
+returns-in_err-take_part-clause-lists c =
     let p = err_from_is_err_and c.from_residual.result c.from_residual.ensures.1 in
     let pair = c.in-Some.ensures.cases in
     let sum = pair.2 in
     let le : 2 ≤ length c.loop-length.lengths.now = omega arith in
     let len : c.from-len.result ≡ from_be_bytes w16 c.in-Some.length.now = search rules in
     let parts = c.in-Some-split_at_checked.ensures.cases in
-    rw (p.1, p.2) (wrong_part _ _ _ _ _ c.take_part.new.packets.items _ _ _ c.loop-length.invariant le pair.0 len parts.0 parts.1 c.in_err-take_part.ensures)
+    rw (p.1, p.2) (wrong_part _ _ _ _ _ c.take_part.new.packets.items _ _ _ c.loop-length.invariant le pair.0 len parts.0 parts.1 c.in_err-take_part.ensures.grows)
 
 pub loop-length-preserved : goal.loop-length-preserved
 loop-length-preserved c =
@@ -32,16 +32,16 @@ loop-length-preserved c =
     let le : 2 ≤ length c.loop-length.lengths.now = omega arith in
     let len : c.from-len.result ≡ from_be_bytes w16 c.in-Some.length.now = search rules in
     let parts = c.in-Some-split_at_checked.ensures.cases in
-    next_part _ _ _ _ _ _ _ _ _ _ _ c.loop-length.invariant le pair.0 pair.1 len parts.0 parts.1 parts.2 c.in_ok-take_part.ensures
+    next_part _ _ _ _ _ _ _ _ _ _ _ c.loop-length.invariant le pair.0 pair.1 len parts.0 parts.1 parts.2 c.in_ok-take_part.ensures.grows
 
-pub returns-then-is_empty : goal.returns-then-is_empty
-returns-then-is_empty c =
+pub returns-then-is_empty-clause-lists : goal.returns-then-is_empty-clause-lists
+returns-then-is_empty-clause-lists c =
     let lt : length c.loop-length.lengths.now < 2 = search rules in
     let none : length c.loop-length.rest.now ≡ 0 = search rules in
     all_read _ _ _ _ c.loop-length.invariant lt none
 
-pub returns-else-is_empty : goal.returns-else-is_empty
-returns-else-is_empty c =
+pub returns-else-is_empty-clause-lists : goal.returns-else-is_empty-clause-lists
+returns-else-is_empty-clause-lists c =
     let lt : length c.loop-length.lengths.now < 2 = search rules in
     let some : 0 < length c.loop-length.rest.now = search rules in
     inl (left_over _ _ _ _ c.loop-length.invariant lt some)

@@ -1,4 +1,7 @@
-use Rattle.std.proofs.Common.{arith}
+use Rattle.std.proofs.Common.{refl, arith}
+use Rattle.swim_pack.proofs.Composing.{Reads-memory-first}
+use Rattle.swim_wire.specs.declared.fault.WireFault.TheVariants.{Memory}
+use Rattle.swim_wire.specs.Reading.{state_at}
 use Rattle.swim_wire.proofs.AtHand.{state_passed}
 use Rattle.swim_wire.proofs.InOrder.{state_told}
 use Rattle.swim_wire.proofs.in_order.read_state_in_order.Goals as goal
@@ -9,3 +12,6 @@ returns-then-pass-clause-read g c =
     let shorter = found.shorter in
     state_passed _ _ c.at_hand-hand.result.now c.in_ok-state.state.rest.now c.in-Ok-Some.claim _ c.at_hand-hand.ensures.front
     (state_told _ _ _ _ found.reads (rw c.in-Ok-Some.field-0-is at c.in-Ok-Some.ensures)) (omega (arith, shorter)) c.if-pass.ensures.passed
+
+pub returns-in-Err-clause-read : goal.returns-in-Err-clause-read
+returns-in-Err-clause-read g c = Reads-memory-first state_at Memory refl

@@ -1,3 +1,4 @@
+use Rattle.std.proofs.Common.{arith}
 use Rattle.swim_pack.proofs.Refusals.{Skips-kept, ok_where_empty}
 use Rattle.swim_pack.proofs.stop_inlet.StopInletInlet.TheImpl.Goals as goal
 
@@ -6,7 +7,7 @@ pull-tells g c = record {
   ok = c.ensures.ok;
   empty = ok_where_empty c.result _ _ _ c.ensures.stops c.ensures.ended;
   ended = c.ensures.ended;
-  fault = c.ensures.fault;
+  fault = λ failed. (let count = c.ensures.fault failed in omega (arith, count));
   refused = Skips-kept c.result _ _ c.ensures.kept;
   faults_stay = c.ensures.faults_stay;
 }

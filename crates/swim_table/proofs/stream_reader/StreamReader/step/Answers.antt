@@ -1,4 +1,5 @@
 use Rattle.std.proofs.Common.{◌≡◌, ◌≢◌, ◌+◌, ◌-◌, ◌++◌, ◌∷◌, [], List, subst, refl, arith}
+use Rattle.std.proofs.lemmas.Result.{err_from_is_err_and}
 use Rattle.swim_claim.specs.declared.claim.Claim.{Claim}
 use Rattle.swim_pack.specs.Ends.{Source, Takes}
 use Rattle.swim_wire.specs.Texts.{StateText}
@@ -7,6 +8,7 @@ use Rattle.swim_table.specs.Streaming.{Streaming}
 use Rattle.swim_table.specs.Steps.{Steps}
 use Rattle.swim_table.specs.Steps.Steps.{record_of}
 use Rattle.swim_table.specs.Table.{Entries, TableOf, Reduced}
+use Rattle.swim_table.proofs.Streams.{user_explains}
 use Rattle.swim_table.proofs.stream_reader.StreamReader.step.Goals as goal
 
 one_record : (reader inside : Streaming) (old new : Source) (c : Claim) (table : Entries) → inside ≡ reader → inside.left ≢ 0 → Takes old new (λ b. StateText b c)
@@ -22,3 +24,12 @@ returns-in-Ok-clause-takes g c =
     let inside : Streaming = record { header = c.self.inside.header; left = c.self.inside.left; table = c.self.inside.table } in
     let same : inside ≡ c.args.self = cc in
     one_record c.args.self inside _ _ c.in_ok-claim.claim c.take.new.self same c.if-left-eq0.false c.in_ok-claim.ensures.takes c.in-Ok.ensures.ok c.in-Ok.ensures.all
+
+pub returns-in_err-skip_user-clause-explains : goal.returns-in_err-skip_user-clause-explains
+returns-in_err-skip_user-clause-explains g c =
+    let p = err_from_is_err_and c.from_residual.result c.from_residual.ensures.1 in
+    let inside : Streaming = record { header = c.self.inside.header; left = c.self.inside.left; table = c.self.inside.table } in
+    let same : inside ≡ c.args.self = cc in
+    let why = c.in_err-skip_user.ensures in
+    rw (p.1, p.2)
+    (user_explains c.args.self inside c.in_err-skip_user.field-0.0 (g.I.Inlet.seen c.args.inlet.now) same c.if-left-eq0.true why.refusals why.lacks)

@@ -2,7 +2,7 @@ use Rattle.std.proofs.Common.{◌<◌, arith}
 use Rattle.std.proofs.lemmas.List.Elements.{All-from_get_or}
 use Rattle.swim_claim.specs.Bytes.{AreBytes}
 use Rattle.swim_wire.specs.PacketList.{packets_in}
-use Rattle.swim_wire.proofs.WholeDatagrams.{datagram_reads, datagram_refuses, datagram_explains}
+use Rattle.swim_wire.proofs.WholeDatagrams.{datagram_reads, datagram_refuses, datagram_explains, datagram_exact}
 use Rattle.swim_wire.proofs.datagram.Datagram.decode.Goals as goal
 
 pub returns-clause-reads : goal.returns-clause-reads
@@ -17,3 +17,6 @@ pub returns-clause-explains : goal.returns-clause-explains
 returns-clause-explains c =
     let are : AreBytes c.args.bytes.now = All-from_get_or (λ b. b < 256) c.args.bytes.now 0 (λ i lt. let fits = c.type_inv.bytes i in omega arith) in
     datagram_explains packets_in _ _ are c.decode_either.ensures.lists
+
+pub returns-clause-exact : goal.returns-clause-exact
+returns-clause-exact c = datagram_exact packets_in c.args.bytes.now _ c.decode_either.ensures.lists
