@@ -104,6 +104,21 @@ done <<END
 0683a44a6f696ec2a54e6f64657300ac5573657253746174654c656ece01400000 1 Ended
 0683a44a6f696ec2a54e6f646573ce00020000ac5573657253746174654c656e00 1 Ended
 0681a44a6f696e00 4 NotBool
+0681a54e6f646573a0 2 NotUnsigned
+0681a54e6f6465730181a4506f7274ce00010000 3 OutOfRange
+0681a54e6f6465730181a44e616d6501 5 NotRaw
+0681a54e6f6465730181a441646472b1 6 TooLong
+0690 7 NotMap
+0681a54e6f6465730101 7 NotMap
+0681a54e6f6465730180 11 NameEmpty
+0681a54e6f6465730181a44e616d65a161 13 BadAddress
+0681a54e6f6465730183a441646472a47f000001a44e616d65a161a356736ea101 15 BadVersions
+0681a14100 17 UnknownKey
+0681a54e6f6465730181a14100 17 UnknownKey
+0681a54e6f6465730181ad4141414141414141414141414100 17 UnknownKey
+0682a44a6f696ec2a44a6f696e 18 DuplicateKey
+0681a54e6f6465730182a44e616d65a161a44e616d65 18 DuplicateKey
+0681a54e6f6465730282a44e616d65a161a553746174650180 11 NameEmpty
 0681a54e6f6465730182a44e616d65a164a5537461746504 19 BadState 4
 0684 8 MapCount
 0681a54e6f6465730188 8 MapCount
@@ -145,7 +160,7 @@ done
 count 'each beginning of a dump is Ended' "$fault"
 
 # As many records as a dump may have: 131,072. Their parts with stand-ins for the bytes that are no
-# letters: ( is a4, ) a5, + a6, = a0, * ab, ; a3, [ 87, ~ 7f, @ 00 and ! 01.
+# letters: ( is a4, ) a5, + a6, = a0, * ab, ; a3, [ 87, ~ 7f, @ 00, ! 01 and ^ d9.
 suspect_part='[(Addr=*Incarnation@(Meta=(Name+%06d(Port@)State!;Vsn='
 alive_part='[(Addr(~@@!*Incarnation@(Meta=(Name+%06d(Port@)State@;Vsn='
 
@@ -159,7 +174,7 @@ many() {
             if (other != "")
                 printf other, i
         }
-    }' | tr '()+=*;[~@!' '\244\245\246\240\253\243\207\177\000\001'
+    }' | tr '()+=*;[~@!^' '\244\245\246\240\253\243\207\177\000\001\331'
 }
 too_many='swimtab: output: fault 23 TooManyRecords'
 
@@ -178,6 +193,13 @@ run list most.bin p.bin
 prints_file '131,073 members are listed' more.txt
 run relate p.bin most.bin
 prints '131,072 members and another one' 1 apart
+
+# The same with names of 97 bytes: a listing of 14 MB.
+long_part='[(Addr=*Incarnation@(Meta=(Name^a%097d(Port@)State!;Vsn='
+awk 'BEGIN { for (i = 0; i < 131072; i++) printf "%097d suspect 0 -\n", i }' > long.txt
+many 131072 131072 "$long_part" > names.bin
+run list names.bin
+prints_file 'a listing of 14 MB arrives whole' long.txt
 
 # A member that is suspected and has an address has two records.
 many 65536 65536 "$alive_part" > half.bin

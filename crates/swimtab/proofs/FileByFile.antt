@@ -9,13 +9,14 @@ use Rattle.swim_claim.specs.declared.claim.Claim.{Claim}
 use Rattle.swim_wire.specs.declared.fault.WireFault.{WireFault}
 use Rattle.swim_wire.specs.declared.fault.WireFault.TheVariants as wire
 use Rattle.swim_wire.specs.Streams.{StreamText}
-use Rattle.swimtab.specs.declared.report.What.{What}
-use Rattle.swimtab.specs.declared.report.What.TheVariants.{Memory, Refused}
-use Rattle.swimtab.specs.declared.report.Place.TheVariants.{File}
-use Rattle.swimtab.specs.declared.report.Report.{Report}
-use Rattle.swimtab.specs.Files.{FileClaims, FilesClaims, AreShort, AreRefused}
+use Rattle.swim_program.specs.declared.report.What.{What}
+use Rattle.swim_program.specs.declared.report.What.TheVariants.{Memory, Refused}
+use Rattle.swim_program.specs.declared.report.Place.TheVariants.{File}
+use Rattle.swim_program.specs.declared.report.Report.{Report}
+use Rattle.swim_table.specs.Steps.{ExplainsDump}
+use Rattle.swimtab.specs.Files.{FileClaims, FilesClaims, IsNoDump, AreShort, AreRefused}
 use Rattle.swimtab.specs.Files.AreRefused.{too_long, no_stream, memory}
-use Rattle.swimtab.specs.Report.{what_of}
+use Rattle.swim_program.specs.Report.{what_of}
 
 is_memory : (fault : WireFault) → (fault ≡ wire.Memory) ⊎ (fault ≢ wire.Memory)
 is_memory wire.Memory = inl refl
@@ -41,11 +42,11 @@ is_memory wire.Trailing = inr (λ e. cc)
 
 -- a dump is refused for want of memory, or is no stream
 pub refused_for : (file : List ℕ) (fault : WireFault) (what : What) → what ≡ what_of fault
-    → (fault ≢ wire.Memory → (claims : List Claim) (join : Bool) → ¬ StreamText file claims join)
-    → (what ≡ Memory) ⊎ (((claims : List Claim) → ¬ FileClaims file claims) × ((f : WireFault) × (what ≡ what_of f)))
-refused_for file fault what is none = elim (is_memory fault) [
+    → (fault ≢ wire.Memory → (claims : List Claim) (join : Bool) → ¬ StreamText file claims join) → ExplainsDump fault file
+    → (what ≡ Memory) ⊎ IsNoDump file what
+refused_for file fault what is none why = elim (is_memory fault) [
   | inl e ↦ inl (is ∙ ap what_of e)
-  | inr seen ↦ inr ((λ claims h. none seen claims h.0 h.1), (fault, is))
+  | inr seen ↦ inr (record { fault = fault; none = λ claims h. none seen claims h.0 h.1; why = why; told = is })
 ]
 
 -- one more file
@@ -94,10 +95,10 @@ long_at f files k v file report l here is short long e = too_long k (record {
 -- a file that is refused otherwise
 pub wrong_at : {V : Type 0} (f : V → List ℕ) (files : List V) (k : ℕ) (v : V) (file : List ℕ) (claims : List Claim) (report : Report) → k < length files → v ≡ get_or files k v → file ≡ f v
     → AreShort (map f files) → FilesClaims (take k (map f files)) claims → report.place ≡ File k
-    → (report.what ≡ Memory) ⊎ (((own : List Claim) → ¬ FileClaims file own) × ((fault : WireFault) × (report.what ≡ what_of fault))) → AreRefused (map f files) report
+    → (report.what ≡ Memory) ⊎ IsNoDump file report.what → AreRefused (map f files) report
 wrong_at f files k v file claims report l here is short right place why = elim why [
   | inl e ↦ memory short e
-  | inr h ↦ no_stream k h.1.0 short (record {
+  | inr h ↦ no_stream k short (record {
     before = take k (map f files);
     file = file;
     after = drop (suc k) (map f files);
@@ -105,8 +106,8 @@ wrong_at f files k v file claims report l here is short right place why = elim w
     place = place_of f files k l;
     claims = claims;
     right = right;
-    wrong = h.0;
-  }) place h.1.1
+    wrong = h;
+  }) place
 ]
 
 -- one more file is short
@@ -140,10 +141,10 @@ pub second_long : (first second : List ℕ) (report : Report) → length first �
 second_long first second report short long e = long_at (λ t. t) (first ∷ second ∷ []) 1 second second report (omega arith) refl refl (one_short first short) long e
 
 pub first_wrong : (first second : List ℕ) (report : Report) → AreShort (first ∷ second ∷ []) → report.place ≡ File 0
-    → (report.what ≡ Memory) ⊎ (((own : List Claim) → ¬ FileClaims first own) × ((fault : WireFault) × (report.what ≡ what_of fault))) → AreRefused (first ∷ second ∷ []) report
+    → (report.what ≡ Memory) ⊎ IsNoDump first report.what → AreRefused (first ∷ second ∷ []) report
 first_wrong first second report short place why = wrong_at (λ t. t) (first ∷ second ∷ []) 0 first first [] report (omega arith) refl refl short refl place why
 
 pub second_wrong : (first second : List ℕ) (claims : List Claim) (report : Report) → AreShort (first ∷ second ∷ []) → FileClaims first claims → report.place ≡ File 1
-    → (report.what ≡ Memory) ⊎ (((own : List Claim) → ¬ FileClaims second own) × ((fault : WireFault) × (report.what ≡ what_of fault))) → AreRefused (first ∷ second ∷ []) report
+    → (report.what ≡ Memory) ⊎ IsNoDump second report.what → AreRefused (first ∷ second ∷ []) report
 second_wrong first second claims report short right place why =
     wrong_at (λ t. t) (first ∷ second ∷ []) 1 second second claims report (omega arith) refl refl short (claims, [], right, refl, sym (append-nil claims)) place why

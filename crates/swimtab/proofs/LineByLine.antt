@@ -8,11 +8,12 @@ use Rattle.swim_wire.specs.Packet.{PacketValue}
 use Rattle.swim_wire.specs.Texts.{DatagramText}
 use Rattle.std.proofs.Math.Seq.{split_at}
 use Rattle.swim_table.specs.Table.{Entries, TableOf}
-use Rattle.swimtab.specs.declared.report.Place.{Place}
-use Rattle.swimtab.specs.declared.report.What.{What}
-use Rattle.swimtab.specs.declared.report.What.TheVariants.{Memory}
-use Rattle.swimtab.specs.declared.report.Place.TheVariants.{Line}
-use Rattle.swimtab.specs.Lines.{TextClaims, LineClaims, EachLine, IsFirstWrong, input_lines}
+use Rattle.swim_program.specs.declared.report.Place.{Place}
+use Rattle.swim_program.specs.declared.report.What.{What}
+use Rattle.swim_program.specs.declared.report.What.TheVariants.{Memory}
+use Rattle.swim_program.specs.declared.report.Place.TheVariants.{Line}
+use Rattle.swim_program.specs.Lines.{input_lines}
+use Rattle.swimtab.specs.Lines.{TextClaims, LineClaims, EachLine, IsFirstWrong}
 
 -- the packets of the bytes of a text make its claims
 pub text_claims : (text bytes : List ℕ) (packets : List PacketValue) (claims : List Claim) → 0 < length text → decode_of text ≡ Ok bytes
@@ -54,16 +55,6 @@ pub EachLine-at : (lines : List (List ℕ)) (n : ℕ) (d : List ℕ) (claims : L
 EachLine-at [] n d claims l each = absurd (omega arith)
 EachLine-at (line ∷ lines) zero d claims l each = (each.0, each.2)
 EachLine-at (line ∷ lines) (suc n) d claims l each = EachLine-at lines n d each.1 (omega arith) each.3
-
--- the lines that a count goes with
-pub counted_lines : (xs : List (ℕ × Bor (List ℕ))) (n : ℕ) (lines : List (List ℕ)) → map (λ p. (p.0, p.1.now)) xs ≡ enumerate_from n lines → map (λ p. p.1.now) xs ≡ lines
-counted_lines [] n [] e = refl
-counted_lines [] n (line ∷ lines) e = absurd (omega (arith, ap length e))
-counted_lines (x ∷ xs) n [] e = absurd (omega (arith, ap length e))
-counted_lines (x ∷ xs) n (line ∷ lines) e =
-    let here = ap (λ l. get_or l 0 (n, line)) e in
-    let rest = counted_lines xs (n + 1) lines (ap (drop 1) e) in
-    ap (λ p. p.1 ∷ map (λ p. p.1.now) xs) here ∙ ap (λ t. line ∷ t) rest
 
 -- a line that makes no claims, by its place among the lines
 pub no_claims_at : (lines : List (List ℕ)) (n index : ℕ) (line : List ℕ) (claims : List Claim)

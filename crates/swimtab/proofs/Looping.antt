@@ -15,20 +15,20 @@ use Rattle.swim_table.proofs.Showing.{below_join, below_both}
 use Rattle.swim_table.proofs.Tables.{TableOf-Reduced, Join-itself}
 use Rattle.swim_sync.specs.declared.fault.SyncFault.{SyncFault}
 use Rattle.swim_sync.specs.declared.fault.SyncFault.TheVariants as sync
-use Rattle.swimtab.specs.declared.report.What.{What}
-use Rattle.swimtab.specs.declared.report.What.TheVariants.{Memory}
-use Rattle.swimtab.specs.Files.{FileClaims}
+use Rattle.swim_program.specs.declared.report.What.{What}
+use Rattle.swim_program.specs.declared.report.What.TheVariants.{Memory}
+use Rattle.swimtab.specs.Files.{IsNoDump}
 use Rattle.swimtab.specs.Looping.{IsLoopRefused}
 use Rattle.swimtab.specs.Looping.IsLoopRefused.{no_stream, memory}
-use Rattle.swimtab.specs.Report.{what_of, what_of_sync}
+use Rattle.swim_program.specs.Report.{what_of, what_of_sync}
 
 -- ---- why a file is refused
 
 -- a file whose dump is refused
 pub refused_reading : (file : List ℕ) (what : What) → length file ≤ 268435456
-    → (what ≡ Memory) ⊎ (((claims : List Claim) → ¬ FileClaims file claims) × ((fault : WireFault) × (what ≡ what_of fault))) → IsLoopRefused file what
+    → (what ≡ Memory) ⊎ IsNoDump file what → IsLoopRefused file what
 refused_reading file what short (inl is) = memory short is
-refused_reading file what short (inr wrong) = no_stream wrong.1.0 short wrong.0 wrong.1.1
+refused_reading file what short (inr wrong) = no_stream short wrong
 
 -- ---- why an exchange is refused
 

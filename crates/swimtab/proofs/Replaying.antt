@@ -11,19 +11,20 @@ use Rattle.swim_sync.specs.declared.event.Event.{Event}
 use Rattle.swim_sync.specs.declared.stop.Stop.{Stop}
 use Rattle.swim_sync.specs.declared.stop.Why.{Why}
 use Rattle.swim_sync.specs.declared.stop.Why.TheVariants as why
-use Rattle.swim_sync.specs.Cluster.{NamesNodes, Ran, StopsBy, Stopped, TablesOf, members_of, member_of as node_member}
+use Rattle.swim_sync.specs.Cluster.{NamesNodes, EachCanHappen, Ran, StopsBy, Stopped, TablesOf, members_of, member_of as node_member}
 use Rattle.swim_sync.specs.Heard.{Member, heard, heard_by}
 use Rattle.swim_sync.proofs.Clusters.{ran-append}
 use Rattle.swim_sync.specs.Levels.{level_list}
 use Rattle.swim_sync.proofs.Levelled.{length-ran}
 use Rattle.swim_sync.proofs.Levelling.{get-front, get-back}
-use Rattle.swimtab.specs.declared.report.Report.{Report}
-use Rattle.swimtab.specs.declared.report.What.TheVariants.{Memory}
-use Rattle.swimtab.specs.Lines.{input_lines}
-use Rattle.swimtab.specs.Replay.{IsOfEvent, node_line, shown_from, EachTable, heard_after, Replays, Refuses, RefusedEvent, StopsSo, what_of_why}
-use Rattle.swimtab.specs.ScriptReading.{AreNumbered, plan_events}
-use Rattle.swimtab.specs.Script.{Start, Script, ComesWith, AreStarted, member_of, start_claims}
-use Rattle.swimtab.proofs.ScriptNumbers.{event_line_past}
+use Rattle.swim_program.specs.declared.report.Report.{Report}
+use Rattle.swim_program.specs.declared.report.What.TheVariants.{Memory}
+use Rattle.swim_program.specs.Lines.{input_lines}
+use Rattle.swim_program.specs.Report.{what_of_why}
+use Rattle.swimtab.specs.Replay.{IsOfEvent, node_line, shown_from, EachTable, heard_after, Replays, Refuses, RefusedEvent, StopsSo}
+use Rattle.swim_script.specs.ScriptReading.{AreNumbered, plan_events}
+use Rattle.swim_script.specs.Script.{Start, Script, ComesWith, AreStarted, member_of, start_claims}
+use Rattle.swim_script.proofs.ScriptNumbers.{event_line_past}
 
 -- ---- stops of a run in two parts
 
@@ -140,6 +141,8 @@ replayed input text nodes new starts events are script r shown = record {
   starts = starts;
   events = events;
   script = script;
+  could = subst (λ (members : List Member). EachCanHappen members (map start_claims starts) events) (started_members nodes starts are)
+      (r.could (map start_claims starts) (started_tables nodes starts are));
   tables = map (λ n. n.table) new;
   each = each_table new (heard_after starts events) (tables_after nodes new starts events are r);
   shown = shown;
@@ -149,13 +152,18 @@ replayed input text nodes new starts events are script r shown = record {
 
 refuses_so : (new : List NodeValue) (lists : List (List Claim)) (event : Event) (cause : Why) → TablesOf new lists → StopsBy new event cause → Refuses lists event (what_of_why cause)
 refuses_so new lists event why.NoSuchNode h stops =
-    (λ same. subst (λ (n : ℕ). ¬ NamesNodes n event) (sym h.number) stops, λ other. absurd (omega (arith, other)), λ other. absurd (omega (arith, other)))
+    (λ same. subst (λ (n : ℕ). ¬ NamesNodes n event) (sym h.number) stops, λ other. absurd (omega (arith, other)), λ other. absurd (omega (arith, other)), refl)
 refuses_so new lists event why.SameNode h stops =
-    (λ other. absurd (omega (arith, other)), λ same. (subst (λ (n : ℕ). NamesNodes n event) (sym h.number) stops.0, stops.1), λ other. absurd (omega (arith, other)))
+    (λ other. absurd (omega (arith, other)), λ same. (subst (λ (n : ℕ). NamesNodes n event) (sym h.number) stops.0, stops.1), λ other. absurd (omega (arith, other)), refl)
 refuses_so new lists event why.TooManyRecords h stops = (
   λ other. absurd (omega (arith, other)),
   λ other. absurd (omega (arith, other)),
-  λ same. (stops.2.0, stops.2.1.table, stops.2.2, h.each stops.2.0 stops.2.1 stops.2.3, stops.2.4),
+  λ same. (
+    subst (λ (n : ℕ). NamesNodes n event) (sym h.number) stops.0,
+    stops.1,
+    (stops.2.0, stops.2.1.table, stops.2.2, h.each stops.2.0 stops.2.1 stops.2.3, stops.2.4),
+  ),
+  refl,
 )
 refuses_so new lists event why.Memory h stops = tt
 

@@ -3,11 +3,13 @@ use Rattle.std.specs.Prelude.{◌≡◌, ℕ, ◌<◌, ◌≤◌, Bool, List, []
 use Rattle.swim_claim.specs.declared.claim.Claim.{Claim}
 use Rattle.swim_wire.specs.declared.fault.WireFault.{WireFault}
 use Rattle.swim_wire.specs.Streams.{StreamText}
+use Rattle.swim_table.specs.Steps.{ExplainsDump}
 use Rattle.swim_table.specs.Table.{Entries, TableOf, Reduced}
-use Rattle.swimtab.specs.declared.report.Place.TheVariants.{File, Output}
-use Rattle.swimtab.specs.declared.report.What.TheVariants.{Refused, Memory}
-use Rattle.swimtab.specs.declared.report.Report.{Report}
-use Rattle.swimtab.specs.Report.{what_of}
+use Rattle.swim_program.specs.declared.report.Place.TheVariants.{File, Output}
+use Rattle.swim_program.specs.declared.report.What.{What}
+use Rattle.swim_program.specs.declared.report.What.TheVariants.{Refused, Memory}
+use Rattle.swim_program.specs.declared.report.Report.{Report}
+use Rattle.swim_program.specs.Report.{what_of}
 
 -- the file is one stream of these claims, with any join flag
 abbrev pub FileClaims : List ℕ → List Claim → Type 0
@@ -18,6 +20,13 @@ abbrev pub FilesClaims : List (List ℕ) → List Claim → Type 0
 FilesClaims [] claims = claims ≡ []
 FilesClaims (file ∷ files) claims =
     (own : List Claim) × (others : List Claim) × FileClaims file own × FilesClaims files others × (claims ≡ own ++ others)
+
+-- The file is no stream, and what is said is the fault of its bytes.
+pub record IsNoDump (file : List ℕ) (what : What) : Type 0 where
+  pub fault : WireFault
+  pub none : (claims : List Claim) → ¬ FileClaims file claims
+  pub why : ExplainsDump fault file
+  pub told : what ≡ what_of fault
 
 -- no file is longer than its bound
 abbrev pub AreShort : List (List ℕ) → Type 0
@@ -33,8 +42,8 @@ pub record IsFirstLong (files : List (List ℕ)) (k : ℕ) : Type 0 where
   pub short : AreShort before
   pub long : 268435456 < length file
 
--- the file at place k is no stream, and each before it is one
-pub record IsFirstWrong (files : List (List ℕ)) (k : ℕ) : Type 0 where
+-- the file at place k is no stream, as is said of it, and each before it is one
+pub record IsFirstNoDump (files : List (List ℕ)) (k : ℕ) (what : What) : Type 0 where
   pub before : List (List ℕ)
   pub file : List ℕ
   pub after : List (List ℕ)
@@ -42,12 +51,12 @@ pub record IsFirstWrong (files : List (List ℕ)) (k : ℕ) : Type 0 where
   pub place : length before ≡ k
   pub claims : List Claim
   pub right : FilesClaims before claims
-  pub wrong : (own : List Claim) → ¬ FileClaims file own
+  pub wrong : IsNoDump file what
 
 -- Why files are refused: one is too long, or else one is no stream, or there is no memory.
 pub data AreRefused (files : List (List ℕ)) (report : Report) : Type 0 where
   too_long : (k : ℕ) → IsFirstLong files k → report.place ≡ File k → report.what ≡ Refused 32 None → AreRefused files report
-  no_stream : (k : ℕ) (fault : WireFault) → AreShort files → IsFirstWrong files k → report.place ≡ File k → report.what ≡ what_of fault → AreRefused files report
+  no_stream : (k : ℕ) → AreShort files → IsFirstNoDump files k report.what → report.place ≡ File k → AreRefused files report
   memory : AreShort files → report.what ≡ Memory → AreRefused files report
 
 -- the table of the claims of the files has more records than a dump

@@ -3,7 +3,4 @@ pub mod Files
 pub mod Lines
 pub mod Looping
 pub mod Replay
-pub mod Report
-pub mod Script
-pub mod ScriptReading
 pub mod Words

@@ -1,17 +1,13 @@
--- The lines of an input, and the claims that they make.
-use Rattle.std.specs.Prelude.{◌≡◌, ℕ, ◌+◌, List, [], ◌∷◌, ◌++◌, length, map, Ok, ◌==◌}
-use Rattle.std.specs.List.{slice_split}
+-- The claims that the lines of an input make.
+use Rattle.std.specs.Prelude.{◌≡◌, ℕ, ◌+◌, List, [], ◌∷◌, ◌++◌, length, map, Ok}
 use Rattle.std.specs.Str.Lines.{strip_carriage_return}
 use Rattle.hex.specs.Hex.{decode_of}
 use Rattle.swim_claim.specs.declared.claim.Claim.{Claim}
 use Rattle.swim_wire.specs.Packet.{PacketValue}
 use Rattle.swim_wire.specs.Texts.{DatagramText}
-use Rattle.swimtab.specs.declared.report.Place.{Place}
-use Rattle.swimtab.specs.declared.report.Place.TheVariants.{Line}
-
--- the lines between the line feeds
-abbrev pub input_lines : List ℕ → List (List ℕ)
-input_lines input = slice_split (λ b. b == 10) input
+use Rattle.swim_program.specs.declared.report.Place.{Place}
+use Rattle.swim_program.specs.declared.report.Place.TheVariants.{Line}
+use Rattle.swim_program.specs.Lines.{input_lines}
 
 -- a text that is not empty is the hexadecimal of a datagram whose packets make these claims; an empty one makes none
 abbrev pub TextClaims : List ℕ → List Claim → Type 0

@@ -5,12 +5,12 @@ use Rattle.swim_wire.specs.declared.fault.WireFault.{WireFault}
 use Rattle.swim_table.specs.Dump.{dump_bytes}
 use Rattle.swim_table.specs.Listing.{listing}
 use Rattle.swim_table.specs.Table.{Entries, Reduced, TableOf}
-use Rattle.swimtab.specs.declared.report.Place.TheVariants.{Loop, Output}
-use Rattle.swimtab.specs.declared.report.What.{What}
-use Rattle.swimtab.specs.declared.report.What.TheVariants.{Refused, Memory}
-use Rattle.swimtab.specs.declared.report.Report.{Report}
-use Rattle.swimtab.specs.Files.{FileClaims}
-use Rattle.swimtab.specs.Report.{what_of}
+use Rattle.swim_program.specs.declared.report.Place.TheVariants.{Loop, Output}
+use Rattle.swim_program.specs.declared.report.What.{What}
+use Rattle.swim_program.specs.declared.report.What.TheVariants.{Refused, Memory}
+use Rattle.swim_program.specs.declared.report.Report.{Report}
+use Rattle.swimtab.specs.Files.{FileClaims, IsNoDump}
+use Rattle.swim_program.specs.Report.{what_of}
 
 -- the canonical dump of the table is short enough to be sent to this process itself
 abbrev pub FitsLoop : Entries → Type 0
@@ -27,8 +27,7 @@ pub record IsLoopTable (file : List ℕ) (table : Entries) : Type 0 where
 -- Why a file gives no table that can be sent: it is too long, no stream, or that of too great a table, or there is no memory.
 pub data IsLoopRefused (file : List ℕ) (what : What) : Type 0 where
   too_long : 268435456 < length file → what ≡ Refused 32 None → IsLoopRefused file what
-  no_stream : (fault : WireFault) → length file ≤ 268435456 → ((claims : List Claim) → ¬ FileClaims file claims)
-      → what ≡ what_of fault → IsLoopRefused file what
+  no_stream : length file ≤ 268435456 → IsNoDump file what → IsLoopRefused file what
   too_large : (claims : List Claim) (table : Entries) → length file ≤ 268435456 → FileClaims file claims → TableOf table claims
       → 16384 < length (dump_bytes table false) → what ≡ Refused 28 None → IsLoopRefused file what
   memory : length file ≤ 268435456 → what ≡ Memory → IsLoopRefused file what
@@ -38,7 +37,7 @@ pub record TakesIn (before after : Entries) (claims : List Claim) : Type 0 where
   pub reduced : TableOf after (Reduced before ++ claims)
   pub all : (known : List Claim) → TableOf before known → TableOf after (known ++ claims)
 
--- Each of two tables took in the claims that came to it; the text lists the first, and the flag tells whether both are equal.
+-- Each of two tables took some claims in; the text lists the first, and the flag tells whether both are equal.
 pub record IsLooped (first second : Entries) (text : List ℕ) (equal : Bool) : Type 0 where
   pub claims : List Claim
   pub others : List Claim

@@ -6,19 +6,17 @@ use Rattle.swim_table.specs.Node.{NodeValue}
 use Rattle.swim_table.specs.Table.{Entries, TableOf}
 use Rattle.swim_sync.specs.declared.event.Event.{Event}
 use Rattle.swim_sync.specs.declared.stop.Stop.{Stop}
-use Rattle.swim_sync.specs.declared.stop.Why.{Why}
-use Rattle.swim_sync.specs.declared.stop.Why.TheVariants as why
-use Rattle.swim_sync.specs.Cluster.{NamesNodes, NamesOneTwice, Dumps, Stopped}
+use Rattle.swim_sync.specs.Cluster.{NamesNodes, NamesOneTwice, Dumps, EachCanHappen, Stopped}
 use Rattle.swim_sync.specs.Exchanging.{HasTooMany}
 use Rattle.swim_sync.specs.Heard.{heard, heard_by}
-use Rattle.swimtab.specs.declared.report.Place.TheVariants.{Line}
-use Rattle.swimtab.specs.declared.report.Report.{Report}
-use Rattle.swimtab.specs.declared.report.What.{What}
-use Rattle.swimtab.specs.declared.report.What.TheVariants.{Refused, Device, Memory}
-use Rattle.swimtab.specs.Lines.{input_lines}
-use Rattle.swimtab.specs.Report.{is_of_event}
-use Rattle.swimtab.specs.Script.{Start, Script, ComesWith, member_of, start_claims}
-use Rattle.swimtab.specs.ScriptReading.{event_line}
+use Rattle.swim_program.specs.declared.report.Place.TheVariants.{Line}
+use Rattle.swim_program.specs.declared.report.Report.{Report}
+use Rattle.swim_program.specs.declared.report.What.{What}
+use Rattle.swim_program.specs.declared.report.What.TheVariants.{Refused, Device, Memory}
+use Rattle.swim_program.specs.Lines.{input_lines}
+use Rattle.swim_program.specs.Report.{is_of_event, what_of_why}
+use Rattle.swim_script.specs.Script.{Start, Script, ComesWith, member_of, start_claims}
+use Rattle.swim_script.specs.ScriptReading.{event_line}
 
 -- the line with a node's number
 abbrev pub node_line : ℕ → List ℕ
@@ -39,21 +37,24 @@ EachTable (table ∷ tables) lists =
 abbrev pub heard_after : List Start → List Event → List (List Claim)
 heard_after starts events = heard (map member_of starts) (map start_claims starts) events
 
--- The input is a script, and the text shows what its nodes have heard at its end.
+-- The input is a script whose events can all happen, and the text shows what its nodes have heard at its end.
 pub record Replays (input text : List ℕ) : Type 0 where
   pub starts : List Start
   pub events : List Event
   pub script : Script input starts events
+  pub could : EachCanHappen (map member_of starts) (map start_claims starts) events
   pub tables : List Entries
   pub each : EachTable tables (heard_after starts events)
   pub shown : text ≡ shown_from 0 tables
 
--- why an event of a script does not happen, by the number of the fault
+-- why an event of a script does not happen, by the number of the fault; nothing was found with it
 abbrev pub Refuses : List (List Claim) → Event → What → Type 0
 Refuses lists event (Refused number found) =
     (number ≡ 26 → ¬ NamesNodes (length lists) event)
     × (number ≡ 27 → NamesNodes (length lists) event × NamesOneTwice event)
-    × (number ≡ 23 → (k : ℕ) × (table : Entries) × Dumps event k × TableOf table (heard_by lists k) × HasTooMany table)
+    × (number ≡ 23 → NamesNodes (length lists) event × (¬ NamesOneTwice event)
+    × ((k : ℕ) × (table : Entries) × Dumps event k × TableOf table (heard_by lists k) × HasTooMany table))
+    × (found ≡ None)
 Refuses lists event Device = ⊥
 Refuses lists event Memory = Unit {0}
 
@@ -67,13 +68,6 @@ pub record RefusedEvent (input : List ℕ) (report : Report) : Type 0 where
   pub at : slice_get events done ≡ Some event
   pub refuses : Refuses (heard_after starts (take done events)) event report.what
   pub line : ComesWith (input_lines input) starts events done report.place
-
--- the fault of a stop
-abbrev pub what_of_why : Why → What
-what_of_why why.NoSuchNode = Refused 26 None
-what_of_why why.SameNode = Refused 27 None
-what_of_why why.TooManyRecords = Refused 23 None
-what_of_why why.Memory = Memory
 
 -- a run of the events, which lines of these numbers tell, on the nodes stops so
 abbrev pub StopsSo : List NodeValue → List Event → List ℕ → Option ℕ → Report → Type 0

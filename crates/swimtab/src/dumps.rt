@@ -2,17 +2,15 @@
 
 ghost use Rattle.std.specs.Prelude.{◌≡◌, ◌⊎◌, ◌<◌, ◌≤◌, ◌∷◌, [], false, List, map, length, IfOk, IfErr, OnOk};
 ghost use Rattle.swim_claim.specs.declared.claim.Claim.{Claim};
-ghost use Rattle.swim_wire.specs.declared.fault.WireFault.{WireFault};
 ghost use Rattle.swim_table.specs.Covering.{IsRelation};
 ghost use Rattle.swim_table.specs.Dump.{dump_bytes};
 ghost use Rattle.swim_table.specs.Listing.{listing};
 ghost use Rattle.swim_table.specs.Table.{Entries, TableOf};
-ghost use Rattle.swimtab.specs.Files.{FileClaims, FilesClaims, AreShort, AreRefused, HaveTooMany};
-ghost use Rattle.swimtab.specs.Report.{IsAmong, what_of};
+ghost use Rattle.swimtab.specs.Files.{FileClaims, FilesClaims, IsNoDump, AreShort, AreRefused, HaveTooMany};
+ghost use Rattle.swim_program.specs.Report.{IsAmong};
 
-use crate::device::BOUND;
-use crate::report::{Place, Report, What};
 use std::alloc::{AllocError, Global};
+use swim_program::{BOUND, Place, Report, What};
 use swim_table::{EncodeFault, Relation, Table, encode, list, read_dump, relation};
 
 /// The listing of the table of all claims of the files, each of which is a dump: one push/pull
@@ -130,8 +128,7 @@ pub(crate) fn check_length(file: &[u8], place: usize) -> Result<(), Report>
 /// The table of the claims of one file.
 pub(crate) fn read_file(alloc: Global, file: &[u8], place: usize) -> Result<Table, Report>
     ensures reads { IfOk result (λ table. (claims : List Claim) × FileClaims file.now claims × TableOf table claims) }
-    ensures refuses { IfErr result (λ report. (report.what ≡ What.Memory)
-        ⊎ (((claims : List Claim) → ¬ FileClaims file.now claims) × ((fault : WireFault) × (report.what ≡ what_of fault)))) }
+    ensures refuses { IfErr result (λ report. (report.what ≡ What.Memory) ⊎ IsNoDump file.now report.what) }
     ensures place { IfErr result (λ report. report.place ≡ Place.File place) }
 {
     match read_dump(alloc, file) {

@@ -1,13 +1,13 @@
 //! How the program ends where it has nothing to print.
 
 ghost use Rattle.std.specs.Prelude.{length};
-ghost use Rattle.swimtab.specs.Report.{IsAmong};
+ghost use Rattle.swim_program.specs.Report.{IsAmong};
 
-use crate::report::{Report, report_text, status};
 use crate::verb::WordFault;
 use std::alloc::{AllocError, Global};
 use std::io;
 use std::process::ExitCode;
+use swim_program::{Report, report_text, status};
 
 /// Why the program ends without its output.
 #[derive(Debug, Drop)]

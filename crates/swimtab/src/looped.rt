@@ -4,15 +4,15 @@ ghost use Rattle.std.specs.Prelude.{◌≡◌, ◌↔◌, ◌<◌, List, length,
 ghost use Rattle.swim_claim.specs.declared.claim.Claim.{Claim};
 ghost use Rattle.swim_wire.specs.declared.fault.WireFault.{WireFault};
 ghost use Rattle.swimtab.specs.Looping.{FitsLoop, IsLoopTable, IsLoopRefused, TakesIn, IsLooped, IsLoopStopped};
-ghost use Rattle.swimtab.specs.Report.{IsAmong, what_of};
+ghost use Rattle.swim_program.specs.Report.{IsAmong, what_of};
 
 use crate::dumps::{check_length, read_file};
-use crate::report::{Place, Report, What};
 use std::alloc::{AllocError, Global};
 use std::io;
 use std::net::{Ipv4Addr, TcpListener, TcpStream};
 use std::time::Duration;
 use swim_pack::{FromRead, ToWrite};
+use swim_program::{Place, Report, What};
 use swim_sync::{answer, finish, offer};
 use swim_table::{EncodeFault, Relation, Table, encode, list, relation};
 
@@ -90,9 +90,26 @@ pub fn looped(
     ensures stops { IfErr result IsLoopStopped }
     ensures place { IfErr result (λ report. IsAmong report.place 0) }
 {
+    looped_within(rt, listener, first, second, Duration::from_secs(PATIENCE))
+}
+
+/// The same, where a connection that keeps silent is given up after this time.
+pub(crate) fn looped_within(
+    rt: &HostRuntime,
+    listener: TcpListener,
+    first: Table,
+    second: Table,
+    patience: Duration,
+) -> Result<(Vec<u8>, bool), Report>
+    requires first { FitsLoop first }
+    requires second { FitsLoop second }
+    ensures loops { IfOk result (λ ended. IsLooped first second ended.0.items ended.1) }
+    ensures stops { IfErr result IsLoopStopped }
+    ensures place { IfErr result (λ report. IsAmong report.place 0) }
+{
     let mut first = first;
     let mut second = second;
-    if let Err(what) = exchange(rt, &listener, &mut first, &mut second) {
+    if let Err(what) = exchange(rt, &listener, &mut first, &mut second, patience) {
         return Err(what.at(Place::Loop));
     }
     match list(rt.alloc(), &first) {
@@ -111,6 +128,7 @@ fn exchange(
     listener: &TcpListener,
     first: &mut Table,
     second: &mut Table,
+    patience: Duration,
 ) -> Result<(), What>
     requires first { FitsLoop first.old }
     requires second { FitsLoop second.old }
@@ -119,7 +137,7 @@ fn exchange(
     ensures stops { IfErr result (λ what. (fault : WireFault) × (what ≡ what_of fault)) }
 {
     let alloc = rt.alloc();
-    let (near, far) = match connect(rt, listener) {
+    let (near, far) = match connect(rt, listener, patience) {
         Ok(ends) => ends,
         Err(_) => return Err(What::Device),
     };
@@ -135,14 +153,17 @@ fn exchange(
 }
 
 /// Both ends of a connection to the listener: the one that connects, and the one that the listener
-/// gives next.
-fn connect(rt: &HostRuntime, listener: &TcpListener) -> io::Result<(TcpStream, TcpStream)> {
+/// gives next. A read or write over them waits as long at most.
+fn connect(
+    rt: &HostRuntime,
+    listener: &TcpListener,
+    patience: Duration,
+) -> io::Result<(TcpStream, TcpStream)> {
     let near = TcpStream::connect(rt, listener.local_addr()?)?;
     let (far, _) = listener.accept()?;
-    let patience = Some(Duration::from_secs(PATIENCE));
     for end in [&near, &far] {
-        end.set_read_timeout(patience)?;
-        end.set_write_timeout(patience)?;
+        end.set_read_timeout(Some(patience))?;
+        end.set_write_timeout(Some(patience))?;
     }
     Ok((near, far))
 }

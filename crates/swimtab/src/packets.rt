@@ -7,14 +7,11 @@ ghost use Rattle.swim_table.specs.Table.{Entries, TableOf};
 ghost use Rattle.swim_wire.specs.Packet.{PacketValue};
 ghost use Rattle.swim_wire.specs.Texts.{DatagramText};
 ghost use Rattle.swimtab.specs.Lines.{TextClaims, LineClaims, PacketLines, IsFirstWrong};
-ghost use Rattle.swimtab.specs.Report.{IsAmong};
+ghost use Rattle.swim_program.specs.Report.{IsAmong};
 
-use crate::claims::into_claims;
-use crate::device::BOUND;
-use crate::lines::without_return;
-use crate::report::{Place, Report, What};
 use std::alloc::{AllocError, Global};
 use swim_claim::Claim;
+use swim_program::{BOUND, Place, Report, What, into_claims, without_return};
 use swim_table::{Table, list};
 use swim_wire::Datagram;
 
@@ -34,6 +31,7 @@ pub fn packets(alloc: Global, input: &[u8]) -> Result<Vec<u8>, Report>
     // And the report names the first line that makes none.
     ensures line { IfErr result (λ report. report.what ≢ What.Memory → length input.now ≤ 268435456 → IsFirstWrong input.now report.place) }
     ensures long { (268435456 < length input.now) ↔ (result ≡ Err (record { place = Place.Input; what = What.Refused 32 None })) }
+    ensures no_device { IfErr result (λ report. report.what ≢ What.Device) }
     ensures place { IfErr result (λ report. IsAmong report.place 0) }
 {
     if input.len() > BOUND {
@@ -56,6 +54,7 @@ fn take_line(alloc: Global, table: &mut Table, line: &[u8]) -> Result<(), What>
     ensures takes { OnOk result ((claims : List Claim) × LineClaims line.now claims
         × ((taken : List Claim) → TableOf table.old taken → TableOf table.new (taken ++ claims))) }
     ensures refuses { IfErr result (λ what. what ≢ What.Memory → (claims : List Claim) → ¬ LineClaims line.now claims) }
+    ensures no_device { IfErr result (λ what. what ≢ What.Device) }
 {
     take_text(alloc, table, without_return(line))
 }
@@ -64,6 +63,7 @@ fn take_text(alloc: Global, table: &mut Table, text: &[u8]) -> Result<(), What>
     ensures takes { OnOk result ((claims : List Claim) × TextClaims text.now claims
         × ((taken : List Claim) → TableOf table.old taken → TableOf table.new (taken ++ claims))) }
     ensures refuses { IfErr result (λ what. what ≢ What.Memory → (claims : List Claim) → ¬ TextClaims text.now claims) }
+    ensures no_device { IfErr result (λ what. what ≢ What.Device) }
 {
     if text.is_empty() {
         return Ok(());
@@ -79,6 +79,7 @@ fn take_datagram(alloc: Global, table: &mut Table, bytes: &[u8]) -> Result<(), W
         → TableOf table.new (taken ++ map (λ p. p.claim) packets))) }
     ensures refuses { IfErr result (λ what. what ≢ What.Memory
         → (packets : List PacketValue) → ¬ DatagramText bytes.now packets) }
+    ensures no_device { IfErr result (λ what. what ≢ What.Device) }
 {
     match Datagram::decode(alloc, bytes)? {
         Datagram::Packet(packet) => take_claim(table, packet.into_claim())?,

@@ -5,14 +5,14 @@ ghost use Rattle.swim_sync.specs.declared.event.Event.{Event};
 ghost use Rattle.swim_sync.specs.Cluster.{Ran};
 ghost use Rattle.swim_sync.specs.Levels.{level_list};
 ghost use Rattle.swimtab.specs.Replay.{IsOfEvent, RefusedEvent, Replays, StopsSo, node_line, shown_from};
-ghost use Rattle.swimtab.specs.Report.{IsAmong};
-ghost use Rattle.swimtab.specs.Script.{Script, Start, IsFirstWrongLine};
-ghost use Rattle.swimtab.specs.ScriptReading.{plan_events};
+ghost use Rattle.swim_program.specs.Report.{IsAmong};
+ghost use Rattle.swim_script.specs.Script.{Script, Start, IsFirstWrongLine};
+ghost use Rattle.swim_script.specs.ScriptReading.{plan_events};
 
-use crate::report::{Place, Report, What};
-use crate::script::{Plan, read_script};
 use itoa::Buffer;
 use std::alloc::{AllocError, Global};
+use swim_program::{Place, Report, What};
+use swim_script::{Plan, read_script};
 use swim_sync::Cluster;
 use swim_table::list;
 
@@ -34,6 +34,7 @@ pub fn script(alloc: Global, input: &[u8]) -> Result<Vec<u8>, Report>
         → (starts : List Start) → (events : List Event) → ¬ Script input.now starts events) }
     ensures line { IfErr result (λ report. report.what ≢ What.Memory → length input.now ≤ 268435456 → ¬ IsOfEvent report.what → IsFirstWrongLine input.now report.place) }
     ensures long { (268435456 < length input.now) ↔ (result ≡ Err (record { place = Place.Input; what = What.Refused 32 None })) }
+    ensures no_device { IfErr result (λ report. report.what ≢ What.Device) }
     ensures place { IfErr result (λ report. IsAmong report.place 0) }
 {
     let plan = read_script(alloc, input)?;

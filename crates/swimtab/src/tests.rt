@@ -1,23 +1,18 @@
 //! What the program prints of worked inputs.
 
-ghost use Rattle.swimtab.specs.Report.{IsAmong};
-
 mod dumps;
 mod looping;
 mod replays;
-mod scripts;
 mod spellings;
-mod streams;
 mod words;
-mod wrong_scripts;
 
 use crate::packets::packets;
-use crate::report::{Place, What, report_text, status};
+use dumps::too_long;
 use spellings::{ALIVE, CONFIRM, LEAVE, SUSPECT};
 use std::alloc::Global;
 use std::process::Abort;
 use std::test::Fail;
-use swim_wire::WireFault;
+use swim_program::{BOUND, Place, What, report_text, status};
 
 /// What holds, the lines of an input, and its listing.
 const LISTINGS: [(&str, &str, &str); 13] = [
@@ -315,53 +310,6 @@ fn the_longest_name_is_listed(rt: HostRuntime) -> Result<(), Fail> {
     Ok(())
 }
 
-/// What is said of a run over the file `x y`, and its status.
-fn said(alloc: Global, place: Place, what: What) -> Result<(String, u8), Fail>
-    requires { IsAmong place 1 }
-{
-    let files = [String::from_str(alloc, "x y")?];
-    let report = what.at(place);
-    Ok((report_text(alloc, &report, &files)?, status(&report)))
-}
-
-#[test]
-fn a_fault_of_a_file_names_it_by_its_word(rt: HostRuntime) -> Result<(), Fail> {
-    let what = What::from(WireFault::BadState { found: 4 });
-    let (text, status) = said(rt.alloc(), Place::File(0), what)?;
-    assert_eq!(rt; text.as_str(), "swimtab: x y: fault 19 BadState 4");
-    assert_eq!(rt; status, 3);
-    Ok(())
-}
-
-#[test]
-fn each_report_has_its_text_and_status(rt: HostRuntime) -> Result<(), Fail> {
-    let too_long = What::input_too_long();
-    let unknown = What::Refused {
-        number: 33,
-        found: None,
-    };
-    for (what, wanted, number) in [
-        (What::Device, "swimtab: input: device fault", 4),
-        (What::Memory, "swimtab: out of memory", 5),
-        (too_long, "swimtab: input: fault 32 InputTooLong", 3),
-        (
-            What::from(WireFault::Ended),
-            "swimtab: input: fault 1 Ended",
-            3,
-        ),
-        (unknown, "swimtab: input: fault 33 Unknown", 3),
-    ] {
-        let (text, status) = said(rt.alloc(), Place::Input, what)?;
-        assert_eq!(rt; text.as_str(), wanted);
-        assert_eq!(rt; status, number, "{wanted}");
-    }
-    let (text, _) = said(rt.alloc(), Place::Output, What::Device)?;
-    assert_eq!(rt; text.as_str(), "swimtab: output: device fault");
-    let (text, _) = said(rt.alloc(), Place::Loop, What::Device)?;
-    assert_eq!(rt; text.as_str(), "swimtab: loop: device fault");
-    Ok(())
-}
-
 #[test]
 fn want_of_memory_is_answered_as_such_and_then_repeated(rt: HostRuntime) -> Result<(), Fail> {
     let (_, input, wanted) = LISTINGS[0];
@@ -373,5 +321,16 @@ fn want_of_memory_is_answered_as_such_and_then_repeated(rt: HostRuntime) -> Resu
             assert_eq!(rt; listing(rt.alloc(), input)?.as_slice(), wanted.as_bytes());
         }
     }
+    Ok(())
+}
+
+#[test]
+fn an_input_past_its_bound_is_refused_as_a_whole(rt: HostRuntime) -> Result<(), Fail> {
+    let mut input = too_long(rt.alloc())?;
+    input.truncate(BOUND + 1);
+    assert_eq!(rt;
+        packets(rt.alloc(), &input),
+        Err(What::input_too_long().at(Place::Input))
+    );
     Ok(())
 }

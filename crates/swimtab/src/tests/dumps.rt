@@ -1,12 +1,11 @@
 //! Files with dumps: their listing, their join, and how they relate.
 
-use crate::device::BOUND;
 use crate::dumps::{listed, merged, related, relation_line};
-use crate::report::{Place, Report, What, report_text, status};
 use std::alloc::{AllocError, Global};
 use std::process::Abort;
 use std::test::Fail;
 use swim_claim::{Claim, Name};
+use swim_program::{BOUND, Place, Report, What, report_text, status};
 use swim_table::{Relation, Table, encode};
 
 /// An Alive of `a`.
@@ -189,15 +188,20 @@ fn a_file_that_is_no_dump_is_named(rt: HostRuntime) -> Result<(), Fail> {
     Ok(())
 }
 
-#[test]
-fn lengths_are_checked_before_the_first_file_is_read(rt: HostRuntime) -> Result<(), Fail> {
-    let alloc = rt.alloc();
+/// Zeros, of which there are 65,536 more than the bound of an input.
+pub(crate) fn too_long(alloc: Global) -> Result<Vec<u8>, AllocError> {
     let piece = [0; 65536];
     let mut long = Vec::with_capacity(alloc, BOUND + piece.len())?;
     for _ in 0..=BOUND / 65536 {
         long.extend_from_slice(&piece)?;
     }
-    let files = [Vec::new(alloc), long];
+    Ok(long)
+}
+
+#[test]
+fn lengths_are_checked_before_the_first_file_is_read(rt: HostRuntime) -> Result<(), Fail> {
+    let alloc = rt.alloc();
+    let files = [Vec::new(alloc), too_long(alloc)?];
     let wanted = "swimtab: no dump: fault 32 InputTooLong";
     assert_refused(&rt, alloc, listed(alloc, &files).err(), wanted)?;
     assert_refused(&rt, alloc, merged(alloc, &files).err(), wanted)?;

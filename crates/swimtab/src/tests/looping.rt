@@ -1,13 +1,16 @@
 //! Tables that are exchanged over a connection of this process to itself.
 
-use crate::looped::{local_listener, loop_table, looped};
-use crate::report::{Place, Report, What};
+use crate::looped::{local_listener, loop_table, looped, looped_within};
 use crate::tests::dumps::{P, Q, suspect};
 use std::alloc::Global;
-use std::net::TcpStream;
+use std::io::Write;
+use std::net::{IpAddr, Ipv4Addr, TcpStream};
 use std::process::Abort;
 use std::test::Fail;
-use swim_table::{Table, encode};
+use std::time::Duration;
+use swim_pack::FromRead;
+use swim_program::{Place, Report, What};
+use swim_table::{Table, encode, list, read_stream};
 
 /// What is wrong with a file, the file, and the number of its fault.
 const REFUSED: [(&str, &str, u32); 3] = [
@@ -93,6 +96,58 @@ fn the_second_table_answers_who_connected_before(rt: HostRuntime) -> Result<(), 
         found: None,
     };
     assert_eq!(rt; report, ended.at(Place::Loop));
+    Ok(())
+}
+
+/// A connection to the listener that comes before that of the loop, and writes these bytes, with the
+/// report of the loop.
+fn stranger(rt: &HostRuntime, bytes: &[u8]) -> Result<(Option<Report>, TcpStream), Fail> {
+    let alloc = rt.alloc();
+    let first = loop_table(alloc, &hex::decode(alloc, P)?, 0)?;
+    let second = loop_table(alloc, &hex::decode(alloc, Q)?, 1)?;
+    let listener = local_listener(rt)?;
+    let mut stranger = TcpStream::connect(rt, listener.local_addr()?)?;
+    stranger.write_all(bytes)?;
+    let patience = Duration::from_millis(100);
+    let report = looped_within(rt, listener, first, second, patience).err();
+    Ok((report, stranger))
+}
+
+#[test]
+fn a_connection_that_keeps_silent_is_given_up(rt: HostRuntime) -> Result<(), Fail> {
+    let (report, stranger) = stranger(&rt, b"")?;
+    drop(stranger);
+    let report = report.expect(&rt, "the stranger takes part");
+    if report.what == What::Memory {
+        return Err(Fail::from(report));
+    }
+    assert_eq!(rt; report, What::Device.at(Place::Loop));
+    Ok(())
+}
+
+#[test]
+fn the_first_table_offers_and_the_second_answers(rt: HostRuntime) -> Result<(), Fail> {
+    let no_records = b"\x06\x83\xa4Join\xc2\xa5Nodes\0\xacUserStateLen\0";
+    let (report, stranger) = stranger(&rt, no_records)?;
+    let report = report.expect(&rt, "the stranger takes part");
+    if report.what == What::Memory {
+        return Err(Fail::from(report));
+    }
+    assert_eq!(rt; report, What::Device.at(Place::Loop));
+    stranger.set_read_timeout(Some(Duration::from_secs(10)))?;
+    let (table, _) = read_stream(rt.alloc(), &mut FromRead::new(&stranger))?;
+    let text = list(rt.alloc(), &table)?;
+    assert_eq!(rt; text.as_slice(), b"b suspect 1 -\n".as_slice());
+    Ok(())
+}
+
+#[test]
+fn the_listener_is_of_this_machine_alone(rt: HostRuntime) -> Result<(), Fail> {
+    let listener = local_listener(&rt)?;
+    assert_eq!(rt;
+        listener.local_addr()?.ip(),
+        IpAddr::V4(Ipv4Addr::LOCALHOST)
+    );
     Ok(())
 }
 

@@ -1,10 +1,10 @@
 //! What replayed scripts show, and why they are refused.
 
 use crate::replay::script;
-use crate::report::{What, report_text, status};
 use std::alloc::Global;
 use std::process::Abort;
 use std::test::Fail;
+use swim_program::{What, report_text, status};
 
 /// Scripts, and what their nodes list at the end.
 const SHOWN: [(&str, &str); 7] = [

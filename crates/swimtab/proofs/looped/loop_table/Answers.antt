@@ -1,6 +1,6 @@
 use Rattle.std.proofs.Common.{◌∙◌, ap, length, Err, arith}
 use Rattle.std.proofs.lemmas.Result.{err_from_is_err_and}
-use Rattle.swimtab.specs.declared.report.Report.{Report}
+use Rattle.swim_program.specs.declared.report.Report.{Report}
 use Rattle.swimtab.specs.Looping.IsLoopRefused.{too_large, memory}
 use Rattle.swimtab.proofs.FewRecords.{stream_few}
 use Rattle.swimtab.proofs.Looping.{refused_reading}

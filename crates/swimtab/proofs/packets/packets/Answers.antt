@@ -2,9 +2,10 @@ use Rattle.std.proofs.Common.{◌≡◌, ◌++◌, ◌∙◌, length, sym, ap, s
 use Rattle.std.proofs.lemmas.Iterator.Consumers.{YieldsList-at, YieldsList-from_enumerate, YieldsList-turn, YieldsList-end}
 use Rattle.std.proofs.lemmas.Iterator.Splits.{YieldsList-from_slice_split}
 use Rattle.std.proofs.lemmas.List.{map_push}
-use Rattle.swimtab.specs.Lines.{input_lines, EachLine}
-use Rattle.swimtab.proofs.LineByLine.{EachLine-push, counted_lines, first_wrong, no_claims_at}
-use Rattle.swimtab.proofs.ScriptRun.{first_counted, yielded_at}
+use Rattle.swim_program.specs.Lines.{input_lines}
+use Rattle.swimtab.specs.Lines.{EachLine}
+use Rattle.swimtab.proofs.LineByLine.{EachLine-push, first_wrong, no_claims_at}
+use Rattle.swim_program.proofs.CountedLines.{counted_lines, first_counted, yielded_at}
 use Rattle.swimtab.proofs.packets.packets.Goals as goal
 
 pub returns-in-Err-clause-refuses : goal.returns-in-Err-clause-refuses

@@ -2,7 +2,7 @@ use Rattle.std.proofs.Common.{◌∷◌, ◌++◌, [], ap, subst, ◌∙◌}
 use Rattle.std.proofs.lemmas.Result.{err_from_is_err_and}
 use Rattle.swim_table.specs.Table.{TableOf}
 use Rattle.swim_wire.specs.Texts.{DatagramText}
-use Rattle.swimtab.specs.Report.{what_of}
+use Rattle.swim_program.specs.Report.{what_of}
 use Rattle.swimtab.proofs.packets.take_datagram.Goals as goal
 
 pub returns-in_err-packet-clause-refuses : goal.returns-in_err-packet-clause-refuses

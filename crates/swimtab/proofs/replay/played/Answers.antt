@@ -3,9 +3,9 @@ use Rattle.std.proofs.lemmas.Result.{IfOk-weaker, IfErr-weaker}
 use Rattle.swim_table.specs.Node.{NodeValue}
 use Rattle.swim_sync.specs.declared.event.Event.{Event}
 use Rattle.swim_sync.specs.Cluster.{Ran, Stopped}
-use Rattle.swimtab.specs.declared.report.Report.{Report}
+use Rattle.swim_program.specs.declared.report.Report.{Report}
 use Rattle.swimtab.proofs.Replaying.{stopped_in_plan, ran_plan, stops_plan}
-use Rattle.swimtab.proofs.ScriptNumbers.{event_line_within}
+use Rattle.swim_script.proofs.ScriptNumbers.{event_line_within}
 use Rattle.swimtab.proofs.replay.played.Goals as goal
 
 pub returns-in-Err-clause-stops : goal.returns-in-Err-clause-stops

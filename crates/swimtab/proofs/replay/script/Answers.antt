@@ -1,10 +1,10 @@
 use Rattle.std.proofs.Common.{◌∙◌, Err, sym, ap, subst, length}
 use Rattle.std.proofs.lemmas.Result.{err_from_is_err_and}
-use Rattle.swimtab.specs.declared.report.Report.{Report}
+use Rattle.swim_program.specs.declared.report.Report.{Report}
 use Rattle.swimtab.specs.Replay.{IsOfEvent}
-use Rattle.swimtab.specs.ScriptReading.{plan_events}
+use Rattle.swim_script.specs.ScriptReading.{plan_events}
 use Rattle.swimtab.proofs.Replaying.{replayed, refused_event, why_of_event}
-use Rattle.swimtab.proofs.ScriptRun.{wrong_line_no_script}
+use Rattle.swim_script.proofs.ScriptRun.{wrong_line_no_script}
 use Rattle.swimtab.proofs.replay.script.Goals as goal
 
 pub returns-in_err-plan-clause-refuses : goal.returns-in_err-plan-clause-refuses

@@ -1,0 +1,66 @@
+-- Where a run was refused, and the exit status.
+use Rattle.std.specs.Prelude.{◌≡◌, ℕ, ◌<◌, Bool, false, ◌||◌, ◌==◌, Some, None}
+use Rattle.hex.specs.declared.error.FromHexError.{FromHexError}
+use Rattle.hex.specs.declared.error.FromHexError.TheVariants.{OutOfMemory}
+use Rattle.swim_wire.specs.declared.fault.WireFault.{WireFault}
+use Rattle.swim_wire.specs.declared.fault.WireFault.TheVariants as wire
+use Rattle.swim_wire.specs.Fault.{number_of}
+use Rattle.swim_sync.specs.declared.fault.SyncFault.{SyncFault}
+use Rattle.swim_sync.specs.declared.fault.SyncFault.TheVariants as sync
+use Rattle.swim_sync.specs.declared.stop.Why.{Why}
+use Rattle.swim_sync.specs.declared.stop.Why.TheVariants as why
+use Rattle.swim_program.specs.declared.report.Place.{Place}
+use Rattle.swim_program.specs.declared.report.Place.TheVariants.{Line, File, Input, Output, Loop}
+use Rattle.swim_program.specs.declared.report.What.{What}
+use Rattle.swim_program.specs.declared.report.What.TheVariants.{Refused, Device, Memory}
+
+-- a file is one of so many
+abbrev pub IsAmong : Place → ℕ → Type 0
+IsAmong (Line line) files = Unit {0}
+IsAmong (File file) files = file < files
+IsAmong Input files = Unit {0}
+IsAmong Output files = Unit {0}
+IsAmong Loop files = Unit {0}
+
+-- the exit status
+abbrev pub status_of : What → ℕ
+status_of (Refused number found) = 3
+status_of Device = 4
+status_of Memory = 5
+
+-- what is said of a text that is no hexadecimal
+abbrev pub what_of_hex : FromHexError → What
+what_of_hex OutOfMemory = Memory
+what_of_hex error = Refused 30 None
+
+-- the fault is that of an event that is refused: TooManyRecords, NoSuchNode or SameNode
+abbrev pub is_of_event : ℕ → Bool
+is_of_event number = (number == 23 || number == 26) || number == 27
+
+-- it is no fault of an event, and none of a device
+abbrev pub IsOfReading : What → Type 0
+IsOfReading (Refused number found) = is_of_event number ≡ false
+IsOfReading Device = ⊥
+IsOfReading Memory = Unit {0}
+
+-- what is said of a message that is refused: an inlet that failed is a device
+abbrev pub what_of : WireFault → What
+what_of wire.Memory = Memory
+what_of wire.Fault = Device
+what_of (wire.WrongType found) = Refused 16 (Some found)
+what_of (wire.BadState found) = Refused 19 (Some found)
+what_of fault = Refused (number_of fault) None
+
+-- what is said of an exchange that is refused: an outlet that failed is a device
+abbrev pub what_of_sync : SyncFault → What
+what_of_sync (sync.Wire fault) = what_of fault
+what_of_sync sync.TooManyRecords = Refused 23 None
+what_of_sync sync.Push = Device
+what_of_sync sync.Memory = Memory
+
+-- the fault of a stop
+abbrev pub what_of_why : Why → What
+what_of_why why.NoSuchNode = Refused 26 None
+what_of_why why.SameNode = Refused 27 None
+what_of_why why.TooManyRecords = Refused 23 None
+what_of_why why.Memory = Memory

@@ -1,0 +1,69 @@
+//! Standard input to its bound, and standard output.
+
+ghost use Rattle.std.specs.Prelude.{◌≤◌, length, IfOk, IsOkUnless, OnOk, OnErr};
+ghost use Rattle.std.specs.Io.KnownBytes.{Appends, Consumes, IsAtEnd};
+ghost use Rattle.swim_pack.specs.Ends.{AppendsFront};
+
+use crate::report::What;
+use std::alloc::Global;
+use std::fs::File;
+use std::io::{ErrorKind, Read, Write};
+use swim_pack::write_whole;
+
+/// The most bytes of an input. Every canonical dump has fewer.
+pub const BOUND: usize = 268_435_456;
+
+/// How many interrupted reads of one input are tried again.
+const RETRIES: u32 = 1000;
+
+/// How many bytes are asked for at once.
+const PIECE: usize = 65536;
+
+/// Reads to the end, and at most one byte past the bound, so that the length tells a longer input.
+/// An error, and the 1,001st interruption, is a device fault.
+pub fn read_to_bound<R: Read>(alloc: Global, reader: &mut R) -> Result<Vec<u8>, What>
+    // Of a reader that tells its bytes these are the next ones, and all that there are within the bound.
+    ensures reads { IfOk result (λ bytes. Consumes (R.remaining reader.old) (R.remaining reader.new) bytes.items) }
+    ensures whole { IfOk result (λ bytes. length bytes.items ≤ 268435456 → IsAtEnd (R.remaining reader.new)) }
+    ensures within { IfOk result (λ bytes. length bytes.items ≤ 268435457) }
+{
+    let mut bytes = Vec::new(alloc);
+    let mut piece = [0; PIECE];
+    let mut interruptions = 0;
+    while bytes.len() <= BOUND {
+        let wanted = (BOUND + 1 - bytes.len()).min(PIECE);
+        match reader.read(&mut piece[..wanted]) {
+            Ok(0) => return Ok(bytes),
+            Ok(count) => bytes.extend_from_slice(&piece[..count])?,
+            Err(error) => {
+                if !matches!(error.kind(), ErrorKind::Interrupted) || interruptions == RETRIES {
+                    return Err(What::Device);
+                }
+                interruptions += 1;
+            }
+        }
+    }
+    Ok(bytes)
+}
+
+/// Reads a file as [`read_to_bound`] does. One that cannot be opened is a device fault.
+pub fn read_file(rt: &HostRuntime, path: &str) -> Result<Vec<u8>, What> {
+    match File::open(rt, path) {
+        Ok(mut file) => read_to_bound(rt.alloc(), &mut file),
+        Err(_) => Err(What::Device),
+    }
+}
+
+/// Writes the bytes at once. An error, an answer of 0 and the 1,001st interruption is a device fault.
+pub fn write_out<W: Write>(writer: &mut W, bytes: &[u8]) -> Result<(), What>
+    // A writer that tells its bytes took exactly these, or where it is refused a front of them.
+    ensures wrote { OnOk result (Appends (W.contents writer.old) (W.contents writer.new) bytes.now) }
+    ensures front { OnErr result (AppendsFront (W.contents writer.old) (W.contents writer.new) bytes.now) }
+
+    ensures device { IsOkUnless result What.Device }
+{
+    match write_whole(writer, bytes) {
+        Ok(()) => Ok(()),
+        Err(_) => Err(What::Device),
+    }
+}

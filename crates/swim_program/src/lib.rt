@@ -1,0 +1,14 @@
+//! What programs over membership tables share: input to its bound, output, lines, and reports.
+#![tactic(auto)]
+
+mod claims;
+mod device;
+mod lines;
+mod report;
+#[cfg(test)]
+mod tests;
+
+pub use claims::into_claims;
+pub use device::{BOUND, read_file, read_to_bound, write_out};
+pub use lines::without_return;
+pub use report::{Place, Report, What, report_text, status};

@@ -1,0 +1,253 @@
+//! What is said of a run that was refused, and its exit status.
+
+ghost use Rattle.std.specs.Prelude.{◌≡◌, None, length};
+ghost use Rattle.swim_claim.specs.Fault.{number_of};
+ghost use Rattle.swim_program.specs.declared.report.What.TheVariants.{Refused, Memory};
+ghost use Rattle.swim_program.specs.Report.{IsAmong, status_of, what_of, what_of_hex, what_of_sync, what_of_why};
+
+use hex::FromHexError;
+use std::alloc::{AllocError, Global};
+use swim_claim::ClaimFault;
+use swim_sync::{SyncFault, Why};
+use swim_table::EncodeFault;
+use swim_wire::WireFault;
+
+/// Where a run was refused.
+#[derive(Clone, Copy, Debug, PartialEq, Eq)]
+pub enum Place {
+    /// A line of standard input, from 1.
+    Line(u64),
+    /// A file, by the place of its word among the files, from 0.
+    File(usize),
+    /// Standard input as a whole.
+    Input,
+    /// Standard output.
+    Output,
+    /// The socket, and what was read from it.
+    Loop,
+}
+
+/// Why a run was refused.
+#[derive(Clone, Copy, Debug, PartialEq, Eq)]
+pub enum What {
+    /// The input is wrong: the number of the fault, and the value that was found where the fault has one.
+    Refused { number: u32, found: Option<u64> },
+    /// A file, a socket or a standard stream failed.
+    Device,
+    /// A growth of memory was refused.
+    Memory,
+}
+
+/// Why a run was refused, and where.
+#[derive(Clone, Copy, Debug, PartialEq, Eq)]
+pub struct Report {
+    pub place: Place,
+    pub what: What,
+}
+
+impl What {
+    /// A line that is no hexadecimal.
+    pub fn bad_hex() -> What
+        ensures { result ≡ Refused 30 None }
+    {
+        What::refused(30)
+    }
+
+    /// A line that is no line of a script, or not where it stands.
+    pub fn bad_script() -> What
+        ensures { result ≡ Refused 31 None }
+    {
+        What::refused(31)
+    }
+
+    /// An input that is longer than its bound.
+    pub fn input_too_long() -> What
+        ensures { result ≡ Refused 32 None }
+    {
+        What::refused(32)
+    }
+
+    /// A table that has more records than a dump may have.
+    pub fn too_many_records() -> What
+        ensures { result ≡ Refused 23 None }
+    {
+        What::refused(EncodeFault::TooManyRecords.number())
+    }
+
+    /// A table whose canonical dump is too long to be sent to this process itself.
+    pub fn too_large_for_loop() -> What
+        ensures { result ≡ Refused 28 None }
+    {
+        What::refused(28)
+    }
+
+    fn refused(number: u32) -> What
+        ensures { result ≡ Refused number None }
+    {
+        What::Refused {
+            number,
+            found: None,
+        }
+    }
+
+    /// The report that this was met at a place.
+    pub fn at(self, place: Place) -> Report
+        ensures { result ≡ record { place = place; what = self } }
+    {
+        Report { place, what: self }
+    }
+}
+
+impl From<AllocError> for What {
+    ghost from_gives = { λ _ what. what ≡ Memory };
+
+    fn from(_error: AllocError) -> What {
+        What::Memory
+    }
+}
+
+/// A text that is no hexadecimal.
+impl From<FromHexError> for What {
+    ghost from_gives = { λ error what. what ≡ what_of_hex error };
+
+    fn from(error: FromHexError) -> What {
+        match error {
+            FromHexError::OutOfMemory => What::Memory,
+            _ => What::bad_hex(),
+        }
+    }
+}
+
+impl From<ClaimFault> for What {
+    ghost from_gives = { λ fault what. what ≡ Refused (number_of fault) None };
+
+    fn from(fault: ClaimFault) -> What {
+        What::refused(fault.number())
+    }
+}
+
+/// Why an event did not happen.
+impl From<Why> for What {
+    ghost from_gives = { λ why what. what ≡ what_of_why why };
+
+    fn from(why: Why) -> What {
+        match why {
+            Why::Memory => What::Memory,
+            _ => What::refused(why.number()),
+        }
+    }
+}
+
+impl From<WireFault> for What {
+    ghost from_gives = { λ fault what. what ≡ what_of fault };
+
+    fn from(fault: WireFault) -> What {
+        match fault {
+            WireFault::Memory => What::Memory,
+            WireFault::Fault => What::Device,
+            WireFault::WrongType { found } => What::Refused {
+                number: fault.number(),
+                found: Some(u64::from(found)),
+            },
+            WireFault::BadState { found } => What::Refused {
+                number: fault.number(),
+                found: Some(found),
+            },
+            _ => What::refused(fault.number()),
+        }
+    }
+}
+
+/// Why an exchange was refused.
+impl From<SyncFault> for What {
+    ghost from_gives = { λ fault what. what ≡ what_of_sync fault };
+
+    fn from(fault: SyncFault) -> What {
+        match fault {
+            SyncFault::Wire(fault) => What::from(fault),
+            SyncFault::TooManyRecords => What::too_many_records(),
+            SyncFault::Push => What::Device,
+            SyncFault::Memory => What::Memory,
+        }
+    }
+}
+
+/// The line for standard error, without its line feed. A file is named by its word among `files`.
+/// It is refused only where there is no memory for the text.
+pub fn report_text(alloc: Global, report: &Report, files: &[String]) -> Result<String, AllocError>
+    requires { IsAmong report.now.place (length files.now) }
+{
+    let place = match report.place {
+        _ if report.what == What::Memory => return String::from_str(alloc, OUT_OF_MEMORY),
+        Place::Line(line) => format!(in alloc; "line {line}")?,
+        Place::File(file) => files[file].clone()?,
+        Place::Input => String::from_str(alloc, "input")?,
+        Place::Output => String::from_str(alloc, "output")?,
+        Place::Loop => String::from_str(alloc, "loop")?,
+    };
+    match report.what {
+        What::Refused { number, found } => {
+            let name = fault_name(number);
+            match found {
+                Some(found) => format!(in alloc; "swimtab: {place}: fault {number} {name} {found}"),
+                None => format!(in alloc; "swimtab: {place}: fault {number} {name}"),
+            }
+        }
+        What::Device => format!(in alloc; "swimtab: {place}: device fault"),
+        What::Memory => String::from_str(alloc, OUT_OF_MEMORY),
+    }
+}
+
+/// What is said where there is no memory, also none to say it by.
+const OUT_OF_MEMORY: &str = "swimtab: out of memory";
+
+/// The exit status of a run that was refused: 3 where the input is wrong, 4 where a file, a socket
+/// or a standard stream failed, and 5 where there was no memory.
+pub fn status(report: &Report) -> u8
+    ensures { result ≡ status_of report.now.what }
+{
+    match report.what {
+        What::Refused { .. } => 3,
+        What::Device => 4,
+        What::Memory => 5,
+    }
+}
+
+/// The name of a fault by its number.
+fn fault_name(number: u32) -> &'static str {
+    match number {
+        1 => "Ended",
+        2 => "NotUnsigned",
+        3 => "OutOfRange",
+        4 => "NotBool",
+        5 => "NotRaw",
+        6 => "TooLong",
+        7 => "NotMap",
+        8 => "MapCount",
+        9 => "Fault",
+        10 => "Memory",
+        11 => "NameEmpty",
+        12 => "NameTooLong",
+        13 => "BadAddress",
+        14 => "MetaTooLong",
+        15 => "BadVersions",
+        16 => "WrongType",
+        17 => "UnknownKey",
+        18 => "DuplicateKey",
+        19 => "BadState",
+        20 => "TooManyNodes",
+        21 => "UserTooLong",
+        22 => "Trailing",
+        23 => "TooManyRecords",
+        24 => "Exhausted",
+        25 => "Gone",
+        26 => "NoSuchNode",
+        27 => "SameNode",
+        28 => "TooLargeForLoop",
+        29 => "Push",
+        30 => "BadHex",
+        31 => "BadScript",
+        32 => "InputTooLong",
+        _ => "Unknown",
+    }
+}

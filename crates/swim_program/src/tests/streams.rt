@@ -1,0 +1,135 @@
+//! Standard input and output that fail, are interrupted, or are long.
+
+ghost use Rattle.std.specs.Prelude.{◌≤◌, IfOk};
+
+use crate::{BOUND, What, read_file, read_to_bound, write_out};
+use std::io;
+use std::io::{Error, ErrorKind, Read, Write};
+use std::test::Fail;
+
+/// A stream that is interrupted so many times, and before each further piece so many times again,
+/// moves up to `left` bytes in pieces, and then ends or fails.
+#[derive(Drop)]
+struct Stream {
+    interruptions: u32,
+    again: u32,
+    left: usize,
+    piece: usize,
+    fails: bool,
+}
+
+impl Stream {
+    fn new(interruptions: u32, left: usize, piece: usize, fails: bool) -> Stream {
+        Stream {
+            interruptions,
+            again: 0,
+            left,
+            piece,
+            fails,
+        }
+    }
+
+    fn step(&mut self, room: usize) -> io::Result<usize>
+        ensures { IfOk result (λ count. count ≤ room) }
+    {
+        if self.interruptions > 0 {
+            self.interruptions -= 1;
+            return Err(Error::from(ErrorKind::Interrupted));
+        }
+        self.interruptions = self.again;
+        if self.left == 0 && self.fails {
+            return Err(Error::from(ErrorKind::Other));
+        }
+        let moved = room.min(self.left).min(self.piece);
+        self.left -= moved;
+        Ok(moved)
+    }
+}
+
+impl Read for Stream {
+    fn read(&mut self, buf: &mut [u8]) -> io::Result<usize> {
+        self.step(buf.len())
+    }
+}
+
+impl Write for Stream {
+    fn write(&mut self, buf: &[u8]) -> io::Result<usize> {
+        self.step(buf.len())
+    }
+
+    fn flush(&mut self) -> io::Result<()> {
+        Ok(())
+    }
+}
+
+#[test]
+fn an_input_is_read_to_its_end(rt: HostRuntime) -> Result<(), Fail> {
+    let alloc = rt.alloc();
+    for (mut reader, wanted) in [
+        (Stream::new(0, 0, 1, false), Ok(0)),
+        (Stream::new(0, 7, 3, false), Ok(7)),
+        (Stream::new(1000, 7, 3, false), Ok(7)),
+        (Stream::new(1001, 7, 3, false), Err(What::Device)),
+        (Stream::new(0, 7, 3, true), Err(What::Device)),
+    ] {
+        match read_to_bound(alloc, &mut reader) {
+            Ok(bytes) => assert_eq!(rt; Ok(bytes.len()), wanted),
+            Err(What::Memory) => {}
+            Err(what) => assert_eq!(rt; Err(what), wanted),
+        }
+    }
+    Ok(())
+}
+
+#[test]
+fn interruptions_are_counted_over_a_whole_input(rt: HostRuntime) -> Result<(), Fail> {
+    for (again, wanted) in [(499, Ok(1)), (501, Err(What::Device))] {
+        let mut reader = Stream::new(501, 1, 1, false);
+        reader.again = again;
+        match read_to_bound(rt.alloc(), &mut reader) {
+            Ok(bytes) => assert_eq!(rt; Ok(bytes.len()), wanted),
+            Err(What::Memory) => {}
+            Err(what) => assert_eq!(rt; Err(what), wanted),
+        }
+    }
+    Ok(())
+}
+
+#[test]
+fn an_output_is_written_to_its_end(rt: HostRuntime) {
+    for (mut writer, wanted) in [
+        (Stream::new(0, 7, 9, false), Ok(())),
+        (Stream::new(1000, 7, 1, true), Ok(())),
+        (Stream::new(1001, 7, 1, false), Err(What::Device)),
+        (Stream::new(0, 6, 1, false), Err(What::Device)),
+        (Stream::new(0, 6, 1, true), Err(What::Device)),
+    ] {
+        assert_eq!(rt; write_out(&mut writer, b"0123456"), wanted);
+    }
+}
+
+#[test]
+fn a_longer_input_is_read_to_one_byte_past_the_bound(rt: HostRuntime) -> Result<(), Fail> {
+    let mut reader = Stream::new(0, BOUND + 5, usize::MAX, true);
+    let input = match read_to_bound(rt.alloc(), &mut reader) {
+        Ok(input) => input,
+        Err(what) => return Err(Fail::from(what)),
+    };
+    assert_eq!(rt; input.len(), BOUND + 1);
+    assert_eq!(rt; reader.left, 4);
+    Ok(())
+}
+
+#[test]
+fn a_file_is_read_by_its_name(rt: HostRuntime) -> Result<(), Fail> {
+    match read_file(&rt, "/dev/null") {
+        Ok(bytes) => assert!(rt; bytes.is_empty()),
+        Err(what) => return Err(Fail::from(what)),
+    }
+    match read_file(&rt, "") {
+        Ok(_bytes) => panic!(rt; "a file with no name"),
+        Err(What::Memory) => {}
+        Err(what) => assert_eq!(rt; what, What::Device),
+    }
+    Ok(())
+}

@@ -1,0 +1,4 @@
+mod ScriptLines
+pub mod ScriptNumbers
+pub mod ScriptRun
+mod ScriptWords

@@ -1,0 +1,331 @@
+-- The words of one line of a script, and what they say.
+use Rattle.std.proofs.Common.{None, ◌≡◌, ◌≢◌, ℕ, ◌+◌, ◌*◌, ◌<◌, ◌≤◌, ◌⊎◌, inl, inr, Bool, true, List, [], ◌∷◌, Ok, length, map, drop, get_or, codes, Bor, refl, sym, ap, subst, ◌∙◌, arith}
+use Rattle.hex.specs.Hex.{decode_of}
+use Rattle.hex.specs.declared.error.FromHexError.{FromHexError}
+use Rattle.hex.specs.declared.error.FromHexError.TheVariants as hex
+use Rattle.swim_claim.specs.declared.fault.ClaimFault.{ClaimFault}
+use Rattle.swim_claim.specs.declared.fault.ClaimFault.TheVariants as claim
+use Rattle.swim_claim.specs.Fault.{number_of}
+use Rattle.swim_wire.specs.declared.fault.WireFault.{WireFault}
+use Rattle.swim_wire.specs.declared.fault.WireFault.TheVariants as wire
+use Rattle.swim_program.specs.declared.report.What.TheVariants.{Refused}
+use Rattle.swim_program.specs.Report.{IsOfReading, what_of, what_of_hex}
+use Rattle.swim_sync.specs.declared.event.Event.{Event}
+use Rattle.swim_sync.specs.declared.event.Event.TheVariants.{Exchange, Half, Refute}
+use Rattle.swim_wire.specs.Packet.{PacketValue}
+use Rattle.swim_wire.specs.Texts.{PacketText, DatagramText}
+use Rattle.swim_wire.specs.Texts.PacketText.{alive, suspect, leave, confirm}
+use Rattle.swim_script.specs.declared.keyword.Keyword.{Keyword}
+use Rattle.swim_script.specs.declared.keyword.Keyword.TheVariants as key
+use Rattle.swim_script.specs.Script.{Start, Decimal, HexBytes, NodeNumber, NodeFields, NodeWords, HearsBytes, EventWords, LevelWords}
+use Rattle.swim_script.specs.Script.HearsBytes.{packet, compound}
+use Rattle.swim_script.specs.Script.EventWords.{hear, exchange, half, refute}
+use Rattle.swim_script.specs.ScriptReading.{OneNumber, SpellsNothing, TwoNumbers, word_of}
+
+-- ---- fields by their places
+
+-- two words are all that there are
+pub two_words : (fields : List (Bor (List ℕ))) (d : Bor (List ℕ)) → length fields ≡ 2
+    → map (λ w. w.now) fields ≡ (get_or fields 0 d).now ∷ (get_or fields 1 d).now ∷ []
+two_words [] d l = absurd (omega (arith, l))
+two_words (a ∷ []) d l = absurd (omega (arith, l))
+two_words (a ∷ b ∷ []) d l = refl
+two_words (a ∷ b ∷ e ∷ more) d l = absurd (omega (arith, l))
+
+-- six words are all that there are
+pub six_words : (fields : List (Bor (List ℕ))) (d : Bor (List ℕ)) → length fields ≡ 6
+    → map (λ w. w.now) fields ≡ (get_or fields 0 d).now ∷ (get_or fields 1 d).now ∷ (get_or fields 2 d).now ∷ (get_or fields 3 d).now ∷ (get_or fields 4 d).now ∷ (get_or fields 5 d).now ∷ []
+six_words [] d l = absurd (omega (arith, l))
+six_words (a ∷ []) d l = absurd (omega (arith, l))
+six_words (a ∷ b ∷ []) d l = absurd (omega (arith, l))
+six_words (a ∷ b ∷ e ∷ []) d l = absurd (omega (arith, l))
+six_words (a ∷ b ∷ e ∷ f ∷ []) d l = absurd (omega (arith, l))
+six_words (a ∷ b ∷ e ∷ f ∷ g ∷ []) d l = absurd (omega (arith, l))
+six_words (a ∷ b ∷ e ∷ f ∷ g ∷ h ∷ []) d l = refl
+six_words (a ∷ b ∷ e ∷ f ∷ g ∷ h ∷ i ∷ more) d l = absurd (omega (arith, l))
+
+-- what the six words after `node` tell
+pub node_told : (fields : List (Bor (List ℕ))) (d : Bor (List ℕ)) (start : Start) → length fields ≡ 6 → NodeWords (codes "node" ∷ map (λ w. w.now) fields) start
+    → NodeFields (get_or fields 0 d).now (get_or fields 1 d).now (get_or fields 2 d).now (get_or fields 3 d).now (get_or fields 4 d).now (get_or fields 5 d).now start
+node_told fields d start l own =
+    let P : List (List ℕ) → Type 0 = λ line. NodeFields (get_or line 1 []) (get_or line 2 []) (get_or line 3 []) (get_or line 4 []) (get_or line 5 []) (get_or line 6 []) start in
+    subst P (sym own.6 ∙ ap (λ t. codes "node" ∷ t) (six_words fields d l)) own.7
+
+-- and where they tell it, the line is that of the node
+pub node_tells : (fields : List (Bor (List ℕ))) (d : Bor (List ℕ)) (start : Start) → length fields ≡ 6
+    → NodeFields (get_or fields 0 d).now (get_or fields 1 d).now (get_or fields 2 d).now (get_or fields 3 d).now (get_or fields 4 d).now (get_or fields 5 d).now start
+    → NodeWords (codes "node" ∷ map (λ w. w.now) fields) start
+node_tells fields d start l own =
+    ((get_or fields 0 d).now, (get_or fields 1 d).now, (get_or fields 2 d).now, (get_or fields 3 d).now, (get_or fields 4 d).now, (get_or fields 5 d).now, ap (λ t. codes "node" ∷ t) (six_words fields d l), own)
+
+-- ---- numbers and bytes have one value
+
+pub one_decimal : (most : ℕ) (word : List ℕ) (m n : ℕ) → Decimal most word m → Decimal most word n → m ≡ n
+one_decimal most word m n d e = d.value ∙ sym e.value
+
+pub one_bytes : (word bytes others : List ℕ) → HexBytes word bytes → HexBytes word others → bytes ≡ others
+one_bytes word bytes others (inl a) (inl b) = a.1 ∙ sym b.1
+one_bytes word bytes others (inl a) (inr b) = let bad : decode_of (codes "-") ≡ Ok others = ap decode_of (sym a.0) ∙ b.1 in absurd cc
+one_bytes word bytes others (inr a) (inl b) = let bad : decode_of (codes "-") ≡ Ok bytes = ap decode_of (sym b.0) ∙ a.1 in absurd cc
+one_bytes word bytes others (inr a) (inr b) = let same : Ok bytes ≡ Ok others = sym a.1 ∙ b.1 in cc
+
+-- ---- what is heard
+
+-- a packet does not begin with 7
+pub packet_first : (bytes : List ℕ) (p : PacketValue) → PacketText bytes p → get_or bytes 0 0 ≢ 7
+packet_first bytes p (alive m pairs e t n d v) seven = let bad : 4 ≡ 7 = sym (ap (λ b. get_or b 0 0) e) ∙ seven in absurd (omega (arith, bad))
+packet_first bytes p (suspect m pairs e t n v) seven = let bad : 3 ≡ 7 = sym (ap (λ b. get_or b 0 0) e) ∙ seven in absurd (omega (arith, bad))
+packet_first bytes p (leave m pairs e t n f v) seven = let bad : 5 ≡ 7 = sym (ap (λ b. get_or b 0 0) e) ∙ seven in absurd (omega (arith, bad))
+packet_first bytes p (confirm m pairs e t n f v) seven = let bad : 5 ≡ 7 = sym (ap (λ b. get_or b 0 0) e) ∙ seven in absurd (omega (arith, bad))
+
+-- what begins with 7 and is no datagram is not heard
+pub no_compound : (k : ℕ) (bytes : List ℕ) → get_or bytes 0 0 ≡ 7 → ((packets : List PacketValue) → ¬ DatagramText bytes packets) → (event : Event) → ¬ HearsBytes k bytes event
+no_compound k bytes seven none event (packet p t e) = packet_first bytes p t seven
+no_compound k bytes seven none event (compound body packets b t e) = none packets t
+
+-- what does not begin with 7 and is no packet is not heard
+pub no_packet : (k : ℕ) (bytes : List ℕ) → get_or bytes 0 0 ≢ 7 → ((p : PacketValue) → ¬ PacketText bytes p) → (event : Event) → ¬ HearsBytes k bytes event
+no_packet k bytes other none event (packet p t e) = none p t
+no_packet k bytes other none event (compound body packets b t e) = other (ap (λ l. get_or l 0 0) b)
+
+-- what begins with 7
+pub seven_first : (bytes : List ℕ) → 1 ≤ length bytes → get_or bytes 0 0 ≡ 7 → bytes ≡ 7 ∷ drop 1 bytes
+seven_first [] l e = absurd (omega (arith, l))
+seven_first (first ∷ body) l e = ap (λ b. b ∷ body) e
+
+-- ---- a node
+
+-- its details have the parts that were read
+pub details_told : (name addr port meta vsn inc : List ℕ) (start : Start) (a : List ℕ) (p : ℕ) (m v : List ℕ) → NodeFields name addr port meta vsn inc start
+    → HexBytes addr a → Decimal 65535 port p → HexBytes meta m → HexBytes vsn v → start.details ≡ record { addr = a; port = p; meta = m; vsn = v }
+details_told name addr port meta vsn inc start a p m v own one two three four =
+    let e = one_bytes addr start.details.addr a own.addr one in
+    let f = one_decimal 65535 port start.details.port p own.port two in
+    let g = one_bytes meta start.details.meta m own.meta three in
+    let h = one_bytes vsn start.details.vsn v own.vsn four in
+    let with_addr : start.details ≡ record { addr = a; port = start.details.port; meta = start.details.meta; vsn = start.details.vsn } = ap (λ x. record { addr = x; port = start.details.port; meta = start.details.meta; vsn = start.details.vsn }) e in
+    let with_port : start.details ≡ record { addr = a; port = p; meta = start.details.meta; vsn = start.details.vsn } = with_addr ∙ ap (λ x. record { addr = a; port = x; meta = start.details.meta; vsn = start.details.vsn }) f in
+    let with_meta : start.details ≡ record { addr = a; port = p; meta = m; vsn = start.details.vsn } = with_port ∙ ap (λ x. record { addr = a; port = p; meta = x; vsn = start.details.vsn }) g in
+    with_meta ∙ ap (λ x. record { addr = a; port = p; meta = m; vsn = x }) h
+
+-- what is empty does not begin with 7
+pub none_first : (bytes : List ℕ) → length bytes < 1 → get_or bytes 0 0 ≢ 7
+none_first [] l e = absurd (omega (arith, e))
+none_first (first ∷ body) l e = absurd (omega (arith, l))
+
+-- ---- an event
+
+-- the first two letters of a word as one number, which no two first words share
+abbrev letters : List ℕ → ℕ
+letters word = 1000 * get_or word 0 0 + get_or word 1 0
+
+-- the first words of two lines that are the same
+first_word : (a b : List ℕ) (xs ys : List (List ℕ)) → a ∷ xs ≡ b ∷ ys → a ≡ b
+first_word a b xs ys e = ap (λ l. get_or l 0 []) e
+
+-- the words after them
+later_words : (a b : List ℕ) (xs ys : List (List ℕ)) → a ∷ xs ≡ b ∷ ys → xs ≡ ys
+later_words a b xs ys e = ap (drop 1) e
+
+-- what the words after `hear` tell
+pub record IsHeard (fields : List (List ℕ)) (event : Event) : Type 0 where
+  pub node : List ℕ
+  pub datagram : List ℕ
+  pub k : ℕ
+  pub bytes : List ℕ
+  pub words : fields ≡ node ∷ datagram ∷ []
+  pub number : NodeNumber node k
+  pub hex : HexBytes datagram bytes
+  pub hears : HearsBytes k bytes event
+
+pub heard_by_words : (fields : List (List ℕ)) (event : Event) → EventWords (codes "hear" ∷ fields) event → IsHeard fields event
+heard_by_words fields event (hear node datagram k bytes e n h b) =
+    record { node = node; datagram = datagram; k = k; bytes = bytes; words = later_words (codes "hear") (codes "hear") fields (node ∷ datagram ∷ []) e; number = n; hex = h; hears = b }
+heard_by_words fields event (exchange first second j k e m n is) = let bad : 104101 ≡ 101120 = ap letters (first_word (codes "hear") (codes "exchange") fields (first ∷ second ∷ []) e) in absurd (omega (arith, bad))
+heard_by_words fields event (half first second j k e m n is) = let bad : 104101 ≡ 104097 = ap letters (first_word (codes "hear") (codes "half") fields (first ∷ second ∷ []) e) in absurd (omega (arith, bad))
+heard_by_words fields event (refute node k e n is) = let bad : 104101 ≡ 114101 = ap letters (first_word (codes "hear") (codes "refute") fields (node ∷ []) e) in absurd (omega (arith, bad))
+
+pub exchanged_by_words : (fields : List (List ℕ)) (event : Event) → EventWords (codes "exchange" ∷ fields) event → (j k : ℕ) × TwoNumbers fields j k
+exchanged_by_words fields event (hear node datagram k bytes e n h b) = let bad : 101120 ≡ 104101 = ap letters (first_word (codes "exchange") (codes "hear") fields (node ∷ datagram ∷ []) e) in absurd (omega (arith, bad))
+exchanged_by_words fields event (exchange first second j k e m n is) = (j, k, (first, second, later_words (codes "exchange") (codes "exchange") fields (first ∷ second ∷ []) e, m, n))
+exchanged_by_words fields event (half first second j k e m n is) = let bad : 101120 ≡ 104097 = ap letters (first_word (codes "exchange") (codes "half") fields (first ∷ second ∷ []) e) in absurd (omega (arith, bad))
+exchanged_by_words fields event (refute node k e n is) = let bad : 101120 ≡ 114101 = ap letters (first_word (codes "exchange") (codes "refute") fields (node ∷ []) e) in absurd (omega (arith, bad))
+
+pub half_by_words : (fields : List (List ℕ)) (event : Event) → EventWords (codes "half" ∷ fields) event → (j k : ℕ) × TwoNumbers fields j k
+half_by_words fields event (hear node datagram k bytes e n h b) = let bad : 104097 ≡ 104101 = ap letters (first_word (codes "half") (codes "hear") fields (node ∷ datagram ∷ []) e) in absurd (omega (arith, bad))
+half_by_words fields event (exchange first second j k e m n is) = let bad : 104097 ≡ 101120 = ap letters (first_word (codes "half") (codes "exchange") fields (first ∷ second ∷ []) e) in absurd (omega (arith, bad))
+half_by_words fields event (half first second j k e m n is) = (j, k, (first, second, later_words (codes "half") (codes "half") fields (first ∷ second ∷ []) e, m, n))
+half_by_words fields event (refute node k e n is) = let bad : 104097 ≡ 114101 = ap letters (first_word (codes "half") (codes "refute") fields (node ∷ []) e) in absurd (omega (arith, bad))
+
+pub refuted_by_words : (fields : List (List ℕ)) (event : Event) → EventWords (codes "refute" ∷ fields) event → (k : ℕ) × OneNumber fields k
+refuted_by_words fields event (hear node datagram k bytes e n h b) = let bad : 114101 ≡ 104101 = ap letters (first_word (codes "refute") (codes "hear") fields (node ∷ datagram ∷ []) e) in absurd (omega (arith, bad))
+refuted_by_words fields event (exchange first second j k e m n is) = let bad : 114101 ≡ 101120 = ap letters (first_word (codes "refute") (codes "exchange") fields (first ∷ second ∷ []) e) in absurd (omega (arith, bad))
+refuted_by_words fields event (half first second j k e m n is) = let bad : 114101 ≡ 104097 = ap letters (first_word (codes "refute") (codes "half") fields (first ∷ second ∷ []) e) in absurd (omega (arith, bad))
+refuted_by_words fields event (refute node k e n is) = (k, (node, later_words (codes "refute") (codes "refute") fields (node ∷ []) e, n))
+
+-- the first word of an event is one of four
+pub event_first : (word : List ℕ) (fields : List (List ℕ)) (event : Event) → EventWords (word ∷ fields) event
+    → (word ≡ codes "hear") ⊎ ((word ≡ codes "exchange") ⊎ ((word ≡ codes "half") ⊎ (word ≡ codes "refute")))
+event_first word fields event (hear node datagram k bytes e n h b) = inl (first_word word (codes "hear") fields (node ∷ datagram ∷ []) e)
+event_first word fields event (exchange first second j k e m n is) = inr (inl (first_word word (codes "exchange") fields (first ∷ second ∷ []) e))
+event_first word fields event (half first second j k e m n is) = inr (inr (inl (first_word word (codes "half") fields (first ∷ second ∷ []) e)))
+event_first word fields event (refute node k e n is) = inr (inr (inr (first_word word (codes "refute") fields (node ∷ []) e)))
+
+-- what is told of is heard
+pub hear_told : (fields : List (Bor (List ℕ))) (d : Bor (List ℕ)) (k : ℕ) (bytes : List ℕ) (event : Event) → length fields ≡ 2
+    → NodeNumber (get_or fields 0 d).now k → HexBytes (get_or fields 1 d).now bytes → HearsBytes k bytes event → EventWords (codes "hear" ∷ map (λ w. w.now) fields) event
+hear_told fields d k bytes event l n h b =
+    hear (get_or fields 0 d).now (get_or fields 1 d).now k bytes (ap (λ t. codes "hear" ∷ t) (two_words fields d l)) n h b
+
+-- where the second word is no bytes, nothing is heard
+pub no_hex : (fields : List (Bor (List ℕ))) (d : Bor (List ℕ)) (event : Event) → length fields ≡ 2
+    → ((bytes : List ℕ) → ¬ HexBytes (get_or fields 1 d).now bytes) → ¬ EventWords (codes "hear" ∷ map (λ w. w.now) fields) event
+no_hex fields d event l none own =
+    let told = heard_by_words (map (λ w. w.now) fields) event own in
+    let same : told.datagram ≡ (get_or fields 1 d).now = ap (λ t. get_or t 1 []) (sym told.words ∙ two_words fields d l) in
+    none told.bytes (subst (λ w. HexBytes w told.bytes) same told.hex)
+
+-- where the bytes are heard by no such event, nor is the line
+pub no_heard : (fields : List (Bor (List ℕ))) (d : Bor (List ℕ)) (k : ℕ) (bytes : List ℕ) (event : Event) → length fields ≡ 2
+    → NodeNumber (get_or fields 0 d).now k → HexBytes (get_or fields 1 d).now bytes → (¬ HearsBytes k bytes event) → ¬ EventWords (codes "hear" ∷ map (λ w. w.now) fields) event
+no_heard fields d k bytes event l n h none own =
+    let told = heard_by_words (map (λ w. w.now) fields) event own in
+    let words = sym told.words ∙ two_words fields d l in
+    let number = subst (λ w. NodeNumber w told.k) (ap (λ t. get_or t 0 []) words) told.number in
+    let hex = subst (λ w. HexBytes w told.bytes) (ap (λ t. get_or t 1 []) words) told.hex in
+    let same_k : told.k ≡ k = one_decimal 18446744073709551615 (get_or fields 0 d).now told.k k number n in
+    let same_bytes : told.bytes ≡ bytes = one_bytes (get_or fields 1 d).now told.bytes bytes hex h in
+    none (subst (λ b. HearsBytes k b event) same_bytes (subst (λ n. HearsBytes n told.bytes event) same_k told.hears))
+
+-- two numbers after `exchange`, after `half`, and one after `refute`
+pub exchange_told : (fields : List (List ℕ)) (j k : ℕ) → TwoNumbers fields j k → EventWords (codes "exchange" ∷ fields) (Exchange j k)
+exchange_told fields j k own = exchange own.0 own.1 j k (ap (λ t. codes "exchange" ∷ t) own.2) own.3 own.4 refl
+
+pub half_told : (fields : List (List ℕ)) (j k : ℕ) → TwoNumbers fields j k → EventWords (codes "half" ∷ fields) (Half j k)
+half_told fields j k own = half own.0 own.1 j k (ap (λ t. codes "half" ∷ t) own.2) own.3 own.4 refl
+
+pub refute_told : (fields : List (List ℕ)) (k : ℕ) → OneNumber fields k → EventWords (codes "refute" ∷ fields) (Refute k)
+refute_told fields k own = refute own.0 k (ap (λ t. codes "refute" ∷ t) own.1) own.2 refl
+
+-- and where there are no such numbers, there is no event
+pub no_exchange : (fields : List (List ℕ)) → ((j k : ℕ) → ¬ TwoNumbers fields j k) → (event : Event) → ¬ EventWords (codes "exchange" ∷ fields) event
+no_exchange fields none event own = let told = exchanged_by_words fields event own in none told.0 told.1 told.2
+
+pub no_half : (fields : List (List ℕ)) → ((j k : ℕ) → ¬ TwoNumbers fields j k) → (event : Event) → ¬ EventWords (codes "half" ∷ fields) event
+no_half fields none event own = let told = half_by_words fields event own in none told.0 told.1 told.2
+
+pub no_refute : (fields : List (List ℕ)) → ((k : ℕ) → ¬ OneNumber fields k) → (event : Event) → ¬ EventWords (codes "refute" ∷ fields) event
+no_refute fields none event own = let told = refuted_by_words fields event own in none told.0 told.1
+
+-- ---- a line that says nothing
+
+-- its first word is that of no line
+pub unknown_first : (nodes : Bool) (first : List ℕ) (fields : List (List ℕ)) → ((keyword : Keyword) → first ≢ word_of keyword) → SpellsNothing nodes (first ∷ fields)
+unknown_first nodes first fields none = record {
+  node = λ may start own. none key.Node (ap (λ l. get_or l 0 []) own.6);
+  event = λ event own. elim (event_first first fields event own) [
+    | inl e ↦ none key.Hear e
+    | inr (inl e) ↦ none key.Exchange e
+    | inr (inr (inl e)) ↦ none key.Half e
+    | inr (inr (inr e)) ↦ none key.Refute e
+  ];
+  level = λ own. none key.Level (ap (λ l. get_or l 0 []) own);
+}
+
+-- a first word with the letters of `node` is that of a node
+node_letters : (keyword : Keyword) → letters (word_of keyword) ≡ 110111 → keyword ≡ key.Node
+node_letters key.Node e = refl
+node_letters key.Hear e = absurd (omega (arith, e))
+node_letters key.Exchange e = absurd (omega (arith, e))
+node_letters key.Half e = absurd (omega (arith, e))
+node_letters key.Refute e = absurd (omega (arith, e))
+node_letters key.Level e = absurd (omega (arith, e))
+
+level_letters : (keyword : Keyword) → letters (word_of keyword) ≡ 108101 → keyword ≡ key.Level
+level_letters key.Node e = absurd (omega (arith, e))
+level_letters key.Hear e = absurd (omega (arith, e))
+level_letters key.Exchange e = absurd (omega (arith, e))
+level_letters key.Half e = absurd (omega (arith, e))
+level_letters key.Refute e = absurd (omega (arith, e))
+level_letters key.Level e = refl
+
+-- a line that is no event, no node that may come, and `level` only with words after it
+pub nothing_told : (nodes : Bool) (keyword : Keyword) (fields : List (List ℕ)) → (keyword ≡ key.Node → nodes ≡ true → ⊥) → (keyword ≡ key.Level → 0 < length fields)
+    → ((event : Event) → ¬ EventWords (word_of keyword ∷ fields) event) → SpellsNothing nodes (word_of keyword ∷ fields)
+nothing_told nodes keyword fields node level none = record {
+  node = λ may start own. node (node_letters keyword (ap letters (first_word (word_of keyword) (codes "node") fields (drop 1 (codes "node" ∷ own.0 ∷ own.1 ∷ own.2 ∷ own.3 ∷ own.4 ∷ own.5 ∷ [])) own.6))) may;
+  event = none;
+  level = λ own. let some = level (level_letters keyword (ap letters (first_word (word_of keyword) (codes "level") fields [] own))) in
+      omega (arith, some, ap length (later_words (word_of keyword) (codes "level") fields [] own));
+}
+
+-- a line of a node that is none
+pub no_node_told : (nodes : Bool) (fields : List (List ℕ)) → ((start : Start) → ¬ NodeWords (codes "node" ∷ fields) start) → SpellsNothing nodes (codes "node" ∷ fields)
+no_node_told nodes fields none = record {
+  node = λ may. none;
+  event = λ event own. elim (event_first (codes "node") fields event own) [
+    | inl e ↦ let bad : 110111 ≡ 104101 = ap letters e in absurd (omega (arith, bad))
+    | inr (inl e) ↦ let bad : 110111 ≡ 101120 = ap letters e in absurd (omega (arith, bad))
+    | inr (inr (inl e)) ↦ let bad : 110111 ≡ 104097 = ap letters e in absurd (omega (arith, bad))
+    | inr (inr (inr e)) ↦ let bad : 110111 ≡ 114101 = ap letters e in absurd (omega (arith, bad))
+  ];
+  level = λ own. let bad : 110111 ≡ 108101 = ap letters (first_word (codes "node") (codes "level") fields [] own) in absurd (omega (arith, bad));
+}
+
+-- ---- no line is of two kinds
+
+-- the first two letters of the first word
+abbrev pub first_letters : List (List ℕ) → ℕ
+first_letters words = letters (get_or words 0 [])
+
+pub node_letters_of : (words : List (List ℕ)) (start : Start) → NodeWords words start → first_letters words ≡ 110111
+node_letters_of words start own = ap first_letters own.6
+
+pub level_letters_of : (words : List (List ℕ)) → LevelWords words → first_letters words ≡ 108101
+level_letters_of words own = ap first_letters own
+
+pub event_letters_of : (words : List (List ℕ)) (event : Event) → EventWords words event → (first_letters words ≢ 110111) × (first_letters words ≢ 108101)
+event_letters_of words event (hear node datagram k bytes e n h b) = let own : first_letters words ≡ 104101 = ap first_letters e in (λ f. omega (arith, own, f), λ f. omega (arith, own, f))
+event_letters_of words event (exchange first second j k e m n is) = let own : first_letters words ≡ 101120 = ap first_letters e in (λ f. omega (arith, own, f), λ f. omega (arith, own, f))
+event_letters_of words event (half first second j k e m n is) = let own : first_letters words ≡ 104097 = ap first_letters e in (λ f. omega (arith, own, f), λ f. omega (arith, own, f))
+event_letters_of words event (refute node k e n is) = let own : first_letters words ≡ 114101 = ap first_letters e in (λ f. omega (arith, own, f), λ f. omega (arith, own, f))
+
+-- ---- why a line is not read
+
+-- no message is refused for an event, and one that does not fail for no device
+pub wire_of_reading : (fault : WireFault) → (fault ≡ wire.Fault → ⊥) → IsOfReading (what_of fault)
+wire_of_reading wire.Ended other = refl
+wire_of_reading wire.NotUnsigned other = refl
+wire_of_reading wire.OutOfRange other = refl
+wire_of_reading wire.NotBool other = refl
+wire_of_reading wire.NotRaw other = refl
+wire_of_reading wire.TooLong other = refl
+wire_of_reading wire.NotMap other = refl
+wire_of_reading wire.MapCount other = refl
+wire_of_reading wire.Fault other = absurd (other refl)
+wire_of_reading wire.Memory other = tt
+wire_of_reading wire.NameEmpty other = refl
+wire_of_reading wire.BadAddress other = refl
+wire_of_reading wire.BadVersions other = refl
+wire_of_reading (wire.WrongType found) other = refl
+wire_of_reading wire.UnknownKey other = refl
+wire_of_reading wire.DuplicateKey other = refl
+wire_of_reading (wire.BadState found) other = refl
+wire_of_reading wire.TooManyNodes other = refl
+wire_of_reading wire.UserTooLong other = refl
+wire_of_reading wire.Trailing other = refl
+
+-- nor is a name, or are details
+pub claim_of_reading : (fault : ClaimFault) → IsOfReading (Refused (number_of fault) None)
+claim_of_reading claim.NameEmpty = refl
+claim_of_reading claim.NameTooLong = refl
+claim_of_reading claim.BadAddress = refl
+claim_of_reading claim.MetaTooLong = refl
+claim_of_reading claim.BadVersions = refl
+
+-- nor a text that is no hexadecimal
+pub hex_of_reading : (error : FromHexError) → IsOfReading (what_of_hex error)
+hex_of_reading hex.OddLength = refl
+hex_of_reading hex.InvalidStringLength = refl
+hex_of_reading (hex.InvalidHexCharacter byte index) = refl
+hex_of_reading hex.OutOfMemory = tt

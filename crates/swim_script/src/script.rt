@@ -1,0 +1,108 @@
+//! Scripts: the nodes of a cluster, and what happens in it.
+
+ghost use Rattle.std.specs.Prelude.{◌≡◌, ◌≢◌, ◌↔◌, ◌<◌, ◌≤◌, [], List, length, None, IfOk, IfErr, OnOk};
+ghost use Rattle.swim_program.specs.Lines.{input_lines};
+ghost use Rattle.swim_program.specs.Report.{IsAmong, IsOfReading};
+ghost use Rattle.swim_script.specs.Script.{Script, Start, AreStarted, IsFirstWrongLine};
+ghost use Rattle.swim_script.specs.ScriptReading.{Adds, AreNumbered, TakesLine, IsOutOfPlace, plan_events};
+
+use crate::script_line::{Line, read_line};
+use std::alloc::{AllocError, Global};
+use swim_program::{BOUND, Place, Report, What, without_return};
+use swim_sync::Event;
+use swim_table::Node;
+
+/// What a script asks for.
+#[derive(Debug, Drop)]
+pub struct Plan {
+    /// The nodes, each with its start claim alone.
+    pub nodes: Vec<Node>,
+    /// The events of the lines before `level`.
+    pub events: Vec<Event>,
+    /// For each event the number of its line, from 1.
+    pub lines: Vec<u64>,
+    /// The number of the line `level`, where the script ends with it.
+    pub level: Option<u64>,
+}
+
+impl Plan {
+    fn new(alloc: Global) -> Plan
+        ensures nodes { result.nodes.items ≡ [] }
+        ensures events { result.events.items ≡ [] }
+        ensures lines { result.lines.items ≡ [] }
+        ensures level { result.level ≡ None }
+    {
+        Plan {
+            nodes: Vec::new(alloc),
+            events: Vec::new(alloc),
+            lines: Vec::new(alloc),
+            level: None,
+        }
+    }
+
+    /// Takes in the line of this number, if the line is not empty.
+    fn take_line(&mut self, alloc: Global, line: &[u8], number: u64) -> Result<(), What>
+        ensures takes { OnOk result (TakesLine line.now number self.old self.new) }
+        ensures refuses { IfErr result (λ what. what ≢ What.Memory → IsOutOfPlace line.now self.old) }
+        ensures kind { IfErr result IsOfReading }
+    {
+        if line.is_empty() {
+            return Ok(());
+        }
+        if self.level.is_some() {
+            return Err(What::bad_script());
+        }
+        let nodes_may_come = self.events.is_empty();
+        self.add(read_line(alloc, line, nodes_may_come)?, number)?;
+        Ok(())
+    }
+
+    /// One line more, by its number.
+    fn add(&mut self, line: Line, number: u64) -> Result<(), AllocError>
+        ensures { OnOk result (Adds number self.old line self.new) }
+    {
+        match line {
+            Line::Node(node) => self.nodes.push(node)?,
+            Line::Event(event) => {
+                self.events.push(event)?;
+                self.lines.push(number)?;
+            }
+            Line::Level => self.level = Some(number),
+        }
+        Ok(())
+    }
+}
+
+/// The nodes and events that a script spells.
+///
+/// Lines end as those of packets do, and empty ones are skipped. First come the lines of nodes, then
+/// those of events; the last may be `level`. The first line that is refused is reported by its number
+/// from 1, and an input of more than 268,435,456 bytes is refused as a whole (InputTooLong).
+pub fn read_script(alloc: Global, input: &[u8]) -> Result<Plan, Report>
+    // The lines spell the nodes of the plan and its events, and each event comes with the line of its number.
+    ensures reads { IfOk result (λ plan. (starts : List Start) × AreStarted plan.nodes.items starts
+        × Script input.now starts (plan_events plan.events.items (length plan.nodes.items) plan.level)
+        × AreNumbered (input_lines input.now) starts (plan_events plan.events.items (length plan.nodes.items) plan.level) plan.lines.items plan.level) }
+
+    // There are at most as many nodes as bytes, and one event for each number of a line.
+    ensures few { IfOk result (λ plan. length plan.nodes.items ≤ 268435457) }
+    ensures lines { IfOk result (λ plan. length plan.lines.items ≡ length plan.events.items) }
+
+    // Refused for another cause than memory and its length, the report names the first line that makes the input no script.
+    ensures line { IfErr result (λ report. report.what ≢ What.Memory → length input.now ≤ 268435456 → IsFirstWrongLine input.now report.place) }
+    ensures long { (268435456 < length input.now) ↔ (result ≡ Err (record { place = Place.Input; what = What.Refused 32 None })) }
+    ensures kind { IfErr result (λ report. IsOfReading report.what) }
+    ensures place { IfErr result (λ report. IsAmong report.place 0) }
+{
+    if input.len() > BOUND {
+        return Err(What::input_too_long().at(Place::Input));
+    }
+    let mut plan = Plan::new(alloc);
+    for (index, line) in input.split(|byte| *byte == b'\n').enumerate() {
+        let number = index as u64 + 1;
+        if let Err(what) = plan.take_line(alloc, without_return(line), number) {
+            return Err(what.at(Place::Line(number)));
+        }
+    }
+    Ok(plan)
+}

@@ -1,0 +1,179 @@
+//! A line of a script: a node, an event, or the levelling of all nodes.
+
+ghost use Rattle.std.specs.Prelude.{◌≡◌, ◌≢◌, ◌∷◌, ℕ, List, map, codes, IfOk, IfErr};
+ghost use Rattle.swim_sync.specs.declared.event.Event.{Event};
+ghost use Rattle.swim_wire.specs.Packet.{PacketValue};
+ghost use Rattle.swim_wire.specs.Texts.{DatagramText};
+ghost use Rattle.swim_program.specs.Report.{IsOfReading};
+ghost use Rattle.swim_script.specs.Script.{Start, IsStarted, NodeWords, EventWords, HearsBytes, NodeNumber, words};
+ghost use Rattle.swim_script.specs.ScriptReading.{OneNumber, SpellsLine, SpellsNothing, TwoNumbers, word_of};
+
+use crate::keyword::Keyword;
+use crate::script_word::{bytes_of, name_of, number_of, words_of};
+use std::alloc::Global;
+use swim_claim::{Details, Name};
+use swim_program::{What, into_claims};
+use swim_sync::{Claims, Event};
+use swim_table::Node;
+use swim_wire::{decode_datagram, decode_packet};
+
+/// The first byte of a compound packet (memberlist's `compoundMsg`).
+const COMPOUND: u8 = 7;
+
+/// The greatest port.
+const MOST_PORT: u64 = 65_535;
+
+/// The greatest incarnation.
+const MOST_INC: u64 = 4_294_967_295;
+
+/// The greatest number of a node, which need not be there.
+const MOST_NODE: u64 = 18_446_744_073_709_551_615;
+
+/// What a line of a script says.
+#[derive(Debug, Drop)]
+pub(crate) enum Line {
+    /// That there is this node. Its table has its start claim alone.
+    Node(Node),
+    /// That this happens.
+    Event(Event),
+    /// That all nodes are levelled.
+    Level,
+}
+
+/// Reads a line of a script that is not empty. It may be that of a node only where `nodes_may_come`.
+///
+/// # Errors
+///
+/// The first of these that holds: `BadScript` where the first word is none of a line, where a node
+/// stands after another line, or where there are more or fewer words; in the fields from left to
+/// right, `BadScript` for a number and `BadHex` for bytes; then for a node `NameEmpty` or
+/// `NameTooLong`, `BadAddress`, `MetaTooLong` and `BadVersions`, and for what a node hears the fault
+/// of its packet.
+pub(crate) fn read_line(alloc: Global, line: &[u8], nodes_may_come: bool) -> Result<Line, What>
+    ensures reads { IfOk result (SpellsLine nodes_may_come (words line.now)) }
+    ensures refuses { IfErr result (λ what. what ≢ What.Memory → SpellsNothing nodes_may_come (words line.now)) }
+    ensures kind { IfErr result IsOfReading }
+{
+    let words = words_of(alloc, line)?;
+    let Some((first, fields)) = words.split_first() else {
+        return Err(What::bad_script());
+    };
+    let Some(keyword) = Keyword::named(first) else {
+        return Err(What::bad_script());
+    };
+    match keyword {
+        Keyword::Node if nodes_may_come => Ok(Line::Node(read_node(alloc, fields)?)),
+        Keyword::Level if fields.is_empty() => Ok(Line::Level),
+        _ => Ok(Line::Event(read_event(alloc, keyword, fields)?)),
+    }
+}
+
+/// The node of which the words after `node` tell.
+fn read_node(alloc: Global, fields: &[&[u8]]) -> Result<Node, What>
+    ensures reads { IfOk result (λ node. (start : Start) × NodeWords (codes "node" ∷ map (λ word. word.now) fields.now) start × IsStarted node start) }
+    ensures refuses { IfErr result (λ what. what ≢ What.Memory → (start : Start) → ¬ NodeWords (codes "node" ∷ map (λ word. word.now) fields.now) start) }
+    ensures kind { IfErr result IsOfReading }
+{
+    let [name, addr, port, meta, vsn, inc] = fields else {
+        return Err(What::bad_script());
+    };
+    let name = name_of(alloc, name)?;
+    let addr = bytes_of(alloc, addr)?;
+    let port = number_of(port, MOST_PORT)? as u16;
+    let meta = bytes_of(alloc, meta)?;
+    let vsn = bytes_of(alloc, vsn)?;
+    let inc = number_of(inc, MOST_INC)? as u32;
+    let name = Name::new(name)?;
+    let details = Details::new(addr, port, meta, vsn)?;
+    Ok(Node::new(alloc, name, details, inc)?)
+}
+
+/// The event that the words after the first one tell of.
+fn read_event(alloc: Global, keyword: Keyword, fields: &[&[u8]]) -> Result<Event, What>
+    ensures reads { IfOk result (EventWords (word_of keyword ∷ map (λ word. word.now) fields.now)) }
+    ensures refuses { IfErr result (λ what. what ≢ What.Memory → (event : Event) → ¬ EventWords (word_of keyword ∷ map (λ word. word.now) fields.now) event) }
+    ensures kind { IfErr result IsOfReading }
+{
+    match keyword {
+        Keyword::Hear => read_hear(alloc, fields),
+        Keyword::Exchange => {
+            let (first, second) = two_numbers(fields)?;
+            Ok(Event::Exchange(first, second))
+        }
+        Keyword::Half => {
+            let (first, second) = two_numbers(fields)?;
+            Ok(Event::Half(first, second))
+        }
+        Keyword::Refute => Ok(Event::Refute(one_number(fields)?)),
+        Keyword::Node | Keyword::Level => Err(What::bad_script()),
+    }
+}
+
+/// What a node hears by the words after `hear`.
+fn read_hear(alloc: Global, fields: &[&[u8]]) -> Result<Event, What>
+    ensures reads { IfOk result (EventWords (codes "hear" ∷ map (λ word. word.now) fields.now)) }
+    ensures refuses { IfErr result (λ what. what ≢ What.Memory → (event : Event) → ¬ EventWords (codes "hear" ∷ map (λ word. word.now) fields.now) event) }
+    ensures kind { IfErr result IsOfReading }
+{
+    let [node, datagram] = fields else {
+        return Err(What::bad_script());
+    };
+    let node = node_number(node)?;
+    let datagram = bytes_of(alloc, datagram)?;
+    heard(alloc, node, &datagram)
+}
+
+/// That a node hears the claim of a packet, or all the claims of a compound packet.
+fn heard(alloc: Global, node: usize, datagram: &[u8]) -> Result<Event, What>
+    ensures reads { IfOk result (HearsBytes node datagram.now) }
+    ensures refuses { IfErr result (λ what. what ≢ What.Memory → (event : Event) → ¬ HearsBytes node datagram.now event) }
+    ensures kind { IfErr result IsOfReading }
+{
+    match datagram {
+        [COMPOUND, ..] => Ok(Event::HearAll(node, claims_of(alloc, datagram)?)),
+        _ => Ok(Event::Hear(node, decode_packet(alloc, datagram)?.into_claim())),
+    }
+}
+
+/// The claims of the packets of a datagram.
+fn claims_of(alloc: Global, datagram: &[u8]) -> Result<Claims, What>
+    ensures reads { IfOk result (λ claims. (packets : List PacketValue) × DatagramText datagram.now packets × (claims ≡ map (λ p. p.claim) packets)) }
+    ensures refuses { IfErr result (λ what. what ≢ What.Memory → (packets : List PacketValue) → ¬ DatagramText datagram.now packets) }
+    ensures kind { IfErr result IsOfReading }
+{
+    let packets = decode_datagram(alloc, datagram)?;
+    Ok(Claims::new(into_claims(alloc, packets)?))
+}
+
+/// The numbers of two nodes, which are all the fields.
+fn two_numbers(fields: &[&[u8]]) -> Result<(usize, usize), What>
+    ensures reads { IfOk result (λ nodes. TwoNumbers (map (λ word. word.now) fields.now) nodes.0 nodes.1) }
+    ensures refuses { IfErr result (λ what. (j k : ℕ) → ¬ TwoNumbers (map (λ word. word.now) fields.now) j k) }
+    ensures fault { IfErr result (λ what. what ≡ What.Refused 31 None) }
+{
+    let [first, second] = fields else {
+        return Err(What::bad_script());
+    };
+    Ok((node_number(first)?, node_number(second)?))
+}
+
+/// The number of one node, which is all the fields.
+fn one_number(fields: &[&[u8]]) -> Result<usize, What>
+    ensures reads { IfOk result (OneNumber (map (λ word. word.now) fields.now)) }
+    ensures refuses { IfErr result (λ what. (k : ℕ) → ¬ OneNumber (map (λ word. word.now) fields.now) k) }
+    ensures fault { IfErr result (λ what. what ≡ What.Refused 31 None) }
+{
+    let [node] = fields else {
+        return Err(What::bad_script());
+    };
+    node_number(node)
+}
+
+/// The number of a node, which need not be there.
+fn node_number(word: &[u8]) -> Result<usize, What>
+    ensures reads { IfOk result (NodeNumber word.now) }
+    ensures refuses { IfErr result (λ what. (k : ℕ) → ¬ NodeNumber word.now k) }
+    ensures fault { IfErr result (λ what. what ≡ What.Refused 31 None) }
+{
+    Ok(number_of(word, MOST_NODE)? as usize)
+}

@@ -1,0 +1,85 @@
+//! The words of a line of a script: numbers, bytes and names.
+
+ghost use Rattle.std.specs.Prelude.{◌≡◌, ◌≢◌, ◌<◌, ℕ, List, length, map, IfOk, IfErr};
+ghost use Rattle.percent_encoding.specs.Percent.{percent_decode};
+ghost use Rattle.swim_script.specs.Script.{Decimal, HexBytes, words};
+
+use percent_encoding::percent_decode;
+use std::alloc::{AllocError, Global};
+use swim_program::What;
+
+/// The most words of a line: those of a node.
+const MOST_WORDS: usize = 7;
+
+/// The most digits of a number. Each number of 64 bits has at most as many.
+const MOST_DIGITS: usize = 20;
+
+/// The words of a line, which stand between its spaces.
+///
+/// # Errors
+///
+/// `BadScript` where there are more than seven, which no line has.
+pub(crate) fn words_of(alloc: Global, line: &[u8]) -> Result<Vec<&[u8]>, What>
+    ensures words { IfOk result (λ list. map (λ word. word.now) list.items ≡ words line.now) }
+    ensures many { IfErr result (λ what. what ≢ What.Memory → 7 < length (words line.now)) }
+    ensures fault { IfErr result (λ what. what ≢ What.Memory → what ≡ What.Refused 31 None) }
+{
+    let words = line
+        .split(|byte| *byte == b' ')
+        .take(MOST_WORDS + 1)
+        .collect::<Vec<&[u8]>>(alloc)?;
+    if words.len() > MOST_WORDS {
+        return Err(What::bad_script());
+    }
+    Ok(words)
+}
+
+/// The decimal number that a word is: 1 to 20 digits without a sign, and at most `most`.
+///
+/// # Errors
+///
+/// `BadScript` where the word is no such number.
+pub(crate) fn number_of(word: &[u8], most: u64) -> Result<u64, What>
+    ensures reads { IfOk result (Decimal most word.now) }
+    ensures refuses { IfErr result (λ what. (n : ℕ) → ¬ Decimal most word.now n) }
+    ensures fault { IfErr result (λ what. what ≡ What.Refused 31 None) }
+{
+    // parse takes a plus, and a text of any length
+    if word.len() > MOST_DIGITS || word.first() == Some(&b'+') {
+        return Err(What::bad_script());
+    }
+    let Ok(text) = str::from_utf8(word) else {
+        return Err(What::bad_script());
+    };
+    match text.parse::<u64>() {
+        Ok(number) if number <= most => Ok(number),
+        _ => Err(What::bad_script()),
+    }
+}
+
+/// The bytes that a word is in hexadecimal, of which there is at least one, or `-` for none.
+///
+/// # Errors
+///
+/// `BadHex` where the word is neither.
+pub(crate) fn bytes_of(alloc: Global, word: &[u8]) -> Result<Vec<u8>, What>
+    ensures reads { IfOk result (λ bytes. HexBytes word.now bytes.items) }
+    ensures refuses { IfErr result (λ what. what ≢ What.Memory → (bytes : List ℕ) → ¬ HexBytes word.now bytes) }
+    ensures fault { IfErr result (λ what. what ≢ What.Memory → what ≡ What.Refused 30 None) }
+{
+    match word {
+        b"-" => Ok(Vec::new(alloc)),
+        [] => Err(What::bad_hex()),
+        digits => Ok(hex::decode(alloc, digits)?),
+    }
+}
+
+/// The bytes of a name: `%` and two hexadecimal digits are one byte, and everything else stands as
+/// it is.
+pub(crate) fn name_of(alloc: Global, word: &[u8]) -> Result<Vec<u8>, AllocError>
+    ensures { IfOk result (λ name. name.items ≡ percent_decode word.now) }
+{
+    let mut name = Vec::new(alloc);
+    percent_decode(word).append_to(&mut name)?;
+    Ok(name)
+}

@@ -1,9 +1,0 @@
-use Rattle.std.proofs.Common.{map}
-use Rattle.swimtab.proofs.ScriptNumbers.{WereRead}
-use Rattle.swimtab.proofs.script.read_script.Given as goal
-
-abbrev pub invariant-loop-index : goal.invariant-loop-index
-invariant-loop-index l =
-    (goal.iterator-loop-index).can_next l.index-iterator ×
-    (goal.iterator-loop-index).is_finite l.index-iterator ×
-    WereRead (map (λ p. p.1.now) l.yielded) l.plan
