@@ -1,16 +1,18 @@
 # swimtab: membership tables of a SWIM cluster.
 #
-#   make            the program, at build/swimtab
+#   make            the program, at build/swimtab; some 10 minutes the first time
 #   make run        the listing of examples/packets.hex
-#   make test       the gate
+#   make test       the gate: every proof from nothing, and all tests; an hour or more
 #   make bench      what a record costs, by size and by order of the names; some minutes
-#   make install    copies the program to PREFIX/bin, and its page to PREFIX/share/man/man1
+#   make install    copies build/swimtab to PREFIX/bin, and its page to PREFIX/share/man/man1;
+#                   it is built first only where it is not there, so root needs no kit
 #   make clean      removes what was built
+#   make help       these lines
 
 PREFIX ?= /usr/local
 SOURCES := $(shell find crates -type f -not -path '*/out/*') crates.txt HANDLES
 
-.PHONY: all run test bench install clean kit
+.PHONY: all run test bench install clean help kit
 
 all: build/swimtab
 
@@ -31,10 +33,14 @@ test: kit
 bench: build/swimbench
 	@build/swimbench
 
-install: build/swimtab
+install:
+	@test -x build/swimtab || $(MAKE) build/swimtab
 	@mkdir -p '$(DESTDIR)$(PREFIX)/bin' '$(DESTDIR)$(PREFIX)/share/man/man1'
 	install -m 755 build/swimtab '$(DESTDIR)$(PREFIX)/bin/swimtab'
 	install -m 644 docs/swimtab.1 '$(DESTDIR)$(PREFIX)/share/man/man1/swimtab.1'
+
+help:
+	@sed -n 's/^#   //p' Makefile
 
 clean:
 	rm -rf build crates/*/out
