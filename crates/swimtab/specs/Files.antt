@@ -1,8 +1,10 @@
 -- Files with dumps, the claims that they make, and why they are refused.
-use Rattle.std.specs.Prelude.{◌≡◌, ℕ, ◌<◌, ◌≤◌, Bool, List, [], ◌∷◌, ◌++◌, length, All, None}
+use Rattle.std.specs.Prelude.{◌≡◌, ℕ, ◌<◌, ◌≤◌, Bool, List, [], ◌∷◌, ◌++◌, length, codes, All, None}
 use Rattle.swim_claim.specs.declared.claim.Claim.{Claim}
 use Rattle.swim_wire.specs.declared.fault.WireFault.{WireFault}
 use Rattle.swim_wire.specs.Streams.{StreamText}
+use Rattle.swim_table.specs.declared.table.Relation.{Relation}
+use Rattle.swim_table.specs.declared.table.Relation.TheVariants.{Equal, Behind, Ahead, Apart}
 use Rattle.swim_table.specs.Steps.{ExplainsDump}
 use Rattle.swim_table.specs.Table.{Entries, TableOf, Reduced}
 use Rattle.swim_program.specs.declared.report.Place.TheVariants.{File, Output}
@@ -69,3 +71,10 @@ pub record HaveTooMany (files : List (List ℕ)) (report : Report) : Type 0 wher
   pub many : 131072 < length (Reduced table)
   pub place : report.place ≡ Output
   pub what : report.what ≡ Refused 23 None
+
+-- the line that says how two tables relate
+abbrev pub relation_text : Relation → List ℕ
+relation_text Equal = codes "equal\n"
+relation_text Behind = codes "behind\n"
+relation_text Ahead = codes "ahead\n"
+relation_text Apart = codes "apart\n"

@@ -6,7 +6,7 @@ ghost use Rattle.swim_table.specs.Covering.{IsRelation};
 ghost use Rattle.swim_table.specs.Dump.{dump_bytes};
 ghost use Rattle.swim_table.specs.Listing.{listing};
 ghost use Rattle.swim_table.specs.Table.{Entries, TableOf};
-ghost use Rattle.swimtab.specs.Files.{FileClaims, FilesClaims, IsNoDump, AreShort, AreRefused, HaveTooMany};
+ghost use Rattle.swimtab.specs.Files.{FileClaims, FilesClaims, IsNoDump, AreShort, AreRefused, HaveTooMany, relation_text};
 ghost use Rattle.swim_program.specs.Report.{IsAmong};
 
 use std::alloc::{AllocError, Global};
@@ -74,7 +74,9 @@ pub fn related(alloc: Global, first: &[u8], second: &[u8]) -> Result<Relation, R
 }
 
 /// The line that says how two tables relate, with its line feed.
-pub fn relation_line(relation: Relation) -> &'static str {
+pub fn relation_line(relation: Relation) -> &'static str
+    ensures { result.now ≡ relation_text relation }
+{
     match relation {
         Relation::Equal => "equal\n",
         Relation::Behind => "behind\n",

@@ -32,7 +32,8 @@ Example:
   l3 alive 1 1/7f000403/33603//010502000000";
 
 pub(crate) static MERGE: &str = "\
-The dump is a push/pull stream as memberlist reads it, without the join flag.
+The dump is a push/pull stream without the join flag. It is for swimtab: a live
+memberlist refuses all of it where it has a member that is suspected, dead or gone.
 
 Example:
   $ swimtab merge examples/three.bin examples/user-state.bin > both.bin

@@ -12,7 +12,7 @@ use spellings::{ALIVE, CONFIRM, LEAVE, SUSPECT};
 use std::alloc::Global;
 use std::process::Abort;
 use std::test::Fail;
-use swim_program::{BOUND, Place, What, report_text, status};
+use swim_program::{BOUND, Place, Report, What, report_text, status};
 
 /// What holds, the lines of an input, and its listing.
 const LISTINGS: [(&str, &str, &str); 13] = [
@@ -178,51 +178,123 @@ const REFUSED: [(&str, &str); 35] = [
     ("09\r\r", "30 BadHex"),
 ];
 
+/// That the bytes are those that are wanted.
+pub(crate) fn assert_bytes(rt: &impl Abort, found: &[u8], wanted: &[u8], about: &str) {
+    assert_eq!(rt; found, wanted, "{about}");
+}
+
+/// That the text is the one that is wanted.
+pub(crate) fn assert_text(rt: &impl Abort, found: &str, wanted: &str, about: &str) {
+    assert_eq!(rt; found, wanted, "{about}");
+}
+
+/// That the report is the one that is wanted.
+pub(crate) fn assert_report(rt: &impl Abort, found: Report, wanted: Report, about: &str) {
+    assert_eq!(rt; found, wanted, "{about}");
+}
+
+/// That memory was wanting.
+pub(crate) fn assert_memory(rt: &impl Abort, report: Report) {
+    assert_eq!(rt; report.what, What::Memory);
+    assert_eq!(rt; status(&report), 5);
+}
+
+/// That the report of a run over these files has this text, and the status of a wrong input.
+pub(crate) fn assert_said(
+    rt: &impl Abort,
+    alloc: Global,
+    report: Report,
+    files: &[String],
+    wanted: &str,
+) -> Result<(), Fail> {
+    if report.what == What::Memory {
+        return Err(Fail::from(report));
+    }
+    match report.place {
+        Place::File(file) => assert!(rt; file < files.len(), "a file that there is"),
+        _ => {}
+    }
+    let text = report_text(alloc, &report, files)?;
+    assert_text(rt, text.as_str(), wanted, "the text of the report");
+    assert_eq!(rt; status(&report), 3, "{wanted}");
+    Ok(())
+}
+
 /// The listing of an input that is not refused.
 fn listing(alloc: Global, input: &str) -> Result<Vec<u8>, Fail> {
     Ok(packets(alloc, input.as_bytes())?)
 }
 
-/// The report of an input that is refused.
-fn refusal(rt: &impl Abort, alloc: Global, input: &str) -> Result<(String, u8), Fail> {
-    match packets(alloc, input.as_bytes()) {
-        Ok(_) => panic!(rt; "{input:?} is listed"),
-        Err(report) if report.what == What::Memory => Err(Fail::from(report)),
-        Err(report) => Ok((report_text(alloc, &report, &[])?, status(&report))),
+fn assert_listed(
+    rt: &impl Abort,
+    alloc: Global,
+    input: &str,
+    wanted: &str,
+    about: &str,
+) -> Result<(), Fail> {
+    assert_bytes(rt, &listing(alloc, input)?, wanted.as_bytes(), about);
+    Ok(())
+}
+
+fn assert_all_listed(
+    rt: &impl Abort,
+    alloc: Global,
+    inputs: &[&str],
+    wanted: &str,
+) -> Result<(), Fail> {
+    for input in inputs {
+        assert_listed(rt, alloc, input, wanted, input)?;
     }
+    Ok(())
+}
+
+/// The report of an input that is refused.
+fn refusal(rt: &impl Abort, alloc: Global, input: &[u8]) -> Report {
+    packets(alloc, input).err().expect(rt, "a refusal")
+}
+
+fn assert_refused(rt: &impl Abort, alloc: Global, input: &str, wanted: &str) -> Result<(), Fail> {
+    assert_said(rt, alloc, refusal(rt, alloc, input.as_bytes()), &[], wanted)
 }
 
 #[test]
 fn worked_inputs_give_their_listings(rt: HostRuntime) -> Result<(), Fail> {
     for (what, input, wanted) in LISTINGS {
-        assert_eq!(rt;
-            listing(rt.alloc(), input)?.as_slice(),
-            wanted.as_bytes(),
-            "{what}"
-        );
+        assert_listed(&rt, rt.alloc(), input, wanted, what)?;
     }
     Ok(())
 }
 
+/// The lines, each with its line feed.
+fn lines(alloc: Global, lines: &[&str]) -> Result<String, Fail> {
+    let mut input = String::new(alloc);
+    for line in lines {
+        input.push_str(line)?;
+        input.push_str("\n")?;
+    }
+    Ok(input)
+}
+
+fn assert_lines_listed(
+    rt: &impl Abort,
+    alloc: Global,
+    order: &[&str],
+    wanted: &str,
+    about: &str,
+) -> Result<(), Fail> {
+    let input = lines(alloc, order)?;
+    assert_listed(rt, alloc, input.as_str(), wanted, about)
+}
+
 #[test]
 fn the_order_of_arrival_does_not_matter(rt: HostRuntime) -> Result<(), Fail> {
-    let alloc = rt.alloc();
     for (what, first, second, wanted) in BOTH_ORDERS {
-        let one = format!(in alloc; "{first}\n{second}\n")?;
-        assert_eq!(rt;
-            listing(alloc, one.as_str())?.as_slice(),
-            wanted.as_bytes(),
-            "{what}"
-        );
-        let other = format!(in alloc; "{second}\n{first}\n")?;
-        assert_eq!(rt;
-            listing(alloc, other.as_str())?.as_slice(),
-            wanted.as_bytes(),
-            "{what}"
-        );
+        assert_lines_listed(&rt, rt.alloc(), &[first, second], wanted, what)?;
+        assert_lines_listed(&rt, rt.alloc(), &[second, first], wanted, what)?;
     }
     let [alive, suspect, newer] = THREE;
-    for [a, b, c] in [
+    let wanted = "a suspect 5 4/7f000001/7947//\n";
+    for order in [
         [alive, suspect, newer],
         [alive, newer, suspect],
         [suspect, alive, newer],
@@ -230,43 +302,30 @@ fn the_order_of_arrival_does_not_matter(rt: HostRuntime) -> Result<(), Fail> {
         [newer, alive, suspect],
         [newer, suspect, alive],
     ] {
-        let input = format!(in alloc; "{a}\n{b}\n{c}\n")?;
-        let wanted = b"a suspect 5 4/7f000001/7947//\n";
-        assert_eq!(rt;
-            listing(alloc, input.as_str())?.as_slice(),
-            wanted.as_slice()
-        );
+        assert_lines_listed(&rt, rt.alloc(), &order, wanted, "three in an order")?;
     }
     Ok(())
 }
 
 #[test]
 fn other_spellings_give_the_same_listing(rt: HostRuntime) -> Result<(), Fail> {
-    for (spellings, wanted) in [
-        (ALIVE, "a alive 0 0/7f000001/7946//\n"),
-        (SUSPECT, "b suspect 0 -\n"),
-        (CONFIRM, "c confirm 0 -\n"),
-        (LEAVE, "d leave 0 -\n"),
-    ] {
-        for spelling in spellings {
-            assert_eq!(rt;
-                listing(rt.alloc(), spelling)?.as_slice(),
-                wanted.as_bytes(),
-                "{spelling}"
-            );
-        }
-    }
-    Ok(())
+    let alloc = rt.alloc();
+    assert_all_listed(&rt, alloc, &ALIVE, "a alive 0 0/7f000001/7946//\n")?;
+    assert_all_listed(&rt, alloc, &SUSPECT, "b suspect 0 -\n")?;
+    assert_all_listed(&rt, alloc, &CONFIRM, "c confirm 0 -\n")?;
+    assert_all_listed(&rt, alloc, &LEAVE, "d leave 0 -\n")
+}
+
+/// That the line is refused with this fault, where it stands alone.
+fn assert_fault(rt: &impl Abort, alloc: Global, line: &str, fault: &str) -> Result<(), Fail> {
+    let wanted = format!(in alloc; "swimtab: line 1: fault {fault}")?;
+    assert_refused(rt, alloc, line, wanted.as_str())
 }
 
 #[test]
 fn a_refused_line_is_reported(rt: HostRuntime) -> Result<(), Fail> {
-    let alloc = rt.alloc();
     for (line, fault) in REFUSED {
-        let (text, status) = refusal(&rt, alloc, line)?;
-        let wanted = format!(in alloc; "swimtab: line 1: fault {fault}")?;
-        assert_eq!(rt; text.as_str(), wanted.as_str(), "{line}");
-        assert_eq!(rt; status, 3, "{line}");
+        assert_fault(&rt, rt.alloc(), line, fault)?;
     }
     Ok(())
 }
@@ -282,43 +341,53 @@ fn lines_are_told_apart_as_they_are_written(rt: HostRuntime) -> Result<(), Fail>
             "b suspect 0 -\nc suspect 0 -\n",
         ),
     ] {
-        assert_eq!(rt;
-            listing(alloc, input)?.as_slice(),
-            wanted.as_bytes(),
-            "{input:?}"
-        );
+        assert_listed(&rt, alloc, input, wanted, input)?;
     }
-    let (text, _) = refusal(&rt, alloc, "\n\r\n0381a44e6f6465a162\r\n\n0380\n0g\n")?;
-    assert_eq!(rt; text.as_str(), "swimtab: line 5: fault 11 NameEmpty");
-    Ok(())
+    assert_refused(
+        &rt,
+        alloc,
+        "\n\r\n0381a44e6f6465a162\r\n\n0380\n0g\n",
+        "swimtab: line 5: fault 11 NameEmpty",
+    )
+}
+
+/// The text so many times, between a head and a tail.
+fn repeated(
+    alloc: Global,
+    head: &str,
+    text: &str,
+    times: usize,
+    tail: &str,
+) -> Result<String, Fail> {
+    let mut whole = String::from_str(alloc, head)?;
+    for _ in 0..times {
+        whole.push_str(text)?;
+    }
+    whole.push_str(tail)?;
+    Ok(whole)
 }
 
 #[test]
 fn the_longest_name_is_listed(rt: HostRuntime) -> Result<(), Fail> {
-    let alloc = rt.alloc();
-    let mut input = String::from_str(alloc, "0381a44e6f6465da0400")?;
-    let mut wanted = String::new(alloc);
-    for _ in 0..1024 {
-        input.push_str("6e")?;
-        wanted.push_str("n")?;
-    }
-    wanted.push_str(" suspect 0 -\n")?;
-    assert_eq!(rt;
-        listing(alloc, input.as_str())?.as_slice(),
-        wanted.as_bytes()
-    );
-    Ok(())
+    let input = repeated(rt.alloc(), "0381a44e6f6465da0400", "6e", 1024, "")?;
+    let wanted = repeated(rt.alloc(), "", "n", 1024, " suspect 0 -\n")?;
+    assert_listed(
+        &rt,
+        rt.alloc(),
+        input.as_str(),
+        wanted.as_str(),
+        "1,024 bytes",
+    )
 }
 
 #[test]
 fn want_of_memory_is_answered_as_such_and_then_repeated(rt: HostRuntime) -> Result<(), Fail> {
-    let (_, input, wanted) = LISTINGS[0];
+    let (what, input, wanted) = LISTINGS[0];
     match packets(rt.alloc(), input.as_bytes()) {
-        Ok(listing) => assert_eq!(rt; listing.as_slice(), wanted.as_bytes()),
+        Ok(listing) => assert_bytes(&rt, &listing, wanted.as_bytes(), what),
         Err(report) => {
-            assert_eq!(rt; report.what, What::Memory);
-            assert_eq!(rt; status(&report), 5);
-            assert_eq!(rt; listing(rt.alloc(), input)?.as_slice(), wanted.as_bytes());
+            assert_memory(&rt, report);
+            assert_listed(&rt, rt.alloc(), input, wanted, what)?;
         }
     }
     Ok(())
@@ -328,9 +397,12 @@ fn want_of_memory_is_answered_as_such_and_then_repeated(rt: HostRuntime) -> Resu
 fn an_input_past_its_bound_is_refused_as_a_whole(rt: HostRuntime) -> Result<(), Fail> {
     let mut input = too_long(rt.alloc())?;
     input.truncate(BOUND + 1);
-    assert_eq!(rt;
-        packets(rt.alloc(), &input),
-        Err(What::input_too_long().at(Place::Input))
+    let wanted = What::input_too_long().at(Place::Input);
+    assert_report(
+        &rt,
+        refusal(&rt, rt.alloc(), &input),
+        wanted,
+        "a byte too many",
     );
     Ok(())
 }

@@ -1,11 +1,12 @@
 //! Files with dumps: their listing, their join, and how they relate.
 
 use crate::dumps::{listed, merged, related, relation_line};
+use crate::tests::{assert_bytes, assert_memory, assert_said, assert_text};
 use std::alloc::{AllocError, Global};
 use std::process::Abort;
 use std::test::Fail;
 use swim_claim::{Claim, Name};
-use swim_program::{BOUND, Place, Report, What, report_text, status};
+use swim_program::{BOUND, Report};
 use swim_table::{Relation, Table, encode};
 
 /// An Alive of `a`.
@@ -73,43 +74,127 @@ const REFUSED: [(&str, &str); 6] = [
     ),
 ];
 
+/// What the digits of a file spell.
+pub(crate) fn dump(alloc: Global, digits: &str) -> Result<Vec<u8>, Fail> {
+    Ok(hex::decode(alloc, digits)?)
+}
+
 /// What the files hold.
 fn files(alloc: Global, dumps: &[&str]) -> Result<Vec<Vec<u8>>, Fail> {
     let mut files = Vec::new(alloc);
-    for dump in dumps {
-        files.push(hex::decode(alloc, dump)?)?;
+    for digits in dumps {
+        files.push(dump(alloc, digits)?)?;
     }
     Ok(files)
 }
 
-/// What is said of a run over the files `a dump` and `no dump`.
-fn said(rt: &impl Abort, alloc: Global, report: &Report) -> Result<(String, u8), Fail> {
-    if report.what == What::Memory {
-        return Err(Fail::from(*report));
+/// The listing of files; where it is refused memory, what its repeat gives.
+fn listing(rt: &impl Abort, alloc: Global, files: &[Vec<u8>]) -> Result<Vec<u8>, Report> {
+    match listed(alloc, files) {
+        Ok(text) => Ok(text),
+        Err(report) => {
+            assert_memory(rt, report);
+            listed(alloc, files)
+        }
     }
-    let words = [
-        String::from_str(alloc, "a dump")?,
-        String::from_str(alloc, "no dump")?,
-    ];
-    match report.place {
-        Place::File(file) => assert!(rt; file < 2, "a file that there is"),
-        _ => {}
-    }
-    Ok((report_text(alloc, report, &words)?, status(report)))
 }
 
-/// That the report is there, with this text and the status of a wrong input.
+/// The join of files; where it is refused memory, what its repeat gives.
+fn join(rt: &impl Abort, alloc: Global, files: &[Vec<u8>]) -> Result<Vec<u8>, Report> {
+    match merged(alloc, files) {
+        Ok(dump) => Ok(dump),
+        Err(report) => {
+            assert_memory(rt, report);
+            merged(alloc, files)
+        }
+    }
+}
+
+/// How two files relate; where it is refused memory, what its repeat gives.
+fn comparison(
+    rt: &impl Abort,
+    alloc: Global,
+    first: &[u8],
+    second: &[u8],
+) -> Result<Relation, Report> {
+    match related(alloc, first, second) {
+        Ok(relation) => Ok(relation),
+        Err(report) => {
+            assert_memory(rt, report);
+            related(alloc, first, second)
+        }
+    }
+}
+
+fn assert_listed(rt: &impl Abort, alloc: Global, dumps: &[&str], wanted: &str) -> Result<(), Fail> {
+    let files = files(alloc, dumps)?;
+    let text = listing(rt, alloc, &files)?;
+    assert_bytes(rt, &text, wanted.as_bytes(), wanted);
+    Ok(())
+}
+
+fn assert_merged(rt: &impl Abort, alloc: Global, dumps: &[&str], wanted: &str) -> Result<(), Fail> {
+    let files = files(alloc, dumps)?;
+    let joined = join(rt, alloc, &files)?;
+    assert_bytes(rt, &joined, &dump(alloc, wanted)?, wanted);
+    Ok(())
+}
+
+/// How the tables of two dumps relate.
+fn assert_related(
+    rt: &impl Abort,
+    alloc: Global,
+    first: &str,
+    second: &str,
+    wanted: Relation,
+) -> Result<(), Fail> {
+    let first = dump(alloc, first)?;
+    let second = dump(alloc, second)?;
+    let relation = comparison(rt, alloc, &first, &second)?;
+    assert_eq!(rt; relation, wanted);
+    Ok(())
+}
+
+/// Why two files are refused: to be listed, to be merged, and to be related.
+fn refusals(alloc: Global, files: &[Vec<u8>; 2]) -> [Option<Report>; 3] {
+    [
+        listed(alloc, files).err(),
+        merged(alloc, files).err(),
+        related(alloc, &files[0], &files[1]).err(),
+    ]
+}
+
+/// That the report is there, of a run over the files `a dump` and `no dump`, with this text and the
+/// status of a wrong input.
 fn assert_refused(
     rt: &impl Abort,
     alloc: Global,
     report: Option<Report>,
     wanted: &str,
 ) -> Result<(), Fail> {
-    let report = report.expect(rt, "a refusal");
-    let (text, status) = said(rt, alloc, &report)?;
-    assert_eq!(rt; text.as_str(), wanted);
-    assert_eq!(rt; status, 3, "{wanted}");
+    let words = [
+        String::from_str(alloc, "a dump")?,
+        String::from_str(alloc, "no dump")?,
+    ];
+    assert_said(rt, alloc, report.expect(rt, "a refusal"), &words, wanted)
+}
+
+fn assert_all_refused(
+    rt: &impl Abort,
+    alloc: Global,
+    files: &[Vec<u8>; 2],
+    wanted: &str,
+) -> Result<(), Fail> {
+    for report in refusals(alloc, files) {
+        assert_refused(rt, alloc, report, wanted)?;
+    }
     Ok(())
+}
+
+/// That a file behind a dump is refused everywhere.
+fn assert_no_dump(rt: &impl Abort, alloc: Global, bad: &str, wanted: &str) -> Result<(), Fail> {
+    let files = [dump(alloc, P)?, dump(alloc, bad)?];
+    assert_all_refused(rt, alloc, &files, wanted)
 }
 
 /// Takes in a Suspect of this name.
@@ -132,33 +217,25 @@ fn suspects(rt: &impl Abort, alloc: Global, from: u32, count: u32) -> Result<Vec
 
 #[test]
 fn dumps_are_listed_as_their_join(rt: HostRuntime) -> Result<(), Fail> {
-    let alloc = rt.alloc();
     for (dumps, wanted) in LISTINGS {
-        let files = files(alloc, dumps)?;
-        assert_eq!(rt; listed(alloc, &files)?.as_slice(), wanted.as_bytes());
+        assert_listed(&rt, rt.alloc(), dumps, wanted)?;
     }
     Ok(())
 }
 
 #[test]
 fn dumps_are_merged_in_any_order(rt: HostRuntime) -> Result<(), Fail> {
-    let alloc = rt.alloc();
-    let wanted = hex::decode(alloc, R)?;
     let orders: [&[&str]; 4] = [&[P, Q], &[R], &[Q, P, P], &[USER_STATE, Q, P]];
     for dumps in orders {
-        let files = files(alloc, dumps)?;
-        assert_eq!(rt; merged(alloc, &files)?.as_slice(), wanted.as_slice());
+        assert_merged(&rt, rt.alloc(), dumps, R)?;
     }
     Ok(())
 }
 
 #[test]
 fn dumps_relate_as_their_tables_do(rt: HostRuntime) -> Result<(), Fail> {
-    let alloc = rt.alloc();
     for (first, second, wanted) in RELATIONS {
-        let first = hex::decode(alloc, first)?;
-        let second = hex::decode(alloc, second)?;
-        assert_eq!(rt; related(alloc, &first, &second)?, wanted);
+        assert_related(&rt, rt.alloc(), first, second, wanted)?;
     }
     for (relation, line) in [
         (Relation::Equal, "equal\n"),
@@ -166,24 +243,15 @@ fn dumps_relate_as_their_tables_do(rt: HostRuntime) -> Result<(), Fail> {
         (Relation::Ahead, "ahead\n"),
         (Relation::Apart, "apart\n"),
     ] {
-        assert_eq!(rt; relation_line(relation), line);
+        assert_text(&rt, relation_line(relation), line, "the line of a relation");
     }
     Ok(())
 }
 
 #[test]
 fn a_file_that_is_no_dump_is_named(rt: HostRuntime) -> Result<(), Fail> {
-    let alloc = rt.alloc();
     for (bad, wanted) in REFUSED {
-        let files = [hex::decode(alloc, P)?, hex::decode(alloc, bad)?];
-        assert_refused(&rt, alloc, listed(alloc, &files).err(), wanted)?;
-        assert_refused(&rt, alloc, merged(alloc, &files).err(), wanted)?;
-        assert_refused(
-            &rt,
-            alloc,
-            related(alloc, &files[0], &files[1]).err(),
-            wanted,
-        )?;
+        assert_no_dump(&rt, rt.alloc(), bad, wanted)?;
     }
     Ok(())
 }
@@ -202,14 +270,11 @@ pub(crate) fn too_long(alloc: Global) -> Result<Vec<u8>, AllocError> {
 fn lengths_are_checked_before_the_first_file_is_read(rt: HostRuntime) -> Result<(), Fail> {
     let alloc = rt.alloc();
     let files = [Vec::new(alloc), too_long(alloc)?];
-    let wanted = "swimtab: no dump: fault 32 InputTooLong";
-    assert_refused(&rt, alloc, listed(alloc, &files).err(), wanted)?;
-    assert_refused(&rt, alloc, merged(alloc, &files).err(), wanted)?;
-    assert_refused(
+    assert_all_refused(
         &rt,
         alloc,
-        related(alloc, &files[0], &files[1]).err(),
-        wanted,
+        &files,
+        "swimtab: no dump: fault 32 InputTooLong",
     )
 }
 
@@ -221,58 +286,30 @@ fn a_join_of_too_many_records_is_listed_and_not_dumped(rt: HostRuntime) -> Resul
         suspects(&rt, alloc, 0, most)?,
         suspects(&rt, alloc, most, 1)?,
     ];
-    let report = merged(alloc, &files).err().expect(&rt, "a refusal");
-    let (text, status) = said(&rt, alloc, &report)?;
-    assert_eq!(rt; text.as_str(), "swimtab: output: fault 23 TooManyRecords");
-    assert_eq!(rt; status, 3);
-    let text = listed(alloc, &files)?;
+    let [_, refused, _] = refusals(alloc, &files);
+    assert_refused(
+        &rt,
+        alloc,
+        refused,
+        "swimtab: output: fault 23 TooManyRecords",
+    )?;
+    let text = listing(&rt, alloc, &files)?;
     assert!(rt; !text.is_empty());
     Ok(())
 }
 
 #[test]
 fn want_of_memory_for_a_listing_of_dumps_is_answered_as_such(rt: HostRuntime) -> Result<(), Fail> {
-    let alloc = rt.alloc();
-    let files = [hex::decode(alloc, P)?, hex::decode(alloc, Q)?];
     let wanted = "a alive 0 0/7f000001/7946//\nb suspect 1 -\n";
-    let text = match listed(alloc, &files) {
-        Ok(text) => text,
-        Err(report) => {
-            assert_eq!(rt; report.what, What::Memory);
-            listed(alloc, &files)?
-        }
-    };
-    assert_eq!(rt; text.as_slice(), wanted.as_bytes());
-    Ok(())
+    assert_listed(&rt, rt.alloc(), &[P, Q], wanted)
 }
 
 #[test]
 fn want_of_memory_for_a_merge_is_answered_as_such(rt: HostRuntime) -> Result<(), Fail> {
-    let alloc = rt.alloc();
-    let files = [hex::decode(alloc, P)?, hex::decode(alloc, Q)?];
-    let wanted = hex::decode(alloc, R)?;
-    let dump = match merged(alloc, &files) {
-        Ok(dump) => dump,
-        Err(report) => {
-            assert_eq!(rt; report.what, What::Memory);
-            merged(alloc, &files)?
-        }
-    };
-    assert_eq!(rt; dump.as_slice(), wanted.as_slice());
-    Ok(())
+    assert_merged(&rt, rt.alloc(), &[P, Q], R)
 }
 
 #[test]
 fn want_of_memory_for_a_relation_is_answered_as_such(rt: HostRuntime) -> Result<(), Fail> {
-    let alloc = rt.alloc();
-    let files = [hex::decode(alloc, P)?, hex::decode(alloc, Q)?];
-    let relation = match related(alloc, &files[0], &files[1]) {
-        Ok(relation) => relation,
-        Err(report) => {
-            assert_eq!(rt; report.what, What::Memory);
-            related(alloc, &files[0], &files[1])?
-        }
-    };
-    assert_eq!(rt; relation, Relation::Apart);
-    Ok(())
+    assert_related(&rt, rt.alloc(), P, Q, Relation::Apart)
 }

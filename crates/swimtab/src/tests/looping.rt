@@ -1,10 +1,11 @@
 //! Tables that are exchanged over a connection of this process to itself.
 
 use crate::looped::{local_listener, loop_table, looped, looped_within};
-use crate::tests::dumps::{P, Q, suspect};
+use crate::tests::dumps::{P, Q, dump, suspect};
+use crate::tests::{assert_bytes, assert_memory, assert_report};
 use std::alloc::Global;
 use std::io::Write;
-use std::net::{IpAddr, Ipv4Addr, TcpStream};
+use std::net::{IpAddr, Ipv4Addr, TcpListener, TcpStream};
 use std::process::Abort;
 use std::test::Fail;
 use std::time::Duration;
@@ -38,6 +39,31 @@ fn numbered(rt: &impl Abort, alloc: Global, from: u32, count: u32) -> Result<Vec
     Ok(encode(alloc, &table, false)?)
 }
 
+/// Reads a table for a loop, and lets it go.
+fn read(alloc: Global, dump: &[u8]) -> Result<(), Report> {
+    loop_table(alloc, dump, 0)?;
+    Ok(())
+}
+
+/// The report of a dump that is refused for a loop.
+fn refusal(rt: &impl Abort, alloc: Global, dump: &[u8], file: usize) -> Report {
+    loop_table(alloc, dump, file).err().expect(rt, "a refusal")
+}
+
+/// That the report is the one that is wanted, or else of memory.
+fn assert_reported(
+    rt: &impl Abort,
+    found: Report,
+    wanted: Report,
+    about: &str,
+) -> Result<(), Fail> {
+    if found.what == What::Memory {
+        return Err(Fail::from(found));
+    }
+    assert_report(rt, found, wanted, about);
+    Ok(())
+}
+
 /// That the dump is refused for a loop by the fault of this number, whichever file it is.
 fn assert_refused(
     rt: &impl Abort,
@@ -46,98 +72,104 @@ fn assert_refused(
     number: u32,
     about: &str,
 ) -> Result<(), Fail> {
+    let what = What::Refused {
+        number,
+        found: None,
+    };
     for file in [0, 1, 7] {
-        let report = loop_table(alloc, dump, file).err().expect(rt, "a refusal");
-        if report.what == What::Memory {
-            return Err(Fail::from(report));
-        }
-        let wanted = Report {
-            place: Place::File(file),
-            what: What::Refused {
-                number,
-                found: None,
-            },
-        };
-        assert_eq!(rt; report, wanted, "{about}");
+        let found = refusal(rt, alloc, dump, file);
+        assert_reported(rt, found, what.at(Place::File(file)), about)?;
     }
     Ok(())
+}
+
+/// The listing in which the loop of two dumps ends, and whether both tables end equal.
+fn ended(rt: &HostRuntime, first: &[u8], second: &[u8]) -> Result<(Vec<u8>, bool), Report> {
+    let first = loop_table(rt.alloc(), first, 0)?;
+    let second = loop_table(rt.alloc(), second, 1)?;
+    looped(rt, local_listener(rt)?, first, second)
+}
+
+/// Why the loop of two tables over the listener stops, where it stops. It waits as long as it does,
+/// or no longer than this.
+fn stopped(
+    rt: &HostRuntime,
+    listener: TcpListener,
+    patience: Option<Duration>,
+) -> Result<Option<Report>, Fail> {
+    let first = loop_table(rt.alloc(), &dump(rt.alloc(), P)?, 0)?;
+    let second = loop_table(rt.alloc(), &dump(rt.alloc(), Q)?, 1)?;
+    Ok(match patience {
+        Some(patience) => looped_within(rt, listener, first, second, patience).err(),
+        None => looped(rt, listener, first, second).err(),
+    })
 }
 
 #[test]
 fn two_tables_end_equal(rt: HostRuntime) -> Result<(), Fail> {
-    let alloc = rt.alloc();
-    let first = loop_table(alloc, &hex::decode(alloc, P)?, 0)?;
-    let second = loop_table(alloc, &hex::decode(alloc, Q)?, 1)?;
-    let (text, equal) = looped(&rt, local_listener(&rt)?, first, second)?;
-    assert_eq!(rt;
-        text.as_slice(),
-        "a alive 0 0/7f000001/7946//\nb suspect 1 -\n".as_bytes()
-    );
+    let first = dump(rt.alloc(), P)?;
+    let second = dump(rt.alloc(), Q)?;
+    let (text, equal) = ended(&rt, &first, &second)?;
+    let wanted = b"a alive 0 0/7f000001/7946//\nb suspect 1 -\n";
+    assert_bytes(&rt, &text, wanted, "the first table");
     assert!(rt; equal);
     Ok(())
 }
 
+/// Why a loop stops where a connection came before that of the loop, and was closed.
+fn stopped_by_a_closed_one(rt: &HostRuntime) -> Result<Option<Report>, Fail> {
+    let listener = local_listener(rt)?;
+    let stranger = TcpStream::connect(rt, listener.local_addr()?)?;
+    drop(stranger);
+    stopped(rt, listener, None)
+}
+
 #[test]
 fn the_second_table_answers_who_connected_before(rt: HostRuntime) -> Result<(), Fail> {
-    let alloc = rt.alloc();
-    let first = loop_table(alloc, &hex::decode(alloc, P)?, 0)?;
-    let second = loop_table(alloc, &hex::decode(alloc, Q)?, 1)?;
-    let listener = local_listener(&rt)?;
-    let stranger = TcpStream::connect(&rt, listener.local_addr()?)?;
-    drop(stranger);
-    let report = looped(&rt, listener, first, second)
-        .err()
-        .expect(&rt, "a refusal");
-    if report.what == What::Memory {
-        return Err(Fail::from(report));
-    }
+    let report = stopped_by_a_closed_one(&rt)?.expect(&rt, "a refusal");
     let ended = What::Refused {
         number: 1,
         found: None,
     };
-    assert_eq!(rt; report, ended.at(Place::Loop));
-    Ok(())
+    assert_reported(&rt, report, ended.at(Place::Loop), "the stranger ended")
 }
 
 /// A connection to the listener that comes before that of the loop, and writes these bytes, with the
 /// report of the loop.
 fn stranger(rt: &HostRuntime, bytes: &[u8]) -> Result<(Option<Report>, TcpStream), Fail> {
-    let alloc = rt.alloc();
-    let first = loop_table(alloc, &hex::decode(alloc, P)?, 0)?;
-    let second = loop_table(alloc, &hex::decode(alloc, Q)?, 1)?;
     let listener = local_listener(rt)?;
     let mut stranger = TcpStream::connect(rt, listener.local_addr()?)?;
     stranger.write_all(bytes)?;
-    let patience = Duration::from_millis(100);
-    let report = looped_within(rt, listener, first, second, patience).err();
+    let report = stopped(rt, listener, Some(Duration::from_millis(100)))?;
     Ok((report, stranger))
+}
+
+/// That the loop stopped by its connection.
+fn assert_device(rt: &impl Abort, report: Option<Report>) -> Result<(), Fail> {
+    let report = report.expect(rt, "the stranger takes part");
+    assert_reported(rt, report, What::Device.at(Place::Loop), "the connection")
 }
 
 #[test]
 fn a_connection_that_keeps_silent_is_given_up(rt: HostRuntime) -> Result<(), Fail> {
-    let (report, stranger) = stranger(&rt, b"")?;
-    drop(stranger);
-    let report = report.expect(&rt, "the stranger takes part");
-    if report.what == What::Memory {
-        return Err(Fail::from(report));
-    }
-    assert_eq!(rt; report, What::Device.at(Place::Loop));
-    Ok(())
+    let (report, _) = stranger(&rt, b"")?;
+    assert_device(&rt, report)
+}
+
+/// The listing of the table that comes over a connection.
+fn received(alloc: Global, connection: &TcpStream) -> Result<Vec<u8>, Fail> {
+    connection.set_read_timeout(Some(Duration::from_secs(10)))?;
+    let (table, _) = read_stream(alloc, &mut FromRead::new(connection))?;
+    Ok(list(alloc, &table)?)
 }
 
 #[test]
 fn the_first_table_offers_and_the_second_answers(rt: HostRuntime) -> Result<(), Fail> {
     let no_records = b"\x06\x83\xa4Join\xc2\xa5Nodes\0\xacUserStateLen\0";
     let (report, stranger) = stranger(&rt, no_records)?;
-    let report = report.expect(&rt, "the stranger takes part");
-    if report.what == What::Memory {
-        return Err(Fail::from(report));
-    }
-    assert_eq!(rt; report, What::Device.at(Place::Loop));
-    stranger.set_read_timeout(Some(Duration::from_secs(10)))?;
-    let (table, _) = read_stream(rt.alloc(), &mut FromRead::new(&stranger))?;
-    let text = list(rt.alloc(), &table)?;
-    assert_eq!(rt; text.as_slice(), b"b suspect 1 -\n".as_slice());
+    assert_device(&rt, report)?;
+    let text = received(rt.alloc(), &stranger)?;
+    assert_bytes(&rt, &text, b"b suspect 1 -\n", "the answer");
     Ok(())
 }
 
@@ -151,76 +183,95 @@ fn the_listener_is_of_this_machine_alone(rt: HostRuntime) -> Result<(), Fail> {
     Ok(())
 }
 
-#[test]
-fn the_greatest_tables_of_a_loop_do_not_wait_for_each_other(rt: HostRuntime) -> Result<(), Fail> {
-    let alloc = rt.alloc();
-    let first = loop_table(alloc, &numbered(&rt, alloc, 0, 308)?, 0)?;
-    let second = loop_table(alloc, &numbered(&rt, alloc, 308, 308)?, 1)?;
-    let (text, equal) = looped(&rt, local_listener(&rt)?, first, second)?;
+/// The listing of so many suspected members, whose names are their numbers in three digits.
+fn numbered_lines(alloc: Global, count: u32) -> Result<String, Fail> {
     let mut lines = String::new(alloc);
-    for i in 0..616 {
+    for i in 0..count {
         lines.push_str(format!(in alloc; "{i:03} suspect 0 -\n")?.as_str())?;
     }
-    assert_eq!(rt; text.as_slice(), lines.as_bytes());
+    Ok(lines)
+}
+
+#[test]
+fn the_greatest_tables_of_a_loop_do_not_wait_for_each_other(rt: HostRuntime) -> Result<(), Fail> {
+    let first = numbered(&rt, rt.alloc(), 0, 308)?;
+    let second = numbered(&rt, rt.alloc(), 308, 308)?;
+    let (text, equal) = ended(&rt, &first, &second)?;
+    let lines = numbered_lines(rt.alloc(), 616)?;
+    assert_bytes(&rt, &text, lines.as_bytes(), "616 members");
     assert!(rt; equal);
     Ok(())
 }
 
+/// That the dump of so many members has this length, and fits into a loop or is too large for one.
+fn assert_size(
+    rt: &impl Abort,
+    alloc: Global,
+    count: u32,
+    length: usize,
+    fits: bool,
+) -> Result<(), Fail> {
+    let dump = numbered(rt, alloc, 0, count)?;
+    assert_eq!(rt; dump.len(), length, "{count} members");
+    if fits {
+        read(alloc, &dump)?;
+        return Ok(());
+    }
+    assert_refused(rt, alloc, &dump, 28, "too many members")
+}
+
 #[test]
 fn a_dump_of_more_than_16384_bytes_is_too_large(rt: HostRuntime) -> Result<(), Fail> {
-    let alloc = rt.alloc();
     for (count, length, fits) in [
         (308, 16_355, true),
         (309, 16_408, false),
         (400, 21_231, false),
     ] {
-        let dump = numbered(&rt, alloc, 0, count)?;
-        assert_eq!(rt; dump.len(), length, "{count} members");
-        if fits {
-            loop_table(alloc, &dump, 0)?;
-        } else {
-            assert_refused(&rt, alloc, &dump, 28, "too many members")?;
-        }
+        assert_size(&rt, rt.alloc(), count, length, fits)?;
     }
     Ok(())
 }
 
 #[test]
 fn a_long_file_of_a_small_table_is_not_too_large(rt: HostRuntime) -> Result<(), Fail> {
-    let alloc = rt.alloc();
-    let mut dump = hex::decode(alloc, "0682a54e6f64657300ac5573657253746174654c656ecd4000")?;
-    dump.extend_from_slice(&[0; 16_384])?;
-    loop_table(alloc, &dump, 0)?;
-    Ok(())
+    let head = "0682a54e6f64657300ac5573657253746174654c656ecd4000";
+    let mut long = dump(rt.alloc(), head)?;
+    long.extend_from_slice(&[0; 16_384])?;
+    Ok(read(rt.alloc(), &long)?)
+}
+
+/// That the file is refused for a loop by the fault of this number.
+fn assert_no_dump(
+    rt: &impl Abort,
+    alloc: Global,
+    digits: &str,
+    number: u32,
+    about: &str,
+) -> Result<(), Fail> {
+    assert_refused(rt, alloc, &dump(alloc, digits)?, number, about)
 }
 
 #[test]
 fn a_file_that_is_no_dump_is_named_in_a_loop(rt: HostRuntime) -> Result<(), Fail> {
-    let alloc = rt.alloc();
     for (about, file, number) in REFUSED {
-        assert_refused(&rt, alloc, &hex::decode(alloc, file)?, number, about)?;
+        assert_no_dump(&rt, rt.alloc(), file, number, about)?;
     }
     Ok(())
 }
 
 #[test]
 fn want_of_memory_for_a_loop_is_answered_as_such(rt: HostRuntime) -> Result<(), Fail> {
-    let alloc = rt.alloc();
-    let dump = hex::decode(alloc, P)?;
-    let table = match loop_table(alloc, &dump, 0) {
-        Ok(table) => table,
-        Err(report) => {
-            assert_eq!(rt; report, What::Memory.at(Place::File(0)));
-            loop_table(alloc, &dump, 0)?
-        }
-    };
-    let other = loop_table(alloc, &dump, 1)?;
-    match looped(&rt, local_listener(&rt)?, table, other) {
+    let dump = dump(rt.alloc(), P)?;
+    if let Err(report) = read(rt.alloc(), &dump) {
+        assert_report(&rt, report, What::Memory.at(Place::File(0)), "a table");
+        read(rt.alloc(), &dump)?;
+    }
+    match ended(&rt, &dump, &dump) {
         Ok((text, equal)) => {
-            assert_eq!(rt; text.as_slice(), "a alive 0 0/7f000001/7946//\n".as_bytes());
+            assert_bytes(&rt, &text, b"a alive 0 0/7f000001/7946//\n", "the table");
             assert!(rt; equal);
         }
-        Err(report) => assert_eq!(rt; report.what, What::Memory),
+        Err(report) => assert_memory(&rt, report),
     }
     Ok(())
 }

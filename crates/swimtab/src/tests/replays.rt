@@ -1,10 +1,11 @@
 //! What replayed scripts show, and why they are refused.
 
 use crate::replay::script;
+use crate::tests::{assert_bytes, assert_said};
 use std::alloc::Global;
 use std::process::Abort;
 use std::test::Fail;
-use swim_program::{What, report_text, status};
+use swim_program::{Report, What};
 
 /// Scripts, and what their nodes list at the end.
 const SHOWN: [(&str, &str); 7] = [
@@ -67,35 +68,40 @@ const REFUSED: [(&str, &str); 9] = [
     ("hear 0 04", "swimtab: line 1: fault 1 Ended"),
 ];
 
-/// What a script shows, or the text with which it is refused.
-fn outcome(rt: &impl Abort, alloc: Global, input: &str) -> Result<String, Fail> {
-    let mut replayed = script(alloc, input.as_bytes());
-    if matches!(&replayed, Err(report) if report.what == What::Memory) {
-        replayed = script(alloc, input.as_bytes());
+/// What a script shows, or why it is refused; where it is refused memory, what its repeat shows.
+fn replayed(alloc: Global, input: &str) -> Result<Vec<u8>, Report> {
+    match script(alloc, input.as_bytes()) {
+        Err(report) if report.what == What::Memory => script(alloc, input.as_bytes()),
+        answer => answer,
     }
-    match replayed {
-        Ok(text) => Ok(String::from_utf8(text).expect(rt, "a text")),
-        Err(report) => {
-            assert_eq!(rt; status(&report), 3);
-            Ok(report_text(alloc, &report, &[])?)
-        }
-    }
+}
+
+fn assert_shown(rt: &impl Abort, alloc: Global, input: &str, shown: &str) -> Result<(), Fail> {
+    assert_bytes(rt, &replayed(alloc, input)?, shown.as_bytes(), input);
+    Ok(())
+}
+
+/// Why a script is refused.
+fn refusal(rt: &impl Abort, alloc: Global, input: &str) -> Report {
+    replayed(alloc, input).err().expect(rt, "a refusal")
+}
+
+fn assert_refused(rt: &impl Abort, alloc: Global, input: &str, wanted: &str) -> Result<(), Fail> {
+    assert_said(rt, alloc, refusal(rt, alloc, input), &[], wanted)
 }
 
 #[test]
 fn a_script_shows_what_its_nodes_know(rt: HostRuntime) -> Result<(), Fail> {
     for (input, shown) in SHOWN {
-        let text = outcome(&rt, rt.alloc(), input)?;
-        assert_eq!(rt; text.as_str(), shown, "{input}");
+        assert_shown(&rt, rt.alloc(), input, shown)?;
     }
     Ok(())
 }
 
 #[test]
 fn a_script_is_refused_by_a_line(rt: HostRuntime) -> Result<(), Fail> {
-    for (input, refusal) in REFUSED {
-        let text = outcome(&rt, rt.alloc(), input)?;
-        assert_eq!(rt; text.as_str(), refusal, "{input}");
+    for (input, wanted) in REFUSED {
+        assert_refused(&rt, rt.alloc(), input, wanted)?;
     }
     Ok(())
 }
