@@ -12,8 +12,11 @@ use Rattle.swim_table.specs.Join.{Join}
 use Rattle.swim_table.specs.Table.{Entries, Reduced, TableOf, IsLegalTable}
 use Rattle.swim_table.proofs.Showing.{TableOf-sent}
 use Rattle.swim_table.proofs.Tables.{TableOf-table_of, TableOf-Reduced, TableOf-Join, Join-comm}
-use Rattle.swim_sync.specs.Exchanging.{TakesStream, HasTooMany, IsAnswerRefused}
+use Rattle.swim_sync.specs.Exchanging.{TakesStream, HasTooMany, IsPrepareRefused, IsAnswerRefused}
 use Rattle.swim_sync.specs.Fault.{fault_of_push}
+use Rattle.swim_sync.specs.declared.fault.SyncFault.{SyncFault}
+use Rattle.swim_sync.specs.declared.fault.SyncFault.TheVariants as sync
+use Rattle.std.proofs.KnownBytes.{Keeps-refl}
 
 -- a stream was read, and its table joined in
 pub joined_in : (old new : Source) (before theirs after : Entries) (join : Bool)
@@ -60,3 +63,10 @@ pub push_refused : (old new : Source) (out_old out_new : Sink) (table theirs : E
     → IsAnswerRefused old new out_old out_new table (fault_of_push e)
 push_refused old new out_old out_new table theirs join bytes is read push.Fault failed front kept = (read.0, join, read.2, record { failed = failed refl; front = subst (AppendsFront out_old.written out_new.written) is (front refl) })
 push_refused old new out_old out_new table theirs join bytes is read push.Memory failed front kept = kept refl
+
+-- what refuses the preparing refuses the answer, and nothing was pushed
+pub prepared : (old new : Source) (out : Sink) (table : Entries) (fault : SyncFault) → IsPrepareRefused old new table fault → IsAnswerRefused old new out out table fault
+prepared old new out table (sync.Wire error) lacks = (lacks, Keeps-refl out.written)
+prepared old new out table sync.TooManyRecords many = (many.0, Keeps-refl out.written)
+prepared old new out table sync.Push never = absurd never
+prepared old new out table sync.Memory any = Keeps-refl out.written

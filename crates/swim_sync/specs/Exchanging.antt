@@ -22,6 +22,10 @@ pub record TakesStream (old new : Source) (before after : Entries) (join : Bool)
   pub reduced : TableOf after (Reduced before ++ claims)
   pub all : (others : List Claim) → TableOf before others → TableOf after (others ++ claims)
 
+-- One stream with this join flag is gone from the front, and the offered table is that of its claims.
+abbrev pub ReadsOffer : Source → Source → Entries → Bool → Type 0
+ReadsOffer old new offered join = (claims : List Claim) × TableOf offered claims × Takes old new (λ b. StreamText b claims join)
+
 -- more records than a dump has
 abbrev pub HasTooMany : Entries → Type 0
 HasTooMany table = 131072 < length (Reduced table)
@@ -44,6 +48,14 @@ IsOfferRefused old new table join (Wire error) = ⊥
 IsOfferRefused old new table join TooManyRecords = HasTooMany table × Keeps old.written new.written
 IsOfferRefused old new table join Push = PushesFront old new table join
 IsOfferRefused old new table join Memory = Keeps old.written new.written
+
+-- why an answer is not prepared: for too many records only once a stream was read
+abbrev pub IsPrepareRefused : Source → Source → Entries → SyncFault → Type 0
+IsPrepareRefused old new table (Wire error) = LacksStream old new error
+IsPrepareRefused old new table TooManyRecords =
+    HasTooMany table × ((claims : List Claim) × (join : Bool) × Takes old new (λ b. StreamText b claims join))
+IsPrepareRefused old new table Push = ⊥
+IsPrepareRefused old new table Memory = Unit {0}
 
 -- why a stream is not answered
 abbrev pub IsAnswerRefused : Source → Source → Sink → Sink → Entries → SyncFault → Type 0

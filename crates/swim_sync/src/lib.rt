@@ -15,5 +15,5 @@ mod tests;
 pub use cluster::Cluster;
 pub use event::{Claims, Event};
 pub use fault::SyncFault;
-pub use push_pull::{answer, exchange, finish, offer};
+pub use push_pull::{PreparedAnswer, answer, exchange, finish, offer, prepare_answer};
 pub use stop::{Stop, Why};

@@ -11,7 +11,7 @@ ghost use Rattle.swim_pack.specs.Ends.{Skips};
 ghost use Rattle.swim_table.specs.Dump.{dump_bytes};
 ghost use Rattle.swim_table.specs.Join.{Join};
 ghost use Rattle.swim_table.specs.Table.{TableOf};
-ghost use Rattle.swim_sync.specs.Exchanging.{HasTooMany, TakesStream, IsOfferRefused, IsAnswerRefused, IsFinishRefused, IsExchangeRefused};
+ghost use Rattle.swim_sync.specs.Exchanging.{HasTooMany, TakesStream, ReadsOffer, IsOfferRefused, IsPrepareRefused, IsAnswerRefused, IsFinishRefused, IsExchangeRefused};
 
 use crate::fault::SyncFault;
 use std::alloc::Global;
@@ -74,12 +74,67 @@ pub fn answer<I: Inlet, O: Outlet>(
     ensures rest { OnErr result (Skips (I.seen inlet.old).coming (I.seen inlet.new).coming) }
     ensures refused { IfErr result (IsAnswerRefused (I.seen inlet.old) (I.seen inlet.new) (O.seen outlet.old) (O.seen outlet.new) table.old) }
 {
-    let (offered, join) = read_stream(alloc, inlet)?;
-    let reply = encode(alloc, table, join)?;
-    let room = room_for_both(alloc, table, &offered)?;
+    let PreparedAnswer {
+        join,
+        reply,
+        offered,
+        room,
+    } = prepare_answer(alloc, inlet, table)?;
     outlet.push(&reply)?;
     table.join_in(room, offered);
     Ok(join)
+}
+
+/// The answer to an offer that was read, with all the memory that it takes: what is left to do is to
+/// send the reply and to join the offered table in, and neither asks for more (own).
+#[derive(Drop, Debug)]
+pub struct PreparedAnswer {
+    /// The join flag of the offer, and of the reply.
+    pub join: bool,
+    /// The canonical dump of the own table.
+    pub reply: Vec<u8>,
+    /// The table of the offer's claims.
+    pub offered: Table,
+    /// Room for the entries of both tables.
+    pub room: Room,
+}
+
+/// Reads an offer, one stream, and prepares the answer of the member with this table: the first half
+/// of [`answer`], for one that has to look at the reply before it sends it, as at its length. Bytes
+/// after the stream stay in the inlet.
+///
+/// # Errors
+///
+/// What is left in the inlet are bytes from the end of those before.
+///
+/// - `Wire` where no stream stands at the front of the inlet, or the inlet failed.
+/// - `TooManyRecords` where the own table keeps more than 131,072 records. With it no stream is ever
+///   answered.
+/// - `Memory` where memory is refused.
+pub fn prepare_answer<I: Inlet>(
+    alloc: Global,
+    inlet: &mut I,
+    table: &Table,
+) -> Result<PreparedAnswer, SyncFault>
+    // The offered table has the claims of the stream, and the reply is the dump of the own one.
+    ensures reads { IfOk result (λ made. ReadsOffer (I.seen inlet.old) (I.seen inlet.new) made.offered made.join) }
+    ensures replies { IfOk result (λ made. made.reply.items ≡ dump_bytes table.now made.join) }
+    ensures room { IfOk result (λ made. length table.now + length made.offered ≤ made.room) }
+    ensures too_many { HasTooMany table.now → IsErr result }
+
+    // What a refusal leaves, and why it came.
+    ensures rest { Skips (I.seen inlet.old).coming (I.seen inlet.new).coming }
+    ensures refused { IfErr result (IsPrepareRefused (I.seen inlet.old) (I.seen inlet.new) table.now) }
+{
+    let (offered, join) = read_stream(alloc, inlet)?;
+    let reply = encode(alloc, table, join)?;
+    let room = room_for_both(alloc, table, &offered)?;
+    Ok(PreparedAnswer {
+        join,
+        reply,
+        offered,
+        room,
+    })
 }
 
 /// Finishes an exchange: reads the reply, one stream, and takes its claims in (memberlist's `net.go`).

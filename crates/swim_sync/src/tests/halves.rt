@@ -5,10 +5,10 @@ use super::{
     alive_table, answered, assert_exchanges, assert_finishes, assert_lists, suspect_table,
     take_suspects,
 };
-use crate::{SyncFault, answer, exchange, offer};
+use crate::{PreparedAnswer, SyncFault, answer, exchange, offer, prepare_answer};
 use std::alloc::{AllocError, Global};
 use std::process::Abort;
-use swim_pack::{StopInlet, StopOutlet, VecOutlet};
+use swim_pack::{SliceInlet, StopInlet, StopOutlet, VecOutlet};
 use swim_table::Table;
 use swim_wire::WireFault;
 
@@ -36,6 +36,34 @@ fn an_offer_is_answered_and_finished(rt: HostRuntime) -> Result<(), AllocError> 
     assert_lists(&rt, alloc, &second, JOINED_LISTING)?;
     assert_finishes(&rt, alloc, reply.bytes(), &mut first, Ok(true))?;
     assert_lists(&rt, alloc, &first, JOINED_LISTING)
+}
+
+#[test]
+fn a_prepared_answer_has_the_reply_and_the_room(rt: HostRuntime) -> Result<(), AllocError> {
+    let alloc = rt.alloc();
+    let mut table = suspect_table(&rt, alloc)?;
+    let mut inlet = SliceInlet::new(ALIVE_OFFER);
+    match prepare_answer(alloc, &mut inlet, &table) {
+        Ok(
+            PreparedAnswer {
+                join,
+                reply,
+                offered,
+                room,
+            },
+        ) => {
+            assert!(rt; join);
+            assert!(rt; inlet.rest().is_empty());
+            assert_eq!(rt; reply.as_slice(), SUSPECT_OFFER);
+            assert_lists(&rt, alloc, &offered, ALIVE_LISTING)?;
+            table.join_in(room, offered);
+            assert_lists(&rt, alloc, &table, JOINED_LISTING)
+        }
+        Err(fault) => {
+            assert_eq!(rt; fault, SyncFault::Memory);
+            Err(AllocError)
+        }
+    }
 }
 
 #[test]
