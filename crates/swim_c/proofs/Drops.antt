@@ -1,0 +1,66 @@
+-- How a node and the heap's handle are let go, as the functions that take a box ask to know. Assumes `Logic`.
+use Rattle.std.proofs.Common.{[], ◌∷◌, refl}
+use seplogic.Ra.Ura.{Ura}
+use mir.Syntax.{Dict, impl, method, tnil, tcons, dnil, no_args}
+use prog.Model.{Model}
+use prog.Wired.{Wired}
+use contract.BorrowLft.{◌⊑◌}
+use contract.Running.{Running, tables_of}
+use types.Logic.{Logic}
+use mir.Raw.{raw}
+use denote.Exit.{no}
+use denote.RattleType.{RattleType}
+use denote.Param.{arg, layout}
+use denote.Param.Laws.{Laws, arg_laws}
+use denote.Param.Glue.{Met}
+use denote.Param.NoDrop.{glues}
+use denote.Triple.Clauses.{Ended, Lasts, lasts, at_exit}
+use denote.Triple.Walked.{Fit}
+use borrow.Fn.Glue.{glue_ps, glue_by}
+use borrow.Fn.Impl.{via_longer, method_Known}
+use borrow.Fn.Kinds.{ended_of, stays, r_unit}
+use borrow.Fn.Run.{Over}
+use Rattle.std.specs.contracts.alloc.Global as heap
+use Rattle.std.proofs.alloc.Global.TheLaws as heap_laws
+use Rattle.swim_table.specs.contracts.node.Node as node
+use Rattle.swim_table.proofs.node.Node.TheLaws as node_laws
+use Rattle.swim_c.proofs.Destruct++none.drop.Code as none
+use Rattle.swim_c.proofs.swim_table++node++Node+Destruct.drop.Kinds as kinds
+use Rattle.swim_c.proofs.swim_table++node++Node+Destruct.drop.Met.{met}
+use Rattle.swim_c.proofs.swim_table++node++Node+Destruct.drop.Reads as reads
+use Rattle.swim_c.proofs.swim_table++node++Node+Destruct.drop.Symbol as symbol
+
+-- a row as a call passes it
+abbrev pub node_row : RattleType
+node_row = arg (raw (layout node.the_row)) no node.the_row
+
+abbrev pub node_row_laws : Laws node_row
+node_row_laws = arg_laws (raw (layout node.the_row)) no node.the_row node_laws.the_row_laws refl
+
+abbrev pub heap_row : RattleType
+heap_row = arg (raw (layout heap.the_row)) no heap.the_row
+
+abbrev pub heap_row_laws : Laws heap_row
+heap_row_laws = arg_laws (raw (layout heap.the_row)) no heap.the_row heap_laws.the_row_laws refl
+
+abbrev pub node_drops : Dict
+node_drops = impl ("swim_c::swim_table++node++Node+Destruct::drop" ∷ []) tnil dnil
+
+abbrev pub heap_drops : Dict
+heap_drops = impl ("swim_c::Destruct++none::drop" ∷ []) (tcons (raw (layout heap.the_row)) tnil) dnil
+
+abbrev En : Ended
+En = ended_of 0 kinds.ps kinds.r
+
+pub node_goes : {M : Type 1} (𝓤 : Ura M) (𝓛 : Logic 𝓤) (𝓜 : Model 𝓤 𝓛.H) (𝓡 : Running 𝓤 𝓛.H 𝓜) → Wired 𝓡.env symbol.code → Met 𝓛 𝓜 𝓡 𝓡.env node_row node_drops
+unfolding tables_of
+node_goes {M} 𝓤 𝓛 𝓜 𝓡 wired =
+    let k = method node_drops 0 no_args in
+    glue_by node_row node_row_laws (record { M = M; 𝓤 = 𝓤; 𝓛 = 𝓛; 𝓜 = 𝓜; 𝓡 = 𝓡 }) node_drops 𝓡.env (λ κs a. Lasts En tt a) (λ κs a. lasts En tt a) (λ κs a x ws. Fit En (stays kinds.ps) tt a ws × reads.Learnt tt a x (at_exit En tt a ws)) (λ κs a. κs.0 ⊑ node_row.lives) 0 tt (λ κs a h. h)
+    (via_longer 𝓛 (Over 𝓛 𝓜 𝓡 𝓡.env) 1 (glue_ps node_row node_row_laws) r_unit (λ κs a. Lasts En tt a) (λ κs a. lasts En tt a) (λ κs a x ws. Fit En (stays kinds.ps) tt a ws × reads.Learnt tt a x (at_exit En tt a ws)) (λ κs a. κs.0 ⊑ node_row.lives) k 0 tt (λ κs. tt) (λ κs a. reads.Asked tt a) (λ κs a p. (tt, tt))
+    (λ κs bd within a vss qs. method_Known 0 kinds.ps kinds.r reads.requires reads.ensures reads.Asked reads.Learnt reads.known (record { M = M; 𝓤 = 𝓤; 𝓛 = 𝓛; 𝓜 = 𝓜; 𝓡 = 𝓡 }) symbol.name k
+    (symbol.as_method 𝓡.env wired k refl) (met 𝓤 𝓛 𝓜 𝓡 wired) ((tt, qs, tt, a, vss), tt)))
+
+pub heap_goes : {M : Type 1} (𝓤 : Ura M) (𝓛 : Logic 𝓤) (𝓜 : Model 𝓤 𝓛.H) (𝓡 : Running 𝓤 𝓛.H 𝓜) → Wired 𝓡.env none.code → Met 𝓛 𝓜 𝓡 𝓡.env heap_row heap_drops
+unfolding none.code
+heap_goes {M} 𝓤 𝓛 𝓜 𝓡 wired = glues "swim_c::Destruct++none::drop" 𝓡.env wired heap_row heap_row_laws M 𝓤 𝓛 𝓜 𝓡

@@ -1,0 +1,68 @@
+-- Halves of an exchange over bytes in memory.
+use Rattle.std.proofs.Common.{◌≡◌, ◌≢◌, ℕ, ◌-◌, List, ◌++◌, length, Bool, false, refl, sym, ◌∙◌, subst}
+use Rattle.swim_claim.specs.declared.claim.Claim.{Claim}
+use Rattle.swim_table.specs.Dump.{dump_bytes}
+use Rattle.swim_table.specs.Lending.{with_table}
+use Rattle.swim_table.specs.Node.{NodeValue, SameMember}
+use Rattle.swim_table.specs.Table.{Entries, TableOf, IsLegalTable}
+use Rattle.swim_sync.specs.declared.fault.SyncFault.{SyncFault}
+use Rattle.swim_sync.specs.Exchanging as exchanging
+use Rattle.swim_sync.specs.Fault.{sync_number}
+use Rattle.swim_c.specs.Buffers.{Copied}
+use Rattle.swim_c.specs.Exchanges.{BeginsStream, ReadsStream, Answers, FinishDone}
+use Rattle.swim_c.proofs.Faults.{memory, finish_refused}
+use Rattle.swim_c.proofs.WholeStreams.{begins, taken_in}
+
+-- an offer was read from the front of bytes in memory
+offer_read : (bytes inlet rest : List ℕ) (offered : Entries) (join : Bool) (used : ℕ) → inlet ≡ bytes → used ≡ length bytes - length rest
+    → exchanging.ReadsOffer (memory inlet) (memory rest) offered join
+    → (claims : List Claim) × TableOf offered claims × BeginsStream bytes claims join used
+offer_read bytes inlet rest offered join used is len read =
+    let whole : exchanging.ReadsOffer (memory bytes) (memory rest) offered join = subst (λ (b : List ℕ). exchanging.ReadsOffer (memory b) (memory rest) offered join) is read in
+    (whole.0, whole.1, subst (λ (u : ℕ). BeginsStream bytes whole.0 join u) (sym len) (begins bytes rest whole.0 join whole.2))
+
+-- an answer was given, and the stream joined in
+pub answered : (bytes inlet rest old new dump : List ℕ) (offered : Entries) (join : Bool) (status used len : ℕ) (before after : NodeValue)
+    → inlet ≡ bytes → used ≡ length bytes - length rest → exchanging.ReadsOffer (memory inlet) (memory rest) offered join → IsLegalTable before.table
+    → ((claims others : List Claim) → TableOf before.table claims → TableOf offered others → TableOf after.table (claims ++ others))
+    → SameMember before after → status ≡ 0 → dump ≡ dump_bytes before.table join → Copied dump old new status len
+    → Answers bytes old new status join used len before after
+answered bytes inlet rest old new dump offered join status used len before after is gone read legal all member done of copied =
+    let offer = offer_read bytes inlet rest offered join used is gone read in
+    Answers.answered done (taken_in bytes offered offer.0 join used before after offer.2 offer.1 legal all member)
+    (subst (λ (b : List ℕ). Copied b old new status len) of copied)
+
+-- bytes that do not fit are copied nowhere
+not_fit : (bytes dump old new : List ℕ) (join : Bool) (status used len : ℕ) (before : NodeValue) → ReadsStream bytes join used → status ≢ 0
+    → dump ≡ dump_bytes before.table join → Copied dump old new status len → Answers bytes old new status join used len before before
+not_fit bytes dump old new join status used len before reads other of (Copied.done is is_len fits put) = absurd (other is)
+not_fit bytes dump old new join status used len before reads other of (Copied.too_small is is_len short kept) =
+    Answers.too_small is reads (subst (λ (b : List ℕ). Copied b old new status len) of (Copied.too_small is is_len short kept)) refl
+
+-- the reply did not fit, and nothing has changed
+pub unanswered : (bytes inlet rest old new dump : List ℕ) (offered : Entries) (join : Bool) (status used len : ℕ) (before : NodeValue)
+    → inlet ≡ bytes → used ≡ length bytes - length rest → exchanging.ReadsOffer (memory inlet) (memory rest) offered join
+    → status ≢ 0 → dump ≡ dump_bytes before.table join → Copied dump old new status len → Answers bytes old new status join used len before before
+unanswered bytes inlet rest old new dump offered join status used len before is gone read other of copied =
+    let offer = offer_read bytes inlet rest offered join used is gone read in
+    not_fit bytes dump old new join status used len before (offer.0, offer.2) other of copied
+
+-- a reply was taken in by the node's table
+pub finished : (bytes inlet rest : List ℕ) (join : Bool) (used : ℕ) (before : NodeValue) (table after : Entries) → inlet ≡ bytes → used ≡ length bytes - length rest
+    → table ≡ before.table → exchanging.TakesStream (memory inlet) (memory rest) table after join → FinishDone bytes 0 join used 0 before (with_table before after)
+finished bytes inlet rest join used before table after same gone is takes =
+    let taken : exchanging.TakesStream (memory bytes) (memory rest) before.table after join = subst (λ (b : List ℕ). exchanging.TakesStream (memory b) (memory rest) before.table after join) same
+    (subst (λ (t : Entries). exchanging.TakesStream (memory inlet) (memory rest) t after join) is takes) in
+    FinishDone.finished refl refl (record {
+      claims = taken.claims;
+      begins = subst (λ (u : ℕ). BeginsStream bytes taken.claims join u) (sym gone) (begins bytes rest taken.claims join taken.taken);
+      taken = record { reduced = taken.reduced; all = taken.all };
+      member = record { name = refl; details = refl };
+    })
+
+-- a reply was refused, and the node's table is as it was
+pub unfinished : (bytes inlet rest : List ℕ) (before : NodeValue) (table after : Entries) (fault : SyncFault) → inlet ≡ bytes → table ≡ before.table → after ≡ table
+    → exchanging.IsFinishRefused (memory inlet) (memory rest) fault → FinishDone bytes (sync_number fault) false 0 0 before (with_table before after)
+unfinished bytes inlet rest before table after fault whole is same why =
+    subst (λ (t : Entries). FinishDone bytes (sync_number fault) false 0 0 before (with_table before t)) (sym (same ∙ is))
+    (FinishDone.refused fault (finish_refused bytes rest fault (subst (λ (b : List ℕ). exchanging.IsFinishRefused (memory b) (memory rest) fault) whole why)) refl (record { no_join = refl; no_used = refl; no_len = refl }) refl)

@@ -1,0 +1,86 @@
+-- The halves of an exchange over memory: streams that a node reads, takes in and answers.
+use Rattle.std.specs.Prelude.{◌≡◌, ◌≢◌, ◌⊎◌, ℕ, List, ◌++◌, length, Bool, false}
+use Rattle.swim_claim.specs.declared.claim.Claim.{Claim}
+use Rattle.swim_wire.specs.declared.fault.WireFault.{WireFault}
+use Rattle.swim_wire.specs.declared.fault.WireFault.TheVariants as wire
+use Rattle.swim_wire.specs.Streams.{StreamText}
+use Rattle.swim_table.specs.Dump.{dump_bytes}
+use Rattle.swim_table.specs.Node.{NodeValue, SameMember}
+use Rattle.swim_table.specs.Steps.{ExplainsStream}
+use Rattle.swim_table.specs.Table.{Entries}
+use Rattle.swim_sync.specs.declared.fault.SyncFault.{SyncFault}
+use Rattle.swim_sync.specs.declared.fault.SyncFault.TheVariants.{Wire, TooManyRecords, Push, Memory}
+use Rattle.swim_sync.specs.Exchanging.{HasTooMany}
+use Rattle.swim_sync.specs.Fault.{sync_number}
+use Rattle.swim_c.specs.Buffers.{Copied}
+use Rattle.swim_c.specs.Taking.{TakesClaims}
+
+-- the bytes begin with a stream of this length and flag, of these claims
+pub record BeginsStream (bytes : List ℕ) (claims : List Claim) (join : Bool) (used : ℕ) : Type 0 where
+  pub text : List ℕ
+  pub rest : List ℕ
+  pub front : bytes ≡ text ++ rest
+  pub used_is : used ≡ length text
+  pub stream : StreamText text claims join
+
+-- a stream of this length and flag stands at the front
+abbrev pub ReadsStream : List ℕ → Bool → ℕ → Type 0
+ReadsStream bytes join used = (claims : List Claim) × BeginsStream bytes claims join used
+
+-- a stream of this length and flag stands at the front, whose claims the node took in
+pub record TakesStream (bytes : List ℕ) (join : Bool) (used : ℕ) (before after : NodeValue) : Type 0 where
+  pub claims : List Claim
+  pub begins : BeginsStream bytes claims join used
+  pub taken : TakesClaims claims before.table after.table
+  pub member : SameMember before after
+
+-- No stream stands at the front, and the fault says why. Bytes in memory do not fail.
+pub record LacksStream (bytes : List ℕ) (fault : WireFault) : Type 0 where
+  pub no_memory : fault ≢ wire.Memory
+  pub no_end : fault ≢ wire.Fault
+  pub lacks : (text rest : List ℕ) (claims : List Claim) (join : Bool) → StreamText text claims join → bytes ≢ text ++ rest
+  pub explains : ExplainsStream fault bytes
+
+-- why a table has no dump: too many records (23), or no memory (10)
+abbrev pub IsOfferRefused : Entries → ℕ → Type 0
+IsOfferRefused table status = ((status ≡ 23) × HasTooMany table) ⊎ (status ≡ 10)
+
+-- why a reply is not taken in
+abbrev pub IsFinishRefused : List ℕ → SyncFault → Type 0
+IsFinishRefused stream (Wire fault) = LacksStream stream fault
+IsFinishRefused stream TooManyRecords = ⊥
+IsFinishRefused stream Push = ⊥
+IsFinishRefused stream Memory = Unit {0}
+
+-- why an offer is not answered: for too many records only where a stream stands there
+abbrev pub IsAnswerRefused : List ℕ → Entries → SyncFault → Type 0
+IsAnswerRefused stream table (Wire fault) = LacksStream stream fault
+IsAnswerRefused stream table TooManyRecords = HasTooMany table × ((join : Bool) × (used : ℕ) × ReadsStream stream join used)
+IsAnswerRefused stream table Push = ⊥
+IsAnswerRefused stream table Memory = Unit {0}
+
+-- nothing is told of a stream
+pub record IsUntold (join : Bool) (used len : ℕ) : Type 0 where
+  pub no_join : join ≡ false
+  pub no_used : used ≡ 0
+  pub no_len : len ≡ 0
+
+-- A stream was taken in (0), or the node is as it was: none stands there, or memory was refused, and the status is that of the fault.
+pub data FinishDone (stream : List ℕ) (status : ℕ) (join : Bool) (used len : ℕ) (before after : NodeValue) : Type 0 where
+  finished : status ≡ 0 → len ≡ 0 → TakesStream stream join used before after → FinishDone stream status join used len before after
+  refused : (fault : SyncFault) → IsFinishRefused stream fault → status ≡ sync_number fault → IsUntold join used len
+      → after ≡ before → FinishDone stream status join used len before after
+
+-- A stream was read, and the dump of before written and the stream taken in (0), or the dump does not fit and nothing has changed (66).
+pub data Answers (stream old new : List ℕ) (status : ℕ) (join : Bool) (used len : ℕ) (before after : NodeValue) : Type 0 where
+  answered : status ≡ 0 → TakesStream stream join used before after → Copied (dump_bytes before.table join) old new status len
+      → Answers stream old new status join used len before after
+  too_small : status ≡ 66 → ReadsStream stream join used → Copied (dump_bytes before.table join) old new status len → after ≡ before
+      → Answers stream old new status join used len before after
+
+-- An offer was answered, or the reply does not fit; or the node and the buffer are as they were: no stream stands there, and the status is
+-- that of the fault, or the node's table has too many records (23), or there is no memory (10).
+pub data AnswerDone (stream old new : List ℕ) (status : ℕ) (join : Bool) (used len : ℕ) (before after : NodeValue) : Type 0 where
+  answers : Answers stream old new status join used len before after → AnswerDone stream old new status join used len before after
+  refused : (fault : SyncFault) → IsAnswerRefused stream before.table fault → status ≡ sync_number fault → IsUntold join used len
+      → after ≡ before → new ≡ old → AnswerDone stream old new status join used len before after

@@ -1,0 +1,10 @@
+pub mod Buffers
+pub mod Exchanges
+pub mod Handle
+pub mod Members
+pub mod OnNode
+pub mod Opening
+pub mod Packing
+pub mod Relating
+pub mod Saying
+pub mod Taking

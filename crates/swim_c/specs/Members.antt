@@ -1,0 +1,48 @@
+-- What is copied of a member.
+use Rattle.std.specs.Prelude.{◌≡◌, ℕ, take, true, false, Option, Some, None}
+use Rattle.std.specs.Option.{option_map, option_and_then}
+use Rattle.swim_claim.specs.Claim.{name_of, inc_of, kind_of, details_of}
+use Rattle.swim_claim.specs.Details.{DetailsValue}
+use Rattle.swim_wire.specs.Pairs.{state_number}
+use Rattle.swim_table.specs.Standing.{Standing}
+use Rattle.swim_c.specs.declared.member.Member.{Member}
+
+-- what is said beside the home is as it was
+pub record KeepsName (old new : Member) : Type 0 where
+  pub state : new.state ≡ old.state
+  pub inc : new.inc ≡ old.inc
+  pub name_len : new.name_len ≡ old.name_len
+  pub name : new.name ≡ old.name
+
+-- what is copied of the details
+pub record IsDetails (details : DetailsValue) (m : Member) : Type 0 where
+  pub addr : take m.addr_len m.addr ≡ details.addr
+  pub port : m.port ≡ details.port
+  pub meta : take m.meta_len m.meta ≡ details.meta
+  pub vsn : take m.vsn_len m.vsn ≡ details.vsn
+
+-- what is copied of the newest Alive: where there is none all of it is 0
+pub record IsNoHome (m : Member) : Type 0 where
+  pub has_home : m.has_home ≡ false
+  pub home_inc : m.home_inc ≡ 0
+  pub port : m.port ≡ 0
+  pub addr_len : m.addr_len ≡ 0
+  pub meta_len : m.meta_len ≡ 0
+  pub vsn_len : m.vsn_len ≡ 0
+
+abbrev pub IsHome : Option ℕ → Option DetailsValue → Member → Type 0
+IsHome (Some inc) (Some details) m = (m.has_home ≡ true) × (m.home_inc ≡ inc) × IsDetails details m
+IsHome (Some inc) None m = IsNoHome m
+IsHome None details m = IsNoHome m
+
+-- the member's data are those of the entry
+pub record IsMember (entry : Standing) (m : Member) : Type 0 where
+  pub state : m.state ≡ state_number (kind_of entry.top)
+  pub inc : m.inc ≡ inc_of entry.top
+  pub name : take m.name_len m.name ≡ name_of entry.top
+  pub home : IsHome (option_map inc_of entry.home) (option_and_then details_of entry.home) m
+
+-- The entry was copied (0), or there is none (67) and the data are as they were.
+abbrev pub MemberDone : Option Standing → Member → Member → ℕ → Type 0
+MemberDone None old new status = (status ≡ 67) × (new ≡ old)
+MemberDone (Some entry) old new status = (status ≡ 0) × IsMember entry new

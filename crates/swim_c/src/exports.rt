@@ -1,0 +1,8 @@
+//! What C calls.
+
+mod life;
+mod packets;
+mod streams;
+mod table;
+#[cfg(test)]
+mod tests;

@@ -1,0 +1,72 @@
+//! The life of a node: opened, and closed.
+
+ghost use Rattle.std.specs.Prelude.{◌≡◌, None, MatchOption};
+ghost use Rattle.swim_c.specs.Opening.{OpenDone};
+
+use crate::handle::Handle;
+use crate::opening::{Parts, open};
+use crate::status::{DONE, NO_NODE, NODE_THERE};
+use std::alloc::Global;
+
+/// Gives a handle without a node that of a member: its name of 1 to 1,024 bytes, its address of 4 or
+/// 16 bytes, its port, its metadata of at most 512 bytes, and no versions or 6 bytes of them. Its
+/// table holds its Alive at the incarnation, 0 to 4,294,967,295 (own).
+///
+/// # Statuses
+///
+/// Where it is not 0 the handle is as it was.
+///
+/// - 65 where the handle has a node.
+/// - 11 or 12 for the name, else 13 for the address, else 14 for the metadata, else 15 for the
+///   versions: the first that is refused.
+/// - 10 where memory is refused.
+#[unsafe(no_mangle)]
+pub extern "C" fn swimtab_raw_open(
+    alloc: Global,
+    node: &mut Handle,
+    name: &[u8],
+    addr: &[u8],
+    port: u16,
+    meta: &[u8],
+    vsn: &[u8],
+    inc: u32,
+) -> u32
+    ensures { OpenDone name.now
+        (record { addr = addr.now; port = port; meta = meta.now; vsn = vsn.now })
+        inc node.old.node node.new.node result }
+{
+    if let Some(held) = node.take(alloc) {
+        node.put(held);
+        return NODE_THERE;
+    }
+    let parts = Parts {
+        name,
+        addr,
+        port,
+        meta,
+        vsn,
+    };
+    match open(alloc, parts, inc) {
+        Ok(made) => {
+            node.put(made);
+            DONE
+        }
+        Err(fault) => fault.number(),
+    }
+}
+
+/// Frees the node of a handle, which then has none.
+///
+/// # Statuses
+///
+/// 64 where the handle has no node.
+#[unsafe(no_mangle)]
+pub extern "C" fn swimtab_raw_close(alloc: Global, node: &mut Handle) -> u32
+    ensures none { node.new.node ≡ None }
+    ensures status { MatchOption node.old.node (result ≡ 64) (λ _. result ≡ 0) }
+{
+    match node.take(alloc) {
+        Some(_) => DONE,
+        None => NO_NODE,
+    }
+}

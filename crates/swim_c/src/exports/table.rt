@@ -1,0 +1,168 @@
+//! What a node knows.
+
+ghost use Rattle.std.specs.Prelude.{◌≡◌, ◌⊎◌, length, slice_get, Some, None, MatchOption};
+ghost use Rattle.swim_table.specs.Listing.{listing};
+ghost use Rattle.swim_table.specs.Node.{NodeValue};
+ghost use Rattle.swim_table.specs.Table.{get};
+ghost use Rattle.swim_c.specs.Buffers.{WrittenOr, IsNoMemory};
+ghost use Rattle.swim_c.specs.Members.{MemberDone};
+ghost use Rattle.swim_c.specs.OnNode.{OnSame};
+ghost use Rattle.swim_c.specs.Relating.{IsRelationNumber};
+
+use crate::copy::Written;
+use crate::handle::Handle;
+use crate::member::Member;
+use crate::status::{DONE, NO_NODE};
+use crate::telling::{list_out, member_at, member_named, relation_of};
+use std::alloc::Global;
+
+/// The number of members that the node knows of, itself among them, or 0 where the handle has no node.
+#[unsafe(no_mangle)]
+pub extern "C" fn swimtab_raw_count(alloc: Global, node: &mut Handle) -> usize
+    ensures same { node.new.node ≡ node.old.node }
+    ensures count { MatchOption node.old.node (result ≡ 0) (λ held. result ≡ length held.table) }
+{
+    match node.take(alloc) {
+        Some(held) => {
+            let count = held.table().len();
+            node.put(held);
+            count
+        }
+        None => 0,
+    }
+}
+
+/// Copies what the node knows of its i-th member, from 0 and in ascending byte order of the names.
+///
+/// # Statuses
+///
+/// Where it is not 0 what is to be written is as it was.
+///
+/// - 64 where the handle has no node.
+/// - 67 where the node knows of no more than i members.
+#[unsafe(no_mangle)]
+pub extern "C" fn swimtab_raw_member(
+    alloc: Global,
+    node: &mut Handle,
+    i: usize,
+    member: &mut Member,
+) -> u32
+    ensures { OnSame node.old.node node.new.node
+        ((result ≡ 64) × (member.new ≡ member.old))
+        (λ held. MemberDone (slice_get held.table i) member.old member.new result) }
+{
+    let Some(held) = node.take(alloc) else {
+        return NO_NODE;
+    };
+    let status = member_at(&held, i, member);
+    node.put(held);
+    status
+}
+
+/// Copies what the node knows of the member of this name.
+///
+/// # Statuses
+///
+/// Where it is not 0 what is to be written is as it was.
+///
+/// - 64 where the handle has no node.
+/// - 67 where the node knows of no such member.
+#[unsafe(no_mangle)]
+pub extern "C" fn swimtab_raw_find(
+    alloc: Global,
+    node: &mut Handle,
+    name: &[u8],
+    member: &mut Member,
+) -> u32
+    ensures { OnSame node.old.node node.new.node
+        ((result ≡ 64) × (member.new ≡ member.old))
+        (λ held. MemberDone (get held.table name.now) member.old member.new result) }
+{
+    let Some(held) = node.take(alloc) else {
+        return NO_NODE;
+    };
+    let status = member_named(&held, name, member);
+    node.put(held);
+    status
+}
+
+/// Writes the listing of the node's table to the buffer (docs/PROTOCOL.md).
+///
+/// # Statuses
+///
+/// Where it is not 0 the buffer is as it was.
+///
+/// - 64 where the handle has no node.
+/// - 66 where the buffer is too small. The length is then that of the listing.
+/// - 10 where memory is refused.
+#[unsafe(no_mangle)]
+pub extern "C" fn swimtab_raw_list(alloc: Global, node: &mut Handle, out: &mut [u8]) -> Written
+    ensures { OnSame node.old.node node.new.node
+        ((result ≡ record { status = 64; len = 0 }) × (out.new ≡ out.old))
+        (λ held. WrittenOr (listing held.table)
+        out.old out.new result.status result.len IsNoMemory) }
+{
+    let Some(held) = node.take(alloc) else {
+        return Written::refused(NO_NODE);
+    };
+    let written = list_out(alloc, &held, out);
+    node.put(held);
+    written
+}
+
+/// What came of a comparison.
+#[repr(C)]
+#[derive(Clone, Copy)]
+pub struct Related {
+    pub status: u32,
+    /// 0 equal, 1 behind, 2 ahead, 3 apart.
+    pub relation: u32,
+}
+
+/// How the first node's table relates to the second's. Both stay.
+///
+/// # Statuses
+///
+/// 64 where one of the handles has no node.
+#[unsafe(no_mangle)]
+pub extern "C" fn swimtab_raw_relate(
+    alloc: Global,
+    first: &mut Handle,
+    second: &mut Handle,
+) -> Related
+    ensures first { first.new.node ≡ first.old.node }
+    ensures second { second.new.node ≡ second.old.node }
+    ensures none { (first.old.node ≡ None) ⊎ (second.old.node ≡ None)
+        → result ≡ record { status = 64; relation = 0 } }
+    ensures relation { (left right : NodeValue)
+        → first.old.node ≡ Some left → second.old.node ≡ Some right
+        → (result.status ≡ 0) × IsRelationNumber left.table right.table result.relation }
+{
+    let Some(left) = first.take(alloc) else {
+        return Related::refused();
+    };
+    let related = match second.take(alloc) {
+        Some(right) => {
+            let relation = relation_of(&left, &right);
+            second.put(right);
+            Related {
+                status: DONE,
+                relation,
+            }
+        }
+        None => Related::refused(),
+    };
+    first.put(left);
+    related
+}
+
+impl Related {
+    fn refused() -> Related
+        ensures { result ≡ record { status = 64; relation = 0 } }
+    {
+        Related {
+            status: NO_NODE,
+            relation: 0,
+        }
+    }
+}

@@ -1,0 +1,85 @@
+//! A node from its parts.
+
+ghost use Rattle.std.specs.Prelude.{◌≡◌, ◌∷◌, [], IfOk, IfErr};
+ghost use Rattle.swim_claim.specs.declared.claim.Claim.TheVariants.{Alive};
+ghost use Rattle.swim_table.specs.Table.{TableOf};
+ghost use Rattle.swim_c.specs.Opening.{IsUnopened, open_number};
+ghost use Rattle.swim_c.specs.declared.opening.OpenFault.TheVariants as opening;
+
+use crate::status::MEMORY;
+use std::alloc::{AllocError, Global};
+use swim_claim::{ClaimFault, Details, Name};
+use swim_table::Node;
+
+/// What a member says of itself.
+#[derive(Clone, Copy)]
+pub struct Parts<'a> {
+    pub name: &'a [u8],
+    pub addr: &'a [u8],
+    pub port: u16,
+    pub meta: &'a [u8],
+    pub vsn: &'a [u8],
+}
+
+/// Why there is no node.
+#[derive(Drop)]
+pub enum OpenFault {
+    Claim(ClaimFault),
+    Memory,
+}
+
+impl From<ClaimFault> for OpenFault {
+    ghost from_gives = { λ fault made. made ≡ opening.Claim fault };
+
+    fn from(fault: ClaimFault) -> OpenFault {
+        OpenFault::Claim(fault)
+    }
+}
+
+impl From<AllocError> for OpenFault {
+    ghost from_gives = { λ _ made. made ≡ opening.Memory };
+
+    fn from(_error: AllocError) -> OpenFault {
+        OpenFault::Memory
+    }
+}
+
+impl OpenFault {
+    pub fn number(&self) -> u32
+        ensures { result ≡ open_number self.now }
+    {
+        match self {
+            OpenFault::Claim(fault) => fault.number(),
+            OpenFault::Memory => MEMORY,
+        }
+    }
+}
+
+/// The node of a member whose start claim is the Alive of all this. A name that is none is refused
+/// before anything else.
+pub fn open(alloc: Global, parts: Parts, inc: u32) -> Result<Box<Node>, OpenFault>
+    ensures name { IfOk result (λ node. node.value.name ≡ parts.entry.name.now) }
+    ensures details { IfOk result (λ node. node.value.details ≡ record {
+      addr = parts.entry.addr.now;
+      port = parts.entry.port;
+      meta = parts.entry.meta.now;
+      vsn = parts.entry.vsn.now;
+    }) }
+    ensures table { IfOk result (λ node.
+        TableOf node.value.table (Alive node.value.name inc node.value.details ∷ [])) }
+    ensures refused { IfErr result (IsUnopened parts.entry.name.now (record {
+      addr = parts.entry.addr.now;
+      port = parts.entry.port;
+      meta = parts.entry.meta.now;
+      vsn = parts.entry.vsn.now;
+    })) }
+{
+    let name = Name::copied(alloc, parts.name)??;
+    let meta = parts.meta.to_vec(alloc)?;
+    let details = Details::of(parts.addr, parts.port, meta, parts.vsn)?;
+    let node = Node::new(alloc, name, details, inc)?;
+    match Box::new(alloc, node) {
+        Ok(node) => Ok(node),
+        Err(_) => Err(OpenFault::Memory),
+    }
+}

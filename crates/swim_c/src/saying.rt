@@ -1,0 +1,113 @@
+//! What a member says, as packets: its own Alive and Leave, and that others are suspected or dead.
+
+ghost use Rattle.std.specs.Prelude.{◌≡◌, ◌≤◌, [], length, IfOk, IfErr};
+ghost use Rattle.swim_claim.specs.declared.claim.Claim.TheVariants.{Alive, Suspect, Confirm, Leave};
+ghost use Rattle.swim_c.specs.Buffers.{IsNoMemory};
+ghost use Rattle.swim_c.specs.Saying.{SaidOr, IsNoName, IsUnsaid};
+
+use crate::copy::{Written, copy_out};
+use crate::status::{MEMORY, OWN_NAME};
+use std::alloc::{AllocError, Global};
+use swim_claim::{Claim, Name};
+use swim_table::Node;
+use swim_wire::{Packet, encode_packet};
+
+/// Writes the packet of the member's own Alive at the incarnation to the buffer.
+pub fn say_alive(alloc: Global, node: &Node, inc: u32, out: &mut [u8]) -> Written
+    ensures { SaidOr (record { claim = Alive node.now.name inc node.now.details; from = [] })
+        out.old out.new result.status result.len IsNoMemory }
+{
+    match own_alive(alloc, node, inc) {
+        Ok(packet) => packet_out(alloc, &packet, out),
+        Err(_) => Written::refused(MEMORY),
+    }
+}
+
+fn own_alive(alloc: Global, node: &Node, inc: u32) -> Result<Packet, AllocError>
+    ensures { IfOk result (λ packet.
+        packet ≡ record { claim = Alive node.now.name inc node.now.details; from = [] }) }
+{
+    let name = node.name().try_clone(alloc)?;
+    let details = node.details().try_clone(alloc)?;
+    Ok(Packet::new(Claim::Alive { name, inc, details }, Vec::new(alloc)))
+}
+
+/// Writes the packet of the member's own Leave at the incarnation to the buffer.
+pub fn say_leave(alloc: Global, node: &Node, inc: u32, out: &mut [u8]) -> Written
+    ensures { SaidOr (record { claim = Leave node.now.name inc; from = node.now.name })
+        out.old out.new result.status result.len IsNoMemory }
+{
+    match own_leave(alloc, node, inc) {
+        Ok(packet) => packet_out(alloc, &packet, out),
+        Err(_) => Written::refused(MEMORY),
+    }
+}
+
+fn own_leave(alloc: Global, node: &Node, inc: u32) -> Result<Packet, AllocError>
+    ensures { IfOk result (λ packet.
+        packet ≡ record { claim = Leave node.now.name inc; from = node.now.name }) }
+{
+    let name = node.name().try_clone(alloc)?;
+    let from = node.name().bytes().to_vec(alloc)?;
+    Ok(Packet::new(Claim::Leave { name, inc }, from))
+}
+
+/// Writes the packet by which the member suspects the one of this name, at the incarnation, to the
+/// buffer.
+pub fn say_suspect(alloc: Global, node: &Node, name: &[u8], inc: u32, out: &mut [u8]) -> Written
+    ensures { SaidOr (record { claim = Suspect name.now inc; from = node.now.name })
+        out.old out.new result.status result.len (IsNoName name.now) }
+{
+    match accusation(alloc, node, name) {
+        Ok((name, from)) => {
+            let packet = Packet::new(Claim::Suspect { name, inc }, from);
+            packet_out(alloc, &packet, out)
+        }
+        Err(status) => Written::refused(status),
+    }
+}
+
+/// Writes the packet by which the member confirms the death of the one of this name, at the
+/// incarnation, to the buffer.
+pub fn say_confirm(alloc: Global, node: &Node, name: &[u8], inc: u32, out: &mut [u8]) -> Written
+    ensures { SaidOr (record { claim = Confirm name.now inc; from = node.now.name })
+        out.old out.new result.status result.len (IsUnsaid node.now.name name.now) }
+{
+    if name == node.name().bytes() {
+        return Written::refused(OWN_NAME);
+    }
+    match accusation(alloc, node, name) {
+        Ok((name, from)) => {
+            let packet = Packet::new(Claim::Confirm { name, inc }, from);
+            packet_out(alloc, &packet, out)
+        }
+        Err(status) => Written::refused(status),
+    }
+}
+
+/// The name of the one who is accused, and of the member, who accuses; or a status.
+fn accusation(alloc: Global, node: &Node, name: &[u8]) -> Result<(Name, Vec<u8>), u32>
+    ensures names { IfOk result (λ names.
+        (names.0 ≡ name.now) × (names.1.items ≡ node.now.name)) }
+    ensures short { IfOk result (λ names. length names.1.items ≤ 1024) }
+    ensures refused { IfErr result (IsNoName name.now) }
+{
+    let Ok(copied) = Name::copied(alloc, name) else {
+        return Err(MEMORY);
+    };
+    let name = copied.map_err(|fault| fault.number())?;
+    let Ok(from) = node.name().bytes().to_vec(alloc) else {
+        return Err(MEMORY);
+    };
+    Ok((name, from))
+}
+
+/// Writes the canonical bytes of a packet to the buffer.
+fn packet_out(alloc: Global, packet: &Packet, out: &mut [u8]) -> Written
+    ensures { SaidOr packet.now out.old out.new result.status result.len IsNoMemory }
+{
+    match encode_packet(alloc, packet) {
+        Ok(bytes) => copy_out(&bytes, out),
+        Err(_) => Written::refused(MEMORY),
+    }
+}

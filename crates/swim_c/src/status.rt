@@ -1,0 +1,18 @@
+//! What a call answers: 0, the number of a fault, or one of these.
+
+/// It was done.
+pub const DONE: u32 = 0;
+/// A growth of memory was refused.
+pub const MEMORY: u32 = 10;
+/// The handle has no node.
+pub const NO_NODE: u32 = 64;
+/// The handle has a node already.
+pub const NODE_THERE: u32 = 65;
+/// The buffer is too small.
+pub const TOO_SMALL: u32 = 66;
+/// There is no member at this place, or of this name.
+pub const NO_MEMBER: u32 = 67;
+/// A member that confirms its own death has left.
+pub const OWN_NAME: u32 = 68;
+/// A compound packet has at most 255 packets.
+pub const TOO_MANY_PACKETS: u32 = 69;

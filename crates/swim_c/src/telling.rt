@@ -1,0 +1,103 @@
+//! What a node tells: its listing, its members, how it relates to another, and its refutation.
+
+ghost use Rattle.std.specs.Prelude.{◌≡◌, slice_get, false};
+ghost use Rattle.swim_table.specs.Listing.{listing};
+ghost use Rattle.swim_table.specs.Table.{get};
+ghost use Rattle.swim_c.specs.Buffers.{WrittenOr, IsNoMemory};
+ghost use Rattle.swim_c.specs.Members.{MemberDone};
+ghost use Rattle.swim_c.specs.Relating.{IsRelationNumber};
+ghost use Rattle.swim_c.specs.Taking.{RefuteDone};
+
+use crate::copy::{Written, copy_out};
+use crate::member::Member;
+use crate::status::{DONE, MEMORY, NO_MEMBER};
+use std::alloc::Global;
+use swim_table::{Node, Relation, list, relation};
+
+/// Writes the listing of the node's table to the buffer.
+pub fn list_out(alloc: Global, node: &Node, out: &mut [u8]) -> Written
+    ensures { WrittenOr (listing node.now.table)
+        out.old out.new result.status result.len IsNoMemory }
+{
+    match list(alloc, node.table()) {
+        Ok(text) => copy_out(&text, out),
+        Err(_) => Written::refused(MEMORY),
+    }
+}
+
+/// What came of a refutation.
+#[repr(C)]
+#[derive(Clone, Copy)]
+pub struct Refuted {
+    pub status: u32,
+    /// Whether a refutation was due.
+    pub due: bool,
+    /// Its incarnation.
+    pub inc: u32,
+}
+
+impl Refuted {
+    /// No refutation was made.
+    pub fn unmade(status: u32) -> Refuted
+        ensures { result ≡ record { status = status; due = false; inc = 0 } }
+    {
+        Refuted {
+            status,
+            due: false,
+            inc: 0,
+        }
+    }
+}
+
+/// Refutes what others say of the member, where that is due.
+pub fn refute(node: &mut Node) -> Refuted
+    ensures { RefuteDone result.status result.due result.inc node.old node.new }
+{
+    match node.refute() {
+        Ok(Some(inc)) => Refuted {
+            status: DONE,
+            due: true,
+            inc,
+        },
+        Ok(None) => Refuted::unmade(DONE),
+        Err(fault) => Refuted::unmade(fault.number()),
+    }
+}
+
+/// Copies what the node knows of the i-th member.
+pub fn member_at(node: &Node, i: usize, member: &mut Member) -> u32
+    ensures { MemberDone (slice_get node.now.table i) member.old member.new result }
+{
+    match node.table().at(i) {
+        Some(entry) => {
+            member.fill(entry);
+            DONE
+        }
+        None => NO_MEMBER,
+    }
+}
+
+/// Copies what the node knows of the member of this name.
+pub fn member_named(node: &Node, name: &[u8], member: &mut Member) -> u32
+    ensures { MemberDone (get node.now.table name.now) member.old member.new result }
+{
+    match node.table().get(name) {
+        Some(entry) => {
+            member.fill(entry);
+            DONE
+        }
+        None => NO_MEMBER,
+    }
+}
+
+/// How the first node's table relates to the second's, as a number.
+pub fn relation_of(first: &Node, second: &Node) -> u32
+    ensures { IsRelationNumber first.now.table second.now.table result }
+{
+    match relation(first.table(), second.table()) {
+        Relation::Equal => 0,
+        Relation::Behind => 1,
+        Relation::Ahead => 2,
+        Relation::Apart => 3,
+    }
+}
