@@ -1,20 +1,33 @@
 # swimtab: membership tables of a SWIM cluster.
 #
-#   make            the program, at build/swimtab; some 10 minutes the first time
+#   make            the program, at build/swimtab, and the library for C, at build/libswimtab.a and,
+#                   where there is a C compiler, build/libswimtab.so; some 10 minutes the first time
 #   make run        the listing of examples/packets.hex
 #   make test       the gate: every proof from nothing, and all tests; an hour or more
 #   make bench      what a record costs, by size and by order of the names; some minutes
-#   make install    copies build/swimtab to PREFIX/bin, and its page to PREFIX/share/man/man1;
-#                   it is built first only where it is not there, so root needs no kit
+#   make install    copies what make built to PREFIX: the program to bin, its page to share/man/man1,
+#                   the library to lib, its header to include, and what pkg-config reads to
+#                   lib/pkgconfig; it is built first only where it is not there, so root needs no kit
+#   make program    the program alone
+#   make library    the library alone
 #   make clean      removes what was built
 #   make help       these lines
 
 PREFIX ?= /usr/local
+CC ?= cc
+AR ?= ar
 SOURCES := $(shell find crates -type f -not -path '*/out/*') crates.txt HANDLES
+VERSION := $(shell sed -n 's/^.define SWIMTAB_VERSION "\(.*\)"/\1/p' include/swimtab.h)
 
-.PHONY: all run test bench install clean help kit
+.PHONY: all program library run test bench install clean help kit
 
-all: build/swimtab
+all: program library
+
+program: build/swimtab
+
+library: build/libswimtab.a
+	@if command -v $(CC) > /dev/null; then $(MAKE) --no-print-directory build/libswimtab.so; \
+	else echo 'there is no $(CC), so build/libswimtab.so is not built'; fi
 
 build/swimbench: words := -- check
 build/swimtab build/swimbench: build/%: $(SOURCES) | kit
@@ -23,6 +36,22 @@ build/swimtab build/swimbench: build/%: $(SOURCES) | kit
 	@cd crates/$* && rt run $(words) < /dev/null > out.log 2>&1 || { cat out.log; rm -f out.log; exit 1; }
 	@rm -f crates/$*/out.log
 	@cp crates/$*/out/$* build/$*
+
+# the crate's archive, and the kit's few functions over malloc, realloc and free, as one
+build/libswimtab.a: $(SOURCES) | kit
+	@mkdir -p build
+	@echo 'proving and building swim_c; the first time takes some minutes'
+	@cd crates/swim_c && rt lib < /dev/null > out.log 2>&1 || { cat out.log; rm -f out.log; exit 1; }
+	@rm -f crates/swim_c/out.log $@
+	@printf 'create %s\naddlib %s\naddlib %s\nsave\nend\n' $@ crates/swim_c/out/libswim_c.a \
+		"$$(dirname "$$(rt doc)")/c/liblibc_c.a" | $(AR) -M
+	@$(AR) s $@
+
+build/libswimtab.so: build/libswimtab.a
+	@echo '{ global: swimtab_raw_*; local: *; };' > build/libswimtab.map
+	$(CC) -shared -o $@ -Wl,-soname,libswimtab.so.0 -Wl,--version-script=build/libswimtab.map \
+		-Wl,--gc-sections -Wl,--whole-archive $< -Wl,--no-whole-archive
+	@rm -f build/libswimtab.map
 
 run: build/swimtab
 	@build/swimtab < examples/packets.hex
@@ -33,11 +62,23 @@ test: kit
 bench: build/swimbench
 	@build/swimbench
 
+install: prefix = $(if $(filter /%,$(PREFIX)),$(PREFIX),$(CURDIR)/$(PREFIX))
+install: root = $(DESTDIR)$(prefix)
 install:
-	@test -x build/swimtab || $(MAKE) build/swimtab
-	@mkdir -p '$(DESTDIR)$(PREFIX)/bin' '$(DESTDIR)$(PREFIX)/share/man/man1'
-	install -m 755 build/swimtab '$(DESTDIR)$(PREFIX)/bin/swimtab'
-	install -m 644 docs/swimtab.1 '$(DESTDIR)$(PREFIX)/share/man/man1/swimtab.1'
+	@test -x build/swimtab || $(MAKE) program
+	@test -f build/libswimtab.a || $(MAKE) library
+	@mkdir -p '$(root)/bin' '$(root)/share/man/man1' '$(root)/lib/pkgconfig' '$(root)/include'
+	install -m 755 build/swimtab '$(root)/bin/swimtab'
+	install -m 644 docs/swimtab.1 '$(root)/share/man/man1/swimtab.1'
+	install -m 644 include/swimtab.h '$(root)/include/swimtab.h'
+	install -m 644 build/libswimtab.a '$(root)/lib/libswimtab.a'
+	@if [ -f build/libswimtab.so ]; then \
+		install -m 755 build/libswimtab.so '$(root)/lib/libswimtab.so.0' && \
+		ln -sf libswimtab.so.0 '$(root)/lib/libswimtab.so'; fi
+	@printf '%s\n' 'prefix=$(prefix)' 'libdir=$${prefix}/lib' 'includedir=$${prefix}/include' '' \
+		'Name: swimtab' 'Description: membership tables of SWIM clusters, over the messages of memberlist' \
+		'Version: $(VERSION)' 'Libs: -L$${libdir} -lswimtab' 'Cflags: -I$${includedir}' \
+		> '$(root)/lib/pkgconfig/swimtab.pc'
 
 help:
 	@sed -n 's/^#   //p' Makefile

@@ -8,22 +8,41 @@ function number(from, count,    value, place) {
     return value
 }
 
-# The length in the UDP header counts its own 8 bytes, and no padding of the frame.
+# Where the UDP header begins, and the length that it has: with its own 8 bytes, and no padding of the frame.
+function header() {
+    return 1 + (packet ~ /^6/ ? 80 : 8 * number(2, 1))
+}
+
+function is_whole(    udp) {
+    udp = header()
+    return length(packet) >= udp + 15 && length(packet) >= udp - 1 + 2 * number(udp + 8, 4)
+}
+
 function show(    udp) {
     if (packet == "")
         return
-    udp = 1 + (packet ~ /^6/ ? 80 : 8 * number(2, 1))
+    udp = header()
     print substr(packet, udp + 16, 2 * number(udp + 8, 4) - 16)
+    fflush()
     packet = ""
+    shown = 1
 }
 
 /^\t0x/ {
+    if (shown)
+        next
     sub(/^[^:]*: */, "")
     gsub(/ /, "")
     packet = packet $0
+    # at once where it is whole, for a capture that goes on
+    if (is_whole())
+        show()
     next
 }
 
-{ show() }
+{
+    show()
+    shown = 0
+}
 
 END { show() }

@@ -1,0 +1,3 @@
+module swimtab
+
+go 1.19

@@ -1,0 +1,6 @@
+//go:build !swimtab_static
+
+package swimtab
+
+// #cgo pkg-config: swimtab
+import "C"

@@ -1,0 +1,130 @@
+//! What a node knows of a member.
+
+use crate::node::Node;
+use crate::raw;
+use std::net::{IpAddr, Ipv4Addr, Ipv6Addr};
+
+/// What a member says of itself.
+#[derive(Clone, Copy, Debug, PartialEq, Eq)]
+pub struct Details<'a> {
+    pub addr: IpAddr,
+    pub port: u16,
+    /// At most 512 bytes.
+    pub meta: &'a [u8],
+    /// Least, greatest and current version of memberlist's protocol and of the delegate's.
+    pub versions: Option<[u8; 6]>,
+}
+
+/// A member's state.
+#[derive(Clone, Copy, Debug, PartialEq, Eq, Hash)]
+pub enum State {
+    Alive,
+    Suspect,
+    /// Dead, by the word of others.
+    Confirm,
+    /// Gone, by its own word.
+    Leave,
+}
+
+/// The newest Alive of a member.
+#[derive(Clone, Debug, PartialEq, Eq)]
+pub struct Home {
+    pub incarnation: u32,
+    pub addr: IpAddr,
+    pub port: u16,
+    pub meta: Vec<u8>,
+    pub versions: Option<[u8; 6]>,
+}
+
+/// A member as a node knows it.
+#[derive(Clone, Debug, PartialEq, Eq)]
+pub struct Member {
+    /// 1 to 1,024 bytes of any values.
+    pub name: Vec<u8>,
+    pub state: State,
+    /// That of the claim that stands.
+    pub incarnation: u32,
+    /// None where no Alive was seen.
+    pub home: Option<Home>,
+}
+
+impl raw::Member {
+    pub(crate) fn zeroed() -> raw::Member {
+        raw::Member {
+            state: 0,
+            inc: 0,
+            has_home: false,
+            home_inc: 0,
+            port: 0,
+            name_len: 0,
+            meta_len: 0,
+            addr_len: 0,
+            vsn_len: 0,
+            addr: [0; 16],
+            vsn: [0; 6],
+            meta: [0; 512],
+            name: [0; 1024],
+        }
+    }
+}
+
+impl From<&raw::Member> for Member {
+    fn from(raw: &raw::Member) -> Member {
+        Member {
+            name: raw.name[..raw.name_len.into()].to_vec(),
+            state: match raw.state {
+                0 => State::Alive,
+                1 => State::Suspect,
+                2 => State::Confirm,
+                _ => State::Leave,
+            },
+            incarnation: raw.inc,
+            home: raw.has_home.then(|| Home {
+                incarnation: raw.home_inc,
+                addr: addr_of(raw),
+                port: raw.port,
+                meta: raw.meta[..raw.meta_len.into()].to_vec(),
+                versions: (raw.vsn_len == 6).then_some(raw.vsn),
+            }),
+        }
+    }
+}
+
+fn addr_of(raw: &raw::Member) -> IpAddr {
+    let [a, b, c, d, ..] = raw.addr;
+    if raw.addr_len == 4 {
+        Ipv4Addr::new(a, b, c, d).into()
+    } else {
+        Ipv6Addr::from(raw.addr).into()
+    }
+}
+
+/// The members of a node, in the byte order of their names.
+#[derive(Clone, Debug)]
+pub struct Members<'a> {
+    node: &'a Node,
+    next: usize,
+    end: usize,
+}
+
+impl<'a> Members<'a> {
+    pub(crate) fn of(node: &'a Node) -> Members<'a> {
+        Members { node, next: 0, end: node.len() }
+    }
+}
+
+impl Iterator for Members<'_> {
+    type Item = Member;
+
+    fn next(&mut self) -> Option<Member> {
+        let member = self.node.at(self.next)?;
+        self.next += 1;
+        Some(member)
+    }
+
+    fn size_hint(&self) -> (usize, Option<usize>) {
+        (self.end - self.next, Some(self.end - self.next))
+    }
+}
+
+impl ExactSizeIterator for Members<'_> {}

@@ -1,0 +1,459 @@
+/* swimtab.h: the membership table of a SWIM cluster, over memberlist's messages, for C and C++.
+ *
+ *     swimtab_node node = SWIMTAB_NO_NODE;
+ *     uint32_t status = swimtab_open(&node, name, 2, addr, 4, 7946, NULL, 0, NULL, 0, 1);
+ *     status = swimtab_take(&node, packet, packet_len);
+ *     status = swimtab_close(&node);
+ *
+ * A node is what one member of a cluster knows: who it is itself, and a table of all members that
+ * it has heard of. The library has no sockets, no timers, no threads and no failure detector: the
+ * program brings bytes, and sends those that a call writes. docs/EMBEDDING.md leads through it, and
+ * docs/PROTOCOL.md has the rules, the bytes, the limits and the faults.
+ *
+ * What every call keeps to
+ *
+ * - Each call returns, on any bytes, with a status: 0 (SWIMTAB_DONE), or why not. A call with any
+ *   other status has changed neither the node nor a buffer.
+ * - A call keeps no pointer that it was given. A node copies what it needs, and frees it on close.
+ * - Bytes go out into a buffer of the caller. Where that is too small the status is
+ *   SWIMTAB_TOO_SMALL and `len` the length that is needed, so a buffer of length 0 asks for it.
+ *   Past the bytes that were written a buffer is as it was.
+ * - A NULL pointer to bytes is a buffer of length 0, whatever length stands beside it. A NULL
+ *   handle is one without a node.
+ * - Memory comes from malloc and realloc alone. Where they refuse, the status is SWIMTAB_MEMORY,
+ *   and the call may be made again. No call asks for memory by a number that its input claims.
+ *
+ * What the caller owes, and nothing checks
+ *
+ * - A handle begins as SWIMTAB_NO_NODE (all bytes zero), and only calls write into it. It may be
+ *   moved in memory between calls, but of two copies only one may be used from then on.
+ * - A handle is given to one call at a time, by reading calls too: swimtab_count as much as
+ *   swimtab_take. It may go from thread to thread between calls that a lock, the start or the join
+ *   of a thread, or the like orders. Different handles need no lock.
+ * - A buffer that a call writes overlaps nothing else that the call is given.
+ * - A length beside a pointer that is not NULL is at most that of its memory, and less than 2^63.
+ * - malloc, realloc and free are of one allocator, whose memory is aligned to 16 bytes.
+ * - No call is made in a signal handler, nor in the child of a fork of a process with threads.
+ */
+#ifndef SWIMTAB_H
+#define SWIMTAB_H
+
+#include <stdbool.h>
+#include <stddef.h>
+#include <stdint.h>
+
+#ifdef __cplusplus
+extern "C" {
+#endif
+
+/* The version, as `swimtab --version` names it. */
+#define SWIMTAB_VERSION_MAJOR 0
+#define SWIMTAB_VERSION_MINOR 1
+#define SWIMTAB_VERSION_PATCH 0
+#define SWIMTAB_VERSION "0.1.0"
+
+/* The length of the longest packet that swimtab_alive, .._suspect, .._confirm and .._leave write. */
+#define SWIMTAB_LONGEST_PACKET 2083
+
+/* Holds a node, or none. What is in it is the library's. */
+typedef struct swimtab_node {
+    void *at;
+    bool held;
+} swimtab_node;
+
+/* How a handle begins: swimtab_node node = SWIMTAB_NO_NODE; */
+#define SWIMTAB_NO_NODE {NULL, false}
+
+/* What a call answers: 0, the number of a fault of docs/PROTOCOL.md, or one of the library's own
+ * from 64 on. */
+enum {
+    SWIMTAB_DONE = 0,
+    SWIMTAB_ENDED = 1,             /* the bytes end too soon */
+    SWIMTAB_NOT_UNSIGNED = 2,      /* a number is wanted, and what stands there is none, or negative */
+    SWIMTAB_OUT_OF_RANGE = 3,      /* a number is above the greatest value of its place */
+    SWIMTAB_NOT_BOOL = 4,          /* a truth value is wanted */
+    SWIMTAB_NOT_RAW = 5,           /* text or bytes are wanted */
+    SWIMTAB_TOO_LONG = 6,          /* text or bytes are longer than their place allows */
+    SWIMTAB_NOT_MAP = 7,           /* a map is wanted */
+    SWIMTAB_MAP_COUNT = 8,         /* a map has more pairs than its layout has keys */
+    SWIMTAB_MEMORY = 10,           /* a growth of memory was refused */
+    SWIMTAB_NAME_EMPTY = 11,       /* a name is empty */
+    SWIMTAB_NAME_TOO_LONG = 12,    /* a name has more than 1,024 bytes */
+    SWIMTAB_BAD_ADDRESS = 13,      /* an address has neither 4 nor 16 bytes */
+    SWIMTAB_META_TOO_LONG = 14,    /* metadata has more than 512 bytes */
+    SWIMTAB_BAD_VERSIONS = 15,     /* versions have neither none nor 6 bytes */
+    SWIMTAB_WRONG_TYPE = 16,       /* a message of a type that is not read */
+    SWIMTAB_UNKNOWN_KEY = 17,      /* a map has a key that its layout lacks */
+    SWIMTAB_DUPLICATE_KEY = 18,    /* a map has a key twice */
+    SWIMTAB_BAD_STATE = 19,        /* a state is none of 0 to 3 */
+    SWIMTAB_TOO_MANY_NODES = 20,   /* a stream promises more than 131,072 members */
+    SWIMTAB_USER_TOO_LONG = 21,    /* a stream promises more than 20,971,520 bytes of user state */
+    SWIMTAB_TRAILING = 22,         /* there are bytes after the end */
+    SWIMTAB_TOO_MANY_RECORDS = 23, /* a table has more than 131,072 records, too many for a stream */
+    SWIMTAB_EXHAUSTED = 24,        /* no greater incarnation is left */
+    SWIMTAB_GONE = 25,             /* the member was confirmed dead, or left */
+    SWIMTAB_NO_NODE_HERE = 64,     /* the handle has no node */
+    SWIMTAB_NODE_THERE = 65,       /* the handle has a node already */
+    SWIMTAB_TOO_SMALL = 66,        /* the buffer is too small; `len` says what is needed */
+    SWIMTAB_NO_MEMBER = 67,        /* no member at this place, or of this name */
+    SWIMTAB_OWN_NAME = 68,         /* a member does not confirm its own death; it leaves */
+    SWIMTAB_TOO_MANY_PACKETS = 69  /* more than 255 packets for one compound packet */
+};
+
+/* A member's state. */
+enum { SWIMTAB_ALIVE = 0, SWIMTAB_SUSPECT = 1, SWIMTAB_CONFIRM = 2, SWIMTAB_LEAVE = 3 };
+
+/* How a table relates to another: both say the same; the other one says more; this one says more;
+ * each says something that the other one does not. */
+enum { SWIMTAB_EQUAL = 0, SWIMTAB_BEHIND = 1, SWIMTAB_AHEAD = 2, SWIMTAB_APART = 3 };
+
+/* What came of writing bytes. */
+typedef struct swimtab_written {
+    uint32_t status;
+    size_t len; /* how many were written, or with SWIMTAB_TOO_SMALL are needed; else 0 */
+} swimtab_written;
+
+/* What came of a stream. But for `status` all is 0 unless that is SWIMTAB_DONE or SWIMTAB_TOO_SMALL. */
+typedef struct swimtab_exchanged {
+    uint32_t status;
+    bool join;   /* the join flag of the stream that was read */
+    size_t used; /* how many bytes it has; others behind them were not looked at */
+    size_t len;  /* of swimtab_answer: the length of the reply, as in swimtab_written */
+} swimtab_exchanged;
+
+/* What came of a refutation. */
+typedef struct swimtab_refuted {
+    uint32_t status;
+    bool due;     /* whether there was something to refute, and it is refuted now */
+    uint32_t inc; /* then the incarnation at which the member is alive again; else 0 */
+} swimtab_refuted;
+
+/* What came of a comparison. */
+typedef struct swimtab_related {
+    uint32_t status;
+    uint32_t relation; /* SWIMTAB_EQUAL, .._BEHIND, .._AHEAD or .._APART; 0 where the status is not 0 */
+} swimtab_related;
+
+/* What a node knows of a member. Bytes past their length are as they were before the call. */
+typedef struct swimtab_member_data {
+    uint32_t state;    /* SWIMTAB_ALIVE, .._SUSPECT, .._CONFIRM or .._LEAVE */
+    uint32_t inc;      /* the incarnation of the claim that stands */
+    bool has_home;     /* whether an Alive was ever seen: if not, what follows is 0, but for the name */
+    uint32_t home_inc; /* the newest Alive: its incarnation, and from here its address and the rest */
+    uint16_t port;
+    uint16_t name_len; /* 1 to 1,024 */
+    uint16_t meta_len; /* 0 to 512 */
+    uint8_t addr_len;  /* 4 or 16, or 0 without an Alive */
+    uint8_t vsn_len;   /* 0 or 6 */
+    uint8_t addr[16];
+    uint8_t vsn[6];
+    uint8_t meta[512];
+    uint8_t name[1024]; /* any bytes; no zero byte ends it */
+} swimtab_member_data;
+
+/* The functions of the archive, for other languages than C and C++. They do what the functions below
+ * do, but no pointer given to them may be NULL, not even with length 0, and swimtab_raw_relate takes
+ * two different handles. */
+uint32_t swimtab_raw_open(swimtab_node *node, const void *name, size_t name_len,
+                          const void *addr, size_t addr_len, uint16_t port, const void *meta,
+                          size_t meta_len, const void *vsn, size_t vsn_len, uint32_t inc);
+uint32_t swimtab_raw_close(swimtab_node *node);
+uint32_t swimtab_raw_take(swimtab_node *node, const void *bytes, size_t len);
+swimtab_written swimtab_raw_offer(swimtab_node *node, bool join, void *out, size_t out_len);
+swimtab_exchanged swimtab_raw_answer(swimtab_node *node, const void *stream, size_t len,
+                                     void *out, size_t out_len);
+swimtab_exchanged swimtab_raw_finish(swimtab_node *node, const void *stream, size_t len);
+swimtab_refuted swimtab_raw_refute(swimtab_node *node);
+swimtab_written swimtab_raw_alive(swimtab_node *node, uint32_t inc, void *out, size_t out_len);
+swimtab_written swimtab_raw_suspect(swimtab_node *node, const void *name, size_t name_len,
+                                    uint32_t inc, void *out, size_t out_len);
+swimtab_written swimtab_raw_confirm(swimtab_node *node, const void *name, size_t name_len,
+                                    uint32_t inc, void *out, size_t out_len);
+swimtab_written swimtab_raw_leave(swimtab_node *node, uint32_t inc, void *out, size_t out_len);
+swimtab_written swimtab_raw_compound(const void *packets, size_t len, const size_t *lens,
+                                     size_t count, void *out, size_t out_len);
+size_t swimtab_raw_count(swimtab_node *node);
+uint32_t swimtab_raw_member(swimtab_node *node, size_t i, swimtab_member_data *member);
+uint32_t swimtab_raw_find(swimtab_node *node, const void *name, size_t name_len,
+                          swimtab_member_data *member);
+swimtab_written swimtab_raw_list(swimtab_node *node, void *out, size_t out_len);
+swimtab_related swimtab_raw_relate(swimtab_node *first, swimtab_node *second);
+
+/* ------------------------------------------------------------------ opening and closing */
+
+/* Gives a handle without a node a new one: that of the member of this name, who is alive at the
+ * incarnation `inc`, and knows of nobody else. The name has 1 to 1,024 bytes of any values, the
+ * address 4 or 16, the metadata up to 512, and the versions none or 6 (memberlist wants 6 of those
+ * whom it takes in). The caller owns the node until swimtab_close, and all bytes that it gave.
+ *
+ * SWIMTAB_DONE; SWIMTAB_NODE_THERE, .._NAME_EMPTY, .._NAME_TOO_LONG, .._BAD_ADDRESS,
+ * .._META_TOO_LONG, .._BAD_VERSIONS, .._MEMORY: the handle is as it was. A NULL handle, which has
+ * no room for a node, is SWIMTAB_NO_NODE_HERE. */
+static inline uint32_t swimtab_open(swimtab_node *node, const void *name, size_t name_len,
+                                    const void *addr, size_t addr_len, uint16_t port,
+                                    const void *meta, size_t meta_len, const void *vsn,
+                                    size_t vsn_len, uint32_t inc) {
+    const uint8_t none = 0;
+    if (!node) return SWIMTAB_NO_NODE_HERE;
+    return swimtab_raw_open(node, name ? name : &none, name ? name_len : 0, addr ? addr : &none,
+                            addr ? addr_len : 0, port, meta ? meta : &none, meta ? meta_len : 0,
+                            vsn ? vsn : &none, vsn ? vsn_len : 0, inc);
+}
+
+/* Frees the node. The handle has none then, and may be opened again.
+ *
+ * SWIMTAB_DONE; SWIMTAB_NO_NODE_HERE: nothing happened, so closing twice is fine. */
+static inline uint32_t swimtab_close(swimtab_node *node) {
+    if (!node) return SWIMTAB_NO_NODE_HERE;
+    return swimtab_raw_close(node);
+}
+
+/* ------------------------------------------------------------------ gossip */
+
+/* Takes in the claim of a packet, or all claims of a compound packet: one UDP payload, without
+ * label, checksum, encryption or compression. A packet about a name that is known takes memory only
+ * for its metadata, its `From`, and a name of more than 30 bytes.
+ *
+ * SWIMTAB_DONE, also where it says nothing new; SWIMTAB_NO_NODE_HERE, .._MEMORY, and for what is no
+ * packet or compound packet the fault at which its reading stops: .._ENDED to .._MAP_COUNT,
+ * .._NAME_EMPTY, .._BAD_ADDRESS, .._BAD_VERSIONS, .._WRONG_TYPE, .._UNKNOWN_KEY, .._DUPLICATE_KEY,
+ * .._TRAILING. Then no claim of it was taken in. */
+static inline uint32_t swimtab_take(swimtab_node *node, const void *bytes, size_t len) {
+    const uint8_t none = 0;
+    if (!node) return SWIMTAB_NO_NODE_HERE;
+    return swimtab_raw_take(node, bytes ? bytes : &none, bytes ? len : 0);
+}
+
+/* Refutes what others say of the member, where that is due: where it is suspected in its own table,
+ * or alive there with other details than its own. Then it is alive again at the next incarnation,
+ * `inc`, and swimtab_alive writes the packet that the others are to hear.
+ *
+ * SWIMTAB_DONE, with `due` false where there was nothing to refute; SWIMTAB_NO_NODE_HERE;
+ * SWIMTAB_EXHAUSTED: no greater incarnation is left; SWIMTAB_GONE: the member was confirmed dead, or
+ * left, which is final; SWIMTAB_MEMORY. With all but the first nothing has changed. */
+static inline swimtab_refuted swimtab_refute(swimtab_node *node) {
+    const swimtab_refuted refused = {SWIMTAB_NO_NODE_HERE, false, 0};
+    return node ? swimtab_raw_refute(node) : refused;
+}
+
+/* Writes the packet by which the member says that it is alive at the incarnation, with its own
+ * address, port, metadata and versions. The node does not change, and so the caller may choose any
+ * incarnation: that of swimtab_open at first, later those that swimtab_refute gives.
+ *
+ * SWIMTAB_DONE; SWIMTAB_TOO_SMALL; SWIMTAB_NO_NODE_HERE; SWIMTAB_MEMORY. */
+static inline swimtab_written swimtab_alive(swimtab_node *node, uint32_t inc, void *out,
+                                            size_t out_len) {
+    const swimtab_written refused = {SWIMTAB_NO_NODE_HERE, 0};
+    uint8_t none = 0;
+    return node ? swimtab_raw_alive(node, inc, out ? out : &none, out ? out_len : 0) : refused;
+}
+
+/* Writes the packet by which the member suspects the one of this name at the incarnation, which is
+ * that of the Alive that it no longer believes. The node does not change: where its own table is to
+ * have the claim, give it the packet by swimtab_take.
+ *
+ * SWIMTAB_DONE; SWIMTAB_TOO_SMALL; SWIMTAB_NO_NODE_HERE; SWIMTAB_NAME_EMPTY;
+ * SWIMTAB_NAME_TOO_LONG; SWIMTAB_MEMORY. */
+static inline swimtab_written swimtab_suspect(swimtab_node *node, const void *name,
+                                              size_t name_len, uint32_t inc, void *out,
+                                              size_t out_len) {
+    const swimtab_written refused = {SWIMTAB_NO_NODE_HERE, 0};
+    uint8_t none = 0;
+    return node ? swimtab_raw_suspect(node, name ? name : &none, name ? name_len : 0, inc,
+                                      out ? out : &none, out ? out_len : 0)
+                : refused;
+}
+
+/* Writes the packet by which the member confirms that the one of this name is dead. Else as
+ * swimtab_suspect.
+ *
+ * SWIMTAB_DONE; SWIMTAB_TOO_SMALL; SWIMTAB_NO_NODE_HERE; SWIMTAB_OWN_NAME: the name is the member's
+ * own; SWIMTAB_NAME_EMPTY; SWIMTAB_NAME_TOO_LONG; SWIMTAB_MEMORY. */
+static inline swimtab_written swimtab_confirm(swimtab_node *node, const void *name,
+                                              size_t name_len, uint32_t inc, void *out,
+                                              size_t out_len) {
+    const swimtab_written refused = {SWIMTAB_NO_NODE_HERE, 0};
+    uint8_t none = 0;
+    return node ? swimtab_raw_confirm(node, name ? name : &none, name ? name_len : 0, inc,
+                                      out ? out : &none, out ? out_len : 0)
+                : refused;
+}
+
+/* Writes the packet by which the member itself leaves, at the incarnation. The node does not change.
+ *
+ * SWIMTAB_DONE; SWIMTAB_TOO_SMALL; SWIMTAB_NO_NODE_HERE; SWIMTAB_MEMORY. */
+static inline swimtab_written swimtab_leave(swimtab_node *node, uint32_t inc, void *out,
+                                            size_t out_len) {
+    const swimtab_written refused = {SWIMTAB_NO_NODE_HERE, 0};
+    uint8_t none = 0;
+    return node ? swimtab_raw_leave(node, inc, out ? out : &none, out ? out_len : 0) : refused;
+}
+
+/* Writes one compound packet of up to 255 packets. They stand one behind another in `packets`, `len`
+ * bytes in all, and `lens` has the length of each, `count` of them. Each is written in its canonical
+ * bytes, which those that the calls above write are already. It needs no node.
+ *
+ * SWIMTAB_DONE; SWIMTAB_TOO_SMALL; SWIMTAB_TOO_MANY_PACKETS; SWIMTAB_ENDED: the lengths say more
+ * than `len`; SWIMTAB_TRAILING: they say less; SWIMTAB_MEMORY; or the fault of the first that is no
+ * packet, as swimtab_take has it, where a compound packet too is SWIMTAB_WRONG_TYPE. */
+static inline swimtab_written swimtab_compound(const void *packets, size_t len,
+                                               const size_t *lens, size_t count, void *out,
+                                               size_t out_len) {
+    const size_t no_lens = 0;
+    uint8_t none = 0;
+    return swimtab_raw_compound(packets ? packets : &none, packets ? len : 0,
+                                lens ? lens : &no_lens, lens ? count : 0, out ? out : &none,
+                                out ? out_len : 0);
+}
+
+/* ------------------------------------------------------------------ exchanges */
+
+/* Writes the node's canonical dump, with which an exchange begins: the push/pull stream that a member
+ * sends over TCP, without label, encryption or compression. memberlist sets `join` where it joins.
+ *
+ * SWIMTAB_DONE; SWIMTAB_TOO_SMALL; SWIMTAB_NO_NODE_HERE; SWIMTAB_TOO_MANY_RECORDS; SWIMTAB_MEMORY. */
+static inline swimtab_written swimtab_offer(swimtab_node *node, bool join, void *out,
+                                            size_t out_len) {
+    const swimtab_written refused = {SWIMTAB_NO_NODE_HERE, 0};
+    uint8_t none = 0;
+    return node ? swimtab_raw_offer(node, join, out ? out : &none, out ? out_len : 0) : refused;
+}
+
+/* The same with the join flag false: the bytes that `swimtab merge` prints of the table. */
+static inline swimtab_written swimtab_dump(swimtab_node *node, void *out, size_t out_len) {
+    return swimtab_offer(node, false, out, out_len);
+}
+
+/* Answers an offer: reads the stream, writes the node's dump of before, with the same join flag, and
+ * takes the stream in. All memory is there before the reply is written. Bytes behind the stream are
+ * not looked at; `used` says where it ends.
+ *
+ * SWIMTAB_DONE; SWIMTAB_TOO_SMALL: nothing was written or taken in, and `join`, `used` and `len` say
+ * what they would; SWIMTAB_NO_NODE_HERE; SWIMTAB_TOO_MANY_RECORDS; SWIMTAB_MEMORY; and for what is no
+ * stream the fault at which its reading stops: .._ENDED to .._MAP_COUNT, .._NAME_EMPTY,
+ * .._BAD_ADDRESS, .._BAD_VERSIONS to .._USER_TOO_LONG. SWIMTAB_ENDED alone may be mended by more
+ * bytes. With all but the first nothing has changed. */
+static inline swimtab_exchanged swimtab_answer(swimtab_node *node, const void *stream,
+                                               size_t len, void *out, size_t out_len) {
+    const swimtab_exchanged refused = {SWIMTAB_NO_NODE_HERE, false, 0, 0};
+    uint8_t none = 0;
+    return node ? swimtab_raw_answer(node, stream ? stream : &none, stream ? len : 0,
+                                     out ? out : &none, out ? out_len : 0)
+                : refused;
+}
+
+/* Takes in a stream: the reply to an offer, or a dump. `len` of the answer is 0.
+ *
+ * SWIMTAB_DONE; the statuses of swimtab_answer but SWIMTAB_TOO_SMALL and SWIMTAB_TOO_MANY_RECORDS:
+ * nothing was taken in. */
+static inline swimtab_exchanged swimtab_finish(swimtab_node *node, const void *stream,
+                                               size_t len) {
+    const swimtab_exchanged refused = {SWIMTAB_NO_NODE_HERE, false, 0, 0};
+    const uint8_t none = 0;
+    return node ? swimtab_raw_finish(node, stream ? stream : &none, stream ? len : 0) : refused;
+}
+
+/* ------------------------------------------------------------------ looking at the table */
+
+/* How many members the node knows of, itself among them; 0 for a handle without a node. */
+static inline size_t swimtab_count(swimtab_node *node) {
+    return node ? swimtab_raw_count(node) : 0;
+}
+
+/* Copies what the node knows of the member at place `i`, where members stand in the byte order of
+ * their names from 0 on. What is copied is the caller's. It takes no memory. With NULL for `member`
+ * nothing is copied, and the status alone is answered.
+ *
+ * SWIMTAB_DONE; SWIMTAB_NO_MEMBER: `i` is the count or above; SWIMTAB_NO_NODE_HERE. With the last two
+ * `member` is as it was. */
+static inline uint32_t swimtab_member(swimtab_node *node, size_t i, swimtab_member_data *member) {
+    swimtab_member_data none;
+    if (!node) return SWIMTAB_NO_NODE_HERE;
+    return swimtab_raw_member(node, i, member ? member : &none);
+}
+
+/* The same of the member of this name. A name that no member has, or can have, is SWIMTAB_NO_MEMBER. */
+static inline uint32_t swimtab_find(swimtab_node *node, const void *name, size_t name_len,
+                                    swimtab_member_data *member) {
+    swimtab_member_data none_member;
+    const uint8_t none = 0;
+    if (!node) return SWIMTAB_NO_NODE_HERE;
+    return swimtab_raw_find(node, name ? name : &none, name ? name_len : 0,
+                            member ? member : &none_member);
+}
+
+/* Writes the listing of the table, as `swimtab list` prints it: a line `name state inc home` for each
+ * member, without a zero byte behind it.
+ *
+ * SWIMTAB_DONE; SWIMTAB_TOO_SMALL; SWIMTAB_NO_NODE_HERE; SWIMTAB_MEMORY. */
+static inline swimtab_written swimtab_list(swimtab_node *node, void *out, size_t out_len) {
+    const swimtab_written refused = {SWIMTAB_NO_NODE_HERE, 0};
+    uint8_t none = 0;
+    return node ? swimtab_raw_list(node, out ? out : &none, out ? out_len : 0) : refused;
+}
+
+/* How the table of the first node relates to that of the second, by what both say together. One
+ * handle given twice is equal to itself.
+ *
+ * SWIMTAB_DONE; SWIMTAB_NO_NODE_HERE: one of the two has no node. */
+static inline swimtab_related swimtab_relate(swimtab_node *first, swimtab_node *second) {
+    swimtab_related answer = {SWIMTAB_NO_NODE_HERE, 0};
+    if (!first || !second) return answer;
+    if (first != second) return swimtab_raw_relate(first, second);
+    if (first->held) answer.status = SWIMTAB_DONE;
+    return answer;
+}
+
+/* ------------------------------------------------------------------ names */
+
+/* The name of a status, as docs/PROTOCOL.md has it: "Done" for 0, and "Unknown" for a number that it
+ * lacks. The text is there for good. */
+static inline const char *swimtab_fault_name(uint32_t status) {
+    switch (status) {
+    case 0: return "Done";
+    case 1: return "Ended";
+    case 2: return "NotUnsigned";
+    case 3: return "OutOfRange";
+    case 4: return "NotBool";
+    case 5: return "NotRaw";
+    case 6: return "TooLong";
+    case 7: return "NotMap";
+    case 8: return "MapCount";
+    case 9: return "Fault";
+    case 10: return "Memory";
+    case 11: return "NameEmpty";
+    case 12: return "NameTooLong";
+    case 13: return "BadAddress";
+    case 14: return "MetaTooLong";
+    case 15: return "BadVersions";
+    case 16: return "WrongType";
+    case 17: return "UnknownKey";
+    case 18: return "DuplicateKey";
+    case 19: return "BadState";
+    case 20: return "TooManyNodes";
+    case 21: return "UserTooLong";
+    case 22: return "Trailing";
+    case 23: return "TooManyRecords";
+    case 24: return "Exhausted";
+    case 25: return "Gone";
+    case 26: return "NoSuchNode";
+    case 27: return "SameNode";
+    case 28: return "TooLargeForLoop";
+    case 29: return "Push";
+    case 30: return "BadHex";
+    case 31: return "BadScript";
+    case 32: return "InputTooLong";
+    case 64: return "NoNode";
+    case 65: return "NodeThere";
+    case 66: return "TooSmall";
+    case 67: return "NoMember";
+    case 68: return "OwnName";
+    case 69: return "TooManyPackets";
+    default: return "Unknown";
+    }
+}
+
+#ifdef __cplusplus
+}
+#endif
+#endif

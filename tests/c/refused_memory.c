@@ -1,0 +1,209 @@
+/* Each allocation of a run refused in turn: every call is done, or answers SWIMTAB_MEMORY and has changed
+ * neither a node nor its buffer; made again it is done; and at the end all memory was let go. Linked
+ * with -Wl,--wrap=malloc,--wrap=realloc,--wrap=free. */
+#include "check.h"
+
+void *__real_malloc(size_t size);
+void *__real_realloc(void *at, size_t size);
+void __real_free(void *at);
+void *__wrap_malloc(size_t size);
+void *__wrap_realloc(void *at, size_t size);
+void __wrap_free(void *at);
+
+static long until_refused = -1; /* how many allocations until one is refused; below 0, none is */
+static long held = 0;           /* blocks that were not let go */
+static bool watching = false;   /* whether a call of the library runs */
+
+static bool is_refused(void) { return watching && until_refused >= 0 && until_refused-- == 0; }
+
+void *__wrap_malloc(size_t size) {
+    if (is_refused()) return NULL;
+    void *at = __real_malloc(size);
+    held += at != NULL;
+    return at;
+}
+
+void *__wrap_realloc(void *at, size_t size) {
+    if (is_refused()) return NULL;
+    void *moved = __real_realloc(at, size);
+    held += !at && moved;
+    return moved;
+}
+
+void __wrap_free(void *at) {
+    held -= at != NULL;
+    __real_free(at);
+}
+
+enum { ROOM = 1 << 14 };
+
+static swimtab_node first, second;
+static uint8_t offer[ROOM], reply[ROOM], out[ROOM];
+static size_t offer_len, reply_len;
+static size_t out_len; /* what the call before wrote to out */
+
+/* The calls of a run, in their order; each answers its status. */
+
+static const uint8_t local[4] = {127, 0, 0, 1};
+static const char long_name[] = "a name of more than thirty bytes, which takes memory";
+static uint8_t meta[200];
+
+static uint32_t open_first(void) {
+    return swimtab_open(&first, long_name, sizeof long_name - 1, local, 4, 7946, meta, sizeof meta, NULL, 0, 1);
+}
+static uint32_t open_second(void) {
+    return swimtab_open(&second, "b", 1, local, 4, 7947, NULL, 0, NULL, 0, 1);
+}
+static uint32_t take(swimtab_node *node, const char *text) {
+    uint8_t bytes[512];
+    size_t len = 0;
+    for (; digit_of(text[2 * len]) < 16; len++)
+        bytes[len] = (uint8_t)(16 * digit_of(text[2 * len]) + digit_of(text[2 * len + 1]));
+    watching = true;
+    uint32_t status = swimtab_take(node, bytes, len);
+    watching = false;
+    return status;
+}
+static uint32_t take_alive(void) {
+    return take(&first, "0486a441646472a47f000001ab496e6361726e6174696f6e04a44d657461a0a44e6f6465a161a4506f7274cd1f"
+                        "0ba356736ea0");
+}
+static uint32_t take_known(void) {
+    return take(&first, "0383a446726f6da178ab496e6361726e6174696f6e05a44e6f6465a161");
+}
+static uint32_t take_compound(void) {
+    return take(&first, "0703001d001d001d" "0383a446726f6da178ab496e6361726e6174696f6e05a44e6f6465a163"
+                        "0583a446726f6da178ab496e6361726e6174696f6e05a44e6f6465a161"
+                        "0383a446726f6da178ab496e6361726e6174696f6e01a44e6f6465a164");
+}
+static uint32_t suspect_second(void) {
+    return take(&second, "0383a446726f6da178ab496e6361726e6174696f6e01a44e6f6465a162");
+}
+static uint32_t kept(swimtab_written written) {
+    out_len = written.len;
+    return written.status;
+}
+static uint32_t say_alive(void) { return kept(swimtab_alive(&first, 2, out, ROOM)); }
+static uint32_t say_suspect(void) { return kept(swimtab_suspect(&first, long_name, 40, 2, out, ROOM)); }
+static uint32_t say_confirm(void) { return kept(swimtab_confirm(&first, long_name, 40, 2, out, ROOM)); }
+static uint32_t say_leave(void) { return kept(swimtab_leave(&first, 2, out, ROOM)); }
+static uint32_t say_compound(void) {
+    static const uint8_t packets[] = "\x03\x81\xa4Node\xa1g\x03\x81\xa4Node\xa1h";
+    const size_t lens[2] = {9, 9};
+    return kept(swimtab_compound(packets, 18, lens, 2, out, ROOM));
+}
+static uint32_t list_first(void) { return kept(swimtab_list(&first, out, ROOM)); }
+static uint32_t offer_first(void) {
+    uint32_t status = kept(swimtab_offer(&first, true, out, ROOM));
+    memcpy(offer, out, out_len);
+    offer_len = out_len;
+    return status;
+}
+static uint32_t answer_second(void) {
+    swimtab_exchanged made = swimtab_answer(&second, offer, offer_len, out, ROOM);
+    out_len = made.len;
+    memcpy(reply, out, out_len);
+    reply_len = out_len;
+    return made.status;
+}
+static uint32_t finish_first(void) { return swimtab_finish(&first, reply, reply_len).status; }
+static uint32_t refute_second(void) { return swimtab_refute(&second).status; }
+
+static uint32_t (*const calls[])(void) = {
+    open_first,   open_second, take_alive,  take_known,    take_compound, suspect_second, say_alive,
+    say_suspect,  say_confirm, say_leave,   say_compound,  list_first,    offer_first,    answer_second,
+    finish_first, refute_second,
+};
+
+/* What both nodes show, without watching. */
+static size_t show(uint8_t *shown) {
+    swimtab_written one = swimtab_list(&first, shown, ROOM);
+    swimtab_written two = swimtab_list(&second, shown + one.len, ROOM - one.len);
+    return one.len + two.len;
+}
+
+/* Makes a call with the next allocations as they come, and once more where it was refused. */
+static bool make(uint32_t (*call)(void)) {
+    static uint8_t before[ROOM], after[ROOM];
+    size_t len = show(before);
+    memset(out, 7, ROOM);
+    watching = true;
+    uint32_t status = call();
+    watching = false;
+    if (status == SWIMTAB_DONE) return false;
+    WANT(status == SWIMTAB_MEMORY);
+    WANT(show(after) == len && memcmp(before, after, len) == 0);
+    WANT(out[0] == 7 && memcmp(out, out + 1, ROOM - 1) == 0);
+    watching = true;
+    status = call();
+    watching = false;
+    WANT(status == SWIMTAB_DONE);
+    return true;
+}
+
+/* A run with the allocation of this number refused: how many calls were refused, or -1 where there
+ * was no such allocation. */
+static int run(long number) {
+    static uint8_t wanted[ROOM], shown[ROOM];
+    static size_t wanted_len;
+    int refused = 0;
+    until_refused = number;
+    for (size_t i = 0; i < sizeof calls / sizeof *calls; i++) refused += make(calls[i]);
+    bool reached = until_refused < 0 && number >= 0;
+    until_refused = -1;
+    size_t len = show(shown);
+    if (number < 0) {
+        memcpy(wanted, shown, len);
+        wanted_len = len;
+    }
+    WANT(len == wanted_len && memcmp(shown, wanted, len) == 0);
+    WANT(swimtab_close(&first) == 0 && swimtab_close(&second) == 0);
+    WANT(held == 0);
+    return reached ? refused : -1;
+}
+
+static long runs = 0, refusals = 0;
+
+static void each_allocation_may_be_refused(void) {
+    run(-1);
+    int refused;
+    while ((refused = run(runs)) >= 0) {
+        WANT(refused <= 1);
+        refusals += refused;
+        runs++;
+        if (runs > 10000) break;
+    }
+    WANT(runs > 0 && runs <= 10000 && refusals > 0);
+}
+
+static void an_alive_of_a_known_name_takes_no_memory(void) {
+    WANT(open_first() == 0 && open_second() == 0 && suspect_second() == 0);
+    swimtab_member_data member;
+    until_refused = 0;
+    WANT(take(&second, "0486a441646472a47f000001ab496e6361726e6174696f6e08a44d657461a0a44e6f6465a162a4506f7274cd1f"
+                       "0ba356736ea6010502000000") == 0);
+    until_refused = -1;
+    WANT(take(&second, "0383a446726f6da178ab496e6361726e6174696f6e09a44e6f6465a162") == 0);
+    until_refused = 0;
+    watching = true;
+    WANT(swimtab_refute(&second).due && swimtab_count(&second) == 1);
+    WANT(swimtab_member(&second, 0, &member) == 0 && swimtab_find(&second, "b", 1, &member) == 0);
+    WANT(swimtab_relate(&first, &second).status == 0);
+    watching = false;
+    WANT(until_refused == 0);
+    until_refused = -1;
+    WANT(swimtab_close(&first) == 0 && swimtab_close(&second) == 0 && held == 0);
+}
+
+int main(void) {
+    static const struct test tests[] = {
+        {"each allocation may be refused", each_allocation_may_be_refused},
+        {"an Alive of a known name takes no memory", an_alive_of_a_known_name_takes_no_memory},
+    };
+    /* the first print takes a block for its buffer */
+    printf("refused memory:\n");
+    held = 0;
+    int failed = run_tests(tests, sizeof tests / sizeof *tests);
+    printf("%ld allocations, each refused in turn: %ld calls were refused\n", runs, refusals);
+    return failed;
+}
