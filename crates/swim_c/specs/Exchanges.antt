@@ -16,7 +16,8 @@ use Rattle.swim_c.specs.Buffers.{Copied}
 use Rattle.swim_c.specs.Taking.{TakesClaims}
 
 -- the bytes begin with a stream of this length and flag, of these claims
-pub record BeginsStream (bytes : List ℕ) (claims : List Claim) (join : Bool) (used : ℕ) : Type 0 where
+pub record BeginsStream (bytes : List ℕ) (claims : List Claim) (join : Bool)
+    (used : ℕ) : Type 0 where
   pub text : List ℕ
   pub rest : List ℕ
   pub front : bytes ≡ text ++ rest
@@ -28,7 +29,8 @@ abbrev pub ReadsStream : List ℕ → Bool → ℕ → Type 0
 ReadsStream bytes join used = (claims : List Claim) × BeginsStream bytes claims join used
 
 -- a stream of this length and flag stands at the front, whose claims the node took in
-pub record TakesStream (bytes : List ℕ) (join : Bool) (used : ℕ) (before after : NodeValue) : Type 0 where
+pub record TakesStream (bytes : List ℕ) (join : Bool) (used : ℕ)
+    (before after : NodeValue) : Type 0 where
   pub claims : List Claim
   pub begins : BeginsStream bytes claims join used
   pub taken : TakesClaims claims before.table after.table
@@ -38,7 +40,8 @@ pub record TakesStream (bytes : List ℕ) (join : Bool) (used : ℕ) (before aft
 pub record LacksStream (bytes : List ℕ) (fault : WireFault) : Type 0 where
   pub no_memory : fault ≢ wire.Memory
   pub no_end : fault ≢ wire.Fault
-  pub lacks : (text rest : List ℕ) (claims : List Claim) (join : Bool) → StreamText text claims join → bytes ≢ text ++ rest
+  pub lacks : (text rest : List ℕ) (claims : List Claim) (join : Bool) → StreamText text claims join
+      → bytes ≢ text ++ rest
   pub explains : ExplainsStream fault bytes
 
 -- why a table has no dump: too many records (23), or no memory (10)
@@ -55,7 +58,8 @@ IsFinishRefused stream Memory = Unit {0}
 -- why an offer is not answered: for too many records only where a stream stands there
 abbrev pub IsAnswerRefused : List ℕ → Entries → SyncFault → Type 0
 IsAnswerRefused stream table (Wire fault) = LacksStream stream fault
-IsAnswerRefused stream table TooManyRecords = HasTooMany table × ((join : Bool) × (used : ℕ) × ReadsStream stream join used)
+IsAnswerRefused stream table TooManyRecords = HasTooMany table
+    × ((join : Bool) × (used : ℕ) × ReadsStream stream join used)
 IsAnswerRefused stream table Push = ⊥
 IsAnswerRefused stream table Memory = Unit {0}
 
@@ -65,22 +69,34 @@ pub record IsUntold (join : Bool) (used len : ℕ) : Type 0 where
   pub no_used : used ≡ 0
   pub no_len : len ≡ 0
 
--- A stream was taken in (0), or the node is as it was: none stands there, or memory was refused, and the status is that of the fault.
-pub data FinishDone (stream : List ℕ) (status : ℕ) (join : Bool) (used len : ℕ) (before after : NodeValue) : Type 0 where
-  finished : status ≡ 0 → len ≡ 0 → TakesStream stream join used before after → FinishDone stream status join used len before after
-  refused : (fault : SyncFault) → IsFinishRefused stream fault → status ≡ sync_number fault → IsUntold join used len
+-- A stream was taken in (0), or the node is as it was: none stands there, or memory was refused,
+-- and the status is that of the fault.
+pub data FinishDone (stream : List ℕ) (status : ℕ) (join : Bool) (used len : ℕ)
+    (before after : NodeValue) : Type 0 where
+  finished : status ≡ 0 → len ≡ 0 → TakesStream stream join used before after
+      → FinishDone stream status join used len before after
+  refused : (fault : SyncFault) → IsFinishRefused stream fault → status ≡ sync_number fault
+      → IsUntold join used len
       → after ≡ before → FinishDone stream status join used len before after
 
--- A stream was read, and the dump of before written and the stream taken in (0), or the dump does not fit and nothing has changed (66).
-pub data Answers (stream old new : List ℕ) (status : ℕ) (join : Bool) (used len : ℕ) (before after : NodeValue) : Type 0 where
-  answered : status ≡ 0 → TakesStream stream join used before after → Copied (dump_bytes before.table join) old new status len
+-- A stream was read, and the dump of before written and the stream taken in (0), or the dump does
+-- not fit and nothing has changed (66).
+pub data Answers (stream old new : List ℕ) (status : ℕ) (join : Bool) (used len : ℕ)
+    (before after : NodeValue) : Type 0 where
+  answered : status ≡ 0 → TakesStream stream join used before after
+      → Copied (dump_bytes before.table join) old new status len
       → Answers stream old new status join used len before after
-  too_small : status ≡ 66 → ReadsStream stream join used → Copied (dump_bytes before.table join) old new status len → after ≡ before
+  too_small : status ≡ 66 → ReadsStream stream join used
+      → Copied (dump_bytes before.table join) old new status len → after ≡ before
       → Answers stream old new status join used len before after
 
--- An offer was answered, or the reply does not fit; or the node and the buffer are as they were: no stream stands there, and the status is
--- that of the fault, or the node's table has too many records (23), or there is no memory (10).
-pub data AnswerDone (stream old new : List ℕ) (status : ℕ) (join : Bool) (used len : ℕ) (before after : NodeValue) : Type 0 where
-  answers : Answers stream old new status join used len before after → AnswerDone stream old new status join used len before after
-  refused : (fault : SyncFault) → IsAnswerRefused stream before.table fault → status ≡ sync_number fault → IsUntold join used len
+-- An offer was answered, or the reply does not fit; or the node and the buffer are as they were: no
+-- stream stands there, and the status is that of the fault, or the node's table has too many
+-- records (23), or there is no memory (10).
+pub data AnswerDone (stream old new : List ℕ) (status : ℕ) (join : Bool) (used len : ℕ)
+    (before after : NodeValue) : Type 0 where
+  answers : Answers stream old new status join used len before after
+      → AnswerDone stream old new status join used len before after
+  refused : (fault : SyncFault) → IsAnswerRefused stream before.table fault
+      → status ≡ sync_number fault → IsUntold join used len
       → after ≡ before → new ≡ old → AnswerDone stream old new status join used len before after

@@ -15,24 +15,31 @@ abbrev pub open_number : OpenFault → ℕ
 open_number (Claim fault) = number_of fault
 open_number Memory = 10
 
--- the node of a member of this name and these details, of which nothing is known but its Alive at this incarnation
-pub record IsOpened (name : List ℕ) (details : DetailsValue) (inc : ℕ) (node : NodeValue) : Type 0 where
+-- the node of a member of this name and these details, of which nothing is known but its Alive at
+-- this incarnation
+pub record IsOpened (name : List ℕ) (details : DetailsValue) (inc : ℕ)
+    (node : NodeValue) : Type 0 where
   pub name_is : node.name ≡ name
   pub details_is : node.details ≡ details
   pub start : TableOf node.table (Alive name inc details ∷ [])
 
--- The first check that fails: the name, the address, the metadata, the versions. Memory may be refused at any time.
+-- The first check that fails: the name, the address, the metadata, the versions. Memory may be
+-- refused at any time.
 abbrev pub IsUnopened : List ℕ → DetailsValue → OpenFault → Type 0
 IsUnopened name details (Claim NameEmpty) = name ≡ []
 IsUnopened name details (Claim NameTooLong) = 1024 < length name
 IsUnopened name details (Claim BadAddress) = IsLegalName name × (¬ IsAddress details.addr)
-IsUnopened name details (Claim MetaTooLong) = IsLegalName name × IsAddress details.addr × (512 < length details.meta)
+IsUnopened name details (Claim MetaTooLong) = IsLegalName name × IsAddress details.addr
+    × (512 < length details.meta)
 IsUnopened name details (Claim BadVersions) =
-    IsLegalName name × IsAddress details.addr × (length details.meta ≤ 512) × (¬ IsVersions details.vsn)
+    IsLegalName name × IsAddress details.addr × (length details.meta ≤ 512)
+    × (¬ IsVersions details.vsn)
 IsUnopened name details Memory = ⊤
 
--- A handle with a node keeps it (65). One with none has such a node (0), or still none, and the status says why.
+-- A handle with a node keeps it (65). One with none has such a node (0), or still none, and the
+-- status says why.
 abbrev pub OpenDone : List ℕ → DetailsValue → ℕ → Option NodeValue → Option NodeValue → ℕ → Type 0
 OpenDone name details inc (Some before) new status = (status ≡ 65) × (new ≡ Some before)
 OpenDone name details inc None (Some after) status = (status ≡ 0) × IsOpened name details inc after
-OpenDone name details inc None None status = (fault : OpenFault) × (status ≡ open_number fault) × IsUnopened name details fault
+OpenDone name details inc None None status = (fault : OpenFault) × (status ≡ open_number fault)
+    × IsUnopened name details fault

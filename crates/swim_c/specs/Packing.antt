@@ -13,17 +13,22 @@ use Rattle.swim_c.specs.Buffers.{Copied}
 -- the bytes are these packets, one behind another, of these lengths
 pub data PacketTexts : List ℕ → List ℕ → List PacketValue → Type 0 where
   none : PacketTexts [] [] []
-  one : (text rest lens : List ℕ) (p : PacketValue) (packets : List PacketValue) → PacketText text p → PacketTexts lens rest packets
+  one : (text rest lens : List ℕ) (p : PacketValue) (packets : List PacketValue) → PacketText text p
+      → PacketTexts lens rest packets
       → PacketTexts (length text ∷ lens) (text ++ rest) (p ∷ packets)
 
 -- Behind some packets the next one is cut, or is none; or behind all of them there are bytes left.
 pub data LacksPackets (lens bytes : List ℕ) (fault : WireFault) : Type 0 where
-  cut : (front rest before later : List ℕ) (len : ℕ) (packets : List PacketValue) → PacketTexts before front packets
-      → lens ≡ before ++ len ∷ later → bytes ≡ front ++ rest → length rest < len → fault ≡ Ended → LacksPackets lens bytes fault
-  wrong : (front text rest before later : List ℕ) (packets : List PacketValue) → PacketTexts before front packets
+  cut : (front rest before later : List ℕ) (len : ℕ) (packets : List PacketValue)
+      → PacketTexts before front packets → lens ≡ before ++ len ∷ later → bytes ≡ front ++ rest
+      → length rest < len → fault ≡ Ended → LacksPackets lens bytes fault
+  wrong : (front text rest before later : List ℕ) (packets : List PacketValue)
+      → PacketTexts before front packets
       → lens ≡ before ++ length text ∷ later → bytes ≡ front ++ (text ++ rest)
-      → whole_packet text ≡ Err fault → ExplainsWhole fault text → fault ≢ Fault → LacksPackets lens bytes fault
-  trailing : (front rest : List ℕ) (packets : List PacketValue) → PacketTexts lens front packets → bytes ≡ front ++ rest → rest ≢ []
+      → whole_packet text ≡ Err fault → ExplainsWhole fault text → fault ≢ Fault
+      → LacksPackets lens bytes fault
+  trailing : (front rest : List ℕ) (packets : List PacketValue) → PacketTexts lens front packets
+      → bytes ≡ front ++ rest → rest ≢ []
       → fault ≡ Trailing → LacksPackets lens bytes fault
 
 -- the bytes are the canonical compound packet of these packets
@@ -33,11 +38,16 @@ pub record IsPacked (lens bytes compound : List ℕ) : Type 0 where
   pub text : DatagramText compound packets
   pub canonical : compound ≡ packets_bytes packets
 
--- The canonical compound packet of the packets was written or did not fit; or the buffer is as it was: they are more than 255 (69),
--- or no packets, and the status is that of the fault, or there is no memory (10).
+-- The canonical compound packet of the packets was written or did not fit; or the buffer is as it
+-- was: they are more than 255 (69), or no packets, and the status is that of the fault, or there is
+-- no memory (10).
 pub data CompoundDone (bytes lens old new : List ℕ) (status len : ℕ) : Type 0 where
-  packed : (compound : List ℕ) → IsPacked lens bytes compound → Copied compound old new status len → CompoundDone bytes lens old new status len
-  too_many : 255 < length lens → status ≡ 69 → len ≡ 0 → new ≡ old → CompoundDone bytes lens old new status len
-  refused : length lens ≤ 255 → (fault : WireFault) → status ≡ number_of fault → fault ≢ Memory → LacksPackets lens bytes fault
+  packed : (compound : List ℕ) → IsPacked lens bytes compound → Copied compound old new status len
+      → CompoundDone bytes lens old new status len
+  too_many : 255 < length lens → status ≡ 69 → len ≡ 0 → new ≡ old
+      → CompoundDone bytes lens old new status len
+  refused : length lens ≤ 255 → (fault : WireFault) → status ≡ number_of fault → fault ≢ Memory
+      → LacksPackets lens bytes fault
       → len ≡ 0 → new ≡ old → CompoundDone bytes lens old new status len
-  memory : length lens ≤ 255 → status ≡ 10 → len ≡ 0 → new ≡ old → CompoundDone bytes lens old new status len
+  memory : length lens ≤ 255 → status ≡ 10 → len ≡ 0 → new ≡ old
+      → CompoundDone bytes lens old new status len

@@ -5,14 +5,18 @@ use Rattle.swim_wire.specs.Packet.{PacketValue}
 use Rattle.swim_wire.specs.Texts.{PacketText}
 use Rattle.swim_c.specs.Buffers.{Copied}
 
--- The canonical bytes of the packet were written or did not fit. Or there is none for this reason, and the buffer is as it was.
-pub data SaidOr (packet : PacketValue) (old new : List ℕ) (status len : ℕ) (Refused : ℕ → Type 0) : Type 0 where
-  said : PacketText (packet_bytes packet) packet → Copied (packet_bytes packet) old new status len → SaidOr packet old new status len Refused
+-- The canonical bytes of the packet were written or did not fit. Or there is none for this reason,
+-- and the buffer is as it was.
+pub data SaidOr (packet : PacketValue) (old new : List ℕ) (status len : ℕ)
+    (Refused : ℕ → Type 0) : Type 0 where
+  said : PacketText (packet_bytes packet) packet → Copied (packet_bytes packet) old new status len
+      → SaidOr packet old new status len Refused
   refused : Refused status → len ≡ 0 → new ≡ old → SaidOr packet old new status len Refused
 
 -- the name is empty (11) or too long (12), or memory was refused (10)
 abbrev pub IsNoName : List ℕ → ℕ → Type 0
-IsNoName name status = ((status ≡ 11) × (name ≡ [])) ⊎ ((status ≡ 12) × (1024 < length name)) ⊎ (status ≡ 10)
+IsNoName name status = ((status ≡ 11) × (name ≡ [])) ⊎ ((status ≡ 12) × (1024 < length name))
+    ⊎ (status ≡ 10)
 
 -- the name is the member's own (68), or none
 abbrev pub IsUnsaid : List ℕ → List ℕ → ℕ → Type 0

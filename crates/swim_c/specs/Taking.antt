@@ -30,18 +30,25 @@ pub record IsNoDatagram (bytes : List ℕ) (fault : WireFault) : Type 0 where
   pub exact : whole_datagram bytes ≡ Err fault
   pub no_end : fault ≢ Fault
 
--- The claims of a datagram were taken in (0), or the node is as it was, and the status is that of the bytes' fault, or 10.
+-- The claims of a datagram were taken in (0), or the node is as it was, and the status is that of
+-- the bytes' fault, or 10.
 pub data TakeDone (bytes : List ℕ) (status : ℕ) (before after : NodeValue) : Type 0 where
   taken : status ≡ 0 → TakesDatagram bytes before after → TakeDone bytes status before after
-  refused : (fault : WireFault) → status ≡ number_of fault → fault ≢ Memory → IsNoDatagram bytes fault → after ≡ before
+  refused : (fault : WireFault) → status ≡ number_of fault → fault ≢ Memory
+      → IsNoDatagram bytes fault → after ≡ before
       → TakeDone bytes status before after
   memory : status ≡ 10 → after ≡ before → TakeDone bytes status before after
 
--- A refutation was made at this incarnation, or none is due; or one is due, and there is no incarnation for it (24), or no memory (10);
--- or the member is gone (25).
+-- A refutation was made at this incarnation, or none is due; or one is due, and there is no
+-- incarnation for it (24), or no memory (10); or the member is gone (25).
 pub data RefuteDone (status : ℕ) (due : Bool) (inc : ℕ) (before after : NodeValue) : Type 0 where
-  refuted : status ≡ 0 → due ≡ true → IsRefutedBy before after inc → SameMember before after → RefuteDone status due inc before after
-  at_rest : status ≡ 0 → due ≡ false → inc ≡ 0 → IsAtRest before → after ≡ before → RefuteDone status due inc before after
-  exhausted : status ≡ 24 → due ≡ false → inc ≡ 0 → IsExhausted before → after ≡ before → RefuteDone status due inc before after
-  gone : (at : ℕ) → status ≡ 25 → due ≡ false → inc ≡ 0 → IsGone before at → after ≡ before → RefuteDone status due inc before after
-  memory : status ≡ 10 → due ≡ false → inc ≡ 0 → IsDueInRange before → after ≡ before → RefuteDone status due inc before after
+  refuted : status ≡ 0 → due ≡ true → IsRefutedBy before after inc → SameMember before after
+      → RefuteDone status due inc before after
+  at_rest : status ≡ 0 → due ≡ false → inc ≡ 0 → IsAtRest before → after ≡ before
+      → RefuteDone status due inc before after
+  exhausted : status ≡ 24 → due ≡ false → inc ≡ 0 → IsExhausted before → after ≡ before
+      → RefuteDone status due inc before after
+  gone : (at : ℕ) → status ≡ 25 → due ≡ false → inc ≡ 0 → IsGone before at → after ≡ before
+      → RefuteDone status due inc before after
+  memory : status ≡ 10 → due ≡ false → inc ≡ 0 → IsDueInRange before → after ≡ before
+      → RefuteDone status due inc before after

@@ -21,8 +21,8 @@ impl Written {
     }
 }
 
-/// Copies the bytes to the front of the buffer, where it is long enough. Answers their length in any
-/// case.
+/// Copies the bytes to the front of the buffer, where it is long enough. Answers their length in
+/// any case.
 pub fn copy_out(bytes: &[u8], out: &mut [u8]) -> Written
     ensures { Copied bytes.now out.old out.new result.status result.len }
 {

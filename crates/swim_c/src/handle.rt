@@ -56,7 +56,8 @@ impl Handle {
     /// Takes the node out.
     pub fn take(&mut self, alloc: Global) -> Option<Box<Node>>
         ensures left { self.new.node ≡ None }
-        ensures taken { MatchOption result (self.old.node ≡ None) (λ node. self.old.node ≡ Some node.value) }
+        ensures taken { MatchOption result (self.old.node ≡ None)
+            (λ node. self.old.node ≡ Some node.value) }
     {
         let handle = mem::replace(self, Handle::none());
         handle.into_node(alloc)

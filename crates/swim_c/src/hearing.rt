@@ -47,7 +47,8 @@ fn take_claim(node: &mut Node, claim: Claim) -> Result<(), AllocError>
 }
 
 fn take_packets(alloc: Global, node: &mut Node, packets: Vec<Packet>) -> Result<(), AllocError>
-    ensures takes { OnOk result (TakesClaims (map (λ p. p.claim) packets.items) node.old.table node.new.table) }
+    ensures takes { OnOk result (TakesClaims (map (λ p. p.claim) packets.items)
+        node.old.table node.new.table) }
     ensures member { SameMember node.old node.new }
     ensures unchanged { OnErr result (node.new ≡ node.old) }
 {

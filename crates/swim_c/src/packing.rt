@@ -9,8 +9,8 @@ use crate::status::TOO_MANY_PACKETS;
 use std::alloc::{AllocError, Global};
 use swim_wire::{Packet, WireFault, decode_packet, encode_compound};
 
-/// Writes the compound packet of the packets, which stand one behind another and have these lengths,
-/// to the buffer.
+/// Writes the compound packet of the packets, which stand one behind another and have these
+/// lengths, to the buffer.
 pub fn compound_out(alloc: Global, bytes: &[u8], lens: &[usize], out: &mut [u8]) -> Written
     ensures { CompoundDone bytes.now lens.now out.old out.new result.status result.len }
 {

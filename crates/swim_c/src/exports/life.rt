@@ -8,9 +8,9 @@ use crate::opening::{Parts, open};
 use crate::status::{DONE, NO_NODE, NODE_THERE};
 use std::alloc::Global;
 
-/// Gives a handle without a node that of a member: its name of 1 to 1,024 bytes, its address of 4 or
-/// 16 bytes, its port, its metadata of at most 512 bytes, and no versions or 6 bytes of them. Its
-/// table holds its Alive at the incarnation, 0 to 4,294,967,295 (own).
+/// Gives a handle without a node that of a member: its name of 1 to 1,024 bytes, its address of 4
+/// or 16 bytes, its port, its metadata of at most 512 bytes, and no versions or 6 bytes of them.
+/// Its table holds its Alive at the incarnation, 0 to 4,294,967,295 (own).
 ///
 /// # Statuses
 ///

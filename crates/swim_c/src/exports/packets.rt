@@ -17,15 +17,16 @@ use crate::status::NO_NODE;
 use crate::telling::{Refuted, refute};
 use std::alloc::Global;
 
-/// Takes in the claims of a packet or compound packet, or none. A packet by itself takes no memory for
-/// a table that knows its name.
+/// Takes in the claims of a packet or compound packet, or none. A packet by itself takes no memory
+/// for a table that knows its name.
 ///
 /// # Statuses
 ///
 /// Where it is not 0 the node is as it was.
 ///
 /// - 64 where the handle has no node.
-/// - 1 to 22 where the bytes are neither: the fault at which their reading stops (docs/PROTOCOL.md).
+/// - 1 to 22 where the bytes are neither: the fault at which their reading stops
+///   (docs/PROTOCOL.md).
 /// - 10 where memory is refused.
 #[unsafe(no_mangle)]
 pub extern "C" fn swimtab_raw_take(alloc: Global, node: &mut Handle, bytes: &[u8]) -> u32
@@ -189,16 +190,16 @@ pub extern "C" fn swimtab_raw_leave(
     written
 }
 
-/// Writes packets as one compound packet to the buffer, in their canonical bytes. They stand one behind
-/// another, and have these lengths.
+/// Writes packets as one compound packet to the buffer, in their canonical bytes. They stand one
+/// behind another, and have these lengths.
 ///
 /// # Statuses
 ///
 /// Where it is not 0 the buffer is as it was.
 ///
 /// - 69 where there are more than 255 lengths, as many as a compound packet has parts at most.
-/// - 1 to 22 where they are no packets, for the first one that is refused: 1 too where the bytes end
-///   before its length does, and 22 where bytes follow the last.
+/// - 1 to 22 where they are no packets, for the first one that is refused: 1 too where the bytes
+///   end before its length does, and 22 where bytes follow the last.
 /// - 66 where the buffer is too small. The length is then that of the compound packet.
 /// - 10 where memory is refused.
 #[unsafe(no_mangle)]

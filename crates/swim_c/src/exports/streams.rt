@@ -44,8 +44,8 @@ pub extern "C" fn swimtab_raw_offer(
 }
 
 /// Answers an offer: reads one stream from the front of the bytes, writes the canonical dump of the
-/// node's table of before, with the stream's join flag, to the buffer, and takes the stream's claims in
-/// (memberlist's `net.go`).
+/// node's table of before, with the stream's join flag, to the buffer, and takes the stream's
+/// claims in (memberlist's `net.go`).
 ///
 /// # Statuses
 ///
@@ -76,8 +76,8 @@ pub extern "C" fn swimtab_raw_answer(
     exchanged
 }
 
-/// Finishes an exchange: reads one stream, the reply, from the front of the bytes, and takes its claims
-/// in (memberlist's `net.go`). Any dump can be taken in so.
+/// Finishes an exchange: reads one stream, the reply, from the front of the bytes, and takes its
+/// claims in (memberlist's `net.go`). Any dump can be taken in so.
 ///
 /// # Statuses
 ///

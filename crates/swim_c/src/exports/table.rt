@@ -16,7 +16,8 @@ use crate::status::{DONE, NO_NODE};
 use crate::telling::{list_out, member_at, member_named, relation_of};
 use std::alloc::Global;
 
-/// The number of members that the node knows of, itself among them, or 0 where the handle has no node.
+/// The number of members that the node knows of, itself among them, or 0 where the handle has no
+/// node.
 #[unsafe(no_mangle)]
 pub extern "C" fn swimtab_raw_count(alloc: Global, node: &mut Handle) -> usize
     ensures same { node.new.node ≡ node.old.node }
