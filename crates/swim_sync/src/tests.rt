@@ -4,6 +4,7 @@ mod events;
 mod fakes;
 mod faults;
 mod halves;
+mod levels;
 mod random_runs;
 
 use crate::{SyncFault, answer, exchange, finish};
@@ -31,19 +32,40 @@ const SUSPECT_LISTING: &str = "b suspect 1 -\n";
 
 const JOINED_LISTING: &str = "a alive 0 0/7f000001/7946//\nb suspect 1 -\n";
 
-/// The table of `a`, alive at incarnation 0, at 127.0.0.1 and port 7946.
-fn alive_table(rt: &impl Abort, alloc: Global) -> Result<Table, AllocError> {
-    let name = Name::new(b"a".to_vec(alloc)?).expect(rt, "a legal name");
-    let addr = b"\x7f\0\0\x01".to_vec(alloc)?;
-    let details = Details::new(addr, 7946, Vec::new(alloc), Vec::new(alloc));
-    let claim = Claim::Alive {
-        name,
-        inc: 0,
-        details: details.expect(rt, "legal details"),
-    };
+/// That the bytes are those that are wanted.
+fn assert_bytes(rt: &impl Abort, found: &[u8], wanted: &[u8], about: &str) {
+    assert_eq!(rt; found, wanted, "{about}");
+}
+
+/// A name.
+fn name_of(rt: &impl Abort, alloc: Global, name: &[u8]) -> Result<Name, AllocError> {
+    Ok(Name::new(name.to_vec(alloc)?).expect(rt, "a legal name"))
+}
+
+/// The details of a member at 127.0.0.x and this port.
+fn details_of(rt: &impl Abort, alloc: Global, last: u8, port: u16) -> Result<Details, AllocError> {
+    let addr = [127, 0, 0, last].as_slice().to_vec(alloc)?;
+    let details = Details::new(addr, port, Vec::new(alloc), Vec::new(alloc));
+    Ok(details.expect(rt, "legal details"))
+}
+
+/// The table of one claim.
+fn table_of(alloc: Global, claim: Claim) -> Result<Table, AllocError> {
     let mut table = Table::new(alloc);
     take(&mut table, claim)?;
     Ok(table)
+}
+
+/// The table of `a`, alive at incarnation 0, at 127.0.0.1 and port 7946.
+fn alive_table(rt: &impl Abort, alloc: Global) -> Result<Table, AllocError> {
+    let details = details_of(rt, alloc, 1, 7946)?;
+    let name = name_of(rt, alloc, b"a")?;
+    let claim = Claim::Alive {
+        name,
+        inc: 0,
+        details,
+    };
+    table_of(alloc, claim)
 }
 
 /// A Suspect of the name at the incarnation.
@@ -53,15 +75,13 @@ fn suspect(
     name: &'static [u8],
     inc: u32,
 ) -> Result<Claim, AllocError> {
-    let name = Name::new(name.to_vec(alloc)?).expect(rt, "a legal name");
+    let name = name_of(rt, alloc, name)?;
     Ok(Claim::Suspect { name, inc })
 }
 
 /// The table of `b`, suspected at incarnation 1.
 fn suspect_table(rt: &impl Abort, alloc: Global) -> Result<Table, AllocError> {
-    let mut table = Table::new(alloc);
-    take(&mut table, suspect(rt, alloc, b"b", 1)?)?;
-    Ok(table)
+    table_of(alloc, suspect(rt, alloc, b"b", 1)?)
 }
 
 /// Takes so many Suspects into the table, of names of four bytes each.
@@ -72,7 +92,7 @@ fn take_suspects(
     count: u32,
 ) -> Result<(), AllocError> {
     for number in 0..count {
-        let name = Name::new(number.to_be_bytes().to_vec(alloc)?).expect(rt, "a legal name");
+        let name = name_of(rt, alloc, &number.to_be_bytes())?;
         take(table, Claim::Suspect { name, inc: 0 })?;
     }
     Ok(())
@@ -85,19 +105,35 @@ fn take(table: &mut Table, claim: Claim) -> Result<(), AllocError> {
     }
 }
 
+/// The listing of the table, at the second try where memory is refused.
+fn listing(alloc: Global, table: &Table) -> Result<Vec<u8>, AllocError> {
+    match list(alloc, table) {
+        Err(_) => list(alloc, table),
+        answer => answer,
+    }
+}
+
 /// Asserts that the table has this listing, at the second try where memory is refused.
 fn assert_lists(
     rt: &impl Abort,
     alloc: Global,
     table: &Table,
-    listing: &str,
+    wanted: &str,
 ) -> Result<(), AllocError> {
-    let bytes = match list(alloc, table) {
-        Ok(bytes) => bytes,
-        Err(_) => list(alloc, table)?,
-    };
-    assert_eq!(rt; bytes.as_slice(), listing.as_bytes(), "{listing}");
+    assert_bytes(rt, &listing(alloc, table)?, wanted.as_bytes(), wanted);
     Ok(())
+}
+
+/// What answering the offer gives, and how many bytes of the offer are left.
+fn answer_once(
+    alloc: Global,
+    offer: &[u8],
+    reply: &mut VecOutlet,
+    table: &mut Table,
+) -> (Result<bool, SyncFault>, usize) {
+    let mut inlet = SliceInlet::new(offer);
+    let given = answer(alloc, &mut inlet, reply, table);
+    (given, inlet.rest().len())
 }
 
 /// Answers the offer, which has to give the flag, with the table of `b` alone, and gives what was
@@ -110,17 +146,19 @@ fn answered(
     join: bool,
 ) -> Result<VecOutlet, AllocError> {
     let mut reply = VecOutlet::new(alloc);
-    let mut inlet = SliceInlet::new(offer);
-    let mut answer_given = answer(alloc, &mut inlet, &mut reply, table);
-    if answer_given == Err(SyncFault::Memory) {
+    let (mut given, mut left) = answer_once(alloc, offer, &mut reply, table);
+    if given == Err(SyncFault::Memory) {
         assert!(rt; reply.bytes().is_empty());
         assert_lists(rt, alloc, table, SUSPECT_LISTING)?;
-        inlet = SliceInlet::new(offer);
-        answer_given = answer(alloc, &mut inlet, &mut reply, table);
+        (given, left) = answer_once(alloc, offer, &mut reply, table);
     }
-    assert_eq!(rt; answer_given, Ok(join));
-    assert!(rt; inlet.rest().is_empty());
+    assert_eq!(rt; given, Ok(join));
+    assert_eq!(rt; left, 0);
     Ok(reply)
+}
+
+fn finish_once(alloc: Global, reply: &[u8], table: &mut Table) -> Result<bool, SyncFault> {
+    finish(alloc, &mut SliceInlet::new(reply), table)
 }
 
 /// Asserts what finishing by these bytes answers, with the table of `a` alone. Where memory is
@@ -132,12 +170,45 @@ fn assert_finishes(
     table: &mut Table,
     expected: Result<bool, SyncFault>,
 ) -> Result<(), AllocError> {
-    let mut finished = finish(alloc, &mut SliceInlet::new(reply), table);
+    let mut finished = finish_once(alloc, reply, table);
     if finished == Err(SyncFault::Memory) {
         assert_lists(rt, alloc, table, ALIVE_LISTING)?;
-        finished = finish(alloc, &mut SliceInlet::new(reply), table);
+        finished = finish_once(alloc, reply, table);
     }
     assert_eq!(rt; finished, expected);
+    Ok(())
+}
+
+fn exchange_once(alloc: Global, first: &mut Table, second: &mut Table) -> Result<(), SyncFault> {
+    exchange(alloc, first, second)
+}
+
+/// Asserts that the table is listed as before.
+fn assert_stays(
+    rt: &impl Abort,
+    alloc: Global,
+    table: &Table,
+    before: &[u8],
+) -> Result<(), AllocError> {
+    assert_bytes(rt, &list(alloc, table)?, before, "a table that has to stay");
+    Ok(())
+}
+
+/// Exchanges the two tables. Where memory is refused both have to stay, and the repeat exchanges them.
+fn exchange_at_last(
+    rt: &impl Abort,
+    alloc: Global,
+    first: &mut Table,
+    second: &mut Table,
+) -> Result<(), AllocError> {
+    let first_listing = list(alloc, first)?;
+    let second_listing = list(alloc, second)?;
+    if let Err(fault) = exchange_once(alloc, first, second) {
+        assert_eq!(rt; fault, SyncFault::Memory);
+        assert_stays(rt, alloc, first, &first_listing)?;
+        assert_stays(rt, alloc, second, &second_listing)?;
+        assert_eq!(rt; exchange_once(alloc, first, second), Ok(()));
+    }
     Ok(())
 }
 
@@ -149,13 +220,7 @@ fn assert_exchanges(
     first: &mut Table,
     second: &mut Table,
 ) -> Result<(), AllocError> {
-    let listings = [list(alloc, first)?, list(alloc, second)?];
-    if let Err(fault) = exchange(alloc, first, second) {
-        assert_eq!(rt; fault, SyncFault::Memory);
-        assert_eq!(rt; list(alloc, first)?.as_slice(), listings[0].as_slice());
-        assert_eq!(rt; list(alloc, second)?.as_slice(), listings[1].as_slice());
-        assert_eq!(rt; exchange(alloc, first, second), Ok(()));
-    }
+    exchange_at_last(rt, alloc, first, second)?;
     assert_lists(rt, alloc, first, JOINED_LISTING)?;
     assert_lists(rt, alloc, second, JOINED_LISTING)
 }

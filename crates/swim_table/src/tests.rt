@@ -1,10 +1,12 @@
 mod dumps;
 mod many;
 mod node;
+mod pieces;
 mod plain;
 mod streams;
+mod tables;
 
-use crate::{Relation, Room, Table, Taken, list, relation};
+use crate::{Table, Taken, list};
 use std::alloc::{AllocError, Global};
 use std::process::Abort;
 use swim_claim::{Claim, Details, Kind, Name};
@@ -76,6 +78,28 @@ impl Saying {
     }
 }
 
+/// That the bytes are those that are wanted.
+fn assert_bytes(rt: &impl Abort, found: &[u8], wanted: &[u8], about: &str) {
+    assert_eq!(rt; found, wanted, "{about}");
+}
+
+/// That the count is the one that is wanted.
+fn assert_count(rt: &impl Abort, found: usize, wanted: usize, about: &str) {
+    assert_eq!(rt; found, wanted, "{about}");
+}
+
+/// Takes in, at the second try, the claim that was handed back. The table has to have stayed.
+fn take_back(
+    rt: &impl Abort,
+    alloc: Global,
+    table: &mut Table,
+    claim: Claim,
+    before: &[u8],
+) -> Result<Taken, AllocError> {
+    assert_bytes(rt, &list(alloc, table)?, before, "a refused claim");
+    Ok(table.take(claim).ok().expect(rt, "the second try"))
+}
+
 /// Takes a claim in. Where memory is refused the table has to stay, and the claim that is handed
 /// back has to be taken in at the second try.
 fn take(
@@ -87,13 +111,7 @@ fn take(
     let before = list(alloc, table)?;
     match table.take(saying.claim(rt, alloc)?) {
         Ok(taken) => Ok(taken),
-        Err((claim, _)) => {
-            assert_eq!(rt; list(alloc, table)?.as_slice(), before.as_slice());
-            match table.take(claim) {
-                Ok(taken) => Ok(taken),
-                Err(_) => panic!(rt; "refused twice"),
-            }
-        }
+        Err((claim, _)) => take_back(rt, alloc, table, claim, &before),
     }
 }
 
@@ -115,18 +133,22 @@ fn claims_of(rt: &impl Abort, alloc: Global, sayings: &[Saying]) -> Result<Vec<C
     Ok(claims)
 }
 
+/// The listing of the table, at the second try where memory is refused.
+fn listing(alloc: Global, table: &Table) -> Result<Vec<u8>, AllocError> {
+    match list(alloc, table) {
+        Err(_) => list(alloc, table),
+        answer => answer,
+    }
+}
+
 /// Asserts that the table has this listing, at the second try where memory is refused.
 fn assert_lists(
     rt: &impl Abort,
     alloc: Global,
     table: &Table,
-    listing: &str,
+    wanted: &str,
 ) -> Result<(), AllocError> {
-    let bytes = match list(alloc, table) {
-        Ok(bytes) => bytes,
-        Err(_) => list(alloc, table)?,
-    };
-    assert_eq!(rt; bytes.as_slice(), listing.as_bytes(), "{listing}");
+    assert_bytes(rt, &listing(alloc, table)?, wanted.as_bytes(), wanted);
     Ok(())
 }
 
@@ -140,6 +162,22 @@ const ORDERS: [[usize; 3]; 6] = [
     [2, 1, 0],
 ];
 
+/// The table of the claims, which arrive in this order.
+fn table_in_order(
+    rt: &impl Abort,
+    alloc: Global,
+    claims: &[Saying],
+    order: &[usize],
+) -> Result<Table, AllocError> {
+    let mut table = Table::new(alloc);
+    for place in order {
+        if let Some(saying) = claims.get(*place) {
+            take(rt, alloc, &mut table, *saying)?;
+        }
+    }
+    Ok(table)
+}
+
 /// Asserts that the claims have this listing, in whatever order they arrive.
 fn assert_listing(
     rt: &impl Abort,
@@ -148,12 +186,7 @@ fn assert_listing(
     listing: &str,
 ) -> Result<(), AllocError> {
     for order in &ORDERS {
-        let mut table = Table::new(alloc);
-        for place in order {
-            if let Some(saying) = claims.get(*place) {
-                take(rt, alloc, &mut table, *saying)?;
-            }
-        }
+        let table = table_in_order(rt, alloc, claims, order)?;
         assert_lists(rt, alloc, &table, listing)?;
     }
     Ok(())
@@ -229,146 +262,4 @@ fn a_name_is_listed_with_its_escapes(rt: HostRuntime) -> Result<(), AllocError> 
     assert_listing(&rt, alloc, &claims, "a%20%25%0A suspect 0 -\n")?;
     let claims = [suspect(b"!~\x7f\x80\xff\0", 0)];
     assert_listing(&rt, alloc, &claims, "!~%7F%80%FF%00 suspect 0 -\n")
-}
-
-#[test]
-fn take_tells_what_changed(rt: HostRuntime) -> Result<(), AllocError> {
-    let alloc = rt.alloc();
-    let rows = [
-        (confirm(b"a", 2), Taken::New),
-        (confirm(b"a", 7), Taken::Raised),
-        (confirm(b"a", 2), Taken::Stood),
-    ];
-    let mut table = Table::new(alloc);
-    for (saying, taken) in rows {
-        assert_eq!(rt; take(&rt, alloc, &mut table, saying)?, taken);
-    }
-    assert_lists(&rt, alloc, &table, "a confirm 7 -\n")?;
-    let rows = [
-        (alive(b"b", 3, LOOPBACK, 7946), Taken::New),
-        (suspect(b"b", 5), Taken::Raised),
-        (alive(b"b", 4, LOOPBACK, 7947), Taken::Raised),
-    ];
-    for (saying, taken) in rows {
-        assert_eq!(rt; take(&rt, alloc, &mut table, saying)?, taken);
-    }
-    assert_eq!(rt; table.records(), 3);
-    Ok(())
-}
-
-#[test]
-fn entries_are_read_by_name_and_by_place(rt: HostRuntime) -> Result<(), AllocError> {
-    let alloc = rt.alloc();
-    let empty = Table::new(alloc);
-    assert!(rt; empty.is_empty());
-    assert!(rt; empty.at(0).is_none());
-    let table = table_of(
-        &rt,
-        alloc,
-        &[suspect(b"b", 1), alive(b"a", 0, LOOPBACK, 7946)],
-    )?;
-    assert_eq!(rt; table.len(), 2);
-    assert!(rt; !table.is_empty());
-    assert!(rt; table.at(2).is_none());
-    assert!(rt; table.get(b"c").is_none());
-    let first = table.at(0).expect(&rt, "an entry");
-    assert_eq!(rt; first.name().bytes(), b"a".as_slice());
-    assert_eq!(rt; first.kind(), Kind::Alive);
-    assert_eq!(rt; first.home_inc(), Some(0));
-    let details = first.home_details().expect(&rt, "a home");
-    assert_eq!(rt; details.port(), 7946);
-    let second = table.at(1).expect(&rt, "an entry");
-    assert_eq!(rt; second.name().bytes(), b"b".as_slice());
-    let named = table.get(b"b").expect(&rt, "an entry");
-    assert_eq!(rt; named.kind(), Kind::Suspect);
-    assert_eq!(rt; named.inc(), 1);
-    assert_eq!(rt; named.home_inc(), None);
-    assert!(rt; named.home_details().is_none());
-    Ok(())
-}
-
-#[test]
-fn several_claims_are_taken_in_or_none(rt: HostRuntime) -> Result<(), AllocError> {
-    let alloc = rt.alloc();
-    let sayings = [alive(b"a", 0, LOOPBACK, 7946), suspect(b"b", 1)];
-    let mut table = Table::new(alloc);
-    let claims = claims_of(&rt, alloc, &sayings)?;
-    let again = claims_of(&rt, alloc, &sayings)?;
-    if table.take_all(claims).is_err() {
-        assert!(rt; table.is_empty());
-        let repeated = table.take_all(again).is_ok();
-        assert!(rt; repeated);
-    }
-    assert_eq!(rt; table.len(), 2);
-    assert_lists(&rt, alloc, &table, BOTH)
-}
-
-#[test]
-fn details_are_listed_in_hexadecimal(rt: HostRuntime) -> Result<(), AllocError> {
-    let alloc = rt.alloc();
-    let addr = LOOPBACK.to_vec(alloc)?;
-    let meta = b"\xab\xcd".to_vec(alloc)?;
-    let vsn = b"\x01\x02\x03\x04\x05\xff".to_vec(alloc)?;
-    let details = Details::new(addr, 65_535, meta, vsn).expect(&rt, "legal details");
-    let name = Name::new(vec![in alloc; b'n'; 1024]?).expect(&rt, "a legal name");
-    let mut claims = Vec::new(alloc);
-    claims.push(Claim::Alive {
-        name,
-        inc: 2,
-        details,
-    })?;
-    let mut table = Table::new(alloc);
-    table.take_all(claims)?;
-    let bytes = list(alloc, &table)?;
-    let (name, rest) = bytes.split_at(bytes.len().min(1024));
-    assert!(rt; name.iter().all(|byte| *byte == b'n'));
-    let line = b" alive 2 2/7f000001/65535/abcd/0102030405ff\n";
-    assert_eq!(rt; rest, line.as_slice());
-    Ok(())
-}
-
-const BOTH: &str = "a alive 0 0/7f000001/7946//\nb suspect 1 -\n";
-
-#[test]
-fn a_join_has_the_claims_of_both_tables(rt: HostRuntime) -> Result<(), AllocError> {
-    let alloc = rt.alloc();
-    let mut table = table_of(&rt, alloc, &[alive(b"a", 0, LOOPBACK, 7946)])?;
-    let other = table_of(&rt, alloc, &[suspect(b"b", 1)])?;
-    if let Err((other, _)) = table.join(other) {
-        assert_lists(&rt, alloc, &table, "a alive 0 0/7f000001/7946//\n")?;
-        assert_lists(&rt, alloc, &other, "b suspect 1 -\n")?;
-        let repeated = table.join(other).is_ok();
-        assert!(rt; repeated);
-    }
-    assert_lists(&rt, alloc, &table, BOTH)
-}
-
-#[test]
-fn a_join_in_room_takes_no_memory(rt: HostRuntime) -> Result<(), AllocError> {
-    let alloc = rt.alloc();
-    let mut table = table_of(&rt, alloc, &[alive(b"a", 0, LOOPBACK, 7946)])?;
-    let other = table_of(&rt, alloc, &[suspect(b"b", 1)])?;
-    let room = Room::new(alloc, 2)?;
-    assert_eq!(rt; room.size(), 2);
-    if table.len() + other.len() <= room.size() {
-        table.join_in(room, other);
-    }
-    assert_lists(&rt, alloc, &table, BOTH)
-}
-
-#[test]
-fn tables_are_related_by_their_join(rt: HostRuntime) -> Result<(), AllocError> {
-    let alloc = rt.alloc();
-    let a = alive(b"a", 0, LOOPBACK, 7946);
-    let b = suspect(b"b", 1);
-    let first = table_of(&rt, alloc, &[a])?;
-    let both = table_of(&rt, alloc, &[b, a])?;
-    let other = table_of(&rt, alloc, &[b])?;
-    let suspected = table_of(&rt, alloc, &[suspect(b"a", 0)])?;
-    assert_eq!(rt; relation(&first, &first), Relation::Equal);
-    assert_eq!(rt; relation(&first, &both), Relation::Behind);
-    assert_eq!(rt; relation(&both, &first), Relation::Ahead);
-    assert_eq!(rt; relation(&first, &other), Relation::Apart);
-    assert_eq!(rt; relation(&first, &suspected), Relation::Apart);
-    Ok(())
 }

@@ -9,7 +9,7 @@ use crate::{Packet, WireFault, decode_packet};
 use std::alloc::Global;
 use std::process::Abort;
 use std::test::Fail;
-use swim_claim::{Claim, Kind, Name};
+use swim_claim::{Claim, Details, Kind, Name};
 
 /// An Alive of `a` at incarnation 0, at 127.0.0.1 and port 7946.
 const ALIVE: &[u8] =
@@ -24,6 +24,53 @@ const CONFIRM: &[u8] = b"\x05\x83\xa4From\xa1x\xabIncarnation\0\xa4Node\xa1a";
 /// A Leave of `a` at incarnation 2.
 const LEAVE: &[u8] = b"\x05\x83\xa4From\xa1a\xabIncarnation\x02\xa4Node\xa1a";
 
+/// That the bytes are those that are wanted.
+fn assert_bytes(rt: &impl Abort, found: &[u8], wanted: &[u8]) {
+    assert_eq!(rt; found, wanted);
+}
+
+/// That the count is the one that is wanted.
+fn assert_count(rt: &impl Abort, found: usize, wanted: usize) {
+    assert_eq!(rt; found, wanted);
+}
+
+/// That the bytes were refused for this fault, or for want of memory, which is an error of the test.
+fn assert_fault(
+    rt: &impl Abort,
+    found: Option<WireFault>,
+    wanted: WireFault,
+    bytes: &[u8],
+) -> Result<(), Fail> {
+    if found == Some(WireFault::Memory) {
+        return Err(Fail::from(WireFault::Memory));
+    }
+    assert_eq!(rt; found, Some(wanted), "{bytes:?}");
+    Ok(())
+}
+
+/// That the claim is of this kind, about this name, at this incarnation.
+fn assert_claim(rt: &impl Abort, claim: &Claim, kind: Kind, name: &[u8], inc: u32) {
+    assert_eq!(rt; claim.kind(), kind);
+    assert_bytes(rt, claim.name().bytes(), name);
+    assert_eq!(rt; claim.inc(), inc);
+}
+
+/// That a packet is read with these parts.
+fn assert_packet(
+    rt: &impl Abort,
+    alloc: Global,
+    bytes: &[u8],
+    kind: Kind,
+    name: &[u8],
+    inc: u32,
+    from: &str,
+) -> Result<(), Fail> {
+    let packet = decode_packet(alloc, bytes)?;
+    assert_bytes(rt, packet.from_name(), from.as_bytes());
+    assert_claim(rt, &packet.into_claim(), kind, name, inc);
+    Ok(())
+}
+
 #[test]
 fn a_packet_is_read_with_its_parts(rt: HostRuntime) -> Result<(), Fail> {
     for (bytes, kind, name, inc, from) in [
@@ -32,52 +79,55 @@ fn a_packet_is_read_with_its_parts(rt: HostRuntime) -> Result<(), Fail> {
         (CONFIRM, Kind::Confirm, b"a", 0, "x"),
         (LEAVE, Kind::Leave, b"a", 2, "a"),
     ] {
-        let packet = decode_packet(rt.alloc(), bytes)?;
-        assert_eq!(rt; packet.from_name(), from.as_bytes());
-        let claim = packet.into_claim();
-        assert_eq!(rt; claim.kind(), kind);
-        assert_eq!(rt; claim.name().bytes(), name.as_slice());
-        assert_eq!(rt; claim.inc(), inc);
+        assert_packet(&rt, rt.alloc(), bytes, kind, name, inc, from)?;
     }
     Ok(())
+}
+
+/// That the details are those of 127.0.0.1 and port 7946, and no more.
+fn assert_details(rt: &impl Abort, details: &Details) {
+    assert_bytes(rt, details.addr(), &[127, 0, 0, 1]);
+    assert_eq!(rt; details.port(), 7946);
+    assert_count(rt, details.meta().len() + details.vsn().len(), 0);
 }
 
 #[test]
 fn an_alive_packet_has_the_details(rt: HostRuntime) -> Result<(), Fail> {
     let packet = decode_packet(rt.alloc(), ALIVE)?;
-    let details = packet.claim().details().expect(&rt, "the details");
-    assert_eq!(rt; details.addr(), [127, 0, 0, 1].as_slice());
-    assert_eq!(rt; details.port(), 7946);
-    assert_eq!(rt; details.meta().len() + details.vsn().len(), 0);
+    assert_details(&rt, packet.claim().details().expect(&rt, "the details"));
     Ok(())
+}
+
+/// A Suspect of `b` at incarnation 1, made by `x`.
+fn suspect(alloc: Global) -> Result<Packet, Fail> {
+    let from = b"x".to_vec(alloc)?;
+    let name = Name::new(b"b".to_vec(alloc)?)?;
+    Ok(Packet::new(Claim::Suspect { name, inc: 1 }, from))
 }
 
 #[test]
 fn a_packet_keeps_the_parts_that_it_is_made_of(rt: HostRuntime) -> Result<(), Fail> {
-    let alloc = rt.alloc();
-    let name = Name::new(b"b".to_vec(alloc)?)?;
-    let packet = Packet::new(Claim::Suspect { name, inc: 1 }, b"x".to_vec(alloc)?);
-    assert_eq!(rt; packet.claim().kind(), Kind::Suspect);
-    assert_eq!(rt; packet.claim().inc(), 1);
-    assert_eq!(rt; packet.from_name(), b"x".as_slice());
+    let packet = suspect(rt.alloc())?;
+    assert_claim(&rt, packet.claim(), Kind::Suspect, b"b", 1);
+    assert_bytes(&rt, packet.from_name(), b"x");
     Ok(())
 }
 
-/// Why the bytes are refused.
-fn refusal(rt: &impl Abort, alloc: Global, bytes: &[u8]) -> Result<WireFault, Fail> {
-    match decode_packet(alloc, bytes) {
-        Ok(_) => panic!(rt; "{bytes:?} is read"),
-        Err(WireFault::Memory) => Err(Fail::from(WireFault::Memory)),
-        Err(fault) => Ok(fault),
-    }
+/// That the bytes are no packet, for this fault.
+fn assert_refused(
+    rt: &impl Abort,
+    alloc: Global,
+    bytes: &[u8],
+    fault: WireFault,
+) -> Result<(), Fail> {
+    assert_fault(rt, decode_packet(alloc, bytes).err(), fault, bytes)
 }
 
 #[test]
 fn a_cut_packet_is_refused_as_ended(rt: HostRuntime) -> Result<(), Fail> {
     for packet in [ALIVE, SUSPECT, CONFIRM, LEAVE] {
         for end in 0..packet.len() {
-            let fault = refusal(&rt, rt.alloc(), &packet[..end])?;
-            assert_eq!(rt; fault, WireFault::Ended, "at {end}");
+            assert_refused(&rt, rt.alloc(), &packet[..end], WireFault::Ended)?;
         }
     }
     Ok(())
@@ -113,7 +163,7 @@ fn each_fault_has_its_number(rt: HostRuntime) -> Result<(), Fail> {
         ),
         (b"\x03\x81\xa4Node\xa1a\0", WireFault::Trailing, 22),
     ] {
-        assert_eq!(rt; refusal(&rt, rt.alloc(), bytes)?, fault);
+        assert_refused(&rt, rt.alloc(), bytes, fault)?;
         assert_eq!(rt; fault.number(), number);
     }
     Ok(())
@@ -121,11 +171,10 @@ fn each_fault_has_its_number(rt: HostRuntime) -> Result<(), Fail> {
 
 #[test]
 fn want_of_memory_is_answered_as_such_and_then_repeated(rt: HostRuntime) -> Result<(), Fail> {
-    if let Err(fault) = decode_packet(rt.alloc(), ALIVE) {
+    if let Some(fault) = decode_packet(rt.alloc(), ALIVE).err() {
         assert_eq!(rt; fault, WireFault::Memory);
         assert_eq!(rt; fault.number(), 10);
-        let packet = decode_packet(rt.alloc(), ALIVE)?;
-        assert_eq!(rt; packet.claim().kind(), Kind::Alive);
+        assert_packet(&rt, rt.alloc(), ALIVE, Kind::Alive, b"a", 0, "")?;
     }
     Ok(())
 }

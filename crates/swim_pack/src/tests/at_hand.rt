@@ -1,5 +1,31 @@
 use crate::tests::fakes::Pieces;
+use crate::tests::{assert_bytes, assert_pulls};
 use crate::{FromRead, Inlet, SliceInlet, StopInlet, bool_at_hand, raw_at_hand, uint_at_hand};
+use std::process::Abort;
+
+fn assert_uint(rt: &impl Abort, bytes: &[u8], max: u64, wanted: Option<(u64, &[u8])>) {
+    assert_eq!(rt; uint_at_hand(bytes, max), wanted, "{bytes:?}");
+}
+
+fn assert_raw(rt: &impl Abort, bytes: &[u8], limit: usize, wanted: Option<(&[u8], &[u8])>) {
+    assert_eq!(rt; raw_at_hand(bytes, limit), wanted, "{bytes:?}");
+}
+
+fn assert_bool(rt: &impl Abort, bytes: &[u8], wanted: Option<(bool, &[u8])>) {
+    assert_eq!(rt; bool_at_hand(bytes), wanted, "{bytes:?}");
+}
+
+/// That so many bytes are passed, or are not, and what is at hand then.
+fn assert_passes(
+    rt: &impl Abort,
+    inlet: &mut impl Inlet,
+    count: usize,
+    passes: bool,
+    at_hand: &[u8],
+) {
+    assert_eq!(rt; inlet.pass(count), passes);
+    assert_bytes(rt, inlet.at_hand(), at_hand);
+}
 
 #[test]
 fn a_number_at_hand_is_found_with_what_is_behind_it(rt: HostRuntime) {
@@ -12,8 +38,7 @@ fn a_number_at_hand_is_found_with_what_is_behind_it(rt: HostRuntime) {
         (b"\xce\x00\x00\x1f\x0a!", 7946),
         (b"\xcf\xff\xff\xff\xff\xff\xff\xff\xff!", u64::MAX),
     ] {
-        let found = uint_at_hand(bytes, number);
-        assert_eq!(rt; found, Some((number, b"!".as_slice())), "{bytes:?}");
+        assert_uint(&rt, bytes, number, Some((number, b"!")));
     }
     for bytes in [
         b"".as_slice(),
@@ -24,7 +49,7 @@ fn a_number_at_hand_is_found_with_what_is_behind_it(rt: HostRuntime) {
         b"\xd0\x05",
         b"\xa0",
     ] {
-        assert_eq!(rt; uint_at_hand(bytes, 5), None, "{bytes:?}");
+        assert_uint(&rt, bytes, 5, None);
     }
 }
 
@@ -39,23 +64,13 @@ fn bytes_at_hand_are_found_with_what_is_behind_them(rt: HostRuntime) {
         b"\xc5\x00\x02ab!",
         b"\xc6\x00\x00\x00\x02ab!",
     ] {
-        let found = raw_at_hand(bytes, 2);
-        assert_eq!(rt;
-            found,
-            Some((b"ab".as_slice(), b"!".as_slice())),
-            "{bytes:?}"
-        );
-        assert_eq!(rt; raw_at_hand(bytes, 1), None, "{bytes:?}");
-        assert_eq!(rt;
-            raw_at_hand(&bytes[..bytes.len() - 2], 2),
-            None,
-            "{bytes:?}"
-        );
+        assert_raw(&rt, bytes, 2, Some((b"ab", b"!")));
+        assert_raw(&rt, bytes, 1, None);
+        assert_raw(&rt, &bytes[..bytes.len() - 2], 2, None);
     }
-    let nothing = (b"".as_slice(), b"!".as_slice());
-    assert_eq!(rt; raw_at_hand(b"\xc0!", 0), Some(nothing));
-    assert_eq!(rt; raw_at_hand(b"", 2), None);
-    assert_eq!(rt; raw_at_hand(b"\x02ab", 2), None);
+    assert_raw(&rt, b"\xc0!", 0, Some((b"", b"!")));
+    assert_raw(&rt, b"", 2, None);
+    assert_raw(&rt, b"\x02ab", 2, None);
 }
 
 #[test]
@@ -65,53 +80,41 @@ fn a_truth_value_at_hand_is_found_with_what_is_behind_it(rt: HostRuntime) {
         (b"\xc2!", false),
         (b"\xc3!", true),
     ] {
-        assert_eq!(rt;
-            bool_at_hand(bytes),
-            Some((flag, b"!".as_slice())),
-            "{bytes:?}"
-        );
+        assert_bool(&rt, bytes, Some((flag, b"!")));
     }
     for bytes in [b"".as_slice(), b"\x00", b"\xc1"] {
-        assert_eq!(rt; bool_at_hand(bytes), None, "{bytes:?}");
+        assert_bool(&rt, bytes, None);
     }
 }
 
 #[test]
 fn bytes_in_memory_are_at_hand_until_they_are_passed(rt: HostRuntime) {
     let mut inlet = SliceInlet::new(b"abcd");
-    assert!(rt; inlet.pass(1));
-    assert_eq!(rt; inlet.at_hand(), b"bcd".as_slice());
-    assert!(rt; !inlet.pass(4));
-    assert_eq!(rt; inlet.at_hand(), b"bcd".as_slice());
-    assert!(rt; inlet.pass(3));
-    assert_eq!(rt; inlet.at_hand(), b"".as_slice());
+    assert_passes(&rt, &mut inlet, 1, true, b"bcd");
+    assert_passes(&rt, &mut inlet, 4, false, b"bcd");
+    assert_passes(&rt, &mut inlet, 3, true, b"");
 }
 
 #[test]
 fn of_a_stop_inlet_nothing_is_at_hand(rt: HostRuntime) {
     let mut inlet = StopInlet::new(b"ab", 9);
-    assert_eq!(rt; inlet.at_hand(), b"".as_slice());
-    assert!(rt; !inlet.pass(1));
-    let mut both = [0; 2];
-    assert_eq!(rt; inlet.pull(&mut both), Ok(()));
-    assert_eq!(rt; both, *b"ab");
+    assert_bytes(&rt, inlet.at_hand(), b"");
+    assert_passes(&rt, &mut inlet, 1, false, b"");
+    assert_pulls(&rt, &mut inlet, b"ab");
 }
 
 #[test]
 fn of_a_reader_the_rest_of_its_buffer_is_at_hand(rt: HostRuntime) {
     let mut reader = Pieces::new(b"0123456", 4);
     let mut inlet = FromRead::new(&mut reader);
-    assert_eq!(rt; inlet.at_hand(), b"".as_slice());
-    assert!(rt; !inlet.pass(1));
-    let mut byte = [0; 1];
-    assert_eq!(rt; inlet.pull(&mut byte), Ok(()));
-    assert_eq!(rt; inlet.at_hand(), b"123".as_slice());
-    assert!(rt; !inlet.pass(4));
-    assert!(rt; inlet.pass(2));
-    assert_eq!(rt; inlet.at_hand(), b"3".as_slice());
-    assert!(rt; inlet.pass(1));
-    assert_eq!(rt; inlet.pull(&mut byte), Ok(()));
-    assert_eq!(rt; byte, *b"4");
-    assert_eq!(rt; inlet.at_hand(), b"56".as_slice());
+    assert_bytes(&rt, inlet.at_hand(), b"");
+    assert_passes(&rt, &mut inlet, 1, false, b"");
+    assert_pulls(&rt, &mut inlet, b"0");
+    assert_bytes(&rt, inlet.at_hand(), b"123");
+    assert_passes(&rt, &mut inlet, 4, false, b"123");
+    assert_passes(&rt, &mut inlet, 2, true, b"3");
+    assert_passes(&rt, &mut inlet, 1, true, b"");
+    assert_pulls(&rt, &mut inlet, b"4");
+    assert_bytes(&rt, inlet.at_hand(), b"56");
     assert_eq!(rt; reader.reads, 2);
 }

@@ -28,6 +28,19 @@ impl<'a> Pieces<'a> {
             reads: 0,
         }
     }
+
+    /// One byte a read, after it was interrupted so many times, and before each further one again.
+    pub fn interrupted(bytes: &'a [u8], interruptions: u32, again: u32) -> Pieces<'a> {
+        let mut pieces = Pieces::new(bytes, 1);
+        (pieces.interruptions, pieces.again) = (interruptions, again);
+        pieces
+    }
+
+    pub fn failing(bytes: &'a [u8], most: usize, kind: ErrorKind) -> Pieces<'a> {
+        let mut pieces = Pieces::new(bytes, most);
+        pieces.fails = Some(kind);
+        pieces
+    }
 }
 
 impl Read for Pieces<'_> {

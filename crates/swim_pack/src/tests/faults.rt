@@ -1,6 +1,7 @@
 use crate::{PackFault, PullFault, PushFault};
 use std::alloc::{AllocError, Global};
 use std::fmt::Display;
+use std::process::Abort;
 use std::test::Fail;
 
 /// The text that is shown for it, tried once more where memory is refused.
@@ -11,12 +12,16 @@ fn text_of<T: Display>(alloc: Global, fault: &T) -> Result<String, AllocError> {
     }
 }
 
+fn assert_number(rt: &impl Abort, number: u32, wanted: u32) {
+    assert_eq!(rt; number, wanted);
+}
+
 #[test]
 fn each_fault_has_its_number(rt: HostRuntime) {
-    assert_eq!(rt; PullFault::Ended.number(), 1);
-    assert_eq!(rt; PullFault::Fault.number(), 9);
-    assert_eq!(rt; PushFault::Memory.number(), 10);
-    assert_eq!(rt; PushFault::Fault.number(), 29);
+    assert_number(&rt, PullFault::Ended.number(), 1);
+    assert_number(&rt, PullFault::Fault.number(), 9);
+    assert_number(&rt, PushFault::Memory.number(), 10);
+    assert_number(&rt, PushFault::Fault.number(), 29);
     for (fault, number) in [
         (PackFault::Ended, 1),
         (PackFault::NotUnsigned, 2),
@@ -29,12 +34,25 @@ fn each_fault_has_its_number(rt: HostRuntime) {
         (PackFault::Fault, 9),
         (PackFault::Memory, 10),
     ] {
-        assert_eq!(rt; fault.number(), number, "{fault}");
+        assert_number(&rt, fault.number(), number);
     }
+}
+
+/// That the fault is shown by this text.
+fn assert_shows<T: Display>(
+    rt: &impl Abort,
+    alloc: Global,
+    fault: &T,
+    wanted: &str,
+) -> Result<(), AllocError> {
+    let text = text_of(alloc, fault)?;
+    assert_eq!(rt; text.as_str(), wanted);
+    Ok(())
 }
 
 #[test]
 fn each_fault_has_its_text(rt: HostRuntime) -> Result<(), Fail> {
+    let alloc = rt.alloc();
     for (fault, text) in [
         (PackFault::Ended, "the input ends too early"),
         (
@@ -50,19 +68,16 @@ fn each_fault_has_its_text(rt: HostRuntime) -> Result<(), Fail> {
         (PackFault::Fault, "the input could not be read"),
         (PackFault::Memory, "out of memory"),
     ] {
-        assert_eq!(rt; text_of(rt.alloc(), &fault)?.as_str(), text);
+        assert_shows(&rt, alloc, &fault, text)?;
     }
-    for (fault, text) in [
-        (PullFault::Ended, "the input ends too early"),
-        (PullFault::Fault, "the input could not be read"),
-    ] {
-        assert_eq!(rt; text_of(rt.alloc(), &fault)?.as_str(), text);
-    }
-    for (fault, text) in [
-        (PushFault::Fault, "the output could not be written"),
-        (PushFault::Memory, "out of memory"),
-    ] {
-        assert_eq!(rt; text_of(rt.alloc(), &fault)?.as_str(), text);
-    }
+    assert_shows(&rt, alloc, &PullFault::Ended, "the input ends too early")?;
+    assert_shows(&rt, alloc, &PullFault::Fault, "the input could not be read")?;
+    assert_shows(
+        &rt,
+        alloc,
+        &PushFault::Fault,
+        "the output could not be written",
+    )?;
+    assert_shows(&rt, alloc, &PushFault::Memory, "out of memory")?;
     Ok(())
 }

@@ -1,9 +1,54 @@
 use crate::tests::fakes::Pieces;
+use crate::tests::{assert_bytes, assert_cause};
 use crate::{
-    FromRead, PackFault, SliceInlet, StopInlet, read_bool, read_key, read_map_len, read_raw,
+    FromRead, Inlet, PackFault, SliceInlet, StopInlet, read_bool, read_key, read_map_len, read_raw,
     read_uint,
 };
 use std::alloc::Global;
+use std::process::Abort;
+
+fn assert_uint(
+    rt: &impl Abort,
+    inlet: &mut impl Inlet,
+    max: u64,
+    wanted: Result<u64, PackFault>,
+    bytes: &[u8],
+) {
+    assert_eq!(rt; read_uint(inlet, max), wanted, "{bytes:?}");
+}
+
+fn assert_bool(
+    rt: &impl Abort,
+    inlet: &mut impl Inlet,
+    wanted: Result<bool, PackFault>,
+    bytes: &[u8],
+) {
+    assert_eq!(rt; read_bool(inlet), wanted, "{bytes:?}");
+}
+
+fn assert_map_len(
+    rt: &impl Abort,
+    inlet: &mut impl Inlet,
+    max: u32,
+    wanted: Result<u32, PackFault>,
+    bytes: &[u8],
+) {
+    assert_eq!(rt; read_map_len(inlet, max), wanted, "{bytes:?}");
+}
+
+/// What reading a key has to answer; one of four bytes has to be `Node`.
+fn assert_key(
+    rt: &impl Abort,
+    inlet: &mut impl Inlet,
+    wanted: Result<usize, PackFault>,
+    bytes: &[u8],
+) {
+    let mut key = [0; 12];
+    assert_eq!(rt; read_key(inlet, &mut key), wanted, "{bytes:?}");
+    if wanted == Ok(4) {
+        assert_bytes(rt, &key[..4], b"Node");
+    }
+}
 
 #[test]
 fn every_spelling_of_a_number_is_read(rt: HostRuntime) {
@@ -25,11 +70,7 @@ fn every_spelling_of_a_number_is_read(rt: HostRuntime) {
             0x7fff_ffff_ffff_ffff,
         ),
     ] {
-        assert_eq!(rt;
-            read_uint(&mut SliceInlet::new(bytes), number),
-            Ok(number),
-            "{bytes:?}"
-        );
+        assert_uint(&rt, &mut SliceInlet::new(bytes), number, Ok(number), bytes);
     }
 }
 
@@ -61,11 +102,7 @@ fn what_is_no_number_in_range_is_refused_by_name(rt: HostRuntime) {
         (b"\xcd\x1f", PackFault::Ended),
         (b"\xd0", PackFault::Ended),
     ] {
-        assert_eq!(rt;
-            read_uint(&mut SliceInlet::new(bytes), 5),
-            Err(fault),
-            "{bytes:?}"
-        );
+        assert_uint(&rt, &mut SliceInlet::new(bytes), 5, Err(fault), bytes);
     }
 }
 
@@ -80,7 +117,7 @@ fn truth_values_are_read_or_refused_by_name(rt: HostRuntime) {
         (b"\xc4\x00", Err(PackFault::NotBool)),
         (b"", Err(PackFault::Ended)),
     ] {
-        assert_eq!(rt; read_bool(&mut SliceInlet::new(bytes)), answer, "{bytes:?}");
+        assert_bool(&rt, &mut SliceInlet::new(bytes), answer, bytes);
     }
 }
 
@@ -103,11 +140,7 @@ fn counts_of_pairs_are_read_or_refused_by_name(rt: HostRuntime) {
         (b"", 3, Err(PackFault::Ended)),
         (b"\xde\x00", 3, Err(PackFault::Ended)),
     ] {
-        assert_eq!(rt;
-            read_map_len(&mut SliceInlet::new(bytes), max),
-            answer,
-            "{bytes:?}"
-        );
+        assert_map_len(&rt, &mut SliceInlet::new(bytes), max, answer, bytes);
     }
 }
 
@@ -116,6 +149,13 @@ fn raw_of(alloc: Global, bytes: &[u8], limit: usize) -> Result<Vec<u8>, PackFaul
     match read_raw(alloc, &mut SliceInlet::new(bytes), limit) {
         Err(PackFault::Memory) => read_raw(alloc, &mut SliceInlet::new(bytes), limit),
         answer => answer,
+    }
+}
+
+fn assert_raw(rt: &impl Abort, alloc: Global, bytes: &[u8], limit: usize, text: &[u8]) {
+    match raw_of(alloc, bytes, limit) {
+        Ok(read) => assert_bytes(rt, &read, text),
+        Err(fault) => assert_cause(rt, Some(fault), None, bytes),
     }
 }
 
@@ -132,10 +172,7 @@ fn every_spelling_of_bytes_is_read(rt: HostRuntime) {
         (b"\xda\x00\x02\xff\x00", 2, b"\xff\x00"),
         (b"\xdb\x00\x00\x00\x02ab", 2, b"ab"),
     ] {
-        match raw_of(rt.alloc(), bytes, limit) {
-            Ok(read) => assert_eq!(rt; read.as_slice(), text, "{bytes:?}"),
-            Err(fault) => panic!(rt; "{bytes:?}: {fault}"),
-        }
+        assert_raw(&rt, rt.alloc(), bytes, limit, text);
     }
 }
 
@@ -155,10 +192,12 @@ fn what_is_no_bytes_within_the_limit_is_refused_by_name(rt: HostRuntime) {
         (b"\xa2a", 2, PackFault::Ended),
         (b"\xda\x04\x00aaa", 1024, PackFault::Ended),
     ] {
-        match raw_of(rt.alloc(), bytes, limit) {
-            Ok(_) => panic!(rt; "{bytes:?} was read"),
-            Err(found) => assert_eq!(rt; found, fault, "{bytes:?}"),
-        }
+        assert_cause(
+            &rt,
+            raw_of(rt.alloc(), bytes, limit).err(),
+            Some(fault),
+            bytes,
+        );
     }
 }
 
@@ -174,57 +213,53 @@ fn keys_are_read_or_refused_by_name(rt: HostRuntime) {
         (b"\xdb\xff\xff\xff\xff", Err(PackFault::TooLong)),
         (b"\xa4Nod", Err(PackFault::Ended)),
     ] {
-        let mut key = [0; 12];
-        assert_eq!(rt;
-            read_key(&mut SliceInlet::new(bytes), &mut key),
-            answer,
-            "{bytes:?}"
-        );
-        if answer == Ok(4) {
-            assert_eq!(rt; &key[..4], b"Node".as_slice());
-        }
+        assert_key(&rt, &mut SliceInlet::new(bytes), answer, bytes);
     }
+}
+
+/// That readings of a number, a key and a count are the fault of an inlet that fails at this call.
+fn assert_stops(rt: &impl Abort, calls: usize) {
+    let number = b"\xcd\x1f\x0a";
+    let fault = PackFault::Fault;
+    assert_uint(
+        rt,
+        &mut StopInlet::new(number, calls),
+        7946,
+        Err(fault),
+        number,
+    );
+    let key = b"\xa1a";
+    assert_key(rt, &mut StopInlet::new(key, calls), Err(fault), key);
+    let count = b"\xde\x00\x03";
+    assert_map_len(rt, &mut StopInlet::new(count, calls), 3, Err(fault), count);
 }
 
 #[test]
 fn a_reading_stops_at_the_first_fault_of_its_inlet(rt: HostRuntime) {
-    let fault = Err(PackFault::Fault);
-    for calls in 1..3 {
-        assert_eq!(rt;
-            read_uint(&mut StopInlet::new(b"\xcd\x1f\x0a", calls), 7946),
-            fault
-        );
-        assert_eq!(rt;
-            read_key(&mut StopInlet::new(b"\xa1a", calls), &mut [0; 12]),
-            Err(PackFault::Fault)
-        );
-        assert_eq!(rt;
-            read_map_len(&mut StopInlet::new(b"\xde\x00\x03", calls), 3),
-            Err(PackFault::Fault)
-        );
-    }
-    assert_eq!(rt;
-        read_uint(&mut StopInlet::new(b"\xcd\x1f\x0a", 3), 7946),
-        Ok(7946)
-    );
-    assert_eq!(rt;
-        read_bool(&mut StopInlet::new(b"\xc3", 1)),
-        Err(PackFault::Fault)
-    );
-    let refused = read_raw(rt.alloc(), &mut StopInlet::new(b"\xa1a", 1), 1);
-    assert!(rt; matches!(refused, Err(PackFault::Fault)));
+    assert_stops(&rt, 1);
+    assert_stops(&rt, 2);
+    let number = b"\xcd\x1f\x0a";
+    assert_uint(&rt, &mut StopInlet::new(number, 3), 7946, Ok(7946), number);
+    let fault = PackFault::Fault;
+    assert_bool(&rt, &mut StopInlet::new(b"\xc3", 1), Err(fault), b"\xc3");
+    let refused = read_raw(rt.alloc(), &mut StopInlet::new(b"\xa1a", 1), 1).err();
+    assert_cause(&rt, refused, Some(fault), b"\xa1a");
+}
+
+/// That values are read from a reader of at most so many bytes a read.
+fn assert_pieces(rt: &impl Abort, most: usize) {
+    let bytes = b"\xcd\x1f\x0a\xc3\x86\xa4Node";
+    let mut inlet = FromRead::new(Pieces::new(bytes, most));
+    assert_uint(rt, &mut inlet, 65535, Ok(7946), bytes);
+    assert_bool(rt, &mut inlet, Ok(true), bytes);
+    assert_map_len(rt, &mut inlet, 6, Ok(6), bytes);
+    assert_key(rt, &mut inlet, Ok(4), bytes);
+    assert_bool(rt, &mut inlet, Err(PackFault::Ended), bytes);
 }
 
 #[test]
 fn values_are_read_through_readers_of_any_piece(rt: HostRuntime) {
     for most in 1..6 {
-        let mut inlet = FromRead::new(Pieces::new(b"\xcd\x1f\x0a\xc3\x86\xa4Node", most));
-        assert_eq!(rt; read_uint(&mut inlet, 65535), Ok(7946), "{most}");
-        assert_eq!(rt; read_bool(&mut inlet), Ok(true), "{most}");
-        assert_eq!(rt; read_map_len(&mut inlet, 6), Ok(6), "{most}");
-        let mut key = [0; 12];
-        assert_eq!(rt; read_key(&mut inlet, &mut key), Ok(4), "{most}");
-        assert_eq!(rt; &key[..4], b"Node".as_slice());
-        assert_eq!(rt; read_bool(&mut inlet), Err(PackFault::Ended), "{most}");
+        assert_pieces(&rt, most);
     }
 }

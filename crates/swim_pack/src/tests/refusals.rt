@@ -1,6 +1,27 @@
 //! What a refusal has taken: no more than tells it.
 
+use crate::tests::{assert_bytes, assert_cause};
 use crate::{PackFault, SliceInlet, read_bool, read_key, read_map_len, read_raw, read_uint};
+use std::alloc::Global;
+use std::process::Abort;
+
+/// That the bytes are refused for this fault, and what is left behind them.
+fn assert_left(
+    rt: &impl Abort,
+    found: Option<PackFault>,
+    left: &[u8],
+    fault: PackFault,
+    rest: &[u8],
+) {
+    assert_cause(rt, found, Some(fault), rest);
+    assert_bytes(rt, left, rest);
+}
+
+fn assert_uint(rt: &impl Abort, bytes: &[u8], fault: PackFault, rest: &[u8]) {
+    let mut inlet = SliceInlet::new(bytes);
+    let found = read_uint(&mut inlet, 5).err();
+    assert_left(rt, found, inlet.rest(), fault, rest);
+}
 
 #[test]
 fn a_refused_number_or_truth_value_leaves_what_is_behind_it(rt: HostRuntime) {
@@ -11,13 +32,41 @@ fn a_refused_number_or_truth_value_leaves_what_is_behind_it(rt: HostRuntime) {
         (b"\x06!", PackFault::OutOfRange, b"!"),
         (b"\xcd\x1f", PackFault::Ended, b"\x1f"),
     ] {
-        let mut inlet = SliceInlet::new(bytes);
-        assert_eq!(rt; read_uint(&mut inlet, 5), Err(fault), "{bytes:?}");
-        assert_eq!(rt; inlet.rest(), rest, "{bytes:?}");
+        assert_uint(&rt, bytes, fault, rest);
     }
     let mut inlet = SliceInlet::new(b"\x00!");
-    assert_eq!(rt; read_bool(&mut inlet), Err(PackFault::NotBool));
-    assert_eq!(rt; inlet.rest(), b"!".as_slice());
+    let found = read_bool(&mut inlet).err();
+    assert_left(&rt, found, inlet.rest(), PackFault::NotBool, b"!");
+}
+
+fn assert_key(rt: &impl Abort, bytes: &[u8], fault: PackFault, rest: &[u8]) {
+    let mut inlet = SliceInlet::new(bytes);
+    let found = read_key(&mut inlet, &mut [0; 12]).err();
+    assert_left(rt, found, inlet.rest(), fault, rest);
+}
+
+fn assert_map_len(rt: &impl Abort, bytes: &[u8], fault: PackFault, rest: &[u8]) {
+    let mut inlet = SliceInlet::new(bytes);
+    let found = read_map_len(&mut inlet, 3).err();
+    assert_left(rt, found, inlet.rest(), fault, rest);
+}
+
+/// That the bytes of this length or less are refused for the fault, or for want of memory, and what is
+/// left behind them.
+fn assert_raw(
+    rt: &impl Abort,
+    alloc: Global,
+    bytes: &[u8],
+    limit: usize,
+    fault: PackFault,
+    rest: &[u8],
+) {
+    let mut inlet = SliceInlet::new(bytes);
+    match read_raw(alloc, &mut inlet, limit).err() {
+        Some(PackFault::Memory) => {}
+        refused => assert_cause(rt, refused, Some(fault), bytes),
+    }
+    assert_bytes(rt, inlet.rest(), rest);
 }
 
 #[test]
@@ -28,15 +77,8 @@ fn a_refused_length_or_count_leaves_what_is_behind_it(rt: HostRuntime) {
         (b"\xda\x02\x01Node", PackFault::TooLong, b"Node"),
         (b"\xa4Nod", PackFault::Ended, b"Nod"),
     ] {
-        let mut inlet = SliceInlet::new(bytes);
-        assert_eq!(rt; read_key(&mut inlet, &mut [0; 12]), Err(fault), "{bytes:?}");
-        assert_eq!(rt; inlet.rest(), rest, "{bytes:?}");
-        let mut inlet = SliceInlet::new(bytes);
-        match read_raw(rt.alloc(), &mut inlet, 12).err() {
-            Some(PackFault::Memory) => {}
-            refused => assert_eq!(rt; refused, Some(fault), "{bytes:?}"),
-        }
-        assert_eq!(rt; inlet.rest(), rest, "{bytes:?}");
+        assert_key(&rt, bytes, fault, rest);
+        assert_raw(&rt, rt.alloc(), bytes, 12, fault, rest);
     }
     for (bytes, fault, rest) in [
         (b"\x90!".as_slice(), PackFault::NotMap, b"!".as_slice()),
@@ -44,18 +86,12 @@ fn a_refused_length_or_count_leaves_what_is_behind_it(rt: HostRuntime) {
         (b"\xdf\x00\x00\x00\x04!", PackFault::MapCount, b"!"),
         (b"\xde\x00", PackFault::Ended, b"\x00"),
     ] {
-        let mut inlet = SliceInlet::new(bytes);
-        assert_eq!(rt; read_map_len(&mut inlet, 3), Err(fault), "{bytes:?}");
-        assert_eq!(rt; inlet.rest(), rest, "{bytes:?}");
+        assert_map_len(&rt, bytes, fault, rest);
     }
 }
 
 #[test]
 fn a_length_within_the_limit_asks_for_little(rt: HostRuntime) {
-    let mut inlet = SliceInlet::new(b"\xda\x04\x00Node");
-    match read_raw(rt.alloc(), &mut inlet, 1024).err() {
-        Some(PackFault::Memory) => {}
-        refused => assert_eq!(rt; refused, Some(PackFault::Ended)),
-    }
-    assert_eq!(rt; inlet.rest(), b"Node".as_slice());
+    let bytes = b"\xda\x04\x00Node";
+    assert_raw(&rt, rt.alloc(), bytes, 1024, PackFault::Ended, b"Node");
 }

@@ -1,8 +1,10 @@
+use crate::tests::assert_bytes;
 use crate::{
     SliceInlet, read_bool, read_map_len, read_raw, read_uint, write_bool, write_map_len, write_raw,
     write_uint,
 };
-use std::alloc::AllocError;
+use std::alloc::{AllocError, Global};
+use std::process::Abort;
 use std::test::Fail;
 
 #[derive(Clone, Copy)]
@@ -33,6 +35,22 @@ fn written(value: Value<'_>, out: &mut Vec<u8>) -> Result<(), AllocError> {
     }
 }
 
+/// That the value is written as the head and then the tail.
+fn assert_written(
+    rt: &impl Abort,
+    alloc: Global,
+    value: Value<'_>,
+    head: &[u8],
+    tail: &[u8],
+) -> Result<(), AllocError> {
+    let mut out = Vec::new(alloc);
+    written(value, &mut out)?;
+    let (front, back) = out.split_at(head.len().min(out.len()));
+    assert_bytes(rt, front, head);
+    assert_bytes(rt, back, tail);
+    Ok(())
+}
+
 #[test]
 fn each_value_has_its_canonical_spelling(rt: HostRuntime) -> Result<(), Fail> {
     let long = [0x6e; 65535];
@@ -61,17 +79,14 @@ fn each_value_has_its_canonical_spelling(rt: HostRuntime) -> Result<(), Fail> {
         (Value::Pairs(6), b"\x86", b""),
         (Value::Pairs(15), b"\x8f", b""),
     ] {
-        let mut out = Vec::new(rt.alloc());
-        written(value, &mut out)?;
-        assert_eq!(rt; out.len(), head.len() + tail.len(), "{head:?}");
-        assert!(rt; out.starts_with(head) && out.ends_with(tail), "{head:?}");
+        assert_written(&rt, rt.alloc(), value, head, tail)?;
     }
     Ok(())
 }
 
-#[test]
-fn written_values_are_read_back(rt: HostRuntime) -> Result<(), Fail> {
-    let mut out = Vec::new(rt.alloc());
+/// Four values, one behind the other.
+fn four_values(alloc: Global) -> Result<Vec<u8>, AllocError> {
+    let mut out = Vec::new(alloc);
     for value in [
         Value::Number(7946),
         Value::Bytes(b""),
@@ -80,15 +95,25 @@ fn written_values_are_read_back(rt: HostRuntime) -> Result<(), Fail> {
     ] {
         written(value, &mut out)?;
     }
-    assert_eq!(rt; out.as_slice(), b"\xcd\x1f\x0a\xa0\x86\xc2".as_slice());
+    Ok(out)
+}
 
-    let mut inlet = SliceInlet::new(&out);
+/// That the four values are read back, and nothing is left behind them.
+fn assert_read_back(rt: &impl Abort, alloc: Global, bytes: &[u8]) -> Result<(), Fail> {
+    let mut inlet = SliceInlet::new(bytes);
     assert_eq!(rt; read_uint(&mut inlet, 65535), Ok(7946));
-    assert_eq!(rt; read_raw(rt.alloc(), &mut inlet, 0)?.len(), 0);
+    assert_eq!(rt; read_raw(alloc, &mut inlet, 0)?.len(), 0);
     assert_eq!(rt; read_map_len(&mut inlet, 6), Ok(6));
     assert_eq!(rt; read_bool(&mut inlet), Ok(false));
     assert!(rt; inlet.rest().is_empty());
     Ok(())
+}
+
+#[test]
+fn written_values_are_read_back(rt: HostRuntime) -> Result<(), Fail> {
+    let out = four_values(rt.alloc())?;
+    assert_bytes(&rt, &out, b"\xcd\x1f\x0a\xa0\x86\xc2");
+    assert_read_back(&rt, rt.alloc(), &out)
 }
 
 #[test]

@@ -3,11 +3,14 @@
 use super::fakes::{Pieces, Taker};
 use super::{
     ALIVE_LISTING, ALIVE_OFFER, JOINED_LISTING, SUSPECT_LISTING, SUSPECT_OFFER, SUSPECTED_OFFER,
-    alive_table, answered, assert_exchanges, assert_finishes, assert_lists, suspect_table,
+    alive_table, answered, assert_bytes, assert_exchanges, assert_finishes, assert_lists,
+    suspect_table,
 };
 use crate::{SyncFault, answer, finish};
-use std::alloc::AllocError;
+use std::alloc::{AllocError, Global};
+use std::process::Abort;
 use swim_pack::{FromRead, SliceInlet, ToWrite, VecOutlet};
+use swim_table::Table;
 use swim_wire::WireFault;
 
 const ENDED: Result<bool, SyncFault> = Err(SyncFault::Wire(WireFault::Ended));
@@ -23,46 +26,70 @@ fn a_cut_stream_finishes_nothing(rt: HostRuntime) -> Result<(), AllocError> {
     Ok(())
 }
 
+/// Asserts that this front of the reply to the table of `a` finishes nothing, and that a whole exchange
+/// then joins both.
+fn assert_joins_after_cut(rt: &impl Abort, alloc: Global, front: &[u8]) -> Result<(), AllocError> {
+    let mut first = alive_table(rt, alloc)?;
+    let mut second = suspect_table(rt, alloc)?;
+    let reply = answered(rt, alloc, ALIVE_OFFER, &mut second, true)?;
+    assert_bytes(rt, reply.bytes(), SUSPECT_OFFER, "the reply");
+    assert_finishes(rt, alloc, front, &mut first, ENDED)?;
+    assert_lists(rt, alloc, &first, ALIVE_LISTING)?;
+    assert_lists(rt, alloc, &second, JOINED_LISTING)?;
+    assert_exchanges(rt, alloc, &mut first, &mut second)
+}
+
 #[test]
 fn after_a_reply_that_was_cut_a_whole_exchange_joins_both(
     rt: HostRuntime,
 ) -> Result<(), AllocError> {
-    let alloc = rt.alloc();
     for len in 0..SUSPECT_OFFER.len() {
-        let mut first = alive_table(&rt, alloc)?;
-        let mut second = suspect_table(&rt, alloc)?;
-        let reply = answered(&rt, alloc, ALIVE_OFFER, &mut second, true)?;
-        assert_eq!(rt; reply.bytes(), SUSPECT_OFFER);
-        assert_finishes(&rt, alloc, &SUSPECT_OFFER[..len], &mut first, ENDED)?;
-        assert_lists(&rt, alloc, &first, ALIVE_LISTING)?;
-        assert_lists(&rt, alloc, &second, JOINED_LISTING)?;
-        assert_exchanges(&rt, alloc, &mut first, &mut second)?;
+        assert_joins_after_cut(&rt, rt.alloc(), &SUSPECT_OFFER[..len])?;
     }
     Ok(())
 }
 
+/// Answers the offer of `a` into the writer, at the second try where memory is refused.
+fn answer_into(alloc: Global, writer: &mut Taker, table: &mut Table) -> Result<bool, SyncFault> {
+    let mut outlet = ToWrite::new(writer);
+    match answer(alloc, &mut SliceInlet::new(ALIVE_OFFER), &mut outlet, table) {
+        Err(SyncFault::Memory) => {
+            answer(alloc, &mut SliceInlet::new(ALIVE_OFFER), &mut outlet, table)
+        }
+        answered => answered,
+    }
+}
+
+/// Asserts that the writer took the reply up to the write that failed.
+fn assert_took(rt: &impl Abort, writer: &Taker, fails_at: usize) {
+    let wanted = fails_at.saturating_sub(1).min(SUSPECT_OFFER.len());
+    assert_bytes(
+        rt,
+        writer.taken(),
+        &SUSPECT_OFFER[..wanted],
+        "what was taken",
+    );
+}
+
+/// Asserts that an answer fails whose writer fails at this byte of its 80, and leaves the table.
+fn assert_fails_at(rt: &impl Abort, alloc: Global, fails_at: usize) -> Result<(), AllocError> {
+    let mut writer = Taker::new(fails_at);
+    let mut table = suspect_table(rt, alloc)?;
+    let answered = answer_into(alloc, &mut writer, &mut table);
+    assert_took(rt, &writer, fails_at);
+    let (wanted, listing) = if fails_at <= 80 {
+        (Err(SyncFault::Push), SUSPECT_LISTING)
+    } else {
+        (Ok(true), JOINED_LISTING)
+    };
+    assert_eq!(rt; answered, wanted, "{fails_at}");
+    assert_lists(rt, alloc, &table, listing)
+}
+
 #[test]
 fn a_writer_that_fails_at_any_byte_leaves_the_table(rt: HostRuntime) -> Result<(), AllocError> {
-    let alloc = rt.alloc();
     for fails_at in 1..=81 {
-        let mut table = suspect_table(&rt, alloc)?;
-        let mut writer = Taker::new(fails_at);
-        let mut outlet = ToWrite::new(&mut writer);
-        let mut offer = SliceInlet::new(ALIVE_OFFER);
-        let mut answered = answer(alloc, &mut offer, &mut outlet, &mut table);
-        if answered == Err(SyncFault::Memory) {
-            offer = SliceInlet::new(ALIVE_OFFER);
-            answered = answer(alloc, &mut offer, &mut outlet, &mut table);
-        }
-        assert_eq!(rt; writer.len, fails_at - 1);
-        assert_eq!(rt; &writer.taken[..writer.len], &SUSPECT_OFFER[..writer.len]);
-        if fails_at <= 80 {
-            assert_eq!(rt; answered, Err(SyncFault::Push), "{fails_at}");
-            assert_lists(&rt, alloc, &table, SUSPECT_LISTING)?;
-        } else {
-            assert_eq!(rt; answered, Ok(true));
-            assert_lists(&rt, alloc, &table, JOINED_LISTING)?;
-        }
+        assert_fails_at(&rt, rt.alloc(), fails_at)?;
     }
     Ok(())
 }
@@ -75,37 +102,61 @@ fn pieces(most: usize) -> FromRead<Pieces<'static>> {
     })
 }
 
+/// Answers the stream of `a` in such pieces.
+fn answer_pieces(
+    alloc: Global,
+    most: usize,
+    outlet: &mut VecOutlet,
+    table: &mut Table,
+) -> Result<bool, SyncFault> {
+    answer(alloc, &mut pieces(most), outlet, table)
+}
+
+/// Asserts that the stream of `a` in such pieces is answered, at the second try where memory is
+/// refused.
+fn assert_pieces_answered(rt: &impl Abort, alloc: Global, most: usize) -> Result<(), AllocError> {
+    let mut outlet = VecOutlet::new(alloc);
+    let mut table = suspect_table(rt, alloc)?;
+    let mut answered = answer_pieces(alloc, most, &mut outlet, &mut table);
+    if answered == Err(SyncFault::Memory) {
+        assert!(rt; outlet.bytes().is_empty());
+        answered = answer_pieces(alloc, most, &mut outlet, &mut table);
+    }
+    assert_eq!(rt; answered, Ok(false), "{most}");
+    assert_eq!(rt; outlet.bytes().len(), 80);
+    let listing = "a suspect 5 4/7f000001/7947//\nb suspect 1 -\n";
+    assert_lists(rt, alloc, &table, listing)
+}
+
 #[test]
 fn a_stream_in_pieces_of_any_size_is_answered(rt: HostRuntime) -> Result<(), AllocError> {
-    let alloc = rt.alloc();
     for most in 1..=SUSPECTED_OFFER.len() {
-        let mut table = suspect_table(&rt, alloc)?;
-        let mut outlet = VecOutlet::new(alloc);
-        let mut answered = answer(alloc, &mut pieces(most), &mut outlet, &mut table);
-        if answered == Err(SyncFault::Memory) {
-            assert!(rt; outlet.bytes().is_empty());
-            answered = answer(alloc, &mut pieces(most), &mut outlet, &mut table);
-        }
-        assert_eq!(rt; answered, Ok(false), "{most}");
-        assert_eq!(rt; outlet.bytes().len(), 80);
-        let listing = "a suspect 5 4/7f000001/7947//\nb suspect 1 -\n";
-        assert_lists(&rt, alloc, &table, listing)?;
+        assert_pieces_answered(&rt, rt.alloc(), most)?;
     }
     Ok(())
 }
 
+/// Finishes by the stream of `a` in such pieces.
+fn finish_pieces(alloc: Global, most: usize, table: &mut Table) -> Result<bool, SyncFault> {
+    finish(alloc, &mut pieces(most), table)
+}
+
+/// Asserts that the stream of `a` in such pieces finishes, at the second try where memory is refused.
+fn assert_pieces_finish(rt: &impl Abort, alloc: Global, most: usize) -> Result<(), AllocError> {
+    let mut table = alive_table(rt, alloc)?;
+    let mut finished = finish_pieces(alloc, most, &mut table);
+    if finished == Err(SyncFault::Memory) {
+        assert_lists(rt, alloc, &table, ALIVE_LISTING)?;
+        finished = finish_pieces(alloc, most, &mut table);
+    }
+    assert_eq!(rt; finished, Ok(false), "{most}");
+    assert_lists(rt, alloc, &table, "a suspect 5 4/7f000001/7947//\n")
+}
+
 #[test]
 fn a_reply_in_pieces_of_any_size_finishes(rt: HostRuntime) -> Result<(), AllocError> {
-    let alloc = rt.alloc();
     for most in 1..=SUSPECTED_OFFER.len() {
-        let mut table = alive_table(&rt, alloc)?;
-        let mut finished = finish(alloc, &mut pieces(most), &mut table);
-        if finished == Err(SyncFault::Memory) {
-            assert_lists(&rt, alloc, &table, ALIVE_LISTING)?;
-            finished = finish(alloc, &mut pieces(most), &mut table);
-        }
-        assert_eq!(rt; finished, Ok(false), "{most}");
-        assert_lists(&rt, alloc, &table, "a suspect 5 4/7f000001/7947//\n")?;
+        assert_pieces_finish(&rt, rt.alloc(), most)?;
     }
     Ok(())
 }

@@ -1,8 +1,28 @@
 //! Claims that a node takes in together.
 use crate::Claims;
-use crate::tests::suspect;
-use std::alloc::AllocError;
-use swim_claim::Kind;
+use crate::tests::{assert_bytes, suspect};
+use std::alloc::{AllocError, Global};
+use std::process::Abort;
+use swim_claim::{Claim, Kind};
+
+/// The Suspects of these names and incarnations.
+fn suspects(
+    rt: &impl Abort,
+    alloc: Global,
+    given: &[(&'static [u8], u32)],
+) -> Result<Claims, AllocError> {
+    let mut list = Vec::new(alloc);
+    for (name, inc) in given {
+        list.push(suspect(rt, alloc, name, *inc)?)?;
+    }
+    Ok(Claims::new(list))
+}
+
+fn assert_suspect(rt: &impl Abort, claim: &Claim, name: &[u8], inc: u32) {
+    assert_eq!(rt; claim.kind(), Kind::Suspect);
+    assert_bytes(rt, claim.name().bytes(), name, "the name");
+    assert_eq!(rt; claim.inc(), inc);
+}
 
 #[test]
 fn claims_are_those_given_in_their_order(rt: HostRuntime) -> Result<(), AllocError> {
@@ -11,17 +31,12 @@ fn claims_are_those_given_in_their_order(rt: HostRuntime) -> Result<(), AllocErr
         (b"a".as_slice(), 5),
         (b"b".as_slice(), 1),
     ];
-    let mut list = Vec::new(rt.alloc());
-    for (name, inc) in given {
-        list.push(suspect(&rt, rt.alloc(), name, inc)?)?;
-    }
-    let claims = Claims::new(list);
+    let claims = suspects(&rt, rt.alloc(), &given)?;
     assert_eq!(rt; claims.claims().len(), 3);
     for (claim, (name, inc)) in claims.claims().iter().zip(given) {
-        assert_eq!(rt; claim.kind(), Kind::Suspect);
-        assert_eq!(rt; claim.name().bytes(), name);
-        assert_eq!(rt; claim.inc(), inc);
+        assert_suspect(&rt, claim, name, inc);
     }
-    assert!(rt; Claims::new(Vec::new(rt.alloc())).claims().is_empty());
+    let nothing = suspects(&rt, rt.alloc(), &[])?;
+    assert!(rt; nothing.claims().is_empty());
     Ok(())
 }

@@ -37,6 +37,11 @@ impl Taker {
             fails_at,
         }
     }
+
+    /// The bytes that were taken.
+    pub fn taken(&self) -> &[u8] {
+        &self.taken[..self.len.min(80)]
+    }
 }
 
 impl Write for Taker {

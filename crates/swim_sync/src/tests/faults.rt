@@ -7,6 +7,19 @@ use swim_pack::PushFault;
 use swim_table::EncodeFault;
 use swim_wire::WireFault;
 
+/// Asserts a number and a text.
+fn assert_shown(rt: &impl Abort, found: (u32, &str), wanted: (u32, &str)) {
+    assert_eq!(rt; found, wanted);
+}
+
+fn assert_fault(rt: &impl Abort, found: SyncFault, wanted: SyncFault) {
+    assert_eq!(rt; found, wanted);
+}
+
+fn assert_number(rt: &impl Abort, fault: SyncFault, number: u32) {
+    assert_eq!(rt; fault.number(), number);
+}
+
 fn assert_shows(
     rt: &impl Abort,
     alloc: Global,
@@ -14,9 +27,8 @@ fn assert_shows(
     number: u32,
     text: &str,
 ) -> Result<(), AllocError> {
-    assert_eq!(rt; fault.number(), number);
     let shown = format!(in alloc; "{fault}")?;
-    assert_eq!(rt; shown.as_str(), text);
+    assert_shown(rt, (fault.number(), shown.as_str()), (number, text));
     Ok(())
 }
 
@@ -33,25 +45,36 @@ fn each_fault_has_its_number_and_text(rt: HostRuntime) -> Result<(), AllocError>
     let failed = SyncFault::Wire(WireFault::Fault);
     let text = "the stream of the other member was refused: the input could not be read";
     assert_shows(&rt, alloc, failed, 9, text)?;
-    assert_eq!(rt;
-        SyncFault::Wire(WireFault::WrongType { found: 9 }).number(),
-        16
-    );
-    assert_eq!(rt; SyncFault::Wire(WireFault::UserTooLong).number(), 21);
+    assert_number(&rt, SyncFault::Wire(WireFault::WrongType { found: 9 }), 16);
+    assert_number(&rt, SyncFault::Wire(WireFault::UserTooLong), 21);
     Ok(())
 }
 
 #[test]
 fn want_of_memory_is_the_same_from_every_layer(rt: HostRuntime) {
-    assert_eq!(rt; SyncFault::from(WireFault::Memory), SyncFault::Memory);
-    assert_eq!(rt; SyncFault::from(EncodeFault::Memory), SyncFault::Memory);
-    assert_eq!(rt; SyncFault::from(PushFault::Memory), SyncFault::Memory);
-    assert_eq!(rt; SyncFault::from(AllocError), SyncFault::Memory);
+    let memory = SyncFault::Memory;
+    assert_fault(&rt, SyncFault::from(WireFault::Memory), memory);
+    assert_fault(&rt, SyncFault::from(EncodeFault::Memory), memory);
+    assert_fault(&rt, SyncFault::from(PushFault::Memory), memory);
+    assert_fault(&rt, SyncFault::from(AllocError), memory);
     let ended = SyncFault::Wire(WireFault::Ended);
-    assert_eq!(rt; SyncFault::from(WireFault::Ended), ended);
+    assert_fault(&rt, SyncFault::from(WireFault::Ended), ended);
     let many = SyncFault::from(EncodeFault::TooManyRecords);
-    assert_eq!(rt; many, SyncFault::TooManyRecords);
-    assert_eq!(rt; SyncFault::from(PushFault::Fault), SyncFault::Push);
+    assert_fault(&rt, many, SyncFault::TooManyRecords);
+    assert_fault(&rt, SyncFault::from(PushFault::Fault), SyncFault::Push);
+}
+
+/// Asserts the number and the text of a cause.
+fn assert_cause(
+    rt: &impl Abort,
+    alloc: Global,
+    why: Why,
+    number: u32,
+    text: &str,
+) -> Result<(), AllocError> {
+    let shown = format!(in alloc; "{why}")?;
+    assert_shown(rt, (why.number(), shown.as_str()), (number, text));
+    Ok(())
 }
 
 #[test]
@@ -66,9 +89,7 @@ fn each_cause_of_a_stop_has_its_number_and_text(rt: HostRuntime) -> Result<(), A
         ),
         (Why::Memory, 10, "out of memory"),
     ] {
-        assert_eq!(rt; why.number(), number);
-        let shown = format!(in rt.alloc(); "{why}")?;
-        assert_eq!(rt; shown.as_str(), text);
+        assert_cause(&rt, rt.alloc(), why, number, text)?;
     }
     Ok(())
 }

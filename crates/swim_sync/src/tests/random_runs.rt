@@ -1,10 +1,10 @@
 //! Random runs of small clusters, beside lists of the claims that each node was told.
 use crate::tests::clusters::{assert_runs, cluster};
-use crate::tests::take;
+use crate::tests::{assert_stays, details_of, name_of, take};
 use crate::{Claims, Cluster, Event};
 use std::alloc::{AllocError, Global};
 use std::process::Abort;
-use swim_claim::{Claim, Details, Name};
+use swim_claim::{Claim, Name};
 use swim_table::{Table, list};
 
 /// Numbers that look random.
@@ -23,7 +23,7 @@ impl Dice {
 
     fn name(&mut self, rt: &impl Abort, alloc: Global) -> Result<Name, AllocError> {
         let letter = b'a' + self.roll(4).min(3);
-        Ok(Name::new([letter].as_slice().to_vec(alloc)?).expect(rt, "a legal name"))
+        name_of(rt, alloc, &[letter])
     }
 
     /// An Alive or a Suspect more often than a Confirm or a Leave.
@@ -35,10 +35,7 @@ impl Dice {
             1 => Claim::Leave { name, inc },
             2..=5 => Claim::Suspect { name, inc },
             _ => {
-                let addr = [127, 0, 0, 1].as_slice().to_vec(alloc)?;
-                let port = u16::from(self.roll(3));
-                let details = Details::new(addr, port, Vec::new(alloc), Vec::new(alloc));
-                let details = details.expect(rt, "legal details");
+                let details = details_of(rt, alloc, 1, u16::from(self.roll(3)))?;
                 Claim::Alive { name, inc, details }
             }
         })
@@ -130,6 +127,15 @@ impl Told {
         }
     }
 
+    /// The listing of the table of what the node was told.
+    fn listing(&self, alloc: Global, k: usize) -> Result<Vec<u8>, AllocError> {
+        let mut table = Table::new(alloc);
+        for claim in self.copies(alloc, k)? {
+            take(&mut table, claim)?;
+        }
+        list(alloc, &table)
+    }
+
     /// Asserts that each node's table is that of what it was told.
     fn assert_shown(
         &self,
@@ -138,17 +144,9 @@ impl Told {
         cluster: &Cluster,
     ) -> Result<(), AllocError> {
         for k in 0..self.lists.len() {
-            let mut table = Table::new(alloc);
-            for claim in self.copies(alloc, k)? {
-                take(&mut table, claim)?;
-            }
+            let told = self.listing(alloc, k)?;
             let node = cluster.node(k).expect(rt, "a node");
-            let shown = list(alloc, node.table())?;
-            assert_eq!(rt;
-                shown.as_slice(),
-                list(alloc, &table)?.as_slice(),
-                "node {k}"
-            );
+            assert_stays(rt, alloc, node.table(), &told)?;
         }
         Ok(())
     }

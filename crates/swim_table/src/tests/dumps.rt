@@ -1,6 +1,6 @@
 //! Canonical dumps, as bytes and read back.
 
-use super::{LOOPBACK, Saying, alive, leave, suspect, table_of};
+use super::{LOOPBACK, Saying, alive, assert_bytes, leave, suspect, table_of};
 use crate::{EncodeFault, Relation, Table, encode, list, read_dump, relation};
 use std::alloc::{AllocError, Global};
 use std::process::Abort;
@@ -61,25 +61,28 @@ fn joined(alloc: Global, parts: &[&[u8]]) -> Result<Vec<u8>, AllocError> {
 }
 
 /// The dump of the table, at the second try where memory is refused.
-fn dump(rt: &impl Abort, alloc: Global, table: &Table, join: bool) -> Result<Vec<u8>, EncodeFault> {
-    match encode(alloc, table, join) {
-        Ok(bytes) => Ok(bytes),
-        Err(fault) => {
-            assert_eq!(rt; fault, EncodeFault::Memory);
-            encode(alloc, table, join)
-        }
-    }
+fn dump(rt: &impl Abort, alloc: Global, table: &Table, join: bool) -> Vec<u8> {
+    let answer = match encode(alloc, table, join) {
+        Err(EncodeFault::Memory) => encode(alloc, table, join),
+        answer => answer,
+    };
+    answer.ok().expect(rt, "a dump")
 }
 
 /// The table and the flag of the dump, at the second try where memory is refused.
-fn read(rt: &impl Abort, alloc: Global, bytes: &[u8]) -> Result<(Table, bool), WireFault> {
-    match read_dump(alloc, bytes) {
-        Ok(read) => Ok(read),
-        Err(fault) => {
-            assert_eq!(rt; fault, WireFault::Memory);
-            read_dump(alloc, bytes)
-        }
-    }
+fn read(rt: &impl Abort, alloc: Global, bytes: &[u8]) -> (Table, bool) {
+    let answer = match read_dump(alloc, bytes) {
+        Err(WireFault::Memory) => read_dump(alloc, bytes),
+        answer => answer,
+    };
+    answer.ok().expect(rt, "a table")
+}
+
+/// Asserts that the dump is read back as the table and the flag.
+fn assert_read_back(rt: &impl Abort, alloc: Global, bytes: &[u8], table: &Table, join: bool) {
+    let (other, flag) = read(rt, alloc, bytes);
+    assert_eq!(rt; relation(&other, table), Relation::Equal);
+    assert_eq!(rt; flag, join);
 }
 
 /// Asserts that the table of the claims has this dump, which is read back as the table and the flag.
@@ -91,16 +94,9 @@ fn assert_dumped(
     parts: &[&[u8]],
 ) -> Result<(), AllocError> {
     let table = table_of(rt, alloc, sayings)?;
-    let expected = joined(alloc, parts)?;
     let bytes = dump(rt, alloc, &table, join);
-    assert!(rt; bytes.is_ok());
-    let bytes = bytes.unwrap_or(Vec::new(alloc));
-    assert_eq!(rt; bytes.as_slice(), expected.as_slice());
-    let again = read(rt, alloc, &bytes);
-    assert!(rt; again.is_ok());
-    let (other, flag) = again.unwrap_or((Table::new(alloc), !join));
-    assert_eq!(rt; relation(&other, &table), Relation::Equal);
-    assert_eq!(rt; flag, join);
+    assert_bytes(rt, &bytes, &joined(alloc, parts)?, "the dump");
+    assert_read_back(rt, alloc, &bytes, &table, join);
     Ok(())
 }
 
@@ -123,24 +119,28 @@ fn a_home_is_dumped_before_its_top(rt: HostRuntime) -> Result<(), AllocError> {
     assert_dumped(&rt, rt.alloc(), &suspected(), false, &parts)
 }
 
-#[test]
-fn want_of_memory_for_a_dump_is_answered_and_then_repeated(
-    rt: HostRuntime,
-) -> Result<(), AllocError> {
-    let alloc = rt.alloc();
-    let table = table_of(&rt, alloc, &suspected())?;
-    let expected = joined(alloc, &[TWO_RECORDS, ALIVE_A_4, SUSPECT_A_5])?;
-    let bytes = match encode(alloc, &table, false) {
+/// The dump of the table, at the second try where the first is refused memory and says so.
+fn dump_or_repeat(rt: &impl Abort, alloc: Global, table: &Table) -> Vec<u8> {
+    match encode(alloc, table, false) {
         Ok(bytes) => bytes,
         Err(fault) => {
             assert_eq!(rt; fault, EncodeFault::Memory);
             assert_eq!(rt; fault.number(), 10);
-            let again = encode(alloc, &table, false);
-            assert!(rt; again.is_ok());
-            again.unwrap_or(Vec::new(alloc))
+            encode(alloc, table, false)
+                .ok()
+                .expect(rt, "the second try")
         }
-    };
-    assert_eq!(rt; bytes.as_slice(), expected.as_slice());
+    }
+}
+
+#[test]
+fn want_of_memory_for_a_dump_is_answered_and_then_repeated(
+    rt: HostRuntime,
+) -> Result<(), AllocError> {
+    let table = table_of(&rt, rt.alloc(), &suspected())?;
+    let expected = joined(rt.alloc(), &[TWO_RECORDS, ALIVE_A_4, SUSPECT_A_5])?;
+    let bytes = dump_or_repeat(&rt, rt.alloc(), &table);
+    assert_bytes(&rt, &bytes, &expected, "the dump");
     Ok(())
 }
 
@@ -158,21 +158,29 @@ fn take_suspect(
     }
 }
 
+/// The table of so many suspected members.
+fn suspects(rt: &impl Abort, alloc: Global, count: u32) -> Result<Table, AllocError> {
+    let mut table = Table::new(alloc);
+    for number in 0..count {
+        take_suspect(rt, alloc, &mut table, number)?;
+    }
+    Ok(table)
+}
+
+/// Asserts that the table has too many records for a dump, and is listed all the same.
+fn assert_too_many(rt: &impl Abort, alloc: Global, table: &Table) {
+    let refused = encode(alloc, table, false).err();
+    assert_eq!(rt; refused, Some(EncodeFault::TooManyRecords));
+    let listed = list(alloc, table).is_ok();
+    assert!(rt; listed);
+}
+
 #[test]
 fn a_dump_has_at_most_131072_records(rt: HostRuntime) -> Result<(), AllocError> {
-    let alloc = rt.alloc();
-    let mut table = Table::new(alloc);
-    for number in 0..131_072 {
-        take_suspect(&rt, alloc, &mut table, number)?;
-    }
-    let bytes = dump(&rt, alloc, &table, false);
-    assert!(rt; bytes.is_ok());
-    let bytes = bytes.unwrap_or(Vec::new(alloc));
+    let mut table = suspects(&rt, rt.alloc(), 131_072)?;
+    let bytes = dump(&rt, rt.alloc(), &table, false);
     assert!(rt; bytes.starts_with(MOST_RECORDS));
-    take_suspect(&rt, alloc, &mut table, 131_072)?;
-    let refused = encode(alloc, &table, false);
-    assert!(rt; matches!(&refused, Err(EncodeFault::TooManyRecords)));
-    let listed = list(alloc, &table);
-    assert!(rt; listed.is_ok());
+    take_suspect(&rt, rt.alloc(), &mut table, 131_072)?;
+    assert_too_many(&rt, rt.alloc(), &table);
     Ok(())
 }

@@ -1,6 +1,6 @@
 //! A table computed from its definition: slow, and over the list of all claims that were taken in.
 use super::{LOOPBACK, Saying, alive, assert_lists, claims_of, confirm, leave, suspect, table_of};
-use crate::{Relation, relation};
+use crate::{Relation, Table, relation};
 use std::alloc::{AllocError, Global};
 use std::process::Abort;
 use swim_claim::Kind;
@@ -62,21 +62,23 @@ fn home<'a>(sayings: &'a [Saying], name: &[u8]) -> Option<&'a Saying> {
     None
 }
 
+/// What a line says of the home of a member.
+fn home_word(alloc: Global, home: Option<&Saying>) -> Result<String, AllocError> {
+    match home {
+        Some(home) => format!(in alloc; "{}/7f000001/{}//", home.inc, home.port),
+        None => String::from_str(alloc, "-"),
+    }
+}
+
 /// The listing of the claims.
 fn listing(alloc: Global, sayings: &[Saying]) -> Result<String, AllocError> {
     let mut text = String::new(alloc);
     for name in NAMES {
         if let Some(top) = top(sayings, name) {
             let letter = char::from(top.name.first().copied().unwrap_or(b'?'));
-            let line = format!(in alloc; "{letter} {} {} ", top.word(), top.inc)?;
+            let home = home_word(alloc, home(sayings, name))?;
+            let line = format!(in alloc; "{letter} {} {} {home}\n", top.word(), top.inc)?;
             text.push_str(line.as_str())?;
-            match home(sayings, name) {
-                Some(home) => {
-                    let line = format!(in alloc; "{}/7f000001/{}//\n", home.inc, home.port)?;
-                    text.push_str(line.as_str())?;
-                }
-                None => text.push_str("-\n")?,
-            }
         }
     }
     Ok(text)
@@ -94,20 +96,59 @@ fn saying(number: u32) -> Saying {
     }
 }
 
+/// The table of the claims, the back half of which came one by one, and then the front half at once.
+fn table_of_several(
+    rt: &impl Abort,
+    alloc: Global,
+    sayings: &[Saying],
+) -> Result<Table, AllocError> {
+    let (front, back) = sayings.split_at(sayings.len() / 2);
+    let mut table = table_of(rt, alloc, back)?;
+    table.take_all(claims_of(rt, alloc, front)?)?;
+    Ok(table)
+}
+
+/// The join of the tables of both halves of the claims.
+fn table_of_halves(
+    rt: &impl Abort,
+    alloc: Global,
+    sayings: &[Saying],
+) -> Result<Table, AllocError> {
+    let (front, back) = sayings.split_at(sayings.len() / 2);
+    let mut table = table_of(rt, alloc, front)?;
+    match table.join(table_of(rt, alloc, back)?) {
+        Ok(()) => Ok(table),
+        Err(_) => Err(AllocError),
+    }
+}
+
+fn assert_several(
+    rt: &impl Abort,
+    alloc: Global,
+    sayings: &[Saying],
+    listing: &str,
+) -> Result<(), AllocError> {
+    let several = table_of_several(rt, alloc, sayings)?;
+    assert_lists(rt, alloc, &several, listing)
+}
+
+fn assert_joined(
+    rt: &impl Abort,
+    alloc: Global,
+    sayings: &[Saying],
+    table: &Table,
+) -> Result<(), AllocError> {
+    let joined = table_of_halves(rt, alloc, sayings)?;
+    assert_eq!(rt; relation(&joined, table), Relation::Equal);
+    Ok(())
+}
+
 fn assert_same(rt: &impl Abort, alloc: Global, sayings: &[Saying]) -> Result<(), AllocError> {
     let listing = listing(alloc, sayings)?;
     let table = table_of(rt, alloc, sayings)?;
     assert_lists(rt, alloc, &table, listing.as_str())?;
-    let (front, back) = sayings.split_at(sayings.len() / 2);
-    let mut several = table_of(rt, alloc, back)?;
-    several.take_all(claims_of(rt, alloc, front)?)?;
-    assert_lists(rt, alloc, &several, listing.as_str())?;
-    let mut joined = table_of(rt, alloc, front)?;
-    if joined.join(table_of(rt, alloc, back)?).is_err() {
-        return Err(AllocError);
-    }
-    assert_eq!(rt; relation(&joined, &table), Relation::Equal);
-    Ok(())
+    assert_several(rt, alloc, sayings, listing.as_str())?;
+    assert_joined(rt, alloc, sayings, &table)
 }
 
 #[test]

@@ -1,22 +1,20 @@
 //! Push/pull streams by their bytes, read step by step, as a whole, and as dumps.
 
-use super::assert_lists;
+use super::{assert_count, assert_lists};
 use crate::{
     EncodeFault, Relation, Step, StreamReader, Table, encode, read_dump, read_stream, relation,
 };
 use std::alloc::{AllocError, Global};
-use std::io;
-use std::io::Read;
 use std::process::Abort;
 use std::test::Fail;
-use swim_pack::{FromRead, Inlet, SliceInlet, StopInlet};
+use swim_pack::SliceInlet;
 use swim_wire::{Header, WireFault};
 
 /// Of `a` an Alive at incarnation 4, at 127.0.0.1 and port 7947, and then a Suspect at incarnation 5.
-const SUSPECTED: &[u8] =
+pub(super) const SUSPECTED: &[u8] =
     b"\x06\x83\xa4Join\xc2\xa5Nodes\x02\xacUserStateLen\0\x87\xa4Addr\xa4\x7f\0\0\x01\xabIncarnation\x04\xa4Meta\xa0\xa4Name\xa1a\xa4Port\xcd\x1f\x0b\xa5State\0\xa3Vsn\xa0\x87\xa4Addr\xa0\xabIncarnation\x05\xa4Meta\xa0\xa4Name\xa1a\xa4Port\0\xa5State\x01\xa3Vsn\xa0";
 
-const SUSPECTED_LISTING: &str = "a suspect 5 4/7f000001/7947//\n";
+pub(super) const SUSPECTED_LISTING: &str = "a suspect 5 4/7f000001/7947//\n";
 
 /// An Alive of `a` at incarnation 0, at 127.0.0.1 and port 7946.
 const ALIVE: &[u8] =
@@ -62,18 +60,6 @@ fn read_front(alloc: Global, bytes: &[u8]) -> Result<(Table, usize), WireFault> 
     Ok((table, inlet.rest().len()))
 }
 
-/// Reads a stream from the inlet. Where memory is refused the repeat reads it from the other one.
-fn read_either<I: Inlet>(
-    alloc: Global,
-    inlet: &mut I,
-    other: &mut I,
-) -> Result<(Table, bool), WireFault> {
-    match read_stream(alloc, inlet) {
-        Err(WireFault::Memory) => read_stream(alloc, other),
-        answer => answer,
-    }
-}
-
 /// Reads a stream from the front of the bytes step by step. Where memory is refused the repeat reads it.
 fn read_steps(alloc: Global, bytes: &[u8]) -> Result<Table, WireFault> {
     match read_steps_once(alloc, bytes) {
@@ -95,26 +81,59 @@ fn read_steps_once(alloc: Global, bytes: &[u8]) -> Result<Table, WireFault> {
     Err(WireFault::Fault)
 }
 
+/// Asserts that the bytes were refused for this cause.
+fn assert_cause(rt: &impl Abort, found: Option<WireFault>, cause: WireFault, bytes: &[u8]) {
+    assert_eq!(rt; found, Some(cause), "{bytes:?}");
+}
+
+/// Asserts that the bytes were refused for this cause, or for want of memory.
+fn assert_cause_or_memory(
+    rt: &impl Abort,
+    found: Option<WireFault>,
+    cause: WireFault,
+    bytes: &[u8],
+) {
+    if found != Some(WireFault::Memory) {
+        assert_cause(rt, found, cause, bytes);
+    }
+}
+
 /// Asserts that the bytes are no dump, for this cause, and begin with no stream for the same one, read as a
 /// whole or step by step.
 fn assert_refused(rt: &impl Abort, alloc: Global, bytes: &[u8], cause: WireFault) {
-    match read(alloc, bytes) {
-        Ok(_) => panic!(rt; "{bytes:?} is read as a dump"),
-        Err(fault) => assert_eq!(rt; fault, cause, "{bytes:?}"),
-    }
-    match read_front(alloc, bytes) {
-        Ok(_) => panic!(rt; "a stream is read from {bytes:?}"),
-        Err(fault) => assert_eq!(rt; fault, cause, "{bytes:?}"),
-    }
-    match read_steps(alloc, bytes) {
-        Ok(_) => panic!(rt; "a stream is read by steps from {bytes:?}"),
-        Err(fault) => assert_eq!(rt; fault, cause, "{bytes:?}"),
-    }
+    assert_cause(rt, read(alloc, bytes).err(), cause, bytes);
+    assert_cause(rt, read_front(alloc, bytes).err(), cause, bytes);
+    assert_cause(rt, read_steps(alloc, bytes).err(), cause, bytes);
+}
+
+/// Asserts that the bytes are a dump of this table and this flag.
+fn assert_dump(
+    rt: &impl Abort,
+    alloc: Global,
+    bytes: &[u8],
+    listing: &str,
+    joins: bool,
+) -> Result<(), Fail> {
+    let (table, join) = read(alloc, bytes)?;
+    assert_eq!(rt; join, joins);
+    Ok(assert_lists(rt, alloc, &table, listing)?)
+}
+
+/// Asserts that a stream of this table stands at the front, and so many bytes behind it.
+fn assert_front(
+    rt: &impl Abort,
+    alloc: Global,
+    bytes: &[u8],
+    listing: &str,
+    behind: usize,
+) -> Result<(), Fail> {
+    let (table, left) = read_front(alloc, bytes)?;
+    assert_count(rt, left, behind, "bytes behind the stream");
+    Ok(assert_lists(rt, alloc, &table, listing)?)
 }
 
 #[test]
 fn a_dump_is_read_as_the_table_of_its_records(rt: HostRuntime) -> Result<(), Fail> {
-    let alloc = rt.alloc();
     for (bytes, listing, joins) in [
         (SUSPECTED, SUSPECTED_LISTING, false),
         (ALIVE, "a alive 0 0/7f000001/7946//\n", false),
@@ -123,23 +142,17 @@ fn a_dump_is_read_as_the_table_of_its_records(rt: HostRuntime) -> Result<(), Fai
         (USER_STATE, "", false),
         (JOIN, "", true),
     ] {
-        let (table, join) = read(alloc, bytes)?;
-        assert_lists(&rt, alloc, &table, listing)?;
-        assert_eq!(rt; join, joins);
-        let (table, left) = read_front(alloc, bytes)?;
-        assert_lists(&rt, alloc, &table, listing)?;
-        assert_eq!(rt; left, 0);
+        assert_dump(&rt, rt.alloc(), bytes, listing, joins)?;
+        assert_front(&rt, rt.alloc(), bytes, listing, 0)?;
     }
     Ok(())
 }
 
 #[test]
 fn want_of_memory_is_answered_as_such_and_the_repeat_reads(rt: HostRuntime) -> Result<(), Fail> {
-    let alloc = rt.alloc();
-    if let Err(fault) = read_dump(alloc, SUSPECTED) {
-        assert_eq!(rt; fault, WireFault::Memory);
-        let (table, _) = read_dump(alloc, SUSPECTED)?;
-        assert_lists(&rt, alloc, &table, SUSPECTED_LISTING)?;
+    if let Some(fault) = read_dump(rt.alloc(), SUSPECTED).err() {
+        assert_cause(&rt, Some(fault), WireFault::Memory, SUSPECTED);
+        assert_dump(&rt, rt.alloc(), SUSPECTED, SUSPECTED_LISTING, false)?;
     }
     Ok(())
 }
@@ -160,21 +173,26 @@ fn followed_by(alloc: Global, bytes: &[u8], byte: u8) -> Result<Vec<u8>, AllocEr
     Ok(all)
 }
 
+/// Asserts that the stream, followed by the byte, is no dump, and is read from the front.
+fn assert_followed(
+    rt: &impl Abort,
+    alloc: Global,
+    stream: &[u8],
+    byte: u8,
+    listing: &str,
+) -> Result<(), Fail> {
+    let bytes = followed_by(alloc, stream, byte)?;
+    assert_cause(rt, read(alloc, &bytes).err(), WireFault::Trailing, &bytes);
+    assert_front(rt, alloc, &bytes, listing, 1)
+}
+
 #[test]
 fn bytes_after_a_stream_are_no_part_of_it(rt: HostRuntime) -> Result<(), Fail> {
-    let alloc = rt.alloc();
     for (stream, byte, listing) in [
         (ALIVE, 0, "a alive 0 0/7f000001/7946//\n"),
         (USER_STATE, 0xff, ""),
     ] {
-        let bytes = followed_by(alloc, stream, byte)?;
-        match read(alloc, &bytes) {
-            Ok(_) => panic!(rt; "bytes after the stream are read"),
-            Err(fault) => assert_eq!(rt; fault, WireFault::Trailing),
-        }
-        let (table, left) = read_front(alloc, &bytes)?;
-        assert_lists(&rt, alloc, &table, listing)?;
-        assert_eq!(rt; left, 1);
+        assert_followed(&rt, rt.alloc(), stream, byte, listing)?;
     }
     Ok(())
 }
@@ -229,6 +247,18 @@ fn a_stream_is_refused_for_its_first_fault(rt: HostRuntime) {
     }
 }
 
+/// Why the header at the front of the bytes is refused.
+fn header_cause(alloc: Global, bytes: &[u8]) -> Option<WireFault> {
+    StreamReader::begin(alloc, &mut SliceInlet::new(bytes)).err()
+}
+
+/// Why the step behind the header is refused.
+fn step_cause(alloc: Global, bytes: &[u8]) -> Result<Option<WireFault>, Fail> {
+    let mut inlet = SliceInlet::new(bytes);
+    let reader = StreamReader::begin(alloc, &mut inlet)?;
+    Ok(reader.step(&mut inlet).err())
+}
+
 #[test]
 fn a_header_or_a_record_is_refused_for_its_first_fault(rt: HostRuntime) -> Result<(), Fail> {
     for (bytes, cause) in [
@@ -241,19 +271,16 @@ fn a_header_or_a_record_is_refused_for_its_first_fault(rt: HostRuntime) -> Resul
             WireFault::UserTooLong,
         ),
     ] {
-        match StreamReader::begin(rt.alloc(), &mut SliceInlet::new(bytes)) {
-            Ok(_) => panic!(rt; "a header is read from {bytes:?}"),
-            Err(fault) => assert_eq!(rt; fault, cause),
-        }
+        assert_cause(&rt, header_cause(rt.alloc(), bytes), cause, bytes);
     }
-    let mut inlet = SliceInlet::new(STATE_4);
-    let reader = StreamReader::begin(rt.alloc(), &mut inlet)?;
-    match reader.step(&mut inlet) {
-        Ok(_) => panic!(rt; "the state 4 is read"),
-        Err(WireFault::Memory) => {}
-        Err(fault) => assert_eq!(rt; fault, WireFault::BadState { found: 4 }),
-    }
+    let found = step_cause(rt.alloc(), STATE_4)?;
+    assert_cause_or_memory(&rt, found, WireFault::BadState { found: 4 }, STATE_4);
     Ok(())
+}
+
+/// Why the stream at the front of the bytes is refused.
+fn stream_cause(alloc: Global, bytes: &[u8]) -> Option<WireFault> {
+    read_stream(alloc, &mut SliceInlet::new(bytes)).err()
 }
 
 /// The promised records and the promised user state take no memory before they come.
@@ -264,11 +291,8 @@ fn a_header_that_promises_much_asks_for_little(rt: HostRuntime) {
         b"\x06\x81\xa5Nodes\xce\0\x02\0\0\x83\xa4Name\xa1c\xabIncarnation\x03\xa5State\x01",
         b"\x06\x83\xa4Join\xc2\xa5Nodes\0\xacUserStateLen\xce\x01\x40\0\0",
     ] {
-        match read_stream(rt.alloc(), &mut SliceInlet::new(bytes)) {
-            Ok(_) => panic!(rt; "what was promised is read"),
-            Err(WireFault::Memory) => {}
-            Err(fault) => assert_eq!(rt; fault, WireFault::Ended),
-        }
+        let found = stream_cause(rt.alloc(), bytes);
+        assert_cause_or_memory(&rt, found, WireFault::Ended, bytes);
     }
 }
 
@@ -280,10 +304,8 @@ fn next(rt: &impl Abort, step: Step) -> StreamReader {
     }
 }
 
-/// Reads the stream of a Suspect step by step.
-fn read_by_steps(rt: &impl Abort, alloc: Global) -> Result<(), WireFault> {
-    let mut inlet = SliceInlet::new(SUSPECTED);
-    let mut reader = StreamReader::begin(alloc, &mut inlet)?;
+/// Asserts that the reader has read the header of two records, and no record.
+fn assert_begun(rt: &impl Abort, reader: &StreamReader) {
     let header = Header {
         nodes: 2,
         user_len: 0,
@@ -292,18 +314,41 @@ fn read_by_steps(rt: &impl Abort, alloc: Global) -> Result<(), WireFault> {
     assert_eq!(rt; *reader.header(), header);
     assert_eq!(rt; reader.left(), 2);
     assert!(rt; reader.table().is_empty());
-    for (left, listing) in [(1, "a alive 4 4/7f000001/7947//\n"), (0, SUSPECTED_LISTING)] {
-        reader = next(rt, reader.step(&mut inlet)?);
-        assert_eq!(rt; reader.left(), left);
-        assert_lists(rt, alloc, reader.table(), listing)?;
-    }
-    match reader.step(&mut inlet)? {
+}
+
+/// Asserts that so many records are left, and that the table is listed so.
+fn assert_read(
+    rt: &impl Abort,
+    alloc: Global,
+    reader: &StreamReader,
+    left: u32,
+    listing: &str,
+) -> Result<(), AllocError> {
+    assert_eq!(rt; reader.left(), left);
+    assert_lists(rt, alloc, reader.table(), listing)
+}
+
+/// Asserts that the step is the end of a stream of no join flag, and that the table is listed so.
+fn assert_end(rt: &impl Abort, alloc: Global, step: Step, listing: &str) -> Result<(), AllocError> {
+    match step {
         Step::More(_) => panic!(rt; "a third record is read"),
         Step::End(table, join) => {
-            assert_lists(rt, alloc, &table, SUSPECTED_LISTING)?;
             assert!(rt; !join);
+            assert_lists(rt, alloc, &table, listing)
         }
     }
+}
+
+/// Reads the stream of a Suspect step by step.
+fn read_by_steps(rt: &impl Abort, alloc: Global) -> Result<(), WireFault> {
+    let mut inlet = SliceInlet::new(SUSPECTED);
+    let mut reader = StreamReader::begin(alloc, &mut inlet)?;
+    assert_begun(rt, &reader);
+    for (left, listing) in [(1, "a alive 4 4/7f000001/7947//\n"), (0, SUSPECTED_LISTING)] {
+        reader = next(rt, reader.step(&mut inlet)?);
+        assert_read(rt, alloc, &reader, left, listing)?;
+    }
+    assert_end(rt, alloc, reader.step(&mut inlet)?, SUSPECTED_LISTING)?;
     assert!(rt; inlet.rest().is_empty());
     Ok(())
 }
@@ -317,68 +362,29 @@ fn each_step_reads_one_record_and_the_last_one_the_end(rt: HostRuntime) -> Resul
     }
 }
 
-#[test]
-fn an_inlet_that_fails_at_any_call_is_a_fault(rt: HostRuntime) -> Result<(), Fail> {
-    let alloc = rt.alloc();
-    for calls in 1..200 {
-        let mut inlet = StopInlet::new(SUSPECTED, calls);
-        let mut other = StopInlet::new(SUSPECTED, calls);
-        match read_either(alloc, &mut inlet, &mut other) {
-            Ok((table, _)) => return Ok(assert_lists(&rt, alloc, &table, SUSPECTED_LISTING)?),
-            Err(fault) => assert_eq!(rt; fault, WireFault::Fault, "at call {calls}"),
-        }
-    }
-    panic!(rt; "the stream is read at no number of calls")
-}
-
-/// A reader that gives its bytes, at most so many a read.
-#[derive(Drop)]
-struct Pieces<'a> {
-    bytes: &'a [u8],
-    most: usize,
-}
-
-impl<'a> Pieces<'a> {
-    fn new(bytes: &'a [u8], most: usize) -> Pieces<'a> {
-        Pieces { bytes, most }
+/// The canonical dump of the table, at the second try where memory is refused.
+fn canonical(alloc: Global, table: &Table) -> Result<Vec<u8>, EncodeFault> {
+    match encode(alloc, table, false) {
+        Err(EncodeFault::Memory) => encode(alloc, table, false),
+        answer => answer,
     }
 }
 
-impl Read for Pieces<'_> {
-    fn read(&mut self, buf: &mut [u8]) -> io::Result<usize> {
-        let count = self.most.min(buf.len()).min(self.bytes.len());
-        let (front, rest) = self.bytes.split_at(count);
-        buf[..count].copy_from_slice(front);
-        self.bytes = rest;
-        Ok(count)
-    }
-}
-
-#[test]
-fn a_stream_in_pieces_of_any_size_is_read(rt: HostRuntime) -> Result<(), Fail> {
-    let alloc = rt.alloc();
-    for most in 1..=SUSPECTED.len() {
-        let mut inlet = FromRead::new(Pieces::new(SUSPECTED, most));
-        let mut other = FromRead::new(Pieces::new(SUSPECTED, most));
-        let (table, join) = read_either(alloc, &mut inlet, &mut other)?;
-        assert_lists(&rt, alloc, &table, SUSPECTED_LISTING)?;
-        assert!(rt; !join);
-    }
+/// Asserts that the canonical dump of the table is read as an equal one.
+fn assert_dumped(rt: &impl Abort, alloc: Global, table: &Table) -> Result<(), Fail> {
+    let dump = canonical(alloc, table)?;
+    let (again, _) = read(alloc, &dump)?;
+    assert_eq!(rt; relation(table, &again), Relation::Equal);
     Ok(())
 }
 
 /// Asserts that the canonical dump of what the bytes are read as, if they are read at all, is read as
 /// an equal table.
 fn assert_dumped_alike(rt: &impl Abort, alloc: Global, bytes: &[u8]) -> Result<(), Fail> {
-    if let Ok((table, _)) = read(alloc, bytes) {
-        let dump = match encode(alloc, &table, false) {
-            Err(EncodeFault::Memory) => encode(alloc, &table, false)?,
-            answer => answer?,
-        };
-        let (again, _) = read(alloc, &dump)?;
-        assert_eq!(rt; relation(&table, &again), Relation::Equal);
+    match read(alloc, bytes) {
+        Ok((table, _)) => assert_dumped(rt, alloc, &table),
+        Err(_) => Ok(()),
     }
-    Ok(())
 }
 
 #[test]

@@ -47,6 +47,17 @@ fn same_claim(
     }
 }
 
+/// That a header is read alike from both inlets.
+fn assert_same_header(
+    rt: &impl Abort,
+    slice: &mut SliceInlet<'_>,
+    unseen: &mut StopInlet<'_>,
+    bytes: &[u8],
+) {
+    let header = read_header(slice);
+    assert_eq!(rt; header, read_header(unseen), "{bytes:?}");
+}
+
 /// A slice is at hand whole, and of a `StopInlet` nothing is.
 fn read_both_ways(rt: &impl Abort, alloc: Global, bytes: &[u8]) -> Result<(), Fail> {
     let mut slice = SliceInlet::new(bytes);
@@ -56,24 +67,29 @@ fn read_both_ways(rt: &impl Abort, alloc: Global, bytes: &[u8]) -> Result<(), Fa
     let taken = whole.is_ok();
     assert!(rt; same_claim(whole, apart)?, "{bytes:?}");
     if taken {
-        let next = read_header(&mut slice);
-        assert_eq!(rt; next, read_header(&mut unseen), "{bytes:?}");
+        assert_same_header(rt, &mut slice, &mut unseen, bytes);
     }
-    let header = read_header(&mut SliceInlet::new(bytes));
-    assert_eq!(rt;
-        header,
-        read_header(&mut StopInlet::new(bytes, usize::MAX)),
-        "{bytes:?}"
-    );
+    let mut unseen = StopInlet::new(bytes, usize::MAX);
+    assert_same_header(rt, &mut SliceInlet::new(bytes), &mut unseen, bytes);
     Ok(())
+}
+
+/// That two packets, where both are read, are made by the same.
+fn assert_same_maker(
+    rt: &impl Abort,
+    whole: &Result<Packet, WireFault>,
+    apart: &Result<Packet, WireFault>,
+    bytes: &[u8],
+) {
+    if let (Ok(whole), Ok(apart)) = (whole, apart) {
+        assert_eq!(rt; whole.from_name(), apart.from_name(), "{bytes:?}");
+    }
 }
 
 fn decode_both_ways(rt: &impl Abort, alloc: Global, bytes: &[u8]) -> Result<(), Fail> {
     let whole = decode_packet(alloc, bytes);
     let apart = decode_any(alloc, bytes);
-    if let (Ok(whole), Ok(apart)) = (&whole, &apart) {
-        assert_eq!(rt; whole.from_name(), apart.from_name(), "{bytes:?}");
-    }
+    assert_same_maker(rt, &whole, &apart, bytes);
     let (whole, apart) = (whole.map(Packet::into_claim), apart.map(Packet::into_claim));
     assert!(rt; same_claim(whole, apart)?, "{bytes:?}");
     Ok(())

@@ -1,10 +1,11 @@
 //! Messages by their canonical bytes.
 
-use super::{ALIVE, CONFIRM, LEAVE, SUSPECT};
+use super::{ALIVE, CONFIRM, LEAVE, SUSPECT, assert_bytes};
 use crate::{
     Header, Packet, decode_packet, encode_compound, encode_packet, write_header, write_state,
 };
 use std::alloc::{AllocError, Global};
+use std::process::Abort;
 use std::test::Fail;
 use swim_claim::Claim;
 
@@ -23,9 +24,20 @@ fn encoded(alloc: Global, packet: &Packet) -> Result<Vec<u8>, AllocError> {
     }
 }
 
+/// That the packet is written as these bytes.
+fn assert_encoded(
+    rt: &impl Abort,
+    alloc: Global,
+    bytes: &[u8],
+    canonical: &[u8],
+) -> Result<(), Fail> {
+    let packet = decode_packet(alloc, bytes)?;
+    assert_bytes(rt, &encoded(alloc, &packet)?, canonical);
+    Ok(())
+}
+
 #[test]
 fn a_packet_is_written_in_its_canonical_bytes(rt: HostRuntime) -> Result<(), Fail> {
-    let alloc = rt.alloc();
     for (bytes, canonical) in [
         (ALIVE, ALIVE),
         (OTHER_ALIVE, ALIVE),
@@ -33,31 +45,40 @@ fn a_packet_is_written_in_its_canonical_bytes(rt: HostRuntime) -> Result<(), Fai
         (CONFIRM, CONFIRM),
         (LEAVE, LEAVE),
     ] {
-        let packet = decode_packet(alloc, bytes)?;
-        assert_eq!(rt; encoded(alloc, &packet)?.as_slice(), canonical);
+        assert_encoded(&rt, rt.alloc(), bytes, canonical)?;
     }
     Ok(())
+}
+
+/// Encodes them together. Where memory is refused the repeat encodes them.
+fn compound_of(alloc: Global, packets: &[Packet; 2]) -> Result<Vec<u8>, AllocError> {
+    match encode_compound(alloc, packets) {
+        Err(AllocError) => encode_compound(alloc, packets),
+        answer => answer,
+    }
+}
+
+/// That the compound has the lengths of the Alive and the Suspect, and then both.
+fn assert_compound(rt: &impl Abort, compound: &[u8]) {
+    assert_eq!(rt; compound.len(), 86);
+    let (lengths, packets) = compound.split_at(6);
+    let (first, second) = packets.split_at(51);
+    assert_bytes(rt, lengths, b"\x07\x02\0\x33\0\x1d");
+    assert_bytes(rt, first, ALIVE);
+    assert_bytes(rt, second, SUSPECT);
 }
 
 #[test]
 fn a_compound_has_the_lengths_and_then_the_packets(rt: HostRuntime) -> Result<(), Fail> {
     let alloc = rt.alloc();
     let packets = [decode_packet(alloc, ALIVE)?, decode_packet(alloc, SUSPECT)?];
-    let compound = match encode_compound(alloc, &packets) {
-        Err(AllocError) => encode_compound(alloc, &packets)?,
-        Ok(compound) => compound,
-    };
-    assert_eq!(rt; compound.len(), 86);
-    assert_eq!(rt; &compound[..6], b"\x07\x02\0\x33\0\x1d".as_slice());
-    assert_eq!(rt; &compound[6..57], ALIVE);
-    assert_eq!(rt; &compound[57..], SUSPECT);
+    assert_compound(&rt, &compound_of(alloc, &packets)?);
     Ok(())
 }
 
 #[test]
 fn a_compound_of_no_packets_is_its_type_and_a_zero(rt: HostRuntime) -> Result<(), Fail> {
-    let compound = encode_compound(rt.alloc(), &[])?;
-    assert_eq!(rt; compound.as_slice(), b"\x07\0".as_slice());
+    assert_bytes(&rt, &encode_compound(rt.alloc(), &[])?, b"\x07\0");
     Ok(())
 }
 
@@ -68,6 +89,15 @@ fn with_header(out: &mut Vec<u8>, header: &Header) -> Result<(), AllocError> {
         Err(AllocError) if out.len() == len => write_header(out, header),
         answer => answer,
     }
+}
+
+/// The headers, one behind the other.
+fn headers(alloc: Global, headers: &[Header]) -> Result<Vec<u8>, AllocError> {
+    let mut out = Vec::new(alloc);
+    for header in headers {
+        with_header(&mut out, header)?;
+    }
+    Ok(out)
 }
 
 #[test]
@@ -82,12 +112,10 @@ fn a_header_is_appended(rt: HostRuntime) -> Result<(), Fail> {
         user_len: 300,
         join: true,
     };
-    let mut out = Vec::new(rt.alloc());
-    with_header(&mut out, &header)?;
-    with_header(&mut out, &other)?;
+    let out = headers(rt.alloc(), &[header, other])?;
     let both =
         b"\x06\x83\xa4Join\xc2\xa5Nodes\0\xacUserStateLen\0\x06\x83\xa4Join\xc3\xa5Nodes\xce\0\x02\0\0\xacUserStateLen\xcd\x01\x2c";
-    assert_eq!(rt; out.as_slice(), both.as_slice());
+    assert_bytes(&rt, &out, both);
     Ok(())
 }
 
@@ -101,9 +129,17 @@ fn with_state(out: &mut Vec<u8>, claim: &Claim) -> Result<(), AllocError> {
     }
 }
 
+/// That the claim of the packet is written as this record.
+fn assert_record(rt: &impl Abort, alloc: Global, packet: &[u8], record: &[u8]) -> Result<(), Fail> {
+    let packet = decode_packet(alloc, packet)?;
+    let mut out = Vec::new(alloc);
+    with_state(&mut out, packet.claim())?;
+    assert_bytes(rt, &out, record);
+    Ok(())
+}
+
 #[test]
 fn a_state_record_has_the_state_and_the_details_of_its_claim(rt: HostRuntime) -> Result<(), Fail> {
-    let alloc = rt.alloc();
     let alive =
         b"\x87\xa4Addr\xa4\x7f\0\0\x01\xabIncarnation\0\xa4Meta\xa0\xa4Name\xa1a\xa4Port\xcd\x1f\x0a\xa5State\0\xa3Vsn\xa0";
     let suspect =
@@ -118,10 +154,7 @@ fn a_state_record_has_the_state_and_the_details_of_its_claim(rt: HostRuntime) ->
         (CONFIRM, confirm),
         (LEAVE_OF_C, leave),
     ] {
-        let packet = decode_packet(alloc, packet)?;
-        let mut out = Vec::new(alloc);
-        with_state(&mut out, packet.claim())?;
-        assert_eq!(rt; out.as_slice(), record);
+        assert_record(&rt, rt.alloc(), packet, record)?;
     }
     Ok(())
 }

@@ -1,6 +1,6 @@
 //! Datagrams and user state by their bytes.
 
-use super::{ALIVE, SUSPECT};
+use super::{ALIVE, SUSPECT, assert_bytes, assert_count, assert_fault};
 use crate::{Datagram, Packet, WireFault, decode_datagram, encode_compound, skip_user};
 use std::alloc::Global;
 use std::process::Abort;
@@ -20,6 +20,14 @@ const PASSED_OVER: &[u8] =
 const CUT_PACKET: &[u8] =
     b"\x07\x02\0\x33\0\x01\x04\x86\xa4Addr\xa4\x7f\0\0\x01\xabIncarnation\0\xa4Meta\xa0\xa4Node\xa1a\xa4Port\xcd\x1f\x0a\xa3Vsn\xa0\x04";
 
+/// That the packets are about these names of one letter each.
+fn assert_packets(rt: &impl Abort, packets: &[Packet], names: &[u8]) {
+    assert_count(rt, packets.len(), names.len());
+    for (packet, name) in packets.iter().zip(names) {
+        assert_bytes(rt, packet.claim().name().bytes(), &[*name]);
+    }
+}
+
 #[test]
 fn a_datagram_has_the_packets_of_its_parts(rt: HostRuntime) -> Result<(), Fail> {
     for (bytes, names) in [
@@ -30,29 +38,47 @@ fn a_datagram_has_the_packets_of_its_parts(rt: HostRuntime) -> Result<(), Fail> 
         (ALIVE, b"a"),
         (SUSPECT, b"b"),
     ] {
-        let packets = decode_datagram(rt.alloc(), bytes)?;
-        assert_eq!(rt; packets.len(), names.len());
-        for (packet, name) in packets.iter().zip(names) {
-            assert_eq!(rt; packet.claim().name().bytes(), [*name].as_slice());
-        }
+        assert_packets(&rt, &decode_datagram(rt.alloc(), bytes)?, names);
     }
     Ok(())
 }
 
-#[test]
-fn two_hundred_and_fifty_five_packets_are_one_compound(rt: HostRuntime) -> Result<(), Fail> {
-    let mut bytes = b"\x07\xff".to_vec(rt.alloc())?;
+/// A compound of 255 Suspects.
+fn greatest_compound(alloc: Global) -> Result<Vec<u8>, Fail> {
+    let mut bytes = b"\x07\xff".to_vec(alloc)?;
     for _ in 0..255 {
         bytes.extend_from_slice(b"\0\x1d")?;
     }
     for _ in 0..255 {
         bytes.extend_from_slice(SUSPECT)?;
     }
-    let packets = decode_datagram(rt.alloc(), &bytes)?;
-    assert_eq!(rt; packets.len(), 255);
+    Ok(bytes)
+}
+
+/// That the 255 packets are encoded as these bytes.
+fn assert_encoded(
+    rt: &impl Abort,
+    alloc: Global,
+    packets: &[Packet],
+    bytes: &[u8],
+) -> Result<(), Fail> {
+    assert_count(rt, packets.len(), 255);
     let count = packets.len().min(255);
-    assert_eq!(rt; encode_compound(rt.alloc(), &packets[..count])?, bytes);
+    assert_bytes(rt, &encode_compound(alloc, &packets[..count])?, bytes);
     Ok(())
+}
+
+#[test]
+fn two_hundred_and_fifty_five_packets_are_one_compound(rt: HostRuntime) -> Result<(), Fail> {
+    let bytes = greatest_compound(rt.alloc())?;
+    let packets = decode_datagram(rt.alloc(), &bytes)?;
+    assert_encoded(&rt, rt.alloc(), &packets, &bytes)
+}
+
+/// Whether the bytes are a packet by itself.
+fn is_alone(alloc: Global, bytes: &[u8]) -> Result<bool, Fail> {
+    let datagram = Datagram::decode(alloc, bytes)?;
+    Ok(matches!(datagram, Datagram::Packet(_)))
 }
 
 #[test]
@@ -63,19 +89,19 @@ fn a_packet_by_itself_is_told_from_a_compound_packet(rt: HostRuntime) -> Result<
         (BOTH, false),
         (b"\x07\0", false),
     ] {
-        let datagram = Datagram::decode(rt.alloc(), bytes)?;
-        assert_eq!(rt; matches!(datagram, Datagram::Packet(_)), alone, "{bytes:?}");
+        assert_eq!(rt; is_alone(rt.alloc(), bytes)?, alone, "{bytes:?}");
     }
     Ok(())
 }
 
-/// Why the bytes are refused.
-fn refusal(rt: &impl Abort, alloc: Global, bytes: &[u8]) -> Result<WireFault, Fail> {
-    match decode_datagram(alloc, bytes) {
-        Ok(_) => panic!(rt; "{bytes:?} is read"),
-        Err(WireFault::Memory) => Err(Fail::from(WireFault::Memory)),
-        Err(fault) => Ok(fault),
-    }
+/// That the bytes are no datagram, for this fault.
+fn assert_refused(
+    rt: &impl Abort,
+    alloc: Global,
+    bytes: &[u8],
+    fault: WireFault,
+) -> Result<(), Fail> {
+    assert_fault(rt, decode_datagram(alloc, bytes).err(), fault, bytes)
 }
 
 #[test]
@@ -90,7 +116,7 @@ fn a_datagram_is_refused_at_its_first_fault(rt: HostRuntime) -> Result<(), Fail>
         (b"\x07\x02\0\x02\xff\xff\x03\x80", WireFault::NameEmpty),
         (CUT_PACKET, WireFault::Ended),
     ] {
-        assert_eq!(rt; refusal(&rt, rt.alloc(), bytes)?, fault);
+        assert_refused(&rt, rt.alloc(), bytes, fault)?;
     }
     Ok(())
 }
@@ -106,33 +132,33 @@ fn a_datagram_that_claims_much_asks_for_little(rt: HostRuntime) -> Result<(), Fa
         (b"\x04\x81\xa4Meta\xc6\xff\xff\xff\xff", WireFault::TooLong),
         (b"\x04\x81\xa4Node\xda\x04\x00a", WireFault::Ended),
     ] {
-        assert_eq!(rt; refusal(&rt, rt.alloc(), bytes)?, fault);
+        assert_refused(&rt, rt.alloc(), bytes, fault)?;
     }
     Ok(())
 }
 
 #[test]
 fn want_of_memory_is_answered_as_such_and_the_repeat_reads(rt: HostRuntime) -> Result<(), Fail> {
-    if let Err(fault) = decode_datagram(rt.alloc(), BOTH) {
+    if let Some(fault) = decode_datagram(rt.alloc(), BOTH).err() {
         assert_eq!(rt; fault, WireFault::Memory);
-        let packets = decode_datagram(rt.alloc(), BOTH)?;
-        assert_eq!(rt; packets.len(), 2);
+        assert_count(&rt, decode_datagram(rt.alloc(), BOTH)?.len(), 2);
     }
     Ok(())
 }
 
+/// What dropping so many of five bytes has to answer, and what is left behind it.
+fn assert_skips(rt: &impl Abort, len: u32, answer: Result<(), WireFault>, rest: &[u8]) {
+    let mut inlet = SliceInlet::new(b"\x01\x02\x03\x04\x05");
+    assert_eq!(rt; skip_user(&mut inlet, len), answer);
+    assert_bytes(rt, inlet.rest(), rest);
+}
+
 #[test]
 fn user_state_is_dropped_to_its_last_byte(rt: HostRuntime) -> Result<(), Fail> {
-    for (len, answer, rest) in [
-        (5, Ok(()), b"".as_slice()),
-        (3, Ok(()), b"\x04\x05"),
-        (0, Ok(()), b"\x01\x02\x03\x04\x05"),
-        (6, Err(WireFault::Ended), b"\x01\x02\x03\x04\x05"),
-    ] {
-        let mut inlet = SliceInlet::new(b"\x01\x02\x03\x04\x05");
-        assert_eq!(rt; skip_user(&mut inlet, len), answer);
-        assert_eq!(rt; inlet.rest(), rest);
-    }
+    assert_skips(&rt, 5, Ok(()), b"");
+    assert_skips(&rt, 3, Ok(()), b"\x04\x05");
+    assert_skips(&rt, 0, Ok(()), b"\x01\x02\x03\x04\x05");
+    assert_skips(&rt, 6, Err(WireFault::Ended), b"\x01\x02\x03\x04\x05");
     Ok(())
 }
 
@@ -140,6 +166,6 @@ fn user_state_is_dropped_to_its_last_byte(rt: HostRuntime) -> Result<(), Fail> {
 fn user_state_is_dropped_piece_by_piece(rt: HostRuntime) -> Result<(), Fail> {
     let mut inlet = SliceInlet::new(&[7; 4099]);
     assert_eq!(rt; skip_user(&mut inlet, 4098), Ok(()));
-    assert_eq!(rt; inlet.rest().len(), 1);
+    assert_count(&rt, inlet.rest().len(), 1);
     Ok(())
 }

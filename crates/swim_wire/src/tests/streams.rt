@@ -1,6 +1,9 @@
 //! Headers and state records of push/pull streams.
 
+use super::{assert_claim, assert_count};
 use crate::{Header, WireFault, read_header, read_state};
+use std::alloc::Global;
+use std::process::Abort;
 use std::test::Fail;
 use swim_claim::Kind;
 use swim_pack::{SliceInlet, StopInlet};
@@ -19,6 +22,15 @@ const DEAD: &[u8] =
 /// A record of `c` that left at incarnation 3.
 const LEFT: &[u8] = b"\x83\xa4Name\xa1c\xabIncarnation\x03\xa5State\x03";
 
+/// What reading a header has to answer.
+fn assert_header(rt: &impl Abort, bytes: &[u8], wanted: Result<Header, WireFault>) {
+    assert_eq!(rt;
+        read_header(&mut SliceInlet::new(bytes)),
+        wanted,
+        "{bytes:?}"
+    );
+}
+
 #[test]
 fn a_header_is_read_with_its_parts(rt: HostRuntime) -> Result<(), Fail> {
     for (bytes, nodes, user_len, join) in [
@@ -26,13 +38,12 @@ fn a_header_is_read_with_its_parts(rt: HostRuntime) -> Result<(), Fail> {
         (b"\x06\x82\xa5Nodes\x01\xa4Join\xc3", 1, 0, true),
         (b"\x06\x82\xa5Nodes\0\xacUserStateLen\x05\x01", 0, 5, false),
     ] {
-        let mut inlet = SliceInlet::new(bytes);
         let wanted = Header {
             nodes,
             user_len,
             join,
         };
-        assert_eq!(rt; read_header(&mut inlet)?, wanted);
+        assert_header(&rt, bytes, Ok(wanted));
     }
     Ok(())
 }
@@ -53,8 +64,24 @@ fn a_header_is_refused_by_its_first_fault(rt: HostRuntime) {
             WireFault::UserTooLong,
         ),
     ] {
-        assert_eq!(rt; read_header(&mut SliceInlet::new(bytes)), Err(fault));
+        assert_header(&rt, bytes, Err(fault));
     }
+}
+
+/// That a record is read to its end as this claim.
+fn assert_record(
+    rt: &impl Abort,
+    alloc: Global,
+    bytes: &[u8],
+    kind: Kind,
+    name: &[u8],
+    inc: u32,
+) -> Result<(), Fail> {
+    let mut inlet = SliceInlet::new(bytes);
+    let claim = read_state(alloc, &mut inlet)?;
+    assert_claim(rt, &claim, kind, name, inc);
+    assert_count(rt, inlet.rest().len(), 0);
+    Ok(())
 }
 
 #[test]
@@ -64,14 +91,17 @@ fn a_state_record_is_read_by_its_state(rt: HostRuntime) -> Result<(), Fail> {
         (DEAD, Kind::Confirm, b"b", 2),
         (LEFT, Kind::Leave, b"c", 3),
     ] {
-        let mut inlet = SliceInlet::new(bytes);
-        let claim = read_state(rt.alloc(), &mut inlet)?;
-        assert_eq!(rt; claim.kind(), kind);
-        assert_eq!(rt; claim.name().bytes(), name.as_slice());
-        assert_eq!(rt; claim.inc(), inc);
-        assert_eq!(rt; inlet.rest().len(), 0);
+        assert_record(&rt, rt.alloc(), bytes, kind, name, inc)?;
     }
     Ok(())
+}
+
+/// That the bytes are no record, for this fault or for want of memory.
+fn assert_refused(rt: &impl Abort, alloc: Global, bytes: &[u8], fault: WireFault) {
+    let found = read_state(alloc, &mut SliceInlet::new(bytes)).err();
+    if found != Some(WireFault::Memory) {
+        assert_eq!(rt; found, Some(fault), "{bytes:?}");
+    }
 }
 
 #[test]
@@ -89,29 +119,23 @@ fn a_state_record_is_refused_by_its_first_fault(rt: HostRuntime) {
         ),
         (b"\x88", WireFault::MapCount),
     ] {
-        match read_state(rt.alloc(), &mut SliceInlet::new(bytes)) {
-            Err(WireFault::Memory) => {}
-            Err(refused) => assert_eq!(rt; refused, fault),
-            Ok(_) => panic!(rt; "{bytes:?} is read"),
-        }
+        assert_refused(&rt, rt.alloc(), bytes, fault);
     }
+}
+
+/// That a record and a header are the fault of an inlet that fails at this call.
+fn assert_fails(rt: &impl Abort, alloc: Global, calls: usize) {
+    let refused = read_state(alloc, &mut StopInlet::new(LEFT, calls)).err();
+    let is_fault = matches!(refused, Some(WireFault::Fault | WireFault::Memory));
+    assert!(rt; is_fault, "at call {calls}");
+    let refused = read_header(&mut StopInlet::new(HEADER, calls)).err();
+    assert_eq!(rt; refused, Some(WireFault::Fault), "at call {calls}");
 }
 
 #[test]
 fn a_failing_end_is_a_fault_at_each_call(rt: HostRuntime) {
     for calls in 1..12 {
-        let mut inlet = StopInlet::new(LEFT, calls);
-        let refused = matches!(
-            read_state(rt.alloc(), &mut inlet),
-            Err(WireFault::Fault | WireFault::Memory)
-        );
-        assert!(rt; refused, "at call {calls}");
-        let mut inlet = StopInlet::new(HEADER, calls);
-        assert_eq!(rt;
-            read_header(&mut inlet),
-            Err(WireFault::Fault),
-            "at call {calls}"
-        );
+        assert_fails(&rt, rt.alloc(), calls);
     }
     assert!(rt; read_header(&mut StopInlet::new(HEADER, 12)).is_ok());
 }

@@ -21,7 +21,7 @@ use types.ByLocal.{alloc_all, pass_all, free_all, look_at, get, get_in, sets, la
 use denote.Exit.{yes}
 use denote.Param.{layout}
 use denote.RattleType.{RattleType}
-use denote.RawPtr.{Ptr, null_ptr, ptr_val}
+use denote.RawPtr.{Ptr, ptr_val}
 use denote.Signature.{plain, type_at}
 use denote.Steps.{nothing, only, heard}
 use denote.Triple.Call.{calls_at_last}

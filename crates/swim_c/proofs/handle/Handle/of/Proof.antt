@@ -6,7 +6,7 @@ use base.Logic.{id⊢}
 use base.Fml.{ftrue, fsep}
 use prog.Wp.{WpFn}
 use contract.Running.{tables}
-use types.Kit.{‵, raw, ◌⊛◌, some, later, prop, ◌$◌, ◌∵◌, !, qed, move, keep, drop, use1, join, split, fsplit, fjoin, feq_l, pick, await, regoal, suffices, done}
+use types.Kit.{‵, raw, ◌⊛◌, some, later, prop, ◌$◌, ◌∵◌, !, qed, move, drop, use1, join, split, fsplit, fjoin, feq_l, pick, await, regoal, suffices, done}
 use types.Part.{agg}
 use types.Run.{true_lit, no_more, and_then, of_opd, returns, enter}
 use types.ByLocal.{alloc_all, pass_all, free_all, look_at, get, sets, lands_as}
