@@ -3,7 +3,7 @@
 #   make            the program, at build/swimtab, and the library for C, at build/libswimtab.a and,
 #                   where there is a C compiler, build/libswimtab.so; some 10 minutes the first time
 #   make run        the listing of examples/packets.hex
-#   make test       the gate: every proof from nothing, and all tests; an hour or more
+#   make test       the gate: every proof from nothing, and all tests; one to two hours
 #   make bench      what a record costs, by size and by order of the names; some minutes
 #   make install    copies what make built to PREFIX: the program to bin, its page to share/man/man1,
 #                   the library to lib, its header to include, and what pkg-config reads to
