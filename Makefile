@@ -1,14 +1,15 @@
-# swimtab: membership tables of a SWIM cluster.
+# swimtab: membership tables of a SWIM cluster; swimunwrap: what its members send, without wrappers.
 #
-#   make            the program, at build/swimtab, and the library for C, at build/libswimtab.a and,
-#                   where there is a C compiler, build/libswimtab.so; some 10 minutes the first time
-#   make run        the listing of examples/packets.hex
+#   make            the programs, at build/swimtab and build/swimunwrap, and the library for C, at
+#                   build/libswimtab.a and, where there is a C compiler, build/libswimtab.so; some
+#                   15 minutes the first time
+#   make run        the listings of examples/packets.hex and examples/default-cluster.hex
 #   make test       the gate: every proof from nothing, and all tests; one to two hours
 #   make bench      what a record costs, by size and by order of the names; some minutes
-#   make install    copies what make built to PREFIX: the program to bin, its page to share/man/man1,
+#   make install    copies what make built to PREFIX: the programs to bin, their pages to share/man/man1,
 #                   the library to lib, its header to include, and what pkg-config reads to
 #                   lib/pkgconfig; it is built first only where it is not there, so root needs no kit
-#   make program    the program alone
+#   make programs   the programs alone
 #   make library    the library alone
 #   make clean      removes what was built
 #   make help       these lines
@@ -19,18 +20,20 @@ AR ?= ar
 SOURCES := $(shell find crates -type f -not -path '*/out/*') crates.txt HANDLES
 VERSION := $(shell sed -n 's/^.define SWIMTAB_VERSION "\(.*\)"/\1/p' include/swimtab.h)
 
-.PHONY: all program library run test bench install clean help kit
+.PHONY: all programs library run test bench install clean help kit
 
-all: program library
+programs := swimtab swimunwrap
 
-program: build/swimtab
+all: programs library
+
+programs: $(programs:%=build/%)
 
 library: build/libswimtab.a
 	@if command -v $(CC) > /dev/null; then $(MAKE) --no-print-directory build/libswimtab.so; \
 	else echo 'there is no $(CC), so build/libswimtab.so is not built'; fi
 
 build/swimbench: words := -- check
-build/swimtab build/swimbench: build/%: $(SOURCES) | kit
+$(programs:%=build/%) build/swimbench: build/%: $(SOURCES) | kit
 	@mkdir -p build
 	@echo 'proving and building $*; the first time takes some minutes'
 	@cd crates/$* && rt run $(words) < /dev/null > out.log 2>&1 || { cat out.log; rm -f out.log; exit 1; }
@@ -53,8 +56,9 @@ build/libswimtab.so: build/libswimtab.a
 		-Wl,--gc-sections -Wl,--whole-archive $< -Wl,--no-whole-archive
 	@rm -f build/libswimtab.map
 
-run: build/swimtab
+run: programs
 	@build/swimtab < examples/packets.hex
+	@build/swimunwrap < examples/default-cluster.hex | build/swimtab
 
 test: kit
 	@.ci/gate
@@ -65,11 +69,11 @@ bench: build/swimbench
 install: prefix = $(if $(filter /%,$(PREFIX)),$(PREFIX),$(CURDIR)/$(PREFIX))
 install: root = $(DESTDIR)$(prefix)
 install:
-	@test -x build/swimtab || $(MAKE) program
+	@for program in $(programs); do test -x build/$$program || $(MAKE) build/$$program || exit 1; done
 	@test -f build/libswimtab.a || $(MAKE) library
 	@mkdir -p '$(root)/bin' '$(root)/share/man/man1' '$(root)/lib/pkgconfig' '$(root)/include'
-	install -m 755 build/swimtab '$(root)/bin/swimtab'
-	install -m 644 docs/swimtab.1 '$(root)/share/man/man1/swimtab.1'
+	install -m 755 $(programs:%=build/%) '$(root)/bin'
+	install -m 644 $(programs:%=docs/%.1) '$(root)/share/man/man1'
 	install -m 644 include/swimtab.h '$(root)/include/swimtab.h'
 	install -m 644 build/libswimtab.a '$(root)/lib/libswimtab.a'
 	@if [ -f build/libswimtab.so ]; then \

@@ -443,6 +443,16 @@ static inline const char *swimtab_fault_name(uint32_t status) {
     case 30: return "BadHex";
     case 31: return "BadScript";
     case 32: return "InputTooLong";
+    case 40: return "Ended";
+    case 41: return "Trailing";
+    case 42: return "BadCode";
+    case 43: return "BadChecksum";
+    case 44: return "BadMap";
+    case 45: return "BadAlgo";
+    case 46: return "BadLabel";
+    case 47: return "TooLarge";
+    case 48: return "TooDeep";
+    case 49: return "Memory";
     case 64: return "NoNode";
     case 65: return "NodeThere";
     case 66: return "TooSmall";

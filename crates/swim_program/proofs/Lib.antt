@@ -1,1 +1,2 @@
 pub mod CountedLines
+pub mod Commands

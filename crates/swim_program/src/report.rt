@@ -172,13 +172,18 @@ impl From<SyncFault> for What {
     }
 }
 
-/// The line for standard error, without its line feed. A file is named by its word among `files`.
-/// It is refused only where there is no memory for the text.
-pub fn report_text(alloc: Global, report: &Report, files: &[String]) -> Result<String, AllocError>
+/// The line for standard error that this program says, without its line feed. A file is named by its
+/// word among `files`. It is refused only where there is no memory for the text.
+pub fn report_text(
+    alloc: Global,
+    program: &str,
+    report: &Report,
+    files: &[String],
+) -> Result<String, AllocError>
     requires { IsAmong report.now.place (length files.now) }
 {
     let place = match report.place {
-        _ if report.what == What::Memory => return String::from_str(alloc, OUT_OF_MEMORY),
+        _ if report.what == What::Memory => return out_of_memory(alloc, program),
         Place::Line(line) => format!(in alloc; "line {line}")?,
         Place::File(file) => files[file].clone()?,
         Place::Input => String::from_str(alloc, "input")?,
@@ -189,17 +194,21 @@ pub fn report_text(alloc: Global, report: &Report, files: &[String]) -> Result<S
         What::Refused { number, found } => {
             let name = fault_name(number);
             match found {
-                Some(found) => format!(in alloc; "swimtab: {place}: fault {number} {name} {found}"),
-                None => format!(in alloc; "swimtab: {place}: fault {number} {name}"),
+                Some(found) => format!(in alloc;
+                    "{program}: {place}: fault {number} {name} {found}"
+                ),
+                None => format!(in alloc; "{program}: {place}: fault {number} {name}"),
             }
         }
-        What::Device => format!(in alloc; "swimtab: {place}: device fault"),
-        What::Memory => String::from_str(alloc, OUT_OF_MEMORY),
+        What::Device => format!(in alloc; "{program}: {place}: device fault"),
+        What::Memory => out_of_memory(alloc, program),
     }
 }
 
-/// What is said where there is no memory, also none to say it by.
-const OUT_OF_MEMORY: &str = "swimtab: out of memory";
+/// What is said where there was no memory.
+fn out_of_memory(alloc: Global, program: &str) -> Result<String, AllocError> {
+    format!(in alloc; "{program}: out of memory")
+}
 
 /// The exit status of a run that was refused: 3 where the input is wrong, 4 where a file, a socket
 /// or a standard stream failed, and 5 where there was no memory.
@@ -248,6 +257,16 @@ fn fault_name(number: u32) -> &'static str {
         30 => "BadHex",
         31 => "BadScript",
         32 => "InputTooLong",
+        40 => "Ended",
+        41 => "Trailing",
+        42 => "BadCode",
+        43 => "BadChecksum",
+        44 => "BadMap",
+        45 => "BadAlgo",
+        46 => "BadLabel",
+        47 => "TooLarge",
+        48 => "TooDeep",
+        49 => "Memory",
         _ => "Unknown",
     }
 }

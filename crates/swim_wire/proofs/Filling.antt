@@ -93,7 +93,8 @@ no_slot (suc (suc (suc zero))) = refl
 no_slot (suc (suc (suc (suc zero)))) = refl
 no_slot (suc (suc (suc (suc (suc zero))))) = refl
 no_slot (suc (suc (suc (suc (suc (suc zero)))))) = refl
-no_slot (suc (suc (suc (suc (suc (suc (suc place))))))) = refl
+no_slot (suc (suc (suc (suc (suc (suc (suc zero))))))) = refl
+no_slot (suc (suc (suc (suc (suc (suc (suc (suc place)))))))) = refl
 
 or_none : (o : Option Spelled) → or_kept o None ≡ o
 or_none None = refl

@@ -1,6 +1,8 @@
 -- Values that fit their keys.
-use Rattle.std.proofs.Common.{ℕ, zero, suc, ◌<◌, ◌≤◌, List, [], ◌∷◌, length, Option, Some, None, slice_index_or, slice_set, arith}
+use Rattle.std.proofs.Common.{ℕ, zero, suc, ◌<◌, ◌≤◌, List, [], ◌∷◌, length, Option, Some, None, slice_index_or, slice_set, arith, rules}
 use Rattle.swim_wire.specs.declared.layout.Field.{Field}
+use Rattle.swim_wire.specs.declared.layout.Limit.{Limit}
+use Rattle.swim_wire.specs.declared.layout.Limit.TheVariants as limits
 use Rattle.swim_wire.specs.declared.map.Value.{Value}
 use Rattle.swim_wire.specs.Slots.{Fits, FitsEach, CanRead, CanReadEach}
 
@@ -22,6 +24,16 @@ pub FitsEach-nones : (layout : List Field) (n : ℕ) → length layout ≤ n →
 FitsEach-nones [] n room = tt
 FitsEach-nones (field ∷ layout) zero room = absurd (omega arith)
 FitsEach-nones (field ∷ layout) (suc n) room = (tt, FitsEach-nones layout n (omega arith))
+
+-- with memory each value can be read
+pub CanReadEach-some : {A : Type 0} (alloc : A) (layout : List Field) → CanReadEach (Some alloc) layout
+CanReadEach-some alloc [] = tt
+CanReadEach-some alloc (field ∷ layout) = (CanRead-some alloc field.limit, CanReadEach-some alloc layout)
+  where
+    CanRead-some : {A : Type 0} (alloc : A) (limit : Limit) → CanRead (Some alloc) limit
+    CanRead-some alloc (limits.Number max) = tt
+    CanRead-some alloc (limits.Raw limit) = search rules
+    CanRead-some alloc limits.Flag = tt
 
 -- a value of the layout can be read
 pub CanReadEach-at : {A : Type 0} (alloc : Option A) (layout : List Field) (place : ℕ) (d : Field) → place < length layout → CanReadEach alloc layout

@@ -10,6 +10,10 @@ use Rattle.std.specs.Map.{keys_of}
 use Rattle.std.specs.Str.{bytes_eq}
 use Rattle.swim_wire.specs.declared.layout.Limit.{Limit}
 use Rattle.swim_wire.specs.declared.layout.Limit.TheVariants as limits
+use Rattle.swim_wire.specs.declared.claimless.Claimless.{Claimless}
+use Rattle.swim_wire.specs.declared.claimless.Claimless.TheVariants.{Ping, IndirectPing, Ack, User, Nack, Error}
+use Rattle.swim_wire.specs.Claimless.{claimless_layout}
+use Rattle.swim_wire.specs.Compression.{compression_layout}
 use Rattle.swim_wire.specs.Layout.{Layout, of_key, alive_layout, accusation_layout, header_layout, state_layout}
 use Rattle.swim_wire.specs.Reading.{place_of, limit_at}
 
@@ -17,7 +21,7 @@ use Rattle.swim_wire.specs.Reading.{place_of, limit_at}
 pub record IsLegalLayout (layout : Layout) : Type 0 where
   pub distinct : IsDistinct bytes_eq (keys_of layout)
   pub short : AllByRecursion (λ key. length key ≤ 12) (keys_of layout)
-  pub few : length layout ≤ 7
+  pub few : length layout ≤ 8
 
 pub alive_legal : IsLegalLayout alive_layout
 unfolding IsDistinct
@@ -34,6 +38,19 @@ header_legal = record { distinct = search arith; short = search arith; few = ome
 pub state_legal : IsLegalLayout state_layout
 unfolding IsDistinct
 state_legal = record { distinct = search arith; short = search arith; few = omega arith }
+
+pub compression_legal : (limit : ℕ) → IsLegalLayout (compression_layout limit)
+unfolding IsDistinct
+compression_legal limit = record { distinct = search arith; short = search arith; few = omega arith }
+
+pub claimless_legal : (limit : ℕ) (kind : Claimless) → IsLegalLayout (claimless_layout limit kind)
+unfolding IsDistinct
+claimless_legal limit Ping = record { distinct = search arith; short = search arith; few = omega arith }
+claimless_legal limit IndirectPing = record { distinct = search arith; short = search arith; few = omega arith }
+claimless_legal limit Ack = record { distinct = search arith; short = search arith; few = omega arith }
+claimless_legal limit User = record { distinct = search arith; short = search arith; few = omega arith }
+claimless_legal limit Nack = record { distinct = search arith; short = search arith; few = omega arith }
+claimless_legal limit Error = record { distinct = search arith; short = search arith; few = omega arith }
 
 -- the key at a place of the layout
 abbrev pub key_in : Layout → ℕ → List ℕ

@@ -30,3 +30,5 @@ pub mod UserState
 pub mod InOrder
 pub mod Prompt
 pub mod AtHand
+pub mod Compressions
+pub mod Claimlesses

@@ -13,3 +13,5 @@ pub mod Parts
 pub mod PacketList
 pub mod Streams
 pub mod InOrder
+pub mod Compression
+pub mod Claimless

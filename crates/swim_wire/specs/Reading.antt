@@ -79,9 +79,9 @@ pairs_at layout (suc n) slots = do
   next ← pair_at layout slots
   pairs_at layout n next
 
--- no values, for a layout of up to seven keys
+-- no values, for a layout of up to eight keys
 abbrev pub no_slots : Slots
-no_slots = None ∷ None ∷ None ∷ None ∷ None ∷ None ∷ None ∷ []
+no_slots = None ∷ None ∷ None ∷ None ∷ None ∷ None ∷ None ∷ None ∷ []
 
 -- a map of the layout
 unfoldable pub map_at : Layout → Reading Slots

@@ -7,15 +7,25 @@ ghost use Rattle.swim_wire.specs.Slots.{key_text};
 #[derive(Clone, Copy)]
 pub(crate) enum Key {
     Addr,
+    Algo,
+    Buf,
+    Error,
     From,
     Incarnation,
     Join,
     Meta,
+    Nack,
     Name,
     Node,
     Nodes,
+    Payload,
     Port,
+    SeqNo,
+    SourceAddr,
+    SourceNode,
+    SourcePort,
     State,
+    Target,
     UserStateLen,
     Vsn,
 }
@@ -142,6 +152,72 @@ pub(crate) const STATE: [Field; 7] = [
     },
 ];
 
+/// memberlist's `ping`.
+pub(crate) const PING: [Field; 5] = [
+    Field {
+        key: Key::Node,
+        limit: Limit::Raw(NAME),
+    },
+    Field {
+        key: Key::SeqNo,
+        limit: Limit::Number(u32::MAX as u64),
+    },
+    Field {
+        key: Key::SourceAddr,
+        limit: Limit::Raw(ADDRESS),
+    },
+    Field {
+        key: Key::SourceNode,
+        limit: Limit::Raw(NAME),
+    },
+    Field {
+        key: Key::SourcePort,
+        limit: Limit::Number(u16::MAX as u64),
+    },
+];
+
+/// memberlist's `indirectPingReq`.
+pub(crate) const INDIRECT_PING: [Field; 8] = [
+    Field {
+        key: Key::Nack,
+        limit: Limit::Flag,
+    },
+    Field {
+        key: Key::Node,
+        limit: Limit::Raw(NAME),
+    },
+    Field {
+        key: Key::Port,
+        limit: Limit::Number(u16::MAX as u64),
+    },
+    Field {
+        key: Key::SeqNo,
+        limit: Limit::Number(u32::MAX as u64),
+    },
+    Field {
+        key: Key::SourceAddr,
+        limit: Limit::Raw(ADDRESS),
+    },
+    Field {
+        key: Key::SourceNode,
+        limit: Limit::Raw(NAME),
+    },
+    Field {
+        key: Key::SourcePort,
+        limit: Limit::Number(u16::MAX as u64),
+    },
+    Field {
+        key: Key::Target,
+        limit: Limit::Raw(ADDRESS),
+    },
+];
+
+/// memberlist's `nackResp`.
+pub(crate) const NACK: [Field; 1] = [Field {
+    key: Key::SeqNo,
+    limit: Limit::Number(u32::MAX as u64),
+}];
+
 impl Key {
     /// The text of the key in a map.
     pub(crate) fn text(self) -> &'static [u8]
@@ -149,15 +225,25 @@ impl Key {
     {
         match self {
             Key::Addr => b"Addr",
+            Key::Algo => b"Algo",
+            Key::Buf => b"Buf",
+            Key::Error => b"Error",
             Key::From => b"From",
             Key::Incarnation => b"Incarnation",
             Key::Join => b"Join",
             Key::Meta => b"Meta",
+            Key::Nack => b"Nack",
             Key::Name => b"Name",
             Key::Node => b"Node",
             Key::Nodes => b"Nodes",
+            Key::Payload => b"Payload",
             Key::Port => b"Port",
+            Key::SeqNo => b"SeqNo",
+            Key::SourceAddr => b"SourceAddr",
+            Key::SourceNode => b"SourceNode",
+            Key::SourcePort => b"SourcePort",
             Key::State => b"State",
+            Key::Target => b"Target",
             Key::UserStateLen => b"UserStateLen",
             Key::Vsn => b"Vsn",
         }

@@ -3,6 +3,8 @@
 
 mod canonical;
 mod canonical_law;
+mod claimless;
+mod compression;
 mod datagram;
 mod fault;
 mod in_order;
@@ -16,6 +18,8 @@ mod stream_law;
 mod user_state;
 
 pub use canonical::{encode_compound, encode_packet, write_header, write_state};
+pub use claimless::{Claimless, decode_claimless};
+pub use compression::decode_compression;
 pub use datagram::{Datagram, decode_datagram};
 pub use fault::WireFault;
 pub use packet::{Packet, decode_packet};

@@ -16,7 +16,7 @@ use std::alloc::Global;
 use swim_pack::{Inlet, PackFault, read_bool, read_key, read_map_len, read_raw, read_uint};
 
 /// The most keys that a layout has.
-const SLOTS: usize = 7;
+const SLOTS: usize = 8;
 
 /// A value as a map spells it.
 #[derive(Drop)]
@@ -36,14 +36,14 @@ pub(crate) fn read_map<I: Inlet>(
     inlet: &mut I,
     layout: &[Field],
 ) -> Result<Values, WireFault>
-    requires few { length layout.now ≤ 7 }
+    requires few { length layout.now ≤ 8 }
     requires memory { CanReadEach alloc layout.now }
     ensures exact { ReadsAs wire_cause slots_of (map_at (layout_of layout.now)) (I.seen inlet.old) (I.seen inlet.new) result }
     ensures within { IfOk result (FitsEach layout.now) }
     ensures no_memory { IsNone alloc → ¬ IsErrOf result WireFault.Memory }
 {
     let count = read_map_len(inlet, layout.len() as u32)?;
-    let mut values = [None, None, None, None, None, None, None];
+    let mut values = [None, None, None, None, None, None, None, None];
     for _ in 0..count {
         read_pair(alloc, inlet, layout, &mut values)?;
     }
@@ -56,7 +56,7 @@ fn read_pair<I: Inlet>(
     layout: &[Field],
     values: &mut Values,
 ) -> Result<(), WireFault>
-    requires few { length layout.now ≤ 7 }
+    requires few { length layout.now ≤ 8 }
     requires memory { CanReadEach alloc layout.now }
     requires within { FitsEach layout.now values.old }
     ensures exact { ReadsAs wire_cause (λ _. slots_of values.new) (pair_at (layout_of layout.now) (slots_of values.old)) (I.seen inlet.old) (I.seen inlet.new) result }

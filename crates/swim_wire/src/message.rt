@@ -69,7 +69,7 @@ impl Alive {
         ensures short_node { length result.node.items ≤ 1024 }
         ensures short_meta { length result.meta.items ≤ 512 }
     {
-        let [addr, incarnation, meta, node, port, vsn, _] = values;
+        let [addr, incarnation, meta, node, port, vsn, ..] = values;
         Alive {
             addr: raw(alloc, addr),
             incarnation: uint(incarnation) as u32,
@@ -118,7 +118,7 @@ impl PushNodeState {
         ensures short_name { length result.name.items ≤ 1024 }
         ensures short_meta { length result.meta.items ≤ 512 }
     {
-        let [addr, incarnation, meta, name, port, state, vsn] = values;
+        let [addr, incarnation, meta, name, port, state, vsn, _] = values;
         PushNodeState {
             addr: raw(alloc, addr),
             incarnation: uint(incarnation) as u32,

@@ -2,6 +2,8 @@
 
 mod both_ways;
 mod canonical;
+mod claimless;
+mod compressions;
 mod datagrams;
 mod streams;
 

@@ -1,16 +1,10 @@
 -- The words of a command line, and what they ask for.
-use Rattle.std.specs.Prelude.{◌≡◌, ◌≢◌, true, List, [], Option, Some, None, codes, if◌then◌else◌, unwrap_or}
+use Rattle.std.specs.Prelude.{◌≡◌, true, List, [], Option, Some, None, codes, if◌then◌else◌, unwrap_or}
 use Rattle.std.specs.Str.{bytes_eq}
 use Rattle.clap.specs.Lexer.{usize_max}
-use Rattle.clap.specs.Kinds.{IsAmong, Kinds}
-use Rattle.clap.specs.Values.{kind_of}
-use Rattle.clap.specs.declared.error.Error.{Error}
-use Rattle.clap.specs.declared.error.kind.ErrorKind.TheVariants.{OutOfMemory}
 use Rattle.clap.specs.Words.{App, Row, Rule, Text, all_of, new_app, new_rule, with_rule, with_subcommand}
 use Rattle.swimtab.specs.declared.verb.Verb.{Verb}
 use Rattle.swimtab.specs.declared.verb.Verb.TheVariants as verb
-use Rattle.swimtab.specs.declared.verb.WordFault.{WordFault}
-use Rattle.swimtab.specs.declared.verb.WordFault.TheVariants as fault
 use Rattle.swimtab.specs.Chosen.{Choice}
 
 -- ---- the commands, as `clap` sees them
@@ -59,15 +53,3 @@ verb_of name =
 abbrev pub AsksFor : Option (Text × List Row) → Choice → Type 0
 AsksFor None choice = (choice.verb ≡ verb.Packets) × (choice.files ≡ [])
 AsksFor (Some command) choice = (verb_of command.0 ≡ Some choice.verb) × (choice.files ≡ unwrap_or (all_of (codes "FILE") command.1) [])
-
--- ---- why words are refused
-
--- the words are refused by an error of one of these kinds, or for want of memory
-abbrev pub IsRefusal : Kinds → WordFault → Type 0
-IsRefusal kinds (fault.Words error) = IsAmong (kind_of error) kinds
-IsRefusal kinds fault.Memory = Unit {0}
-
--- the fault is that error, or that it found no memory
-abbrev pub IsFaultOf : Error → WordFault → Type 0
-IsFaultOf error (fault.Words other) = (other ≡ error) × (kind_of error ≢ OutOfMemory)
-IsFaultOf error fault.Memory = kind_of error ≡ OutOfMemory

@@ -3,13 +3,14 @@
 ghost use Rattle.std.specs.Prelude.{◌≡◌, true, [], codes, map, string_bytes, unwrap_or, IfOk, IfErr};
 ghost use Rattle.clap.specs.Words.{app_of, fault_of, found_of, rows_of, takes, subcommand_of, new_app};
 ghost use Rattle.clap.specs.Walk.{all_of};
-ghost use Rattle.swimtab.specs.Words.{program, bare, IsRefusal, beside, files_command, pair_command, AsksFor};
+ghost use Rattle.swim_program.specs.Words.{IsRefusal};
+ghost use Rattle.swimtab.specs.Words.{program, bare, beside, files_command, pair_command, AsksFor};
 
 use crate::help;
-use crate::verb::{Chosen, Verb, WordFault};
+use crate::verb::{Chosen, Verb};
 use clap::{Arg, ArgMatches, Command};
 use std::alloc::{AllocError, Global};
-use std::{env, io};
+use swim_program::WordFault;
 
 /// The words that stand for the two files of `relate` and `loop`.
 static PAIR: [&str; 2] = ["A", "B"];
@@ -166,9 +167,4 @@ fn copies_of(alloc: Global, words: &[&str]) -> Result<Vec<String>, AllocError>
         copies.push(String::from_str(alloc, word)?)?;
     }
     Ok(copies)
-}
-
-/// The words after the program's name.
-pub(crate) fn words_of(rt: &HostRuntime) -> io::Result<Vec<String>> {
-    Ok(env::args(rt)?.skip(1).collect(rt.alloc())?)
 }

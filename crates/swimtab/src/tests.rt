@@ -6,6 +6,7 @@ mod replays;
 mod spellings;
 mod words;
 
+use crate::NAME;
 use crate::packets::packets;
 use dumps::too_long;
 use spellings::{ALIVE, CONFIRM, LEAVE, SUSPECT};
@@ -214,7 +215,7 @@ pub(crate) fn assert_said(
         Place::File(file) => assert!(rt; file < files.len(), "a file that there is"),
         _ => {}
     }
-    let text = report_text(alloc, &report, files)?;
+    let text = report_text(alloc, NAME, &report, files)?;
     assert_text(rt, text.as_str(), wanted, "the text of the report");
     assert_eq!(rt; status(&report), 3, "{wanted}");
     Ok(())

@@ -1,11 +1,8 @@
 //! What the words of a command line ask for.
 
 ghost use Rattle.std.specs.Prelude.{◌≡◌, map, string_bytes};
-ghost use Rattle.swimtab.specs.declared.verb.WordFault.TheVariants as words;
-ghost use Rattle.swimtab.specs.Words.{IsFaultOf, verb_of};
+ghost use Rattle.swimtab.specs.Words.{verb_of};
 
-use clap::error::ErrorKind;
-use std::alloc::AllocError;
 use std::marker::Model;
 
 /// What the program is asked to do.
@@ -76,33 +73,5 @@ impl Chosen {
         ensures { map string_bytes result.now ≡ self.now.files }
     {
         &self.files
-    }
-}
-
-/// Why the words were refused.
-#[derive(Debug, Drop)]
-pub enum WordFault {
-    /// They ask for nothing that there is, or for help or the version.
-    Words(clap::Error),
-    /// A growth of memory was refused.
-    Memory,
-}
-
-impl From<clap::Error> for WordFault {
-    ghost from_gives = { λ error fault. IsFaultOf error fault };
-
-    fn from(error: clap::Error) -> WordFault {
-        match error.kind() {
-            ErrorKind::OutOfMemory => WordFault::Memory,
-            _ => WordFault::Words(error),
-        }
-    }
-}
-
-impl From<AllocError> for WordFault {
-    ghost from_gives = { λ _ fault. fault ≡ words.Memory };
-
-    fn from(_error: AllocError) -> WordFault {
-        WordFault::Memory
     }
 }

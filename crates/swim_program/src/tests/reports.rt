@@ -43,10 +43,21 @@ fn each_fault_is_reported_by_its_number_and_its_name(rt: HostRuntime) -> Result<
         (31, "BadScript"),
         (32, "InputTooLong"),
         (33, "Unknown"),
+        (40, "Ended"),
+        (41, "Trailing"),
+        (42, "BadCode"),
+        (43, "BadChecksum"),
+        (44, "BadMap"),
+        (45, "BadAlgo"),
+        (46, "BadLabel"),
+        (47, "TooLarge"),
+        (48, "TooDeep"),
+        (49, "Memory"),
+        (50, "Unknown"),
     ] {
         let found = None;
         let report = What::Refused { number, found }.at(Place::Input);
-        let text = report_text(rt.alloc(), &report, &[])?;
+        let text = report_text(rt.alloc(), "swimtab", &report, &[])?;
         let wanted = format!(in rt.alloc(); "swimtab: input: fault {number} {name}")?;
         assert_eq!(rt; text.as_str(), wanted.as_str());
     }
@@ -59,7 +70,10 @@ fn said(alloc: Global, place: Place, what: What) -> Result<(String, u8), Fail>
 {
     let files = [String::from_str(alloc, "x y")?];
     let report = what.at(place);
-    Ok((report_text(alloc, &report, &files)?, status(&report)))
+    Ok((
+        report_text(alloc, "swimtab", &report, &files)?,
+        status(&report),
+    ))
 }
 
 #[test]

@@ -24,7 +24,7 @@ fn refusal(rt: &impl Abort, alloc: Global, input: &[u8]) -> Result<String, Fail>
         Err(report) if report.what == What::Memory => Err(Fail::from(report)),
         Err(report) => {
             assert_eq!(rt; status(&report), 3);
-            Ok(report_text(alloc, &report, &[])?)
+            Ok(report_text(alloc, "swimtab", &report, &[])?)
         }
     }
 }

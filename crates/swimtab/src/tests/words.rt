@@ -2,10 +2,11 @@
 
 use crate::command_line::chosen;
 use crate::tests::assert_text;
-use crate::verb::{Chosen, Verb, WordFault};
+use crate::verb::{Chosen, Verb};
 use std::alloc::{AllocError, Global};
 use std::process::Abort;
 use std::test::Fail;
+use swim_program::WordFault;
 
 /// Words that are taken, what they ask for, and the words that name files.
 const TAKEN: [(&[&str], Verb, &[&str]); 9] = [

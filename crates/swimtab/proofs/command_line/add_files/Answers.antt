@@ -3,7 +3,7 @@ use Rattle.std.proofs.lemmas.Result.{IfOk-weaker}
 use Rattle.clap.specs.Lexer.{usize_max}
 use Rattle.clap.specs.Words.{Rule, app_of, rule_of, new_app, new_rule, with_rule}
 use Rattle.swimtab.specs.Words.{beside, files_rule, files_command}
-use Rattle.swimtab.proofs.Commands.{some_of}
+use Rattle.swim_program.proofs.Commands.{some_of}
 use Rattle.swimtab.proofs.command_line.add_files.Goals as goal
 
 pub returns : goal.returns

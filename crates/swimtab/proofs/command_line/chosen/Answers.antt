@@ -4,7 +4,8 @@ use Rattle.std.proofs.lemmas.Result.{err_from_is_err_and}
 use Rattle.clap.specs.Words.{fault_of, is_simple, is_simple_and_free, subcommand_of, takes}
 use Rattle.clap.specs.Kinds.{HasKind}
 use Rattle.swimtab.specs.Words.{program}
-use Rattle.swimtab.proofs.Commands.{program_is_simple, program_is_free, found_verb, memory_of, refusal}
+use Rattle.swim_program.proofs.Commands.{memory_of, refusal}
+use Rattle.swimtab.proofs.Commands.{program_is_simple, program_is_free, found_verb}
 use Rattle.swimtab.proofs.command_line.chosen.Goals as goal
 
 pub returns-in_err-matches-clause-takes : goal.returns-in_err-matches-clause-takes

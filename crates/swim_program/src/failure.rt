@@ -1,17 +1,16 @@
-//! How the program ends where it has nothing to print.
+//! How a program ends where it has nothing to print.
 
 ghost use Rattle.std.specs.Prelude.{length};
 ghost use Rattle.swim_program.specs.Report.{IsAmong};
 
-use crate::verb::WordFault;
+use crate::{Report, WordFault, report_text, status};
 use std::alloc::{AllocError, Global};
 use std::io;
 use std::process::ExitCode;
-use swim_program::{Report, report_text, status};
 
-/// Why the program ends without its output.
+/// Why a program ends without its output.
 #[derive(Debug, Drop)]
-pub(crate) enum Failure {
+pub enum Failure {
     /// The words were refused, or ask for help.
     Words(clap::Error),
     /// A word is no text.
@@ -42,11 +41,11 @@ impl From<io::Error> for Failure {
 }
 
 impl Failure {
-    /// That the run was refused, where `files` are the words that name its files.
-    pub(crate) fn refused(alloc: Global, report: &Report, files: &[String]) -> Failure
+    /// That the run of this program was refused, where `files` are the words that name its files.
+    pub fn refused(alloc: Global, program: &str, report: &Report, files: &[String]) -> Failure
         requires { IsAmong report.now.place (length files.now) }
     {
-        match report_text(alloc, report, files) {
+        match report_text(alloc, program, report, files) {
             Ok(text) => Failure::Refused {
                 text,
                 status: status(report),
@@ -55,15 +54,15 @@ impl Failure {
         }
     }
 
-    /// Says on standard error why the program ends, and answers its exit status.
-    pub(crate) fn tell(&self, rt: &HostRuntime) -> ExitCode {
+    /// Says on standard error why this program ends, and answers its exit status.
+    pub fn tell(&self, rt: &HostRuntime, program: &str) -> ExitCode {
         match self {
             Failure::Words(error) => {
                 let _ = rt.eprint(error);
                 ExitCode::from(2)
             }
             Failure::UnreadableWords => {
-                let _ = rt.eprintln("swimtab: a word is not UTF-8");
+                let _ = eprintln!(rt; "{program}: a word is not UTF-8");
                 ExitCode::from(2)
             }
             Failure::Refused { text, status } => {
@@ -71,7 +70,7 @@ impl Failure {
                 ExitCode::from(*status)
             }
             Failure::Memory => {
-                let _ = rt.eprintln("swimtab: out of memory");
+                let _ = eprintln!(rt; "{program}: out of memory");
                 ExitCode::from(5)
             }
         }

@@ -1,0 +1,13 @@
+pub mod Polynomials
+pub mod Registers
+pub mod Table
+pub mod Holding
+pub mod Cutting
+pub mod Codes
+pub mod OneLzw
+pub mod OneCrc
+pub mod Unwrapping
+pub mod Layers
+pub mod Stopping
+pub mod Keeping
+pub mod Weakening

@@ -1,0 +1,9 @@
+pub mod Bits
+pub mod Crc
+pub mod Registers
+pub mod Lzw
+pub mod Words
+pub mod Wrapping
+pub mod Fault
+pub mod Explaining
+pub mod Peeling

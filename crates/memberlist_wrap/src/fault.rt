@@ -1,0 +1,96 @@
+//! Why wrapped bytes were refused.
+
+ghost use Rattle.std.specs.Prelude.{◌≡◌};
+ghost use Rattle.memberlist_wrap.specs.declared.fault.WrapFault.TheVariants.{Memory};
+ghost use Rattle.memberlist_wrap.specs.Explaining.{fault_of_map};
+ghost use Rattle.memberlist_wrap.specs.Fault.{number_of};
+
+use std::alloc::{AllocError, AllocFailed};
+use swim_wire::WireFault;
+use thiserror::Error;
+
+/// Why wrapped bytes were refused. Each has a number, by which reports name it.
+#[derive(Clone, Copy, Debug, PartialEq, Eq, Error)]
+pub enum WrapFault {
+    /// The bytes of a wrapper or of a compression end too soon.
+    #[error("the bytes end too soon")]
+    Ended,
+    /// There are bytes after the end of a compression or of its map.
+    #[error("there are bytes after the end")]
+    Trailing,
+    /// A code of a compression stands for no word yet.
+    #[error("a code stands for nothing")]
+    BadCode,
+    /// The bytes behind a checksum have another one.
+    #[error("the checksum is another")]
+    BadChecksum,
+    /// What stands behind the first byte of a compression is not its map.
+    #[error("not the map of a compression")]
+    BadMap,
+    /// A compression that is not LZW.
+    #[error("an unknown compression")]
+    BadAlgo,
+    /// A label without a byte.
+    #[error("the label is empty")]
+    BadLabel,
+    /// What comes out is longer than the limit.
+    #[error("what is wrapped is too large")]
+    TooLarge,
+    /// There are more wrappers around each other than are taken off.
+    #[error("too many wrappers around each other")]
+    TooDeep,
+    /// A growth of memory was refused.
+    #[error("out of memory")]
+    Memory,
+}
+
+impl WrapFault {
+    /// The number by which reports name the fault.
+    pub fn number(&self) -> u32
+        ensures { result ≡ number_of self.now }
+    {
+        match self {
+            WrapFault::Ended => 40,
+            WrapFault::Trailing => 41,
+            WrapFault::BadCode => 42,
+            WrapFault::BadChecksum => 43,
+            WrapFault::BadMap => 44,
+            WrapFault::BadAlgo => 45,
+            WrapFault::BadLabel => 46,
+            WrapFault::TooLarge => 47,
+            WrapFault::TooDeep => 48,
+            WrapFault::Memory => 49,
+        }
+    }
+}
+
+impl From<AllocError> for WrapFault {
+    ghost from_gives = { λ _ fault. fault ≡ Memory };
+
+    fn from(_error: AllocError) -> WrapFault {
+        WrapFault::Memory
+    }
+}
+
+impl<T: Drop> From<AllocFailed<T>> for WrapFault {
+    ghost from_gives = { λ _ fault. fault ≡ Memory };
+
+    fn from(_error: AllocFailed<T>) -> WrapFault {
+        WrapFault::Memory
+    }
+}
+
+/// The map of a compression has one number, which is `Algo`, and its `Buf` may be as long as all the bytes.
+impl From<WireFault> for WrapFault {
+    ghost from_gives = { λ wire fault. fault ≡ fault_of_map wire };
+
+    fn from(wire: WireFault) -> WrapFault {
+        match wire {
+            WireFault::Ended | WireFault::TooLong => WrapFault::Ended,
+            WireFault::Trailing => WrapFault::Trailing,
+            WireFault::OutOfRange => WrapFault::BadAlgo,
+            WireFault::Memory => WrapFault::Memory,
+            _ => WrapFault::BadMap,
+        }
+    }
+}

@@ -1,0 +1,30 @@
+//! What memberlist's transport wraps around messages, taken off: checksums, compression, labels.
+//!
+//! | module | subject |
+//! |---|---|
+//! | `fault` | why bytes are refused |
+//! | `crc` | the checksum before a packet |
+//! | `held_bits` | bits that were read and not yet used |
+//! | `words` | the words that codes stand for |
+//! | `lzw` | compressed bytes |
+//! | `outer` | the outer wrapper of bytes |
+//! | `wrappers` | wrappers around each other |
+//! | `laws` | what holds of the definitions |
+#![tactic(auto)]
+
+mod crc;
+mod fault;
+mod held_bits;
+pub mod laws;
+mod lzw;
+mod outer;
+mod words;
+mod wrappers;
+
+pub use crc::crc32;
+pub use fault::WrapFault;
+pub use lzw::lzw_decode;
+pub use wrappers::{MAX_DEPTH, unwrap};
+
+#[cfg(test)]
+mod tests;

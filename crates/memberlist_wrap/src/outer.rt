@@ -1,0 +1,92 @@
+//! The outer wrapper of bytes.
+
+ghost use Rattle.std.specs.Prelude.{◌≡◌, ◌↔◌, ◌⊎◌, ℕ, IsTrue, IfOk, IfErr};
+ghost use Rattle.memberlist_wrap.specs.Explaining.{ChecksumFails, LabelFails, FailsHere};
+ghost use Rattle.memberlist_wrap.specs.Peeling.{Shows};
+ghost use Rattle.memberlist_wrap.specs.Wrapping.{CheckedText, LabelledText};
+
+use crate::{WrapFault, crc32};
+use byteorder::{BigEndian, ByteOrder};
+
+/// The first byte of a compression, as in memberlist's net.go.
+const COMPRESSION: u8 = 9;
+
+/// The first byte of a checksum.
+const CHECKSUM: u8 = 12;
+
+/// The first byte of a label, as in memberlist's label.go.
+const LABEL: u8 = 244;
+
+/// What the outer wrapper of bytes stands round.
+#[derive(Clone, Copy)]
+pub(crate) enum Outer<'a> {
+    /// There is no wrapper.
+    Nothing,
+    /// What a checksum or a label stands round.
+    Layer(&'a [u8]),
+    /// The map of a compression.
+    Compression(&'a [u8]),
+}
+
+/// What the outer wrapper of the bytes stands round, if so many wrappers may be taken off.
+pub(crate) fn take_off(bytes: &[u8], depth: u8) -> Result<Outer, WrapFault>
+    ensures ok { IfOk result (Shows depth bytes.now) }
+    ensures err { IfErr result (λ fault. (limit : ℕ) → FailsHere depth limit fault bytes.now) }
+{
+    let Some((first, rest)) = bytes.split_first() else {
+        return Ok(Outer::Nothing);
+    };
+    let kind = *first;
+    if !is_kind(kind) {
+        return Ok(Outer::Nothing);
+    }
+    if depth == 0 {
+        return Err(WrapFault::TooDeep);
+    }
+    match kind {
+        COMPRESSION => Ok(Outer::Compression(rest)),
+        CHECKSUM => Ok(Outer::Layer(checked(rest)?)),
+        _ => Ok(Outer::Layer(after_label(rest)?)),
+    }
+}
+
+/// Whether a wrapper begins with this byte.
+fn is_kind(first: u8) -> bool
+    ensures { IsTrue result ↔ ((first ≡ 9) ⊎ (first ≡ 12) ⊎ (first ≡ 244)) }
+{
+    first == COMPRESSION || first == CHECKSUM || first == LABEL
+}
+
+/// What stands behind a checksum, if it is that checksum's.
+fn checked(bytes: &[u8]) -> Result<&[u8], WrapFault>
+    ensures ok { IfOk result (λ inner. CheckedText bytes.now inner.now) }
+    ensures err { IfErr result (λ fault. ChecksumFails fault bytes.now) }
+{
+    if bytes.len() < 4 {
+        return Err(WrapFault::Ended);
+    }
+    let (front, rest) = bytes.split_at(4);
+    if BigEndian::read_u32(front) != crc32(rest) {
+        return Err(WrapFault::BadChecksum);
+    }
+    Ok(rest)
+}
+
+/// What stands behind a label.
+fn after_label(bytes: &[u8]) -> Result<&[u8], WrapFault>
+    ensures ok { IfOk result (λ inner. LabelledText bytes.now inner.now) }
+    ensures err { IfErr result (λ fault. LabelFails fault bytes.now) }
+{
+    let Some((first, rest)) = bytes.split_first() else {
+        return Err(WrapFault::Ended);
+    };
+    let len = *first as usize;
+    if len == 0 {
+        return Err(WrapFault::BadLabel);
+    }
+    if rest.len() < len {
+        return Err(WrapFault::Ended);
+    }
+    let (_, inner) = rest.split_at(len);
+    Ok(inner)
+}

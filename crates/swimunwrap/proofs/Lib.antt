@@ -1,0 +1,4 @@
+pub mod LineByLine
+pub mod Commands
+pub mod Outcomes
+pub mod Streams

@@ -1,0 +1,7 @@
+pub mod Chosen
+pub mod Lines
+pub mod Outcome
+pub mod Packet
+pub mod Stream
+pub mod Unwrapped
+pub mod Words

@@ -1,0 +1,63 @@
+//! Why a line is none that can be read.
+
+ghost use Rattle.std.specs.Prelude.{◌<◌};
+
+use memberlist_wrap::WrapFault;
+use std::fmt;
+
+/// How many causes there are, told apart by the first byte of what is no message.
+pub(crate) const CAUSES: usize = 267;
+
+/// Why a line can be read as no message.
+#[derive(Clone, Copy, Debug, PartialEq, Eq)]
+pub enum Cause {
+    /// It is no hexadecimal.
+    NotHex,
+    /// It wraps nothing.
+    Wrapped(WrapFault),
+    /// What it wraps begins with this byte, and is no message that packets have: it is encrypted, or
+    /// broken, or of another kind.
+    NoMessage(u8),
+}
+
+impl Cause {
+    /// Its place among all causes.
+    pub(crate) fn place(self) -> usize
+        ensures { result < 267 }
+    {
+        match self {
+            Cause::NotHex => 0,
+            Cause::Wrapped(fault) => fault.number() as usize - 39,
+            Cause::NoMessage(first) => first as usize + 11,
+        }
+    }
+}
+
+impl fmt::Display for Cause {
+    fn fmt<W: fmt::Write>(&self, f: &mut fmt::Formatter<W>) -> fmt::Result {
+        match *self {
+            Cause::NotHex => f.write_str("not hexadecimal"),
+            Cause::Wrapped(fault) => f.write_str(wording(fault)),
+            Cause::NoMessage(first) if first < 2 => {
+                write!(f, "encrypted or no message (first byte {first:02x})")
+            }
+            Cause::NoMessage(first) => write!(f, "no message (first byte {first:02x})"),
+        }
+    }
+}
+
+/// What is wrong with a wrapper.
+fn wording(fault: WrapFault) -> &'static str {
+    match fault {
+        WrapFault::Ended => "wrapper cut short",
+        WrapFault::Trailing => "bytes behind a compression",
+        WrapFault::BadCode => "compression broken",
+        WrapFault::BadChecksum => "checksum wrong",
+        WrapFault::BadMap => "compression without its map",
+        WrapFault::BadAlgo => "compression unknown",
+        WrapFault::BadLabel => "label empty",
+        WrapFault::TooLarge => "message too large",
+        WrapFault::TooDeep => "too many wrappers",
+        WrapFault::Memory => "out of memory",
+    }
+}

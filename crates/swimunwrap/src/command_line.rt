@@ -1,0 +1,95 @@
+//! The words after the program's name.
+
+ghost use Rattle.std.specs.Prelude.{◌≡◌, true, [], codes, map, string_bytes, IfOk, IfErr};
+ghost use Rattle.clap.specs.Words.{app_of, fault_of, found_of, rows_of, first_of, matches_of, takes, subcommand_of, with_rule, with_subcommand};
+ghost use Rattle.swim_program.specs.Words.{IsRefusal};
+ghost use Rattle.swimunwrap.specs.Words.{program, bare, skip_rule, stream_command, at_most_one, verb_of_flag, AsksFor};
+
+use crate::help;
+use crate::verb::{Chosen, Verb};
+use clap::{Arg, ArgAction, ArgMatches, Command};
+use std::alloc::{AllocError, Global};
+use swim_program::WordFault;
+
+/// Reads the words after the program's name: none, or `--skip`, or `stream` with a file or none.
+///
+/// # Errors
+///
+/// `Words` where they are other ones, or ask for help or the version; it has the text to print.
+/// `Memory` where a growth was refused.
+pub fn chosen(alloc: Global, words: &[String]) -> Result<Chosen, WordFault>
+    // The verb and the file are those of the command, or of the flag, that clap finds in the words.
+    ensures asks { IfOk result (AsksFor (subcommand_of program (map string_bytes words.now)) (matches_of program (map string_bytes words.now))) }
+    // They are taken only where clap finds no fault in them, and refused by a fault that it finds.
+    ensures faultless { IfOk result (λ _. fault_of program (map string_bytes words.now) ≡ []) }
+    ensures faulty { IfErr result (IsRefusal (fault_of program (map string_bytes words.now))) }
+    // Words that clap takes are refused for want of memory alone.
+    ensures takes { IfErr result (λ fault. takes program (map string_bytes words.now) ≡ true → fault ≡ WordFault.Memory) }
+{
+    let matches = command(alloc)?.try_get_matches_from(words)?;
+    match matches.subcommand() {
+        Some((_, found)) => Ok(Chosen::new(Verb::Stream, file_of(alloc, found)?)),
+        None => Ok(Chosen::new(verb_of_flag(&matches), Vec::new(alloc))),
+    }
+}
+
+/// The program's commands.
+fn command<'a>(alloc: Global) -> Result<Command<'a>, AllocError>
+    ensures { IfOk result (λ command. app_of command ≡ program) }
+{
+    let skip = Arg::new(alloc, "skip")
+        .long("skip")
+        .action(ArgAction::SetTrue)
+        .help(help::SKIP);
+    let with_skip = lone_program(alloc).arg(skip)?;
+    add_stream(alloc, with_skip)?.bin_name("swimunwrap")
+}
+
+/// The program without its command and its flag.
+fn lone_program<'a>(alloc: Global) -> Command<'a>
+    ensures { app_of result ≡ bare }
+{
+    Command::new(alloc, "swimunwrap")
+        .about("Takes off what memberlist's transport wraps around messages")
+        .after_help(help::PROGRAM)
+        .version(help::VERSION)
+        .no_binary_name(true)
+        .disable_help_subcommand(true)
+}
+
+/// Adds the command whose word may name a file.
+fn add_stream<'a>(alloc: Global, command: Command<'a>) -> Result<Command<'a>, AllocError>
+    ensures { IfOk result (λ whole. app_of whole ≡ with_subcommand (app_of command.entry) stream_command.top) }
+{
+    let file = Arg::new(alloc, "FILE").help(help::FILE);
+    let stream = Command::new(alloc, "stream")
+        .about("Prints the push/pull stream in one direction of a TCP connection")
+        .after_help(help::STREAM)
+        .arg(file)?;
+    command.subcommand(stream)
+}
+
+/// Whether lines that cannot be read are left out.
+fn verb_of_flag(matches: &ArgMatches) -> Verb
+    ensures { result ≡ verb_of_flag (first_of (codes "skip") (rows_of (found_of matches.now))) }
+{
+    let Some(word) = matches.get_str("skip") else {
+        return Verb::Lines;
+    };
+    if word == "true" {
+        Verb::Skipping
+    } else {
+        Verb::Lines
+    }
+}
+
+/// The word that names a file, if there is one.
+fn file_of(alloc: Global, found: &ArgMatches) -> Result<Vec<String>, AllocError>
+    ensures { IfOk result (λ files. map string_bytes files.items ≡ at_most_one (first_of (codes "FILE") (rows_of (found_of found.now)))) }
+{
+    let mut files = Vec::new(alloc);
+    if let Some(word) = found.get_str("FILE") {
+        files.push(String::from_str(alloc, word)?)?;
+    }
+    Ok(files)
+}

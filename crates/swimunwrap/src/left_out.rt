@@ -1,0 +1,47 @@
+//! What is said of lines that were left out.
+
+use crate::NAME;
+use crate::cause::{CAUSES, Cause};
+use std::alloc::{AllocError, Global};
+
+/// How many lines were left out of how many, and for each cause how many, in the order in which the causes
+/// came: `swimunwrap: 3 of 217 lines left out: 2 not hexadecimal, 1 checksum wrong`.
+pub fn left_out_text(alloc: Global, causes: &[Cause], input: &[u8]) -> Result<String, AllocError> {
+    let mut counts = counts_of(causes);
+    let mut text = format!(in alloc;
+        "{NAME}: {} of {} lines left out",
+        causes.len(),
+        lines_in(input)
+    )?;
+    let mut between = ": ";
+    for cause in causes {
+        let place = cause.place();
+        let count = counts[place];
+        counts[place] = 0;
+        if count > 0 {
+            let part = format!(in alloc; "{between}{count} {cause}")?;
+            text.push_str(&part)?;
+            between = ", ";
+        }
+    }
+    Ok(text)
+}
+
+/// How often each cause came.
+fn counts_of(causes: &[Cause]) -> [usize; CAUSES] {
+    let mut counts = [0usize; CAUSES];
+    for cause in causes {
+        let place = cause.place();
+        counts[place] = counts[place].saturating_add(1);
+    }
+    counts
+}
+
+/// How many lines the input has, where a line feed ends each but perhaps the last.
+fn lines_in(input: &[u8]) -> usize {
+    let feeds = input.iter().filter(|byte| **byte == b'\n').count();
+    match input.last() {
+        None | Some(b'\n') => feeds,
+        Some(_) => feeds.saturating_add(1),
+    }
+}

@@ -1,0 +1,142 @@
+//! Packets in hexadecimal, one a line, without their wrappers.
+
+ghost use Rattle.std.specs.Prelude.{◌≡◌, ◌≢◌, ◌↔◌, ◌⊎◌, ◌<◌, ◌≤◌, ◌++◌, ◌∷◌, [], ℕ, List, length, None, IfOk, IfErr, OnOk};
+ghost use Rattle.swim_program.specs.Lines.{input_lines};
+ghost use Rattle.swim_program.specs.Report.{IsAmong};
+ghost use Rattle.swimunwrap.specs.declared.cause.Cause.{Cause};
+ghost use Rattle.swimunwrap.specs.Lines.{Becomes, AllBecome, BecomeTooLong};
+ghost use Rattle.swimunwrap.specs.Unwrapped.{parted};
+
+use crate::cause::Cause;
+use crate::packet::{Outcome, outcome_of_line};
+use memberlist_wrap::WrapFault;
+use std::alloc::{AllocError, Global};
+use std::marker::Model;
+use swim_program::{BOUND, Place, Report, What};
+
+/// What became of lines: their text, and why each was left out that was. Contracts see it as these two.
+#[derive(Debug, Drop)]
+pub struct Unwrapped {
+    text: Vec<u8>,
+    left_out: Vec<Cause>,
+}
+
+impl Model for Unwrapped {
+    ghost use Rattle.swimunwrap.specs.Unwrapped.{Shown};
+
+    ghost Value = { Shown };
+
+    ghost view = { λ u. record { text = u.text.items; causes = u.left_out.items } };
+}
+
+impl Unwrapped {
+    fn new(alloc: Global) -> Unwrapped
+        ensures { result ≡ record { text = []; causes = [] } }
+    {
+        Unwrapped {
+            text: Vec::new(alloc),
+            left_out: Vec::new(alloc),
+        }
+    }
+
+    /// A line for each line.
+    pub fn text(&self) -> &[u8]
+        ensures { result.now ≡ self.now.text }
+    {
+        &self.text
+    }
+
+    /// Why each line was left out that was, in their order.
+    pub fn left_out(&self) -> &[Cause]
+        ensures { result.now ≡ self.now.causes }
+    {
+        &self.left_out
+    }
+
+    /// A line feed.
+    fn end_line(&mut self) -> Result<(), AllocError>
+        ensures { OnOk result (self.new ≡ record self.old { text = self.old.text ++ 10 ∷ [] }) }
+    {
+        self.text.push(b'\n')?;
+        Ok(())
+    }
+
+    /// What becomes of one more line.
+    fn add(&mut self, alloc: Global, line: &[u8], skip: bool) -> Result<(), AllocError>
+        ensures { OnOk result ((own : List ℕ) × (causes : List Cause) × Becomes skip line.now own causes
+            × (self.new ≡ record { text = self.old.text ++ own; causes = self.old.causes ++ causes })) }
+    {
+        match outcome_of_line(alloc, line)? {
+            Outcome::Text(text) => self.text.extend_from_slice(text.as_bytes())?,
+            Outcome::Unread(cause) if skip => self.left_out.push(cause)?,
+            Outcome::Unread(_) => self.text.extend_from_slice(line)?,
+        }
+        Ok(())
+    }
+}
+
+/// The packets, which are given in hexadecimal, one a line, without their wrappers: for each line one line.
+///
+/// It is the message inside, in hexadecimal, where that makes claims (its first byte is 3, 4, 5 or 7). It is
+/// empty where the message is a whole ping, indirect ping, ack, nack, user message or error, or is empty. Else
+/// it is the line as it was, or, with `skip`, empty, and its cause is kept. A message has at most 1,048,576
+/// bytes. The last line of the text has a line feed where that of the input has one.
+///
+/// # Errors
+///
+/// InputTooLong at the input where it has more than 268,435,456 bytes; TooLarge at the output where the text
+/// has more; Memory.
+pub fn unwrap_lines(alloc: Global, input: &[u8], skip: bool) -> Result<Unwrapped, Report>
+    // Each line becomes what the definitions say.
+    ensures each { IfOk result (λ u. AllBecome skip (input_lines input.now) u.text u.causes) }
+    ensures within { IfOk result (λ u. length u.text ≤ 268435456) }
+
+    ensures long { (268435456 < length input.now)
+        ↔ (result ≡ Err (record { place = Place.Input; what = What.Refused 32 None })) }
+    // Another refusal is for want of memory, or what comes out is too long.
+    ensures large { IfErr result (λ report. report.what ≢ What.Memory → length input.now ≤ 268435456
+        → (report ≡ record { place = Place.Output; what = What.Refused 47 None })
+        × BecomeTooLong skip 268435456 (input_lines input.now)) }
+    ensures place { IfErr result (λ report. IsAmong report.place 0) }
+{
+    if input.len() > BOUND {
+        return Err(What::input_too_long().at(Place::Input));
+    }
+    let mut unwrapped = Unwrapped::new(alloc);
+    for (index, line) in input.split(|byte| *byte == b'\n').enumerate() {
+        if let Err(AllocError) = add_line(alloc, &mut unwrapped, index, line, skip) {
+            return Err(What::Memory.at(Place::Line(index as u64 + 1)));
+        }
+        if unwrapped.text.len() > BOUND {
+            return Err(too_large().at(Place::Output));
+        }
+    }
+    Ok(unwrapped)
+}
+
+/// What becomes of a line, behind a line feed where it is not the first.
+fn add_line(
+    alloc: Global,
+    unwrapped: &mut Unwrapped,
+    index: usize,
+    line: &[u8],
+    skip: bool,
+) -> Result<(), AllocError>
+    ensures { OnOk result ((own : List ℕ) × (causes : List Cause) × Becomes skip line.now own causes
+        × (unwrapped.new ≡ record { text = parted index unwrapped.old.text ++ own; causes = unwrapped.old.causes ++ causes })) }
+{
+    if index > 0 {
+        unwrapped.end_line()?;
+    }
+    unwrapped.add(alloc, line, skip)
+}
+
+/// That what comes out is longer than the bound.
+fn too_large() -> What
+    ensures { result ≡ What.Refused 47 None }
+{
+    What::Refused {
+        number: WrapFault::TooLarge.number(),
+        found: None,
+    }
+}

@@ -1,0 +1,121 @@
+//! A program that takes off what memberlist's transport wraps around messages: packets in
+//! hexadecimal or one stream in, the same without their wrappers out.
+#![tactic(auto)]
+
+ghost use Rattle.std.specs.Prelude.{◌≡◌, ◌⊎◌, length, IfErr};
+ghost use Rattle.swim_program.specs.Report.{IsAmong};
+
+mod cause;
+mod command_line;
+mod help;
+mod left_out;
+mod lines;
+mod packet;
+mod stream;
+#[cfg(test)]
+mod tests;
+mod verb;
+
+use command_line::chosen;
+use left_out::left_out_text;
+use lines::unwrap_lines;
+use std::alloc::AllocError;
+use std::process::ExitCode;
+use stream::unwrap_stream;
+use swim_program::{Failure, Place, Report, What, read_file, read_to_bound, words_of, write_out};
+use verb::{Chosen, Verb};
+
+/// The program's name, with which what it says on standard error begins.
+const NAME: &str = "swimunwrap";
+
+fn main(rt: HostRuntime) -> ExitCode {
+    match run(&rt) {
+        Ok(()) => ExitCode::SUCCESS,
+        Err(failure) => failure.tell(&rt, NAME),
+    }
+}
+
+fn run(rt: &HostRuntime) -> Result<(), Failure> {
+    let alloc = rt.alloc();
+    let words = words_of(rt)?;
+    let chosen = chosen(alloc, words.as_slice())?;
+    match run_chosen(rt, &chosen) {
+        Ok(()) => Ok(()),
+        Err(report) => Err(Failure::refused(alloc, NAME, &report, chosen.files())),
+    }
+}
+
+fn run_chosen(rt: &HostRuntime, chosen: &Chosen) -> Result<(), Report>
+    ensures { IfErr result (λ report. IsAmong report.place (length chosen.now.files)) }
+{
+    match chosen.verb() {
+        Verb::Lines => print_lines(rt, false),
+        Verb::Skipping => print_lines(rt, true),
+        Verb::Stream => print_file(rt, chosen.files()),
+    }
+}
+
+/// Unwraps the packets on standard input, and says how many lines were left out, where some were.
+fn print_lines(rt: &HostRuntime, skip: bool) -> Result<(), Report>
+    ensures { IfErr result (λ report. IsAmong report.place 0) }
+{
+    let input = read_input(rt)?;
+    let unwrapped = unwrap_lines(rt.alloc(), &input, skip)?;
+    print(rt, unwrapped.text())?;
+    if unwrapped.left_out().is_empty() {
+        return Ok(());
+    }
+    match left_out_text(rt.alloc(), unwrapped.left_out(), &input) {
+        Ok(text) => {
+            let _ = rt.eprintln(&text);
+            Ok(())
+        }
+        Err(AllocError) => Err(What::Memory.at(Place::Output)),
+    }
+}
+
+/// Unwraps the stream in the file, or on standard input where there is none or its word is `-`.
+fn print_file(rt: &HostRuntime, files: &[String]) -> Result<(), Report>
+    ensures { IfErr result (λ report. IsAmong report.place (length files.now)) }
+{
+    match files {
+        [word, ..] if word.as_str() != "-" => match read_file(rt, word) {
+            Ok(bytes) => print_stream(rt, &bytes, Place::File(0)),
+            Err(what) => Err(what.at(Place::File(0))),
+        },
+        _ => print_stream(rt, &read_input(rt)?, Place::Input),
+    }
+}
+
+/// Unwraps the stream that these bytes of a place are.
+fn print_stream(rt: &HostRuntime, bytes: &[u8], place: Place) -> Result<(), Report>
+    ensures { IfErr result (λ report. (report.place ≡ place) ⊎ (report.place ≡ Place.Output)) }
+{
+    match unwrap_stream(rt.alloc(), bytes) {
+        Ok(stream) => match write_out(&mut rt.stdout(), &stream) {
+            Ok(()) => Ok(()),
+            Err(what) => Err(what.at(Place::Output)),
+        },
+        Err(what) => Err(what.at(place)),
+    }
+}
+
+/// Standard input to its bound.
+fn read_input(rt: &HostRuntime) -> Result<Vec<u8>, Report>
+    ensures { IfErr result (λ report. IsAmong report.place 0) }
+{
+    match read_to_bound(rt.alloc(), &mut rt.stdin()) {
+        Ok(input) => Ok(input),
+        Err(what) => Err(what.at(Place::Input)),
+    }
+}
+
+/// To standard output.
+fn print(rt: &HostRuntime, bytes: &[u8]) -> Result<(), Report>
+    ensures { IfErr result (λ report. IsAmong report.place 0) }
+{
+    match write_out(&mut rt.stdout(), bytes) {
+        Ok(()) => Ok(()),
+        Err(what) => Err(what.at(Place::Output)),
+    }
+}

@@ -1,0 +1,109 @@
+//! What clauses do not say: real messages, texts, and each public call on its happy path.
+
+mod streams;
+mod texts;
+mod words;
+
+use crate::cause::Cause;
+use crate::lines::unwrap_lines;
+use memberlist_wrap::WrapFault;
+use std::test::Fail;
+use swim_program::{What, status};
+
+/// An alive packet of `a`, and what Go's hash/crc32 and compress/lzw make of it as memberlist does: a checksum, a
+/// compression, and a checksum round a compression.
+const ALIVE: &str =
+    "0486a441646472a47f000001ab496e6361726e6174696f6e00a44d657461a0a44e6f6465a161a4506f7274cd1f0aa356736ea0";
+
+const CHECKED: &str =
+    "0ca2d8bb8e0486a441646472a47f000001ab496e6361726e6174696f6e00a44d657461a0a44e6f6465a161a4506f7274cd1f0aa356736ea0";
+
+const COMPRESSED: &str =
+    "0982a4416c676f00a3427566da003c0009182215840c1939a4fe0000106055123763c2c87113864e9a376e00906a52864e1850a49cbc21532654185250dec8a1d3ec83825156e6b8011510";
+
+const BOTH: &str =
+    "0caa798b020982a4416c676f00a3427566da003c0009182215840c1939a4fe0000106055123763c2c87113864e9a376e00906a52864e1850a49cbc21532654185250dec8a1d3ec83825156e6b8011510";
+
+/// A ping, an ack, an indirect ping and a nack, as members of a cluster sent them.
+const CLAIMLESS: [&str; 4] = [
+    "0085a44e6f6465a26433a55365714e6f01aa536f7572636541646472a47f000502aa536f757263654e6f6465a26432aa536f75726365506f7274cd1f0a",
+    "0282a75061796c6f6164c0a55365714e6f01",
+    "0188a44e61636bc3a44e6f6465a26434a4506f7274cd1f0aa55365714e6f07aa536f7572636541646472a47f000501aa536f757263654e6f6465a26431aa536f75726365506f7274cd1f0aa6546172676574a47f000504",
+    "0b81a55365714e6f0a",
+];
+
+#[test]
+fn what_makes_claims_is_unwrapped(rt: HostRuntime) -> Result<(), Fail> {
+    for line in [ALIVE, CHECKED, COMPRESSED, BOTH] {
+        let unwrapped = unwrap_lines(rt.alloc(), line.as_bytes(), false)?;
+        assert_eq!(rt; unwrapped.text(), ALIVE.as_bytes(), "{line}");
+        assert!(rt; unwrapped.left_out().is_empty());
+    }
+    Ok(())
+}
+
+#[test]
+fn what_makes_none_is_an_empty_line(rt: HostRuntime) -> Result<(), Fail> {
+    for line in CLAIMLESS {
+        let unwrapped = unwrap_lines(rt.alloc(), line.as_bytes(), true)?;
+        assert_eq!(rt; unwrapped.text().len(), 0, "{line}");
+        assert!(rt; unwrapped.left_out().is_empty());
+    }
+    Ok(())
+}
+
+#[test]
+fn each_line_becomes_a_line(rt: HostRuntime) -> Result<(), Fail> {
+    for (input, kept, skipped) in [
+        ("", "", ""),
+        ("\n\n", "\n\n", "\n\n"),
+        ("08\r\n\r\n0400", "\n\n0400", "\n\n0400"),
+        ("03FF\n0x\n08\n", "03ff\n0x\n\n", "03ff\n\n\n"),
+        ("0x\r", "0x\r", ""),
+        ("0c00000000\n0c00000001\n", "\n0c00000001\n", "\n\n"),
+    ] {
+        let unwrapped = unwrap_lines(rt.alloc(), input.as_bytes(), false)?;
+        assert_eq!(rt; unwrapped.text(), kept.as_bytes(), "{input:?}");
+        let unwrapped = unwrap_lines(rt.alloc(), input.as_bytes(), true)?;
+        assert_eq!(rt; unwrapped.text(), skipped.as_bytes(), "{input:?}");
+    }
+    Ok(())
+}
+
+#[test]
+fn what_cannot_be_read_is_left_out_with_its_cause(rt: HostRuntime) -> Result<(), Fail> {
+    for (line, cause) in [
+        ("0", Cause::NotHex),
+        (" ", Cause::NotHex),
+        ("0c00", Cause::Wrapped(WrapFault::Ended)),
+        ("0c00000001", Cause::Wrapped(WrapFault::BadChecksum)),
+        ("0990", Cause::Wrapped(WrapFault::BadMap)),
+        ("f400", Cause::Wrapped(WrapFault::BadLabel)),
+        (
+            "f40178f40178f40178f4017809",
+            Cause::Wrapped(WrapFault::TooDeep),
+        ),
+        ("00", Cause::NoMessage(0)),
+        ("0180ff", Cause::NoMessage(1)),
+        ("0a", Cause::NoMessage(10)),
+        ("06", Cause::NoMessage(6)),
+    ] {
+        let unwrapped = unwrap_lines(rt.alloc(), line.as_bytes(), true)?;
+        assert_eq!(rt; unwrapped.left_out(), [cause].as_slice(), "{line}");
+        assert!(rt; unwrapped.text().is_empty());
+        let unwrapped = unwrap_lines(rt.alloc(), line.as_bytes(), false)?;
+        assert_eq!(rt; unwrapped.text(), line.as_bytes());
+    }
+    Ok(())
+}
+
+#[test]
+fn want_of_memory_is_answered_as_such_and_then_repeated(rt: HostRuntime) -> Result<(), Fail> {
+    if let Err(report) = unwrap_lines(rt.alloc(), BOTH.as_bytes(), false) {
+        assert_eq!(rt; report.what, What::Memory);
+        assert_eq!(rt; status(&report), 5);
+        let unwrapped = unwrap_lines(rt.alloc(), BOTH.as_bytes(), false)?;
+        assert_eq!(rt; unwrapped.text(), ALIVE.as_bytes());
+    }
+    Ok(())
+}

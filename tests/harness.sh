@@ -1,0 +1,126 @@
+# What the end-to-end tests of both programs share: running the program, which is named by $program, and
+# comparing what it left. Each failed case is a line.
+# shellcheck shell=sh disable=SC2154
+
+# whole_path FILE: its path from the root.
+whole_path() {
+    case $1 in
+        /*) echo "$1" ;;
+        *) echo "$PWD/$1" ;;
+    esac
+}
+
+passed=0
+failed=0
+
+# start: goes to a folder of its own, which is gone at the end.
+start() {
+    work=$(mktemp -d) || exit 1
+    trap 'rm -rf "$work"' EXIT
+    trap 'exit 1' HUP INT TERM
+    cd "$work" || exit 1
+}
+
+# run WORD..: runs the program, and keeps its output, its text on standard error and its status.
+run() {
+    timeout 120 "$program" "$@" > out 2> err
+    status=$?
+}
+
+# feed TEXT WORD..: the same with TEXT, a format of printf, coming through a pipe.
+feed() {
+    input=$1
+    shift
+    # shellcheck disable=SC2059
+    printf "$input" | timeout 120 "$program" "$@" > out 2> err
+    status=$?
+}
+
+# prints CASE STATUS LINE..: the run before printed these lines, and nothing on standard error.
+prints() {
+    case_name=$1
+    wanted_status=$2
+    shift 2
+    : > wanted
+    [ $# -eq 0 ] || printf '%s\n' "$@" > wanted
+    : > wanted_err
+    compare
+}
+
+# prints_file CASE FILE: the run before printed the bytes of FILE, with status 0.
+prints_file() {
+    case_name=$1
+    wanted_status=0
+    cat "$2" > wanted
+    : > wanted_err
+    compare
+}
+
+# refuses CASE STATUS TEXT: the run before printed nothing, and the line TEXT on standard error.
+refuses() {
+    case_name=$1
+    wanted_status=$2
+    : > wanted
+    printf '%s\n' "$3" > wanted_err
+    compare
+}
+
+# compare: counts the case by what the run before left.
+compare() {
+    fault=
+    [ "$status" -eq "$wanted_status" ] || fault="$fault; status $status, not $wanted_status"
+    cmp -s wanted out || fault="$fault; other output: $(start_of out)"
+    cmp -s wanted_err err || fault="$fault; other text: $(start_of err)"
+    count "$case_name" "$fault"
+}
+
+# explains CASE: the run before ended with status 2 and some text on standard error alone.
+explains() {
+    fault=
+    [ "$status" -eq 2 ] || fault="$fault; status $status, not 2"
+    [ ! -s out ] || fault="$fault; output: $(start_of out)"
+    [ -s err ] || fault="$fault; no text"
+    count "$1" "$fault"
+}
+
+# ends CASE STATUS: the run before ended with this status, whatever it printed.
+ends() {
+    fault=
+    [ "$status" -eq "$2" ] || fault="; status $status, not $2"
+    count "$1" "$fault"
+}
+
+# count CASE FAULT: the case passed where FAULT is empty.
+count() {
+    if [ -z "$2" ]; then
+        passed=$((passed + 1))
+    else
+        failed=$((failed + 1))
+        printf 'failed: %s%s\n' "$1" "$2"
+    fi
+}
+
+# start_of FILE: its first bytes, on one line.
+start_of() {
+    head -c 60 "$1" | tr '\n' '|' | tr -c '[:print:]' '?'
+}
+
+# bytes HEX: the bytes that HEX is in lower-case hexadecimal.
+bytes() {
+    # shellcheck disable=SC2059
+    printf "$(printf '%s\n' "$1" | awk -v digits=0123456789abcdef '{
+        for (i = 1; i < length($0); i += 2)
+            printf "\\%03o", 16 * (index(digits, substr($0, i, 1)) - 1) + index(digits, substr($0, i + 1, 1)) - 1
+    }')"
+}
+
+# raw HEX: the bytes HEX as short text of MessagePack, in hexadecimal: a first byte with their number.
+raw() {
+    printf '%02x%s' $((160 + ${#1} / 2)) "$1"
+}
+
+# finish: the last line, and the status.
+finish() {
+    echo "$passed passed, $failed failed"
+    [ "$failed" -eq 0 ]
+}
