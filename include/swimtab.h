@@ -453,6 +453,15 @@ static inline const char *swimtab_fault_name(uint32_t status) {
     case 47: return "TooLarge";
     case 48: return "TooDeep";
     case 49: return "Memory";
+    case 50: return "BadKey";
+    case 51: return "TooLong";
+    case 52: return "TooShort";
+    case 53: return "WrongVersion";
+    case 54: return "WrongTag";
+    case 55: return "BadPadding";
+    case 56: return "NotEncrypted";
+    case 57: return "Trailing";
+    case 58: return "Memory";
     case 64: return "NoNode";
     case 65: return "NodeThere";
     case 66: return "TooSmall";

@@ -49,6 +49,20 @@ refuses 'standard input is open for writing alone' 4 'swimtab: input: device fau
 timeout 120 "$program" < /dev/null > out 2> err
 status=$?
 prints 'standard input is an empty device' 0
+if command -v script > /dev/null; then
+    for words in ' packets' 'run a script'; do
+        verb=${words%% *}
+        printf '\004' | timeout 60 script -qefc "'$program' $verb 2> err > out" typescript > /dev/null
+        status=$?
+        : > wanted
+        echo "swimtab: reading ${words#* } from the terminal, up to Ctrl-D" > wanted_err
+        case_name="a terminal as standard input of swimtab $verb"
+        wanted_status=0
+        compare
+    done
+else
+    echo 'skipped: a terminal as standard input: there is no script'
+fi
 timeout 120 "$program" list p.bin q.bin <&- > out 2> err
 status=$?
 prints 'list does without standard input' 0 "$line_a" "$line_b"

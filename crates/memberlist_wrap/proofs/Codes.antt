@@ -1,15 +1,16 @@
 -- Codes and the bytes that they stand for, as they are read.
-use Rattle.std.proofs.Common.{◌≡◌, ℕ, ◌+◌, ◌^◌, ◌<◌, ◌≤◌, ◌⊎◌, List, [], ◌∷◌, ◌++◌, length, take, refl, sym, ap, subst, ◌∙◌, arith, append_assoc, inl, inr, get_or, drop, cond, ltb, Bool, true, false}
+use Rattle.std.proofs.Common.{◌≡◌, ℕ, ◌+◌, ◌^◌, ◌<◌, ◌≤◌, List, [], ◌∷◌, ◌++◌, length, refl, sym, ap, subst, ◌∙◌, arith, append_assoc, inl, inr, get_or, drop, cond, ltb, Bool, true, false}
 use Rattle.std.proofs.lemmas.List.{append-nil, length-append, at_drop_more, get_or_default, drop_more}
 use Rattle.memberlist_wrap.specs.Bits.{bits, bits_of}
-use Rattle.memberlist_wrap.specs.Lzw.{NextCode, kept, width, Stands, Reads, Reaches}
-use Rattle.memberlist_wrap.specs.Lzw.Stands.{literal, again as repeated}
+use Rattle.memberlist_wrap.specs.Lzw.{NextCode, kept_words, width, StandsFor, ReadsCodes, Reaches}
+use Rattle.memberlist_wrap.specs.Lzw.StandsFor.{literal, again as repeated}
 use Rattle.memberlist_wrap.proofs.Polynomials.{length-bits}
 
 -- ---- codes behind codes
 
 pub Reads-then : (words : List (List ℕ)) (codes all out : List ℕ) (after : List (List ℕ)) (rest codes' out' : List ℕ) (after' : List (List ℕ)) (rest' : List ℕ)
-    → Reads words codes all out after rest → Reads after codes' rest out' after' rest' → Reads words (codes ++ codes') all (out ++ out') after' rest'
+    → ReadsCodes words codes all out after rest → ReadsCodes after codes' rest out' after' rest'
+    → ReadsCodes words (codes ++ codes') all (out ++ out') after' rest'
 Reads-then words [] all out after rest codes' out' after' rest' first second =
     let none = first.0 in
     let same = first.1 in
@@ -25,7 +26,7 @@ Reads-then words (code ∷ codes) all out after rest codes' out' after' rest' fi
       adds.0,
       adds.1 ++ out',
       adds.2,
-      Reads-then (kept words adds.0) codes first.0 adds.1 after rest codes' out' after' rest' adds.3 second,
+      Reads-then (kept_words words adds.0) codes first.0 adds.1 after rest codes' out' after' rest' adds.3 second,
       ap (λ (o : List ℕ). o ++ out') adds.4 ∙ append_assoc adds.0 adds.1 out',
     ),
   )
@@ -35,33 +36,36 @@ pub Reaches-start : (bytes : List ℕ) → Reaches bytes [] [] (bits_of bytes)
 Reaches-start bytes = record { codes = []; reads = (refl, refl, refl) }
 
 -- a clear code more
-pub Reaches-clear : (bytes out : List ℕ) (words : List (List ℕ)) (rest more : List ℕ) (code : ℕ) → Reaches bytes out words rest → NextCode words rest code more → code ≡ 256
+pub Reaches-clear : (bytes out : List ℕ) (words : List (List ℕ)) (rest more : List ℕ) (code : ℕ)
+    → Reaches bytes out words rest → NextCode words rest code more → code ≡ 256
     → Reaches bytes out [] more
 Reaches-clear bytes out words rest more code reaches next clear = record {
   codes = reaches.codes ++ code ∷ [];
   reads =
-      let P : List ℕ → Type 0 = λ o. Reads [] (reaches.codes ++ code ∷ []) (bits_of bytes) o [] more in
+      let P : List ℕ → Type 0 = λ o. ReadsCodes [] (reaches.codes ++ code ∷ []) (bits_of bytes) o [] more in
       subst P (append-nil out)
-      (Reads-then [] reaches.codes (bits_of bytes) out words rest (code ∷ []) [] [] more reaches.reads (more, next.is, next.below, inl (clear, (refl, refl, refl))));
+      (Reads-then [] reaches.codes (bits_of bytes) out words rest (code ∷ []) [] [] more reaches.reads
+      (more, next.is, next.below, inl (clear, (refl, refl, refl))));
 }
 
 -- a word more
-pub Reaches-word : (bytes out : List ℕ) (words : List (List ℕ)) (rest more word : List ℕ) (code : ℕ) → Reaches bytes out words rest → NextCode words rest code more → Stands words code word
-    → Reaches bytes (out ++ word) (kept words word) more
+pub Reaches-word : (bytes out : List ℕ) (words : List (List ℕ)) (rest more word : List ℕ) (code : ℕ)
+    → Reaches bytes out words rest → NextCode words rest code more → StandsFor words code word
+    → Reaches bytes (out ++ word) (kept_words words word) more
 Reaches-word bytes out words rest more word code reaches next stands = record {
   codes = reaches.codes ++ code ∷ [];
   reads =
-      Reads-then [] reaches.codes (bits_of bytes) out words rest (code ∷ []) word (kept words word) more reaches.reads
+      Reads-then [] reaches.codes (bits_of bytes) out words rest (code ∷ []) word (kept_words words word) more reaches.reads
       (more, next.is, next.below, inr (word, [], stands, (refl, refl, refl), sym (append-nil word)));
 }
 
 -- ---- the two signs are no words
 
-pub no_clear : (words : List (List ℕ)) (word : List ℕ) (code : ℕ) → code ≡ 256 → Stands words code word → ⊥
+pub no_clear : (words : List (List ℕ)) (word : List ℕ) (code : ℕ) → code ≡ 256 → StandsFor words code word → ⊥
 no_clear words word code is (literal c e) = omega arith
 no_clear words word code is (repeated before old after p q r) = omega arith
 
-pub no_end : (words : List (List ℕ)) (word : List ℕ) (code : ℕ) → code ≡ 257 → Stands words code word → ⊥
+pub no_end : (words : List (List ℕ)) (word : List ℕ) (code : ℕ) → code ≡ 257 → StandsFor words code word → ⊥
 no_end words word code is (literal c e) = omega arith
 no_end words word code is (repeated before old after p q r) = omega arith
 
@@ -75,7 +79,8 @@ wide_by false false false = omega arith
 pub wide : (n : ℕ) → 257 < 2 ^ width n
 wide n = wide_by (ltb n 255) (ltb n 767) (ltb n 1791)
 
-width_low_by : (a b c : Bool) → (9 ≤ cond a 9 (cond b 10 (cond c 11 12))) × (cond a 9 (cond b 10 (cond c 11 12)) ≤ 12) × (2 ^ cond a 9 (cond b 10 (cond c 11 12)) ≤ 4096)
+width_low_by : (a b c : Bool) → (9 ≤ cond a 9 (cond b 10 (cond c 11 12))) × (cond a 9 (cond b 10 (cond c 11 12)) ≤ 12) ×
+    (2 ^ cond a 9 (cond b 10 (cond c 11 12)) ≤ 4096)
 width_low_by true b c = (omega arith, omega arith, omega arith)
 width_low_by false true c = (omega arith, omega arith, omega arith)
 width_low_by false false true = (omega arith, omega arith, omega arith)
@@ -96,7 +101,8 @@ taken_in bytes held held' i b within is more =
     ∙ ap (λ h. h ++ bits_of (drop (i + 1) bytes)) (sym more)
 
 -- a code passes from the bits that are held
-next_code : (words : List (List ℕ)) (coming held' held'' rest : List ℕ) (w code : ℕ) → coming ≡ held' ++ rest → w ≡ width (length words) → code < 2 ^ w → held' ≡ bits w code ++ held''
+next_code : (words : List (List ℕ)) (coming held' held'' rest : List ℕ) (w code : ℕ) → coming ≡ held' ++ rest → w ≡ width
+    (length words) → code < 2 ^ w → held' ≡ bits w code ++ held''
     → NextCode words coming code (held'' ++ rest)
 next_code words coming held' held'' rest w code is e below more = record {
   below = rw (← e) below;
@@ -104,7 +110,8 @@ next_code words coming held' held'' rest w code is e below more = record {
 }
 
 -- a byte and then a code
-pub read_code : (bytes : List ℕ) (words : List (List ℕ)) (held held' held'' : List ℕ) (i w code : ℕ) → i < length bytes → held' ≡ held ++ bits 8 (get_or bytes i 0)
+pub read_code : (bytes : List ℕ) (words : List (List ℕ)) (held held' held'' : List ℕ) (i w code : ℕ) → i < length bytes
+    → held' ≡ held ++ bits 8 (get_or bytes i 0)
     → w ≡ width (length words) → (code < 2 ^ w) × (held' ≡ bits w code ++ held'')
     → NextCode words (held ++ bits_of (drop i bytes)) code (held'' ++ bits_of (drop (i + 1) bytes))
 read_code bytes words held held' held'' i w code within more e taken =
@@ -117,8 +124,14 @@ few_left held held' held'' b w code short more taken =
 
 pub bits_of_some : (bytes : List ℕ) (i : ℕ) → i < length bytes → 8 ≤ length (bits_of (drop i bytes))
 bits_of_some bytes i within =
-    omega (arith, ap (λ bs. length (bits_of bs)) (drop_more bytes i 0 within), length-append (bits 8 (get_or bytes i 0)) (bits_of (drop (i + 1) bytes)), length-bits 8 (get_or bytes i 0))
+    omega (
+      arith,
+      ap (λ bs. length (bits_of bs)) (drop_more bytes i 0 within),
+      length-append (bits 8 (get_or bytes i 0)) (bits_of (drop (i + 1) bytes)),
+      length-bits 8 (get_or bytes i 0),
+    )
 
 -- the bits that are held are few again
-pub few_again : (held held' held'' : List ℕ) (b w code n : ℕ) → length held < w → held' ≡ held ++ bits 8 b → held' ≡ bits w code ++ held'' → length held'' < width n
+pub few_again : (held held' held'' : List ℕ) (b w code n : ℕ) → length held < w → held' ≡ held ++ bits 8 b
+    → held' ≡ bits w code ++ held'' → length held'' < width n
 few_again held held' held'' b w code n short more taken = omega (arith, few_left held held' held'' b w code short more taken, (width_between n).0)

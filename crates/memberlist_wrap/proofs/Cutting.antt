@@ -4,8 +4,8 @@ use Rattle.std.specs.Bool.{⊤}
 use Rattle.std.specs.List.{concat}
 use Rattle.std.proofs.lemmas.List.{append-nil, take_rest, get_or-take, drop-drop, take-append-drop, drop_at, take_all, length-append, length-drop, length-take, drop-append-le, take-append-le, drop_all, drop_more, get_or_append_left, get_or_push, get_or_read}
 use Rattle.std.proofs.lemmas.Bool.{cases_lt}
-use Rattle.memberlist_wrap.specs.Lzw.{Stands}
-use Rattle.memberlist_wrap.specs.Lzw.Stands.{literal, again as repeated}
+use Rattle.memberlist_wrap.specs.Lzw.{StandsFor}
+use Rattle.memberlist_wrap.specs.Lzw.StandsFor.{literal, again as repeated}
 use Rattle.memberlist_wrap.specs.Words.{next_start, cut, AreStarts, again}
 
 pub AreStarts-tail : (end s : ℕ) (r : List ℕ) → AreStarts end (s ∷ r) → AreStarts end r
@@ -97,7 +97,15 @@ word_at output [] place are within = absurd (omega arith)
 word_at output (s ∷ []) zero are within =
     record { before = []; old = _; after = []; parts = refl; place_is = refl; old_is = refl; after_is = sym (drop_all (length output) output (omega arith)) }
 word_at output (s ∷ e ∷ r) zero are within =
-    record { before = []; old = _; after = cut output (e ∷ r); parts = refl; place_is = refl; old_is = refl; after_is = concat_cut output e r (AreStarts-tail _ s (e ∷ r) are) }
+    record {
+      before = [];
+      old = _;
+      after = cut output (e ∷ r);
+      parts = refl;
+      place_is = refl;
+      old_is = refl;
+      after_is = concat_cut output e r (AreStarts-tail _ s (e ∷ r) are);
+    }
 word_at output (s ∷ r) (suc place) are within =
     let w = word_at output r place (AreStarts-tail _ s r are) (omega arith) in
     record {
@@ -138,17 +146,19 @@ split_once : (words before : List (List ℕ)) (old : List ℕ) (after before' : 
     → words ≡ before ++ old ∷ after → words ≡ before' ++ old' ∷ after' → length before ≡ length before' → (old ≡ old') × (after ≡ after')
 split_once words before old after before' old' after' e f same =
     same_parts old old' after after'
-    (sym (drop_at before (old ∷ after) (length before) refl) ∙ ap (drop (length before)) (sym e ∙ f) ∙ ap (λ n. drop n (before' ++ old' ∷ after')) same ∙ drop_at before' (old' ∷ after') (length before') refl)
+    (sym (drop_at before (old ∷ after) (length before) refl) ∙ ap (drop (length before)) (sym e ∙ f)
+    ∙ ap (λ n. drop n (before' ++ old' ∷ after')) same ∙ drop_at before' (old' ∷ after') (length before') refl)
 
 -- the byte after a word does not depend on what comes behind
-next_of : (old : List ℕ) (after : List (List ℕ)) (word : List ℕ) → 0 < length old → word ≡ old ++ take 1 (concat after ++ word) → take 1 (concat after ++ word) ≡ take 1 (concat after ++ old)
+next_of : (old : List ℕ) (after : List (List ℕ)) (word : List ℕ) → 0 < length old → word ≡ old ++ take 1
+    (concat after ++ word) → take 1 (concat after ++ word) ≡ take 1 (concat after ++ old)
 next_of old after word full e =
     let z = take 1 (concat after ++ word) in
     ap (λ w. take 1 (concat after ++ w)) e
     ∙ ap (take 1) (sym (append_assoc (concat after) old z))
     ∙ take-append-le 1 (concat after ++ old) z (omega (arith, length-append (concat after) old))
 
-pub one_word : (words : List (List ℕ)) (code : ℕ) (a b : List ℕ) → AreFull words → Stands words code a → Stands words code b → a ≡ b
+pub one_word : (words : List (List ℕ)) (code : ℕ) (a b : List ℕ) → AreFull words → StandsFor words code a → StandsFor words code b → a ≡ b
 one_word words code a b full (literal c e) (literal d f) = e ∙ sym f
 one_word words code a b full (literal c e) (repeated before old after p q r) = absurd (omega arith)
 one_word words code a b full (repeated before old after p q r) (literal d f) = absurd (omega arith)
@@ -190,7 +200,7 @@ next_byte output part to x within full is =
 
 -- the repeated part
 pub Stands-again : (output starts : List ℕ) (place : ℕ) → AreStarts (length output) starts → place < length starts
-    → Stands (cut output starts) (258 + place) (again output (get_or starts place 0) (next_start (length output) (drop (suc place) starts)))
+    → StandsFor (cut output starts) (258 + place) (again output (get_or starts place 0) (next_start (length output) (drop (suc place) starts)))
 Stands-again output starts place are within =
     let w = word_at output starts place are within in
     let from = get_or starts place 0 in
@@ -205,7 +215,7 @@ Stands-again output starts place are within =
     ∙ ap (λ l. l ++ take 1 (concat w.after ++ (part ++ x ∷ []))) (sym w.old_is))
 
 -- a place behind the last word stands for nothing
-pub none_there : (words : List (List ℕ)) (place : ℕ) (word : List ℕ) → length words ≤ place → ¬ Stands words (258 + place) word
+pub none_there : (words : List (List ℕ)) (place : ℕ) (word : List ℕ) → length words ≤ place → ¬ StandsFor words (258 + place) word
 none_there words place word behind (literal c e) = absurd (omega arith)
 none_there words place word behind (repeated before old after p q r) = omega (arith, ap length p, length-append before (old ∷ after))
 
@@ -228,7 +238,8 @@ pub record ReadEnds (out starts : List ℕ) (place from to : ℕ) : Type 0 where
   pub some : from < to
   pub within : to ≤ length out
 
-pub read_ends : (out starts seen : List ℕ) (place n start from to : ℕ) → AreStarts (length out) starts → n ≡ length starts → place < n → start ≡ length out → seen ≡ starts
+pub read_ends : (out starts seen : List ℕ) (place n start from to : ℕ) → AreStarts (length out) starts → n ≡ length starts
+    → place < n → start ≡ length out → seen ≡ starts
     → from ≡ get_or starts place from → to ≡ next_start start (drop (place + 1) seen) → ReadEnds out starts place from to
 read_ends out starts seen place n start from to are size inside end same f t =
     let ends = ends_of (length out) starts place are (omega arith) in
@@ -243,7 +254,7 @@ read_ends out starts seen place n start from to are size inside end same f t =
       within = omega (arith, ends.1);
     }
 
-pub full_word : (words : List (List ℕ)) (code : ℕ) (word : List ℕ) → AreFull words → Stands words code word → 0 < length word
+pub full_word : (words : List (List ℕ)) (code : ℕ) (word : List ℕ) → AreFull words → StandsFor words code word → 0 < length word
 full_word words code word full (literal c e) = omega (arith, ap length e)
 full_word words code word full (repeated before old after p q r) =
     let f = full_at before old after (subst AreFull p full) in
@@ -258,7 +269,8 @@ AreFull-take (suc n) [] full = tt
 AreFull-take (suc n) (w ∷ words) full = (full.0, AreFull-take n words full.1)
 
 -- the words before the last do not change where more comes out
-cut_longer : (n : ℕ) (output v starts : List ℕ) → AreStarts (length output) starts → n < length starts → take n (cut (output ++ v) starts) ≡ take n (cut output starts)
+cut_longer : (n : ℕ) (output v starts : List ℕ) → AreStarts (length output) starts → n < length starts → take n
+    (cut (output ++ v) starts) ≡ take n (cut output starts)
 cut_longer n output v [] are within = absurd (omega arith)
 cut_longer zero output v (s ∷ r) are within = refl
 cut_longer (suc n) output v (s ∷ []) are within = absurd (omega arith)
@@ -322,7 +334,8 @@ full_after [] old after full = full.1
 full_after (w ∷ before) old after full = full_after before old after full.1
 
 -- a code stands for the same word after the words that are kept
-Stands-kept : (m : ℕ) (words : List (List ℕ)) (place : ℕ) (word : List ℕ) → AreFull words → place + 2 ≤ m → Stands words (258 + place) word → Stands (take m words) (258 + place) word
+Stands-kept : (m : ℕ) (words : List (List ℕ)) (place : ℕ) (word : List ℕ) → AreFull words → place + 2 ≤ m → StandsFor words
+    (258 + place) word → StandsFor (take m words) (258 + place) word
 Stands-kept m words place word full room (literal c e) = absurd (omega arith)
 Stands-kept m words place word full room (repeated before old after p q r) =
     let k = m - suc (length before) in
@@ -330,8 +343,9 @@ Stands-kept m words place word full room (repeated before old after p q r) =
     (r ∙ ap (λ x. old ++ x) (first_kept k after word (full_after before old after (subst AreFull p full)) (omega arith)))
 
 -- an earlier word once more, as the code finds it
-pub Stands-read : (m : ℕ) (out starts : List ℕ) (place from to : ℕ) → AreStarts (length out) starts → place < length starts → place + 2 ≤ m → ReadEnds out starts place from to
-    → Stands (take m (cut out starts)) (258 + place) (again out from to)
+pub Stands-read : (m : ℕ) (out starts : List ℕ) (place from to : ℕ) → AreStarts (length out) starts → place < length starts
+    → place + 2 ≤ m → ReadEnds out starts place from to
+    → StandsFor (take m (cut out starts)) (258 + place) (again out from to)
 Stands-read m out starts place from to are inside room ends =
     Stands-kept m (cut out starts) place (again out from to) (AreFull-cut out starts are) room
     (rw (ends.from_is, ends.to_is) (Stands-again out starts place are inside))

@@ -1,8 +1,8 @@
 -- What was made, once one word more came out.
-use Rattle.std.proofs.Common.{◌≡◌, ℕ, ◌+◌, ◌<◌, ◌≤◌, ◌⊎◌, inl, inr, Bool, false, ltb, le-ltb, List, [], ◌∷◌, ◌++◌, length, take, refl, sym, ap, ◌∙◌, arith}
+use Rattle.std.proofs.Common.{◌≡◌, ℕ, ◌+◌, ◌<◌, ◌≤◌, inl, inr, false, ltb, le-ltb, List, [], ◌∷◌, ◌++◌, length, take, refl, sym, ap, ◌∙◌, arith}
 use Rattle.std.proofs.lemmas.Bool.{cases_lt}
 use Rattle.std.proofs.lemmas.List.{length-append, length-take}
-use Rattle.memberlist_wrap.specs.Lzw.{kept, width}
+use Rattle.memberlist_wrap.specs.Lzw.{kept_words, width}
 use Rattle.memberlist_wrap.specs.Words.{Made, made, cut, AreKept}
 use Rattle.memberlist_wrap.proofs.Cutting.{AreStarts-kept, AreStarts-longer, cut_kept, length-cut}
 
@@ -11,15 +11,16 @@ of output words = record { output = output; words = words }
 
 -- what is seen once a word and its place were put behind
 pub made_kept : (output starts v output' starts' : List ℕ) (n : ℕ) (now : Made) → n ≡ length output → made output starts ≡ now → AreKept (length output) starts
-    → output' ≡ output ++ v → starts' ≡ take 3840 (starts ++ n ∷ []) → made output' starts' ≡ of (now.output ++ v) (kept now.words v)
+    → output' ≡ output ++ v → starts' ≡ take 3840 (starts ++ n ∷ []) → made output' starts' ≡ of (now.output ++ v) (kept_words now.words v)
 made_kept output starts v output' starts' n now end seen are e f =
     ap (λ o. made o starts') e
     ∙ ap (λ s. made (output ++ v) s) (f ∙ ap (λ k. take 3840 (starts ++ k ∷ [])) end)
     ∙ ap (λ ws. of (output ++ v) ws) (cut_kept 3839 output v starts are.0 are.1)
-    ∙ ap (λ (m : Made). of (m.output ++ v) (kept m.words v)) seen
+    ∙ ap (λ (m : Made). of (m.output ++ v) (kept_words m.words v)) seen
 
 -- the places are kept
-pub AreKept-kept : (output v output' starts starts' : List ℕ) (n : ℕ) → n ≡ length output → AreKept (length output) starts → output' ≡ output ++ v → 0 < length v
+pub AreKept-kept : (output v output' starts starts' : List ℕ) (n : ℕ) → n ≡ length output → AreKept (length output) starts
+    → output' ≡ output ++ v → 0 < length v
     → starts' ≡ take 3840 (starts ++ n ∷ []) → AreKept (length output') starts'
 AreKept-kept output v output' starts starts' n end are e some f =
     let places = f ∙ ap (λ k. take 3840 (starts ++ k ∷ [])) end in
@@ -49,5 +50,6 @@ width_kept output starts now seen =
     let all = length-cut output starts in
     elim (cases_lt (length starts) 3840) [
       | inl few ↦ let same : length starts ≡ length now.words = omega arith in ap width same
-      | inr many ↦ let most : length now.words ≡ 3839 = omega arith in width_most (length starts) (omega arith) ∙ sym (width_most 3839 (omega arith)) ∙ ap width (sym most)
+      | inr many ↦
+          let most : length now.words ≡ 3839 = omega arith in width_most (length starts) (omega arith) ∙ sym (width_most 3839 (omega arith)) ∙ ap width (sym most)
     ]

@@ -9,7 +9,6 @@ use Rattle.memberlist_wrap.specs.declared.wrappers.Core.{Core}
 use Rattle.memberlist_wrap.specs.declared.wrappers.Core.TheVariants as cores
 use Rattle.memberlist_wrap.specs.Explaining.{fault_of_map, FailsHere, ExplainsIn}
 use Rattle.memberlist_wrap.specs.Explaining.FailsHere.{broken, large}
-use Rattle.memberlist_wrap.specs.Lzw.{Lzw}
 use Rattle.memberlist_wrap.specs.Peeling.{EndsWith, Holds, PackedUnwraps, PackedFails}
 use Rattle.memberlist_wrap.specs.Peeling.PackedFails.{here, inside}
 use Rattle.memberlist_wrap.specs.Wrapping.{Wrapper, kind, WrapText, Wrapped, IsBare, UnwrapsIn}
@@ -40,7 +39,8 @@ Holds-more depth bytes inner w rest (cores.Message message) some ends is text ho
 Holds-more depth bytes inner w rest (cores.Compression map left) some ends is text holds =
     (w ∷ holds.0, (let few = holds.1 in omega arith), λ limit. (rest, inner, is, text limit, holds.2 limit))
 
-pub Explains-more : (depth limit : ℕ) (fault : WrapFault) (bytes inner : List ℕ) (w : Wrapper) (rest : List ℕ) → 0 < depth → bytes ≡ kind w ∷ rest → WrapText limit w rest inner
+pub Explains-more : (depth limit : ℕ) (fault : WrapFault) (bytes inner : List ℕ) (w : Wrapper) (rest : List ℕ) → 0 < depth
+    → bytes ≡ kind w ∷ rest → WrapText limit w rest inner
     → ExplainsIn (depth - 1) limit fault inner → ExplainsIn depth limit fault bytes
 Explains-more depth limit fault bytes inner w rest some is text why =
     let few = why.few in
@@ -66,12 +66,14 @@ Explains-here depth limit fault bytes fails =
 
 -- ---- a message
 
-pub message_unwraps : (depth limit : ℕ) (bytes message : List ℕ) (ws : List Wrapper) → length ws ≤ depth → Wrapped limit ws bytes message → IsBare message → length message ≤ limit
+pub message_unwraps : (depth limit : ℕ) (bytes message : List ℕ) (ws : List Wrapper) → length ws ≤ depth
+    → Wrapped limit ws bytes message → IsBare message → length message ≤ limit
     → UnwrapsIn depth limit bytes message
 message_unwraps depth limit bytes message ws few wrapped bare within =
     record { wrappers = ws; few = few; wraps = record { wrapped = wrapped; bare = bare; within = within } }
 
-pub message_large : (depth limit : ℕ) (bytes message : List ℕ) (ws : List Wrapper) → length ws ≤ depth → Wrapped limit ws bytes message → IsBare message → limit < length message
+pub message_large : (depth limit : ℕ) (bytes message : List ℕ) (ws : List Wrapper) → length ws ≤ depth
+    → Wrapped limit ws bytes message → IsBare message → limit < length message
     → ExplainsIn depth limit TooLarge bytes
 message_large depth limit bytes message ws few wrapped bare long =
     record { wrappers = ws; inner = message; few = few; wrapped = wrapped; fails = large bare long refl }

@@ -1,11 +1,11 @@
 -- Bytes are a compression of one list of bytes, and of none where the reading of their codes stops.
-use Rattle.std.proofs.Common.{◌≡◌, ◌≢◌, ℕ, zero, suc, ◌^◌, ◌<◌, ◌≤◌, List, [], ◌∷◌, ◌++◌, length, take, refl, sym, ap, ◌∙◌, arith, append_assoc, inl, inr}
+use Rattle.std.proofs.Common.{◌≡◌, ◌≢◌, ℕ, ◌^◌, ◌<◌, List, [], ◌∷◌, ◌++◌, length, refl, sym, ap, ◌∙◌, arith, append_assoc, inl, inr}
 use Rattle.std.proofs.lemmas.List.{append-nil, length-append}
 use Rattle.memberlist_wrap.specs.Bits.{bits, bits_of}
 use Rattle.memberlist_wrap.specs.declared.fault.WrapFault.{WrapFault}
 use Rattle.memberlist_wrap.specs.declared.fault.WrapFault.TheVariants.{Ended, Trailing, BadCode, BadChecksum, BadMap, BadAlgo, BadLabel, TooLarge, TooDeep, Memory}
-use Rattle.memberlist_wrap.specs.Fault.{StopsAt, ExplainsLzw}
-use Rattle.memberlist_wrap.specs.Lzw.{NextCode, kept, width, Stands, Reads, Reaches, Ends, Lzw}
+use Rattle.memberlist_wrap.specs.Fault.{CodesStopAt, ExplainsLzw}
+use Rattle.memberlist_wrap.specs.Lzw.{NextCode, kept_words, width, StandsFor, ReadsCodes, Reaches, Ends, Lzw}
 use Rattle.memberlist_wrap.proofs.Codes.{no_clear, no_end, wide}
 use Rattle.memberlist_wrap.proofs.Cutting.{AreFull, AreFull-take, one_word, full_word}
 use Rattle.memberlist_wrap.proofs.Polynomials.{bits_once, length-bits}
@@ -14,7 +14,7 @@ AreFull-push : (words : List (List ℕ)) (word : List ℕ) → AreFull words →
 AreFull-push [] word full some = (some, tt)
 AreFull-push (w ∷ words) word full some = (full.0, AreFull-push words word full.1 some)
 
-AreFull-kept : (words : List (List ℕ)) (code : ℕ) (word : List ℕ) → AreFull words → Stands words code word → AreFull (kept words word)
+AreFull-kept : (words : List (List ℕ)) (code : ℕ) (word : List ℕ) → AreFull words → StandsFor words code word → AreFull (kept_words words word)
 AreFull-kept words code word full stands = AreFull-take 3839 (words ++ word ∷ []) (AreFull-push words word full (full_word words code word full stands))
 
 -- bits behind words begin with one code
@@ -27,7 +27,7 @@ pub record Says (words : List (List ℕ)) (rest out : List ℕ) : Type 0 where
   pub codes : List ℕ
   pub after : List (List ℕ)
   pub left : List ℕ
-  pub reads : Reads words codes rest out after left
+  pub reads : ReadsCodes words codes rest out after left
   pub ends : Ends after left
 
 -- what begins with these codes goes on behind them
@@ -36,8 +36,10 @@ pub record GoesOn (words : List (List ℕ)) (rest out whole : List ℕ) : Type 0
   pub says : Says words rest tail
   pub is : whole ≡ out ++ tail
 
-goes_on : (words : List (List ℕ)) (codes all out : List ℕ) (after : List (List ℕ)) (rest : List ℕ) (codes' whole : List ℕ) (after' : List (List ℕ)) (rest' : List ℕ)
-    → AreFull words → Reads words codes all out after rest → Reads words codes' all whole after' rest' → Ends after' rest' → GoesOn after rest out whole
+goes_on : (words : List (List ℕ)) (codes all out : List ℕ) (after : List (List ℕ)) (rest : List ℕ) (codes' whole : List ℕ)
+    (after' : List (List ℕ)) (rest' : List ℕ)
+    → AreFull words → ReadsCodes words codes all out after rest → ReadsCodes words codes' all whole after' rest'
+    → Ends after' rest' → GoesOn after rest out whole
 goes_on words [] all out after rest codes' whole after' rest' full reads says ends =
     let none = reads.0 in
     let same = reads.1 in
@@ -48,7 +50,8 @@ goes_on words [] all out after rest codes' whole after' rest' full reads says en
     }
 goes_on words (code ∷ codes) all out after rest [] whole after' rest' full reads says ends =
     let same = says.1 in
-    let end : all ≡ bits (width (length words)) 257 ++ ends.padding = sym says.2 ∙ ends.code ∙ ap (λ (ws : List (List ℕ)). bits (width (length ws)) 257 ++ ends.padding) same in
+    let end : all ≡ bits (width (length words)) 257 ++ ends.padding =
+    sym says.2 ∙ ends.code ∙ ap (λ (ws : List (List ℕ)). bits (width (length ws)) 257 ++ ends.padding) same in
     let once = one_code words all reads.0 ends.padding code 257 reads.1 reads.2 end (wide (length words)) in
     elim reads.3 [
       | inl clear ↦ absurd (let is = clear.0 in let other = once.0 in omega arith)
@@ -65,7 +68,10 @@ goes_on words (code ∷ codes) all out after rest (code' ∷ codes') whole after
         | inl clear' ↦ absurd (no_clear words adds.0 code (once.0 ∙ clear'.0) adds.2)
         | inr adds' ↦
             let same = one_word words code adds.0 adds'.0 full adds.2 (rw once.0 adds'.2) in
-            let more = goes_on (kept words adds.0) codes reads.0 adds.1 after rest codes' adds'.1 after' rest' (AreFull-kept words code adds.0 full adds.2) adds.3 (rw (once.1, same) adds'.3) ends in record {
+            let more =
+            goes_on (kept_words words adds.0) codes reads.0 adds.1 after rest codes' adds'.1 after' rest'
+            (AreFull-kept words code adds.0 full adds.2) adds.3 (rw (once.1, same) adds'.3) ends in
+            record {
               tail = more.tail;
               says = more.says;
               is =
@@ -76,13 +82,15 @@ goes_on words (code ∷ codes) all out after rest (code' ∷ codes') whole after
     ]
 
 -- what the bytes are a compression of goes on where the codes have come to
-pub Lzw-goes_on : (bytes out : List ℕ) (words : List (List ℕ)) (rest whole : List ℕ) → Reaches bytes out words rest → Lzw bytes whole → GoesOn words rest out whole
+pub Lzw-goes_on : (bytes out : List ℕ) (words : List (List ℕ)) (rest whole : List ℕ) → Reaches bytes out words rest
+    → Lzw bytes whole → GoesOn words rest out whole
 Lzw-goes_on bytes out words rest whole reaches lzw =
     goes_on [] reaches.codes (bits_of bytes) out words rest lzw.reaches.codes whole lzw.words lzw.rest tt reaches.reads lzw.reaches.reads lzw.ends
 
 -- ---- where bits end
 
-ends_here : (words : List (List ℕ)) (rest : List ℕ) (codes out : List ℕ) (after : List (List ℕ)) (left : List ℕ) → Ends words rest → Reads words codes rest out after left → out ≡ []
+ends_here : (words : List (List ℕ)) (rest : List ℕ) (codes out : List ℕ) (after : List (List ℕ)) (left : List ℕ)
+    → Ends words rest → ReadsCodes words codes rest out after left → out ≡ []
 ends_here words rest [] out after left ends reads = reads.0
 ends_here words rest (code ∷ codes) out after left ends reads =
     let once = one_code words rest reads.0 ends.padding code 257 reads.1 reads.2 ends.code (wide (length words)) in
@@ -100,7 +108,8 @@ one_lzw bytes a b l m =
 -- ---- where the reading stops
 
 -- bits that say something begin with a code
-says_code : (words : List (List ℕ)) (rest : List ℕ) (codes out : List ℕ) (after : List (List ℕ)) (left : List ℕ) → Reads words codes rest out after left → Ends after left
+says_code : (words : List (List ℕ)) (rest : List ℕ) (codes out : List ℕ) (after : List (List ℕ)) (left : List ℕ)
+    → ReadsCodes words codes rest out after left → Ends after left
     → (code : ℕ) × (more : List ℕ) × NextCode words rest code more
 says_code words rest [] out after left reads ends =
     let same = reads.1 in
@@ -115,11 +124,12 @@ too_few words rest out few says =
 
 -- the first code is the last, and few bits follow; or it begins anew; or it stands for a word
 first : (words : List (List ℕ)) (rest : List ℕ) (codes out : List ℕ) (after : List (List ℕ)) (left : List ℕ) (code : ℕ) (more : List ℕ)
-    → NextCode words rest code more → Reads words codes rest out after left → Ends after left → (P : Type 0)
-    → (code ≡ 257 → length more < 8 → P) → (code ≡ 256 → P) → ((word : List ℕ) → Stands words code word → P) → P
+    → NextCode words rest code more → ReadsCodes words codes rest out after left → Ends after left → (P : Type 0)
+    → (code ≡ 257 → length more < 8 → P) → (code ≡ 256 → P) → ((word : List ℕ) → StandsFor words code word → P) → P
 first words rest [] out after left code more next reads ends P last clears adds =
     let same = reads.1 in
-    let all : rest ≡ bits (width (length words)) 257 ++ ends.padding = sym reads.2 ∙ ends.code ∙ ap (λ (ws : List (List ℕ)). bits (width (length ws)) 257 ++ ends.padding) same in
+    let all : rest ≡ bits (width (length words)) 257 ++ ends.padding =
+    sym reads.2 ∙ ends.code ∙ ap (λ (ws : List (List ℕ)). bits (width (length ws)) 257 ++ ends.padding) same in
     let once = one_code words rest more ends.padding code 257 next.is next.below all (wide (length words)) in
     let short = ends.short in
     last once.0 (omega (arith, ap length once.1))
@@ -131,16 +141,18 @@ first words rest (c ∷ codes) out after left code more next reads ends P last c
     ]
 
 pub first_code : (words : List (List ℕ)) (rest out : List ℕ) (code : ℕ) (more : List ℕ) → NextCode words rest code more → Says words rest out → (P : Type 0)
-    → (code ≡ 257 → length more < 8 → P) → (code ≡ 256 → P) → ((word : List ℕ) → Stands words code word → P) → P
+    → (code ≡ 257 → length more < 8 → P) → (code ≡ 256 → P) → ((word : List ℕ) → StandsFor words code word → P) → P
 first_code words rest out code more next says = first words rest says.codes out says.after says.left code more next says.reads says.ends
 
 -- ---- what a refusal rules out
 
-stopped : (limit : ℕ) (fault : WrapFault) (out : List ℕ) (words : List (List ℕ)) (rest tail : List ℕ) → StopsAt limit fault out words rest → Says words rest tail
+stopped : (limit : ℕ) (fault : WrapFault) (out : List ℕ) (words : List (List ℕ)) (rest tail : List ℕ)
+    → CodesStopAt limit fault out words rest → Says words rest tail
     → fault ≢ TooLarge → ⊥
 stopped limit Ended out words rest tail stops says other = too_few words rest tail stops says
 stopped limit Trailing out words rest tail stops says other =
-    first_code words rest tail 257 stops.0 stops.1 says ⊥ (λ e short. let long = stops.2 in omega arith) (λ e. omega (arith, e)) (λ word stands. no_end words word 257 refl stands)
+    first_code words rest tail 257 stops.0 stops.1 says ⊥ (λ e short. let long = stops.2 in omega arith) (λ e. omega (arith, e))
+    (λ word stands. no_end words word 257 refl stands)
 stopped limit BadCode out words rest tail stops says other =
     first_code words rest tail stops.0 stops.1 stops.2 says ⊥ (λ e short. stops.4 e) (λ e. stops.3 e) (λ word stands. stops.5 word stands)
 stopped limit TooLarge out words rest tail stops says other = other refl
@@ -168,7 +180,8 @@ too_large limit BadLabel bytes why is = absurd cc
 too_large limit TooDeep bytes why is = absurd cc
 too_large limit Memory bytes why is = absurd cc
 
-within_large : (limit : ℕ) (fault : WrapFault) (bytes : List ℕ) → ExplainsLzw limit fault bytes → fault ≡ TooLarge → (out : List ℕ) → Lzw bytes out → limit < length out
+within_large : (limit : ℕ) (fault : WrapFault) (bytes : List ℕ) → ExplainsLzw limit fault bytes → fault ≡ TooLarge →
+    (out : List ℕ) → Lzw bytes out → limit < length out
 within_large limit fault bytes why is out lzw =
     let on = Lzw-goes_on bytes why.out why.words why.rest out why.reaches lzw in
     let past = too_large limit fault bytes why is in

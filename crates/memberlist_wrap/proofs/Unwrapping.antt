@@ -1,5 +1,5 @@
 -- Wrappers round bytes: that there is one way to take them off, and what refusals rule out.
-use Rattle.std.proofs.Common.{◌≡◌, ◌≢◌, ℕ, ◌+◌, ◌-◌, ◌<◌, ◌≤◌, ◌⊎◌, List, [], ◌∷◌, ◌++◌, length, take, drop, Err, refl, sym, ap, subst, ◌∙◌, arith, append_assoc, inl, inr}
+use Rattle.std.proofs.Common.{◌≡◌, ◌≢◌, ℕ, ◌+◌, ◌-◌, ◌≤◌, List, [], ◌∷◌, ◌++◌, length, take, drop, refl, sym, ap, subst, ◌∙◌, arith, inl, inr}
 use Rattle.std.proofs.lemmas.List.{length-append, take_at, drop_at}
 use Rattle.swim_wire.proofs.Compressions.{one_compression, whole_lacks}
 use Rattle.memberlist_wrap.specs.declared.fault.WrapFault.{WrapFault}
@@ -9,7 +9,6 @@ use Rattle.memberlist_wrap.specs.Explaining.FailsHere.{deep, broken, large}
 use Rattle.memberlist_wrap.specs.Lzw.{Lzw}
 use Rattle.memberlist_wrap.specs.Wrapping.{CheckedText, LabelledText, Wrapper, kind, WrapText, Wrapped, IsBare, Wraps, UnwrapsIn}
 use Rattle.memberlist_wrap.specs.Wrapping.Wrapper.{compression, checksum, label}
-use Rattle.memberlist_wrap.proofs.OneCrc.{one_crc}
 use Rattle.memberlist_wrap.proofs.OneLzw.{one_lzw, no_lzw, no_lzw_within}
 use Rattle.memberlist_wrap.proofs.Polynomials.{number_heads}
 
@@ -26,7 +25,8 @@ one_inner m n compression rest a b p q =
 one_inner m n checksum rest a b p q = sym (four rest p.digits a p.size p.text).1 ∙ (four rest q.digits b q.size q.text).1
 one_inner m n label rest a b p q =
     let parts = number_heads _ _ _ _ (sym p.text ∙ q.text) in
-    sym (drop_at p.label a (length p.label) refl) ∙ ap (drop (length p.label)) parts.1 ∙ ap (λ n. drop n (q.label ++ b)) parts.0 ∙ drop_at q.label b (length q.label) refl
+    sym (drop_at p.label a (length p.label) refl) ∙ ap (drop (length p.label)) parts.1 ∙ ap (λ n. drop n (q.label ++ b)) parts.0
+    ∙ drop_at q.label b (length q.label) refl
 
 same_kind : (w v : Wrapper) → kind w ≡ kind v → w ≡ v
 same_kind compression compression e = refl
@@ -47,7 +47,8 @@ one_wrapper w v bytes rest rest' e f =
 
 -- ---- wrappers in wrappers
 
-pub Wrapped-then : (limit : ℕ) (ws vs : List Wrapper) (bytes mid inner : List ℕ) → Wrapped limit ws bytes mid → Wrapped limit vs mid inner → Wrapped limit (ws ++ vs) bytes inner
+pub Wrapped-then : (limit : ℕ) (ws vs : List Wrapper) (bytes mid inner : List ℕ) → Wrapped limit ws bytes mid
+    → Wrapped limit vs mid inner → Wrapped limit (ws ++ vs) bytes inner
 Wrapped-then limit [] vs bytes mid inner p q = rw p q
 Wrapped-then limit (w ∷ ws) vs bytes mid inner p q = (p.0, p.1, p.2, p.3, Wrapped-then limit ws vs p.1 mid inner p.4 q)
 
@@ -60,7 +61,8 @@ pub record GoesOn (n : ℕ) (ws : List Wrapper) (inner : List ℕ) (all : List W
 same_wrappers : (w v : Wrapper) (ws vs : List Wrapper) → w ≡ v → ws ≡ vs → w ∷ ws ≡ v ∷ vs
 same_wrappers w v ws vs e f = cc
 
-pub goes_on : (m n : ℕ) (ws : List Wrapper) (bytes inner : List ℕ) (all : List Wrapper) (message : List ℕ) → Wrapped m ws bytes inner → Wrapped n all bytes message → IsBare message
+pub goes_on : (m n : ℕ) (ws : List Wrapper) (bytes inner : List ℕ) (all : List Wrapper) (message : List ℕ)
+    → Wrapped m ws bytes inner → Wrapped n all bytes message → IsBare message
     → GoesOn n ws inner all message
 goes_on m n [] bytes inner all message p q bare = record { others = all; is = refl; wrapped = rw p at q }
 goes_on m n (w ∷ ws) bytes inner [] message p q bare = absurd (bare w p.0 (sym q ∙ p.2))
@@ -139,7 +141,8 @@ no_inner limit fault checksum rest inner fails text = no_checksum fault rest inn
 no_inner limit fault label rest inner fails text = no_label fault rest inner fails text
 
 -- one that fails for another cause than the limit stands round nothing
-no_inner_at_all : (limit any : ℕ) (fault : WrapFault) (w : Wrapper) (rest inner : List ℕ) → fault ≢ TooLarge → WrapperFails limit fault w rest → WrapText any w rest inner → ⊥
+no_inner_at_all : (limit any : ℕ) (fault : WrapFault) (w : Wrapper) (rest inner : List ℕ) → fault ≢ TooLarge
+    → WrapperFails limit fault w rest → WrapText any w rest inner → ⊥
 no_inner_at_all limit any fault compression rest inner other (inl no_map) text = whole_lacks rest no_map.0 no_map.1 text.packed text.map
 no_inner_at_all limit any fault compression rest inner other (inr no_lzw_in) text =
     let P : List ℕ → Type 0 = λ x. Lzw x inner in
@@ -162,7 +165,8 @@ fails_within depth limit fault inner others message (large none long name) few w
     let left = none_left limit others inner message wrapped none in
     omega (arith, ap length left.1)
 
-pub no_message : (depth limit : ℕ) (fault : WrapFault) (bytes : List ℕ) → ExplainsIn depth limit fault bytes → (message : List ℕ) → ¬ UnwrapsIn depth limit bytes message
+pub no_message : (depth limit : ℕ) (fault : WrapFault) (bytes : List ℕ) → ExplainsIn depth limit fault bytes →
+    (message : List ℕ) → ¬ UnwrapsIn depth limit bytes message
 no_message depth limit fault bytes why message unwraps =
     let wraps = unwraps.wraps in
     let on = goes_on limit limit why.wrappers bytes why.inner unwraps.wrappers message why.wrapped wraps.wrapped wraps.bare in

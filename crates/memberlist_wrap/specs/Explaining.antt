@@ -11,7 +11,8 @@ use Rattle.memberlist_wrap.specs.Fault.{ExplainsLzw}
 use Rattle.memberlist_wrap.specs.Wrapping.{Wrapper, kind, Wrapped, IsBare}
 use Rattle.memberlist_wrap.specs.Wrapping.Wrapper.{compression, checksum, label}
 
--- Why the map of a compression is none. Its one number is `Algo`, and its `Buf` may be as long as all the bytes.
+-- Why the map of a compression is none. Its one number is `Algo`, and its `Buf` may be as long as
+-- all the bytes.
 abbrev pub fault_of_map : WireFault → WrapFault
 fault_of_map wire.Ended = Ended
 fault_of_map wire.TooLong = Ended
@@ -29,25 +30,31 @@ CompressionFails limit fault bytes =
 -- there are no four bytes, or they are not the CRC-32 of the rest
 abbrev pub ChecksumFails : WrapFault → List ℕ → Type 0
 ChecksumFails Ended bytes = length bytes < 4
-ChecksumFails BadChecksum bytes = (digits : List ℕ) × (inner : List ℕ) × (length digits ≡ 4) × (bytes ≡ digits ++ inner) × (¬ IsCrc inner (big_number 4 digits))
+ChecksumFails BadChecksum bytes = (digits : List ℕ) × (inner : List ℕ) × (length digits ≡ 4)
+    × (bytes ≡ digits ++ inner) × (¬ IsCrc inner (big_number 4 digits))
 ChecksumFails fault bytes = ⊥
 
 -- there is no length, or not so many bytes, or the length is 0
 abbrev pub LabelFails : WrapFault → List ℕ → Type 0
-LabelFails Ended bytes = (bytes ≡ []) ⊎ ((size : ℕ) × (rest : List ℕ) × (bytes ≡ size ∷ rest) × (length rest < size))
+LabelFails Ended bytes = (bytes ≡ [])
+    ⊎ ((size : ℕ) × (rest : List ℕ) × (bytes ≡ size ∷ rest) × (length rest < size))
 LabelFails BadLabel bytes = (rest : List ℕ) × (bytes ≡ 0 ∷ rest)
 LabelFails fault bytes = ⊥
 
+-- what stands behind the first byte of the wrapper is not its, for this reason
 abbrev pub WrapperFails : ℕ → WrapFault → Wrapper → List ℕ → Type 0
 WrapperFails limit fault compression bytes = CompressionFails limit fault bytes
 WrapperFails limit fault checksum bytes = ChecksumFails fault bytes
 WrapperFails limit fault label bytes = LabelFails fault bytes
 
--- Why the bytes are no message where so many wrappers more are taken off: there is a wrapper, and none is taken
--- off; there is one, and what stands behind its first byte is not its; or there is none, and they are too long.
+-- Why the bytes are no message where so many wrappers more are taken off: there is a wrapper, and
+-- none is taken off; there is one, and what stands behind its first byte is not its; or there is
+-- none, and they are too long.
 pub data FailsHere (depth limit : ℕ) (fault : WrapFault) (bytes : List ℕ) : Type 0 where
-  deep : (w : Wrapper) (rest : List ℕ) → bytes ≡ kind w ∷ rest → depth ≡ 0 → fault ≡ TooDeep → FailsHere depth limit fault bytes
-  broken : (w : Wrapper) (rest : List ℕ) → bytes ≡ kind w ∷ rest → 0 < depth → WrapperFails limit fault w rest → FailsHere depth limit fault bytes
+  deep : (w : Wrapper) (rest : List ℕ) → bytes ≡ kind w ∷ rest → depth ≡ 0 → fault ≡ TooDeep
+      → FailsHere depth limit fault bytes
+  broken : (w : Wrapper) (rest : List ℕ) → bytes ≡ kind w ∷ rest → 0 < depth
+      → WrapperFails limit fault w rest → FailsHere depth limit fault bytes
   large : IsBare bytes → limit < length bytes → fault ≡ TooLarge → FailsHere depth limit fault bytes
 
 -- What a refusal says of bytes: they are wrappers, at most depth, round bytes that fail so.

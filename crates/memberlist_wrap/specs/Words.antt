@@ -14,7 +14,8 @@ next_start end (start ∷ starts) = start
 -- the words that begin at these places, each up to the next
 abbrev pub cut : List ℕ → List ℕ → List (List ℕ)
 cut output [] = []
-cut output (start ∷ starts) = take (next_start (length output) starts - start) (drop start output) ∷ cut output starts
+cut output (start ∷ starts) =
+    take (next_start (length output) starts - start) (drop start output) ∷ cut output starts
 
 -- what is made: the place behind the words that are kept ends the last of them
 abbrev pub made : List ℕ → List ℕ → Made
@@ -22,7 +23,8 @@ made output starts = record { output = output; words = take 3839 (cut output sta
 
 -- the places ascend, and a byte stands at each
 pub record AreStarts (end : ℕ) (starts : List ℕ) : Type 0 where
-  pub ascending : (k : ℕ) → suc k < length starts → slice_index starts k < slice_index starts (suc k)
+  pub ascending : (k : ℕ) → suc k < length starts
+      → slice_index starts k < slice_index starts (suc k)
   pub inside : (k : ℕ) → k < length starts → slice_index starts k < end
 
 -- so many places are kept, and they are such

@@ -5,6 +5,7 @@ use Rattle.swim_wire.specs.Compression.{CompressionText}
 use Rattle.memberlist_wrap.specs.Crc.{IsCrc}
 use Rattle.memberlist_wrap.specs.Lzw.{Lzw}
 
+-- What stands round a message: a compression, a checksum or a label.
 pub data Wrapper : Type 0 where
   compression checksum label : Wrapper
 
@@ -40,18 +41,20 @@ WrapText limit compression rest inner = CompressedText limit rest inner
 WrapText limit checksum rest inner = CheckedText rest inner
 WrapText limit label rest inner = LabelledText rest inner
 
--- The bytes are these wrappers, the outer one first, round the inner bytes. Nothing compressed has more
--- bytes than the limit.
+-- The bytes are these wrappers, the outer one first, round the inner bytes. Nothing compressed has
+-- more bytes than the limit.
 abbrev pub Wrapped : ℕ → List Wrapper → List ℕ → List ℕ → Type 0
 Wrapped limit [] bytes inner = bytes ≡ inner
 Wrapped limit (w ∷ ws) bytes inner =
-    (rest : List ℕ) × (mid : List ℕ) × (bytes ≡ kind w ∷ rest) × WrapText limit w rest mid × Wrapped limit ws mid inner
+    (rest : List ℕ) × (mid : List ℕ) × (bytes ≡ kind w ∷ rest) × WrapText limit w rest mid
+    × Wrapped limit ws mid inner
 
 -- the bytes begin with no wrapper
 abbrev pub IsBare : List ℕ → Type 0
 IsBare bytes = (w : Wrapper) (rest : List ℕ) → bytes ≢ kind w ∷ rest
 
--- The bytes are these wrappers round the message, and neither it nor anything compressed is longer than the limit.
+-- The bytes are these wrappers round the message, and neither it nor anything compressed is longer
+-- than the limit.
 pub record Wraps (limit : ℕ) (ws : List Wrapper) (bytes message : List ℕ) : Type 0 where
   pub wrapped : Wrapped limit ws bytes message
   pub bare : IsBare message

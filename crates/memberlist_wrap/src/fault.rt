@@ -3,7 +3,7 @@
 ghost use Rattle.std.specs.Prelude.{◌≡◌};
 ghost use Rattle.memberlist_wrap.specs.declared.fault.WrapFault.TheVariants.{Memory};
 ghost use Rattle.memberlist_wrap.specs.Explaining.{fault_of_map};
-ghost use Rattle.memberlist_wrap.specs.Fault.{number_of};
+ghost use Rattle.memberlist_wrap.specs.Fault.{wrap_number};
 
 use std::alloc::{AllocError, AllocFailed};
 use swim_wire::WireFault;
@@ -13,7 +13,7 @@ use thiserror::Error;
 #[derive(Clone, Copy, Debug, PartialEq, Eq, Error)]
 pub enum WrapFault {
     /// The bytes of a wrapper or of a compression end too soon.
-    #[error("the bytes end too soon")]
+    #[error("the bytes end too early")]
     Ended,
     /// There are bytes after the end of a compression or of its map.
     #[error("there are bytes after the end")]
@@ -47,7 +47,7 @@ pub enum WrapFault {
 impl WrapFault {
     /// The number by which reports name the fault.
     pub fn number(&self) -> u32
-        ensures { result ≡ number_of self.now }
+        ensures { result ≡ wrap_number self.now }
     {
         match self {
             WrapFault::Ended => 40,
@@ -80,7 +80,8 @@ impl<T: Drop> From<AllocFailed<T>> for WrapFault {
     }
 }
 
-/// The map of a compression has one number, which is `Algo`, and its `Buf` may be as long as all the bytes.
+/// The map of a compression has one number, which is `Algo`, and its `Buf` may be as long as all
+/// the bytes.
 impl From<WireFault> for WrapFault {
     ghost from_gives = { λ wire fault. fault ≡ fault_of_map wire };
 

@@ -1,7 +1,7 @@
 //! The words that codes stand for.
 
 ghost use Rattle.std.specs.Prelude.{◌≡◌, ℕ, List, [], ◌∷◌, ◌++◌, ◌+◌, ◌-◌, ◌<◌, ◌≤◌, ◌⊎◌, length, take, drop, IfOk, IfErr, IsErrOf, IsOkUnless, OnOk, OnErr, vec_len};
-ghost use Rattle.memberlist_wrap.specs.Lzw.{kept, width, Stands};
+ghost use Rattle.memberlist_wrap.specs.Lzw.{kept_words, width, StandsFor};
 ghost use Rattle.memberlist_wrap.specs.Words.{Made, made, AreKept, next_start, again};
 
 use crate::WrapFault;
@@ -11,8 +11,8 @@ use std::marker::Model;
 /// The first code that stands for a word.
 const FIRST_WORD: u32 = 258;
 
-/// The most places of words: those of the 3,838 words for which a code may stand, of the word whose first
-/// byte ends the last of them, and of what comes behind it.
+/// The most places of words: those of the 3,838 words for which a code may stand, of the word whose
+/// first byte ends the last of them, and of what comes behind it.
 const MOST_STARTS: usize = 3840;
 
 /// What came out so far, and where in it the words since the last clear code begin.
@@ -68,13 +68,19 @@ impl Words {
         requires no_sign { (code < 256) ⊎ (258 ≤ code) }
         requires narrow { code < 4096 }
         requires short { length self.old.output ≤ limit }
-        ensures appends { IfOk result (λ _. (word : List ℕ) × Stands self.old.words code word
-            × (self.new ≡ record { output = self.old.output ++ word; words = kept self.old.words word })) }
+        ensures appends { IfOk result (λ _. (word : List ℕ) × StandsFor self.old.words code word
+            × (self.new ≡ record {
+              output = self.old.output ++ word;
+              words = kept_words self.old.words word;
+            })) }
         ensures short { OnOk result (length self.new.output ≤ limit) }
-        ensures bad { IsErrOf result WrapFault.BadCode → (word : List ℕ) → ¬ Stands self.old.words code word }
-        ensures large { IsErrOf result WrapFault.TooLarge → (word : List ℕ) × Stands self.old.words code word
+        ensures bad { IsErrOf result WrapFault.BadCode
+            → (word : List ℕ) → ¬ StandsFor self.old.words code word }
+        ensures large { IsErrOf result WrapFault.TooLarge
+            → (word : List ℕ) × StandsFor self.old.words code word
             × (limit < length self.old.output + length word) }
-        ensures only { IfErr result (λ e. (e ≡ WrapFault.BadCode) ⊎ (e ≡ WrapFault.TooLarge) ⊎ (e ≡ WrapFault.Memory)) }
+        ensures only { IfErr result (λ e. (e ≡ WrapFault.BadCode) ⊎ (e ≡ WrapFault.TooLarge)
+            ⊎ (e ≡ WrapFault.Memory)) }
     {
         if code < 256 {
             self.append_byte(code as u8, limit)
@@ -86,8 +92,10 @@ impl Words {
     /// Appends one byte as a word.
     fn append_byte(&mut self, byte: u8, limit: usize) -> Result<(), WrapFault>
         requires short { length self.old.output ≤ limit }
-        ensures appends { OnOk result (self.new
-            ≡ record { output = self.old.output ++ byte ∷ []; words = kept self.old.words (byte ∷ []) }) }
+        ensures appends { OnOk result (self.new ≡ record {
+          output = self.old.output ++ byte ∷ [];
+          words = kept_words self.old.words (byte ∷ []);
+        }) }
         ensures short { OnOk result (length self.old.output < limit) }
         ensures large { IsErrOf result WrapFault.TooLarge → limit ≤ length self.old.output }
         ensures only { IfErr result (λ e. (e ≡ WrapFault.TooLarge) ⊎ (e ≡ WrapFault.Memory)) }
@@ -105,13 +113,19 @@ impl Words {
     fn append_again(&mut self, place: usize, limit: usize) -> Result<(), WrapFault>
         requires narrow { place < 3838 }
         requires short { length self.old.output ≤ limit }
-        ensures appends { IfOk result (λ _. (word : List ℕ) × Stands self.old.words (258 + place) word
-            × (self.new ≡ record { output = self.old.output ++ word; words = kept self.old.words word })) }
+        ensures appends { IfOk result (λ _. (word : List ℕ)
+            × StandsFor self.old.words (258 + place) word
+            × (self.new ≡ record {
+              output = self.old.output ++ word;
+              words = kept_words self.old.words word;
+            })) }
         ensures short { OnOk result (length self.new.output ≤ limit) }
         ensures bad { IsErrOf result WrapFault.BadCode → length self.old.words ≤ place }
-        ensures large { IsErrOf result WrapFault.TooLarge → (word : List ℕ) × Stands self.old.words (258 + place) word
+        ensures large { IsErrOf result WrapFault.TooLarge
+            → (word : List ℕ) × StandsFor self.old.words (258 + place) word
             × (limit < length self.old.output + length word) }
-        ensures only { IfErr result (λ e. (e ≡ WrapFault.BadCode) ⊎ (e ≡ WrapFault.TooLarge) ⊎ (e ≡ WrapFault.Memory)) }
+        ensures only { IfErr result (λ e. (e ≡ WrapFault.BadCode) ⊎ (e ≡ WrapFault.TooLarge)
+            ⊎ (e ≡ WrapFault.Memory)) }
     {
         let start = self.output.len();
         if place >= self.starts.len() {
@@ -170,7 +184,8 @@ fn keep_start(starts: &mut Vec<usize>, start: usize) -> Result<(), WrapFault>
 fn copy_again(output: &mut Vec<u8>, from: usize, to: usize) -> Result<(), WrapFault>
     requires some { from < to }
     requires inside { to ≤ vec_len output.old }
-    ensures ok { OnOk result (output.new.items ≡ output.old.items ++ again output.old.items from to) }
+    ensures ok { OnOk result
+        (output.new.items ≡ output.old.items ++ again output.old.items from to) }
     ensures err { OnErr result (length output.old.items ≤ length output.new.items) }
     ensures only { IsOkUnless result WrapFault.Memory }
 {

@@ -22,28 +22,34 @@ enum Core<'a> {
     Compression(&'a [u8], u8),
 }
 
-/// The message that the bytes wrap: their checksums, labels and compressions taken off, in whatever order they
-/// stand. Bytes that begin with no wrapper are the message. Neither the message nor anything compressed has more
-/// than `limit` bytes. Each layer's memory is freed before that of the next is asked for.
+/// The message that the bytes wrap: their checksums, labels and compressions taken off, in whatever
+/// order they stand. Bytes that begin with no wrapper are the message. Neither the message nor
+/// anything compressed has more than `limit` bytes. Each layer's memory is freed before that of the
+/// next is asked for.
 ///
-/// Source: memberlist's net.go, util.go and label.go; the limits, and that nothing may follow, are own.
+/// Source: memberlist's net.go, util.go and label.go; the limits, and that nothing may follow, are
+/// own.
 ///
 /// # Errors
 ///
-/// The first of these that holds, from the outer wrapper on: `TooDeep` where there are more than 4 wrappers,
-/// `Ended` where one is cut short, `BadChecksum` where a checksum is another one's, `BadLabel` where a label is
-/// empty, `BadMap`, `BadAlgo` and `Trailing` where the map of a compression is none, is of an unknown one or is
-/// followed by bytes, and those of `lzw_decode`. `TooLarge` where what is compressed, or the message, has more
-/// than `limit` bytes. `Memory` where a growth was refused.
+/// The first of these that holds, from the outer wrapper on: `TooDeep` where there are more than 4
+/// wrappers, `Ended` where one is cut short, `BadChecksum` where a checksum is another one's,
+/// `BadLabel` where a label is empty, `BadMap`, `BadAlgo` and `Trailing` where the map of a
+/// compression is none, is of an unknown one or is followed by bytes, and those of `lzw_decode`.
+/// `TooLarge` where what is compressed, or the message, has more than `limit` bytes. `Memory` where
+/// a growth was refused.
 pub fn unwrap(alloc: Global, bytes: &[u8], limit: usize) -> Result<Vec<u8>, WrapFault>
     ensures unwraps { IfOk result (λ message. Unwraps limit bytes.now message.items) }
 
-    // Refused for another cause than memory, they wrap nothing within the limits, and the refusal says why.
+    // Refused for another cause than memory, they wrap nothing within the limits, and the refusal
+    // says why.
     ensures limits { IfErr result (λ fault. fault ≢ WrapFault.Memory
         → (message : List ℕ) → ¬ Unwraps limit bytes.now message) }
-    ensures explains { IfErr result (λ fault. fault ≢ WrapFault.Memory → ExplainsIn 4 limit fault bytes.now) }
+    ensures explains { IfErr result (λ fault. fault ≢ WrapFault.Memory
+        → ExplainsIn 4 limit fault bytes.now) }
     // Refused for another cause than memory and the limits, they wrap nothing at all.
-    ensures refuses { IfErr result (λ fault. fault ≢ WrapFault.Memory → fault ≢ WrapFault.TooLarge → fault ≢ WrapFault.TooDeep
+    ensures refuses { IfErr result (λ fault. fault ≢ WrapFault.Memory → fault ≢ WrapFault.TooLarge
+        → fault ≢ WrapFault.TooDeep
         → (any : ℕ) (ws : List Wrapper) (message : List ℕ) → ¬ Wraps any ws bytes.now message) }
 {
     unwrap_slice(alloc, bytes, limit)
@@ -51,7 +57,8 @@ pub fn unwrap(alloc: Global, bytes: &[u8], limit: usize) -> Result<Vec<u8>, Wrap
 
 fn unwrap_slice(alloc: Global, bytes: &[u8], limit: usize) -> Result<Vec<u8>, WrapFault>
     ensures ok { IfOk result (λ message. UnwrapsIn 4 limit bytes.now message.items) }
-    ensures err { IfErr result (λ fault. fault ≢ WrapFault.Memory → ExplainsIn 4 limit fault bytes.now) }
+    ensures err { IfErr result (λ fault. fault ≢ WrapFault.Memory
+        → ExplainsIn 4 limit fault bytes.now) }
 {
     match peel(bytes, MAX_DEPTH)? {
         Core::Message(message) => if message.len() > limit {
@@ -66,8 +73,9 @@ fn unwrap_slice(alloc: Global, bytes: &[u8], limit: usize) -> Result<Vec<u8>, Wr
     }
 }
 
-/// The message in compressed bytes. These are freed before more is read, and so is what they are a compression
-/// of, if it has another compression in it; if not, it becomes the message where it stands.
+/// The message in compressed bytes. These are freed before more is read, and so is what they are a
+/// compression of, if it has another compression in it; if not, it becomes the message where it
+/// stands.
 fn unwrap_packed(
     alloc: Global,
     packed: Vec<u8>,
@@ -75,7 +83,8 @@ fn unwrap_packed(
     depth: u8,
 ) -> Result<Vec<u8>, WrapFault>
     ensures ok { IfOk result (λ message. PackedUnwraps depth limit packed.items message.items) }
-    ensures err { IfErr result (λ fault. fault ≢ WrapFault.Memory → PackedFails depth limit fault packed.items) }
+    ensures err { IfErr result (λ fault. fault ≢ WrapFault.Memory
+        → PackedFails depth limit fault packed.items) }
 {
     let layer = lzw_decode(alloc, &packed, limit)?;
     drop(packed);

@@ -26,14 +26,17 @@ PacketTexts-push _ _ text _ p (one first rest lens q packets is_first texts) is 
     (one first (rest ++ text) (lens ++ length text ∷ []) q (packets ++ p ∷ []) is_first (PacketTexts-push lens rest text packets p texts is))
 
 -- the next packet is read
-pub ReadTo-more : (lens bytes : List ℕ) (i len d : ℕ) (packets : List PacketValue) (rest text behind : List ℕ) (p : PacketValue) → i < length lens → len ≡ get_or lens i d
+pub ReadTo-more : (lens bytes : List ℕ) (i len d : ℕ) (packets : List PacketValue) (rest text behind : List ℕ)
+    (p : PacketValue) → i < length lens → len ≡ get_or lens i d
     → ReadTo lens bytes i packets rest → rest ≡ text ++ behind → length text ≡ len → PacketText text p
     → ReadTo lens bytes (i + 1) (packets ++ p ∷ []) behind
 ReadTo-more lens bytes i len d packets rest text behind p in_range is read parts size packet =
     let grown : take i lens ++ length text ∷ [] ≡ take (i + 1) lens = ap (λ (n : ℕ). take i lens ++ n ∷ []) (size ∙ is) ∙ sym (take_more lens i d in_range) in
     record {
       front = read.front ++ text;
-      texts = subst (λ (ls : List ℕ). PacketTexts ls (read.front ++ text) (packets ++ p ∷ [])) grown (PacketTexts-push (take i lens) read.front text packets p read.texts packet);
+      texts =
+          subst (λ (ls : List ℕ). PacketTexts ls (read.front ++ text) (packets ++ p ∷ [])) grown
+          (PacketTexts-push (take i lens) read.front text packets p read.texts packet);
       parts = read.parts ∙ ap (λ (r : List ℕ). read.front ++ r) parts ∙ sym (append_assoc read.front text behind);
     }
 
@@ -49,7 +52,8 @@ cut_off lens bytes i len d packets rest in_range is read short =
     LacksPackets.cut read.front rest (take i lens) (drop (suc i) lens) len packets read.texts (around lens i len d len in_range is refl) read.parts short refl
 
 -- the next one is no packet
-pub no_packet : (lens bytes : List ℕ) (i len d : ℕ) (packets : List PacketValue) (rest text behind : List ℕ) (fault : WireFault) → i < length lens → len ≡ get_or lens i d
+pub no_packet : (lens bytes : List ℕ) (i len d : ℕ) (packets : List PacketValue) (rest text behind : List ℕ)
+    (fault : WireFault) → i < length lens → len ≡ get_or lens i d
     → ReadTo lens bytes i packets rest → rest ≡ text ++ behind → length text ≡ len
     → whole_packet text ≡ Err fault → ExplainsWhole fault text → fault ≢ Fault → LacksPackets lens bytes fault
 no_packet lens bytes i len d packets rest text behind error in_range is read parts size stops explains no_end =
@@ -70,7 +74,8 @@ all_read lens bytes i packets rest done read empty =
 -- bytes are left behind all packets
 pub left_over : (lens bytes : List ℕ) (i : ℕ) (packets : List PacketValue) (rest : List ℕ) → length lens ≤ i → ReadTo lens bytes i packets rest → rest ≢ []
     → LacksPackets lens bytes Trailing
-left_over lens bytes i packets rest done read some = LacksPackets.trailing read.front rest packets (all_texts lens bytes i packets rest done read) read.parts some refl
+left_over lens bytes i packets rest done read some =
+    LacksPackets.trailing read.front rest packets (all_texts lens bytes i packets rest done read) read.parts some refl
 
 -- there is a packet for each length
 pub length-packets : (lens bytes : List ℕ) (packets : List PacketValue) → PacketTexts lens bytes packets → length packets ≡ length lens

@@ -4,7 +4,7 @@ use Rattle.std.proofs.lemmas.Bool.Decides.{eqb_tells}
 use Rattle.swim_pack.specs.Ends.{Source}
 use Rattle.swim_wire.specs.declared.fault.WireFault.{WireFault}
 use Rattle.swim_wire.specs.declared.fault.WireFault.TheVariants as wire
-use Rattle.swim_wire.specs.Fault.{number_of}
+use Rattle.swim_wire.specs.Fault.{wire_number}
 use Rattle.swim_table.proofs.WholeStreams.{refused_front}
 use Rattle.swim_table.specs.declared.fault.RefuteFault.{RefuteFault}
 use Rattle.swim_table.specs.declared.fault.RefuteFault.TheVariants as refute
@@ -35,19 +35,19 @@ lacks bytes rest fault why =
     }
 
 -- a datagram was refused, for want of memory or since it is none
-pub take_done : (bytes : List ℕ) (status : ℕ) (before after : NodeValue) (fault : WireFault) → status ≡ number_of fault → after ≡ before
+pub take_done : (bytes : List ℕ) (status : ℕ) (before after : NodeValue) (fault : WireFault) → status ≡ wire_number fault → after ≡ before
     → (fault ≢ wire.Memory → IsNoDatagram bytes fault) → TakeDone bytes status before after
-take_done bytes status before after fault is same why = elim (eqb_tells (number_of fault) 10) [
+take_done bytes status before after fault is same why = elim (eqb_tells (wire_number fault) 10) [
   | inl memory ↦ TakeDone.memory (is ∙ memory.1) same
-  | inr other ↦ let no_memory : fault ≢ wire.Memory = λ e. other.1 (ap number_of e) in TakeDone.refused fault is no_memory (why no_memory) same
+  | inr other ↦ let no_memory : fault ≢ wire.Memory = λ e. other.1 (ap wire_number e) in TakeDone.refused fault is no_memory (why no_memory) same
 ]
 
 -- packets were refused, for want of memory or since they are none
-pub compound_refused : (bytes lens old new : List ℕ) (status len : ℕ) (fault : WireFault) → length lens ≤ 255 → status ≡ number_of fault → len ≡ 0 → new ≡ old
+pub compound_refused : (bytes lens old new : List ℕ) (status len : ℕ) (fault : WireFault) → length lens ≤ 255 → status ≡ wire_number fault → len ≡ 0 → new ≡ old
     → (fault ≢ wire.Memory → LacksPackets lens bytes fault) → CompoundDone bytes lens old new status len
-compound_refused bytes lens old new status len fault few is no_len same why = elim (eqb_tells (number_of fault) 10) [
+compound_refused bytes lens old new status len fault few is no_len same why = elim (eqb_tells (wire_number fault) 10) [
   | inl memory ↦ CompoundDone.memory few (is ∙ memory.1) no_len same
-  | inr other ↦ let no_memory : fault ≢ wire.Memory = λ e. other.1 (ap number_of e) in CompoundDone.refused few fault is no_memory (why no_memory) no_len same
+  | inr other ↦ let no_memory : fault ≢ wire.Memory = λ e. other.1 (ap wire_number e) in CompoundDone.refused few fault is no_memory (why no_memory) no_len same
 ]
 
 pub finish_refused : (bytes rest : List ℕ) (fault : SyncFault) → exchanging.IsFinishRefused (memory bytes) (memory rest) fault → IsFinishRefused bytes fault

@@ -18,7 +18,8 @@ offer_read : (bytes inlet rest : List ℕ) (offered : Entries) (join : Bool) (us
     → exchanging.ReadsOffer (memory inlet) (memory rest) offered join
     → (claims : List Claim) × TableOf offered claims × BeginsStream bytes claims join used
 offer_read bytes inlet rest offered join used is len read =
-    let whole : exchanging.ReadsOffer (memory bytes) (memory rest) offered join = subst (λ (b : List ℕ). exchanging.ReadsOffer (memory b) (memory rest) offered join) is read in
+    let whole : exchanging.ReadsOffer (memory bytes) (memory rest) offered join =
+    subst (λ (b : List ℕ). exchanging.ReadsOffer (memory b) (memory rest) offered join) is read in
     (whole.0, whole.1, subst (λ (u : ℕ). BeginsStream bytes whole.0 join u) (sym len) (begins bytes rest whole.0 join whole.2))
 
 -- an answer was given, and the stream joined in
@@ -48,10 +49,13 @@ unanswered bytes inlet rest old new dump offered join status used len before is 
     not_fit bytes dump old new join status used len before (offer.0, offer.2) other of copied
 
 -- a reply was taken in by the node's table
-pub finished : (bytes inlet rest : List ℕ) (join : Bool) (used : ℕ) (before : NodeValue) (table after : Entries) → inlet ≡ bytes → used ≡ length bytes - length rest
-    → table ≡ before.table → exchanging.TakesStream (memory inlet) (memory rest) table after join → FinishDone bytes 0 join used 0 before (with_table before after)
+pub finished : (bytes inlet rest : List ℕ) (join : Bool) (used : ℕ) (before : NodeValue) (table after : Entries)
+    → inlet ≡ bytes → used ≡ length bytes - length rest
+    → table ≡ before.table → exchanging.TakesStream (memory inlet) (memory rest) table after join
+    → FinishDone bytes 0 join used 0 before (with_table before after)
 finished bytes inlet rest join used before table after same gone is takes =
-    let taken : exchanging.TakesStream (memory bytes) (memory rest) before.table after join = subst (λ (b : List ℕ). exchanging.TakesStream (memory b) (memory rest) before.table after join) same
+    let taken : exchanging.TakesStream (memory bytes) (memory rest) before.table after join =
+    subst (λ (b : List ℕ). exchanging.TakesStream (memory b) (memory rest) before.table after join) same
     (subst (λ (t : Entries). exchanging.TakesStream (memory inlet) (memory rest) t after join) is takes) in
     FinishDone.finished refl refl (record {
       claims = taken.claims;
@@ -61,8 +65,11 @@ finished bytes inlet rest join used before table after same gone is takes =
     })
 
 -- a reply was refused, and the node's table is as it was
-pub unfinished : (bytes inlet rest : List ℕ) (before : NodeValue) (table after : Entries) (fault : SyncFault) → inlet ≡ bytes → table ≡ before.table → after ≡ table
+pub unfinished : (bytes inlet rest : List ℕ) (before : NodeValue) (table after : Entries) (fault : SyncFault) → inlet ≡ bytes
+    → table ≡ before.table → after ≡ table
     → exchanging.IsFinishRefused (memory inlet) (memory rest) fault → FinishDone bytes (sync_number fault) false 0 0 before (with_table before after)
 unfinished bytes inlet rest before table after fault whole is same why =
     subst (λ (t : Entries). FinishDone bytes (sync_number fault) false 0 0 before (with_table before t)) (sym (same ∙ is))
-    (FinishDone.refused fault (finish_refused bytes rest fault (subst (λ (b : List ℕ). exchanging.IsFinishRefused (memory b) (memory rest) fault) whole why)) refl (record { no_join = refl; no_used = refl; no_len = refl }) refl)
+    (FinishDone.refused fault
+    (finish_refused bytes rest fault (subst (λ (b : List ℕ). exchanging.IsFinishRefused (memory b) (memory rest) fault) whole why))
+    refl (record { no_join = refl; no_used = refl; no_len = refl }) refl)

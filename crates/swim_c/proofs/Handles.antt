@@ -54,7 +54,9 @@ pub pointer_good : (p : Ptr) → T (has_ty ty_ptr (ptr_val p)) × WT (ptr_val p)
 pointer_good (block_ptr b o) = (tt, tt)
 pointer_good null_ptr = (tt, record { fits = lit< tt })
 
-pub handle_good : (p : Ptr) (y : Bool) → T (has_ty (ty_struct (handle.the_type).name (tcons ty_ptr (tcons ty_bool tnil))) (both (ptr_val p) (vbool y))) × WT (both (ptr_val p) (vbool y))
+pub handle_good : (p : Ptr) (y : Bool) → T
+    (has_ty (ty_struct (handle.the_type).name (tcons ty_ptr (tcons ty_bool tnil))) (both (ptr_val p) (vbool y))) × WT
+    (both (ptr_val p) (vbool y))
 handle_good (block_ptr b o) y = (tt, (tt, (tt, tt)))
 handle_good null_ptr y = (tt, (record { fits = lit< tt }, (tt, tt)))
 

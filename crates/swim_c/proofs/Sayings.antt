@@ -11,4 +11,5 @@ by_cause p old new status len Was Is weaker (SaidOr.refused why no_len same) = S
 -- the same packet, where there are further causes of a refusal
 pub said : (p q : PacketValue) (old new : List ℕ) (status len : ℕ) (Was Is : ℕ → Type 0) → p ≡ q → (Was status → Is status) → SaidOr p old new status len Was
     → SaidOr q old new status len Is
-said p q old new status len Was Is same weaker done = subst (λ (r : PacketValue). SaidOr r old new status len Is) same (by_cause p old new status len Was Is weaker done)
+said p q old new status len Was Is same weaker done =
+    subst (λ (r : PacketValue). SaidOr r old new status len Is) same (by_cause p old new status len Was Is weaker done)

@@ -30,6 +30,7 @@ pub record IsNoHome (m : Member) : Type 0 where
   pub meta_len : m.meta_len ≡ 0
   pub vsn_len : m.vsn_len ≡ 0
 
+-- what is copied of the newest Alive: its incarnation and its details, or that there is none
 abbrev pub IsHome : Option ℕ → Option DetailsValue → Member → Type 0
 IsHome (Some inc) (Some details) m = (m.has_home ≡ true) × (m.home_inc ≡ inc) × IsDetails details m
 IsHome (Some inc) None m = IsNoHome m

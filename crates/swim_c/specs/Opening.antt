@@ -3,7 +3,8 @@ use Rattle.std.specs.Prelude.{◌≡◌, ℕ, ◌<◌, ◌≤◌, List, [], ◌�
 use Rattle.swim_claim.specs.declared.claim.Claim.TheVariants.{Alive}
 use Rattle.swim_claim.specs.declared.fault.ClaimFault.TheVariants.{NameEmpty, NameTooLong, BadAddress, MetaTooLong, BadVersions}
 use Rattle.swim_claim.specs.Details.{DetailsValue, IsAddress, IsVersions}
-use Rattle.swim_claim.specs.Fault.{number_of}
+use Rattle.swim_claim.specs.Fault.{claim_number}
+use Rattle.swim_claim.specs.Limits.{longest_meta, longest_name}
 use Rattle.swim_claim.specs.Name.{IsLegalName}
 use Rattle.swim_table.specs.Node.{NodeValue}
 use Rattle.swim_table.specs.Table.{TableOf}
@@ -12,7 +13,7 @@ use Rattle.swim_c.specs.declared.opening.OpenFault.TheVariants.{Claim, Memory}
 
 -- the number by which a status names why there is no node
 abbrev pub open_number : OpenFault → ℕ
-open_number (Claim fault) = number_of fault
+open_number (Claim fault) = claim_number fault
 open_number Memory = 10
 
 -- the node of a member of this name and these details, of which nothing is known but its Alive at
@@ -27,12 +28,12 @@ pub record IsOpened (name : List ℕ) (details : DetailsValue) (inc : ℕ)
 -- refused at any time.
 abbrev pub IsUnopened : List ℕ → DetailsValue → OpenFault → Type 0
 IsUnopened name details (Claim NameEmpty) = name ≡ []
-IsUnopened name details (Claim NameTooLong) = 1024 < length name
+IsUnopened name details (Claim NameTooLong) = longest_name < length name
 IsUnopened name details (Claim BadAddress) = IsLegalName name × (¬ IsAddress details.addr)
 IsUnopened name details (Claim MetaTooLong) = IsLegalName name × IsAddress details.addr
-    × (512 < length details.meta)
+    × (longest_meta < length details.meta)
 IsUnopened name details (Claim BadVersions) =
-    IsLegalName name × IsAddress details.addr × (length details.meta ≤ 512)
+    IsLegalName name × IsAddress details.addr × (length details.meta ≤ longest_meta)
     × (¬ IsVersions details.vsn)
 IsUnopened name details Memory = ⊤
 

@@ -4,7 +4,7 @@ use Rattle.swim_wire.specs.declared.fault.WireFault.{WireFault}
 use Rattle.swim_wire.specs.declared.fault.WireFault.TheVariants.{Ended, Fault, Memory, Trailing}
 use Rattle.swim_wire.specs.Canonical.{packets_bytes}
 use Rattle.swim_wire.specs.Checks.{ExplainsWhole}
-use Rattle.swim_wire.specs.Fault.{number_of}
+use Rattle.swim_wire.specs.Fault.{wire_number}
 use Rattle.swim_wire.specs.Packet.{PacketValue}
 use Rattle.swim_wire.specs.Reading.{whole_packet}
 use Rattle.swim_wire.specs.Texts.{PacketText, DatagramText}
@@ -46,7 +46,7 @@ pub data CompoundDone (bytes lens old new : List ℕ) (status len : ℕ) : Type 
       → CompoundDone bytes lens old new status len
   too_many : 255 < length lens → status ≡ 69 → len ≡ 0 → new ≡ old
       → CompoundDone bytes lens old new status len
-  refused : length lens ≤ 255 → (fault : WireFault) → status ≡ number_of fault → fault ≢ Memory
+  refused : length lens ≤ 255 → (fault : WireFault) → status ≡ wire_number fault → fault ≢ Memory
       → LacksPackets lens bytes fault
       → len ≡ 0 → new ≡ old → CompoundDone bytes lens old new status len
   memory : length lens ≤ 255 → status ≡ 10 → len ≡ 0 → new ≡ old

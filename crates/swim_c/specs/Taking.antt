@@ -4,7 +4,7 @@ use Rattle.swim_claim.specs.declared.claim.Claim.{Claim}
 use Rattle.swim_wire.specs.declared.fault.WireFault.{WireFault}
 use Rattle.swim_wire.specs.declared.fault.WireFault.TheVariants.{Memory, Fault}
 use Rattle.swim_wire.specs.Datagrams.{whole_datagram, ExplainsDatagram}
-use Rattle.swim_wire.specs.Fault.{number_of}
+use Rattle.swim_wire.specs.Fault.{wire_number}
 use Rattle.swim_wire.specs.Packet.{PacketValue}
 use Rattle.swim_wire.specs.Texts.{DatagramText}
 use Rattle.swim_table.specs.Node.{NodeValue, SameMember}
@@ -34,7 +34,7 @@ pub record IsNoDatagram (bytes : List ℕ) (fault : WireFault) : Type 0 where
 -- the bytes' fault, or 10.
 pub data TakeDone (bytes : List ℕ) (status : ℕ) (before after : NodeValue) : Type 0 where
   taken : status ≡ 0 → TakesDatagram bytes before after → TakeDone bytes status before after
-  refused : (fault : WireFault) → status ≡ number_of fault → fault ≢ Memory
+  refused : (fault : WireFault) → status ≡ wire_number fault → fault ≢ Memory
       → IsNoDatagram bytes fault → after ≡ before
       → TakeDone bytes status before after
   memory : status ≡ 10 → after ≡ before → TakeDone bytes status before after

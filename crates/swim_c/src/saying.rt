@@ -4,6 +4,7 @@ ghost use Rattle.std.specs.Prelude.{◌≡◌, ◌≤◌, [], length, IfOk, IfEr
 ghost use Rattle.swim_claim.specs.declared.claim.Claim.TheVariants.{Alive, Suspect, Confirm, Leave};
 ghost use Rattle.swim_c.specs.Buffers.{IsNoMemory};
 ghost use Rattle.swim_c.specs.Saying.{SaidOr, IsNoName, IsUnsaid};
+ghost use Rattle.swim_claim.specs.Limits.{longest_name};
 
 use crate::copy::{Written, copy_out};
 use crate::status::{MEMORY, OWN_NAME};
@@ -89,7 +90,7 @@ pub fn say_confirm(alloc: Global, node: &Node, name: &[u8], inc: u32, out: &mut 
 fn accusation(alloc: Global, node: &Node, name: &[u8]) -> Result<(Name, Vec<u8>), u32>
     ensures names { IfOk result (λ names.
         (names.0 ≡ name.now) × (names.1.items ≡ node.now.name)) }
-    ensures short { IfOk result (λ names. length names.1.items ≤ 1024) }
+    ensures short { IfOk result (λ names. length names.1.items ≤ longest_name) }
     ensures refused { IfErr result (IsNoName name.now) }
 {
     let Ok(copied) = Name::copied(alloc, name) else {

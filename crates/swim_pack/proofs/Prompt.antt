@@ -7,12 +7,13 @@ use Rattle.swim_pack.specs.declared.fault.PackFault.TheVariants.{Ended}
 use Rattle.swim_pack.specs.declared.form.Form.{Form}
 use Rattle.swim_pack.specs.declared.form.Form.TheVariants.{Fixed, Unsigned, Signed}
 use Rattle.swim_pack.specs.Composing.{Reading, then_read, ◌>>=◌, gives, refuses, some_or, within, lift, lift_error, Cause, TakesNoMore, same}
-use Rattle.swim_pack.specs.Reading.{cause_of, next_bytes, next_byte, big_at, positive_at, after_form, head_at, number_form, raw_form, count_form, uint_at, count_at, raw_len_at, raw_at, flag_of, flag_at}
+use Rattle.swim_pack.specs.Reading.{cause_of, next_bytes, next_byte, big_at, positive_at, after_form, head_at, number_form, raw_form, count_form, uint_at, count_at, raw_len_at, raw_at, flag_of_byte, flag_at}
 use Rattle.swim_pack.proofs.Composing.{TakesText, TakesNoMore-then, TakesNoMore-lift, none_shorter}
 
 -- where the reading gives a value, what it took settles that, and no shorter front does
 pub record IsPrompt {E V : Type 0} (cause : E → Cause) (reading : Reading E V) : Type 0 where
-  pub by : (bytes : List ℕ) (value : V) (rest : List ℕ) → reading bytes ≡ Ok (value, rest) → TakesText (TakesNoMore {X = V} cause same reading (Ok value)) bytes rest
+  pub by : (bytes : List ℕ) (value : V) (rest : List ℕ) → reading bytes ≡ Ok (value, rest) → TakesText
+      (TakesNoMore {X = V} cause same reading (Ok value)) bytes rest
 
 abbrev pair_of : {A : Type 0} → A → List ℕ → A × List ℕ
 pair_of x r = (x, r)
@@ -28,7 +29,8 @@ same_rest {E} {A} x y r s e = let pairs : pair_of x r ≡ pair_of y s = cc in ap
 
 -- ---- one after the other
 
-pub prompt-then : {E V W : Type 0} {cause : E → Cause} {first : Reading E V} {next : V → Reading E W} → IsPrompt cause first → ((value : V) → IsPrompt cause (next value)) → IsPrompt cause (first >>= next)
+pub prompt-then : {E V W : Type 0} {cause : E → Cause} {first : Reading E V} {next : V → Reading E W} → IsPrompt cause first →
+    ((value : V) → IsPrompt cause (next value)) → IsPrompt cause (first >>= next)
 prompt-then {E} {V} {W} {cause} {first} {next} p q = record { by = λ bytes value rest e. by_first bytes value rest (first bytes) refl e }
   where
     by_first : (bytes : List ℕ) (value : W) (rest : List ℕ) (r : Result (V × List ℕ) E) → first bytes ≡ r → then_read next r ≡ Ok (value, rest)
@@ -62,11 +64,13 @@ pub prompt-some_or : {E V : Type 0} {cause : E → Cause} (error : E) (o : Optio
 prompt-some_or error None = prompt-refuses error
 prompt-some_or error (Some value) = prompt-gives value
 
-pub prompt-if : {E V : Type 0} {cause : E → Cause} (b : Bool) {yes no : Reading E V} → IsPrompt cause yes → IsPrompt cause no → IsPrompt cause (if b then yes else no)
+pub prompt-if : {E V : Type 0} {cause : E → Cause} (b : Bool) {yes no : Reading E V} → IsPrompt cause yes → IsPrompt cause no
+    → IsPrompt cause (if b then yes else no)
 prompt-if true p q = p
 prompt-if false p q = q
 
-pub prompt-lift : {E F V : Type 0} {cause : E → Cause} {above : F → Cause} {reading : Reading E V} (f : E → F) → ((error : E) → above (f error) ≡ cause error) → IsPrompt cause reading → IsPrompt above (lift f reading)
+pub prompt-lift : {E F V : Type 0} {cause : E → Cause} {above : F → Cause} {reading : Reading E V} (f : E → F) →
+    ((error : E) → above (f error) ≡ cause error) → IsPrompt cause reading → IsPrompt above (lift f reading)
 prompt-lift {E} {F} {V} {cause} {above} {reading} f same_cause p = record { by = λ bytes value rest e. by_read bytes value rest (reading bytes) refl e }
   where
     by_read : (bytes : List ℕ) (value : V) (rest : List ℕ) (r : Result (V × List ℕ) E) → reading bytes ≡ r → lift_error f r ≡ Ok (value, rest)
@@ -85,7 +89,8 @@ prompt-next_byte = record { by = taken }
     waiting first [] more parts some = refl
     waiting first (x ∷ front) more parts some = absurd (omega (arith, ap length parts ∙ length-append (x ∷ front) more, some))
 
-    taken : (bytes : List ℕ) (value : ℕ) (rest : List ℕ) → next_byte bytes ≡ Ok (value, rest) → TakesText (TakesNoMore {X = ℕ} cause_of same next_byte (Ok value)) bytes rest
+    taken : (bytes : List ℕ) (value : ℕ) (rest : List ℕ) → next_byte bytes ≡ Ok (value, rest) → TakesText
+        (TakesNoMore {X = ℕ} cause_of same next_byte (Ok value)) bytes rest
     taken [] value rest e = absurd cc
     taken (first ∷ bytes) value rest e = record {
       text = first ∷ [];
@@ -107,7 +112,8 @@ prompt-next_bytes n = record { by = λ bytes value rest e. by_length bytes value
     short : (front : List ℕ) → length front < n → next_bytes n front ≡ Err Ended
     short front below = let cut : ltb (length front) n ≡ true = lt-ltb _ _ below in rw cut refl
 
-    by_length : (bytes value rest : List ℕ) (b : Bool) → ltb (length bytes) n ≡ b → (if b then Err Ended else read {E = PackFault} (take n bytes) (drop n bytes)) ≡ Ok (value, rest)
+    by_length : (bytes value rest : List ℕ) (b : Bool) → ltb (length bytes) n ≡ b →
+        (if b then Err Ended else read {E = PackFault} (take n bytes) (drop n bytes)) ≡ Ok (value, rest)
         → TakesText (TakesNoMore {X = List ℕ} cause_of same (next_bytes n) (Ok value)) bytes rest
     by_length bytes value rest true is e = absurd cc
     by_length bytes value rest false is e =
@@ -115,10 +121,12 @@ prompt-next_bytes n = record { by = λ bytes value rest e. by_length bytes value
         record {
           text = take n bytes;
           is = record {
-            settles = λ more. exact (take n bytes) more long ∙ ap (λ (v : List ℕ). read v more) (same_value {E = PackFault} (take n bytes) value (drop n bytes) rest e);
+            settles =
+                λ more. exact (take n bytes) more long ∙ ap (λ (v : List ℕ). read v more) (same_value {E = PackFault} (take n bytes) value (drop n bytes) rest e);
             waits = λ free front more parts some. rw (short front (omega (arith, long, ap length parts ∙ length-append front more, some))) refl;
           };
-          parts = sym (take-append-drop n bytes) ∙ ap (λ (r : List ℕ). take n bytes ++ r) (same_rest {E = PackFault} (take n bytes) value (drop n bytes) rest e);
+          parts =
+              sym (take-append-drop n bytes) ∙ ap (λ (r : List ℕ). take n bytes ++ r) (same_rest {E = PackFault} (take n bytes) value (drop n bytes) rest e);
         }
 
 pub prompt-within : {E : Type 0} {cause : E → Cause} (error : E) (max v : ℕ) → IsPrompt cause (within error max v)
@@ -155,7 +163,7 @@ prompt-raw limit = prompt-then (prompt-then (prompt-head _ raw_form) (λ n. prom
 
 pub prompt-flag : IsPrompt cause_of flag_at
 unfolding flag_at
-prompt-flag = prompt-then prompt-next_byte (λ first. prompt-some_or _ (flag_of first))
+prompt-flag = prompt-then prompt-next_byte (λ first. prompt-some_or _ (flag_of_byte first))
 
 pub prompt-first : IsPrompt cause_of next_byte
 prompt-first = prompt-next_byte

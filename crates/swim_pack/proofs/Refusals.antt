@@ -17,7 +17,8 @@ short_where_refused (Ok x) error wanted left enough e = absurd cc
 short_where_refused (Err other) error wanted left enough e = let refused = enough.1 in grind arith
 
 -- a pull with an empty buffer is refused by nothing
-pub ok_where_empty : {A : Type 0} (r : Result A PullFault) (wanted left calls : ℕ) → (r ≡ Err Fault ↔ (0 < wanted) × (calls ≤ 1)) → (r ≡ Err Ended → left < wanted) → wanted ≡ 0 → IsOk r
+pub ok_where_empty : {A : Type 0} (r : Result A PullFault) (wanted left calls : ℕ) →
+    (r ≡ Err Fault ↔ (0 < wanted) × (calls ≤ 1)) → (r ≡ Err Ended → left < wanted) → wanted ≡ 0 → IsOk r
 ok_where_empty (Ok x) wanted left calls stops ended none = refl
 ok_where_empty (Err Ended) wanted left calls stops ended none = let short = ended refl in absurd (omega arith)
 ok_where_empty (Err Fault) wanted left calls stops ended none = let room = (stops.0 refl).0 in absurd (omega arith)

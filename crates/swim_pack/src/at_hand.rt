@@ -32,8 +32,8 @@ fn number_behind_form(bytes: &[u8], form: Form) -> Option<(u64, &[u8])>
     }
 }
 
-/// The number of at most `max` at the front of the bytes, and the bytes behind it. There may be none
-/// where `read_uint` reads one.
+/// The number of at most `max` at the front of the bytes, and the bytes behind it. There may be
+/// none where `read_uint` reads one.
 #[tactic(auto, unfolding(crate::specs::Reading::uint_at))]
 pub fn uint_at_hand(bytes: &[u8], max: u64) -> Option<(u64, &[u8])>
     ensures reads { IfSome result (λ found. uint_at max bytes.now ≡ Ok (found.0, found.1.now)) }
@@ -49,7 +49,8 @@ pub fn uint_at_hand(bytes: &[u8], max: u64) -> Option<(u64, &[u8])>
 
 #[tactic(auto, unfolding(crate::specs::Reading::raw_len_at))]
 fn len_at_hand(bytes: &[u8], limit: usize) -> Option<(usize, &[u8])>
-    ensures reads { IfSome result (λ found. raw_len_at limit bytes.now ≡ Ok (found.0, found.1.now)) }
+    ensures reads { IfSome result (λ found.
+        raw_len_at limit bytes.now ≡ Ok (found.0, found.1.now)) }
     ensures within { IfSome result (λ found. found.0 ≤ limit) }
 {
     let (first, rest) = bytes.split_first()?;
@@ -60,19 +61,20 @@ fn len_at_hand(bytes: &[u8], limit: usize) -> Option<(usize, &[u8])>
     Some((len as usize, rest))
 }
 
-/// The bytes or text of at most `limit` bytes at the front of the bytes, and the bytes behind them. There
-/// are some just where `read_raw` reads them of bytes in memory.
+/// The bytes or text of at most `limit` bytes at the front of the bytes, and the bytes behind them.
+/// There are some just where `read_raw` reads them of bytes in memory.
 #[tactic(auto, unfolding(crate::specs::Reading::raw_at))]
 pub fn raw_at_hand(bytes: &[u8], limit: usize) -> Option<(&[u8], &[u8])>
-    ensures reads { IfSome result (λ found. raw_at limit bytes.now ≡ Ok (found.0.now, found.1.now)) }
+    ensures reads { IfSome result (λ found.
+        raw_at limit bytes.now ≡ Ok (found.0.now, found.1.now)) }
     ensures within { IfSome result (λ found. length found.0.now ≤ limit) }
 {
     let (len, rest) = len_at_hand(bytes, limit)?;
     rest.split_at_checked(len)
 }
 
-/// The truth value at the front of the bytes, and the bytes behind it. There is one just where `read_bool`
-/// reads it of bytes in memory.
+/// The truth value at the front of the bytes, and the bytes behind it. There is one just where
+/// `read_bool` reads it of bytes in memory.
 #[tactic(auto, unfolding(crate::specs::Reading::flag_at))]
 pub fn bool_at_hand(bytes: &[u8]) -> Option<(bool, &[u8])>
     ensures { IfSome result (λ found. flag_at bytes.now ≡ Ok (found.0, found.1.now)) }

@@ -45,7 +45,8 @@ found_in test name n (x ∷ xs) e = by_test (found_in test name n xs) (test x) r
     by_test later true is = let same : Some (name x) ≡ Some n = rw is at e in inl cc
     by_test later false is = let rest : option_map name (find test xs) ≡ Some n = rw is at e in inr (later rest)
 
-pub names_agree : {Z : Type 0} (o : Option (Box SubCommand Z)) → option_map (λ p. p.0) (subcommand_rows o) ≡ option_map (λ b. (out-SubCommand (box_value b)).name.now) o
+pub names_agree : {Z : Type 0} (o : Option (Box SubCommand Z)) → option_map (λ p. p.0) (subcommand_rows o) ≡ option_map
+    (λ b. (out-SubCommand (box_value b)).name.now) o
 names_agree None = refl
 names_agree (Some b) = refl
 
@@ -54,7 +55,8 @@ name_kept None words = refl
 name_kept (Some s) words = refl
 
 -- it is one of the commands
-pub is_command : (a : App) (n : Text) (stop : Option (Text × List Text)) → option_map (λ p. p.0) (entered a stop) ≡ Some n → IsIn (map (λ (s : Shape). s.name) a.subs) n
+pub is_command : (a : App) (n : Text) (stop : Option (Text × List Text)) → option_map (λ p. p.0) (entered a stop) ≡ Some n
+    → IsIn (map (λ (s : Shape). s.name) a.subs) n
 is_command a n None e = absurd cc
 is_command a n (Some p) e =
     found_in (λ s. answers_to p.0 (label_of s)) (λ (s : Shape). s.name) n a.subs (sym (name_kept (find (λ s. answers_to p.0 (label_of s)) a.subs) p.1) ∙ e)

@@ -6,12 +6,15 @@ use Rattle.std.specs.Iterator.{Yields}
 use Rattle.std.specs.List.{enumerate_from}
 
 -- what is known of an item that is yielded, and of those before it
-pub yielded_at : {S A B : Type 0} {steps : S → Option A → S → Type 0} {v : A → B} {s : S} {all : List B} (e : YieldsList steps v s all) (xs : List A) (t : S) (y : Yields steps s xs t)
-    → (r : Option A) (u : S) (x : A) → r ≡ Some x → steps t r u → (length xs < length all) × (v x ≡ get_or all (length xs) (v x)) × (map v xs ≡ take (length xs) all)
+pub yielded_at : {S A B : Type 0} {steps : S → Option A → S → Type 0} {v : A → B} {s : S} {all : List B}
+    (e : YieldsList steps v s all) (xs : List A) (t : S) (y : Yields steps s xs t)
+    → (r : Option A) (u : S) (x : A) → r ≡ Some x → steps t r u → (length xs < length all) × (v x ≡ get_or all (length xs) (v x))
+    × (map v xs ≡ take (length xs) all)
 yielded_at e xs t y r u x is p = let here = YieldsList-turn e xs t y r u x is p in (here.0, here.1, YieldsList-so_far e xs t y)
 
 -- the lines of the first items of a count
-pub first_counted : (xs : List (ℕ × Bor (List ℕ))) (k n : ℕ) (lines : List (List ℕ)) → map (λ p. (p.0, p.1.now)) xs ≡ take n (enumerate_from k lines) → map (λ p. p.1.now) xs ≡ take n lines
+pub first_counted : (xs : List (ℕ × Bor (List ℕ))) (k n : ℕ) (lines : List (List ℕ)) → map (λ p. (p.0, p.1.now)) xs ≡ take n
+    (enumerate_from k lines) → map (λ p. p.1.now) xs ≡ take n lines
 first_counted [] k zero lines e = refl
 first_counted [] k (suc n) [] e = refl
 first_counted [] k (suc n) (line ∷ lines) e = absurd (omega (arith, ap length e))
@@ -23,7 +26,8 @@ first_counted (x ∷ xs) k (suc n) (line ∷ lines) e =
     ap₂ (λ a b. a ∷ b) (ap (λ p. p.1) here) rest
 
 -- the lines that a count goes with
-pub counted_lines : (xs : List (ℕ × Bor (List ℕ))) (n : ℕ) (lines : List (List ℕ)) → map (λ p. (p.0, p.1.now)) xs ≡ enumerate_from n lines → map (λ p. p.1.now) xs ≡ lines
+pub counted_lines : (xs : List (ℕ × Bor (List ℕ))) (n : ℕ) (lines : List (List ℕ)) → map
+    (λ p. (p.0, p.1.now)) xs ≡ enumerate_from n lines → map (λ p. p.1.now) xs ≡ lines
 counted_lines [] n [] e = refl
 counted_lines [] n (line ∷ lines) e = absurd (omega (arith, ap length e))
 counted_lines (x ∷ xs) n [] e = absurd (omega (arith, ap length e))

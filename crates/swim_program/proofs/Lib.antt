@@ -1,2 +1,3 @@
 pub mod CountedLines
 pub mod Commands
+pub mod Copies

@@ -4,7 +4,7 @@ use Rattle.hex.specs.declared.error.FromHexError.{FromHexError}
 use Rattle.hex.specs.declared.error.FromHexError.TheVariants.{OutOfMemory}
 use Rattle.swim_wire.specs.declared.fault.WireFault.{WireFault}
 use Rattle.swim_wire.specs.declared.fault.WireFault.TheVariants as wire
-use Rattle.swim_wire.specs.Fault.{number_of}
+use Rattle.swim_wire.specs.Fault.{wire_number}
 use Rattle.swim_sync.specs.declared.fault.SyncFault.{SyncFault}
 use Rattle.swim_sync.specs.declared.fault.SyncFault.TheVariants as sync
 use Rattle.swim_sync.specs.declared.stop.Why.{Why}
@@ -49,7 +49,7 @@ what_of wire.Memory = Memory
 what_of wire.Fault = Device
 what_of (wire.WrongType found) = Refused 16 (Some found)
 what_of (wire.BadState found) = Refused 19 (Some found)
-what_of fault = Refused (number_of fault) None
+what_of fault = Refused (wire_number fault) None
 
 -- what is said of an exchange that is refused: an outlet that failed is a device
 abbrev pub what_of_sync : SyncFault → What

@@ -1,13 +1,15 @@
 //! Standard input to its bound, and standard output.
 
-ghost use Rattle.std.specs.Prelude.{◌≤◌, length, IfOk, IsOkUnless, OnOk, OnErr};
+ghost use Rattle.std.specs.Prelude.{◌≤◌, length, IfOk, IfErr, IsOkUnless, OnOk, OnErr};
 ghost use Rattle.std.specs.Io.KnownBytes.{Appends, Consumes, IsAtEnd};
 ghost use Rattle.swim_pack.specs.Ends.{AppendsFront};
+ghost use Rattle.swim_program.specs.Limits.{most_bytes};
+ghost use Rattle.swim_program.specs.Report.{IsAmong};
 
-use crate::report::What;
+use crate::report::{Place, Report, What};
 use std::alloc::Global;
 use std::fs::File;
-use std::io::{ErrorKind, Read, Write};
+use std::io::{ErrorKind, IsTerminal, Read, Write};
 use swim_pack::write_whole;
 
 /// The most bytes of an input. Every canonical dump has fewer.
@@ -22,9 +24,12 @@ const PIECE: usize = 65536;
 /// Reads to the end, and at most one byte past the bound, so that the length tells a longer input.
 /// An error, and the 1,001st interruption, is a device fault.
 pub fn read_to_bound<R: Read>(alloc: Global, reader: &mut R) -> Result<Vec<u8>, What>
-    // Of a reader that tells its bytes these are the next ones, and all that there are within the bound.
-    ensures reads { IfOk result (λ bytes. Consumes (R.remaining reader.old) (R.remaining reader.new) bytes.items) }
-    ensures whole { IfOk result (λ bytes. length bytes.items ≤ 268435456 → IsAtEnd (R.remaining reader.new)) }
+    // Of a reader that tells its bytes these are the next ones, and all that there are within the
+    // bound.
+    ensures reads { IfOk result (λ bytes.
+        Consumes (R.remaining reader.old) (R.remaining reader.new) bytes.items) }
+    ensures whole { IfOk result (λ bytes. length bytes.items ≤ most_bytes
+        → IsAtEnd (R.remaining reader.new)) }
     ensures within { IfOk result (λ bytes. length bytes.items ≤ 268435457) }
 {
     let mut bytes = Vec::new(alloc);
@@ -46,6 +51,21 @@ pub fn read_to_bound<R: Read>(alloc: Global, reader: &mut R) -> Result<Vec<u8>, 
     Ok(bytes)
 }
 
+/// Reads standard input as [`read_to_bound`] does. Where it is a terminal, this is said first, with
+/// what is awaited there: `swimtab: reading a script from the terminal, up to Ctrl-D`.
+pub fn read_input(rt: &HostRuntime, program: &str, awaited: &str) -> Result<Vec<u8>, Report>
+    ensures { IfErr result (λ report. IsAmong report.place 0) }
+{
+    let mut input = rt.stdin();
+    if input.is_terminal() {
+        let _ = eprintln!(rt; "{program}: reading {awaited} from the terminal, up to Ctrl-D");
+    }
+    match read_to_bound(rt.alloc(), &mut input) {
+        Ok(bytes) => Ok(bytes),
+        Err(what) => Err(what.at(Place::Input)),
+    }
+}
+
 /// Reads a file as [`read_to_bound`] does. One that cannot be opened is a device fault.
 pub fn read_file(rt: &HostRuntime, path: &str) -> Result<Vec<u8>, What> {
     match File::open(rt, path) {
@@ -54,11 +74,14 @@ pub fn read_file(rt: &HostRuntime, path: &str) -> Result<Vec<u8>, What> {
     }
 }
 
-/// Writes the bytes at once. An error, an answer of 0 and the 1,001st interruption is a device fault.
+/// Writes the bytes at once. An error, an answer of 0 and the 1,001st interruption is a device
+/// fault.
 pub fn write_out<W: Write>(writer: &mut W, bytes: &[u8]) -> Result<(), What>
     // A writer that tells its bytes took exactly these, or where it is refused a front of them.
-    ensures wrote { OnOk result (Appends (W.contents writer.old) (W.contents writer.new) bytes.now) }
-    ensures front { OnErr result (AppendsFront (W.contents writer.old) (W.contents writer.new) bytes.now) }
+    ensures wrote { OnOk result
+        (Appends (W.contents writer.old) (W.contents writer.new) bytes.now) }
+    ensures front { OnErr result
+        (AppendsFront (W.contents writer.old) (W.contents writer.new) bytes.now) }
 
     ensures device { IsOkUnless result What.Device }
 {

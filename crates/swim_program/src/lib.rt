@@ -1,4 +1,14 @@
-//! What programs over membership tables share: words, input to its bound, output, lines, and reports.
+//! What programs over membership tables share: words, input to its bound, output, lines, and
+//! reports.
+//!
+//! | module | subject |
+//! |---|---|
+//! | `words` | the words after a program's name |
+//! | `device` | input and files to their bound, and output |
+//! | `lines` | lines of input |
+//! | `claims` | the claims of packets |
+//! | `report` | what is said of a run that was refused, and its exit status |
+//! | `failure` | how a program ends where it has nothing to print |
 #![tactic(auto)]
 
 mod claims;
@@ -11,8 +21,8 @@ mod tests;
 mod words;
 
 pub use claims::into_claims;
-pub use device::{BOUND, read_file, read_to_bound, write_out};
+pub use device::{BOUND, read_file, read_input, read_to_bound, write_out};
 pub use failure::Failure;
 pub use lines::without_return;
 pub use report::{Place, Report, What, report_text, status};
-pub use words::{WordFault, words_of};
+pub use words::{WordFault, texts_of, words_of};

@@ -1,7 +1,7 @@
 //! What is said of a run that was refused, and its exit status.
 
 ghost use Rattle.std.specs.Prelude.{◌≡◌, None, length};
-ghost use Rattle.swim_claim.specs.Fault.{number_of};
+ghost use Rattle.swim_claim.specs.Fault.{claim_number};
 ghost use Rattle.swim_program.specs.declared.report.What.TheVariants.{Refused, Memory};
 ghost use Rattle.swim_program.specs.Report.{IsAmong, status_of, what_of, what_of_hex, what_of_sync, what_of_why};
 
@@ -30,7 +30,8 @@ pub enum Place {
 /// Why a run was refused.
 #[derive(Clone, Copy, Debug, PartialEq, Eq)]
 pub enum What {
-    /// The input is wrong: the number of the fault, and the value that was found where the fault has one.
+    /// The input is wrong: the number of the fault, and the value that was found where the fault
+    /// has one.
     Refused { number: u32, found: Option<u64> },
     /// A file, a socket or a standard stream failed.
     Device,
@@ -119,7 +120,7 @@ impl From<FromHexError> for What {
 }
 
 impl From<ClaimFault> for What {
-    ghost from_gives = { λ fault what. what ≡ Refused (number_of fault) None };
+    ghost from_gives = { λ fault what. what ≡ Refused (claim_number fault) None };
 
     fn from(fault: ClaimFault) -> What {
         What::refused(fault.number())
@@ -172,8 +173,8 @@ impl From<SyncFault> for What {
     }
 }
 
-/// The line for standard error that this program says, without its line feed. A file is named by its
-/// word among `files`. It is refused only where there is no memory for the text.
+/// The line for standard error that this program says, without its line feed. A file is named by
+/// its word among `files`. It is refused only where there is no memory for the text.
 pub fn report_text(
     alloc: Global,
     program: &str,
@@ -222,7 +223,8 @@ pub fn status(report: &Report) -> u8
     }
 }
 
-/// The name of a fault by its number.
+/// The name of a fault by its number, as docs/PROTOCOL.md lists them; also of those that no report of a
+/// program has, so that the list stands here whole.
 fn fault_name(number: u32) -> &'static str {
     match number {
         1 => "Ended",
@@ -267,6 +269,15 @@ fn fault_name(number: u32) -> &'static str {
         47 => "TooLarge",
         48 => "TooDeep",
         49 => "Memory",
+        50 => "BadKey",
+        51 => "TooLong",
+        52 => "TooShort",
+        53 => "WrongVersion",
+        54 => "WrongTag",
+        55 => "BadPadding",
+        56 => "NotEncrypted",
+        57 => "Trailing",
+        58 => "Memory",
         _ => "Unknown",
     }
 }

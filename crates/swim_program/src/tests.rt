@@ -1,3 +1,5 @@
+//! Claims of packets and ends of lines.
+
 mod reports;
 mod streams;
 

@@ -1,11 +1,14 @@
 //! The words after a program's name, and why they are refused.
 
-ghost use Rattle.std.specs.Prelude.{◌≡◌};
+ghost use Rattle.std.specs.Prelude.{◌≡◌, [], map, string_bytes, unwrap_or, IfOk};
+ghost use Rattle.clap.specs.Words.{found_of, rows_of};
+ghost use Rattle.clap.specs.Walk.{all_of};
 ghost use Rattle.swim_program.specs.declared.words.WordFault.TheVariants as words;
 ghost use Rattle.swim_program.specs.Words.{IsFaultOf};
 
+use clap::ArgMatches;
 use clap::error::ErrorKind;
-use std::alloc::AllocError;
+use std::alloc::{AllocError, Global};
 use std::{env, io};
 
 /// Why words were refused.
@@ -39,4 +42,26 @@ impl From<AllocError> for WordFault {
 /// The words after the program's name.
 pub fn words_of(rt: &HostRuntime) -> io::Result<Vec<String>> {
     Ok(env::args(rt)?.skip(1).collect(rt.alloc())?)
+}
+
+/// The words that an argument was given, in their order.
+pub fn texts_of(alloc: Global, found: &ArgMatches, id: &str) -> Result<Vec<String>, AllocError>
+    ensures { IfOk result (λ texts. map string_bytes texts.items
+        ≡ unwrap_or (all_of id.now (rows_of (found_of found.now))) []) }
+{
+    match found.get_strs(id) {
+        Some(words) => copies_of(alloc, words),
+        None => Ok(Vec::new(alloc)),
+    }
+}
+
+fn copies_of(alloc: Global, words: &[&str]) -> Result<Vec<String>, AllocError>
+    ensures { IfOk result (λ copies. map string_bytes copies.items
+        ≡ map (λ word. word.now) words.now) }
+{
+    let mut copies = Vec::new(alloc);
+    for word in words {
+        copies.push(String::from_str(alloc, word)?)?;
+    }
+    Ok(copies)
 }

@@ -1,11 +1,14 @@
 -- The words of one line of a script, and what they say.
-use Rattle.std.proofs.Common.{None, ◌≡◌, ◌≢◌, ℕ, ◌+◌, ◌*◌, ◌<◌, ◌≤◌, ◌⊎◌, inl, inr, Bool, true, List, [], ◌∷◌, Ok, length, map, drop, get_or, codes, Bor, refl, sym, ap, subst, ◌∙◌, arith}
+use Rattle.std.proofs.Common.{None, ◌≡◌, ◌≢◌, ℕ, ◌<◌, ◌≤◌, ◌⊎◌, inl, inr, Bool, true, false, List, [], ◌∷◌, Ok, length, map, drop, get_or, codes, Bor, refl, sym, ap, subst, ◌∙◌, arith}
+use Rattle.std.proofs.lemmas.Bool.{false≢true}
+use Rattle.std.proofs.lemmas.Slice.Eq.{bytes_eq-Decides}
+use Rattle.std.specs.Str.{bytes_eq}
 use Rattle.hex.specs.Hex.{decode_of}
 use Rattle.hex.specs.declared.error.FromHexError.{FromHexError}
 use Rattle.hex.specs.declared.error.FromHexError.TheVariants as hex
 use Rattle.swim_claim.specs.declared.fault.ClaimFault.{ClaimFault}
 use Rattle.swim_claim.specs.declared.fault.ClaimFault.TheVariants as claim
-use Rattle.swim_claim.specs.Fault.{number_of}
+use Rattle.swim_claim.specs.Fault.{claim_number}
 use Rattle.swim_wire.specs.declared.fault.WireFault.{WireFault}
 use Rattle.swim_wire.specs.declared.fault.WireFault.TheVariants as wire
 use Rattle.swim_program.specs.declared.report.What.TheVariants.{Refused}
@@ -48,15 +51,24 @@ six_words (a ∷ b ∷ e ∷ f ∷ g ∷ h ∷ i ∷ more) d l = absurd (omega (
 pub node_told : (fields : List (Bor (List ℕ))) (d : Bor (List ℕ)) (start : Start) → length fields ≡ 6 → NodeWords (codes "node" ∷ map (λ w. w.now) fields) start
     → NodeFields (get_or fields 0 d).now (get_or fields 1 d).now (get_or fields 2 d).now (get_or fields 3 d).now (get_or fields 4 d).now (get_or fields 5 d).now start
 node_told fields d start l own =
-    let P : List (List ℕ) → Type 0 = λ line. NodeFields (get_or line 1 []) (get_or line 2 []) (get_or line 3 []) (get_or line 4 []) (get_or line 5 []) (get_or line 6 []) start in
+    let P : List (List ℕ) → Type 0 =
+    λ line. NodeFields (get_or line 1 []) (get_or line 2 []) (get_or line 3 []) (get_or line 4 []) (get_or line 5 []) (get_or line 6 []) start in
     subst P (sym own.6 ∙ ap (λ t. codes "node" ∷ t) (six_words fields d l)) own.7
 
 -- and where they tell it, the line is that of the node
 pub node_tells : (fields : List (Bor (List ℕ))) (d : Bor (List ℕ)) (start : Start) → length fields ≡ 6
     → NodeFields (get_or fields 0 d).now (get_or fields 1 d).now (get_or fields 2 d).now (get_or fields 3 d).now (get_or fields 4 d).now (get_or fields 5 d).now start
     → NodeWords (codes "node" ∷ map (λ w. w.now) fields) start
-node_tells fields d start l own =
-    ((get_or fields 0 d).now, (get_or fields 1 d).now, (get_or fields 2 d).now, (get_or fields 3 d).now, (get_or fields 4 d).now, (get_or fields 5 d).now, ap (λ t. codes "node" ∷ t) (six_words fields d l), own)
+node_tells fields d start l own = (
+  (get_or fields 0 d).now,
+  (get_or fields 1 d).now,
+  (get_or fields 2 d).now,
+  (get_or fields 3 d).now,
+  (get_or fields 4 d).now,
+  (get_or fields 5 d).now,
+  ap (λ t. codes "node" ∷ t) (six_words fields d l),
+  own,
+)
 
 -- ---- numbers and bytes have one value
 
@@ -79,7 +91,8 @@ packet_first bytes p (leave m pairs e t n f v) seven = let bad : 5 ≡ 7 = sym (
 packet_first bytes p (confirm m pairs e t n f v) seven = let bad : 5 ≡ 7 = sym (ap (λ b. get_or b 0 0) e) ∙ seven in absurd (omega (arith, bad))
 
 -- what begins with 7 and is no datagram is not heard
-pub no_compound : (k : ℕ) (bytes : List ℕ) → get_or bytes 0 0 ≡ 7 → ((packets : List PacketValue) → ¬ DatagramText bytes packets) → (event : Event) → ¬ HearsBytes k bytes event
+pub no_compound : (k : ℕ) (bytes : List ℕ) → get_or bytes 0 0 ≡ 7 →
+    ((packets : List PacketValue) → ¬ DatagramText bytes packets) → (event : Event) → ¬ HearsBytes k bytes event
 no_compound k bytes seven none event (packet p t e) = packet_first bytes p t seven
 no_compound k bytes seven none event (compound body packets b t e) = none packets t
 
@@ -103,9 +116,12 @@ details_told name addr port meta vsn inc start a p m v own one two three four =
     let f = one_decimal 65535 port start.details.port p own.port two in
     let g = one_bytes meta start.details.meta m own.meta three in
     let h = one_bytes vsn start.details.vsn v own.vsn four in
-    let with_addr : start.details ≡ record { addr = a; port = start.details.port; meta = start.details.meta; vsn = start.details.vsn } = ap (λ x. record { addr = x; port = start.details.port; meta = start.details.meta; vsn = start.details.vsn }) e in
-    let with_port : start.details ≡ record { addr = a; port = p; meta = start.details.meta; vsn = start.details.vsn } = with_addr ∙ ap (λ x. record { addr = a; port = x; meta = start.details.meta; vsn = start.details.vsn }) f in
-    let with_meta : start.details ≡ record { addr = a; port = p; meta = m; vsn = start.details.vsn } = with_port ∙ ap (λ x. record { addr = a; port = p; meta = x; vsn = start.details.vsn }) g in
+    let with_addr : start.details ≡ record { addr = a; port = start.details.port; meta = start.details.meta; vsn = start.details.vsn } =
+    ap (λ x. record { addr = x; port = start.details.port; meta = start.details.meta; vsn = start.details.vsn }) e in
+    let with_port : start.details ≡ record { addr = a; port = p; meta = start.details.meta; vsn = start.details.vsn } =
+    with_addr ∙ ap (λ x. record { addr = a; port = x; meta = start.details.meta; vsn = start.details.vsn }) f in
+    let with_meta : start.details ≡ record { addr = a; port = p; meta = m; vsn = start.details.vsn } =
+    with_port ∙ ap (λ x. record { addr = a; port = p; meta = x; vsn = start.details.vsn }) g in
     with_meta ∙ ap (λ x. record { addr = a; port = p; meta = m; vsn = x }) h
 
 -- what is empty does not begin with 7
@@ -115,13 +131,17 @@ none_first (first ∷ body) l e = absurd (omega (arith, l))
 
 -- ---- an event
 
--- the first two letters of a word as one number, which no two first words share
-abbrev letters : List ℕ → ℕ
-letters word = 1000 * get_or word 0 0 + get_or word 1 0
+-- words that are told apart byte by byte are not the same
+differ : (a b : List ℕ) → bytes_eq a b ≡ false → a ≢ b
+differ a b apart same = false≢true (sym apart ∙ (bytes_eq-Decides a b).1 same)
 
 -- the first words of two lines that are the same
 first_word : (a b : List ℕ) (xs ys : List (List ℕ)) → a ∷ xs ≡ b ∷ ys → a ≡ b
 first_word a b xs ys e = ap (λ l. get_or l 0 []) e
+
+-- lines whose first words are told apart are not the same
+other_line : (a b : List ℕ) (xs ys : List (List ℕ)) → bytes_eq a b ≡ false → a ∷ xs ≢ b ∷ ys
+other_line a b xs ys apart e = differ a b apart (first_word a b xs ys e)
 
 -- the words after them
 later_words : (a b : List ℕ) (xs ys : List (List ℕ)) → a ∷ xs ≡ b ∷ ys → xs ≡ ys
@@ -140,27 +160,39 @@ pub record IsHeard (fields : List (List ℕ)) (event : Event) : Type 0 where
 
 pub heard_by_words : (fields : List (List ℕ)) (event : Event) → EventWords (codes "hear" ∷ fields) event → IsHeard fields event
 heard_by_words fields event (hear node datagram k bytes e n h b) =
-    record { node = node; datagram = datagram; k = k; bytes = bytes; words = later_words (codes "hear") (codes "hear") fields (node ∷ datagram ∷ []) e; number = n; hex = h; hears = b }
-heard_by_words fields event (exchange first second j k e m n is) = let bad : 104101 ≡ 101120 = ap letters (first_word (codes "hear") (codes "exchange") fields (first ∷ second ∷ []) e) in absurd (omega (arith, bad))
-heard_by_words fields event (half first second j k e m n is) = let bad : 104101 ≡ 104097 = ap letters (first_word (codes "hear") (codes "half") fields (first ∷ second ∷ []) e) in absurd (omega (arith, bad))
-heard_by_words fields event (refute node k e n is) = let bad : 104101 ≡ 114101 = ap letters (first_word (codes "hear") (codes "refute") fields (node ∷ []) e) in absurd (omega (arith, bad))
+    record {
+      node = node;
+      datagram = datagram;
+      k = k;
+      bytes = bytes;
+      words = later_words (codes "hear") (codes "hear") fields (node ∷ datagram ∷ []) e;
+      number = n;
+      hex = h;
+      hears = b;
+    }
+heard_by_words fields event (exchange first second j k e m n is) = absurd (other_line (codes "hear") (codes "exchange") fields (first ∷ second ∷ []) refl e)
+heard_by_words fields event (half first second j k e m n is) = absurd (other_line (codes "hear") (codes "half") fields (first ∷ second ∷ []) refl e)
+heard_by_words fields event (refute node k e n is) = absurd (other_line (codes "hear") (codes "refute") fields (node ∷ []) refl e)
 
 pub exchanged_by_words : (fields : List (List ℕ)) (event : Event) → EventWords (codes "exchange" ∷ fields) event → (j k : ℕ) × TwoNumbers fields j k
-exchanged_by_words fields event (hear node datagram k bytes e n h b) = let bad : 101120 ≡ 104101 = ap letters (first_word (codes "exchange") (codes "hear") fields (node ∷ datagram ∷ []) e) in absurd (omega (arith, bad))
-exchanged_by_words fields event (exchange first second j k e m n is) = (j, k, (first, second, later_words (codes "exchange") (codes "exchange") fields (first ∷ second ∷ []) e, m, n))
-exchanged_by_words fields event (half first second j k e m n is) = let bad : 101120 ≡ 104097 = ap letters (first_word (codes "exchange") (codes "half") fields (first ∷ second ∷ []) e) in absurd (omega (arith, bad))
-exchanged_by_words fields event (refute node k e n is) = let bad : 101120 ≡ 114101 = ap letters (first_word (codes "exchange") (codes "refute") fields (node ∷ []) e) in absurd (omega (arith, bad))
+exchanged_by_words fields event (hear node datagram k bytes e n h b) =
+    absurd (other_line (codes "exchange") (codes "hear") fields (node ∷ datagram ∷ []) refl e)
+exchanged_by_words fields event (exchange first second j k e m n is) =
+    (j, k, (first, second, later_words (codes "exchange") (codes "exchange") fields (first ∷ second ∷ []) e, m, n))
+exchanged_by_words fields event (half first second j k e m n is) = absurd (other_line (codes "exchange") (codes "half") fields (first ∷ second ∷ []) refl e)
+exchanged_by_words fields event (refute node k e n is) = absurd (other_line (codes "exchange") (codes "refute") fields (node ∷ []) refl e)
 
 pub half_by_words : (fields : List (List ℕ)) (event : Event) → EventWords (codes "half" ∷ fields) event → (j k : ℕ) × TwoNumbers fields j k
-half_by_words fields event (hear node datagram k bytes e n h b) = let bad : 104097 ≡ 104101 = ap letters (first_word (codes "half") (codes "hear") fields (node ∷ datagram ∷ []) e) in absurd (omega (arith, bad))
-half_by_words fields event (exchange first second j k e m n is) = let bad : 104097 ≡ 101120 = ap letters (first_word (codes "half") (codes "exchange") fields (first ∷ second ∷ []) e) in absurd (omega (arith, bad))
-half_by_words fields event (half first second j k e m n is) = (j, k, (first, second, later_words (codes "half") (codes "half") fields (first ∷ second ∷ []) e, m, n))
-half_by_words fields event (refute node k e n is) = let bad : 104097 ≡ 114101 = ap letters (first_word (codes "half") (codes "refute") fields (node ∷ []) e) in absurd (omega (arith, bad))
+half_by_words fields event (hear node datagram k bytes e n h b) = absurd (other_line (codes "half") (codes "hear") fields (node ∷ datagram ∷ []) refl e)
+half_by_words fields event (exchange first second j k e m n is) = absurd (other_line (codes "half") (codes "exchange") fields (first ∷ second ∷ []) refl e)
+half_by_words fields event (half first second j k e m n is) =
+    (j, k, (first, second, later_words (codes "half") (codes "half") fields (first ∷ second ∷ []) e, m, n))
+half_by_words fields event (refute node k e n is) = absurd (other_line (codes "half") (codes "refute") fields (node ∷ []) refl e)
 
 pub refuted_by_words : (fields : List (List ℕ)) (event : Event) → EventWords (codes "refute" ∷ fields) event → (k : ℕ) × OneNumber fields k
-refuted_by_words fields event (hear node datagram k bytes e n h b) = let bad : 114101 ≡ 104101 = ap letters (first_word (codes "refute") (codes "hear") fields (node ∷ datagram ∷ []) e) in absurd (omega (arith, bad))
-refuted_by_words fields event (exchange first second j k e m n is) = let bad : 114101 ≡ 101120 = ap letters (first_word (codes "refute") (codes "exchange") fields (first ∷ second ∷ []) e) in absurd (omega (arith, bad))
-refuted_by_words fields event (half first second j k e m n is) = let bad : 114101 ≡ 104097 = ap letters (first_word (codes "refute") (codes "half") fields (first ∷ second ∷ []) e) in absurd (omega (arith, bad))
+refuted_by_words fields event (hear node datagram k bytes e n h b) = absurd (other_line (codes "refute") (codes "hear") fields (node ∷ datagram ∷ []) refl e)
+refuted_by_words fields event (exchange first second j k e m n is) = absurd (other_line (codes "refute") (codes "exchange") fields (first ∷ second ∷ []) refl e)
+refuted_by_words fields event (half first second j k e m n is) = absurd (other_line (codes "refute") (codes "half") fields (first ∷ second ∷ []) refl e)
 refuted_by_words fields event (refute node k e n is) = (k, (node, later_words (codes "refute") (codes "refute") fields (node ∷ []) e, n))
 
 -- the first word of an event is one of four
@@ -173,7 +205,8 @@ event_first word fields event (refute node k e n is) = inr (inr (inr (first_word
 
 -- what is told of is heard
 pub hear_told : (fields : List (Bor (List ℕ))) (d : Bor (List ℕ)) (k : ℕ) (bytes : List ℕ) (event : Event) → length fields ≡ 2
-    → NodeNumber (get_or fields 0 d).now k → HexBytes (get_or fields 1 d).now bytes → HearsBytes k bytes event → EventWords (codes "hear" ∷ map (λ w. w.now) fields) event
+    → NodeNumber (get_or fields 0 d).now k → HexBytes (get_or fields 1 d).now bytes → HearsBytes k bytes event
+    → EventWords (codes "hear" ∷ map (λ w. w.now) fields) event
 hear_told fields d k bytes event l n h b =
     hear (get_or fields 0 d).now (get_or fields 1 d).now k bytes (ap (λ t. codes "hear" ∷ t) (two_words fields d l)) n h b
 
@@ -187,7 +220,8 @@ no_hex fields d event l none own =
 
 -- where the bytes are heard by no such event, nor is the line
 pub no_heard : (fields : List (Bor (List ℕ))) (d : Bor (List ℕ)) (k : ℕ) (bytes : List ℕ) (event : Event) → length fields ≡ 2
-    → NodeNumber (get_or fields 0 d).now k → HexBytes (get_or fields 1 d).now bytes → (¬ HearsBytes k bytes event) → ¬ EventWords (codes "hear" ∷ map (λ w. w.now) fields) event
+    → NodeNumber (get_or fields 0 d).now k → HexBytes (get_or fields 1 d).now bytes → (¬ HearsBytes k bytes event)
+    → ¬ EventWords (codes "hear" ∷ map (λ w. w.now) fields) event
 no_heard fields d k bytes event l n h none own =
     let told = heard_by_words (map (λ w. w.now) fields) event own in
     let words = sym told.words ∙ two_words fields d l in
@@ -220,7 +254,8 @@ no_refute fields none event own = let told = refuted_by_words fields event own i
 -- ---- a line that says nothing
 
 -- its first word is that of no line
-pub unknown_first : (nodes : Bool) (first : List ℕ) (fields : List (List ℕ)) → ((keyword : Keyword) → first ≢ word_of keyword) → SpellsNothing nodes (first ∷ fields)
+pub unknown_first : (nodes : Bool) (first : List ℕ) (fields : List (List ℕ)) → ((keyword : Keyword) → first ≢ word_of keyword)
+    → SpellsNothing nodes (first ∷ fields)
 unknown_first nodes first fields none = record {
   node = λ may start own. none key.Node (ap (λ l. get_or l 0 []) own.6);
   event = λ event own. elim (event_first first fields event own) [
@@ -232,63 +267,80 @@ unknown_first nodes first fields none = record {
   level = λ own. none key.Level (ap (λ l. get_or l 0 []) own);
 }
 
--- a first word with the letters of `node` is that of a node
-node_letters : (keyword : Keyword) → letters (word_of keyword) ≡ 110111 → keyword ≡ key.Node
-node_letters key.Node e = refl
-node_letters key.Hear e = absurd (omega (arith, e))
-node_letters key.Exchange e = absurd (omega (arith, e))
-node_letters key.Half e = absurd (omega (arith, e))
-node_letters key.Refute e = absurd (omega (arith, e))
-node_letters key.Level e = absurd (omega (arith, e))
+-- the first word `node` is that of a node, and no other is
+node_word : (keyword : Keyword) → word_of keyword ≡ codes "node" → keyword ≡ key.Node
+node_word key.Node e = refl
+node_word key.Hear e = absurd (differ (codes "hear") (codes "node") refl e)
+node_word key.Exchange e = absurd (differ (codes "exchange") (codes "node") refl e)
+node_word key.Half e = absurd (differ (codes "half") (codes "node") refl e)
+node_word key.Refute e = absurd (differ (codes "refute") (codes "node") refl e)
+node_word key.Level e = absurd (differ (codes "level") (codes "node") refl e)
 
-level_letters : (keyword : Keyword) → letters (word_of keyword) ≡ 108101 → keyword ≡ key.Level
-level_letters key.Node e = absurd (omega (arith, e))
-level_letters key.Hear e = absurd (omega (arith, e))
-level_letters key.Exchange e = absurd (omega (arith, e))
-level_letters key.Half e = absurd (omega (arith, e))
-level_letters key.Refute e = absurd (omega (arith, e))
-level_letters key.Level e = refl
+-- and `level` that of the levelling
+level_word : (keyword : Keyword) → word_of keyword ≡ codes "level" → keyword ≡ key.Level
+level_word key.Node e = absurd (differ (codes "node") (codes "level") refl e)
+level_word key.Hear e = absurd (differ (codes "hear") (codes "level") refl e)
+level_word key.Exchange e = absurd (differ (codes "exchange") (codes "level") refl e)
+level_word key.Half e = absurd (differ (codes "half") (codes "level") refl e)
+level_word key.Refute e = absurd (differ (codes "refute") (codes "level") refl e)
+level_word key.Level e = refl
 
 -- a line that is no event, no node that may come, and `level` only with words after it
-pub nothing_told : (nodes : Bool) (keyword : Keyword) (fields : List (List ℕ)) → (keyword ≡ key.Node → nodes ≡ true → ⊥) → (keyword ≡ key.Level → 0 < length fields)
+pub nothing_told : (nodes : Bool) (keyword : Keyword) (fields : List (List ℕ)) → (keyword ≡ key.Node → nodes ≡ true → ⊥) →
+    (keyword ≡ key.Level → 0 < length fields)
     → ((event : Event) → ¬ EventWords (word_of keyword ∷ fields) event) → SpellsNothing nodes (word_of keyword ∷ fields)
 nothing_told nodes keyword fields node level none = record {
-  node = λ may start own. node (node_letters keyword (ap letters (first_word (word_of keyword) (codes "node") fields (drop 1 (codes "node" ∷ own.0 ∷ own.1 ∷ own.2 ∷ own.3 ∷ own.4 ∷ own.5 ∷ [])) own.6))) may;
+  node =
+      λ may start own.
+      node
+      (node_word keyword (first_word (word_of keyword) (codes "node") fields (drop 1 (codes "node" ∷ own.0 ∷ own.1 ∷ own.2 ∷ own.3 ∷ own.4 ∷ own.5 ∷ [])) own.6))
+      may;
   event = none;
-  level = λ own. let some = level (level_letters keyword (ap letters (first_word (word_of keyword) (codes "level") fields [] own))) in
+  level = λ own. let some = level (level_word keyword (first_word (word_of keyword) (codes "level") fields [] own)) in
       omega (arith, some, ap length (later_words (word_of keyword) (codes "level") fields [] own));
 }
 
 -- a line of a node that is none
-pub no_node_told : (nodes : Bool) (fields : List (List ℕ)) → ((start : Start) → ¬ NodeWords (codes "node" ∷ fields) start) → SpellsNothing nodes (codes "node" ∷ fields)
+pub no_node_told : (nodes : Bool) (fields : List (List ℕ)) → ((start : Start) → ¬ NodeWords (codes "node" ∷ fields) start)
+    → SpellsNothing nodes (codes "node" ∷ fields)
 no_node_told nodes fields none = record {
   node = λ may. none;
   event = λ event own. elim (event_first (codes "node") fields event own) [
-    | inl e ↦ let bad : 110111 ≡ 104101 = ap letters e in absurd (omega (arith, bad))
-    | inr (inl e) ↦ let bad : 110111 ≡ 101120 = ap letters e in absurd (omega (arith, bad))
-    | inr (inr (inl e)) ↦ let bad : 110111 ≡ 104097 = ap letters e in absurd (omega (arith, bad))
-    | inr (inr (inr e)) ↦ let bad : 110111 ≡ 114101 = ap letters e in absurd (omega (arith, bad))
+    | inl e ↦ differ (codes "node") (codes "hear") refl e
+    | inr (inl e) ↦ differ (codes "node") (codes "exchange") refl e
+    | inr (inr (inl e)) ↦ differ (codes "node") (codes "half") refl e
+    | inr (inr (inr e)) ↦ differ (codes "node") (codes "refute") refl e
   ];
-  level = λ own. let bad : 110111 ≡ 108101 = ap letters (first_word (codes "node") (codes "level") fields [] own) in absurd (omega (arith, bad));
+  level = other_line (codes "node") (codes "level") fields [] refl;
 }
 
 -- ---- no line is of two kinds
 
--- the first two letters of the first word
-abbrev pub first_letters : List (List ℕ) → ℕ
-first_letters words = letters (get_or words 0 [])
+-- the first word of a line
+abbrev pub first_of : List (List ℕ) → List ℕ
+first_of words = get_or words 0 []
 
-pub node_letters_of : (words : List (List ℕ)) (start : Start) → NodeWords words start → first_letters words ≡ 110111
-node_letters_of words start own = ap first_letters own.6
+pub node_first : (words : List (List ℕ)) (start : Start) → NodeWords words start → first_of words ≡ codes "node"
+node_first words start own = ap first_of own.6
 
-pub level_letters_of : (words : List (List ℕ)) → LevelWords words → first_letters words ≡ 108101
-level_letters_of words own = ap first_letters own
+pub level_first : (words : List (List ℕ)) → LevelWords words → first_of words ≡ codes "level"
+level_first words own = ap first_of own
 
-pub event_letters_of : (words : List (List ℕ)) (event : Event) → EventWords words event → (first_letters words ≢ 110111) × (first_letters words ≢ 108101)
-event_letters_of words event (hear node datagram k bytes e n h b) = let own : first_letters words ≡ 104101 = ap first_letters e in (λ f. omega (arith, own, f), λ f. omega (arith, own, f))
-event_letters_of words event (exchange first second j k e m n is) = let own : first_letters words ≡ 101120 = ap first_letters e in (λ f. omega (arith, own, f), λ f. omega (arith, own, f))
-event_letters_of words event (half first second j k e m n is) = let own : first_letters words ≡ 104097 = ap first_letters e in (λ f. omega (arith, own, f), λ f. omega (arith, own, f))
-event_letters_of words event (refute node k e n is) = let own : first_letters words ≡ 114101 = ap first_letters e in (λ f. omega (arith, own, f), λ f. omega (arith, own, f))
+-- a line of a node is not `level`
+pub node_no_level : (words : List (List ℕ)) (start : Start) → NodeWords words start → ¬ LevelWords words
+node_no_level words start own level = differ (codes "node") (codes "level") refl (sym (node_first words start own) ∙ level_first words level)
+
+-- a line whose first word is told apart from both is neither that of a node nor `level`
+neither : (words : List (List ℕ)) (word : List ℕ) → first_of words ≡ word → bytes_eq word (codes "node") ≡ false → bytes_eq word (codes "level") ≡ false
+    → (first_of words ≢ codes "node") × (first_of words ≢ codes "level")
+neither words word is node level = (λ e. differ word (codes "node") node (sym is ∙ e), λ e. differ word (codes "level") level (sym is ∙ e))
+
+-- and so is a line of an event
+pub event_first_other : (words : List (List ℕ)) (event : Event) → EventWords words event → (first_of words ≢ codes "node") × (first_of words ≢ codes "level")
+event_first_other words event (hear node datagram k bytes e n h b) = neither words (codes "hear") (ap first_of e) refl refl
+event_first_other words event (exchange first second j k e m n is) = neither words (codes "exchange") (ap first_of e) refl refl
+event_first_other words event (half first second j k e m n is) = neither words (codes "half") (ap first_of e) refl refl
+event_first_other words event (refute node k e n is) = neither words (codes "refute") (ap first_of e) refl refl
 
 -- ---- why a line is not read
 
@@ -316,7 +368,7 @@ wire_of_reading wire.UserTooLong other = refl
 wire_of_reading wire.Trailing other = refl
 
 -- nor is a name, or are details
-pub claim_of_reading : (fault : ClaimFault) → IsOfReading (Refused (number_of fault) None)
+pub claim_of_reading : (fault : ClaimFault) → IsOfReading (Refused (claim_number fault) None)
 claim_of_reading claim.NameEmpty = refl
 claim_of_reading claim.NameTooLong = refl
 claim_of_reading claim.BadAddress = refl

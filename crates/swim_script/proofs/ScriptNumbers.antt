@@ -69,7 +69,8 @@ comes_still lines more starts events others k at comes = record {
 }
 
 -- with the last line
-comes_last : (lines : List (List ℕ)) (text : List ℕ) (starts : List Start) (events own : List Event) (k number : ℕ) → ScriptOf lines starts events → ScriptOf (lines ++ text ∷ []) starts (events ++ own)
+comes_last : (lines : List (List ℕ)) (text : List ℕ) (starts : List Start) (events own : List Event) (k number : ℕ)
+    → ScriptOf lines starts events → ScriptOf (lines ++ text ∷ []) starts (events ++ own)
     → length events ≤ k → k < length (events ++ own) → number ≡ length lines + 1 → ComesWith (lines ++ text ∷ []) starts (events ++ own) k (place.Line number)
 comes_last lines text starts events own k number without tells from below counted = record {
   before = lines;
@@ -110,7 +111,8 @@ pub record WereRead (lines : List (List ℕ)) (plan : Plan) : Type 0 where
   pub numbered : AreNumbered lines starts (events_of plan) plan.lines.items plan.level
 
 -- where there are no numbers, each is right
-none_numbered : (lines : List (List ℕ)) (starts : List Start) (events : List Event) (numbers : List ℕ) (level : Option ℕ) → numbers ≡ [] → level ≡ None → AreNumbered lines starts events numbers level
+none_numbered : (lines : List (List ℕ)) (starts : List Start) (events : List Event) (numbers : List ℕ) (level : Option ℕ)
+    → numbers ≡ [] → level ≡ None → AreNumbered lines starts events numbers level
 none_numbered lines starts events numbers level none unended = λ k number below is.
     let bad : None ≡ Some number = sym (ap₂ (λ (l : List ℕ) (o : Option ℕ). event_line l o k) none unended) ∙ is in absurd cc
 
@@ -123,12 +125,14 @@ none_read plan nodes events lines level = record {
 }
 
 -- the lines that are not empty, with one more
-one_more : (lines : List (List ℕ)) (raw text : List ℕ) → text ≡ strip_carriage_return raw → text ≢ [] → script_lines lines ++ text ∷ [] ≡ script_lines (lines ++ raw ∷ [])
+one_more : (lines : List (List ℕ)) (raw text : List ℕ) → text ≡ strip_carriage_return raw → text ≢ []
+    → script_lines lines ++ text ∷ [] ≡ script_lines (lines ++ raw ∷ [])
 one_more lines raw text strips some = sym (one_more_line lines raw text strips ∙ ap (λ l. script_lines lines ++ l) (not_empty_one text some))
 
 -- a line that tells of events
 were_more : (lines : List (List ℕ)) (raw : List ℕ) (starts : List Start) (number : ℕ) (old new : Plan) (own : List Event)
-    → WasRead (script_lines lines) starts old → AreNumbered lines starts (events_of old) old.lines.items old.level → WasRead (script_lines (lines ++ raw ∷ [])) starts new
+    → WasRead (script_lines lines) starts old → AreNumbered lines starts (events_of old) old.lines.items old.level
+    → WasRead (script_lines (lines ++ raw ∷ [])) starts new
     → number ≡ length lines + 1 → old.level ≡ None → events_of new ≡ old.events.items ++ own
     → ((k n : ℕ) → event_line new.lines.items new.level k ≡ Some n → IsEarlierOr old.lines.items number k n) → WereRead (lines ++ raw ∷ []) new
 were_more lines raw starts number old new own was numbered now counted unended all split =
@@ -142,7 +146,8 @@ were_more lines raw starts number old new own was numbered now counted unended a
       starts = starts;
       was = now;
       numbered = λ k n below is. subst (λ (e : List Event). ComesWith (lines ++ raw ∷ []) starts e k (place.Line n)) (sym all)
-          (numbered_more lines raw starts old.events.items own old.lines.items number k n each was.count counted before tells (subst (λ (e : List Event). k < length e) all below) (split k n is));
+          (numbered_more lines raw starts old.events.items own old.lines.items number k n each was.count counted before tells
+          (subst (λ (e : List Event). k < length e) all below) (split k n is));
     }
 
 -- one line more was read
@@ -162,17 +167,24 @@ read_more lines raw text number old new strips counted were (inr (some, unended,
     let starts = were.starts ++ spelled.1 ∷ [] in
     record {
       starts = starts;
-      was = subst (λ l. WasRead l starts new) (one_more lines raw text strips some) (read_node_line (script_lines lines) text were.starts number old new node were.was unended spelled added);
+      was =
+          subst (λ l. WasRead l starts new) (one_more lines raw text strips some)
+          (read_node_line (script_lines lines) text were.starts number old new node were.was unended spelled added);
       numbered = none_numbered (lines ++ raw ∷ []) starts (events_of new) new.lines.items new.level
           (added.3 ∙ nil_of_length old.lines.items (were.was.count ∙ none)) (added.2 ∙ unended);
     }
 read_more lines raw text number old new strips counted were (inr (some, unended, (line.Event event, spelled, added))) =
-    let now = subst (λ l. WasRead l were.starts new) (one_more lines raw text strips some) (read_event_line (script_lines lines) text were.starts number old new event were.was unended spelled added) in
+    let now =
+    subst (λ l. WasRead l were.starts new) (one_more lines raw text strips some)
+    (read_event_line (script_lines lines) text were.starts number old new event were.was unended spelled added) in
     let level : new.level ≡ None = added.2 ∙ unended in
-    were_more lines raw were.starts number old new (event ∷ []) were.was were.numbered now counted unended (ap (plan_events new.events.items (length new.nodes.items)) level ∙ added.1)
+    were_more lines raw were.starts number old new (event ∷ []) were.was were.numbered now counted unended
+    (ap (plan_events new.events.items (length new.nodes.items)) level ∙ added.1)
     (λ k n is. number_pushed old.lines.items number k n (sym (ap₂ (λ (l : List ℕ) (o : Option ℕ). event_line l o k) added.3 level) ∙ is))
 read_more lines raw text number old new strips counted were (inr (some, unended, (line.Level, spelled, added))) =
-    let now = subst (λ l. WasRead l were.starts new) (one_more lines raw text strips some) (read_level_line (script_lines lines) text were.starts number old new were.was unended spelled added) in
+    let now =
+    subst (λ l. WasRead l were.starts new) (one_more lines raw text strips some)
+    (read_level_line (script_lines lines) text were.starts number old new were.was unended spelled added) in
     let count = length new.nodes.items in
     were_more lines raw were.starts number old new (level_list count) were.was were.numbered now counted unended
     (ap (plan_events new.events.items count) added.2 ∙ ap (λ (e : List Event). e ++ level_list count) added.1)

@@ -17,7 +17,7 @@ use Rattle.swim_program.specs.Lines.{input_lines}
 use Rattle.swim_program.specs.declared.report.Place.{Place}
 use Rattle.swim_program.specs.declared.report.Place.TheVariants as place
 use Rattle.swim_script.specs.ScriptReading.{Adds, SpellsLine, SpellsNothing, IsOutOfPlace, plan_events}
-use Rattle.swim_script.proofs.ScriptLines.{node_letters_of, event_letters_of, level_letters_of}
+use Rattle.swim_script.proofs.ScriptLines.{node_first, level_first, node_no_level, event_first_other}
 
 -- ---- what may still follow, without what it says
 
@@ -34,12 +34,14 @@ follows_last : (nodes : Bool) (count : ℕ) (last : List (List ℕ)) (levelled :
 follows_last nodes count [] levelled own = tt
 follows_last nodes count (line ∷ lines) levelled own = (refl, inr (inr (own.0, subst (Follows false true) (sym own.1) tt)))
 
-follows_events : (nodes : Bool) (count : ℕ) (lines last : List (List ℕ)) (told levelled : List Event) → EventLines lines told → LastLine count last levelled → Follows nodes false (lines ++ last)
+follows_events : (nodes : Bool) (count : ℕ) (lines last : List (List ℕ)) (told levelled : List Event) → EventLines lines told
+    → LastLine count last levelled → Follows nodes false (lines ++ last)
 follows_events nodes count [] last told levelled each own = follows_last nodes count last levelled own
 follows_events nodes count (line ∷ lines) last told levelled each own =
     (refl, inr (inl ((each.0, each.2), follows_events false count lines last each.1 levelled each.3 own)))
 
-follows_nodes : (count : ℕ) (first lines last : List (List ℕ)) (starts : List Start) (told levelled : List Event) → NodeLines first starts → EventLines lines told → LastLine count last levelled
+follows_nodes : (count : ℕ) (first lines last : List (List ℕ)) (starts : List Start) (told levelled : List Event)
+    → NodeLines first starts → EventLines lines told → LastLine count last levelled
     → Follows true false (first ++ (lines ++ last))
 follows_nodes count [] lines last starts told levelled nodes each own = follows_events true count lines last told levelled each own
 follows_nodes count (line ∷ first) lines last starts told levelled nodes each own =
@@ -52,21 +54,24 @@ script_follows lines starts events script =
     (follows_nodes (length starts) script.node_lines script.event_lines script.last starts script.told script.levelled script.nodes script.each script.ends)
 
 -- after a line of a node the same may follow
-after_node : (nodes ended : Bool) (line : List ℕ) (lines : List (List ℕ)) (start : Start) → NodeWords (words line) start → Follows nodes ended (line ∷ lines) → Follows true false lines
+after_node : (nodes ended : Bool) (line : List ℕ) (lines : List (List ℕ)) (start : Start) → NodeWords (words line) start
+    → Follows nodes ended (line ∷ lines) → Follows true false lines
 after_node nodes ended line lines start own (e, inl h) = h.2
-after_node nodes ended line lines start own (e, inr (inl h)) = absurd ((event_letters_of (words line) h.0.0 h.0.1).0 (node_letters_of (words line) start own))
-after_node nodes ended line lines start own (e, inr (inr h)) = let bad : 110111 ≡ 108101 = sym (node_letters_of (words line) start own) ∙ level_letters_of (words line) h.0 in absurd (omega (arith, bad))
+after_node nodes ended line lines start own (e, inr (inl h)) = absurd ((event_first_other (words line) h.0.0 h.0.1).0 (node_first (words line) start own))
+after_node nodes ended line lines start own (e, inr (inr h)) = absurd (node_no_level (words line) start own h.0)
 
 -- after a line of an event no node may follow
-after_event : (nodes ended : Bool) (line : List ℕ) (lines : List (List ℕ)) (event : Event) → EventWords (words line) event → Follows nodes ended (line ∷ lines) → Follows false false lines
-after_event nodes ended line lines event own (e, inl h) = absurd ((event_letters_of (words line) event own).0 (node_letters_of (words line) h.1.0 h.1.1))
+after_event : (nodes ended : Bool) (line : List ℕ) (lines : List (List ℕ)) (event : Event) → EventWords (words line) event
+    → Follows nodes ended (line ∷ lines) → Follows false false lines
+after_event nodes ended line lines event own (e, inl h) = absurd ((event_first_other (words line) event own).0 (node_first (words line) h.1.0 h.1.1))
 after_event nodes ended line lines event own (e, inr (inl h)) = h.1
-after_event nodes ended line lines event own (e, inr (inr h)) = absurd ((event_letters_of (words line) event own).1 (level_letters_of (words line) h.0))
+after_event nodes ended line lines event own (e, inr (inr h)) = absurd ((event_first_other (words line) event own).1 (level_first (words line) h.0))
 
 -- after `level` nothing may follow
-after_level : (nodes ended : Bool) (line : List ℕ) (lines : List (List ℕ)) → LevelWords (words line) → Follows nodes ended (line ∷ lines) → Follows false true lines
-after_level nodes ended line lines own (e, inl h) = let bad : 110111 ≡ 108101 = sym (node_letters_of (words line) h.1.0 h.1.1) ∙ level_letters_of (words line) own in absurd (omega (arith, bad))
-after_level nodes ended line lines own (e, inr (inl h)) = absurd ((event_letters_of (words line) h.0.0 h.0.1).1 (level_letters_of (words line) own))
+after_level : (nodes ended : Bool) (line : List ℕ) (lines : List (List ℕ)) → LevelWords (words line) → Follows nodes ended
+    (line ∷ lines) → Follows false true lines
+after_level nodes ended line lines own (e, inl h) = absurd (node_no_level (words line) h.1.0 h.1.1 own)
+after_level nodes ended line lines own (e, inr (inl h)) = absurd ((event_first_other (words line) h.0.0 h.0.1).1 (level_first (words line) own))
 after_level nodes ended line lines own (e, inr (inr h)) = h.1
 
 -- a line that says nothing does not follow
@@ -111,17 +116,20 @@ nothing_read plan nodes events lines level = record {
 }
 
 -- one node more
-started_push : (nodes : List NodeValue) (starts : List Start) (node : NodeValue) (start : Start) → AreStarted nodes starts → IsStarted node start → AreStarted (nodes ++ node ∷ []) (starts ++ start ∷ [])
+started_push : (nodes : List NodeValue) (starts : List Start) (node : NodeValue) (start : Start) → AreStarted nodes starts
+    → IsStarted node start → AreStarted (nodes ++ node ∷ []) (starts ++ start ∷ [])
 started_push [] starts node start each own = (start, [], own, refl, ap (λ s. s ++ start ∷ []) each)
 started_push (first ∷ nodes) starts node start each own =
     (each.0, each.1 ++ start ∷ [], each.2, started_push nodes each.1 node start each.3 own, ap (λ s. s ++ start ∷ []) each.4)
 
-node_lines_push : (lines : List (List ℕ)) (starts : List Start) (line : List ℕ) (start : Start) → NodeLines lines starts → NodeWords (words line) start → NodeLines (lines ++ line ∷ []) (starts ++ start ∷ [])
+node_lines_push : (lines : List (List ℕ)) (starts : List Start) (line : List ℕ) (start : Start) → NodeLines lines starts
+    → NodeWords (words line) start → NodeLines (lines ++ line ∷ []) (starts ++ start ∷ [])
 node_lines_push [] starts line start each own = (start, [], own, refl, ap (λ s. s ++ start ∷ []) each)
 node_lines_push (first ∷ lines) starts line start each own =
     (each.0, each.1 ++ start ∷ [], each.2, node_lines_push lines each.1 line start each.3 own, ap (λ s. s ++ start ∷ []) each.4)
 
-event_lines_push : (lines : List (List ℕ)) (events : List Event) (line : List ℕ) (event : Event) → EventLines lines events → EventWords (words line) event → EventLines (lines ++ line ∷ []) (events ++ event ∷ [])
+event_lines_push : (lines : List (List ℕ)) (events : List Event) (line : List ℕ) (event : Event) → EventLines lines events
+    → EventWords (words line) event → EventLines (lines ++ line ∷ []) (events ++ event ∷ [])
 event_lines_push [] events line event each own = (event, [], own, refl, ap (λ s. s ++ event ∷ []) each)
 event_lines_push (first ∷ lines) events line event each own =
     (each.0, each.1 ++ event ∷ [], each.2, event_lines_push lines each.1 line event each.3 own, ap (λ s. s ++ event ∷ []) each.4)
@@ -154,12 +162,15 @@ only_nodes node_lines event_lines last none nothing =
     ap₂ (λ e l. node_lines ++ e ++ l) none nothing ∙ append-nil (node_lines ++ []) ∙ append-nil node_lines
 
 -- the rest after one line more
-after_one : (lines : List (List ℕ)) (text : List ℕ) (rest : List (List ℕ)) → Follows true false ((lines ++ text ∷ []) ++ rest) → Follows true false (lines ++ text ∷ rest)
+after_one : (lines : List (List ℕ)) (text : List ℕ) (rest : List (List ℕ)) → Follows true false ((lines ++ text ∷ []) ++ rest)
+    → Follows true false (lines ++ text ∷ rest)
 after_one lines text rest f = subst (Follows true false) (append_assoc lines (text ∷ []) rest) f
 
 -- a line of a node was read
-pub read_node_line : (lines : List (List ℕ)) (text : List ℕ) (starts : List Start) (number : ℕ) (old new : Plan) (node : NodeValue) → WasRead lines starts old → old.level ≡ None
-    → (spelled : SpellsLine (length old.events.items == 0) (words text) (line.Node node)) → Adds number old (line.Node node) new → WasRead (lines ++ text ∷ []) (starts ++ spelled.1 ∷ []) new
+pub read_node_line : (lines : List (List ℕ)) (text : List ℕ) (starts : List Start) (number : ℕ) (old new : Plan)
+    (node : NodeValue) → WasRead lines starts old → old.level ≡ None
+    → (spelled : SpellsLine (length old.events.items == 0) (words text) (line.Node node)) → Adds number old (line.Node node) new
+    → WasRead (lines ++ text ∷ []) (starts ++ spelled.1 ∷ []) new
 read_node_line lines text starts number old new node was unended spelled added =
     let none : length old.events.items ≡ 0 = eqb-true (length old.events.items) 0 spelled.0 in
     let no_events : was.event_lines ≡ [] = no_event_lines was.event_lines old.events.items was.each none in
@@ -177,30 +188,40 @@ read_node_line lines text starts number old new node was unended spelled added =
       ends = subst (EndsWith []) (sym level) refl;
       count = ap length added.3 ∙ was.count ∙ sym (ap length added.1);
       follows = λ rest f.
-          let next = after_node (length old.events.items == 0) (is_some old.level) text rest spelled.1 spelled.2 (was.follows (text ∷ rest) (after_one lines text rest f)) in
+          let next =
+          after_node (length old.events.items == 0) (is_some old.level) text rest spelled.1 spelled.2
+          (was.follows (text ∷ rest) (after_one lines text rest f)) in
           let here : (length new.events.items == 0) ≡ true = ap (λ e. length e == 0) added.1 ∙ spelled.0 in
           subst (λ b. Follows b (is_some new.level) rest) (sym here) (subst (λ o. Follows true (is_some o) rest) (sym level) next);
     }
 
 -- a line of an event was read
-pub read_event_line : (lines : List (List ℕ)) (text : List ℕ) (starts : List Start) (number : ℕ) (old new : Plan) (event : Event) → WasRead lines starts old → old.level ≡ None
-    → SpellsLine (length old.events.items == 0) (words text) (line.Event event) → Adds number old (line.Event event) new → WasRead (lines ++ text ∷ []) starts new
+pub read_event_line : (lines : List (List ℕ)) (text : List ℕ) (starts : List Start) (number : ℕ) (old new : Plan)
+    (event : Event) → WasRead lines starts old → old.level ≡ None
+    → SpellsLine (length old.events.items == 0) (words text) (line.Event event) → Adds number old (line.Event event) new
+    → WasRead (lines ++ text ∷ []) starts new
 read_event_line lines text starts number old new event was unended spelled added =
     let no_last : was.last ≡ [] = subst (EndsWith was.last) unended was.ends in
-    let all : lines ≡ was.node_lines ++ was.event_lines = was.whole ∙ ap (λ l. was.node_lines ++ was.event_lines ++ l) no_last ∙ append-nil (was.node_lines ++ was.event_lines) in
+    let all : lines ≡ was.node_lines ++ was.event_lines =
+    was.whole ∙ ap (λ l. was.node_lines ++ was.event_lines ++ l) no_last ∙ append-nil (was.node_lines ++ was.event_lines) in
     let level = added.2 ∙ unended in
     record {
       node_lines = was.node_lines;
       event_lines = was.event_lines ++ text ∷ [];
       last = [];
-      whole = ap (λ l. l ++ text ∷ []) all ∙ append_assoc was.node_lines was.event_lines (text ∷ []) ∙ sym (append-nil (was.node_lines ++ (was.event_lines ++ text ∷ [])));
+      whole =
+          ap (λ l. l ++ text ∷ []) all ∙ append_assoc was.node_lines was.event_lines (text ∷ [])
+          ∙ sym (append-nil (was.node_lines ++ (was.event_lines ++ text ∷ [])));
       started = subst (λ n. AreStarted n starts) (sym added.0) was.started;
       nodes = was.nodes;
       each = subst (EventLines (was.event_lines ++ text ∷ [])) (sym added.1) (event_lines_push was.event_lines old.events.items text event was.each spelled);
       ends = subst (EndsWith []) (sym level) refl;
-      count = ap length added.3 ∙ length-append old.lines.items (number ∷ []) ∙ ap (λ n. n + 1) was.count ∙ sym (ap length added.1 ∙ length-append old.events.items (event ∷ []));
+      count =
+          ap length added.3 ∙ length-append old.lines.items (number ∷ []) ∙ ap (λ n. n + 1) was.count
+          ∙ sym (ap length added.1 ∙ length-append old.events.items (event ∷ []));
       follows = λ rest f.
-          let next = after_event (length old.events.items == 0) (is_some old.level) text rest event spelled (was.follows (text ∷ rest) (after_one lines text rest f)) in
+          let next =
+          after_event (length old.events.items == 0) (is_some old.level) text rest event spelled (was.follows (text ∷ rest) (after_one lines text rest f)) in
           let here : (length new.events.items == 0) ≡ false = ap (λ e. length e == 0) added.1 ∙ pushed_some old.events.items event in
           subst (λ b. Follows b (is_some new.level) rest) (sym here) (subst (λ o. Follows false (is_some o) rest) (sym level) next);
     }
@@ -215,7 +236,8 @@ pub read_level_line : (lines : List (List ℕ)) (text : List ℕ) (starts : List
     → SpellsLine (length old.events.items == 0) (words text) line.Level → Adds number old line.Level new → WasRead (lines ++ text ∷ []) starts new
 read_level_line lines text starts number old new was unended spelled added =
     let no_last : was.last ≡ [] = subst (EndsWith was.last) unended was.ends in
-    let all : lines ≡ was.node_lines ++ was.event_lines = was.whole ∙ ap (λ l. was.node_lines ++ was.event_lines ++ l) no_last ∙ append-nil (was.node_lines ++ was.event_lines) in
+    let all : lines ≡ was.node_lines ++ was.event_lines =
+    was.whole ∙ ap (λ l. was.node_lines ++ was.event_lines ++ l) no_last ∙ append-nil (was.node_lines ++ was.event_lines) in
     record {
       node_lines = was.node_lines;
       event_lines = was.event_lines;
@@ -227,7 +249,8 @@ read_level_line lines text starts number old new was unended spelled added =
       ends = subst (EndsWith (text ∷ [])) (sym added.2) (text, refl, spelled);
       count = ap length added.3 ∙ was.count ∙ sym (ap length added.1);
       follows = λ rest f.
-          let next = after_level (length old.events.items == 0) (is_some old.level) text rest spelled (was.follows (text ∷ rest) (after_one lines text rest f)) in
+          let next =
+          after_level (length old.events.items == 0) (is_some old.level) text rest spelled (was.follows (text ∷ rest) (after_one lines text rest f)) in
           ended_any (length new.events.items == 0) (is_some new.level) rest next;
     }
 
@@ -238,7 +261,8 @@ started_length [] starts each = sym (ap length each)
 started_length (node ∷ nodes) starts each = ap suc (started_length nodes each.1 each.3) ∙ sym (ap length each.4)
 
 spelled_whole : (lines node_lines event_lines last : List (List ℕ)) (starts : List Start) (events : List Event) (level : Option ℕ) (count : ℕ)
-    → script_lines lines ≡ node_lines ++ event_lines ++ last → NodeLines node_lines starts → EventLines event_lines events → EndsWith last level → count ≡ length starts
+    → script_lines lines ≡ node_lines ++ event_lines ++ last → NodeLines node_lines starts → EventLines event_lines events
+    → EndsWith last level → count ≡ length starts
     → ScriptOf lines starts (plan_events events count level)
 spelled_whole lines node_lines event_lines last starts events None count parts nodes each ends same = record {
   node_lines = node_lines;
@@ -266,27 +290,33 @@ spelled_whole lines node_lines event_lines last starts events (Some number) coun
 }
 
 -- the plan is that of the script
-pub was_read_whole : (lines : List (List ℕ)) (starts : List Start) (plan : Plan) → WasRead (script_lines lines) starts plan → ScriptOf lines starts (plan_events plan.events.items (length plan.nodes.items) plan.level)
+pub was_read_whole : (lines : List (List ℕ)) (starts : List Start) (plan : Plan) → WasRead (script_lines lines) starts plan
+    → ScriptOf lines starts (plan_events plan.events.items (length plan.nodes.items) plan.level)
 was_read_whole lines starts plan was =
-    spelled_whole lines was.node_lines was.event_lines was.last starts plan.events.items plan.level (length plan.nodes.items) was.whole was.nodes was.each was.ends (started_length plan.nodes.items starts was.started)
+    spelled_whole lines was.node_lines was.event_lines was.last starts plan.events.items plan.level (length plan.nodes.items)
+    was.whole was.nodes was.each was.ends (started_length plan.nodes.items starts was.started)
 
 -- ---- a line that is out of place
 
-no_follow : (nodes : Bool) (level : Option ℕ) (text : List ℕ) (rest : List (List ℕ)) → (level ≡ None → SpellsNothing nodes (words text)) → ¬ Follows nodes (is_some level) (text ∷ rest)
+no_follow : (nodes : Bool) (level : Option ℕ) (text : List ℕ) (rest : List (List ℕ)) →
+    (level ≡ None → SpellsNothing nodes (words text)) → ¬ Follows nodes (is_some level) (text ∷ rest)
 no_follow nodes None text rest none f = nothing_follows nodes false text rest (none refl) f
 no_follow nodes (Some number) text rest none f = let bad : true ≡ false = f.0 in absurd cc
 
 -- the lines are no script
-no_script : (all lines : List (List ℕ)) (text : List ℕ) (rest : List (List ℕ)) (starts : List Start) (plan : Plan) → script_lines all ≡ lines ++ text ∷ rest → WasRead lines starts plan
+no_script : (all lines : List (List ℕ)) (text : List ℕ) (rest : List (List ℕ)) (starts : List Start) (plan : Plan)
+    → script_lines all ≡ lines ++ text ∷ rest → WasRead lines starts plan
     → IsOutOfPlace text plan → (nodes : List Start) (events : List Event) → ¬ ScriptOf all nodes events
 no_script all lines text rest starts plan parts was wrong nodes events script =
-    no_follow (length plan.events.items == 0) plan.level text rest wrong.1 (was.follows (text ∷ rest) (subst (Follows true false) parts (script_follows all nodes events script)))
+    no_follow (length plan.events.items == 0) plan.level text rest wrong.1
+    (was.follows (text ∷ rest) (subst (Follows true false) parts (script_follows all nodes events script)))
 
 -- ---- lines by their places
 
 -- the number of the item that is yielded
 pub number_of_line : (xs : List (ℕ × Bor (List ℕ))) (lines : List (List ℕ)) (index : ℕ) (line : List ℕ)
-    → (length xs < length (enumerate_from 0 lines)) × ((index, line) ≡ get_or (enumerate_from 0 lines) (length xs) (index, line)) → index + 1 ≡ length (map (λ p. p.1.now) xs) + 1
+    → (length xs < length (enumerate_from 0 lines)) × ((index, line) ≡ get_or (enumerate_from 0 lines) (length xs) (index, line))
+    → index + 1 ≡ length (map (λ p. p.1.now) xs) + 1
 number_of_line xs lines index line here =
     let inside : length xs < length lines = omega (arith, here.0, length-enumerate_from 0 lines) in
     let place : index ≡ 0 + length xs = ap (λ p. p.0) (here.1 ∙ get_or-enumerate_from 0 lines (length xs) (index, line) inside) in
@@ -313,7 +343,8 @@ script_parts before line text after strips some =
 -- the line that is out of place is the first that makes the input no script
 pub first_wrong_line : (input : List ℕ) (before : List (List ℕ)) (line text : List ℕ) (starts : List Start) (plan : Plan) (at : Place)
     → before ≡ take (length before) (input_lines input) → length before < length (input_lines input) → line ≡ get_or (input_lines input) (length before) line
-    → text ≡ strip_carriage_return line → WasRead (script_lines before) starts plan → IsOutOfPlace text plan → at ≡ place.Line (length before + 1) → IsFirstWrongLine input at
+    → text ≡ strip_carriage_return line → WasRead (script_lines before) starts plan → IsOutOfPlace text plan
+    → at ≡ place.Line (length before + 1) → IsFirstWrongLine input at
 first_wrong_line input before line text starts plan at first within here strips was wrong named =
     let after = drop (suc (length before)) (input_lines input) in
     record {
@@ -324,16 +355,21 @@ first_wrong_line input before line text starts plan at first within here strips 
       starts = starts;
       events = plan_events plan.events.items (length plan.nodes.items) plan.level;
       right = was_read_whole before starts plan was;
-      wrong = λ more nodes told. no_script (before ++ line ∷ more) (script_lines before) text (script_lines more) starts plan (script_parts before line text more strips wrong.0) was wrong nodes told;
+      wrong =
+          λ more nodes told.
+          no_script (before ++ line ∷ more) (script_lines before) text (script_lines more) starts plan
+          (script_parts before line text more strips wrong.0) was wrong nodes told;
       named = named;
     }
 
 -- an input with such a line is no script
-pub wrong_line_no_script : (input : List ℕ) (at : Place) → IsFirstWrongLine input at → (starts : List Start) (events : List Event) → ¬ Script input starts events
+pub wrong_line_no_script : (input : List ℕ) (at : Place) → IsFirstWrongLine input at → (starts : List Start)
+    (events : List Event) → ¬ Script input starts events
 wrong_line_no_script input at own starts events script = own.wrong own.after starts events (subst (λ l. ScriptOf l starts events) own.parts script)
 
 -- one line more of those that are not empty
-pub one_more_line : (read : List (List ℕ)) (line text : List ℕ) → text ≡ strip_carriage_return line → script_lines (read ++ line ∷ []) ≡ script_lines read ++ not_empty (text ∷ [])
+pub one_more_line : (read : List (List ℕ)) (line text : List ℕ) → text ≡ strip_carriage_return line → script_lines
+    (read ++ line ∷ []) ≡ script_lines read ++ not_empty (text ∷ [])
 one_more_line read line text strips =
     ap not_empty (map-append strip_carriage_return read (line ∷ []))
     ∙ not_empty_append (map strip_carriage_return read) (strip_carriage_return line ∷ [])
@@ -351,10 +387,22 @@ few_starts [] starts each = ap length each
 few_starts (line ∷ lines) starts each = ap length each.4 ∙ ap suc (few_starts lines each.1 each.3)
 
 -- no more than there are bytes, and one
-pub few_nodes : (input : List ℕ) (nodes : List NodeValue) (starts : List Start) (events : List Event) → AreStarted nodes starts → Script input starts events → length nodes ≤ length input + 1
+pub few_nodes : (input : List ℕ) (nodes : List NodeValue) (starts : List Start) (events : List Event)
+    → AreStarted nodes starts → Script input starts events → length nodes ≤ length input + 1
 few_nodes input nodes starts events started script =
     let kept = few_kept (map strip_carriage_return (input_lines input)) in
     let whole = ap length script.lines in
     let parts = length-append (script.node_lines ++ script.event_lines) script.last in
     let first = length-append script.node_lines script.event_lines in
-    omega (arith, kept, whole, parts, first, length-map (input_lines input) strip_carriage_return, length-slice_split (λ b. b == 10) input, count_by-le-length (λ b. b == 10) input, few_starts script.node_lines starts script.nodes, started_length nodes starts started)
+    omega (
+      arith,
+      kept,
+      whole,
+      parts,
+      first,
+      length-map (input_lines input) strip_carriage_return,
+      length-slice_split (λ b. b == 10) input,
+      count_by-le-length (λ b. b == 10) input,
+      few_starts script.node_lines starts script.nodes,
+      started_length nodes starts started,
+    )

@@ -40,7 +40,8 @@ NodeNumber word k = Decimal 18446744073709551615 word k
 
 -- the word is `-` for no bytes, or the hexadecimal of one byte or more
 abbrev pub HexBytes : List ℕ → List ℕ → Type 0
-HexBytes word bytes = ((word ≡ codes "-") × (bytes ≡ [])) ⊎ ((0 < length word) × (decode_of word ≡ Ok bytes))
+HexBytes word bytes = ((word ≡ codes "-") × (bytes ≡ []))
+    ⊎ ((0 < length word) × (decode_of word ≡ Ok bytes))
 
 -- ---- a line
 
@@ -51,8 +52,8 @@ pub record Start : Type 0 where
   pub inc : ℕ
 
 -- the member that the node stands for
-abbrev pub member_of : Start → Member
-member_of start = record { name = start.name; details = start.details }
+abbrev pub started_member : Start → Member
+started_member start = record { name = start.name; details = start.details }
 
 -- what the node has heard at the start: its own Alive
 abbrev pub start_claims : Start → List Claim
@@ -60,15 +61,18 @@ start_claims start = Alive start.name start.inc start.details ∷ []
 
 -- the node is as it is at the start
 abbrev pub IsStarted : NodeValue → Start → Type 0
-IsStarted node start = (node.name ≡ start.name) × (node.details ≡ start.details) × TableOf node.table (start_claims start)
+IsStarted node start = (node.name ≡ start.name) × (node.details ≡ start.details)
+    × TableOf node.table (start_claims start)
 
 -- so is each node, in their order
 abbrev pub AreStarted : List NodeValue → List Start → Type 0
 AreStarted [] starts = starts ≡ []
-AreStarted (node ∷ nodes) starts = (start : Start) × (rest : List Start) × IsStarted node start × AreStarted nodes rest × (starts ≡ start ∷ rest)
+AreStarted (node ∷ nodes) starts = (start : Start) × (rest : List Start) × IsStarted node start
+    × AreStarted nodes rest × (starts ≡ start ∷ rest)
 
 -- The words after `node` tell who the node is.
-pub record NodeFields (name_word addr_word port_word meta_word vsn_word inc_word : List ℕ) (start : Start) : Type 0 where
+pub record NodeFields (name_word addr_word port_word meta_word vsn_word inc_word : List ℕ)
+    (start : Start) : Type 0 where
   pub name : start.name ≡ percent_decode name_word
   pub addr : HexBytes addr_word start.details.addr
   pub port : Decimal 65535 port_word start.details.port
@@ -81,19 +85,24 @@ pub record NodeFields (name_word addr_word port_word meta_word vsn_word inc_word
 -- the words are those of a node
 abbrev pub NodeWords : List (List ℕ) → Start → Type 0
 NodeWords line start =
-    (name addr port meta vsn inc : List ℕ) × (line ≡ codes "node" ∷ name ∷ addr ∷ port ∷ meta ∷ vsn ∷ inc ∷ [])
+    (name addr port meta vsn inc : List ℕ)
+    × (line ≡ codes "node" ∷ name ∷ addr ∷ port ∷ meta ∷ vsn ∷ inc ∷ [])
     × NodeFields name addr port meta vsn inc start
 
--- The node hears the datagram: the claim of a packet, or all claims of a compound packet, which begins with 7.
+-- The node hears the datagram: the claim of a packet, or all claims of a compound packet, which
+-- begins with 7.
 pub data HearsBytes (k : ℕ) (bytes : List ℕ) (event : Event) : Type 0 where
-  packet : (p : PacketValue) → PacketText bytes p → event ≡ Hear k p.claim → HearsBytes k bytes event
-  compound : (body : List ℕ) (packets : List PacketValue) → bytes ≡ 7 ∷ body → DatagramText bytes packets
+  packet : (p : PacketValue) → PacketText bytes p → event ≡ Hear k p.claim
+      → HearsBytes k bytes event
+  compound : (body : List ℕ) (packets : List PacketValue) → bytes ≡ 7 ∷ body
+      → DatagramText bytes packets
       → event ≡ HearAll k (map (λ p. p.claim) packets) → HearsBytes k bytes event
 
 -- The words are those of an event.
 pub data EventWords (line : List (List ℕ)) (event : Event) : Type 0 where
-  hear : (node datagram : List ℕ) (k : ℕ) (bytes : List ℕ) → line ≡ codes "hear" ∷ node ∷ datagram ∷ []
-      → NodeNumber node k → HexBytes datagram bytes → HearsBytes k bytes event → EventWords line event
+  hear : (node datagram : List ℕ) (k : ℕ) (bytes : List ℕ)
+      → line ≡ codes "hear" ∷ node ∷ datagram ∷ [] → NodeNumber node k → HexBytes datagram bytes
+      → HearsBytes k bytes event → EventWords line event
   exchange : (first second : List ℕ) (j k : ℕ) → line ≡ codes "exchange" ∷ first ∷ second ∷ []
       → NodeNumber first j → NodeNumber second k → event ≡ Exchange j k → EventWords line event
   half : (first second : List ℕ) (j k : ℕ) → line ≡ codes "half" ∷ first ∷ second ∷ []
@@ -113,7 +122,8 @@ not_empty [] = []
 not_empty ([] ∷ lines) = not_empty lines
 not_empty ((byte ∷ bytes) ∷ lines) = (byte ∷ bytes) ∷ not_empty lines
 
--- the lines of a script: one carriage return at the end of each is dropped, and empty lines are skipped
+-- the lines of a script: one carriage return at the end of each is dropped, and empty lines are
+-- skipped
 abbrev pub script_lines : List (List ℕ) → List (List ℕ)
 script_lines lines = not_empty (map strip_carriage_return lines)
 
@@ -121,20 +131,24 @@ script_lines lines = not_empty (map strip_carriage_return lines)
 abbrev pub NodeLines : List (List ℕ) → List Start → Type 0
 NodeLines [] starts = starts ≡ []
 NodeLines (line ∷ lines) starts =
-    (start : Start) × (rest : List Start) × NodeWords (words line) start × NodeLines lines rest × (starts ≡ start ∷ rest)
+    (start : Start) × (rest : List Start) × NodeWords (words line) start × NodeLines lines rest
+    × (starts ≡ start ∷ rest)
 
 -- each line tells of one event
 abbrev pub EventLines : List (List ℕ) → List Event → Type 0
 EventLines [] events = events ≡ []
 EventLines (line ∷ lines) events =
-    (event : Event) × (rest : List Event) × EventWords (words line) event × EventLines lines rest × (events ≡ event ∷ rest)
+    (event : Event) × (rest : List Event) × EventWords (words line) event × EventLines lines rest
+    × (events ≡ event ∷ rest)
 
 -- nothing, or one line that levels so many nodes
 abbrev pub LastLine : ℕ → List (List ℕ) → List Event → Type 0
 LastLine nodes [] events = events ≡ []
-LastLine nodes (line ∷ lines) events = LevelWords (words line) × (lines ≡ []) × (events ≡ level_list nodes)
+LastLine nodes (line ∷ lines) events = LevelWords (words line) × (lines ≡ [])
+    × (events ≡ level_list nodes)
 
--- The lines are the script of these nodes and these events: lines of nodes, then lines of events, and `level` may end it.
+-- The lines are the script of these nodes and these events: lines of nodes, then lines of events,
+-- and `level` may end it.
 pub record ScriptOf (all : List (List ℕ)) (starts : List Start) (events : List Event) : Type 0 where
   pub node_lines : List (List ℕ)
   pub event_lines : List (List ℕ)
@@ -151,7 +165,8 @@ pub record ScriptOf (all : List (List ℕ)) (starts : List Start) (events : List
 abbrev pub Script : List ℕ → List Start → List Event → Type 0
 Script input starts events = ScriptOf (input_lines input) starts events
 
--- The place names the line, counted from 1, that makes the input no script: those before it are one, and with it, whatever follows, they are none.
+-- The place names the line, counted from 1, that makes the input no script: those before it are
+-- one, and with it, whatever follows, they are none.
 pub record IsFirstWrongLine (input : List ℕ) (place : Place) : Type 0 where
   pub before : List (List ℕ)
   pub line : List ℕ
@@ -160,11 +175,14 @@ pub record IsFirstWrongLine (input : List ℕ) (place : Place) : Type 0 where
   pub starts : List Start
   pub events : List Event
   pub right : ScriptOf before starts events
-  pub wrong : (more : List (List ℕ)) (nodes : List Start) (told : List Event) → ¬ ScriptOf (before ++ line ∷ more) nodes told
+  pub wrong : (more : List (List ℕ)) (nodes : List Start) (told : List Event)
+      → ¬ ScriptOf (before ++ line ∷ more) nodes told
   pub named : place ≡ Line (length before + 1)
 
--- Event k comes with the line, counted from 1, that the place names: the lines before it tell of earlier events alone, and with it also of that one.
-pub record ComesWith (lines : List (List ℕ)) (starts : List Start) (events : List Event) (k : ℕ) (place : Place) : Type 0 where
+-- Event k comes with the line, counted from 1, that the place names: the lines before it tell of
+-- earlier events alone, and with it also of that one.
+pub record ComesWith (lines : List (List ℕ)) (starts : List Start) (events : List Event) (k : ℕ)
+    (place : Place) : Type 0 where
   pub before : List (List ℕ)
   pub line : List ℕ
   pub after : List (List ℕ)

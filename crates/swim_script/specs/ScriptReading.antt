@@ -21,7 +21,8 @@ word_of key.Level = codes "level"
 
 -- the words are the numbers of two nodes
 abbrev pub TwoNumbers : List (List ℕ) → ℕ → ℕ → Type 0
-TwoNumbers fields j k = (first second : List ℕ) × (fields ≡ first ∷ second ∷ []) × NodeNumber first j × NodeNumber second k
+TwoNumbers fields j k = (first second : List ℕ) × (fields ≡ first ∷ second ∷ [])
+    × NodeNumber first j × NodeNumber second k
 
 -- the word is the number of one node
 abbrev pub OneNumber : List (List ℕ) → ℕ → Type 0
@@ -29,7 +30,8 @@ OneNumber fields k = (word : List ℕ) × (fields ≡ word ∷ []) × NodeNumber
 
 -- what the words of a line say, where lines of nodes may still come or not
 abbrev pub SpellsLine : Bool → List (List ℕ) → Line → Type 0
-SpellsLine nodes words (line.Node node) = (nodes ≡ true) × (start : Start) × NodeWords words start × IsStarted node start
+SpellsLine nodes words (line.Node node) = (nodes ≡ true) × (start : Start) × NodeWords words start
+    × IsStarted node start
 SpellsLine nodes words (line.Event event) = EventWords words event
 SpellsLine nodes words line.Level = LevelWords words
 
@@ -44,23 +46,31 @@ pub record SpellsNothing (nodes : Bool) (words : List (List ℕ)) : Type 0 where
 -- the line of this number is added to the plan
 abbrev pub Adds : ℕ → Plan → Line → Plan → Type 0
 Adds number old (line.Node node) new =
-    (new.nodes.items ≡ old.nodes.items ++ node ∷ []) × (new.events.items ≡ old.events.items) × (new.level ≡ old.level) × (new.lines.items ≡ old.lines.items)
+    (new.nodes.items ≡ old.nodes.items ++ node ∷ []) × (new.events.items ≡ old.events.items)
+    × (new.level ≡ old.level) × (new.lines.items ≡ old.lines.items)
 Adds number old (line.Event event) new =
-    (new.nodes.items ≡ old.nodes.items) × (new.events.items ≡ old.events.items ++ event ∷ []) × (new.level ≡ old.level) × (new.lines.items ≡ old.lines.items ++ number ∷ [])
+    (new.nodes.items ≡ old.nodes.items) × (new.events.items ≡ old.events.items ++ event ∷ [])
+    × (new.level ≡ old.level) × (new.lines.items ≡ old.lines.items ++ number ∷ [])
 Adds number old line.Level new =
-    (new.nodes.items ≡ old.nodes.items) × (new.events.items ≡ old.events.items) × (new.level ≡ Some number) × (new.lines.items ≡ old.lines.items)
+    (new.nodes.items ≡ old.nodes.items) × (new.events.items ≡ old.events.items)
+    × (new.level ≡ Some number) × (new.lines.items ≡ old.lines.items)
 
--- an empty line is skipped; another one is added, nodes only before all events, and nothing after `level`
+-- an empty line is skipped; another one is added, nodes only before all events, and nothing after
+-- `level`
 abbrev pub TakesLine : List ℕ → ℕ → Plan → Plan → Type 0
 TakesLine text number old new =
     ((text ≡ []) × (new ≡ old))
-    ⊎ ((text ≢ []) × (old.level ≡ None) × ((said : Line) × SpellsLine (length old.events.items == 0) (words text) said × Adds number old said new))
+    ⊎ ((text ≢ []) × (old.level ≡ None)
+    × ((said : Line) × SpellsLine (length old.events.items == 0) (words text) said
+    × Adds number old said new))
 
 -- the line is not empty, and after `level` or says nothing that may stand here
 abbrev pub IsOutOfPlace : List ℕ → Plan → Type 0
-IsOutOfPlace text old = (text ≢ []) × (old.level ≡ None → SpellsNothing (length old.events.items == 0) (words text))
+IsOutOfPlace text old = (text ≢ [])
+    × (old.level ≡ None → SpellsNothing (length old.events.items == 0) (words text))
 
--- the events of a plan: those of its lines, and then those that level its nodes, where `level` ends it
+-- the events of a plan: those of its lines, and then those that level its nodes, where `level` ends
+-- it
 abbrev pub plan_events : List Event → ℕ → Option ℕ → List Event
 plan_events events nodes None = events
 plan_events events nodes (Some number) = events ++ level_list nodes
@@ -74,4 +84,5 @@ event_line (number ∷ numbers) level (suc k) = event_line numbers level k
 -- each event comes with the line of its number
 abbrev pub AreNumbered : List (List ℕ) → List Start → List Event → List ℕ → Option ℕ → Type 0
 AreNumbered lines starts events numbers level =
-    (k number : ℕ) → k < length events → event_line numbers level k ≡ Some number → ComesWith lines starts events k (place.Line number)
+    (k number : ℕ) → k < length events → event_line numbers level k ≡ Some number
+    → ComesWith lines starts events k (place.Line number)

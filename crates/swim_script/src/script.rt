@@ -1,6 +1,7 @@
 //! Scripts: the nodes of a cluster, and what happens in it.
 
 ghost use Rattle.std.specs.Prelude.{◌≡◌, ◌≢◌, ◌↔◌, ◌<◌, ◌≤◌, [], List, length, None, IfOk, IfErr, OnOk};
+ghost use Rattle.swim_program.specs.Limits.{most_bytes};
 ghost use Rattle.swim_program.specs.Lines.{input_lines};
 ghost use Rattle.swim_program.specs.Report.{IsAmong, IsOfReading};
 ghost use Rattle.swim_script.specs.Script.{Script, Start, AreStarted, IsFirstWrongLine};
@@ -43,7 +44,8 @@ impl Plan {
     /// Takes in the line of this number, if the line is not empty.
     fn take_line(&mut self, alloc: Global, line: &[u8], number: u64) -> Result<(), What>
         ensures takes { OnOk result (TakesLine line.now number self.old self.new) }
-        ensures refuses { IfErr result (λ what. what ≢ What.Memory → IsOutOfPlace line.now self.old) }
+        ensures refuses { IfErr result (λ what. what ≢ What.Memory
+            → IsOutOfPlace line.now self.old) }
         ensures kind { IfErr result IsOfReading }
     {
         if line.is_empty() {
@@ -75,22 +77,29 @@ impl Plan {
 
 /// The nodes and events that a script spells.
 ///
-/// Lines end as those of packets do, and empty ones are skipped. First come the lines of nodes, then
-/// those of events; the last may be `level`. The first line that is refused is reported by its number
-/// from 1, and an input of more than 268,435,456 bytes is refused as a whole (InputTooLong).
+/// Lines end as those of packets do, and empty ones are skipped. First come the lines of nodes,
+/// then those of events; the last may be `level`. The first line that is refused is reported by its
+/// number from 1, and an input of more than 268,435,456 bytes is refused as a whole (InputTooLong).
 pub fn read_script(alloc: Global, input: &[u8]) -> Result<Plan, Report>
-    // The lines spell the nodes of the plan and its events, and each event comes with the line of its number.
+    // The lines spell the nodes of the plan and its events, and each event comes with the line of
+    // its number.
     ensures reads { IfOk result (λ plan. (starts : List Start) × AreStarted plan.nodes.items starts
-        × Script input.now starts (plan_events plan.events.items (length plan.nodes.items) plan.level)
-        × AreNumbered (input_lines input.now) starts (plan_events plan.events.items (length plan.nodes.items) plan.level) plan.lines.items plan.level) }
+        × Script input.now starts
+        (plan_events plan.events.items (length plan.nodes.items) plan.level)
+        × AreNumbered (input_lines input.now) starts
+        (plan_events plan.events.items (length plan.nodes.items) plan.level)
+        plan.lines.items plan.level) }
 
     // There are at most as many nodes as bytes, and one event for each number of a line.
     ensures few { IfOk result (λ plan. length plan.nodes.items ≤ 268435457) }
     ensures lines { IfOk result (λ plan. length plan.lines.items ≡ length plan.events.items) }
 
-    // Refused for another cause than memory and its length, the report names the first line that makes the input no script.
-    ensures line { IfErr result (λ report. report.what ≢ What.Memory → length input.now ≤ 268435456 → IsFirstWrongLine input.now report.place) }
-    ensures long { (268435456 < length input.now) ↔ (result ≡ Err (record { place = Place.Input; what = What.Refused 32 None })) }
+    // Refused for another cause than memory and its length, the report names the first line that
+    // makes the input no script.
+    ensures line { IfErr result (λ report. report.what ≢ What.Memory → length input.now ≤ most_bytes
+        → IsFirstWrongLine input.now report.place) }
+    ensures long { (most_bytes < length input.now)
+        ↔ (result ≡ Err (record { place = Place.Input; what = What.Refused 32 None })) }
     ensures kind { IfErr result (λ report. IsOfReading report.what) }
     ensures place { IfErr result (λ report. IsAmong report.place 0) }
 {

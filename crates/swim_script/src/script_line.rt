@@ -9,7 +9,7 @@ ghost use Rattle.swim_script.specs.Script.{Start, IsStarted, NodeWords, EventWor
 ghost use Rattle.swim_script.specs.ScriptReading.{OneNumber, SpellsLine, SpellsNothing, TwoNumbers, word_of};
 
 use crate::keyword::Keyword;
-use crate::script_word::{bytes_of, name_of, number_of, words_of};
+use crate::script_word::{bytes_of, name_of, number_of, split_words};
 use std::alloc::Global;
 use swim_claim::{Details, Name};
 use swim_program::{What, into_claims};
@@ -40,21 +40,23 @@ pub(crate) enum Line {
     Level,
 }
 
-/// Reads a line of a script that is not empty. It may be that of a node only where `nodes_may_come`.
+/// Reads a line of a script that is not empty. It may be that of a node only where
+/// `nodes_may_come`.
 ///
 /// # Errors
 ///
 /// The first of these that holds: `BadScript` where the first word is none of a line, where a node
 /// stands after another line, or where there are more or fewer words; in the fields from left to
 /// right, `BadScript` for a number and `BadHex` for bytes; then for a node `NameEmpty` or
-/// `NameTooLong`, `BadAddress`, `MetaTooLong` and `BadVersions`, and for what a node hears the fault
-/// of its packet.
+/// `NameTooLong`, `BadAddress`, `MetaTooLong` and `BadVersions`, and for what a node hears the
+/// fault of its packet.
 pub(crate) fn read_line(alloc: Global, line: &[u8], nodes_may_come: bool) -> Result<Line, What>
     ensures reads { IfOk result (SpellsLine nodes_may_come (words line.now)) }
-    ensures refuses { IfErr result (λ what. what ≢ What.Memory → SpellsNothing nodes_may_come (words line.now)) }
+    ensures refuses { IfErr result (λ what. what ≢ What.Memory
+        → SpellsNothing nodes_may_come (words line.now)) }
     ensures kind { IfErr result IsOfReading }
 {
-    let words = words_of(alloc, line)?;
+    let words = split_words(alloc, line)?;
     let Some((first, fields)) = words.split_first() else {
         return Err(What::bad_script());
     };
@@ -70,8 +72,11 @@ pub(crate) fn read_line(alloc: Global, line: &[u8], nodes_may_come: bool) -> Res
 
 /// The node of which the words after `node` tell.
 fn read_node(alloc: Global, fields: &[&[u8]]) -> Result<Node, What>
-    ensures reads { IfOk result (λ node. (start : Start) × NodeWords (codes "node" ∷ map (λ word. word.now) fields.now) start × IsStarted node start) }
-    ensures refuses { IfErr result (λ what. what ≢ What.Memory → (start : Start) → ¬ NodeWords (codes "node" ∷ map (λ word. word.now) fields.now) start) }
+    ensures reads { IfOk result (λ node. (start : Start)
+        × NodeWords (codes "node" ∷ map (λ word. word.now) fields.now) start
+        × IsStarted node start) }
+    ensures refuses { IfErr result (λ what. what ≢ What.Memory
+        → (start : Start) → ¬ NodeWords (codes "node" ∷ map (λ word. word.now) fields.now) start) }
     ensures kind { IfErr result IsOfReading }
 {
     let [name, addr, port, meta, vsn, inc] = fields else {
@@ -91,7 +96,8 @@ fn read_node(alloc: Global, fields: &[&[u8]]) -> Result<Node, What>
 /// The event that the words after the first one tell of.
 fn read_event(alloc: Global, keyword: Keyword, fields: &[&[u8]]) -> Result<Event, What>
     ensures reads { IfOk result (EventWords (word_of keyword ∷ map (λ word. word.now) fields.now)) }
-    ensures refuses { IfErr result (λ what. what ≢ What.Memory → (event : Event) → ¬ EventWords (word_of keyword ∷ map (λ word. word.now) fields.now) event) }
+    ensures refuses { IfErr result (λ what. what ≢ What.Memory → (event : Event)
+        → ¬ EventWords (word_of keyword ∷ map (λ word. word.now) fields.now) event) }
     ensures kind { IfErr result IsOfReading }
 {
     match keyword {
@@ -112,7 +118,8 @@ fn read_event(alloc: Global, keyword: Keyword, fields: &[&[u8]]) -> Result<Event
 /// What a node hears by the words after `hear`.
 fn read_hear(alloc: Global, fields: &[&[u8]]) -> Result<Event, What>
     ensures reads { IfOk result (EventWords (codes "hear" ∷ map (λ word. word.now) fields.now)) }
-    ensures refuses { IfErr result (λ what. what ≢ What.Memory → (event : Event) → ¬ EventWords (codes "hear" ∷ map (λ word. word.now) fields.now) event) }
+    ensures refuses { IfErr result (λ what. what ≢ What.Memory
+        → (event : Event) → ¬ EventWords (codes "hear" ∷ map (λ word. word.now) fields.now) event) }
     ensures kind { IfErr result IsOfReading }
 {
     let [node, datagram] = fields else {
@@ -126,7 +133,8 @@ fn read_hear(alloc: Global, fields: &[&[u8]]) -> Result<Event, What>
 /// That a node hears the claim of a packet, or all the claims of a compound packet.
 fn heard(alloc: Global, node: usize, datagram: &[u8]) -> Result<Event, What>
     ensures reads { IfOk result (HearsBytes node datagram.now) }
-    ensures refuses { IfErr result (λ what. what ≢ What.Memory → (event : Event) → ¬ HearsBytes node datagram.now event) }
+    ensures refuses { IfErr result (λ what. what ≢ What.Memory
+        → (event : Event) → ¬ HearsBytes node datagram.now event) }
     ensures kind { IfErr result IsOfReading }
 {
     match datagram {
@@ -137,8 +145,10 @@ fn heard(alloc: Global, node: usize, datagram: &[u8]) -> Result<Event, What>
 
 /// The claims of the packets of a datagram.
 fn claims_of(alloc: Global, datagram: &[u8]) -> Result<Claims, What>
-    ensures reads { IfOk result (λ claims. (packets : List PacketValue) × DatagramText datagram.now packets × (claims ≡ map (λ p. p.claim) packets)) }
-    ensures refuses { IfErr result (λ what. what ≢ What.Memory → (packets : List PacketValue) → ¬ DatagramText datagram.now packets) }
+    ensures reads { IfOk result (λ claims. (packets : List PacketValue)
+        × DatagramText datagram.now packets × (claims ≡ map (λ p. p.claim) packets)) }
+    ensures refuses { IfErr result (λ what. what ≢ What.Memory
+        → (packets : List PacketValue) → ¬ DatagramText datagram.now packets) }
     ensures kind { IfErr result IsOfReading }
 {
     let packets = decode_datagram(alloc, datagram)?;
@@ -147,8 +157,10 @@ fn claims_of(alloc: Global, datagram: &[u8]) -> Result<Claims, What>
 
 /// The numbers of two nodes, which are all the fields.
 fn two_numbers(fields: &[&[u8]]) -> Result<(usize, usize), What>
-    ensures reads { IfOk result (λ nodes. TwoNumbers (map (λ word. word.now) fields.now) nodes.0 nodes.1) }
-    ensures refuses { IfErr result (λ what. (j k : ℕ) → ¬ TwoNumbers (map (λ word. word.now) fields.now) j k) }
+    ensures reads { IfOk result (λ nodes.
+        TwoNumbers (map (λ word. word.now) fields.now) nodes.0 nodes.1) }
+    ensures refuses { IfErr result (λ what.
+        (j k : ℕ) → ¬ TwoNumbers (map (λ word. word.now) fields.now) j k) }
     ensures fault { IfErr result (λ what. what ≡ What.Refused 31 None) }
 {
     let [first, second] = fields else {
@@ -160,7 +172,8 @@ fn two_numbers(fields: &[&[u8]]) -> Result<(usize, usize), What>
 /// The number of one node, which is all the fields.
 fn one_number(fields: &[&[u8]]) -> Result<usize, What>
     ensures reads { IfOk result (OneNumber (map (λ word. word.now) fields.now)) }
-    ensures refuses { IfErr result (λ what. (k : ℕ) → ¬ OneNumber (map (λ word. word.now) fields.now) k) }
+    ensures refuses { IfErr result (λ what.
+        (k : ℕ) → ¬ OneNumber (map (λ word. word.now) fields.now) k) }
     ensures fault { IfErr result (λ what. what ≡ What.Refused 31 None) }
 {
     let [node] = fields else {

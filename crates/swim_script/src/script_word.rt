@@ -19,7 +19,7 @@ const MOST_DIGITS: usize = 20;
 /// # Errors
 ///
 /// `BadScript` where there are more than seven, which no line has.
-pub(crate) fn words_of(alloc: Global, line: &[u8]) -> Result<Vec<&[u8]>, What>
+pub(crate) fn split_words(alloc: Global, line: &[u8]) -> Result<Vec<&[u8]>, What>
     ensures words { IfOk result (λ list. map (λ word. word.now) list.items ≡ words line.now) }
     ensures many { IfErr result (λ what. what ≢ What.Memory → 7 < length (words line.now)) }
     ensures fault { IfErr result (λ what. what ≢ What.Memory → what ≡ What.Refused 31 None) }
@@ -64,7 +64,8 @@ pub(crate) fn number_of(word: &[u8], most: u64) -> Result<u64, What>
 /// `BadHex` where the word is neither.
 pub(crate) fn bytes_of(alloc: Global, word: &[u8]) -> Result<Vec<u8>, What>
     ensures reads { IfOk result (λ bytes. HexBytes word.now bytes.items) }
-    ensures refuses { IfErr result (λ what. what ≢ What.Memory → (bytes : List ℕ) → ¬ HexBytes word.now bytes) }
+    ensures refuses { IfErr result (λ what. what ≢ What.Memory
+        → (bytes : List ℕ) → ¬ HexBytes word.now bytes) }
     ensures fault { IfErr result (λ what. what ≢ What.Memory → what ≡ What.Refused 30 None) }
 {
     match word {

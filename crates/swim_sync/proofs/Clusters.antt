@@ -111,7 +111,8 @@ ran_hear_all nodes k node new all at same takes =
 -- ---- a node that stayed
 
 -- a node that neither changed its member nor its table is as it was
-pub unchanged_node : (nodes : List NodeValue) (k : ℕ) (node new : NodeValue) → slice_get nodes k ≡ Some node → SameMember node new → new.table ≡ node.table → set nodes k new ≡ nodes
+pub unchanged_node : (nodes : List NodeValue) (k : ℕ) (node new : NodeValue) → slice_get nodes k ≡ Some node
+    → SameMember node new → new.table ≡ node.table → set nodes k new ≡ nodes
 unchanged_node nodes k node new at same table =
     let is : new ≡ node = λ i. record { name = same.name i; details = same.details i; table = table i } in
     ap (λ (n : NodeValue). set nodes k n) (is ∙ sym (get_or_from_slice_get nodes k node node at)) ∙ set-get_or nodes k node
@@ -121,7 +122,8 @@ unchanged_node nodes k node new at same table =
 -- what the refutation of node k adds
 refutation_at : (nodes : List NodeValue) (lists : List (List Claim)) (k : ℕ) (node : NodeValue) → slice_get nodes k ≡ Some node
     → refutation_of (members_of nodes) lists k ≡ refutation (member_of node) (heard_by lists k)
-refutation_at nodes lists k node at = ap (λ (o : Option Member). refutation_by o (heard_by lists k)) (slice_get-map member_of nodes k ∙ ap (option_map member_of) at)
+refutation_at nodes lists k node at =
+    ap (λ (o : Option Member). refutation_by o (heard_by lists k)) (slice_get-map member_of nodes k ∙ ap (option_map member_of) at)
 
 pub ran_refute : (nodes : List NodeValue) (k : ℕ) (node new : NodeValue) → slice_get nodes k ≡ Some node → SameMember node new
     → ((claims : List Claim) → TableOf node.table claims → TableOf new.table (claims ++ refutation (member_of node) claims))
@@ -135,7 +137,8 @@ ran_refute nodes k node new at same takes =
 -- a node that did not change has the table of what it had heard and nothing
 stayed : (old new : NodeValue) (claims added : List Claim) → new ≡ old → added ≡ [] → TableOf old.table claims → TableOf new.table (claims ++ added)
 stayed old new claims added same none h =
-    subst (λ (n : NodeValue). TableOf n.table (claims ++ added)) (sym same) (subst (TableOf old.table) (sym (ap (λ (l : List Claim). claims ++ l) none ∙ append-nil claims)) h)
+    subst (λ (n : NodeValue). TableOf n.table (claims ++ added)) (sym same)
+    (subst (TableOf old.table) (sym (ap (λ (l : List Claim). claims ++ l) none ∙ append-nil claims)) h)
 
 -- an answer that is not equal to a want of memory is none
 pub not_memory : (same : Option ℕ → Option ℕ → Bool) (alike : RefuteFault → RefuteFault → Bool) → alike Memory Memory ≡ true
@@ -164,10 +167,13 @@ refute_takes old new (Err Memory) within refuted rest exhausted gone err not_mem
 -- ---- exchanges
 
 -- the table of what node k has heard has as few records as its own
-few_at : (nodes : List NodeValue) (lists : List (List Claim)) (k : ℕ) (node : NodeValue) → TablesOf nodes lists → slice_get nodes k ≡ Some node → ¬ HasTooMany node.table
+few_at : (nodes : List NodeValue) (lists : List (List Claim)) (k : ℕ) (node : NodeValue) → TablesOf nodes lists
+    → slice_get nodes k ≡ Some node → ¬ HasTooMany node.table
     → (table : Entries) → TableOf table (heard_by lists k) → ¬ HasTooMany table
 few_at nodes lists k node h at few table own =
-    subst (λ (t : Entries). ¬ HasTooMany t) (TableOf-unique node.table table (heard_by lists k) (heard_by lists k) (h.each k node at) own (λ c. (λ made. made, λ made. made))) few
+    subst (λ (t : Entries). ¬ HasTooMany t)
+    (TableOf-unique node.table table (heard_by lists k) (heard_by lists k) (h.each k node at) own (λ c. (λ made. made, λ made. made)))
+    few
 
 -- an exchange, or half of one, of two nodes with few enough records can happen
 few_both : (nodes : List NodeValue) (lists : List (List Claim)) (j k : ℕ) (first second : NodeValue) → TablesOf nodes lists
@@ -178,14 +184,17 @@ few_both nodes lists j k first second h at_first at_second few x table of own = 
   | inr same ↦ few_at nodes lists k second h at_second few.1 table (subst (λ (i : ℕ). TableOf table (heard_by lists i)) same own)
 ]
 
-two_heard : (nodes : List NodeValue) (lists : List (List Claim)) (j k : ℕ) → TablesOf nodes lists → AreTwoNodes (length nodes) j k → AreTwoNodes (length lists) j k
+two_heard : (nodes : List NodeValue) (lists : List (List Claim)) (j k : ℕ) → TablesOf nodes lists → AreTwoNodes
+    (length nodes) j k → AreTwoNodes (length lists) j k
 two_heard nodes lists j k h two = subst (λ (n : ℕ). AreTwoNodes n j k) (sym h.number) two
 
 after_exchange : (members : List Member) (lists : List (List Claim)) (j k : ℕ) → AreTwoNodes (length lists) j k
     → after members lists (Exchange j k) ≡ hear_both lists j k (heard_by lists j ++ heard_by lists k)
-after_exchange members lists j k two = ap (λ b. if b then hear_both lists j k (heard_by lists j ++ heard_by lists k) else lists) (two_nodes_test (length lists) j k two)
+after_exchange members lists j k two =
+    ap (λ b. if b then hear_both lists j k (heard_by lists j ++ heard_by lists k) else lists) (two_nodes_test (length lists) j k two)
 
-after_half : (members : List Member) (lists : List (List Claim)) (j k : ℕ) → AreTwoNodes (length lists) j k → after members lists (Half j k) ≡ hear lists k (heard_by lists j)
+after_half : (members : List Member) (lists : List (List Claim)) (j k : ℕ) → AreTwoNodes (length lists) j k
+    → after members lists (Half j k) ≡ hear lists k (heard_by lists j)
 after_half members lists j k two = ap (λ b. if b then hear lists k (heard_by lists j) else lists) (two_nodes_test (length lists) j k two)
 
 pub ran_half : (nodes : List NodeValue) (j k : ℕ) (first second new : NodeValue) → AreTwoNodes (length nodes) j k
@@ -208,7 +217,8 @@ ran_half nodes j k first second new two at_first at_second same few takes = reco
 }
 
 -- two nodes hear what both had heard
-two_hear : (nodes : List NodeValue) (lists : List (List Claim)) (j k : ℕ) (a b : NodeValue) (both : List Claim) → TablesOf nodes lists → AreTwoNodes (length lists) j k
+two_hear : (nodes : List NodeValue) (lists : List (List Claim)) (j k : ℕ) (a b : NodeValue) (both : List Claim)
+    → TablesOf nodes lists → AreTwoNodes (length lists) j k
     → TableOf a.table both → TableOf b.table both → TablesOf (set (set nodes j a) k b) (hear_both lists j k both)
 two_hear nodes lists j k a b both h two own theirs = record {
   number = length-set (set lists j both) k both ∙ length-set lists j both ∙ h.number ∙ sym (length-set (set nodes j a) k b ∙ length-set nodes j a);
@@ -225,12 +235,15 @@ two_hear nodes lists j k a b both h two own theirs = record {
     at : (y : ℕ) (node : NodeValue) (x : ℕ) (new : NodeValue) → y ≡ x → node ≡ new → TableOf new.table (heard_by (hear_both lists j k both) x)
         → TableOf node.table (heard_by (hear_both lists j k both) y)
     at y node x new place same takes =
-        subst (λ (n : NodeValue). TableOf n.table (heard_by (hear_both lists j k both) y)) (sym same) (subst (λ (i : ℕ). TableOf new.table (heard_by (hear_both lists j k both) i)) (sym place) takes)
+        subst (λ (n : NodeValue). TableOf n.table (heard_by (hear_both lists j k both) y)) (sym same)
+        (subst (λ (i : ℕ). TableOf new.table (heard_by (hear_both lists j k both) i)) (sym place) takes)
 
 -- two nodes' tables are those of the claims of both
 ran_both : (nodes : List NodeValue) (j k : ℕ) (first second a b : NodeValue) → AreTwoNodes (length nodes) j k
-    → slice_get nodes j ≡ Some first → slice_get nodes k ≡ Some second → SameMember first a → SameMember second b → (¬ HasTooMany first.table) × (¬ HasTooMany second.table)
-    → ((claims others : List Claim) → TableOf first.table claims → TableOf second.table others → TableOf a.table (claims ++ others) × TableOf b.table (claims ++ others))
+    → slice_get nodes j ≡ Some first → slice_get nodes k ≡ Some second → SameMember first a → SameMember second b
+    → (¬ HasTooMany first.table) × (¬ HasTooMany second.table)
+    → ((claims others : List Claim) → TableOf first.table claims → TableOf second.table others
+    → TableOf a.table (claims ++ others) × TableOf b.table (claims ++ others))
     → Ran nodes (set (set nodes j a) k b) (Exchange j k ∷ [])
 ran_both nodes j k first second a b two at_first at_second same_first same_second few takes = record {
   members =
@@ -264,7 +277,8 @@ exchange_turned nodes new j k two both =
     (record { name = refl; details = refl }) (record { name = refl; details = refl }) (both.few.1, both.few.0)
     (λ claims others h g. (let joined = both.joined others claims g h in (swapped both.other others claims joined.1, swapped both.one others claims joined.0))))
   where
-    set_comm : set (set nodes k (with_table both.first both.one)) j (with_table both.second both.other) ≡ set (set nodes j (with_table both.second both.other)) k (with_table both.first both.one)
+    set_comm : set (set nodes k (with_table both.first both.one)) j (with_table both.second both.other)
+        ≡ set (set nodes j (with_table both.second both.other)) k (with_table both.first both.one)
     set_comm = set_swap nodes k j (with_table both.first both.one) (with_table both.second both.other) (λ same. two.2 (sym same))
 
     swapped : (table : Entries) (claims others : List Claim) → TableOf table (claims ++ others) → TableOf table (others ++ claims)
@@ -278,7 +292,8 @@ ok_both (Err y) both p q = q
 pub both_in_parts : (nodes front back : List NodeValue) (j k : ℕ) (first second : NodeValue) (one other : Entries)
     → nodes ≡ front ++ back → length front ≡ k → j < k → k < length nodes → first ≡ get_or front j first → second ≡ get_or back 0 second
     → (¬ HasTooMany first.table) × (¬ HasTooMany second.table)
-    → ((claims others : List Claim) → TableOf first.table claims → TableOf second.table others → TableOf one (claims ++ others) × TableOf other (claims ++ others))
+    → ((claims others : List Claim) → TableOf first.table claims → TableOf second.table others
+    → TableOf one (claims ++ others) × TableOf other (claims ++ others))
     → BothExchange nodes (set front j (with_table first one) ++ set back 0 (with_table second other)) j k
 both_in_parts nodes front back j k first second one other parts size below within is_first is_second few joined = record {
   first = first;
@@ -300,7 +315,8 @@ hinders_as P Q also why.TooManyRecords hinders = also hinders
 hinders_as P Q also why.Memory hinders = hinders
 
 -- one of two nodes has too many records
-pub too_many_at : (nodes : List NodeValue) (j k : ℕ) (first second : NodeValue) (event : Event) → slice_get nodes j ≡ Some first → slice_get nodes k ≡ Some second
+pub too_many_at : (nodes : List NodeValue) (j k : ℕ) (first second : NodeValue) (event : Event)
+    → slice_get nodes j ≡ Some first → slice_get nodes k ≡ Some second
     → ((x : ℕ) → (x ≡ j) ⊎ (x ≡ k) → Dumps event x) → HasTooMany first.table ⊎ HasTooMany second.table → DumpsTooMany nodes event
 too_many_at nodes j k first second event at_first at_second dumps many = elim many [
   | inl own ↦ (j, first, dumps j (inl refl), at_first, own)
@@ -311,7 +327,8 @@ pub few_enough : (table : Entries) → length (Reduced table) ≤ 131072 → ¬ 
 few_enough table few many = omega (arith, few, many)
 
 -- why an exchange, or half of one, of two nodes does not happen
-pub stops_exchange : (nodes : List NodeValue) (j k : ℕ) → AreTwoNodes (length nodes) j k → (why : Why) → Hinders (DumpsTooMany nodes (Exchange j k)) why → StopsBy nodes (Exchange j k) why
+pub stops_exchange : (nodes : List NodeValue) (j k : ℕ) → AreTwoNodes (length nodes) j k → (why : Why) → Hinders
+    (DumpsTooMany nodes (Exchange j k)) why → StopsBy nodes (Exchange j k) why
 stops_exchange nodes j k two why.NoSuchNode hinders = absurd hinders
 stops_exchange nodes j k two why.SameNode hinders = absurd hinders
 stops_exchange nodes j k two why.TooManyRecords hinders = ((two.0, two.1), two.2, hinders)
@@ -339,14 +356,17 @@ all_written nodes new n number same =
     ∙ ap (λ (l : List NodeValue). take n l) (append-nil new) ∙ take_all n new (omega (arith, number, same))
 
 pub length-exchanged : (old new : List NodeValue) (j k : ℕ) → BothExchange old new j k → length new ≡ length old
-length-exchanged old new j k both = ap length both.nodes ∙ length-set (set old j (with_table both.first both.one)) k (with_table both.second both.other) ∙ length-set old j (with_table both.first both.one)
+length-exchanged old new j k both =
+    ap length both.nodes ∙ length-set (set old j (with_table both.first both.one)) k (with_table both.second both.other)
+    ∙ length-set old j (with_table both.first both.one)
 
 -- ---- runs of events
 
 pub ran_nothing : (nodes : List NodeValue) → Ran nodes nodes []
 ran_nothing nodes = record { members = refl; tables = λ start h. h; could = λ start h. tt }
 
-could-append : (members : List Member) (start : List (List Claim)) (events others : List Event) → EachCanHappen members start events → EachCanHappen members (heard members start events) others
+could-append : (members : List Member) (start : List (List Claim)) (events others : List Event)
+    → EachCanHappen members start events → EachCanHappen members (heard members start events) others
     → EachCanHappen members start (events ++ others)
 could-append members start [] others each more = more
 could-append members start (event ∷ events) others each more = (each.0, could-append members (after members start event) events others each.1 more)
@@ -356,14 +376,17 @@ ran-append old mid new events others r s = record {
   members = s.members ∙ r.members;
   tables = λ start h.
       subst (TablesOf new) (sym (heard-append (members_of old) start events others))
-      (subst (λ (members : List Member). TablesOf new (heard members (heard (members_of old) start events) others)) r.members (s.tables (heard (members_of old) start events) (r.tables start h)));
+      (subst (λ (members : List Member). TablesOf new (heard members (heard (members_of old) start events) others)) r.members
+      (s.tables (heard (members_of old) start events) (r.tables start h)));
   could = λ start h.
       could-append (members_of old) start events others (r.could start h)
-      (subst (λ (members : List Member). EachCanHappen members (heard (members_of old) start events) others) r.members (s.could (heard (members_of old) start events) (r.tables start h)));
+      (subst (λ (members : List Member). EachCanHappen members (heard (members_of old) start events) others) r.members
+      (s.could (heard (members_of old) start events) (r.tables start h)));
 }
 
 -- a run of one more event
 pub ran_more : (old mid new : List NodeValue) (events : List Event) (i : ℕ) (event : Event) → i < length events → event ≡ get_or events i event
     → Ran old mid (take i events) → Ran mid new (event ∷ []) → Ran old new (take (i + 1) events)
 ran_more old mid new events i event below is r s =
-    subst (Ran old new) (sym (take_more events i event below ∙ ap (λ (e : Event). take i events ++ e ∷ []) (sym is))) (ran-append old mid new (take i events) (event ∷ []) r s)
+    subst (Ran old new) (sym (take_more events i event below ∙ ap (λ (e : Event). take i events ++ e ∷ []) (sym is)))
+    (ran-append old mid new (take i events) (event ∷ []) r s)

@@ -24,7 +24,8 @@ pub joined_in : (old new : Source) (before theirs after : Entries) (join : Bool)
     → after ≡ Join before theirs → ((claims others : List Claim) → TableOf before claims → TableOf theirs others → TableOf after (claims ++ others))
     → TakesStream old new before after join
 joined_in old new before theirs after join read is all =
-    let kept : TableOf after (Reduced before ++ Reduced theirs) = subst (λ t. TableOf t (Reduced before ++ Reduced theirs)) (sym is) (TableOf-table_of (Reduced before ++ Reduced theirs)) in
+    let kept : TableOf after (Reduced before ++ Reduced theirs) =
+    subst (λ t. TableOf t (Reduced before ++ Reduced theirs)) (sym is) (TableOf-table_of (Reduced before ++ Reduced theirs)) in
     record {
       claims = read.0;
       taken = read.2;
@@ -39,7 +40,8 @@ few_enough bytes table many =
     omega (arith, few)
 
 -- a table that was dumped and read back
-pub sent : {V : Type 0} (bytes : V) (dump : List ℕ) (table other : Entries) (flag : Bool) → IsLegalTable table → ((Ok bytes ≡ Err TooManyRecords) ↔ HasTooMany table)
+pub sent : {V : Type 0} (bytes : V) (dump : List ℕ) (table other : Entries) (flag : Bool) → IsLegalTable table →
+    ((Ok bytes ≡ Err TooManyRecords) ↔ HasTooMany table)
     → dump ≡ dump_bytes table false
     → ((t : Entries) (join : Bool) → IsLegalTable t → length (Reduced t) ≤ 131072 → dump ≡ dump_bytes t join → ((other ≡ t) × (flag ≡ join)) × Unit {0})
     → other ≡ table
@@ -50,7 +52,8 @@ pub both_joined : (first second a b theirs ours : Entries) → theirs ≡ second
     → (a ≡ Join first second) × (b ≡ Join first second)
 both_joined first second a b theirs ours e f p q = (p ∙ ap (Join first) e, q ∙ ap (Join second) f ∙ Join-comm second first)
 
-pub both_take : (first second a b : Entries) → (a ≡ Join first second) × (b ≡ Join first second) → (claims others : List Claim) → TableOf first claims → TableOf second others
+pub both_take : (first second a b : Entries) → (a ≡ Join first second) × (b ≡ Join first second) →
+    (claims others : List Claim) → TableOf first claims → TableOf second others
     → TableOf a (claims ++ others) × TableOf b (claims ++ others)
 both_take first second a b same claims others h g =
     let joined = TableOf-Join first second claims others h g in
@@ -59,13 +62,17 @@ both_take first second a b same claims others h g =
 -- a dump was not pushed
 pub push_refused : (old new : Source) (out_old out_new : Sink) (table theirs : Entries) (join : Bool) (bytes : List ℕ) → bytes ≡ dump_bytes table join
     → ((claims : List Claim) × TableOf theirs claims × Takes old new (λ b. StreamText b claims join))
-    → (e : PushFault) → (e ≡ push.Fault → Rises out_old.faults out_new.faults) → (e ≡ push.Fault → AppendsFront out_old.written out_new.written bytes) → (e ≡ push.Memory → Keeps out_old.written out_new.written)
+    → (e : PushFault) → (e ≡ push.Fault → Rises out_old.faults out_new.faults)
+    → (e ≡ push.Fault → AppendsFront out_old.written out_new.written bytes)
+    → (e ≡ push.Memory → Keeps out_old.written out_new.written)
     → IsAnswerRefused old new out_old out_new table (fault_of_push e)
-push_refused old new out_old out_new table theirs join bytes is read push.Fault failed front kept = (read.0, join, read.2, record { failed = failed refl; front = subst (AppendsFront out_old.written out_new.written) is (front refl) })
+push_refused old new out_old out_new table theirs join bytes is read push.Fault failed front kept =
+    (read.0, join, read.2, record { failed = failed refl; front = subst (AppendsFront out_old.written out_new.written) is (front refl) })
 push_refused old new out_old out_new table theirs join bytes is read push.Memory failed front kept = kept refl
 
 -- what refuses the preparing refuses the answer, and nothing was pushed
-pub prepared : (old new : Source) (out : Sink) (table : Entries) (fault : SyncFault) → IsPrepareRefused old new table fault → IsAnswerRefused old new out out table fault
+pub prepared : (old new : Source) (out : Sink) (table : Entries) (fault : SyncFault) → IsPrepareRefused old new table fault
+    → IsAnswerRefused old new out out table fault
 prepared old new out table (sync.Wire error) lacks = (lacks, Keeps-refl out.written)
 prepared old new out table sync.TooManyRecords many = (many.0, Keeps-refl out.written)
 prepared old new out table sync.Push never = absurd never

@@ -35,21 +35,25 @@ pub are_level : (old new : List NodeValue) → Ran old new (level_list (length o
 are_level old new r = record {
   all = all;
   one_table = λ start h j k node other at_node at_other.
-      TableOf-unique node.table other.table (all_heard start) (all_heard start) (all start h j node at_node) (all start h k other at_other) (λ c. (λ made. made, λ made. made));
+      TableOf-unique node.table other.table (all_heard start) (all_heard start) (all start h j node at_node)
+      (all start h k other at_other) (λ c. (λ made. made, λ made. made));
 }
   where
     all : (start : List (List Claim)) → TablesOf old start → (k : ℕ) (node : NodeValue) → slice_get new k ≡ Some node → TableOf node.table (all_heard start)
     all start h k node at =
         let events = level_list (length start) in
-        let tables : TablesOf new (heard (members_of old) start events) = subst (λ (n : ℕ). TablesOf new (heard (members_of old) start (level_list n))) (sym h.number) (r.tables start h) in
+        let tables : TablesOf new (heard (members_of old) start events) =
+        subst (λ (n : ℕ). TablesOf new (heard (members_of old) start (level_list n))) (sym h.number) (r.tables start h) in
         let within = slice_get_within new k node at in
         let number = tables.number in
         let same = length-heard (members_of old) start events in
         let below : k < length start = omega (arith, within, number, same) in
-        TableOf-same node.table (heard_by (heard (members_of old) start events) k) (all_heard start) (level (members_of old) start k below) (tables.each k node at)
+        TableOf-same node.table (heard_by (heard (members_of old) start events) k) (all_heard start)
+        (level (members_of old) start k below) (tables.each k node at)
 
 -- an exchange of two of the nodes stops only so
-stops_so : (nodes : List NodeValue) (i : ℕ) (why : Why) → i + 1 < length nodes → StopsBy nodes (Exchange 0 (i + 1)) why → (why ≡ TooManyRecords) ⊎ (why ≡ Memory)
+stops_so : (nodes : List NodeValue) (i : ℕ) (why : Why) → i + 1 < length nodes → StopsBy nodes (Exchange 0 (i + 1)) why →
+    (why ≡ TooManyRecords) ⊎ (why ≡ Memory)
 stops_so nodes i NoSuchNode below stops = absurd (stops (omega (arith, below), below))
 stops_so nodes i SameNode below stops = (let same = stops.1 in absurd (omega (arith, same)))
 stops_so nodes i TooManyRecords below stops = inl refl
@@ -62,12 +66,16 @@ stopped_first old new others i stop one below done r stops =
     let number = length-meet_each (length old - 1) in
     let count = length-level_list (length old) (omega (arith, one, below)) in
     let same = length-ran old new (take i (meet_each others)) r in
-    let front : take i (level_list (length old)) ≡ take i (meet_each (length old - 1)) = take-append-le i (meet_each (length old - 1)) (meet_each (length old - 2)) (omega (arith, number, one, below)) in
-    let at : slice_get (level_list (length old)) i ≡ Some (Exchange 0 (i + 1)) = get-front (meet_each (length old - 1)) (meet_each (length old - 2)) i (Exchange 0 (i + 1)) (met_at (length old - 1) i (omega (arith, one, below))) in
+    let front : take i (level_list (length old)) ≡ take i (meet_each (length old - 1)) =
+    take-append-le i (meet_each (length old - 1)) (meet_each (length old - 2)) (omega (arith, number, one, below)) in
+    let at : slice_get (level_list (length old)) i ≡ Some (Exchange 0 (i + 1)) =
+    get-front (meet_each (length old - 1)) (meet_each (length old - 2)) i (Exchange 0 (i + 1)) (met_at (length old - 1) i (omega (arith, one, below))) in
     record {
       stopped = record {
         before = omega (arith, done, count, one, below);
-        ran = subst (λ (n : ℕ). Ran old new (take n (level_list (length old)))) (sym done) (subst (Ran old new) (sym front) (subst (λ (n : ℕ). Ran old new (take i (meet_each n))) one r));
+        ran =
+            subst (λ (n : ℕ). Ran old new (take n (level_list (length old)))) (sym done)
+            (subst (Ran old new) (sym front) (subst (λ (n : ℕ). Ran old new (take i (meet_each n))) one r));
         why = (Exchange 0 (i + 1), ap (slice_get (level_list (length old))) done ∙ at, stops);
       };
       done = omega (arith, done, one, below);
@@ -75,7 +83,8 @@ stopped_first old new others i stop one below done r stops =
     }
 
 -- node 0 met each other node, but not all but the last once more
-pub stopped_again : (old mid new : List NodeValue) (others again i : ℕ) (stop : Stop) → others ≡ length old - 1 → again ≡ length old - 2 → i < again → stop.done ≡ others + i
+pub stopped_again : (old mid new : List NodeValue) (others again i : ℕ) (stop : Stop) → others ≡ length old - 1
+    → again ≡ length old - 2 → i < again → stop.done ≡ others + i
     → Ran old mid (meet_each others) → Ran mid new (take i (meet_each again)) → StopsBy new (Exchange 0 (i + 1)) stop.why → LevelStopped old new stop
 stopped_again old mid new others again i stop one two below done r s stops =
     let number = length-meet_each (length old - 1) in
@@ -83,7 +92,8 @@ stopped_again old mid new others again i stop one two below done r s stops =
     let same = length-ran old mid (meet_each others) r in
     let again_same = length-ran mid new (take i (meet_each again)) s in
     let place : stop.done ≡ length (meet_each (length old - 1)) + i = omega (arith, done, number, one) in
-    let front : take (length (meet_each (length old - 1)) + i) (level_list (length old)) ≡ meet_each (length old - 1) ++ take i (meet_each (length old - 2)) = take-append-add (meet_each (length old - 1)) (meet_each (length old - 2)) i in
+    let front : take (length (meet_each (length old - 1)) + i) (level_list (length old)) ≡ meet_each (length old - 1) ++ take i (meet_each (length old - 2)) =
+    take-append-add (meet_each (length old - 1)) (meet_each (length old - 2)) i in
     let at : slice_get (level_list (length old)) (length (meet_each (length old - 1)) + i) ≡ Some (Exchange 0 (i + 1)) =
     get-back (meet_each (length old - 1)) (meet_each (length old - 2)) i ∙ met_at (length old - 2) i (omega (arith, two, below)) in
     record {

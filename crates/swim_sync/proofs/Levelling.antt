@@ -49,7 +49,9 @@ get-back (x ∷ xs) ys i =
 
 -- node 0 meets each other node
 meets : (nodes i : ℕ) → suc i < nodes → slice_get (level_list nodes) i ≡ Some (Exchange 0 (suc i))
-meets nodes i below = get-front (meet_each (nodes - 1)) (meet_each (nodes - 2)) i (Exchange 0 (suc i)) (get-meet 1 (nodes - 1) i (omega (arith, below)) ∙ ap (λ k. Some (Exchange 0 k)) (omega arith))
+meets nodes i below =
+    get-front (meet_each (nodes - 1)) (meet_each (nodes - 2)) i (Exchange 0 (suc i))
+    (get-meet 1 (nodes - 1) i (omega (arith, below)) ∙ ap (λ k. Some (Exchange 0 k)) (omega arith))
 
 -- and each but the last once more, after it met all of them
 meets_again : (nodes i : ℕ) → suc (suc i) < nodes → slice_get (level_list nodes) (nodes - 1 + i) ≡ Some (Exchange 0 (suc i))
@@ -75,8 +77,12 @@ route nodes (suc i) (suc j) from to = elim (cases_order i j) [
   | inl same ↦ subst (λ k. Path nodes (level_list nodes) 0 (suc i) (suc k)) same there
   | inr other ↦
       elim other [
-        | inl less ↦ by i 0 (Exchange 0 (suc i)) (omega arith) (meets nodes i from) (inward nodes i from) (by j (suc j) (Exchange 0 (suc j)) (omega (arith, less)) (meets nodes j to) (outward nodes j to) there)
-        | inr more ↦ by i 0 (Exchange 0 (suc i)) (omega arith) (meets nodes i from) (inward nodes i from) (by (nodes - 1 + j) (suc j) (Exchange 0 (suc j)) (omega (arith, from)) (meets_again nodes j (omega (arith, more, from))) (outward nodes j to) there)
+        | inl less ↦
+            by i 0 (Exchange 0 (suc i)) (omega arith) (meets nodes i from) (inward nodes i from)
+            (by j (suc j) (Exchange 0 (suc j)) (omega (arith, less)) (meets nodes j to) (outward nodes j to) there)
+        | inr more ↦
+            by i 0 (Exchange 0 (suc i)) (omega arith) (meets nodes i from) (inward nodes i from)
+            (by (nodes - 1 + j) (suc j) (Exchange 0 (suc j)) (omega (arith, from)) (meets_again nodes j (omega (arith, more, from))) (outward nodes j to) there)
       ]
 ]
 
@@ -129,7 +135,11 @@ module _ (members : List Member) (start : List (List Claim)) (k : ℕ) (c : Clai
   entered_at_start m zero entered = entered
   entered_at_start m (suc place) entered =
       let nodes = length start in
-      absurd (brings_none members _ entered.0 c m (exchanges_append (meet_each (nodes - 1)) (meet_each (nodes - 2)) (exchanges_meet 1 (nodes - 1)) (exchanges_meet 1 (nodes - 2)) place entered.0 entered.1) entered.2)
+      absurd
+      (brings_none members _ entered.0 c m
+      (exchanges_append (meet_each (nodes - 1)) (meet_each (nodes - 2)) (exchanges_meet 1 (nodes - 1))
+      (exchanges_meet 1 (nodes - 2)) place entered.0 entered.1)
+      entered.2)
 
   heard_before : Contains (heard_by (heard members start (level_list (length start))) k) c → Contains (all_heard start) c
   heard_before made =
@@ -141,11 +151,13 @@ module _ (members : List Member) (start : List (List Claim)) (k : ℕ) (c : Clai
       let at = from_all start c made in
       reached members c k start (level_list (length start)) (at.0, zero, at.2, route (length start) at.0 k at.1 below)
 
-pub level : (members : List Member) (start : List (List Claim)) (k : ℕ) → k < length start → Same (heard_by (heard members start (level_list (length start))) k) (all_heard start)
+pub level : (members : List Member) (start : List (List Claim)) (k : ℕ) → k < length start → Same
+    (heard_by (heard members start (level_list (length start))) k) (all_heard start)
 level members start k below c = (heard_before members start k c, heard_now members start k c below)
 
 -- each node has heard what each other one has
-pub level_both : (members : List Member) (start : List (List Claim)) (j k : ℕ) → j < length start → k < length start → Same (heard_by (heard members start (level_list (length start))) j) (heard_by (heard members start (level_list (length start))) k)
+pub level_both : (members : List Member) (start : List (List Claim)) (j k : ℕ) → j < length start → k < length start → Same
+    (heard_by (heard members start (level_list (length start))) j) (heard_by (heard members start (level_list (length start))) k)
 level_both members start j k first second c =
     let one = level members start j first c in
     let other = level members start k second c in

@@ -34,17 +34,22 @@ module _ {X : Type 0} where
   set_swap (z ∷ zs) (suc i) (suc k) x y differ = ap (λ (l : List X). z ∷ l) (set_swap zs i k x y (λ same. differ (ap suc same)))
 
   -- replacing one element in each of two parts
-  pub in_parts : (xs front back : List X) (i k : ℕ) (x y : X) → xs ≡ front ++ back → length front ≡ k → i < k → set front i x ++ set back 0 y ≡ set (set xs i x) k y
+  pub in_parts : (xs front back : List X) (i k : ℕ) (x y : X) → xs ≡ front ++ back → length front ≡ k → i < k
+      → set front i x ++ set back 0 y ≡ set (set xs i x) k y
   in_parts xs front back i k x y parts size below =
       let first : set (front ++ back) i x ≡ set front i x ++ back = set-append_left front back i x (omega (arith, size, below)) in
-      let second : set (set front i x ++ back) k y ≡ set front i x ++ set back (k - k) y = set-append_right (set front i x) back k k y (length-set front i x ∙ size) (omega arith) in
-      sym (ap (λ (l : List X). set (set l i x) k y) parts ∙ ap (λ (l : List X). set l k y) first ∙ second ∙ ap (λ (n : ℕ). set front i x ++ set back n y) (minus-itself k))
+      let second : set (set front i x ++ back) k y ≡ set front i x ++ set back (k - k) y =
+      set-append_right (set front i x) back k k y (length-set front i x ∙ size) (omega arith) in
+      sym
+      (ap (λ (l : List X). set (set l i x) k y) parts ∙ ap (λ (l : List X). set l k y) first ∙ second
+      ∙ ap (λ (n : ℕ). set front i x ++ set back n y) (minus-itself k))
 
   -- an element of the front part
   pub at_front : (xs front back : List X) (i : ℕ) (x : X) → xs ≡ front ++ back → i < length front → x ≡ get_or front i x → slice_get xs i ≡ Some x
   at_front xs front back i x parts below is =
       subst (λ (l : List X). slice_get l i ≡ Some x) (sym parts)
-      (slice_get-get_or (front ++ back) i x (let size = length-append front back in omega (arith, size, below)) ∙ ap Some (get_or_append_left front back x i below ∙ sym is))
+      (slice_get-get_or (front ++ back) i x (let size = length-append front back in omega (arith, size, below))
+      ∙ ap Some (get_or_append_left front back x i below ∙ sym is))
 
   -- the first element of the back part
   pub at_back : (xs front back : List X) (k : ℕ) (x : X) → xs ≡ front ++ back → length front ≡ k → k < length xs → x ≡ get_or back 0 x → slice_get xs k ≡ Some x
@@ -61,5 +66,6 @@ module _ {X : Type 0} where
       slice_get-get_or (set xs k new) y x (omega (arith, within, number)) ∙ ap Some (get_or-set_other xs k y new x other ∙ get_or_from_slice_get xs y x x is)
 
 -- a node is replaced by one of the same member
-pub members_same : (nodes : List NodeValue) (k : ℕ) (node new : NodeValue) → slice_get nodes k ≡ Some node → member_of new ≡ member_of node → members_of (set nodes k new) ≡ members_of nodes
+pub members_same : (nodes : List NodeValue) (k : ℕ) (node new : NodeValue) → slice_get nodes k ≡ Some node
+    → member_of new ≡ member_of node → members_of (set nodes k new) ≡ members_of nodes
 members_same nodes k node new at same = map-set_same member_of nodes k new node (same ∙ ap member_of (sym (get_or_from_slice_get nodes k node node at)))

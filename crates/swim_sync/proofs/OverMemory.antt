@@ -16,9 +16,11 @@ pub takes_offer : (offer rest : List ℕ) (before after other : Entries) (join :
     → TakesStream (record { coming = Some offer; faults = 0 }) (record { coming = Some rest; faults = 0 }) before after join
     → IsOffer other offer → TakesTable before after other
 takes_offer offer rest before after other join took is claims others h g =
-    let one = one_stream took.taken.0 (dump_bytes other false) rest [] took.claims (Reduced other) join false took.taken.1 (dump_is_stream other false is.legal is.few)
+    let one =
+    one_stream took.taken.0 (dump_bytes other false) rest [] took.claims (Reduced other) join false took.taken.1 (dump_is_stream other false is.legal is.few)
     (sym took.taken.2 ∙ is.dump ∙ sym (append-nil (dump_bytes other false))) in
-    TableOf-sent other after (Reduced other) others claims (TableOf-Reduced other others g) g (subst (λ l. TableOf after (claims ++ l)) one.1 (took.all claims h))
+    TableOf-sent other after (Reduced other) others claims (TableOf-Reduced other others g) g
+    (subst (λ l. TableOf after (claims ++ l)) one.1 (took.all claims h))
 
 -- an offer is never refused as no stream
 pub offer_lacks : (offer rest : List ℕ) (other : Entries) (fault : WireFault)

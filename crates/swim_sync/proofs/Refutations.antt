@@ -11,7 +11,7 @@ use mathlib.Core.Bool.{false≢true}
 use Rattle.swim_claim.specs.declared.claim.Claim.{Claim}
 use Rattle.swim_claim.specs.declared.claim.Claim.TheVariants.{Alive, Suspect, Confirm, Leave}
 use Rattle.swim_claim.specs.Claim.{name_of, inc_of, details_of, Overrides}
-use Rattle.swim_claim.specs.Overriding.{overrides_irreflexive}
+use Rattle.swim_claim.proofs.OverridingOrder.{overrides_irreflexive}
 use Rattle.swim_claim.specs.Details.{details_cmp}
 use Rattle.swim_table.specs.Standing.{Standing}
 use Rattle.swim_table.specs.Table.{get, name_cmp, Says, Stands, IsStandingOf, TableOf}
@@ -23,7 +23,7 @@ use Rattle.swim_table.proofs.Lookups.{only_one}
 use Rattle.swim_table.proofs.Refuting.{Due-top, IsNext-top, same_details}
 use Rattle.swim_table.proofs.Tables.{IsAbout, top_of, parts, TableOf-table_of}
 use Rattle.swim_sync.specs.Cluster.{member_of}
-use Rattle.swim_sync.specs.Heard.{Member, standing_with, what_stands, alive_at, refuted, refutation}
+use Rattle.swim_sync.specs.Heard.{Member, standing_with, what_stands, own_alive, refuted, refutation}
 
 -- ---- the claim that stands
 
@@ -55,17 +55,21 @@ what_stands-greatest name (c ∷ claims) = by_answer (what_stands-greatest name 
     passed : Greatest (IsAbout name) claims (what_stands name claims) → name_of c ≢ name → Greatest (IsAbout name) (c ∷ claims) (what_stands name claims)
     passed rest differs = Greatest-append (IsAbout name) (one_name name) (c ∷ []) claims None (what_stands name claims) (about_none name c differs) rest
 
-    by_answer : Greatest (IsAbout name) claims (what_stands name claims) → (o : Ordering) → name_cmp name (name_of c) ≡ o → Greatest (IsAbout name) (c ∷ claims) (if is_eq o then Some (standing_with c (what_stands name claims)) else what_stands name claims)
+    by_answer : Greatest (IsAbout name) claims (what_stands name claims) → (o : Ordering) → name_cmp name (name_of c) ≡ o
+        → Greatest (IsAbout name) (c ∷ claims)
+        (if is_eq o then Some (standing_with c (what_stands name claims)) else what_stands name claims)
     by_answer rest Less e = passed rest (other Less e (λ same. cc))
     by_answer rest Equal e =
         subst (Greatest (IsAbout name) (c ∷ claims)) (standing_with-is c (what_stands name claims))
-        (Greatest-append (IsAbout name) (one_name name) (c ∷ []) claims (Some c) (what_stands name claims) (about_one name c (sym (exact_bytes name (name_of c) e))) rest)
+        (Greatest-append (IsAbout name) (one_name name) (c ∷ []) claims (Some c) (what_stands name claims)
+        (about_one name c (sym (exact_bytes name (name_of c) e))) rest)
     by_answer rest Greater e = passed rest (other Greater e (λ same. cc))
 
 -- it is the top of the name in the table of the claims
 what_stands-top : (name : List ℕ) (claims : List Claim) → what_stands name claims ≡ top_of (get (table_of claims) name)
 what_stands-top name claims =
-    Greatest-unique (IsAbout name) (one_name name) claims claims (what_stands name claims) (top_of (get (table_of claims) name)) (λ c made. made) (λ c made. made)
+    Greatest-unique (IsAbout name) (one_name name) claims claims (what_stands name claims) (top_of (get (table_of claims) name))
+    (λ c made. made) (λ c made. made)
     (what_stands-greatest name claims) (parts claims name (get (table_of claims) name) ((TableOf-table_of claims).each name)).top
 
 -- ---- the refutation
@@ -91,12 +95,16 @@ module _ (claims : List Claim) (member : Member) where
   never : (¬ Due claims member.name member.details) → Refutes claims member []
   never not_due = inr (refl, λ inc by. not_due by.0)
 
-  refutes_at : (inc : ℕ) → Due claims member.name member.details → IsNext claims member.name inc → Refutes claims member (alive_at member inc)
+  refutes_at : (inc : ℕ) → Due claims member.name member.details → IsNext claims member.name inc → Refutes claims member (own_alive member inc)
   refutes_at inc due next = by_test (nat_le inc 4294967295) refl
     where
       by_test : (b : Bool) → nat_le inc 4294967295 ≡ b → Refutes claims member (if b then Alive member.name inc member.details ∷ [] else [])
       by_test true test = inl (inc, (due, next, grind (arith, nat_tests, test)), refl)
-      by_test false test = inr (refl, λ other by. (let same = IsNext-unique claims member.name inc other next by.1 in let above : 4294967295 < inc = grind (arith, nat_tests, test) in omega (arith, same, above, by.2)))
+      by_test false test =
+          inr (
+            refl,
+            λ other by. (let same = IsNext-unique claims member.name inc other next by.1 in let above : 4294967295 < inc = grind (arith, nat_tests, test) in omega (arith, same, above, by.2)),
+          )
 
   refutes_top : (s : Standing) (top : Claim) → s.top ≡ top → IsStandingOf claims member.name s → Refutes claims member (refuted member (Some top))
   refutes_top s (Alive name inc details) is h = by_test (is_eq (details_cmp details member.details)) refl
@@ -109,7 +117,7 @@ module _ (claims : List Claim) (member : Member) where
           let about : name ≡ member.name = ap name_of (sym is) ∙ h.about in
           subst (λ c. Stands c claims) (is ∙ (λ k. Alive (about k) inc (same k))) h.top
 
-      by_test : (b : Bool) → is_eq (details_cmp details member.details) ≡ b → Refutes claims member (if b then [] else alive_at member (inc + 1))
+      by_test : (b : Bool) → is_eq (details_cmp details member.details) ≡ b → Refutes claims member (if b then [] else own_alive member (inc + 1))
       by_test true test =
           let same : Some details ≡ Some member.details = (same_details (Some details) details member.details refl).0 test in
           never (λ due. due.not_own inc (own (cc (same))))
@@ -117,7 +125,8 @@ module _ (claims : List Claim) (member : Member) where
           refutes_at (inc + 1) (due (λ same. false≢true (sym test ∙ (same_details (Some details) details member.details refl).1 same)))
           (subst (λ c. IsNext claims member.name (inc_of c + 1)) is (IsNext-top claims member.name s h (λ final. subst IsFinal is final)))
   refutes_top s (Suspect name inc) is h =
-      refutes_at (inc + 1) (Due-top claims member.name member.details s h (λ final. subst IsFinal is final) (λ own. absurd (let no = ap details_of (sym is) ∙ own in cc (no))))
+      refutes_at (inc + 1)
+      (Due-top claims member.name member.details s h (λ final. subst IsFinal is final) (λ own. absurd (let no = ap details_of (sym is) ∙ own in cc (no))))
       (subst (λ c. IsNext claims member.name (inc_of c + 1)) is (IsNext-top claims member.name s h (λ final. subst IsFinal is final)))
   refutes_top s (Confirm name inc) is h = never (λ due. due.not_final s.top h.top.made h.about (subst IsFinal (sym is) tt))
   refutes_top s (Leave name inc) is h = never (λ due. due.not_final s.top h.top.made h.about (subst IsFinal (sym is) tt))
@@ -127,24 +136,30 @@ module _ (claims : List Claim) (member : Member) where
   refutes_by (Some s) says = refutes_top s s.top refl says
 
   pub refutes : Refutes claims member (refutation member claims)
-  refutes = subst (λ o. Refutes claims member (refuted member o)) (sym (what_stands-top member.name claims)) (refutes_by (get (table_of claims) member.name) ((TableOf-table_of claims).each member.name))
+  refutes =
+      subst (λ o. Refutes claims member (refuted member o)) (sym (what_stands-top member.name claims))
+      (refutes_by (get (table_of claims) member.name) ((TableOf-table_of claims).each member.name))
 
   -- where a refutation is due, it is the Alive at the next incarnation
-  pub refutation-due : (inc : ℕ) → Due claims member.name member.details → IsNext claims member.name inc → inc ≤ 4294967295 → refutation member claims ≡ Alive member.name inc member.details ∷ []
+  pub refutation-due : (inc : ℕ) → Due claims member.name member.details → IsNext claims member.name inc → inc ≤ 4294967295
+      → refutation member claims ≡ Alive member.name inc member.details ∷ []
   refutation-due inc due next within = elim refutes [
     | inl at ↦ at.2 ∙ ap (λ i. Alive member.name i member.details ∷ []) (IsNext-unique claims member.name at.0 inc at.1.1 next)
     | inr none ↦ absurd (none.1 inc (due, next, within))
   ]
 
   -- and else it is nothing
-  pub refutation-none : ((inc : ℕ) → Due claims member.name member.details → IsNext claims member.name inc → ¬ (inc ≤ 4294967295)) → refutation member claims ≡ []
+  pub refutation-none : ((inc : ℕ) → Due claims member.name member.details → IsNext claims member.name inc → ¬ (inc ≤ 4294967295))
+      → refutation member claims ≡ []
   refutation-none not_due = elim refutes [
     | inl at ↦ absurd (not_due at.0 at.1.0 at.1.1 at.1.2)
     | inr none ↦ none.0
   ]
 
   -- it says only what is due
-  pub refutation-said : (c : Claim) → Contains (refutation member claims) c → (inc : ℕ) × (c ≡ Alive member.name inc member.details) × Due claims member.name member.details × IsNext claims member.name inc × (inc ≤ 4294967295)
+  pub refutation-said : (c : Claim) → Contains (refutation member claims) c → (inc : ℕ) ×
+      (c ≡ Alive member.name inc member.details) × Due claims member.name member.details × IsNext claims member.name inc ×
+      (inc ≤ 4294967295)
   refutation-said c made = elim refutes [
     | inl at ↦ (at.0, sym (only_one (Alive member.name at.0 member.details) c (subst (λ l. Contains l c) at.2 made)), at.1.0, at.1.1, at.1.2)
     | inr none ↦ (let nowhere : Contains [] c = subst (λ l. Contains l c) none.0 made in absurd (omega (arith, nowhere.1)))
@@ -153,7 +168,8 @@ module _ (claims : List Claim) (member : Member) where
 -- ---- a node's refutation
 
 -- a node that refuted has the table of what it had heard and its refutation
-pub refuted_table : (old new : NodeValue) (inc : ℕ) → IsRefutedBy old new inc → inc ≤ 4294967295 → (claims : List Claim) → TableOf old.table claims → TableOf new.table (claims ++ refutation (member_of old) claims)
+pub refuted_table : (old new : NodeValue) (inc : ℕ) → IsRefutedBy old new inc → inc ≤ 4294967295 → (claims : List Claim)
+    → TableOf old.table claims → TableOf new.table (claims ++ refutation (member_of old) claims)
 refuted_table old new inc r within claims h =
     let by = r.due.all claims h in
     subst (λ added. TableOf new.table (claims ++ added)) (sym (refutation-due claims (member_of old) inc by.0 by.1 within)) (r.taken.all claims h)

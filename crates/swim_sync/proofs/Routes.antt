@@ -21,10 +21,12 @@ sooner nodes events le (by place x e above at leads path) = by place x e (omega 
 past : (nodes : ℕ) (event : Event) (events : List Event) {p m k : ℕ} → Path nodes (event ∷ events) p m k → (q : ℕ) → p ≡ suc q → Path nodes events q m k
 past nodes event events there q is = there
 past nodes event events (by zero x e above at leads path) q is = absurd (omega (arith, above, is))
-past nodes event events (by (suc place) x e above at leads path) q is = by place x e (omega (arith, above, is)) at leads (past nodes event events path (suc place) refl)
+past nodes event events (by (suc place) x e above at leads path) q is =
+    by place x e (omega (arith, above, is)) at leads (past nodes event events path (suc place) refl)
 
 -- a path of all events goes by the first one or does not
-first : (nodes : ℕ) (event : Event) (events : List Event) {p m k : ℕ} → Path nodes (event ∷ events) p m k → Path nodes events zero m k ⊎ ((x : ℕ) × Leads nodes event m x × Path nodes events zero x k)
+first : (nodes : ℕ) (event : Event) (events : List Event) {p m k : ℕ} → Path nodes (event ∷ events) p m k
+    → Path nodes events zero m k ⊎ ((x : ℕ) × Leads nodes event m x × Path nodes events zero x k)
 first nodes event events there = inl there
 first nodes event events {m = m} (by zero x e above at leads path) =
     let same : event ≡ e = cc (at) in
@@ -34,7 +36,8 @@ first nodes event events (by (suc place) x e above at leads path) = inl (by plac
 -- ---- the first event of a run
 
 module _ (members : List Member) (c : Claim) (k : ℕ) where
-  entered_before : (start : List (List Claim)) (event : Event) (events : List Event) (m p : ℕ) → Entered members (after members start event) events c m p → Path (length start) events p m k → Reaches members start (event ∷ events) c k
+  entered_before : (start : List (List Claim)) (event : Event) (events : List Event) (m p : ℕ) → Entered members
+      (after members start event) events c m p → Path (length start) events p m k → Reaches members start (event ∷ events) c k
   entered_before start event events m zero entered path = elim (arrives members start c event m entered) [
     | inl old ↦ (m, zero, old, sooner (length start) (event ∷ events) (omega arith) (later (length start) event events path))
     | inr new ↦
@@ -45,7 +48,9 @@ module _ (members : List Member) (c : Claim) (k : ℕ) where
   ]
   entered_before start event events m (suc place) entered path = (m, suc (suc place), entered, later (length start) event events path)
 
-  entered_after : (start : List (List Claim)) (event : Event) (events : List Event) (m p : ℕ) → Entered members start (event ∷ events) c m p → Path (length start) (event ∷ events) p m k → (m' : ℕ) × (p' : ℕ) × Entered members (after members start event) events c m' p' × Path (length start) events p' m' k
+  entered_after : (start : List (List Claim)) (event : Event) (events : List Event) (m p : ℕ) → Entered members start
+      (event ∷ events) c m p → Path (length start) (event ∷ events) p m k → (m' : ℕ) × (p' : ℕ) × Entered members
+      (after members start event) events c m' p' × Path (length start) events p' m' k
   entered_after start event events m zero entered path = elim (first (length start) event events path) [
     | inl rest ↦ (m, zero, stays members start c event m entered, rest)
     | inr hop ↦ (hop.0, zero, led members start c event m hop.0 hop.1 entered, hop.2)
@@ -76,4 +81,5 @@ module _ (members : List Member) (c : Claim) (k : ℕ) where
       at_once m (suc place) entered path = absurd (let at = entered.1 in cc (at))
   reached start (event ∷ events) way =
       let next = entered_after start event events way.0 way.1 way.2 way.3 in
-      reached (after members start event) events (next.0, next.1, next.2, subst (λ n. Path n events next.1 next.0 k) (sym (length-after members start event)) next.3)
+      reached (after members start event) events
+      (next.0, next.1, next.2, subst (λ n. Path n events next.1 next.0 k) (sym (length-after members start event)) next.3)

@@ -64,7 +64,8 @@ length-heard members start (event ∷ events) = length-heard members (after memb
 pub hear_nowhere : (lists : List (List Claim)) (k : ℕ) (claims : List Claim) → length lists ≤ k → hear lists k claims ≡ lists
 hear_nowhere lists k claims past = set_past lists k (heard_by lists k ++ claims) past
 
-pub exchange_nothing : (members : List Member) (lists : List (List Claim)) (j k : ℕ) → ¬ AreTwoNodes (length lists) j k → after members lists (Exchange j k) ≡ lists
+pub exchange_nothing : (members : List Member) (lists : List (List Claim)) (j k : ℕ) → ¬ AreTwoNodes (length lists) j k
+    → after members lists (Exchange j k) ≡ lists
 exchange_nothing members lists j k not_two = by_test (are_two_nodes (length lists) j k) refl
   where
     by_test : (b : Bool) → are_two_nodes (length lists) j k ≡ b → (if b then hear_both lists j k (heard_by lists j ++ heard_by lists k) else lists) ≡ lists
@@ -80,13 +81,17 @@ half_nothing members lists j k not_two = by_test (are_two_nodes (length lists) j
 
 -- ---- runs in parts
 
-pub heard-append : (members : List Member) (start : List (List Claim)) (events others : List Event) → heard members start (events ++ others) ≡ heard members (heard members start events) others
+pub heard-append : (members : List Member) (start : List (List Claim)) (events others : List Event) → heard members start
+    (events ++ others) ≡ heard members (heard members start events) others
 heard-append members start [] others = refl
 heard-append members start (event ∷ events) others = heard-append members (after members start event) events others
 
 -- a run of one more event
-pub heard_more : (members : List Member) (start : List (List Claim)) (events : List Event) (i : ℕ) (event : Event) → i < length events → heard members start (take (i + 1) events) ≡ after members (heard members start (take i events)) (get_or events i event)
-heard_more members start events i event below = ap (heard members start) (take_more events i event below) ∙ heard-append members start (take i events) (get_or events i event ∷ [])
+pub heard_more : (members : List Member) (start : List (List Claim)) (events : List Event) (i : ℕ) (event : Event)
+    → i < length events → heard members start (take (i + 1) events) ≡ after members (heard members start (take i events))
+    (get_or events i event)
+heard_more members start events i event below =
+    ap (heard members start) (take_more events i event below) ∙ heard-append members start (take i events) (get_or events i event ∷ [])
 
 -- ---- one node hears more
 
@@ -105,13 +110,19 @@ hear_list : (lists : List (List Claim)) (k : ℕ) (claims : List Claim) (y : ℕ
 hear_list lists k claims y = elim (cases_eq y k) [
   | inl same ↦
       elim (cases_lt y (length lists)) [
-        | inl below ↦ inr (same, below, subst (λ m. get_or (set lists k (heard_by lists k ++ claims)) m [] ≡ heard_by lists k ++ claims) (sym same) (hear_same lists k claims (subst (λ m. m < length lists) same below)))
+        | inl below ↦
+            inr (
+              same,
+              below,
+              subst (λ m. get_or (set lists k (heard_by lists k ++ claims)) m [] ≡ heard_by lists k ++ claims) (sym same) (hear_same lists k claims (subst (λ m. m < length lists) same below)),
+            )
         | inr past ↦ inl (ap (λ l. get_or l y []) (hear_nowhere lists k claims (subst (λ m. length lists ≤ m) same past)))
       ]
   | inr other ↦ inl (hear_other lists k claims y other)
 ]
 
-hear_cases : (lists : List (List Claim)) (k : ℕ) (claims : List Claim) (y : ℕ) (c : Claim) → Contains (heard_by (hear lists k claims) y) c → Contains (heard_by lists y) c ⊎ ((y ≡ k) × (y < length lists) × Contains claims c)
+hear_cases : (lists : List (List Claim)) (k : ℕ) (claims : List Claim) (y : ℕ) (c : Claim) → Contains
+    (heard_by (hear lists k claims) y) c → Contains (heard_by lists y) c ⊎ ((y ≡ k) × (y < length lists) × Contains claims c)
 hear_cases lists k claims y c made = elim (hear_list lists k claims y) [
   | inl same ↦ inl (subst (λ l. Contains l c) same made)
   | inr more ↦
@@ -121,13 +132,16 @@ hear_cases lists k claims y c made = elim (hear_list lists k claims y) [
       ]
 ]
 
-hear_kept : (lists : List (List Claim)) (k : ℕ) (claims : List Claim) (y : ℕ) (c : Claim) → Contains (heard_by lists y) c → Contains (heard_by (hear lists k claims) y) c
+hear_kept : (lists : List (List Claim)) (k : ℕ) (claims : List Claim) (y : ℕ) (c : Claim) → Contains (heard_by lists y) c
+    → Contains (heard_by (hear lists k claims) y) c
 hear_kept lists k claims y c made = elim (hear_list lists k claims y) [
   | inl same ↦ subst (λ l. Contains l c) (sym same) made
-  | inr more ↦ subst (λ l. Contains l c) (sym more.2) (Contains-append_left (heard_by lists k) claims c (subst (λ m. Contains (heard_by lists m) c) more.0 made))
+  | inr more ↦
+      subst (λ l. Contains l c) (sym more.2) (Contains-append_left (heard_by lists k) claims c (subst (λ m. Contains (heard_by lists m) c) more.0 made))
 ]
 
-hear_new : (lists : List (List Claim)) (k : ℕ) (claims : List Claim) (c : Claim) → k < length lists → Contains claims c → Contains (heard_by (hear lists k claims) k) c
+hear_new : (lists : List (List Claim)) (k : ℕ) (claims : List Claim) (c : Claim) → k < length lists → Contains claims c
+    → Contains (heard_by (hear lists k claims) k) c
 hear_new lists k claims c below made =
     subst (λ l. Contains l c) (sym (hear_same lists k claims below)) (Contains-append_right (heard_by lists k) claims c made)
 
@@ -136,10 +150,12 @@ hear_new lists k claims c below made =
 pub both_first : (lists : List (List Claim)) (j k : ℕ) (claims : List Claim) → AreTwoNodes (length lists) j k → heard_by (hear_both lists j k claims) j ≡ claims
 both_first lists j k claims two = get_or-set_other (set lists j claims) k j claims [] two.2 ∙ get_or-set_same lists j claims [] two.0
 
-pub both_second : (lists : List (List Claim)) (j k : ℕ) (claims : List Claim) → AreTwoNodes (length lists) j k → heard_by (hear_both lists j k claims) k ≡ claims
+pub both_second : (lists : List (List Claim)) (j k : ℕ) (claims : List Claim) → AreTwoNodes (length lists) j k → heard_by
+    (hear_both lists j k claims) k ≡ claims
 both_second lists j k claims two = get_or-set_same (set lists j claims) k claims [] (subst (λ n. k < n) (sym (length-set lists j claims)) two.1)
 
-pub both_other : (lists : List (List Claim)) (j k : ℕ) (claims : List Claim) (y : ℕ) → y ≢ j → y ≢ k → heard_by (hear_both lists j k claims) y ≡ heard_by lists y
+pub both_other : (lists : List (List Claim)) (j k : ℕ) (claims : List Claim) (y : ℕ) → y ≢ j → y ≢ k → heard_by
+    (hear_both lists j k claims) y ≡ heard_by lists y
 both_other lists j k claims y first second = get_or-set_other (set lists j claims) k y claims [] second ∙ get_or-set_other lists j y claims [] first
 
 -- ---- one event
@@ -151,7 +167,8 @@ Arrives members lists event c y =
     ⊎ (((x : ℕ) × Leads (length lists) event x y × Contains (heard_by lists x) c) ⊎ Brings members lists event c y)
 
 module _ (members : List Member) (lists : List (List Claim)) (c : Claim) where
-  exchanged_at : (j k y : ℕ) → AreTwoNodes (length lists) j k → Contains (heard_by lists j ++ heard_by lists k) c → (y ≡ j) ⊎ (y ≡ k) → Arrives members lists (Exchange j k) c y
+  exchanged_at : (j k y : ℕ) → AreTwoNodes (length lists) j k → Contains (heard_by lists j ++ heard_by lists k) c → (y ≡ j) ⊎
+      (y ≡ k) → Arrives members lists (Exchange j k) c y
   exchanged_at j k y two made at = elim at [
     | inl first ↦
         elim (Contains-append_cases (heard_by lists j) (heard_by lists k) c made) [
@@ -165,12 +182,17 @@ module _ (members : List Member) (lists : List (List Claim)) (c : Claim) where
         ]
   ]
 
-  exchanged : (j k y : ℕ) → AreTwoNodes (length lists) j k → Contains (heard_by (hear_both lists j k (heard_by lists j ++ heard_by lists k)) y) c → Arrives members lists (Exchange j k) c y
+  exchanged : (j k y : ℕ) → AreTwoNodes (length lists) j k → Contains
+      (heard_by (hear_both lists j k (heard_by lists j ++ heard_by lists k)) y) c → Arrives members lists (Exchange j k) c y
   exchanged j k y two made = elim (cases_eq y j) [
-    | inl first ↦ exchanged_at j k y two (subst (λ l. Contains l c) (ap (heard_by (hear_both lists j k both)) first ∙ both_first lists j k both two) made) (inl first)
+    | inl first ↦
+        exchanged_at j k y two (subst (λ l. Contains l c) (ap (heard_by (hear_both lists j k both)) first ∙ both_first lists j k both two) made) (inl first)
     | inr not_first ↦
         elim (cases_eq y k) [
-          | inl second ↦ exchanged_at j k y two (subst (λ l. Contains l c) (ap (heard_by (hear_both lists j k both)) second ∙ both_second lists j k both two) made) (inr second)
+          | inl second ↦
+              exchanged_at j k y two
+              (subst (λ l. Contains l c) (ap (heard_by (hear_both lists j k both)) second ∙ both_second lists j k both two) made)
+              (inr second)
           | inr not_second ↦ inl (subst (λ l. Contains l c) (both_other lists j k both y not_first not_second) made)
         ]
   ]
@@ -190,12 +212,15 @@ module _ (members : List Member) (lists : List (List Claim)) (c : Claim) where
   ]
   arrives (Exchange j k) y made = by_test (are_two_nodes (length lists) j k) refl made
     where
-      by_test : (b : Bool) → are_two_nodes (length lists) j k ≡ b → Contains (heard_by (if b then hear_both lists j k (heard_by lists j ++ heard_by lists k) else lists) y) c → Arrives members lists (Exchange j k) c y
+      by_test : (b : Bool) → are_two_nodes (length lists) j k ≡ b → Contains
+          (heard_by (if b then hear_both lists j k (heard_by lists j ++ heard_by lists k) else lists) y) c → Arrives members lists
+          (Exchange j k) c y
       by_test true test made = exchanged j k y (two_nodes (length lists) j k test) made
       by_test false test made = inl made
   arrives (Half j k) y made = by_test (are_two_nodes (length lists) j k) refl made
     where
-      by_test : (b : Bool) → are_two_nodes (length lists) j k ≡ b → Contains (heard_by (if b then hear lists k (heard_by lists j) else lists) y) c → Arrives members lists (Half j k) c y
+      by_test : (b : Bool) → are_two_nodes (length lists) j k ≡ b → Contains
+          (heard_by (if b then hear lists k (heard_by lists j) else lists) y) c → Arrives members lists (Half j k) c y
       by_test true test made = elim (hear_cases lists k (heard_by lists j) y c made) [
         | inl old ↦ inl old
         | inr new ↦ inr (inl (j, (subst (AreTwoNodes (length lists) j) (sym new.0) (two_nodes (length lists) j k test), refl, new.0), new.2))
@@ -206,12 +231,17 @@ module _ (members : List Member) (lists : List (List Claim)) (c : Claim) where
     | inr new ↦ inr (inr (new.0, new.1, new.2))
   ]
 
-  kept_both : (j k y : ℕ) → AreTwoNodes (length lists) j k → Contains (heard_by lists y) c → Contains (heard_by (hear_both lists j k (heard_by lists j ++ heard_by lists k)) y) c
+  kept_both : (j k y : ℕ) → AreTwoNodes (length lists) j k → Contains (heard_by lists y) c → Contains
+      (heard_by (hear_both lists j k (heard_by lists j ++ heard_by lists k)) y) c
   kept_both j k y two made = elim (cases_eq y j) [
-    | inl first ↦ subst (λ l. Contains l c) (sym (ap (heard_by (hear_both lists j k both)) first ∙ both_first lists j k both two)) (Contains-append_left (heard_by lists j) (heard_by lists k) c (subst (λ m. Contains (heard_by lists m) c) first made))
+    | inl first ↦
+        subst (λ l. Contains l c) (sym (ap (heard_by (hear_both lists j k both)) first ∙ both_first lists j k both two))
+        (Contains-append_left (heard_by lists j) (heard_by lists k) c (subst (λ m. Contains (heard_by lists m) c) first made))
     | inr not_first ↦
         elim (cases_eq y k) [
-          | inl second ↦ subst (λ l. Contains l c) (sym (ap (heard_by (hear_both lists j k both)) second ∙ both_second lists j k both two)) (Contains-append_right (heard_by lists j) (heard_by lists k) c (subst (λ m. Contains (heard_by lists m) c) second made))
+          | inl second ↦
+              subst (λ l. Contains l c) (sym (ap (heard_by (hear_both lists j k both)) second ∙ both_second lists j k both two))
+              (Contains-append_right (heard_by lists j) (heard_by lists k) c (subst (λ m. Contains (heard_by lists m) c) second made))
           | inr not_second ↦ subst (λ l. Contains l c) (sym (both_other lists j k both y not_first not_second)) made
         ]
   ]
@@ -225,7 +255,8 @@ module _ (members : List Member) (lists : List (List Claim)) (c : Claim) where
   stays (HearAll k claims) y made = hear_kept lists k claims y c made
   stays (Exchange j k) y made = by_test (are_two_nodes (length lists) j k) refl
     where
-      by_test : (b : Bool) → are_two_nodes (length lists) j k ≡ b → Contains (heard_by (if b then hear_both lists j k (heard_by lists j ++ heard_by lists k) else lists) y) c
+      by_test : (b : Bool) → are_two_nodes (length lists) j k ≡ b → Contains
+          (heard_by (if b then hear_both lists j k (heard_by lists j ++ heard_by lists k) else lists) y) c
       by_test true test = kept_both j k y (two_nodes (length lists) j k test) made
       by_test false test = made
   stays (Half j k) y made = by_test (are_two_nodes (length lists) j k)
@@ -248,17 +279,30 @@ module _ (members : List Member) (lists : List (List Claim)) (c : Claim) where
         at_both two (inl from.1) (Contains-append_right (heard_by lists j) (heard_by lists k) c (subst (λ m. Contains (heard_by lists m) c) from.0 made)))
   ]
     where
-      at_both : AreTwoNodes (length lists) j k → (y ≡ j) ⊎ (y ≡ k) → Contains (heard_by lists j ++ heard_by lists k) c → Contains (heard_by (after members lists (Exchange j k)) y) c
+      at_both : AreTwoNodes (length lists) j k → (y ≡ j) ⊎ (y ≡ k) → Contains (heard_by lists j ++ heard_by lists k) c
+          → Contains (heard_by (after members lists (Exchange j k)) y) c
       at_both two at both_made =
-          subst (λ b. Contains (heard_by (if b then hear_both lists j k (heard_by lists j ++ heard_by lists k) else lists) y) c) (sym (two_nodes_test (length lists) j k two))
+          subst (λ b. Contains (heard_by (if b then hear_both lists j k (heard_by lists j ++ heard_by lists k) else lists) y) c)
+          (sym (two_nodes_test (length lists) j k two))
           (elim at [
-            | inl first ↦ subst (λ l. Contains l c) (sym (ap (heard_by (hear_both lists j k (heard_by lists j ++ heard_by lists k))) first ∙ both_first lists j k (heard_by lists j ++ heard_by lists k) two)) both_made
-            | inr second ↦ subst (λ l. Contains l c) (sym (ap (heard_by (hear_both lists j k (heard_by lists j ++ heard_by lists k))) second ∙ both_second lists j k (heard_by lists j ++ heard_by lists k) two)) both_made
+            | inl first ↦
+                subst (λ l. Contains l c)
+                (sym
+                (ap (heard_by (hear_both lists j k (heard_by lists j ++ heard_by lists k))) first
+                ∙ both_first lists j k (heard_by lists j ++ heard_by lists k) two))
+                both_made
+            | inr second ↦
+                subst (λ l. Contains l c)
+                (sym
+                (ap (heard_by (hear_both lists j k (heard_by lists j ++ heard_by lists k))) second
+                ∙ both_second lists j k (heard_by lists j ++ heard_by lists k) two))
+                both_made
           ])
   led (Half j k) x y leads made =
       let two : AreTwoNodes (length lists) j k = subst (λ m. AreTwoNodes (length lists) m k) leads.1 (subst (AreTwoNodes (length lists) x) leads.2 leads.0) in
       subst (λ b. Contains (heard_by (if b then hear lists k (heard_by lists j) else lists) y) c) (sym (two_nodes_test (length lists) j k two))
-      (subst (λ m. Contains (heard_by (hear lists k (heard_by lists j)) m) c) (sym leads.2) (hear_new lists k (heard_by lists j) c two.1 (subst (λ m. Contains (heard_by lists m) c) leads.1 made)))
+      (subst (λ m. Contains (heard_by (hear lists k (heard_by lists j)) m) c) (sym leads.2)
+      (hear_new lists k (heard_by lists j) c two.1 (subst (λ m. Contains (heard_by lists m) c) leads.1 made)))
   led (Refute k) x y leads made = absurd leads
 
   -- and what it brings
@@ -266,8 +310,13 @@ module _ (members : List Member) (lists : List (List Claim)) (c : Claim) where
   brought (Hear k claim) y brings = at_node k (claim ∷ []) y brings.0 brings.1 (0, omega arith, sym brings.2)
     where
       at_node : (k : ℕ) (claims : List Claim) (y : ℕ) → y ≡ k → y < length lists → Contains claims c → Contains (heard_by (hear lists k claims) y) c
-      at_node k claims y same below made = subst (λ m. Contains (heard_by (hear lists k claims) m) c) (sym same) (hear_new lists k claims c (subst (λ m. m < length lists) same below) made)
-  brought (HearAll k claims) y brings = subst (λ m. Contains (heard_by (hear lists k claims) m) c) (sym brings.0) (hear_new lists k claims c (subst (λ m. m < length lists) brings.0 brings.1) brings.2)
+      at_node k claims y same below made =
+          subst (λ m. Contains (heard_by (hear lists k claims) m) c) (sym same) (hear_new lists k claims c (subst (λ m. m < length lists) same below) made)
+  brought (HearAll k claims) y brings =
+      subst (λ m. Contains (heard_by (hear lists k claims) m) c) (sym brings.0)
+      (hear_new lists k claims c (subst (λ m. m < length lists) brings.0 brings.1) brings.2)
   brought (Exchange j k) y brings = absurd brings
   brought (Half j k) y brings = absurd brings
-  brought (Refute k) y brings = subst (λ m. Contains (heard_by (hear lists k (refutation_of members lists k)) m) c) (sym brings.0) (hear_new lists k (refutation_of members lists k) c (subst (λ m. m < length lists) brings.0 brings.1) brings.2)
+  brought (Refute k) y brings =
+      subst (λ m. Contains (heard_by (hear lists k (refutation_of members lists k)) m) c) (sym brings.0)
+      (hear_new lists k (refutation_of members lists k) c (subst (λ m. m < length lists) brings.0 brings.1) brings.2)

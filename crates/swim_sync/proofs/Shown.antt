@@ -14,5 +14,6 @@ top_made table claims h s at =
     says.top.made
 
 -- and each home
-pub home_made : (table : Entries) (claims : List Claim) → TableOf table claims → (s : Standing) (a : Claim) → Contains table s → s.home ≡ Some a → Contains claims a
+pub home_made : (table : Entries) (claims : List Claim) → TableOf table claims → (s : Standing) (a : Claim) → Contains table s
+    → s.home ≡ Some a → Contains claims a
 home_made table claims h s a at is = (home_is_newest table claims h s a at is).made

@@ -24,7 +24,8 @@ members_of nodes = map member_of nodes
 -- each node's table is the table of what it has heard
 pub record TablesOf (nodes : List NodeValue) (lists : List (List Claim)) : Type 0 where
   pub number : length lists ≡ length nodes
-  pub each : (k : ℕ) (node : NodeValue) → slice_get nodes k ≡ Some node → TableOf node.table (heard_by lists k)
+  pub each : (k : ℕ) (node : NodeValue) → slice_get nodes k ≡ Some node
+      → TableOf node.table (heard_by lists k)
 
 -- each number in the event is a node's
 abbrev pub NamesNodes : ℕ → Event → Type 0
@@ -50,26 +51,33 @@ Dumps (Exchange j k) x = (x ≡ j) ⊎ (x ≡ k)
 Dumps (Half j k) x = (x ≡ j) ⊎ (x ≡ k)
 Dumps (Refute k) x = ⊥
 
--- where the nodes have heard these lists the event names nodes, none twice, and no dump that it makes has too many records
+-- where the nodes have heard these lists the event names nodes, none twice, and no dump that it
+-- makes has too many records
 pub record CanHappen (lists : List (List Claim)) (event : Event) : Type 0 where
   pub named : NamesNodes (length lists) event
   pub differ : ¬ NamesOneTwice event
-  pub few : (k : ℕ) (table : Entries) → Dumps event k → TableOf table (heard_by lists k) → ¬ HasTooMany table
+  pub few : (k : ℕ) (table : Entries) → Dumps event k → TableOf table (heard_by lists k)
+      → ¬ HasTooMany table
 
 -- each event can happen when its turn comes
 abbrev pub EachCanHappen : List Member → List (List Claim) → List Event → Type 0
 EachCanHappen members lists [] = Unit {0}
-EachCanHappen members lists (event ∷ events) = CanHappen lists event × EachCanHappen members (after members lists event) events
+EachCanHappen members lists (event ∷ events) = CanHappen lists event
+    × EachCanHappen members (after members lists event) events
 
--- The events happened: the nodes are those of before, each table is that of what its node has heard, and each event could happen.
+-- The events happened: the nodes are those of before, each table is that of what its node has
+-- heard, and each event could happen.
 pub record Ran (old new : List NodeValue) (events : List Event) : Type 0 where
   pub members : members_of new ≡ members_of old
-  pub tables : (start : List (List Claim)) → TablesOf old start → TablesOf new (heard (members_of old) start events)
-  pub could : (start : List (List Claim)) → TablesOf old start → EachCanHappen (members_of old) start events
+  pub tables : (start : List (List Claim)) → TablesOf old start
+      → TablesOf new (heard (members_of old) start events)
+  pub could : (start : List (List Claim)) → TablesOf old start
+      → EachCanHappen (members_of old) start events
 
 -- a dump that the event makes has too many records
 abbrev pub DumpsTooMany : List NodeValue → Event → Type 0
-DumpsTooMany nodes event = (k : ℕ) × (node : NodeValue) × Dumps event k × (slice_get nodes k ≡ Some node) × HasTooMany node.table
+DumpsTooMany nodes event = (k : ℕ) × (node : NodeValue) × Dumps event k
+    × (slice_get nodes k ≡ Some node) × HasTooMany node.table
 
 -- two nodes' tables have the claims of both, and all else is as it was
 pub record BothExchange (old new : List NodeValue) (j k : ℕ) : Type 0 where
@@ -81,21 +89,25 @@ pub record BothExchange (old new : List NodeValue) (j k : ℕ) : Type 0 where
   pub other : Entries
   pub nodes : new ≡ set (set old j (with_table first one)) k (with_table second other)
   pub few : (¬ HasTooMany first.table) × (¬ HasTooMany second.table)
-  pub joined : (claims others : List Claim) → TableOf first.table claims → TableOf second.table others
+  pub joined : (claims others : List Claim) → TableOf first.table claims
+      → TableOf second.table others
       → TableOf one (claims ++ others) × TableOf other (claims ++ others)
 
 -- why the event does not happen to these nodes
 abbrev pub StopsBy : List NodeValue → Event → Why → Type 0
 StopsBy nodes event NoSuchNode = ¬ NamesNodes (length nodes) event
 StopsBy nodes event SameNode = NamesNodes (length nodes) event × NamesOneTwice event
-StopsBy nodes event TooManyRecords = NamesNodes (length nodes) event × (¬ NamesOneTwice event) × DumpsTooMany nodes event
+StopsBy nodes event TooManyRecords = NamesNodes (length nodes) event × (¬ NamesOneTwice event)
+    × DumpsTooMany nodes event
 StopsBy nodes event Memory = NamesNodes (length nodes) event × (¬ NamesOneTwice event)
 
 -- the event at the place of the list does not happen to these nodes
 abbrev pub StopsAt : List NodeValue → List Event → ℕ → Why → Type 0
-StopsAt nodes events place why = (event : Event) × (slice_get events place ≡ Some event) × StopsBy nodes event why
+StopsAt nodes events place why = (event : Event) × (slice_get events place ≡ Some event)
+    × StopsBy nodes event why
 
--- The run of the events stopped: those before the place happened, and the one at the place does not.
+-- The run of the events stopped: those before the place happened, and the one at the place does
+-- not.
 pub record Stopped (old new : List NodeValue) (events : List Event) (stop : Stop) : Type 0 where
   pub before : stop.done < length events
   pub ran : Ran old new (take stop.done events)
@@ -109,7 +121,8 @@ pub record LevelStopped (old new : List NodeValue) (stop : Stop) : Type 0 where
 
 -- each node's table is that of all claims that any node had, and so all nodes have one table
 pub record AreLevel (old new : List NodeValue) : Type 0 where
-  pub all : (start : List (List Claim)) → TablesOf old start
-      → (k : ℕ) (node : NodeValue) → slice_get new k ≡ Some node → TableOf node.table (all_heard start)
+  pub all : (start : List (List Claim)) → TablesOf old start → (k : ℕ) (node : NodeValue)
+      → slice_get new k ≡ Some node → TableOf node.table (all_heard start)
   pub one_table : (start : List (List Claim)) → TablesOf old start
-      → (j k : ℕ) (node other : NodeValue) → slice_get new j ≡ Some node → slice_get new k ≡ Some other → node.table ≡ other.table
+      → (j k : ℕ) (node other : NodeValue) → slice_get new j ≡ Some node
+      → slice_get new k ≡ Some other → node.table ≡ other.table

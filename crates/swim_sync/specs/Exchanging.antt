@@ -7,6 +7,7 @@ use Rattle.swim_pack.specs.Ends.{Source, Sink, Takes, Lacks, Rises, AppendsFront
 use Rattle.swim_wire.specs.declared.fault.WireFault.{WireFault}
 use Rattle.swim_wire.specs.declared.fault.WireFault.TheVariants as wire
 use Rattle.swim_wire.specs.Checks.{ExplainsStart}
+use Rattle.swim_wire.specs.Limits.{most_nodes}
 use Rattle.swim_wire.specs.Reading.{wire_cause}
 use Rattle.swim_wire.specs.Streams.{StreamText}
 use Rattle.swim_table.specs.Dump.{dump_bytes}
@@ -22,18 +23,21 @@ pub record TakesStream (old new : Source) (before after : Entries) (join : Bool)
   pub reduced : TableOf after (Reduced before ++ claims)
   pub all : (others : List Claim) → TableOf before others → TableOf after (others ++ claims)
 
--- One stream with this join flag is gone from the front, and the offered table is that of its claims.
+-- One stream with this join flag is gone from the front, and the offered table is that of its
+-- claims.
 abbrev pub ReadsOffer : Source → Source → Entries → Bool → Type 0
-ReadsOffer old new offered join = (claims : List Claim) × TableOf offered claims × Takes old new (λ b. StreamText b claims join)
+ReadsOffer old new offered join = (claims : List Claim) × TableOf offered claims
+    × Takes old new (λ b. StreamText b claims join)
 
 -- more records than a dump has
 abbrev pub HasTooMany : Entries → Type 0
-HasTooMany table = 131072 < length (Reduced table)
+HasTooMany table = most_nodes < length (Reduced table)
 
 -- No stream stands at the front, and the fault says why; or the inlet failed.
 pub record LacksStream (old new : Source) (fault : WireFault) : Type 0 where
   pub no_memory : fault ≢ wire.Memory
-  pub lacks : UnlessFailed (wire_cause fault) (Lacks old (λ b. (claims : List Claim) × (join : Bool) × StreamText b claims join))
+  pub lacks : UnlessFailed (wire_cause fault)
+      (Lacks old (λ b. (claims : List Claim) × (join : Bool) × StreamText b claims join))
   pub explains : ExplainsStart (ExplainsStream fault) old
   pub failed : fault ≡ wire.Fault → Rises old.faults new.faults
 
@@ -53,16 +57,20 @@ IsOfferRefused old new table join Memory = Keeps old.written new.written
 abbrev pub IsPrepareRefused : Source → Source → Entries → SyncFault → Type 0
 IsPrepareRefused old new table (Wire error) = LacksStream old new error
 IsPrepareRefused old new table TooManyRecords =
-    HasTooMany table × ((claims : List Claim) × (join : Bool) × Takes old new (λ b. StreamText b claims join))
+    HasTooMany table
+    × ((claims : List Claim) × (join : Bool) × Takes old new (λ b. StreamText b claims join))
 IsPrepareRefused old new table Push = ⊥
 IsPrepareRefused old new table Memory = Unit {0}
 
 -- why a stream is not answered
 abbrev pub IsAnswerRefused : Source → Source → Sink → Sink → Entries → SyncFault → Type 0
-IsAnswerRefused old new out_old out_new table (Wire error) = LacksStream old new error × Keeps out_old.written out_new.written
-IsAnswerRefused old new out_old out_new table TooManyRecords = HasTooMany table × Keeps out_old.written out_new.written
+IsAnswerRefused old new out_old out_new table (Wire error) = LacksStream old new error
+    × Keeps out_old.written out_new.written
+IsAnswerRefused old new out_old out_new table TooManyRecords = HasTooMany table
+    × Keeps out_old.written out_new.written
 IsAnswerRefused old new out_old out_new table Push =
-    (claims : List Claim) × (join : Bool) × Takes old new (λ b. StreamText b claims join) × PushesFront out_old out_new table join
+    (claims : List Claim) × (join : Bool) × Takes old new (λ b. StreamText b claims join)
+    × PushesFront out_old out_new table join
 IsAnswerRefused old new out_old out_new table Memory = Keeps out_old.written out_new.written
 
 -- why a reply is not taken in

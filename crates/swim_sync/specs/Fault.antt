@@ -6,7 +6,7 @@ use Rattle.swim_table.specs.declared.fault.EncodeFault.{EncodeFault}
 use Rattle.swim_table.specs.declared.fault.EncodeFault.TheVariants as encode
 use Rattle.swim_wire.specs.declared.fault.WireFault.{WireFault}
 use Rattle.swim_wire.specs.declared.fault.WireFault.TheVariants as wire
-use Rattle.swim_wire.specs.Fault.{number_of}
+use Rattle.swim_wire.specs.Fault.{wire_number}
 use Rattle.swim_sync.specs.declared.fault.SyncFault.{SyncFault}
 use Rattle.swim_sync.specs.declared.fault.SyncFault.TheVariants.{Wire, TooManyRecords, Push, Memory}
 use Rattle.swim_sync.specs.declared.stop.Why.{Why}
@@ -14,7 +14,7 @@ use Rattle.swim_sync.specs.declared.stop.Why.TheVariants as why
 
 -- the number by which reports name a fault
 abbrev pub sync_number : SyncFault → ℕ
-sync_number (Wire fault) = number_of fault
+sync_number (Wire fault) = wire_number fault
 sync_number TooManyRecords = 23
 sync_number Push = 29
 sync_number Memory = 10

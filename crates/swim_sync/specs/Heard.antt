@@ -24,17 +24,20 @@ standing_with c (Some d) = greater c d
 abbrev pub what_stands : List ℕ → List Claim → Option Claim
 what_stands name [] = None
 what_stands name (c ∷ claims) =
-    if is_eq (name_cmp name (name_of c)) then Some (standing_with c (what_stands name claims)) else what_stands name claims
+    if is_eq (name_cmp name (name_of c)) then Some (standing_with c (what_stands name claims))
+    else what_stands name claims
 
 -- the member's Alive at the incarnation, which is at most 4,294,967,295
-abbrev pub alive_at : Member → ℕ → List Claim
-alive_at member inc = if nat_le inc 4294967295 then Alive member.name inc member.details ∷ [] else []
+abbrev pub own_alive : Member → ℕ → List Claim
+own_alive member inc =
+    if nat_le inc 4294967295 then Alive member.name inc member.details ∷ [] else []
 
 -- how the member refutes what stands about it: not its own Alive, and nothing final
 abbrev pub refuted : Member → Option Claim → List Claim
 refuted member None = []
-refuted member (Some (Alive name inc details)) = if is_eq (details_cmp details member.details) then [] else alive_at member (inc + 1)
-refuted member (Some (Suspect name inc)) = alive_at member (inc + 1)
+refuted member (Some (Alive name inc details)) =
+    if is_eq (details_cmp details member.details) then [] else own_alive member (inc + 1)
+refuted member (Some (Suspect name inc)) = own_alive member (inc + 1)
 refuted member (Some (Confirm name inc)) = []
 refuted member (Some (Leave name inc)) = []
 
@@ -72,7 +75,9 @@ abbrev pub after : List Member → List (List Claim) → Event → List (List Cl
 after members lists (Hear k claim) = hear lists k (claim ∷ [])
 after members lists (HearAll k claims) = hear lists k claims
 after members lists (Exchange j k) =
-    if are_two_nodes (length lists) j k then hear_both lists j k (heard_by lists j ++ heard_by lists k) else lists
+    if are_two_nodes (length lists) j k
+    then hear_both lists j k (heard_by lists j ++ heard_by lists k)
+    else lists
 after members lists (Half j k) =
     if are_two_nodes (length lists) j k then hear lists k (heard_by lists j) else lists
 after members lists (Refute k) = hear lists k (refutation_of members lists k)

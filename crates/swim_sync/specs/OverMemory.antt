@@ -5,17 +5,19 @@ use Rattle.swim_table.specs.Dump.{dump_bytes}
 use Rattle.swim_table.specs.Table.{Entries, Reduced, TableOf, IsLegalTable}
 use Rattle.swim_sync.specs.declared.stop.Why.{Why}
 use Rattle.swim_sync.specs.declared.stop.Why.TheVariants.{NoSuchNode, SameNode, TooManyRecords, Memory}
+use Rattle.swim_wire.specs.Limits.{most_nodes}
 
 -- the bytes are the canonical dump of the table, without the join flag
 pub record IsOffer (table : Entries) (bytes : List ℕ) : Type 0 where
   pub legal : IsLegalTable table
-  pub few : length (Reduced table) ≤ 131072
+  pub few : length (Reduced table) ≤ most_nodes
   pub dump : bytes ≡ dump_bytes table false
 
 -- the table has the other one's claims too
 abbrev pub TakesTable : Entries → Entries → Entries → Type 0
 TakesTable before after other =
-    (claims others : List Claim) → TableOf before claims → TableOf other others → TableOf after (claims ++ others)
+    (claims others : List Claim) → TableOf before claims → TableOf other others
+    → TableOf after (claims ++ others)
 
 -- a table has too many records, or memory was refused
 abbrev pub Hinders : Type 0 → Why → Type 0

@@ -29,13 +29,16 @@ Brings members lists (Hear k claim) c m = (m ≡ k) × (m < length lists) × (c 
 Brings members lists (HearAll k claims) c m = (m ≡ k) × (m < length lists) × Contains claims c
 Brings members lists (Exchange j k) c m = ⊥
 Brings members lists (Half j k) c m = ⊥
-Brings members lists (Refute k) c m = (m ≡ k) × (m < length lists) × Contains (refutation_of members lists k) c
+Brings members lists (Refute k) c m = (m ≡ k) × (m < length lists)
+    × Contains (refutation_of members lists k) c
 
--- node m had heard the claim at the start, for p of 0; for a greater p the claim entered node m with the p-th event
+-- node m had heard the claim at the start, for p of 0; for a greater p the claim entered node m
+-- with the p-th event
 abbrev pub Entered : List Member → List (List Claim) → List Event → Claim → ℕ → ℕ → Type 0
 Entered members start events c m zero = Contains (heard_by start m) c
 Entered members start events c m (suc place) =
-    (event : Event) × (slice_get events place ≡ Some event) × Brings members (heard members start (take place events)) event c m
+    (event : Event) × (slice_get events place ≡ Some event)
+    × Brings members (heard members start (take place events)) event c m
 
 -- the claim entered some node, and from there a path leads to node k
 abbrev pub Reaches : List Member → List (List Claim) → List Event → Claim → ℕ → Type 0

@@ -32,8 +32,8 @@ impl Model for Cluster {
 }
 
 impl Cluster {
-    /// The cluster of these nodes, in their order. It takes no memory; what grows later takes it from
-    /// this allocator.
+    /// The cluster of these nodes, in their order. It takes no memory; what grows later takes it
+    /// from this allocator.
     pub fn new(alloc: Global, nodes: Vec<Node>) -> Cluster
         ensures { result ≡ nodes.items }
     {
@@ -63,8 +63,8 @@ impl Cluster {
     ///
     /// - `NoSuchNode` where the event has a number that is no node's.
     /// - `SameNode` where it is an exchange, whole or half, of a node with itself.
-    /// - `TooManyRecords` where it is an exchange, whole or half, and one of the two tables keeps more
-    ///   than 131,072 records.
+    /// - `TooManyRecords` where it is an exchange, whole or half, and one of the two tables keeps
+    ///   more than 131,072 records.
     /// - `Memory` where memory is refused.
     pub fn run(&mut self, events: &[Event]) -> Result<(), Stop>
         ensures ok { OnOk result (Ran self.old self.new events.now) }

@@ -28,8 +28,8 @@ pub enum SyncFault {
 }
 
 impl SyncFault {
-    /// The number by which reports name the fault: that of the stream's fault, 23, 29, or 10 for want
-    /// of memory (own).
+    /// The number by which reports name the fault: that of the stream's fault, 23, 29, or 10 for
+    /// want of memory (own).
     pub fn number(&self) -> u32
         ensures { result ≡ sync_number self.now }
     {

@@ -3,6 +3,7 @@ ghost use Rattle.std.specs.Prelude.{◌≡◌, ◌↔◌, ◌<◌, ◌≤◌, �
 ghost use Rattle.swim_claim.specs.declared.claim.Claim.{Claim};
 ghost use Rattle.swim_claim.specs.declared.claim.Claim.TheVariants.{Alive};
 ghost use Rattle.swim_claim.specs.Claim.{name_of, Overrides};
+ghost use Rattle.swim_wire.specs.Limits.{most_nodes};
 ghost use Rattle.swim_wire.specs.Streams.{StreamText};
 ghost use Rattle.swim_table.specs.Standing.{Standing};
 ghost use Rattle.swim_table.specs.Table.{Entries, TableOf, Same, Reduced, IsLegalTable};
@@ -17,15 +18,16 @@ ghost use Rattle.swim_sync.specs.Levels.{level_list, all_heard};
 ghost use Rattle.swim_sync.specs.Paths.{AreTwoNodes, Reaches};
 
 /// Two members that take in the same claims, in any order and grouping and however often, have one
-/// table, one listing and one dump. Joining their tables is commutative, associative and idempotent.
-/// Every claim shown was taken in, and no claim taken in overrides a state shown. What a dump of at
-/// most 131,072 records is read as is what it was made of.
+/// table, one listing and one dump. Joining their tables is commutative, associative and
+/// idempotent. Every claim shown was taken in, and no claim taken in overrides a state shown. What
+/// a dump of at most 131,072 records is read as is what it was made of.
 pub fn two_members()
     ensures commutative { (table other : Entries) → Join table other ≡ Join other table }
     ensures associative { (table other third : Entries) → TableOf table (Reduced table)
         → TableOf other (Reduced other) → TableOf third (Reduced third)
         → Join (Join table other) third ≡ Join table (Join other third) }
-    ensures idempotent { (table : Entries) → TableOf table (Reduced table) → Join table table ≡ table }
+    ensures idempotent { (table : Entries) → TableOf table (Reduced table)
+        → Join table table ≡ table }
     ensures tops { (table : Entries) (claims : List Claim) → TableOf table claims
         → (s : Standing) → Contains table s → Contains claims s.top }
     ensures homes { (table : Entries) (claims : List Claim) → TableOf table claims
@@ -35,65 +37,73 @@ pub fn two_members()
         → name_of c ≡ name_of s.top → ¬ Overrides c s.top }
     ensures same { (table other : Entries) (claims others : List Claim) → TableOf table claims
         → TableOf other others → Same claims others → table ≡ other }
-    ensures one_listing { (table other : Entries) (claims others : List Claim) → TableOf table claims
-        → TableOf other others → Same claims others → listing table ≡ listing other }
-    ensures one_dump { (table other : Entries) (claims others : List Claim) (join : Bool) → TableOf table claims
-        → TableOf other others → Same claims others → dump_bytes table join ≡ dump_bytes other join }
-    ensures read_back { (table : Entries) (join flag : Bool) (claims : List Claim) → IsLegalTable table
-        → length (Reduced table) ≤ 131072 → StreamText (dump_bytes table join) claims flag
+    ensures one_listing { (table other : Entries) (claims others : List Claim)
+        → TableOf table claims → TableOf other others → Same claims others
+        → listing table ≡ listing other }
+    ensures one_dump { (table other : Entries) (claims others : List Claim) (join : Bool)
+        → TableOf table claims → TableOf other others → Same claims others
+        → dump_bytes table join ≡ dump_bytes other join }
+    ensures read_back { (table : Entries) (join flag : Bool) (claims : List Claim)
+        → IsLegalTable table → length (Reduced table) ≤ most_nodes
+        → StreamText (dump_bytes table join) claims flag
         → (claims ≡ Reduced table) × (flag ≡ join) }
 {}
 
-/// A member's refutation is its Alive at the next incarnation where one is due and this incarnation is
-/// at most 4,294,967,295, and else nothing.
+/// A member's refutation is its Alive at the next incarnation where one is due and this incarnation
+/// is at most 4,294,967,295, and else nothing.
 pub fn refutations()
-    ensures due { (member : Member) (claims : List Claim) (inc : ℕ) → Due claims member.name member.details
-        → IsNext claims member.name inc → inc ≤ 4294967295
+    ensures due { (member : Member) (claims : List Claim) (inc : ℕ)
+        → Due claims member.name member.details → IsNext claims member.name inc → inc ≤ 4294967295
         → refutation member claims ≡ Alive member.name inc member.details ∷ [] }
     ensures none { (member : Member) (claims : List Claim)
-        → ((inc : ℕ) → Due claims member.name member.details → IsNext claims member.name inc → ¬ (inc ≤ 4294967295))
+        → ((inc : ℕ) → Due claims member.name member.details → IsNext claims member.name inc
+        → ¬ (inc ≤ 4294967295))
         → refutation member claims ≡ [] }
-    ensures said { (member : Member) (claims : List Claim) (said : Claim) → Contains (refutation member claims) said
-        → (inc : ℕ) × (said ≡ Alive member.name inc member.details) × Due claims member.name member.details
+    ensures said { (member : Member) (claims : List Claim) (said : Claim)
+        → Contains (refutation member claims) said
+        → (inc : ℕ) × (said ≡ Alive member.name inc member.details)
+        × Due claims member.name member.details
         × IsNext claims member.name inc × (inc ≤ 4294967295) }
 {}
 
-/// The list of exchanges that levels a cluster has two exchanges for each node, less three. After it
-/// each node has heard exactly what all nodes had heard together, and so all have one table.
+/// The list of exchanges that levels a cluster has two exchanges for each node, less three. After
+/// it each node has heard exactly what all nodes had heard together, and so all have one table.
 pub fn levels()
     ensures count { (nodes : ℕ) → 2 ≤ nodes → length (level_list nodes) ≡ 2 * nodes - 3 }
     ensures level { (members : List Member) (start : List (List Claim)) → (k : ℕ) → k < length start
         → Same (heard_by (heard members start (level_list (length start))) k) (all_heard start) }
-    ensures one_table { (members : List Member) (start : List (List Claim)) → (j k : ℕ) (table other : Entries)
-        → j < length start → k < length start
+    ensures one_table { (members : List Member) (start : List (List Claim))
+        → (j k : ℕ) (table other : Entries) → j < length start → k < length start
         → TableOf table (heard_by (heard members start (level_list (length start))) j)
         → TableOf other (heard_by (heard members start (level_list (length start))) k)
         → table ≡ other }
 {}
 
-/// An event with a number that is no node's, and an exchange of a node with itself, change nothing. No
-/// event adds a node or takes one away.
+/// An event with a number that is no node's, and an exchange of a node with itself, change nothing.
+/// No event adds a node or takes one away.
 pub fn idle_events()
-    ensures hear { (members : List Member) (lists : List (List Claim)) (k : ℕ) (claim : Claim) → length lists ≤ k
-        → after members lists (Hear k claim) ≡ lists }
-    ensures hear_all { (members : List Member) (lists : List (List Claim)) (k : ℕ) (claims : List Claim) → length lists ≤ k
-        → after members lists (HearAll k claims) ≡ lists }
-    ensures exchange { (members : List Member) (lists : List (List Claim)) (j k : ℕ) → ¬ AreTwoNodes (length lists) j k
-        → after members lists (Exchange j k) ≡ lists }
-    ensures half { (members : List Member) (lists : List (List Claim)) (j k : ℕ) → ¬ AreTwoNodes (length lists) j k
-        → after members lists (Half j k) ≡ lists }
+    ensures hear { (members : List Member) (lists : List (List Claim)) (k : ℕ) (claim : Claim)
+        → length lists ≤ k → after members lists (Hear k claim) ≡ lists }
+    ensures hear_all { (members : List Member) (lists : List (List Claim)) (k : ℕ)
+        (claims : List Claim) → length lists ≤ k → after members lists (HearAll k claims) ≡ lists }
+    ensures exchange { (members : List Member) (lists : List (List Claim)) (j k : ℕ)
+        → ¬ AreTwoNodes (length lists) j k → after members lists (Exchange j k) ≡ lists }
+    ensures half { (members : List Member) (lists : List (List Claim)) (j k : ℕ)
+        → ¬ AreTwoNodes (length lists) j k → after members lists (Half j k) ≡ lists }
     ensures refute { (members : List Member) (lists : List (List Claim)) (k : ℕ) → length lists ≤ k
         → after members lists (Refute k) ≡ lists }
     ensures nodes { (members : List Member) (start : List (List Claim)) (events : List Event)
         → length (heard members start events) ≡ length start }
 {}
 
-/// A node has heard a claim exactly where the claim entered some node, at the start or with an event,
-/// and later events lead in turn from that node to this one. So nothing is invented, and nothing that
-/// a path carries is lost.
+/// A node has heard a claim exactly where the claim entered some node, at the start or with an
+/// event, and later events lead in turn from that node to this one. So nothing is invented, and
+/// nothing that a path carries is lost.
 pub fn paths()
-    ensures { (members : List Member) (start : List (List Claim)) (events : List Event) → (claim : Claim) (k : ℕ)
-        → (Contains (heard_by (heard members start events) k) claim ↔ Reaches members start events claim k) }
+    ensures { (members : List Member) (start : List (List Claim)) (events : List Event)
+        → (claim : Claim) (k : ℕ)
+        → (Contains (heard_by (heard members start events) k) claim
+        ↔ Reaches members start events claim k) }
 {}
 
 /// To send the claims that a table keeps is as good as to send all claims of which it is the table,
@@ -105,8 +115,8 @@ pub fn reduced_enough()
 
 /// Two nodes that heard the same claims have one table, also in two runs of different events.
 pub fn same_heard()
-    ensures { (members others : List Member) (start begun : List (List Claim)) (events happened : List Event)
-        → (j k : ℕ) (table other : Entries)
+    ensures { (members others : List Member) (start begun : List (List Claim))
+        (events happened : List Event) → (j k : ℕ) (table other : Entries)
         → TableOf table (heard_by (heard members start events) j)
         → TableOf other (heard_by (heard others begun happened) k)
         → Same (heard_by (heard members start events) j) (heard_by (heard others begun happened) k)

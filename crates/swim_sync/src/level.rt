@@ -9,10 +9,10 @@ use crate::cluster::Cluster;
 use crate::stop::Stop;
 
 impl Cluster {
-    /// Levels the cluster of n nodes: node 0 exchanges its table with each other node, from node 1 on,
-    /// and once more with each of them but the last (own). These are 2n - 3 exchanges for two nodes
-    /// and more. Each node has then the table of all claims that any node had. Of none and of one node
-    /// nothing changes. There have to be at most 2,147,483,648 nodes.
+    /// Levels the cluster of n nodes: node 0 exchanges its table with each other node, from node 1
+    /// on, and once more with each of them but the last (own). These are 2n - 3 exchanges for two
+    /// nodes and more. Each node has then the table of all claims that any node had. Of none and of
+    /// one node nothing changes. There have to be at most 2,147,483,648 nodes.
     ///
     /// # Errors
     ///
@@ -41,7 +41,8 @@ impl Cluster {
         ensures ok { OnOk result (Ran self.old self.new (meet_each count)) }
         ensures idle { count ≡ 0 → IsOk result × (self.new ≡ self.old) }
         ensures stopped { IfErr result (λ stop. (i : ℕ) × (i < count) × (stop.done ≡ done + i)
-            × Ran self.old self.new (take i (meet_each count)) × StopsBy self.new (event.Exchange 0 (i + 1)) stop.why) }
+            × Ran self.old self.new (take i (meet_each count))
+            × StopsBy self.new (event.Exchange 0 (i + 1)) stop.why) }
     {
         for met in 0..count {
             if let Err(why) = self.exchange(0, met + 1) {

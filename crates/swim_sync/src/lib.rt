@@ -1,4 +1,14 @@
 //! Members that exchange their tables: the exchange itself, whole runs of members, and levelling.
+//!
+//! | module | subject |
+//! |---|---|
+//! | `push_pull` | the exchange of two tables, in halves over ends of bytes and as a whole |
+//! | `over_memory` | the same over memory, where no end fails |
+//! | `event` | what happens in a cluster |
+//! | `cluster` | the nodes of a cluster, and runs of events |
+//! | `level` | exchanges after which all nodes of a cluster have one table |
+//! | `fault`, `stop` | why an exchange was refused, why a run stopped |
+//! | `laws` | what holds of exchanges and runs, apart from any code |
 #![tactic(auto)]
 
 mod cluster;

@@ -18,6 +18,7 @@ pub(crate) fn offered(alloc: Global, table: &Table) -> Result<VecOutlet, Why>
     ensures offers { IfOk result (IsOffer table.now) }
     ensures refused { IfErr result (Hinders (HasTooMany table.now)) }
 {
+    // opens the invariant: the table is legal
     let _ = table.len();
     let mut outlet = VecOutlet::new(alloc);
     match offer(alloc, &mut outlet, table, false) {
@@ -31,7 +32,8 @@ pub(crate) fn offered(alloc: Global, table: &Table) -> Result<VecOutlet, Why>
 /// Answers the offer of a table, and loses the reply. Where it is refused, the table is as it was.
 pub(crate) fn answered(alloc: Global, offer: &[u8], table: &mut Table) -> Result<(), Why>
     requires { (other : Entries) × IsOffer other offer.now }
-    ensures takes { OnOk result ((other : Entries) → IsOffer other offer.now → TakesTable table.old table.new other) }
+    ensures takes { OnOk result ((other : Entries) → IsOffer other offer.now
+        → TakesTable table.old table.new other) }
     ensures few { OnOk result (¬ HasTooMany table.old) }
     ensures unchanged { OnErr result (table.new ≡ table.old) }
     ensures refused { IfErr result (Hinders (HasTooMany table.old)) }
@@ -48,7 +50,8 @@ pub(crate) fn answered(alloc: Global, offer: &[u8], table: &mut Table) -> Result
 
 /// Exchanges two tables. Where it is refused, both are as they were.
 pub(crate) fn exchanged(alloc: Global, first: &mut Table, second: &mut Table) -> Result<(), Why>
-    ensures all { OnOk result ((claims others : List Claim) → TableOf first.old claims → TableOf second.old others
+    ensures all { OnOk result ((claims others : List Claim) → TableOf first.old claims
+        → TableOf second.old others
         → TableOf first.new (claims ++ others) × TableOf second.new (claims ++ others)) }
     ensures few { OnOk result (¬ (HasTooMany first.old ⊎ HasTooMany second.old)) }
     ensures unchanged { OnErr result ((first.new ≡ first.old) × (second.new ≡ second.old)) }

@@ -1,8 +1,8 @@
 //! The exchange of two members' tables, in halves over ends of bytes and as a whole over memory.
 //!
 //! The member that begins offers its table as a stream. The other one answers: it reads the whole
-//! stream, writes its own table as a stream, and then takes in what it read. The first one finishes:
-//! it reads that reply and takes it in. The order is memberlist's (`net.go`, `state.go`).
+//! stream, writes its own table as a stream, and then takes in what it read. The first one
+//! finishes: it reads that reply and takes it in. The order is memberlist's (`net.go`, `state.go`).
 
 ghost use Rattle.std.specs.Prelude.{◌≡◌, ◌↔◌, ◌⊎◌, ◌+◌, ◌≤◌, ◌++◌, List, length, IsErr, IfOk, IfErr, OnOk, OnErr};
 ghost use Rattle.std.specs.Io.KnownBytes.{Appends};
@@ -33,29 +33,32 @@ pub fn offer<O: Outlet>(
     table: &Table,
     join: bool,
 ) -> Result<(), SyncFault>
-    ensures pushes { OnOk result (Appends (O.seen outlet.old).written (O.seen outlet.new).written (dump_bytes table.now join)) }
+    ensures pushes { OnOk result (Appends (O.seen outlet.old).written (O.seen outlet.new).written
+        (dump_bytes table.now join)) }
     ensures too_many { (result ≡ Err SyncFault.TooManyRecords) ↔ HasTooMany table.now }
-    ensures refused { IfErr result (IsOfferRefused (O.seen outlet.old) (O.seen outlet.new) table.now join) }
+    ensures refused { IfErr result
+        (IsOfferRefused (O.seen outlet.old) (O.seen outlet.new) table.now join) }
 {
     let dump = encode(alloc, table, join)?;
     outlet.push(&dump)?;
     Ok(())
 }
 
-/// Answers an offer: reads one stream, writes the canonical dump of the own table with the same join
-/// flag by one push, and then takes the stream's claims in (memberlist's `net.go`). Answers the flag.
+/// Answers an offer: reads one stream, writes the canonical dump of the own table with the same
+/// join flag by one push, and then takes the stream's claims in (memberlist's `net.go`). Answers
+/// the flag.
 ///
 /// All memory is obtained before the push, so that nothing is refused after a push that succeeds
 /// (own). Bytes after the stream stay in the inlet.
 ///
 /// # Errors
 ///
-/// The table is then as it was, and what is left in the inlet are bytes from the end of those before.
-/// Nothing was pushed, except by `Push`.
+/// The table is then as it was, and what is left in the inlet are bytes from the end of those
+/// before. Nothing was pushed, except by `Push`.
 ///
 /// - `Wire` where no stream stands at the front of the inlet, or the inlet failed.
-/// - `TooManyRecords` where the own table keeps more than 131,072 records. With it no stream is ever
-///   answered.
+/// - `TooManyRecords` where the own table keeps more than 131,072 records. With it no stream is
+///   ever answered.
 /// - `Push` where the outlet failed. Some of the dump, from its front, may have been pushed.
 /// - `Memory` where memory is refused.
 pub fn answer<I: Inlet, O: Outlet>(
@@ -65,14 +68,18 @@ pub fn answer<I: Inlet, O: Outlet>(
     table: &mut Table,
 ) -> Result<bool, SyncFault>
     // The table of before was pushed, and has the claims of the stream now.
-    ensures takes { IfOk result (TakesStream (I.seen inlet.old) (I.seen inlet.new) table.old table.new) }
-    ensures replies { IfOk result (λ join. Appends (O.seen outlet.old).written (O.seen outlet.new).written (dump_bytes table.old join)) }
+    ensures takes { IfOk result
+        (TakesStream (I.seen inlet.old) (I.seen inlet.new) table.old table.new) }
+    ensures replies { IfOk result (λ join.
+        Appends (O.seen outlet.old).written (O.seen outlet.new).written
+        (dump_bytes table.old join)) }
     ensures too_many { HasTooMany table.old → IsErr result }
 
     // What a refusal leaves, and why it came.
     ensures unchanged { OnErr result (table.new ≡ table.old) }
     ensures rest { OnErr result (Skips (I.seen inlet.old).coming (I.seen inlet.new).coming) }
-    ensures refused { IfErr result (IsAnswerRefused (I.seen inlet.old) (I.seen inlet.new) (O.seen outlet.old) (O.seen outlet.new) table.old) }
+    ensures refused { IfErr result (IsAnswerRefused (I.seen inlet.old) (I.seen inlet.new)
+        (O.seen outlet.old) (O.seen outlet.new) table.old) }
 {
     let PreparedAnswer {
         join,
@@ -85,8 +92,8 @@ pub fn answer<I: Inlet, O: Outlet>(
     Ok(join)
 }
 
-/// The answer to an offer that was read, with all the memory that it takes: what is left to do is to
-/// send the reply and to join the offered table in, and neither asks for more (own).
+/// The answer to an offer that was read, with all the memory that it takes: what is left to do is
+/// to send the reply and to join the offered table in, and neither asks for more (own).
 #[derive(Drop, Debug)]
 pub struct PreparedAnswer {
     /// The join flag of the offer, and of the reply.
@@ -99,17 +106,17 @@ pub struct PreparedAnswer {
     pub room: Room,
 }
 
-/// Reads an offer, one stream, and prepares the answer of the member with this table: the first half
-/// of [`answer`], for one that has to look at the reply before it sends it, as at its length. Bytes
-/// after the stream stay in the inlet.
+/// Reads an offer, one stream, and prepares the answer of the member with this table: the first
+/// half of [`answer`], for one that has to look at the reply before it sends it, as at its length.
+/// Bytes after the stream stay in the inlet.
 ///
 /// # Errors
 ///
 /// What is left in the inlet are bytes from the end of those before.
 ///
 /// - `Wire` where no stream stands at the front of the inlet, or the inlet failed.
-/// - `TooManyRecords` where the own table keeps more than 131,072 records. With it no stream is ever
-///   answered.
+/// - `TooManyRecords` where the own table keeps more than 131,072 records. With it no stream is
+///   ever answered.
 /// - `Memory` where memory is refused.
 pub fn prepare_answer<I: Inlet>(
     alloc: Global,
@@ -117,14 +124,16 @@ pub fn prepare_answer<I: Inlet>(
     table: &Table,
 ) -> Result<PreparedAnswer, SyncFault>
     // The offered table has the claims of the stream, and the reply is the dump of the own one.
-    ensures reads { IfOk result (λ made. ReadsOffer (I.seen inlet.old) (I.seen inlet.new) made.offered made.join) }
+    ensures reads { IfOk result (λ made.
+        ReadsOffer (I.seen inlet.old) (I.seen inlet.new) made.offered made.join) }
     ensures replies { IfOk result (λ made. made.reply.items ≡ dump_bytes table.now made.join) }
     ensures room { IfOk result (λ made. length table.now + length made.offered ≤ made.room) }
     ensures too_many { HasTooMany table.now → IsErr result }
 
     // What a refusal leaves, and why it came.
     ensures rest { Skips (I.seen inlet.old).coming (I.seen inlet.new).coming }
-    ensures refused { IfErr result (IsPrepareRefused (I.seen inlet.old) (I.seen inlet.new) table.now) }
+    ensures refused { IfErr result
+        (IsPrepareRefused (I.seen inlet.old) (I.seen inlet.new) table.now) }
 {
     let (offered, join) = read_stream(alloc, inlet)?;
     let reply = encode(alloc, table, join)?;
@@ -137,17 +146,19 @@ pub fn prepare_answer<I: Inlet>(
     })
 }
 
-/// Finishes an exchange: reads the reply, one stream, and takes its claims in (memberlist's `net.go`).
-/// Answers the stream's join flag. Bytes after the stream stay in the inlet.
+/// Finishes an exchange: reads the reply, one stream, and takes its claims in (memberlist's
+/// `net.go`). Answers the stream's join flag. Bytes after the stream stay in the inlet.
 ///
 /// # Errors
 ///
-/// The table is then as it was, and what is left in the inlet are bytes from the end of those before.
+/// The table is then as it was, and what is left in the inlet are bytes from the end of those
+/// before.
 ///
 /// - `Wire` where no stream stands at the front of the inlet, or the inlet failed.
 /// - `Memory` where memory is refused.
 pub fn finish<I: Inlet>(alloc: Global, inlet: &mut I, table: &mut Table) -> Result<bool, SyncFault>
-    ensures takes { IfOk result (TakesStream (I.seen inlet.old) (I.seen inlet.new) table.old table.new) }
+    ensures takes { IfOk result
+        (TakesStream (I.seen inlet.old) (I.seen inlet.new) table.old table.new) }
 
     // What a refusal leaves, and why it came.
     ensures unchanged { OnErr result (table.new ≡ table.old) }
@@ -172,8 +183,10 @@ pub fn finish<I: Inlet>(alloc: Global, inlet: &mut I, table: &mut Table) -> Resu
 /// - `Memory` where memory is refused.
 pub fn exchange(alloc: Global, first: &mut Table, second: &mut Table) -> Result<(), SyncFault>
     // Both are the join, and the table of all claims of which the two were tables.
-    ensures joins { OnOk result ((first.new ≡ Join first.old second.old) × (second.new ≡ Join first.old second.old)) }
-    ensures all { OnOk result ((claims others : List Claim) → TableOf first.old claims → TableOf second.old others
+    ensures joins { OnOk result ((first.new ≡ Join first.old second.old)
+        × (second.new ≡ Join first.old second.old)) }
+    ensures all { OnOk result ((claims others : List Claim) → TableOf first.old claims
+        → TableOf second.old others
         → TableOf first.new (claims ++ others) × TableOf second.new (claims ++ others)) }
     ensures too_many { HasTooMany first.old ⊎ HasTooMany second.old → IsErr result }
 

@@ -1,3 +1,5 @@
+//! Exchanges of tables, beside the listings that they have to leave.
+
 mod clusters;
 mod cuts;
 mod events;
@@ -22,7 +24,8 @@ const ALIVE_OFFER: &[u8] =
 const SUSPECT_OFFER: &[u8] =
     b"\x06\x83\xa4Join\xc3\xa5Nodes\x01\xacUserStateLen\0\x87\xa4Addr\xa0\xabIncarnation\x01\xa4Meta\xa0\xa4Name\xa1b\xa4Port\0\xa5State\x01\xa3Vsn\xa0";
 
-/// Of `a` an Alive at incarnation 4, at 127.0.0.1 and port 7947, and then a Suspect at incarnation 5.
+/// Of `a` an Alive at incarnation 4, at 127.0.0.1 and port 7947, and then a Suspect at incarnation
+/// 5.
 const SUSPECTED_OFFER: &[u8] =
     b"\x06\x83\xa4Join\xc2\xa5Nodes\x02\xacUserStateLen\0\x87\xa4Addr\xa4\x7f\0\0\x01\xabIncarnation\x04\xa4Meta\xa0\xa4Name\xa1a\xa4Port\xcd\x1f\x0b\xa5State\0\xa3Vsn\xa0\x87\xa4Addr\xa0\xabIncarnation\x05\xa4Meta\xa0\xa4Name\xa1a\xa4Port\0\xa5State\x01\xa3Vsn\xa0";
 
@@ -194,7 +197,8 @@ fn assert_stays(
     Ok(())
 }
 
-/// Exchanges the two tables. Where memory is refused both have to stay, and the repeat exchanges them.
+/// Exchanges the two tables. Where memory is refused both have to stay, and the repeat exchanges
+/// them.
 fn exchange_at_last(
     rt: &impl Abort,
     alloc: Global,

@@ -18,13 +18,15 @@ use Rattle.swim_table.proofs.Tables.{TableOf-unique}
 StateTexts-canonical : (claims : List Claim) → All IsLegalClaim claims → StateTexts (flat_map state_bytes claims) claims
 StateTexts-canonical [] legal = none
 StateTexts-canonical (c ∷ claims) legal =
-    one (state_bytes c) (flat_map state_bytes claims) c claims (StateText-canonical c (All-head IsLegalClaim c claims legal)) (StateTexts-canonical claims (All-tail IsLegalClaim c claims legal))
+    one (state_bytes c) (flat_map state_bytes claims) c claims (StateText-canonical c (All-head IsLegalClaim c claims legal))
+    (StateTexts-canonical claims (All-tail IsLegalClaim c claims legal))
 
 -- the header of the dump
 abbrev pub dump_header : Entries → Bool → Header
 dump_header table join = record { nodes = length (Reduced table); user_len = 0; join = join }
 
-pub dump_is_stream : (table : Entries) (join : Bool) → IsLegalTable table → length (Reduced table) ≤ 131072 → StreamText (dump_bytes table join) (Reduced table) join
+pub dump_is_stream : (table : Entries) (join : Bool) → IsLegalTable table → length (Reduced table) ≤ 131072 → StreamText
+    (dump_bytes table join) (Reduced table) join
 dump_is_stream table join legal few = record {
   header = dump_header table join;
   head = header_bytes (dump_header table join);
@@ -42,18 +44,22 @@ dump_is_stream table join legal few = record {
 pub dump_claims : (table : Entries) (join flag : Bool) (claims : List Claim) → IsLegalTable table → length (Reduced table) ≤ 131072
     → StreamText (dump_bytes table join) claims flag → (claims ≡ Reduced table) × (flag ≡ join)
 dump_claims table join flag claims legal few text =
-    let same = one_stream (dump_bytes table join) (dump_bytes table join) [] [] claims (Reduced table) flag join text (dump_is_stream table join legal few) refl in
+    let same =
+    one_stream (dump_bytes table join) (dump_bytes table join) [] [] claims (Reduced table) flag join text (dump_is_stream table join legal few) refl in
     (same.1, same.2)
 
 -- and is read as the table
 pub dump_read_back : (table other : Entries) (join flag : Bool) (claims : List Claim) → IsLegalTable table → length (Reduced table) ≤ 131072
     → TableOf other claims → StreamText (dump_bytes table join) claims flag → (other ≡ table) × (flag ≡ join)
 dump_read_back table other join flag claims legal few is text =
-    let same = dump_claims table join flag claims legal few text in
-    (TableOf-unique other table claims (Reduced table) is legal.own (λ c. subst (λ l. Contains claims c ↔ Contains l c) same.0 (λ made. made, λ made. made)), same.1)
+    let same = dump_claims table join flag claims legal few text in (
+      TableOf-unique other table claims (Reduced table) is legal.own (λ c. subst (λ l. Contains claims c ↔ Contains l c) same.0 (λ made. made, λ made. made)),
+      same.1,
+    )
 
 -- tables of one dump are the same
-pub same_table_dumped : (table other : Entries) (join flag : Bool) → IsLegalTable table → IsLegalTable other → length (Reduced table) ≤ 131072 → length (Reduced other) ≤ 131072
+pub same_table_dumped : (table other : Entries) (join flag : Bool) → IsLegalTable table → IsLegalTable other → length
+    (Reduced table) ≤ 131072 → length (Reduced other) ≤ 131072
     → dump_bytes table join ≡ dump_bytes other flag → (table ≡ other) × (join ≡ flag)
 same_table_dumped table other join flag h g few few' same =
     dump_read_back other table flag join (Reduced table) g few' h.own (subst (λ b. StreamText b (Reduced table) join) same (dump_is_stream table join h few))

@@ -16,7 +16,8 @@ abbrev pub IsFieldByte : ℕ → Type 0
 IsFieldByte b = (45 ≤ b) × (b ≤ 102)
 
 -- texts that are the same have the same first field, and the same after it
-pub same_first : (separator : ℕ) (xs ys us vs : List ℕ) → Lacks separator xs → Lacks separator ys → xs ++ separator ∷ us ≡ ys ++ separator ∷ vs → (xs ≡ ys) × (us ≡ vs)
+pub same_first : (separator : ℕ) (xs ys us vs : List ℕ) → Lacks separator xs → Lacks separator ys
+    → xs ++ separator ∷ us ≡ ys ++ separator ∷ vs → (xs ≡ ys) × (us ≡ vs)
 same_first separator [] [] us vs h g same = (refl, cc)
 same_first separator [] (y ∷ ys) us vs h g same = absurd (All-head (λ b. b ≢ separator) y ys g (cc))
 same_first separator (x ∷ xs) [] us vs h g same = absurd (All-head (λ b. b ≢ separator) x xs h (cc))
@@ -36,7 +37,8 @@ pub All-decimal : (n : ℕ) → n < 2 ^ 64 → All (λ b. (48 ≤ b) × (b ≤ 5
 All-decimal n small =
     decimal_by_steps (λ _ ds. All IsDecimalDigit ds)
     (λ d low. All-cons IsDecimalDigit (48 + d) [] (omega arith, omega arith) (All-nil IsDecimalDigit))
-    (λ d ds high h. All-append IsDecimalDigit ds ((48 + d % 10) ∷ []) h (All-cons IsDecimalDigit (48 + d % 10) [] (omega arith, omega arith) (All-nil IsDecimalDigit)))
+    (λ d ds high h. All-append IsDecimalDigit ds ((48 + d % 10) ∷ []) h
+    (All-cons IsDecimalDigit (48 + d % 10) [] (omega arith, omega arith) (All-nil IsDecimalDigit)))
     n small
 
 -- ---- bytes in hexadecimal

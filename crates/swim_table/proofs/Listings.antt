@@ -20,7 +20,7 @@ use Rattle.swim_claim.specs.Details.{DetailsValue, IsLegalDetails}
 use Rattle.swim_table.specs.declared.listing.TheConstants.{ESCAPED}
 use Rattle.swim_table.specs.Standing.{Standing}
 use Rattle.swim_table.specs.Table.{Entries, IsAlive, IsHomeOf, IsStandingOf, Reduced, IsLegalTable}
-use Rattle.swim_table.specs.Listing.{state_of, address_text, home_text, line, listing}
+use Rattle.swim_table.specs.Listing.{state_word, address_text, home_text, line, listing}
 use Rattle.swim_table.proofs.Fields.{Lacks, same_first, All-decimal, All-encode_lower, encode_lower_injective}
 use Rattle.swim_table.proofs.Lookups.{get_contained}
 use Rattle.swim_table.proofs.Tables.{alive_top_is_home}
@@ -38,19 +38,23 @@ name_lacks_space : (name : List ℕ) → Lacks 32 (percent_encode ESCAPED name)
 name_lacks_space name = All-percent_encode (λ b. b ≢ 32) ESCAPED name kept_is_no_space escape_is_no_space
 
 lacks_by_test : (separator : ℕ) (text : List ℕ) → list_all (λ b. not (b == separator)) text ≡ true → Lacks separator text
-lacks_by_test separator text passed = All-weaker (λ b. not (b == separator) ≡ true) (λ b. b ≢ separator) (λ b test is. grind (arith, nat_tests)) text (AllPass-from_list_all (λ b. not (b == separator)) text passed)
+lacks_by_test separator text passed =
+    All-weaker (λ b. not (b == separator) ≡ true) (λ b. b ≢ separator) (λ b test is. grind (arith, nat_tests)) text
+    (AllPass-from_list_all (λ b. not (b == separator)) text passed)
 
-state_lacks_space : (k : Kind) → Lacks 32 (state_of k)
+state_lacks_space : (k : Kind) → Lacks 32 (state_word k)
 state_lacks_space kind.Alive = lacks_by_test 32 (codes "alive") refl
 state_lacks_space kind.Suspect = lacks_by_test 32 (codes "suspect") refl
 state_lacks_space kind.Confirm = lacks_by_test 32 (codes "confirm") refl
 state_lacks_space kind.Leave = lacks_by_test 32 (codes "leave") refl
 
 number_lacks : (separator n : ℕ) → separator < 48 → n < 2 ^ 64 → Lacks separator (decimal n)
-number_lacks separator n low small = All-weaker (λ b. (48 ≤ b) × (b ≤ 57)) (λ b. b ≢ separator) (λ b digit is. absurd (omega arith)) (decimal n) (All-decimal n small)
+number_lacks separator n low small =
+    All-weaker (λ b. (48 ≤ b) × (b ≤ 57)) (λ b. b ≢ separator) (λ b digit is. absurd (omega arith)) (decimal n) (All-decimal n small)
 
 bytes_lack : (separator : ℕ) (bytes : List ℕ) → separator < 48 → AreBytes bytes → Lacks separator (encode_lower bytes)
-bytes_lack separator bytes low small = All-weaker (λ b. (48 ≤ b) × (b ≤ 102)) (λ b. b ≢ separator) (λ b digit is. absurd (omega arith)) (encode_lower bytes) (All-encode_lower bytes small)
+bytes_lack separator bytes low small =
+    All-weaker (λ b. (48 ≤ b) × (b ≤ 102)) (λ b. b ≢ separator) (λ b digit is. absurd (omega arith)) (encode_lower bytes) (All-encode_lower bytes small)
 
 slash_lacks : (separator : ℕ) → separator < 45 → Lacks separator (codes "/")
 slash_lacks separator low = All-cons (λ b. b ≢ separator) 47 [] (λ is. absurd (omega arith)) (All-nil (λ b. b ≢ separator))
@@ -64,7 +68,9 @@ address_lacks separator inc d low small legal =
     let P : ℕ → Type 0 = λ b. b ≢ separator in
     let below : separator < 48 = omega arith in
     let slash = slash_lacks separator low in
-    All-append P (decimal inc ++ codes "/" ++ encode_lower d.addr ++ codes "/" ++ decimal d.port ++ codes "/" ++ encode_lower d.meta ++ codes "/") (encode_lower d.vsn)
+    All-append P
+    (decimal inc ++ codes "/" ++ encode_lower d.addr ++ codes "/" ++ decimal d.port ++ codes "/" ++ encode_lower d.meta ++ codes "/")
+    (encode_lower d.vsn)
     (All-append P (decimal inc ++ codes "/" ++ encode_lower d.addr ++ codes "/" ++ decimal d.port ++ codes "/" ++ encode_lower d.meta) (codes "/")
     (All-append P (decimal inc ++ codes "/" ++ encode_lower d.addr ++ codes "/" ++ decimal d.port ++ codes "/") (encode_lower d.meta)
     (All-append P (decimal inc ++ codes "/" ++ encode_lower d.addr ++ codes "/" ++ decimal d.port) (codes "/")
@@ -106,7 +112,7 @@ same_name xs ys h g same =
     cc (first, second, text)
 
 -- the words differ in their first letters
-by_initials : (k l : Kind) → get_or (state_of k) 0 0 ≡ get_or (state_of l) 0 0 → k ≡ l
+by_initials : (k l : Kind) → get_or (state_word k) 0 0 ≡ get_or (state_word l) 0 0 → k ≡ l
 by_initials kind.Alive kind.Alive same = refl
 by_initials kind.Alive kind.Suspect same = absurd (omega arith)
 by_initials kind.Alive kind.Confirm same = absurd (omega arith)
@@ -124,25 +130,31 @@ by_initials kind.Leave kind.Suspect same = absurd (omega arith)
 by_initials kind.Leave kind.Confirm same = absurd (omega arith)
 by_initials kind.Leave kind.Leave same = refl
 
-same_kind : (k l : Kind) → state_of k ≡ state_of l → k ≡ l
+same_kind : (k l : Kind) → state_word k ≡ state_word l → k ≡ l
 same_kind k l same = by_initials k l (ap (λ word. get_or word 0 0) same)
 
 same_number : (m n : ℕ) → m < 2 ^ 32 → n < 2 ^ 32 → decimal m ≡ decimal n → m ≡ n
 same_number m n small small' = decimal_injective m n (wider m small) (wider n small')
 
-address_is : (i : ℕ) (d : DetailsValue) → address_text i d ≡ decimal i ++ 47 ∷ (encode_lower d.addr ++ 47 ∷ (decimal d.port ++ 47 ∷ (encode_lower d.meta ++ 47 ∷ encode_lower d.vsn)))
+address_is : (i : ℕ) (d : DetailsValue) → address_text i d ≡ decimal i ++ 47 ∷
+    (encode_lower d.addr ++ 47 ∷ (decimal d.port ++ 47 ∷ (encode_lower d.meta ++ 47 ∷ encode_lower d.vsn)))
 address_is i d = simp append_assoc
 
-same_address : (i j : ℕ) (d e : DetailsValue) → i < 2 ^ 32 → j < 2 ^ 32 → IsLegalDetails d → IsLegalDetails e → address_text i d ≡ address_text j e → (i ≡ j) × (d ≡ e)
+same_address : (i j : ℕ) (d e : DetailsValue) → i < 2 ^ 32 → j < 2 ^ 32 → IsLegalDetails d → IsLegalDetails e
+    → address_text i d ≡ address_text j e → (i ≡ j) × (d ≡ e)
 same_address i j d e small small' h g same =
     let slash : 47 < 48 = omega arith in
     let ports : d.port < 2 ^ 32 = omega (arith, h.port) in
     let ports' : e.port < 2 ^ 32 = omega (arith, g.port) in
     let whole = sym (address_is i d) ∙ same ∙ address_is j e in
     let inc = same_first 47 (decimal i) (decimal j) _ _ (number_lacks 47 i slash (wider i small)) (number_lacks 47 j slash (wider j small')) whole in
-    let addr = same_first 47 (encode_lower d.addr) (encode_lower e.addr) _ _ (bytes_lack 47 d.addr slash h.addr_bytes) (bytes_lack 47 e.addr slash g.addr_bytes) inc.1 in
-    let port = same_first 47 (decimal d.port) (decimal e.port) _ _ (number_lacks 47 d.port slash (wider d.port ports)) (number_lacks 47 e.port slash (wider e.port ports')) addr.1 in
-    let meta = same_first 47 (encode_lower d.meta) (encode_lower e.meta) _ _ (bytes_lack 47 d.meta slash h.meta_bytes) (bytes_lack 47 e.meta slash g.meta_bytes) port.1 in
+    let addr =
+    same_first 47 (encode_lower d.addr) (encode_lower e.addr) _ _ (bytes_lack 47 d.addr slash h.addr_bytes) (bytes_lack 47 e.addr slash g.addr_bytes) inc.1 in
+    let port =
+    same_first 47 (decimal d.port) (decimal e.port) _ _ (number_lacks 47 d.port slash (wider d.port ports))
+    (number_lacks 47 e.port slash (wider e.port ports')) addr.1 in
+    let meta =
+    same_first 47 (encode_lower d.meta) (encode_lower e.meta) _ _ (bytes_lack 47 d.meta slash h.meta_bytes) (bytes_lack 47 e.meta slash g.meta_bytes) port.1 in
     let same_addr = encode_lower_injective d.addr e.addr h.addr_bytes g.addr_bytes addr.0 in
     let same_port = same_number d.port e.port ports ports' port.0 in
     let same_meta = encode_lower_injective d.meta e.meta h.meta_bytes g.meta_bytes meta.0 in
@@ -176,7 +188,8 @@ same_home name (Some (Alive n i d)) (Some (Alive m j e)) h g same =
     cc (names, incs, details)
 
 -- claims of one kind, name and incarnation, of which an Alive is the home
-same_top : (c d : Claim) (a b : Option Claim) → name_of c ≡ name_of d → kind_of c ≡ kind_of d → inc_of c ≡ inc_of d → (IsAlive c → a ≡ Some c) → (IsAlive d → b ≡ Some d) → a ≡ b → c ≡ d
+same_top : (c d : Claim) (a b : Option Claim) → name_of c ≡ name_of d → kind_of c ≡ kind_of d → inc_of c ≡ inc_of d →
+    (IsAlive c → a ≡ Some c) → (IsAlive d → b ≡ Some d) → a ≡ b → c ≡ d
 same_top (Alive n i x) (Alive m j y) a b name kinds incs h g homes =
     let first = h tt in
     let second = g tt in
@@ -198,7 +211,8 @@ same_top (Leave n i) (Alive m j y) a b name kinds incs h g homes = cc (kinds)
 same_top (Leave n i) (Suspect m j) a b name kinds incs h g homes = cc (kinds)
 same_top (Leave n i) (Confirm m j) a b name kinds incs h g homes = cc (kinds)
 
-line_is : (s : Standing) (after : List ℕ) → line s ++ after ≡ percent_encode ESCAPED (name_of s.top) ++ 32 ∷ (state_of (kind_of s.top) ++ 32 ∷ (decimal (inc_of s.top) ++ 32 ∷ (home_text s.home ++ 10 ∷ after)))
+line_is : (s : Standing) (after : List ℕ) → line s ++ after ≡ percent_encode ESCAPED (name_of s.top) ++ 32 ∷
+    (state_word (kind_of s.top) ++ 32 ∷ (decimal (inc_of s.top) ++ 32 ∷ (home_text s.home ++ 10 ∷ after)))
 line_is s after = simp append_assoc
 
 -- listings that are the same have the same first entry, and the same lines after it
@@ -207,13 +221,23 @@ same_line s t us vs h g same =
     let space : 32 < 48 = omega arith in
     let feed : 10 < 45 = omega arith in
     let whole = sym (line_is s us) ∙ same ∙ line_is t vs in
-    let name = same_first 32 (percent_encode ESCAPED (name_of s.top)) (percent_encode ESCAPED (name_of t.top)) _ _ (name_lacks_space (name_of s.top)) (name_lacks_space (name_of t.top)) whole in
-    let state = same_first 32 (state_of (kind_of s.top)) (state_of (kind_of t.top)) _ _ (state_lacks_space (kind_of s.top)) (state_lacks_space (kind_of t.top)) name.1 in
-    let inc = same_first 32 (decimal (inc_of s.top)) (decimal (inc_of t.top)) _ _ (number_lacks 32 (inc_of s.top) space (wider (inc_of s.top) h.top.inc)) (number_lacks 32 (inc_of t.top) space (wider (inc_of t.top) g.top.inc)) state.1 in
-    let home = same_first 10 (home_text s.home) (home_text t.home) us vs (home_lacks 10 (name_of s.top) s.home feed h.home) (home_lacks 10 (name_of t.top) t.home feed g.home) inc.1 in
+    let name =
+    same_first 32 (percent_encode ESCAPED (name_of s.top)) (percent_encode ESCAPED (name_of t.top)) _ _
+    (name_lacks_space (name_of s.top)) (name_lacks_space (name_of t.top)) whole in
+    let state =
+    same_first 32 (state_word (kind_of s.top)) (state_word (kind_of t.top)) _ _ (state_lacks_space (kind_of s.top)) (state_lacks_space (kind_of t.top)) name.1 in
+    let inc =
+    same_first 32 (decimal (inc_of s.top)) (decimal (inc_of t.top)) _ _
+    (number_lacks 32 (inc_of s.top) space (wider (inc_of s.top) h.top.inc))
+    (number_lacks 32 (inc_of t.top) space (wider (inc_of t.top) g.top.inc)) state.1 in
+    let home =
+    same_first 10 (home_text s.home) (home_text t.home) us vs (home_lacks 10 (name_of s.top) s.home feed h.home)
+    (home_lacks 10 (name_of t.top) t.home feed g.home) inc.1 in
     let names = same_name (name_of s.top) (name_of t.top) h.top.name.bytes g.top.name.bytes name.0 in
     let homes = same_home (name_of t.top) s.home t.home (subst (λ n. IfSome s.home (IsHomeFor n)) names h.home) g.home home.0 in
-    let tops = same_top s.top t.top s.home t.home names (same_kind (kind_of s.top) (kind_of t.top) state.0) (same_number (inc_of s.top) (inc_of t.top) h.top.inc g.top.inc inc.0) h.alive g.alive homes in
+    let tops =
+    same_top s.top t.top s.home t.home names (same_kind (kind_of s.top) (kind_of t.top) state.0)
+    (same_number (inc_of s.top) (inc_of t.top) h.top.inc g.top.inc inc.0) h.alive g.alive homes in
     (λ k. record { top = tops k; home = homes k }, home.1)
 
 -- ---- what a listing tells

@@ -19,10 +19,12 @@ name_shown table claims h c made = by_answer (get table (name_of c)) (h.each (na
 entry_says : (table : Entries) (claims : List Claim) → TableOf table claims → (s : Standing) → Contains table s → IsStandingOf claims (name_of s.top) s
 entry_says table claims h s at = rw (get_contained table s h.ascending at) at (h.each (name_of s.top))
 
-pub top_stands : (table : Entries) (claims : List Claim) → TableOf table claims → (s : Standing) → Contains table s → (c : Claim) → Contains claims c → name_of c ≡ name_of s.top → ¬ Overrides c s.top
+pub top_stands : (table : Entries) (claims : List Claim) → TableOf table claims → (s : Standing) → Contains table s →
+    (c : Claim) → Contains claims c → name_of c ≡ name_of s.top → ¬ Overrides c s.top
 top_stands table claims h s at c made about = (entry_says table claims h s at).top.greatest c made about
 
-pub home_is_newest : (table : Entries) (claims : List Claim) → TableOf table claims → (s : Standing) (a : Claim) → Contains table s → s.home ≡ Some a → Home a claims
+pub home_is_newest : (table : Entries) (claims : List Claim) → TableOf table claims → (s : Standing) (a : Claim)
+    → Contains table s → s.home ≡ Some a → Home a claims
 home_is_newest table claims h s a at is = (subst (IsHomeOf claims (name_of s.top)) is (entry_says table claims h s at).home).1
 
 -- ---- the claims of a table after others
@@ -30,16 +32,20 @@ home_is_newest table claims h s a at is = (subst (IsHomeOf claims (name_of s.top
 turned : (whole : Entries) (claims others : List Claim) → TableOf whole (claims ++ others) → TableOf whole (others ++ claims)
 turned whole claims others = TableOf-same whole (claims ++ others) (others ++ claims) (Same-append_comm claims others)
 
-pub TableOf-sent : (table whole : Entries) (claims others more : List Claim) → TableOf table claims → TableOf table others → TableOf whole (more ++ claims) → TableOf whole (more ++ others)
+pub TableOf-sent : (table whole : Entries) (claims others more : List Claim) → TableOf table claims → TableOf table others
+    → TableOf whole (more ++ claims) → TableOf whole (more ++ others)
 TableOf-sent table whole claims others more h g w = turned whole others more (TableOf-instead table whole claims others more h g (turned whole more claims w))
 
 -- ---- tables below one another
 
 pub below_join : (table other : Entries) → Below table other ↔ (Join table other ≡ other)
 below_join table other = (
-  λ below. TableOf-unique (Join table other) other (Reduced table ++ Reduced other) (Reduced other ++ Reduced table) (TableOf-table_of (Reduced table ++ Reduced other)) below (Same-append_comm (Reduced table) (Reduced other)),
-  λ is. turned other (Reduced table) (Reduced other) (subst (λ t. TableOf t (Reduced table ++ Reduced other)) is (TableOf-table_of (Reduced table ++ Reduced other))),
+  λ below.
+      TableOf-unique (Join table other) other (Reduced table ++ Reduced other) (Reduced other ++ Reduced table) (TableOf-table_of (Reduced table ++ Reduced other)) below (Same-append_comm (Reduced table) (Reduced other)),
+  λ is.
+      turned other (Reduced table) (Reduced other) (subst (λ t. TableOf t (Reduced table ++ Reduced other)) is (TableOf-table_of (Reduced table ++ Reduced other))),
 )
 
 pub below_both : (table other : Entries) → Below table other → Below other table → table ≡ other
-below_both table other below above = TableOf-unique table other (Reduced table ++ Reduced other) (Reduced other ++ Reduced table) above below (Same-append_comm (Reduced table) (Reduced other))
+below_both table other below above =
+    TableOf-unique table other (Reduced table ++ Reduced other) (Reduced other ++ Reduced table) above below (Same-append_comm (Reduced table) (Reduced other))

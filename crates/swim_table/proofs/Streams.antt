@@ -24,7 +24,8 @@ use Rattle.swim_table.proofs.Tables.{TableOf-table_of}
 -- ---- records one behind the other
 
 -- one more record
-StateTexts-push : (records b : List ℕ) (claims : List Claim) (c : Claim) → StateTexts records claims → StateText b c → StateTexts (records ++ b) (claims ++ c ∷ [])
+StateTexts-push : (records b : List ℕ) (claims : List Claim) (c : Claim) → StateTexts records claims → StateText b c
+    → StateTexts (records ++ b) (claims ++ c ∷ [])
 StateTexts-push _ b _ c none text = subst (λ (r : List ℕ). StateTexts r (c ∷ [])) (append-nil b) (one b [] c [] text none)
 StateTexts-push _ b _ c (one a rest d claims first texts) text =
     subst (λ (r : List ℕ). StateTexts r (d ∷ claims ++ c ∷ [])) (sym (append_assoc a rest b))
@@ -50,7 +51,8 @@ to_come _ _ x y _ _ (one a left c claims text texts) (one b right d others text'
 -- ---- what stands behind the part that is read
 
 by_records : (reader : Streaming) (now user rest records : List ℕ) (more : List Claim) → StateTexts records more → reader.left ≡ length more
-    → length user ≡ reader.header.user_len → now ≡ records ++ (user ++ rest) → (front : List ℕ) × (back : List ℕ) × IsWanted reader front × (now ≡ front ++ back)
+    → length user ≡ reader.header.user_len → now ≡ records ++ (user ++ rest) → (front : List ℕ) × (back : List ℕ)
+    × IsWanted reader front × (now ≡ front ++ back)
 by_records reader now user rest _ _ none left long parts = (user, rest, wants.user_state left long, parts)
 by_records reader now user rest _ _ (one b records c claims text texts) left long parts =
     (b, records ++ (user ++ rest), wants.record_of c (omega (arith, left)) text, parts ∙ append_assoc b records (user ++ rest))
@@ -59,22 +61,26 @@ in_parts : (head records user more : List ℕ) → (head ++ records ++ user) ++ 
 in_parts head records user more = simp append_assoc
 
 -- in a stream it is what the next step wants
-wanted : (reader : Streaming) (claims all : List Claim) (join : Bool) (begun now text rest : List ℕ) → BeginText begun reader.header claims → length claims + reader.left ≡ reader.header.nodes
+wanted : (reader : Streaming) (claims all : List Claim) (join : Bool) (begun now text rest : List ℕ)
+    → BeginText begun reader.header claims → length claims + reader.left ≡ reader.header.nodes
     → StreamText text all join → begun ++ now ≡ text ++ rest → (front : List ℕ) × (back : List ℕ) × IsWanted reader front × (now ≡ front ++ back)
 wanted reader claims all join begun now text rest b counted t e =
     let parts : b.head ++ (b.records ++ now) ≡ t.head ++ (t.records ++ (t.user ++ rest)) =
-    sym (append_assoc b.head b.records now) ∙ ap (λ (z : List ℕ). z ++ now) (sym b.bytes) ∙ e ∙ ap (λ (z : List ℕ). z ++ rest) t.bytes ∙ in_parts t.head t.records t.user rest in
+    sym (append_assoc b.head b.records now) ∙ ap (λ (z : List ℕ). z ++ now) (sym b.bytes) ∙ e
+    ∙ ap (λ (z : List ℕ). z ++ rest) t.bytes ∙ in_parts t.head t.records t.user rest in
     let heads = header_one b.head t.head _ _ reader.header t.header b.head_text t.head_text parts in
     let nodes : reader.header.nodes ≡ t.header.nodes = ap (λ (h : Header). h.nodes) heads.1 in
     let promised = t.nodes in
     let le : length claims ≤ length all = omega (arith, counted, nodes, promised) in
     let left = to_come b.records t.records now (t.user ++ rest) claims all b.record_texts t.record_texts le (behind b.head t.head _ _ heads.0 parts) in
     let sum = left.3 in
-    by_records reader now t.user rest left.0 left.1 left.2 (omega (arith, counted, nodes, promised, sum)) (t.user_len ∙ sym (ap (λ (h : Header). h.user_len) heads.1)) left.4
+    by_records reader now t.user rest left.0 left.1 left.2 (omega (arith, counted, nodes, promised, sum))
+    (t.user_len ∙ sym (ap (λ (h : Header). h.user_len) heads.1)) left.4
 
 -- ---- reads one after the other
 
-Takes-then : (a b c : Option (List ℕ)) (P Q R : List ℕ → Type 0) → ((x y : List ℕ) → P x → Q y → R (x ++ y)) → TakesKnown a b P → TakesKnown b c Q → TakesKnown a c R
+Takes-then : (a b c : Option (List ℕ)) (P Q R : List ℕ → Type 0) → ((x y : List ℕ) → P x → Q y → R (x ++ y))
+    → TakesKnown a b P → TakesKnown b c Q → TakesKnown a c R
 Takes-then None b c P Q R join p q = tt
 Takes-then (Some xs) None c P Q R join p q = absurd p
 Takes-then (Some xs) (Some ys) None P Q R join p q = absurd q
@@ -93,16 +99,19 @@ pub record ReadSome (old new : Source) (reader : Streaming) : Type 0 where
   pub counted : length claims + reader.left ≡ reader.header.nodes
   pub taken : Takes old new (λ b. BeginText b reader.header claims)
 
-pub started : (old new : Source) (reader : Streaming) → Takes old new (λ b. HeaderText b reader.header) → (reader.left ≡ reader.header.nodes) × (reader.table ≡ []) → ReadSome old new reader
+pub started : (old new : Source) (reader : Streaming) → Takes old new (λ b. HeaderText b reader.header) →
+    (reader.left ≡ reader.header.nodes) × (reader.table ≡ []) → ReadSome old new reader
 started old new reader taken fresh = record {
   claims = [];
   table = subst (λ (t : Entries). TableOf t []) (sym fresh.1) (TableOf-table_of []);
   counted = omega (arith, fresh.0);
-  taken = Takes-as old.coming new.coming _ _ (λ b text. record { head = b; records = []; bytes = sym (append-nil b); head_text = text; record_texts = none }) taken;
+  taken =
+      Takes-as old.coming new.coming _ _ (λ b text. record { head = b; records = []; bytes = sym (append-nil b); head_text = text; record_texts = none }) taken;
 }
 
 -- one more record is read
-begun_more : (header : Header) (claims : List Claim) (c : Claim) (x y : List ℕ) → BeginText x header claims → StateText y c → BeginText (x ++ y) header (claims ++ c ∷ [])
+begun_more : (header : Header) (claims : List Claim) (c : Claim) (x y : List ℕ) → BeginText x header claims → StateText y c
+    → BeginText (x ++ y) header (claims ++ c ∷ [])
 begun_more header claims c x y begun text = record {
   head = begun.head;
   records = begun.records ++ y;
@@ -111,7 +120,8 @@ begun_more header claims c x y begun text = record {
   record_texts = StateTexts-push begun.records y claims c begun.record_texts text;
 }
 
-stepped_to : (old mid new : Source) (reader next : Streaming) (c : Claim) → ReadSome old mid reader → reader.left ≡ next.left + 1 → Takes mid new (λ b. StateText b c)
+stepped_to : (old mid new : Source) (reader next : Streaming) (c : Claim) → ReadSome old mid reader
+    → reader.left ≡ next.left + 1 → Takes mid new (λ b. StateText b c)
     → ((claims : List Claim) → TableOf reader.table claims → TableOf next.table (claims ++ c ∷ [])) → next.header ≡ reader.header → ReadSome old new next
 stepped_to old mid new reader next c some left taken table header =
     let count = length-append some.claims (c ∷ []) in
@@ -133,7 +143,8 @@ stepped old mid new reader next some (steps.record_of c to is left taken table a
 stepped old mid new reader next some (steps.user_state is left taken) = absurd cc
 
 -- the user state is read
-whole : (header : Header) (claims : List Claim) (x y : List ℕ) → length claims ≡ header.nodes → BeginText x header claims → length y ≡ header.user_len → StreamText (x ++ y) claims header.join
+whole : (header : Header) (claims : List Claim) (x y : List ℕ) → length claims ≡ header.nodes → BeginText x header claims
+    → length y ≡ header.user_len → StreamText (x ++ y) claims header.join
 whole header claims x y count begun long = record {
   header = header;
   head = begun.head;
@@ -169,7 +180,8 @@ IsStream b = (claims : List Claim) × (join : Bool) × StreamText b claims join
 pub none_wanted : (old mid : Source) (reader : Streaming) → ReadSome old mid reader → Lacks mid (IsWanted reader) → Lacks old IsStream
 none_wanted old mid reader some lacks = known old.coming mid.coming some.taken lacks
   where
-    known : (old mid : Option (List ℕ)) → TakesKnown old mid (λ b. BeginText b reader.header some.claims) → IfSome mid (λ bytes. (text rest : List ℕ) → IsWanted reader text → bytes ≡ text ++ rest → ⊥)
+    known : (old mid : Option (List ℕ)) → TakesKnown old mid (λ b. BeginText b reader.header some.claims) → IfSome mid
+        (λ bytes. (text rest : List ℕ) → IsWanted reader text → bytes ≡ text ++ rest → ⊥)
         → IfSome old (λ bytes. (text rest : List ℕ) → IsStream text → bytes ≡ text ++ rest → ⊥)
     known None mid taken lacks = tt
     known (Some bytes) None taken lacks = absurd taken
@@ -177,10 +189,12 @@ none_wanted old mid reader some lacks = known old.coming mid.coming some.taken l
         let w = wanted reader some.claims is.0 is.1 taken.0 now text rest taken.1 some.counted is.2 (sym taken.2 ∙ parts) in
         lacks w.0 w.1 w.2 w.3
 
-pub step_explains : (fault : WireFault) (old mid : Source) (reader : Streaming) → ReadSome old mid reader → IfSome mid.coming (ExplainsStep reader fault) → IfSome old.coming (ExplainsStream fault)
+pub step_explains : (fault : WireFault) (old mid : Source) (reader : Streaming) → ReadSome old mid reader → IfSome mid.coming
+    (ExplainsStep reader fault) → IfSome old.coming (ExplainsStream fault)
 step_explains fault old mid reader some says = known old.coming mid.coming some.taken says
   where
-    because : (bytes front now : List ℕ) → BeginText front reader.header some.claims → bytes ≡ front ++ now → ExplainsStep reader fault now → ExplainsStream fault bytes
+    because : (bytes front now : List ℕ) → BeginText front reader.header some.claims → bytes ≡ front ++ now
+        → ExplainsStep reader fault now → ExplainsStream fault bytes
     because bytes front now begun parts (why_step.record_of more why) =
         let sum = some.counted in
         why_stream.record_of front now reader.header some.claims begun (omega (arith, sum, more)) parts why
@@ -188,7 +202,8 @@ step_explains fault old mid reader some says = known old.coming mid.coming some.
         let sum = some.counted in
         why_stream.user_state front now reader.header some.claims begun (omega (arith, sum, over)) parts why
 
-    known : (old mid : Option (List ℕ)) → TakesKnown old mid (λ b. BeginText b reader.header some.claims) → IfSome mid (ExplainsStep reader fault) → IfSome old (ExplainsStream fault)
+    known : (old mid : Option (List ℕ)) → TakesKnown old mid (λ b. BeginText b reader.header some.claims) → IfSome mid
+        (ExplainsStep reader fault) → IfSome old (ExplainsStream fault)
     known None mid taken says = tt
     known (Some bytes) None taken says = absurd taken
     known (Some bytes) (Some now) taken says = because bytes taken.0 now taken.1 taken.2 says
@@ -201,12 +216,17 @@ fewer bytes n lacks = lt_of_not-le (λ le. lacks (take n bytes) (drop n bytes) (
 
 pub user_explains : (reader inside : Streaming) (fault : WireFault) (old : Source) → inside ≡ reader → inside.left ≡ 0 → (fault ≡ Ended) ⊎ (fault ≡ Fault)
     → UnlessFailed (wire_cause fault) (Lacks old (λ b. length b ≡ inside.header.user_len)) → IfSome old.coming (ExplainsStep reader fault)
-user_explains reader inside fault old same over which lacks = subst (λ (r : Streaming). IfSome old.coming (ExplainsStep r fault)) same (known old.coming which lacks)
+user_explains reader inside fault old same over which lacks =
+    subst (λ (r : Streaming). IfSome old.coming (ExplainsStep r fault)) same (known old.coming which lacks)
   where
     known : (old : Option (List ℕ)) → (fault ≡ Ended) ⊎ (fault ≡ Fault)
-        → UnlessFailed (wire_cause fault) (IfSome old (λ bytes. (text rest : List ℕ) → length text ≡ inside.header.user_len → bytes ≡ text ++ rest → ⊥)) → IfSome old (ExplainsStep inside fault)
+        → UnlessFailed (wire_cause fault) (IfSome old (λ bytes. (text rest : List ℕ) → length text ≡ inside.header.user_len → bytes ≡ text ++ rest → ⊥))
+        → IfSome old (ExplainsStep inside fault)
     known None which lacks = tt
     known (Some bytes) (inl is) lacks =
-        let short = subst (λ (f : WireFault). UnlessFailed (wire_cause f) ((text rest : List ℕ) → length text ≡ inside.header.user_len → bytes ≡ text ++ rest → ⊥)) is lacks in
+        let short =
+        subst
+        (λ (f : WireFault). UnlessFailed (wire_cause f) ((text rest : List ℕ) → length text ≡ inside.header.user_len → bytes ≡ text ++ rest → ⊥))
+        is lacks in
         why_step.user_state over (inl (is, fewer bytes inside.header.user_len short))
     known (Some bytes) (inr is) lacks = why_step.user_state over (inr is)

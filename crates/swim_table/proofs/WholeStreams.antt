@@ -25,7 +25,8 @@ refused_whole Memory bytes none no_fault no_memory claims join text = no_memory 
 refused_whole error bytes none no_fault no_memory claims join text = none bytes [] (claims, join, text) (sym (append-nil bytes))
 
 -- where a stream stands at the front the bytes are refused for want of memory alone
-pub refused_front : (fault : WireFault) (bytes front rest : List ℕ) (claims : List Claim) (join : Bool) → UnlessFailed (wire_cause fault) (HasNone bytes) → (fault ≡ Fault → ⊥)
+pub refused_front : (fault : WireFault) (bytes front rest : List ℕ) (claims : List Claim) (join : Bool) → UnlessFailed
+    (wire_cause fault) (HasNone bytes) → (fault ≡ Fault → ⊥)
     → StreamText front claims join → bytes ≡ front ++ rest → fault ≡ Memory
 refused_front Fault bytes front rest claims join none no_fault text parts = absurd (no_fault refl)
 refused_front Memory bytes front rest claims join none no_fault text parts = refl
@@ -39,15 +40,18 @@ trailing_whole bytes text rest claims others join flag front parts more whole =
     more (append_cancel_left text rest [] (sym parts ∙ sym same ∙ sym (append-nil text)))
 
 -- a stream with nothing after it
-pub all_taken : (bytes text rest : List ℕ) (claims : List Claim) (join : Bool) → StreamText text claims join → bytes ≡ text ++ rest → rest ≡ [] → StreamText bytes claims join
+pub all_taken : (bytes text rest : List ℕ) (claims : List Claim) (join : Bool) → StreamText text claims join
+    → bytes ≡ text ++ rest → rest ≡ [] → StreamText bytes claims join
 all_taken bytes text rest claims join whole parts none =
     subst (λ (b : List ℕ). StreamText b claims join) (sym (parts ∙ ap (λ (r : List ℕ). text ++ r) none ∙ append-nil text)) whole
 
 -- the bytes are the canonical dump of a table
-pub dumped : (bytes : List ℕ) (table : Entries) (join : Bool) → IsLegalTable table → length (Reduced table) ≤ 131072 → bytes ≡ dump_bytes table join → StreamText bytes (Reduced table) join
+pub dumped : (bytes : List ℕ) (table : Entries) (join : Bool) → IsLegalTable table → length (Reduced table) ≤ 131072
+    → bytes ≡ dump_bytes table join → StreamText bytes (Reduced table) join
 dumped bytes table join legal few is = subst (λ (b : List ℕ). StreamText b (Reduced table) join) (sym is) (dump_is_stream table join legal few)
 
-pub read_back : (bytes : List ℕ) (table other : Entries) (join flag : Bool) (claims : List Claim) → IsLegalTable table → length (Reduced table) ≤ 131072 → bytes ≡ dump_bytes table join
+pub read_back : (bytes : List ℕ) (table other : Entries) (join flag : Bool) (claims : List Claim) → IsLegalTable table
+    → length (Reduced table) ≤ 131072 → bytes ≡ dump_bytes table join
     → TableOf other claims → StreamText bytes claims flag → (other ≡ table) × (flag ≡ join)
 read_back bytes table other join flag claims legal few is of text =
     dump_read_back table other join flag claims legal few of (subst (λ (b : List ℕ). StreamText b claims flag) is text)

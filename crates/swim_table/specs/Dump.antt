@@ -8,7 +8,8 @@ use Rattle.swim_table.specs.Table.{Entries, Reduced}
 -- the stream of these claims in canonical bytes: a header, and then the record of each
 abbrev pub stream_bytes : List Claim → Bool → List ℕ
 stream_bytes claims join =
-    header_bytes (record { nodes = length claims; user_len = 0; join = join }) ++ flat_map state_bytes claims
+    header_bytes (record { nodes = length claims; user_len = 0; join = join })
+    ++ flat_map state_bytes claims
 
 -- the stream of the claims that the table keeps
 abbrev pub dump_bytes : Entries → Bool → List ℕ

@@ -14,17 +14,17 @@ use Rattle.swim_table.specs.Standing.{Standing}
 use Rattle.swim_table.specs.Table.{Entries}
 
 -- the word for a kind of claim
-abbrev pub state_of : Kind → List ℕ
-state_of kind.Alive = codes "alive"
-state_of kind.Suspect = codes "suspect"
-state_of kind.Confirm = codes "confirm"
-state_of kind.Leave = codes "leave"
+abbrev pub state_word : Kind → List ℕ
+state_word kind.Alive = codes "alive"
+state_word kind.Suspect = codes "suspect"
+state_word kind.Confirm = codes "confirm"
+state_word kind.Leave = codes "leave"
 
 -- inc/addr/port/meta/vsn
 abbrev pub address_text : ℕ → DetailsValue → List ℕ
 address_text inc details =
-    decimal inc ++ codes "/" ++ encode_lower details.addr ++ codes "/" ++ decimal details.port ++ codes "/"
-    ++ encode_lower details.meta ++ codes "/" ++ encode_lower details.vsn
+    decimal inc ++ codes "/" ++ encode_lower details.addr ++ codes "/" ++ decimal details.port
+    ++ codes "/" ++ encode_lower details.meta ++ codes "/" ++ encode_lower details.vsn
 
 -- what the newest Alive said; no other claim is a home
 abbrev pub home_text : Option Claim → List ℕ
@@ -37,8 +37,8 @@ home_text (Some (Leave name inc)) = codes "-"
 -- name state inc home
 abbrev pub line : Standing → List ℕ
 line entry =
-    percent_encode ESCAPED (name_of entry.top) ++ codes " " ++ state_of (kind_of entry.top) ++ codes " "
-    ++ decimal (inc_of entry.top) ++ codes " " ++ home_text entry.home ++ codes "\n"
+    percent_encode ESCAPED (name_of entry.top) ++ codes " " ++ state_word (kind_of entry.top)
+    ++ codes " " ++ decimal (inc_of entry.top) ++ codes " " ++ home_text entry.home ++ codes "\n"
 
 -- the line of each name in ascending order
 abbrev pub listing : Entries → List ℕ

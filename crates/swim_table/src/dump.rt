@@ -3,6 +3,7 @@
 ghost use Rattle.std.specs.Prelude.{◌≡◌, ◌↔◌, ◌<◌, ◌++◌, length, IfOk, OnOk};
 ghost use Rattle.std.specs.List.{flat_map};
 ghost use Rattle.swim_wire.specs.Canonical.{state_bytes};
+ghost use Rattle.swim_wire.specs.Limits.{most_nodes};
 ghost use Rattle.swim_wire.specs.Streams.{StreamText};
 ghost use Rattle.swim_table.specs.Dump.{dump_bytes};
 ghost use Rattle.swim_table.specs.Table.{kept, Reduced};
@@ -22,12 +23,14 @@ const MOST_RECORDS: u128 = 131_072;
 ///
 /// # Errors
 ///
-/// - `TooManyRecords` exactly where the table keeps more than 131,072 records. This is checked first.
+/// - `TooManyRecords` exactly where the table keeps more than 131,072 records. This is checked
+///   first.
 /// - `Memory` where memory for the bytes is refused.
 pub fn encode(alloc: Global, table: &Table, join: bool) -> Result<Vec<u8>, EncodeFault>
     ensures canonical { IfOk result (λ bytes. bytes.items ≡ dump_bytes table.now join) }
     ensures text { IfOk result (λ bytes. StreamText bytes.items (Reduced table.now) join) }
-    ensures too_many { (result ≡ Err EncodeFault.TooManyRecords) ↔ (131072 < length (Reduced table.now)) }
+    ensures too_many { (result ≡ Err EncodeFault.TooManyRecords)
+        ↔ (most_nodes < length (Reduced table.now)) }
 {
     let records = table.records();
     if records > MOST_RECORDS {

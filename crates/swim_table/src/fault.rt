@@ -39,7 +39,7 @@ impl From<AllocError> for EncodeFault {
     }
 }
 
-/// Why a member refutes nothing where it should. Each has a number, by which reports name it.
+/// Why a member that others accuse refutes nothing. Each has a number, by which reports name it.
 #[derive(Clone, Copy, Debug, PartialEq, Eq, Error)]
 pub enum RefuteFault {
     /// A refutation is due, and there is no greater incarnation than 4,294,967,295.

@@ -1,8 +1,11 @@
+//! A table as text, a line for each name.
+
 ghost use Rattle.std.specs.Prelude.{◌≡◌, ◌≤◌, ◌++◌, length, decimal, IfOk, OnOk};
 ghost use Rattle.hex.specs.Hex.{encode_lower};
 ghost use Rattle.percent_encoding.specs.Percent as percent;
+ghost use Rattle.swim_claim.specs.Limits.{longest_meta};
 ghost use Rattle.swim_table.specs.declared.listing.TheConstants.{ESCAPED};
-ghost use Rattle.swim_table.specs.Listing.{state_of, address_text, home_text, line, listing};
+ghost use Rattle.swim_table.specs.Listing.{state_word, address_text, home_text, line, listing};
 
 use crate::entry::Entry;
 use crate::table::Table;
@@ -53,7 +56,8 @@ fn write_line(text: &mut Vec<u8>, name: &mut String, entry: &Entry) -> Result<()
 
 /// Adds a name with its escapes.
 fn write_name(text: &mut Vec<u8>, escaped: &mut String, name: &Name) -> Result<(), AllocError>
-    ensures { OnOk result (text.new.items ≡ text.old.items ++ percent.percent_encode ESCAPED name.now) }
+    ensures { OnOk result
+        (text.new.items ≡ text.old.items ++ percent.percent_encode ESCAPED name.now) }
 {
     escaped.clear();
     percent_encode(name.bytes(), ESCAPED).append_to(escaped)?;
@@ -62,7 +66,7 @@ fn write_name(text: &mut Vec<u8>, escaped: &mut String, name: &Name) -> Result<(
 
 /// The word for a kind of claim.
 fn state(kind: Kind) -> &'static str
-    ensures { result.now ≡ state_of kind }
+    ensures { result.now ≡ state_word kind }
 {
     match kind {
         Kind::Alive => "alive",
@@ -109,7 +113,7 @@ fn write_number(text: &mut Vec<u8>, number: u32) -> Result<(), AllocError>
 
 /// Adds bytes in hexadecimal.
 fn write_hexadecimal(text: &mut Vec<u8>, bytes: &[u8]) -> Result<(), AllocError>
-    requires { length bytes.now ≤ 512 }
+    requires { length bytes.now ≤ longest_meta }
     ensures { OnOk result (text.new.items ≡ text.old.items ++ encode_lower bytes.now) }
 {
     let start = text.len();

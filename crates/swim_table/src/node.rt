@@ -81,6 +81,7 @@ impl Node {
         ensures name { result.now ≡ self.now.name }
         ensures legal { IsLegalName self.now.name }
     {
+        // opens the invariant: the name is legal
         let _ = self.name.bytes();
         &self.name
     }
@@ -90,6 +91,7 @@ impl Node {
         ensures details { result.now ≡ self.now.details }
         ensures legal { IsLegalDetails self.now.details }
     {
+        // opens the invariant: the details are legal
         let _ = self.details.meta();
         &self.details
     }
@@ -99,6 +101,7 @@ impl Node {
         ensures table { result.now ≡ self.now.table }
         ensures legal { IsLegalTable self.now.table }
     {
+        // opens the invariant: the table is legal
         let _ = self.table.len();
         &self.table
     }

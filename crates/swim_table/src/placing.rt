@@ -19,8 +19,10 @@ use tiered_vec::{Place, TieredVec};
 pub(crate) fn find_place(entries: &TieredVec<Entry>, name: &[u8]) -> Result<Place, Place>
     requires { IsAscending (items entries.now) }
     ensures range { MatchResult result (IsPlace entries.now.blocks) (IsGap entries.now.blocks) }
-    ensures found { IfOk result (λ p. IsAt (items entries.now) name.now (index_of entries.now.blocks p)) }
-    ensures absent { IfErr result (λ p. IsGapFor (items entries.now) name.now (index_of entries.now.blocks p)) }
+    ensures found { IfOk result (λ p.
+        IsAt (items entries.now) name.now (index_of entries.now.blocks p)) }
+    ensures absent { IfErr result (λ p.
+        IsGapFor (items entries.now) name.now (index_of entries.now.blocks p)) }
 {
     if let Some(last) = entries.last() {
         if last.name().bytes().cmp(name).is_lt() {
@@ -34,8 +36,10 @@ pub(crate) fn find_place(entries: &TieredVec<Entry>, name: &[u8]) -> Result<Plac
 fn search_place(entries: &TieredVec<Entry>, name: &[u8]) -> Result<Place, Place>
     requires { IsAscending (items entries.now) }
     ensures range { MatchResult result (IsPlace entries.now.blocks) (IsGap entries.now.blocks) }
-    ensures found { IfOk result (λ p. IsAt (items entries.now) name.now (index_of entries.now.blocks p)) }
-    ensures absent { IfErr result (λ p. IsGapFor (items entries.now) name.now (index_of entries.now.blocks p)) }
+    ensures found { IfOk result (λ p.
+        IsAt (items entries.now) name.now (index_of entries.now.blocks p)) }
+    ensures absent { IfErr result (λ p.
+        IsGapFor (items entries.now) name.now (index_of entries.now.blocks p)) }
 {
     entries.find_by(
         |entry: &Entry| -> Ordering
@@ -51,7 +55,8 @@ pub(crate) fn put_sorted(
     others: Vec<Entry>,
 ) -> Result<(), AllocError>
     requires { IsAscending (items entries.old) }
-    ensures ok { OnOk result ((sorted : Entries) × IsPermutation others.items sorted × (items entries.new ≡ put_each (items entries.old) sorted)) }
+    ensures ok { OnOk result ((sorted : Entries) × IsPermutation others.items sorted
+        × (items entries.new ≡ put_each (items entries.old) sorted)) }
     ensures err { OnErr result (items entries.new ≡ items entries.old) }
 {
     let mut others = others;

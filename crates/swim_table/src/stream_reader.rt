@@ -6,6 +6,7 @@ ghost use Rattle.swim_pack.specs.Ends.{Takes, Lacks, Skips, Rises};
 ghost use Rattle.swim_pack.specs.Composing.{UnlessFailed};
 ghost use Rattle.swim_wire.specs.declared.stream.Header.{Header};
 ghost use Rattle.swim_wire.specs.Checks.{ExplainsStart};
+ghost use Rattle.swim_wire.specs.Limits.{most_nodes, most_user_state};
 ghost use Rattle.swim_wire.specs.Reading.{wire_cause};
 ghost use Rattle.swim_wire.specs.Streams.{StreamText};
 ghost use Rattle.swim_wire.specs.Texts.{HeaderText};
@@ -55,17 +56,24 @@ impl StreamReader {
     /// Those of [`read_header`], and what is left are bytes from the end of those before.
     pub fn begin<I: Inlet>(alloc: Global, inlet: &mut I) -> Result<StreamReader, WireFault>
         // The bytes taken are the header, and no claim is read yet.
-        ensures takes { IfOk result (λ reader. Takes (I.seen inlet.old) (I.seen inlet.new) (λ b. HeaderText b reader.header)) }
-        ensures fresh { IfOk result (λ reader. (reader.left ≡ reader.header.nodes) × (reader.table ≡ [])) }
+        ensures takes { IfOk result (λ reader.
+            Takes (I.seen inlet.old) (I.seen inlet.new) (λ b. HeaderText b reader.header)) }
+        ensures fresh { IfOk result (λ reader. (reader.left ≡ reader.header.nodes)
+            × (reader.table ≡ [])) }
 
         // Also where the inlet tells no bytes.
-        ensures within { IfOk result (λ reader. (reader.header.nodes ≤ 131072) × (reader.header.user_len ≤ 20971520)) }
+        ensures within { IfOk result (λ reader. (reader.header.nodes ≤ most_nodes)
+            × (reader.header.user_len ≤ most_user_state)) }
 
-        // Refused for another cause than a failing end no header stands at the front, and the refusal says why.
-        ensures lacks { IfErr result (λ fault. UnlessFailed (wire_cause fault) (Lacks (I.seen inlet.old) (λ b. (header : Header) × HeaderText b header))) }
-        ensures explains { IfErr result (λ fault. ExplainsStart (ExplainsBegin fault) (I.seen inlet.old)) }
+        // Refused for another cause than a failing end no header stands at the front, and the
+        // refusal says why.
+        ensures lacks { IfErr result (λ fault. UnlessFailed (wire_cause fault)
+            (Lacks (I.seen inlet.old) (λ b. (header : Header) × HeaderText b header))) }
+        ensures explains { IfErr result (λ fault.
+            ExplainsStart (ExplainsBegin fault) (I.seen inlet.old)) }
         ensures no_memory { ¬ IsErrOf result WireFault.Memory }
-        ensures fault { IsErrOf result WireFault.Fault → Rises (I.seen inlet.old).faults (I.seen inlet.new).faults }
+        ensures fault { IsErrOf result WireFault.Fault
+            → Rises (I.seen inlet.old).faults (I.seen inlet.new).faults }
         ensures rest { Skips (I.seen inlet.old).coming (I.seen inlet.new).coming }
         ensures faults_stay { (I.seen inlet.old).faults ≤ (I.seen inlet.new).faults }
     {
@@ -103,19 +111,23 @@ impl StreamReader {
     ///
     /// # Errors
     ///
-    /// Those of [`read_state`], those of [`skip_user`] at the end, and `Memory` where memory for the
-    /// entry of a new name is refused. The reader is dropped, and what is left are bytes from the
-    /// end of those before.
+    /// Those of [`read_state`], those of [`skip_user`] at the end, and `Memory` where memory for
+    /// the entry of a new name is refused. The reader is dropped, and what is left are bytes from
+    /// the end of those before.
     pub fn step<I: Inlet>(self, inlet: &mut I) -> Result<Step, WireFault>
         // The bytes taken are a record, whose claim is in the table, or at the end the user state.
-        ensures takes { IfOk result (λ step. Steps self (I.seen inlet.old) (I.seen inlet.new) step) }
+        ensures takes { IfOk result (λ step.
+            Steps self (I.seen inlet.old) (I.seen inlet.new) step) }
 
-        // Refused for another cause than a failing end or memory what was wanted does not stand at the
-        // front, and the refusal says why. The end takes no memory.
-        ensures lacks { IfErr result (λ fault. UnlessFailed (wire_cause fault) (Lacks (I.seen inlet.old) (IsWanted self))) }
-        ensures explains { IfErr result (λ fault. ExplainsStart (ExplainsStep self fault) (I.seen inlet.old)) }
+        // Refused for another cause than a failing end or memory what was wanted does not stand at
+        // the front, and the refusal says why. The end takes no memory.
+        ensures lacks { IfErr result (λ fault.
+            UnlessFailed (wire_cause fault) (Lacks (I.seen inlet.old) (IsWanted self))) }
+        ensures explains { IfErr result (λ fault.
+            ExplainsStart (ExplainsStep self fault) (I.seen inlet.old)) }
         ensures no_memory { self.left ≡ 0 → ¬ IsErrOf result WireFault.Memory }
-        ensures fault { IsErrOf result WireFault.Fault → Rises (I.seen inlet.old).faults (I.seen inlet.new).faults }
+        ensures fault { IsErrOf result WireFault.Fault
+            → Rises (I.seen inlet.old).faults (I.seen inlet.new).faults }
         ensures rest { Skips (I.seen inlet.old).coming (I.seen inlet.new).coming }
         ensures faults_stay { (I.seen inlet.old).faults ≤ (I.seen inlet.new).faults }
     {
@@ -151,13 +163,18 @@ impl StreamReader {
 /// of those before.
 pub fn read_stream<I: Inlet>(alloc: Global, inlet: &mut I) -> Result<(Table, bool), WireFault>
     // The bytes taken are one stream, and the table is that of its claims.
-    ensures takes { IfOk result (λ read. (claims : List Claim) × TableOf read.0 claims × Takes (I.seen inlet.old) (I.seen inlet.new) (λ b. StreamText b claims read.1)) }
+    ensures takes { IfOk result (λ read. (claims : List Claim) × TableOf read.0 claims
+        × Takes (I.seen inlet.old) (I.seen inlet.new) (λ b. StreamText b claims read.1)) }
 
     // Refused for another cause than a failing end or memory no stream stands at the front, and the
     // refusal says why.
-    ensures lacks { IfErr result (λ fault. UnlessFailed (wire_cause fault) (Lacks (I.seen inlet.old) (λ b. (claims : List Claim) × (join : Bool) × StreamText b claims join))) }
-    ensures explains { IfErr result (λ fault. ExplainsStart (ExplainsStream fault) (I.seen inlet.old)) }
-    ensures fault { IsErrOf result WireFault.Fault → Rises (I.seen inlet.old).faults (I.seen inlet.new).faults }
+    ensures lacks { IfErr result (λ fault. UnlessFailed (wire_cause fault)
+        (Lacks (I.seen inlet.old)
+        (λ b. (claims : List Claim) × (join : Bool) × StreamText b claims join))) }
+    ensures explains { IfErr result (λ fault.
+        ExplainsStart (ExplainsStream fault) (I.seen inlet.old)) }
+    ensures fault { IsErrOf result WireFault.Fault
+        → Rises (I.seen inlet.old).faults (I.seen inlet.new).faults }
     ensures rest { Skips (I.seen inlet.old).coming (I.seen inlet.new).coming }
     ensures faults_stay { (I.seen inlet.old).faults ≤ (I.seen inlet.new).faults }
 {
@@ -178,19 +195,24 @@ pub fn read_stream<I: Inlet>(alloc: Global, inlet: &mut I) -> Result<(Table, boo
 /// Those of [`read_stream`], and `Trailing` where bytes follow the stream.
 pub fn read_dump(alloc: Global, bytes: &[u8]) -> Result<(Table, bool), WireFault>
     // The bytes are one stream, and the table is that of its claims.
-    ensures reads { IfOk result (λ read. (claims : List Claim) × TableOf read.0 claims × StreamText bytes.now claims read.1) }
+    ensures reads { IfOk result (λ read. (claims : List Claim) × TableOf read.0 claims
+        × StreamText bytes.now claims read.1) }
 
     // Refused for another cause than memory they are none, and the refusal says why.
-    ensures refuses { IfErr result (λ fault. fault ≢ WireFault.Memory → (claims : List Claim) (join : Bool) → ¬ StreamText bytes.now claims join) }
+    ensures refuses { IfErr result (λ fault. fault ≢ WireFault.Memory
+        → (claims : List Claim) (join : Bool) → ¬ StreamText bytes.now claims join) }
     ensures explains { IfErr result (λ fault. ExplainsDump fault bytes.now) }
 
     // Where bytes follow a stream no other refusal comes but `Memory`.
-    ensures after { (front rest : List ℕ) (claims : List Claim) (join : Bool) → StreamText front claims join → rest ≢ [] → bytes.now ≡ front ++ rest
+    ensures after { (front rest : List ℕ) (claims : List Claim) (join : Bool)
+        → StreamText front claims join → rest ≢ [] → bytes.now ≡ front ++ rest
         → IsErrOf result WireFault.Trailing ⊎ IsErrOf result WireFault.Memory }
 
     // A canonical dump is read back, and refused for want of memory alone.
-    ensures back { (table : Entries) (join : Bool) → IsLegalTable table → length (Reduced table) ≤ 131072 → bytes.now ≡ dump_bytes table join
-        → IfOk result (λ read. (read.0 ≡ table) × (read.1 ≡ join)) × IfErr result (λ fault. fault ≡ WireFault.Memory) }
+    ensures back { (table : Entries) (join : Bool) → IsLegalTable table
+        → length (Reduced table) ≤ most_nodes → bytes.now ≡ dump_bytes table join
+        → IfOk result (λ read. (read.0 ≡ table) × (read.1 ≡ join))
+        × IfErr result (λ fault. fault ≡ WireFault.Memory) }
 {
     let mut inlet = SliceInlet::new(bytes);
     let read = read_stream(alloc, &mut inlet)?;

@@ -1,3 +1,5 @@
+//! Tables of a few claims, by their listings.
+
 mod dumps;
 mod many;
 mod node;

@@ -52,7 +52,8 @@ one_of_false x a b e h = grind (arith, nat_tests)
 one_of_again : (x a b : ℕ) → (x ≡ a) ⊎ (x ≡ b) → (eqb x a || eqb x b) ≡ true
 one_of_again x a b h = grind (arith, nat_tests)
 
-pub with_details_ok : {A : Type 0} (d : DetailsValue) (f : DetailsValue → A) (x : A) → with_details d f ≡ passed x → IsAddress d.addr × IsVersions d.vsn × (x ≡ f d)
+pub with_details_ok : {A : Type 0} (d : DetailsValue) (f : DetailsValue → A) (x : A) → with_details d f ≡ passed x
+    → IsAddress d.addr × IsVersions d.vsn × (x ≡ f d)
 with_details_ok {A} d f x = split address P _ _
     (λ a. split versions P _ _ (λ v e. (one_of_true (length d.addr) 4 16 a, one_of_true (length d.vsn) 0 6 v, is e)) (λ v e. absurd cc))
     (λ a e. absurd cc)

@@ -1,10 +1,10 @@
 -- A message that makes no claim is read where its bytes are one, and each such message is read.
-use Rattle.std.proofs.Common.{◌≡◌, ◌≢◌, ℕ, List, [], ◌∷◌, ◌++◌, length, inl, inr, Option, Some, None, Result, Ok, Err, IfOk, IfErr, refl, sym, ap, subst, ◌∙◌, append-nil, Bool, true, eqb, eqb-true}
+use Rattle.std.proofs.Common.{◌≡◌, ◌≢◌, ℕ, List, [], ◌∷◌, length, inl, inr, Option, Some, None, Result, Ok, Err, IfOk, IfErr, refl, sym, ap, subst, ◌∙◌, append-nil, true, eqb, eqb-true}
 use Rattle.swim_wire.specs.declared.claimless.Claimless.{Claimless}
 use Rattle.swim_wire.specs.declared.claimless.Claimless.TheVariants.{Ping, IndirectPing, Ack, User, Nack, Error}
 use Rattle.swim_wire.specs.declared.fault.WireFault.{WireFault}
 use Rattle.swim_wire.specs.declared.fault.WireFault.TheVariants.{Memory}
-use Rattle.swim_wire.specs.Claimless.{type_of, claimless_layout, IsMapOf, BodyText, ClaimlessText, kind_of, whole_map, whole_body, as_kind, behind_type, whole_claimless}
+use Rattle.swim_wire.specs.Claimless.{type_of, claimless_layout, IsMapOf, BodyText, ClaimlessText, claimless_kind, whole_map, whole_body, as_kind, behind_type, whole_claimless}
 use Rattle.swim_wire.specs.Layout.{Layout, MapText}
 use Rattle.swim_wire.specs.Reading.{Slots, map_at, nothing_after, AnswersUnlessMemory}
 use Rattle.swim_wire.proofs.Keys.{IsLegalLayout, claimless_legal}
@@ -52,7 +52,7 @@ body_read_again Error body is = map_read_again (claimless_layout (length body) E
 some_is : (a b : Claimless) → Some a ≡ Some b → a ≡ b
 some_is a b e = cc
 
-type_is : (first : ℕ) (kind : Claimless) → kind_of first ≡ Some kind → first ≡ type_of kind
+type_is : (first : ℕ) (kind : Claimless) → claimless_kind first ≡ Some kind → first ≡ type_of kind
 type_is first kind e =
     split (eqb first 0) P _ _ (found Ping)
     (λ _. split (eqb first 1) P _ _ (found IndirectPing)
@@ -67,7 +67,7 @@ type_is first kind e =
     found : (k : Claimless) → eqb first (type_of k) ≡ true → Some k ≡ Some kind → first ≡ type_of kind
     found k t same = eqb-true _ _ t ∙ ap type_of (some_is k kind same)
 
-kind_again : (kind : Claimless) → kind_of (type_of kind) ≡ Some kind
+kind_again : (kind : Claimless) → claimless_kind (type_of kind) ≡ Some kind
 kind_again Ping = refl
 kind_again IndirectPing = refl
 kind_again Ack = refl
@@ -77,7 +77,7 @@ kind_again Error = refl
 
 -- ---- whole messages
 
-body_known : (kind other : Claimless) (first : ℕ) (body : List ℕ) (r : Result Slots WireFault) → whole_body other body ≡ r → kind_of first ≡ Some other
+body_known : (kind other : Claimless) (first : ℕ) (body : List ℕ) (r : Result Slots WireFault) → whole_body other body ≡ r → claimless_kind first ≡ Some other
     → as_kind other r ≡ passed kind → ClaimlessText (first ∷ body) kind
 body_known kind other first body (Ok slots) at known e =
     let same : other ≡ kind = ok_is other kind e in
@@ -93,9 +93,9 @@ body_known kind other first body (Err error) at known e = absurd cc
 
 pub whole_takes : (b : List ℕ) (kind : Claimless) → whole_claimless b ≡ passed kind → ClaimlessText b kind
 whole_takes [] kind e = absurd cc
-whole_takes (first ∷ body) kind e = by (kind_of first) refl e
+whole_takes (first ∷ body) kind e = by (claimless_kind first) refl e
   where
-    by : (o : Option Claimless) → kind_of first ≡ o → behind_type first body o ≡ passed kind → ClaimlessText (first ∷ body) kind
+    by : (o : Option Claimless) → claimless_kind first ≡ o → behind_type first body o ≡ passed kind → ClaimlessText (first ∷ body) kind
     by None at e = absurd cc
     by (Some other) at e = body_known kind other first body (whole_body other body) refl at e
 

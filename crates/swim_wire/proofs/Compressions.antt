@@ -40,7 +40,8 @@ takes limit bytes packed rest e =
       parts = m.3 ∙ ap (λ (r : List ℕ). m.0 ++ r) (read_rest (raw_in t.0 1) packed t.1 rest t.3);
     }
 
-again : (limit : ℕ) (b rest packed : List ℕ) (pairs : Pairs) → MapText (compression_layout limit) b pairs → packed ≡ raw_of (codes "Buf") pairs → compression_at limit (b ++ rest) ≡ read packed rest
+again : (limit : ℕ) (b rest packed : List ℕ) (pairs : Pairs) → MapText (compression_layout limit) b pairs → packed ≡ raw_of
+    (codes "Buf") pairs → compression_at limit (b ++ rest) ≡ read packed rest
 unfolding compression_at
 again limit b rest packed pairs text is =
     let a = map_again (compression_layout limit) b pairs rest (compression_legal limit) text in
@@ -74,7 +75,8 @@ one_compression b packed packed' s t = same_ok packed packed' (sym (whole_again 
 pub whole_lacks : (b : List ℕ) (error : WireFault) → whole_compression b ≡ failed (List ℕ) error → (packed : List ℕ) → CompressionText b packed → ⊥
 whole_lacks b error e packed text = let read_again = whole_again b packed text in cc
 
-pub compression_reads : {X : Type 0} (view : X → List ℕ) (b : List ℕ) (r : Result X WireFault) → ShowsUnlessMemory view (whole_compression b) r → IfOk r (λ x. CompressionText b (view x))
+pub compression_reads : {X : Type 0} (view : X → List ℕ) (b : List ℕ) (r : Result X WireFault) → ShowsUnlessMemory view
+    (whole_compression b) r → IfOk r (λ x. CompressionText b (view x))
 compression_reads view b (Ok x) h = whole_takes b (view x) h
 compression_reads view b (Err error) h = tt
 
@@ -86,7 +88,8 @@ compression_refuses view b (Err error) (inr e) = λ other. absurd (other e)
 
 -- a map, and then something of its values
 pub Reads-shown : {X : Type 0} {a b : Source} {values : List (Option Value)} (view : X → List ℕ) (reading : Reading Slots) (f : Slots → List ℕ) (x : X)
-    → view x ≡ f (slots_of values) → ReadsAs wire_cause slots_of reading a b (Ok values) → ReadsAs wire_cause view (reading >>= (λ slots. gives (f slots))) a b (Ok x)
+    → view x ≡ f (slots_of values) → ReadsAs wire_cause slots_of reading a b (Ok values)
+    → ReadsAs wire_cause view (reading >>= (λ slots. gives (f slots))) a b (Ok x)
 Reads-shown {X} {a} {b} {values} view reading f x is p =
     let given : ReadsAs wire_cause view (gives (f (slots_of values))) b b (Ok x) = rw (← is) (Reads-gives {view = view} x) in
     Reads-then (λ slots. gives (f slots)) p given

@@ -29,7 +29,9 @@ alone_err (Err other) error e = cc
 part_refusal : (part : List ℕ) (error : WireFault) → packets_of part ≡ failed (List PacketValue) error → IsPacketPart part × ExplainsWhole error part
 part_refusal [] error e = absurd cc
 part_refusal (first ∷ rest) error e =
-    split (is_packet_type first) (λ r. r ≡ failed (List PacketValue) error → IsPacketPart (first ∷ rest) × ExplainsWhole error (first ∷ rest)) (alone (whole_packet (first ∷ rest))) (Ok [])
+    split (is_packet_type first)
+    (λ r. r ≡ failed (List PacketValue) error → IsPacketPart (first ∷ rest) × ExplainsWhole error (first ∷ rest))
+    (alone (whole_packet (first ∷ rest))) (Ok [])
     (λ t own. (type_is first t, whole_refusal (first ∷ rest) error (alone_err (whole_packet (first ∷ rest)) error own))) (λ t none. absurd cc) e
 
 -- ---- the parts
@@ -46,7 +48,8 @@ record PartRefused (lens : List ℕ) (bytes : List ℕ) (error : WireFault) : Ty
   right : PartTexts before packets
   wrong : IsPacketPart part × ExplainsWhole error part
 
-one_more : (len : ℕ) (lens : List ℕ) (bytes mid part : List ℕ) (own : List PacketValue) (error : WireFault) → length part ≡ len → bytes ≡ part ++ mid → PartText part own
+one_more : (len : ℕ) (lens : List ℕ) (bytes mid part : List ℕ) (own : List PacketValue) (error : WireFault)
+    → length part ≡ len → bytes ≡ part ++ mid → PartText part own
     → PartRefused lens mid error → PartRefused (len ∷ lens) bytes error
 one_more len lens bytes mid part own error long parts text r = record {
   before = part ∷ r.before;
@@ -60,7 +63,8 @@ one_more len lens bytes mid part own error long parts text r = record {
   wrong = r.wrong;
 }
 
-parts_refusal : (lens : List ℕ) (packets : List PacketValue) (bytes : List ℕ) (error : WireFault) → parts_at lens packets bytes ≡ refused (List PacketValue) error
+parts_refusal : (lens : List ℕ) (packets : List PacketValue) (bytes : List ℕ) (error : WireFault)
+    → parts_at lens packets bytes ≡ refused (List PacketValue) error
     → IsMapFault error ⊎ PartRefused lens bytes error
 unfolding parts_at
 parts_refusal [] packets bytes error e = absurd cc
@@ -72,7 +76,8 @@ parts_refusal (len ∷ lens) packets bytes error e =
     (λ wrong. inr (first part mid one.0 one.1 (part_refusal part error (checked_err (packets_of part) mid error wrong))))
     (λ own behind passes later. let own_is = checked_ok (packets_of part) mid own behind passes in
     ⊎_elim (λ (m : IsMapFault error). inl m)
-    (λ (r : PartRefused lens behind error). inr (one_more len lens bytes behind part own error one.0 (one.1 ∙ ap (λ (bs : List ℕ). part ++ bs) own_is.1) (part_takes part own own_is.0) r))
+    (λ (r : PartRefused lens behind error). inr
+    (one_more len lens bytes behind part own error one.0 (one.1 ∙ ap (λ (bs : List ℕ). part ++ bs) own_is.1) (part_takes part own own_is.0) r))
     (parts_refusal lens (packets ++ own) behind error later)))
   where
     Q : Type 0
@@ -106,7 +111,8 @@ lengths_fault (suc n) bytes error e = then_err (length_at bytes) (λ len. length
     (λ len mid ok next. then_err (lengths_at n mid) (λ lens. gives (len ∷ lens)) error next (IsMapFault error)
     (λ short. lengths_fault n mid error short) (λ lens rest ok other. absurd cc))
 
-compound_refusal : (bytes : List ℕ) (error : WireFault) → AreBytes bytes → compound_at bytes ≡ refused (List PacketValue) error → IsMapFault error ⊎ HasBadPart error (7 ∷ bytes)
+compound_refusal : (bytes : List ℕ) (error : WireFault) → AreBytes bytes → compound_at bytes ≡ refused
+    (List PacketValue) error → IsMapFault error ⊎ HasBadPart error (7 ∷ bytes)
 unfolding compound_at
 compound_refusal [] error are e = let is : Ended ≡ error = cc in inl (subst IsMapFault is tt)
 compound_refusal (count ∷ bytes) error are e =
@@ -118,7 +124,8 @@ compound_refusal (count ∷ bytes) error are e =
     Q : Type 0
     Q = IsMapFault error ⊎ HasBadPart error (7 ∷ count ∷ bytes)
 
-    bad : (lens mid : List ℕ) → length lens ≡ count → bytes ≡ flat_map (to_be_bytes w16) lens ++ mid → PartRefused lens mid error → HasBadPart error (7 ∷ count ∷ bytes)
+    bad : (lens mid : List ℕ) → length lens ≡ count → bytes ≡ flat_map (to_be_bytes w16) lens ++ mid
+        → PartRefused lens mid error → HasBadPart error (7 ∷ count ∷ bytes)
     bad lens mid many digits r = record {
       before = r.before;
       packets = r.packets;
@@ -127,7 +134,9 @@ compound_refusal (count ∷ bytes) error are e =
       lens = lens;
       rest = r.rest;
       lengths = r.lengths;
-      text = ap (λ (n : ℕ). 7 ∷ n ∷ bytes) (sym many) ∙ ap (λ (bs : List ℕ). 7 ∷ length lens ∷ bs) (digits ∙ ap (λ (bs : List ℕ). flat_map (to_be_bytes w16) lens ++ bs) r.text);
+      text =
+          ap (λ (n : ℕ). 7 ∷ n ∷ bytes) (sym many)
+          ∙ ap (λ (bs : List ℕ). 7 ∷ length lens ∷ bs) (digits ∙ ap (λ (bs : List ℕ). flat_map (to_be_bytes w16) lens ++ bs) r.text);
       right = r.right;
       is_packet = r.wrong.0;
       wrong = r.wrong.1;
@@ -165,7 +174,8 @@ by_part UserTooLong bytes h = absurd h.wrong
 by_part Trailing bytes h = inr h
 by_part error bytes h = tt
 
-by_packet : (error : WireFault) (first : ℕ) (bytes : List ℕ) → eqb first 7 ≡ false → ExplainsWhole error (first ∷ bytes) → ExplainsDatagram error (first ∷ bytes)
+by_packet : (error : WireFault) (first : ℕ) (bytes : List ℕ) → eqb first 7 ≡ false → ExplainsWhole error (first ∷ bytes)
+    → ExplainsDatagram error (first ∷ bytes)
 by_packet NameEmpty first bytes t h = inl h
 by_packet BadAddress first bytes t h = inl h
 by_packet BadVersions first bytes t h = inl h

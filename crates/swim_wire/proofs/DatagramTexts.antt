@@ -51,15 +51,18 @@ AreBytes-back (byte ∷ front) rest bytes = AreBytes-back front rest (λ k d lt.
 
 -- ---- the length of a part
 
-length_takes : (bytes : List ℕ) (len : ℕ) (rest : List ℕ) → AreBytes bytes → length_at bytes ≡ read len rest → (bytes ≡ to_be_bytes w16 len ++ rest) × (len < 2 ^ 16)
+length_takes : (bytes : List ℕ) (len : ℕ) (rest : List ℕ) → AreBytes bytes → length_at bytes ≡ read len rest →
+    (bytes ≡ to_be_bytes w16 len ++ rest) × (len < 2 ^ 16)
 unfolding length_at
 length_takes bytes len rest are e =
     let t = then_ok (lift fault_of_pack (next_bytes 2) bytes) (λ two. gives (from_be_bytes w16 two)) len rest e in
     let two = bytes_takes 2 bytes t.0 t.1 t.2 in
     let small : (i : ℕ) → get_or t.0 i 0 < 256 = AreBytes-front t.0 t.1 (subst AreBytes two.1 are) in
     let is = read_value (from_be_bytes w16 t.0) len t.1 rest t.3 in
-    let written = be_bytes_2 t.0 len two.0 small (sym is) in
-    (parts_to (to_be_bytes w16 len) (two.1 ∙ ap (λ (s : List ℕ). s ++ t.1) (sym written)) (read_rest (from_be_bytes w16 t.0) len t.1 rest t.3), below t.0 len small is)
+    let written = be_bytes_2 t.0 len two.0 small (sym is) in (
+      parts_to (to_be_bytes w16 len) (two.1 ∙ ap (λ (s : List ℕ). s ++ t.1) (sym written)) (read_rest (from_be_bytes w16 t.0) len t.1 rest t.3),
+      below t.0 len small is,
+    )
   where
     below : (two : List ℕ) (len : ℕ) → ((i : ℕ) → get_or two i 0 < 256) → from_be_bytes w16 two ≡ len → len < 2 ^ 16
     below two len small is =
@@ -79,8 +82,12 @@ pub lengths_takes : (n : ℕ) (bytes lens rest : List ℕ) → AreBytes bytes �
 unfolding lengths_at
 lengths_takes zero bytes lens rest are e =
     let none : [] ≡ lens = read_value [] lens bytes rest e in
-    let same = read_rest [] lens bytes rest e in
-    (ap length (sym none), same ∙ ap (λ (ls : List ℕ). flat_map (to_be_bytes w16) ls ++ rest) none, subst (λ ls. All (λ len. len < 2 ^ 16) ls) none (All-nil (λ len. len < 2 ^ 16)), subst AreBytes same are)
+    let same = read_rest [] lens bytes rest e in (
+      ap length (sym none),
+      same ∙ ap (λ (ls : List ℕ). flat_map (to_be_bytes w16) ls ++ rest) none,
+      subst (λ ls. All (λ len. len < 2 ^ 16) ls) none (All-nil (λ len. len < 2 ^ 16)),
+      subst AreBytes same are,
+    )
 lengths_takes (suc n) bytes lens rest are e =
     let t = then_ok (length_at bytes) _ lens rest e in
     let one = length_takes bytes t.0 t.1 are t.2 in
@@ -125,18 +132,21 @@ packet_list ps = Ok ps
 list_is : (ps qs : List PacketValue) → packet_list ps ≡ packet_list qs → ps ≡ qs
 list_is ps qs e = cc
 
-alone_ok : (r : Result PacketValue WireFault) (packets : List PacketValue) → alone r ≡ packet_list packets → (p : PacketValue) × (r ≡ passed p) × (packets ≡ p ∷ [])
+alone_ok : (r : Result PacketValue WireFault) (packets : List PacketValue) → alone r ≡ packet_list packets →
+    (p : PacketValue) × (r ≡ passed p) × (packets ≡ p ∷ [])
 alone_ok (Ok p) packets e = (p, refl, sym (list_is (p ∷ []) packets e))
 alone_ok (Err error) packets e = absurd cc
 
 pub part_takes : (part : List ℕ) (packets : List PacketValue) → packets_of part ≡ packet_list packets → PartText part packets
 part_takes [] packets e = inr ((λ h. h), sym (list_is [] packets e))
-part_takes (first ∷ rest) packets e = split (is_packet_type first) (λ r. r ≡ packet_list packets → PartText (first ∷ rest) packets) (alone (whole_packet (first ∷ rest))) (Ok [])
+part_takes (first ∷ rest) packets e =
+    split (is_packet_type first) (λ r. r ≡ packet_list packets → PartText (first ∷ rest) packets) (alone (whole_packet (first ∷ rest))) (Ok [])
     (λ t own. let p = alone_ok (whole_packet (first ∷ rest)) packets own in inl (p.0, whole_takes (first ∷ rest) p.0 p.1, p.2))
     (λ t none. inr (type_is_not first t, sym (list_is [] packets none))) e
 
 -- a packet begins with its type
-pub begins : (b : List ℕ) (p : PacketValue) → PacketText b p → (first : ℕ) × (rest : List ℕ) × (b ≡ first ∷ rest) × (eqb first 7 ≡ false) × ((first ≡ 3) ⊎ (first ≡ 4) ⊎ (first ≡ 5))
+pub begins : (b : List ℕ) (p : PacketValue) → PacketText b p → (first : ℕ) × (rest : List ℕ) × (b ≡ first ∷ rest) ×
+    (eqb first 7 ≡ false) × ((first ≡ 3) ⊎ (first ≡ 4) ⊎ (first ≡ 5))
 begins b p (alive m pairs type text named legal is) = (4, m, type, refl, inr (inl refl))
 begins b p (suspect m pairs type text named is) = (3, m, type, refl, inl refl)
 begins b p (leave m pairs type text named own is) = (5, m, type, refl, inr (inr refl))
@@ -153,7 +163,8 @@ passed_over first rest other =
 part_again : (part : List ℕ) (packets : List PacketValue) → PartText part packets → packets_of part ≡ packet_list packets
 part_again part packets (inl own) =
     let b = begins part own.0 own.1 in
-    ap packets_of b.2 ∙ read_as_packet b.0 b.1 (type_again b.0 b.4) ∙ ap (λ (bytes : List ℕ). alone (whole_packet bytes)) (sym b.2) ∙ ap alone (whole_again part own.0 own.1)
+    ap packets_of b.2 ∙ read_as_packet b.0 b.1 (type_again b.0 b.4)
+    ∙ ap (λ (bytes : List ℕ). alone (whole_packet bytes)) (sym b.2) ∙ ap alone (whole_again part own.0 own.1)
     ∙ ap packet_list (sym own.2)
 part_again [] packets (inr other) = ap packet_list (sym other.1)
 part_again (first ∷ rest) packets (inr other) = passed_over first rest other.0 ∙ ap packet_list (sym other.1)
@@ -169,11 +180,13 @@ record PartsTaken (lens : List ℕ) (packets : List PacketValue) (bytes : List �
   text : bytes ≡ flat_map (λ part. part) parts ++ rest
   behind : out ≡ packets ++ more
 
-pub texts_joined : (part : List ℕ) (parts : List (List ℕ)) (one more : List PacketValue) → PartText part one → PartTexts parts more → PartTexts (part ∷ parts) (one ++ more)
+pub texts_joined : (part : List ℕ) (parts : List (List ℕ)) (one more : List PacketValue) → PartText part one
+    → PartTexts parts more → PartTexts (part ∷ parts) (one ++ more)
 texts_joined part parts one more (inl own) texts = inl (own.0, more, own.1, texts, ap (λ (ps : List PacketValue). ps ++ more) own.2)
 texts_joined part parts one more (inr other) texts = inr (other.0, subst (PartTexts parts) (sym (ap (λ (ps : List PacketValue). ps ++ more) other.1)) texts)
 
-part_before : (len : ℕ) (lens : List ℕ) (packets own : List PacketValue) (bytes part mid behind : List ℕ) (out : List PacketValue) (rest : List ℕ) → length part ≡ len → bytes ≡ part ++ mid
+part_before : (len : ℕ) (lens : List ℕ) (packets own : List PacketValue) (bytes part mid behind : List ℕ)
+    (out : List PacketValue) (rest : List ℕ) → length part ≡ len → bytes ≡ part ++ mid
     → PartText part own → mid ≡ behind → PartsTaken lens (packets ++ own) behind out rest → PartsTaken (len ∷ lens) packets bytes out rest
 part_before len lens packets own bytes part mid behind out rest long first text same later = record {
   parts = part ∷ later.parts;
@@ -184,7 +197,8 @@ part_before len lens packets own bytes part mid behind out rest long first text 
   behind = later.behind ∙ append_assoc packets own later.more;
 }
 
-parts_takes : (lens : List ℕ) (packets : List PacketValue) (bytes : List ℕ) (out : List PacketValue) (rest : List ℕ) → parts_at lens packets bytes ≡ read out rest
+parts_takes : (lens : List ℕ) (packets : List PacketValue) (bytes : List ℕ) (out : List PacketValue) (rest : List ℕ)
+    → parts_at lens packets bytes ≡ read out rest
     → PartsTaken lens packets bytes out rest
 unfolding parts_at
 parts_takes [] packets bytes out rest e = record {
@@ -200,17 +214,20 @@ parts_takes (len ∷ lens) packets bytes out rest e =
     let one = bytes_takes len bytes t.0 t.1 t.2 in
     let u = then_ok (checked (packets_of t.0) t.1) (λ more. parts_at lens (packets ++ more)) out rest t.3 in
     let own = checked_ok (packets_of t.0) t.1 u.0 u.1 u.2 in
-    part_before len lens packets u.0 bytes t.0 t.1 u.1 out rest one.0 one.1 (part_takes t.0 u.0 own.0) own.1 (parts_takes lens (packets ++ u.0) u.1 out rest u.3)
+    part_before len lens packets u.0 bytes t.0 t.1 u.1 out rest one.0 one.1 (part_takes t.0 u.0 own.0) own.1
+    (parts_takes lens (packets ++ u.0) u.1 out rest u.3)
 
 parts_again : (parts : List (List ℕ)) (packets more : List PacketValue) (rest : List ℕ) → PartTexts parts more
     → parts_at (map length parts) packets (flat_map (λ part. part) parts ++ rest) ≡ read (packets ++ more) rest
 unfolding parts_at
-parts_again [] packets more rest texts = ap (λ (ps : List PacketValue). read ps rest) (sym (append-nil packets) ∙ ap (λ (ps : List PacketValue). packets ++ ps) (sym texts))
+parts_again [] packets more rest texts =
+    ap (λ (ps : List PacketValue). read ps rest) (sym (append-nil packets) ∙ ap (λ (ps : List PacketValue). packets ++ ps) (sym texts))
 parts_again (part ∷ parts) packets more rest (inl own) =
     let one = bytes_again part (flat_map (λ p. p) parts ++ rest) in
     let value = part_again part (own.0 ∷ []) (inl (own.0, own.2, refl)) in
     let later = parts_again parts (packets ++ own.0 ∷ []) own.1 rest own.3 in
-    let all : (packets ++ own.0 ∷ []) ++ own.1 ≡ packets ++ more = append_assoc packets (own.0 ∷ []) own.1 ∙ ap (λ (ps : List PacketValue). packets ++ ps) (sym own.4) in
+    let all : (packets ++ own.0 ∷ []) ++ own.1 ≡ packets ++ more =
+    append_assoc packets (own.0 ∷ []) own.1 ∙ ap (λ (ps : List PacketValue). packets ++ ps) (sym own.4) in
     rw (append_assoc part (flat_map (λ p. p) parts) rest, one, value) (later ∙ ap (λ (ps : List PacketValue). read ps rest) all)
 parts_again (part ∷ parts) packets more rest (inr other) =
     let one = bytes_again part (flat_map (λ p. p) parts ++ rest) in
@@ -242,7 +259,8 @@ pub record CompoundTaken (bytes : List ℕ) (packets : List PacketValue) (rest :
   pub texts : PartTexts parts packets
   pub text : 7 ∷ bytes ≡ compound_bytes parts ++ rest
 
-pub compound_takes : (bytes : List ℕ) (packets : List PacketValue) (rest : List ℕ) → AreBytes bytes → compound_at bytes ≡ read packets rest → CompoundTaken bytes packets rest
+pub compound_takes : (bytes : List ℕ) (packets : List PacketValue) (rest : List ℕ) → AreBytes bytes
+    → compound_at bytes ≡ read packets rest → CompoundTaken bytes packets rest
 unfolding compound_at
 compound_takes [] packets rest are e = absurd cc
 compound_takes (count ∷ bytes) packets rest are e =
@@ -254,7 +272,8 @@ compound_takes (count ∷ bytes) packets rest are e =
     let lens_count = lens.0 in
     let many : count ≡ length p.parts = omega arith in
     let small = are 0 count (omega arith) in
-    let digits : flat_map (to_be_bytes w16) t.0 ≡ flat_map (λ part. to_be_bytes w16 (length part)) p.parts = ap (flat_map (to_be_bytes w16)) (sym p.lengths) ∙ lengths_text p.parts in
+    let digits : flat_map (to_be_bytes w16) t.0 ≡ flat_map (λ part. to_be_bytes w16 (length part)) p.parts =
+    ap (flat_map (to_be_bytes w16)) (sym p.lengths) ∙ lengths_text p.parts in
     let behind : bytes ≡ flat_map (λ part. to_be_bytes w16 (length part)) p.parts ++ t.1 = lens.1 ∙ ap (λ (ls : List ℕ). ls ++ t.1) digits in
     record {
       parts = p.parts;
@@ -262,7 +281,8 @@ compound_takes (count ∷ bytes) packets rest are e =
       short = all_short p.parts (subst (All (λ len. len < 2 ^ 16)) (sym p.lengths) lens.2);
       texts = subst (PartTexts p.parts) (sym p.behind) p.texts;
       text = ap (λ (n : ℕ). 7 ∷ n ∷ bytes) many
-          ∙ ap (λ (bs : List ℕ). 7 ∷ length p.parts ∷ bs) (parts_joined (flat_map (λ part. to_be_bytes w16 (length part)) p.parts) (flat_map (λ part. part) p.parts) rest behind p.text);
+          ∙ ap (λ (bs : List ℕ). 7 ∷ length p.parts ∷ bs)
+          (parts_joined (flat_map (λ part. to_be_bytes w16 (length part)) p.parts) (flat_map (λ part. part) p.parts) rest behind p.text);
     }
 
 pub compound_again : (parts : List (List ℕ)) (packets : List PacketValue) (rest : List ℕ) → All (λ part. length part < 2 ^ 16) parts → PartTexts parts packets
@@ -282,10 +302,12 @@ datagram_takes (first ∷ bytes) packets are e =
     P : Result (List PacketValue) WireFault → Type 0
     P r = r ≡ packet_list packets → DatagramText (first ∷ bytes) packets
 
-    taken : first ≡ 7 → (r : Result (List PacketValue × List ℕ) WireFault) → compound_at bytes ≡ r → nothing_after r ≡ packet_list packets → DatagramText (first ∷ bytes) packets
+    taken : first ≡ 7 → (r : Result (List PacketValue × List ℕ) WireFault) → compound_at bytes ≡ r
+        → nothing_after r ≡ packet_list packets → DatagramText (first ∷ bytes) packets
     taken seven (Ok (ps, [])) at own =
         let c = compound_takes bytes ps [] (λ k d lt. are (suc k) d (omega arith)) at in
-        compound c.parts c.few c.short (ap (λ (n : ℕ). n ∷ bytes) seven ∙ c.text ∙ append-nil (compound_bytes c.parts)) (subst (PartTexts c.parts) (list_is ps packets own) c.texts)
+        compound c.parts c.few c.short (ap (λ (n : ℕ). n ∷ bytes) seven ∙ c.text ∙ append-nil (compound_bytes c.parts))
+        (subst (PartTexts c.parts) (list_is ps packets own) c.texts)
     taken seven (Ok (ps, byte ∷ rest)) at own = absurd cc
     taken seven (Err error) at own = absurd cc
 
@@ -296,10 +318,12 @@ one_packet first bytes t = rw t refl
 pub datagram_again : (b : List ℕ) (packets : List PacketValue) → DatagramText b packets → whole_datagram b ≡ packet_list packets
 datagram_again b packets (packet p text is) =
     let t = begins b p text in
-    ap whole_datagram t.2 ∙ one_packet t.0 t.1 t.3 ∙ ap (λ (bytes : List ℕ). alone (whole_packet bytes)) (sym t.2) ∙ ap alone (whole_again b p text) ∙ ap packet_list (sym is)
+    ap whole_datagram t.2 ∙ one_packet t.0 t.1 t.3 ∙ ap (λ (bytes : List ℕ). alone (whole_packet bytes)) (sym t.2)
+    ∙ ap alone (whole_again b p text) ∙ ap packet_list (sym is)
 datagram_again b packets (compound parts few short is texts) =
     let again = compound_again parts packets [] short texts in
     rw is (ap nothing_after (rw (append-nil (flat_map (λ part. part) parts)) at again))
 
-pub datagram_lacks : (b : List ℕ) (error : WireFault) → whole_datagram b ≡ failed (List PacketValue) error → (packets : List PacketValue) → DatagramText b packets → ⊥
+pub datagram_lacks : (b : List ℕ) (error : WireFault) → whole_datagram b ≡ failed (List PacketValue) error →
+    (packets : List PacketValue) → DatagramText b packets → ⊥
 datagram_lacks b error e packets text = let again = datagram_again b packets text in cc

@@ -22,7 +22,8 @@ some≢none : {A : Type 0} (x : A) → Some x ≡ None → ⊥
 some≢none x e = cc
 
 -- where a slot has a value, no pair has its key
-fills_apart : (layout : Layout) (slots : Slots) (pairs : Pairs) (out : Slots) (key : List ℕ) (place : ℕ) → Fills layout slots pairs out → place_of layout key ≡ Some place
+fills_apart : (layout : Layout) (slots : Slots) (pairs : Pairs) (out : Slots) (key : List ℕ) (place : ℕ)
+    → Fills layout slots pairs out → place_of layout key ≡ Some place
     → slot slots place ≢ None → AllByRecursion (λ y. bytes_eq key y ≡ false) (keys_of pairs)
 fills_apart layout slots [] out key place fills at full = tt
 fills_apart layout slots (pair ∷ pairs) out key place fills at full =
@@ -40,7 +41,8 @@ filled_slot layout slots key value place room at =
     let inside = first.inside in
     get_or-set_same slots place (Some value) None (omega arith)
 
-pub fills_distinct : (layout : Layout) (slots : Slots) (pairs : Pairs) (out : Slots) → length layout ≤ length slots → Fills layout slots pairs out → IsDistinct bytes_eq (keys_of pairs)
+pub fills_distinct : (layout : Layout) (slots : Slots) (pairs : Pairs) (out : Slots) → length layout ≤ length slots
+    → Fills layout slots pairs out → IsDistinct bytes_eq (keys_of pairs)
 unfolding IsDistinct
 fills_distinct layout slots [] out room fills = tt
 fills_distinct layout slots (pair ∷ pairs) out room fills =
@@ -59,7 +61,8 @@ abbrev pub or_kept : Option Spelled → Option Spelled → Option Spelled
 or_kept None old = old
 or_kept (Some value) old = Some value
 
-fills_hold : (layout : Layout) (slots : Slots) (pairs : Pairs) (out : Slots) → IsDistinct bytes_eq (keys_of layout) → length layout ≤ length slots → Fills layout slots pairs out
+fills_hold : (layout : Layout) (slots : Slots) (pairs : Pairs) (out : Slots) → IsDistinct bytes_eq (keys_of layout)
+    → length layout ≤ length slots → Fills layout slots pairs out
     → (place : ℕ) → place < length layout → slot out place ≡ or_kept (of_key (key_in layout place) pairs) (slot slots place)
 fills_hold layout slots [] out distinct room fills place inside = ap (λ (s : Slots). slot s place) fills
 fills_hold layout slots (pair ∷ pairs) out distinct room fills place inside =
@@ -78,7 +81,9 @@ fills_hold layout slots (pair ∷ pairs) out distinct room fills place inside =
         let at = own_place layout place distinct inside in
         let here : place ≡ fills.0 = some_is place fills.0 (sym at ∙ ap (place_of layout) same ∙ fills.1) in
         let value = filled_slot layout slots pair.0 pair.1 fills.0 room fills.1 in
-        let none = no_pair pair.0 pairs (fills_apart layout (slice_set slots fills.0 (Some pair.1)) pairs out pair.0 fills.0 fills.3 fills.1 (λ e. some≢none pair.1 (sym value ∙ e))) in
+        let none =
+        no_pair pair.0 pairs
+        (fills_apart layout (slice_set slots fills.0 (Some pair.1)) pairs out pair.0 fills.0 fills.3 fills.1 (λ e. some≢none pair.1 (sym value ∙ e))) in
         later ∙ ap₂ or_kept (ap (λ (k : List ℕ). of_key k pairs) same ∙ none) (ap (slot (slice_set slots fills.0 (Some pair.1))) here ∙ value)
     by false t later =
         let first = first_from_place layout pair.0 fills.0 fills.1 in
@@ -110,7 +115,8 @@ abbrev pub IsVacant : Layout → Slots → List ℕ → Type 0
 IsVacant layout slots key = (place : ℕ) → place_of layout key ≡ Some place → slot slots place ≡ None
 
 vacant_after : (layout : Layout) (slots : Slots) (key : List ℕ) (place : ℕ) (value : Spelled) (keys : List (List ℕ)) → place_of layout key ≡ Some place
-    → AllByRecursion (λ y. bytes_eq key y ≡ false) keys → AllByRecursion (IsVacant layout slots) keys → AllByRecursion (IsVacant layout (slice_set slots place (Some value))) keys
+    → AllByRecursion (λ y. bytes_eq key y ≡ false) keys → AllByRecursion (IsVacant layout slots) keys
+    → AllByRecursion (IsVacant layout (slice_set slots place (Some value))) keys
 vacant_after layout slots key place value [] at apart vacant = tt
 vacant_after layout slots key place value (other ∷ keys) at apart vacant = (still, vacant_after layout slots key place value keys at apart.1 vacant.1)
   where

@@ -25,8 +25,10 @@ pub split_front : (n : ℕ) (bytes front rest text : List ℕ) → front ≡ tak
 split_front n bytes front rest text front_is rest_is same = rw (← same, front_is, rest_is) (sym (take-append-drop n bytes))
 
 -- a key at the front, and a value within its limit behind it
-pair_in_order : (layout : Layout) (slots : Slots) (place : ℕ) (bytes mid rest : List ℕ) (value : Spelled) → IsLegalLayout layout → place < length layout → slot slots place ≡ None
-    → bytes ≡ raw_text (key_in layout place) ++ mid → value_at (limit_at layout place) mid ≡ read value rest → pair_at layout slots bytes ≡ read (slice_set slots place (Some value)) rest
+pair_in_order : (layout : Layout) (slots : Slots) (place : ℕ) (bytes mid rest : List ℕ) (value : Spelled)
+    → IsLegalLayout layout → place < length layout → slot slots place ≡ None
+    → bytes ≡ raw_text (key_in layout place) ++ mid → value_at (limit_at layout place) mid ≡ read value rest
+    → pair_at layout slots bytes ≡ read (slice_set slots place (Some value)) rest
 unfolding pair_at key_at
 pair_in_order layout slots place bytes mid rest value legal inside vacant is e =
     let key = key_in layout place in
@@ -39,8 +41,10 @@ abbrev pub Behind : List ℕ → Limit → List ℕ → Spelled → List ℕ →
 Behind bytes limit key value rest = (mid : List ℕ) × (bytes ≡ key ++ mid) × (value_at limit mid ≡ read value rest)
 
 -- a pair, and then the others
-pairs_in_order : (layout : Layout) (n : ℕ) (slots : Slots) (place : ℕ) (bytes mid rest : List ℕ) (value : Spelled) (out : Slots) (end : List ℕ) → IsLegalLayout layout → place < length layout → slot slots place ≡ None
-    → bytes ≡ raw_text (key_in layout place) ++ mid → value_at (limit_at layout place) mid ≡ read value rest → pairs_at layout n (slice_set slots place (Some value)) rest ≡ read out end
+pairs_in_order : (layout : Layout) (n : ℕ) (slots : Slots) (place : ℕ) (bytes mid rest : List ℕ) (value : Spelled)
+    (out : Slots) (end : List ℕ) → IsLegalLayout layout → place < length layout → slot slots place ≡ None
+    → bytes ≡ raw_text (key_in layout place) ++ mid → value_at (limit_at layout place) mid ≡ read value rest
+    → pairs_at layout n (slice_set slots place (Some value)) rest ≡ read out end
     → pairs_at layout (suc n) slots bytes ≡ read out end
 unfolding pairs_at
 pairs_in_order layout n slots place bytes mid rest value out end legal inside vacant is e more =
@@ -153,15 +157,19 @@ alive_claimed addr meta name vsn inc port claim e =
     let packet_of : DetailsValue → PacketValue = λ details. record { claim = Alive name inc details; from = [] } in
     rw (detailed.2) (with_name_again name (with_details d packet_of) named.0 ∙ with_details_again d packet_of detailed.0 detailed.1)
 
-pub alive_told : (body rest : List ℕ) (slots : Slots) (packet : PacketValue) → map_at alive_layout body ≡ read slots rest → rest ≡ [] → alive_of slots ≡ Ok packet → alive_at body ≡ read packet []
+pub alive_told : (body rest : List ℕ) (slots : Slots) (packet : PacketValue) → map_at alive_layout body ≡ read slots rest
+    → rest ≡ [] → alive_of slots ≡ Ok packet → alive_at body ≡ read packet []
 unfolding alive_at
 alive_told body rest slots packet e none is = rw (e, none, is) refl
 
-pub suspect_told : (body rest : List ℕ) (slots : Slots) (packet : PacketValue) → map_at accusation_layout body ≡ read slots rest → rest ≡ [] → suspect_of slots ≡ Ok packet → suspect_at body ≡ read packet []
+pub suspect_told : (body rest : List ℕ) (slots : Slots) (packet : PacketValue)
+    → map_at accusation_layout body ≡ read slots rest → rest ≡ [] → suspect_of slots ≡ Ok packet
+    → suspect_at body ≡ read packet []
 unfolding suspect_at
 suspect_told body rest slots packet e none is = rw (e, none, is) refl
 
-pub dead_told : (body rest : List ℕ) (slots : Slots) (packet : PacketValue) → map_at accusation_layout body ≡ read slots rest → rest ≡ [] → dead_of slots ≡ Ok packet → dead_at body ≡ read packet []
+pub dead_told : (body rest : List ℕ) (slots : Slots) (packet : PacketValue) → map_at accusation_layout body ≡ read slots rest
+    → rest ≡ [] → dead_of slots ≡ Ok packet → dead_at body ≡ read packet []
 unfolding dead_at
 dead_told body rest slots packet e none is = rw (e, none, is) refl
 
@@ -178,12 +186,14 @@ pub packet_of_dead : (bytes body : List ℕ) (packet : PacketValue) → bytes �
 unfolding packet_at
 packet_of_dead bytes body packet first e = rw (first, e) refl
 
-pub state_told : (bytes rest : List ℕ) (slots : Slots) (claim : Claim) → map_at state_layout bytes ≡ read slots rest → state_of slots ≡ Ok claim → state_at bytes ≡ read claim rest
+pub state_told : (bytes rest : List ℕ) (slots : Slots) (claim : Claim) → map_at state_layout bytes ≡ read slots rest
+    → state_of slots ≡ Ok claim → state_at bytes ≡ read claim rest
 unfolding state_at
 state_told bytes rest slots claim e is = rw (e, is) refl
 
 -- a header within its limits
-pub header_told : (bytes body rest : List ℕ) (join : Bool) (nodes user_len : ℕ) → bytes ≡ 6 ∷ body → map_at header_layout body ≡ read (header_slots join nodes user_len) rest
+pub header_told : (bytes body rest : List ℕ) (join : Bool) (nodes user_len : ℕ) → bytes ≡ 6 ∷ body
+    → map_at header_layout body ≡ read (header_slots join nodes user_len) rest
     → nodes ≤ 131072 → user_len ≤ 20971520 → header_at bytes ≡ read (record { nodes = nodes; user_len = user_len; join = join }) rest
 unfolding header_at
 header_told bytes body rest join nodes user_len first e few short =
@@ -193,7 +203,8 @@ header_told bytes body rest join nodes user_len first e few short =
 
 -- ---- what was made, seen as more
 
-pub each_made : {E P : Type 0} (A B : P → Type 0) (r : Result (Option P) E) → ((p : P) → A p → B p) → IfOk r (λ made. IfSome made A) → IfOk r (λ made. IfSome made B)
+pub each_made : {E P : Type 0} (A B : P → Type 0) (r : Result (Option P) E) → ((p : P) → A p → B p) → IfOk r
+    (λ made. IfSome made A) → IfOk r (λ made. IfSome made B)
 each_made A B (Ok (Some p)) f h = f p h
 each_made A B (Ok None) f h = h
 each_made A B (Err error) f h = h

@@ -114,7 +114,8 @@ pub found : (layout : Layout) (key : List ℕ) (limit : Limit) → of_key key la
 found [] key limit e = absurd cc
 found (field ∷ layout) key limit e = by (bytes_eq key field.0) refl e (found layout key limit)
   where
-    by : (b : Bool) → bytes_eq key field.0 ≡ b → cond b (Some field.1) (of_key key layout) ≡ Some limit → (of_key key layout ≡ Some limit → IsFound layout key limit)
+    by : (b : Bool) → bytes_eq key field.0 ≡ b → cond b (Some field.1) (of_key key layout) ≡ Some limit →
+        (of_key key layout ≡ Some limit → IsFound layout key limit)
         → IsFound (field ∷ layout) key limit
     by true t e later = record {
       place = 0;
@@ -140,7 +141,8 @@ all_at P (field ∷ layout) zero each inside = each.0
 all_at P (field ∷ layout) (suc place) each inside = all_at P layout place each.1 (omega arith)
 
 -- each key stands first at its own place
-own_first : (layout : Layout) (place : ℕ) → IsDistinct bytes_eq (keys_of layout) → place < length layout → (k : ℕ) → k < place → key_in layout k ≢ key_in layout place
+own_first : (layout : Layout) (place : ℕ) → IsDistinct bytes_eq (keys_of layout) → place < length layout → (k : ℕ) → k < place
+    → key_in layout k ≢ key_in layout place
 unfolding IsDistinct
 own_first [] place distinct inside k lt same = absurd (omega arith)
 own_first (field ∷ layout) zero distinct inside k lt same = absurd (omega arith)
@@ -149,6 +151,7 @@ own_first (field ∷ layout) (suc place) distinct inside zero lt same =
     false≢true (sym apart ∙ key_same field.0 (key_in layout place) same)
 own_first (field ∷ layout) (suc place) distinct inside (suc k) lt same = own_first layout place distinct.1 (omega arith) k (omega arith) same
 
-pub own_place : (layout : Layout) (place : ℕ) → IsDistinct bytes_eq (keys_of layout) → place < length layout → place_of layout (key_in layout place) ≡ Some place
+pub own_place : (layout : Layout) (place : ℕ) → IsDistinct bytes_eq (keys_of layout) → place < length layout → place_of layout
+    (key_in layout place) ≡ Some place
 own_place layout place distinct inside =
     place_from_first layout (key_in layout place) place (record { inside = inside; here = refl; first = own_first layout place distinct inside })

@@ -53,14 +53,17 @@ unknown_fault : (o : Option ℕ) (mid : List ℕ) (error : WireFault) → some_o
 unknown_fault None mid error e = let is : UnknownKey ≡ error = cc in subst IsMapFault is tt
 unknown_fault (Some place) mid error e = absurd cc
 
-vacant_fault : (o : Option Spelled) (limit : Limit) (mid : List ℕ) (error : WireFault) → if_vacant o (value_at limit) mid ≡ refused Spelled error → IsMapFault error
+vacant_fault : (o : Option Spelled) (limit : Limit) (mid : List ℕ) (error : WireFault) → if_vacant o
+    (value_at limit) mid ≡ refused Spelled error → IsMapFault error
 vacant_fault None limit mid error e = value_fault limit mid error e
 vacant_fault (Some value) limit mid error e = let is : DuplicateKey ≡ error = cc in subst IsMapFault is tt
 
 pair_fault : (layout : Layout) (slots : Slots) (bytes : List ℕ) (error : WireFault) → pair_at layout slots bytes ≡ refused Slots error → IsMapFault error
 unfolding pair_at key_at
 pair_fault layout slots bytes error e =
-    then_err (key_at layout bytes) (λ place. if_vacant (slot slots place) (value_at (limit_at layout place)) >>= (λ value. gives (slice_set slots place (Some value)))) error e (IsMapFault error)
+    then_err (key_at layout bytes)
+    (λ place. if_vacant (slot slots place) (value_at (limit_at layout place)) >>= (λ value. gives (slice_set slots place (Some value))))
+    error e (IsMapFault error)
     (λ first. then_err (lift fault_of_key (raw_at 12) bytes) (λ key. some_or UnknownKey (place_of layout key)) error first (IsMapFault error)
     (λ key. lift_fault fault_of_key (raw_at 12 bytes) error key_fault key)
     (λ key mid ok unknown. unknown_fault (place_of layout key) mid error unknown))
@@ -68,7 +71,8 @@ pair_fault layout slots bytes error e =
     (λ value. vacant_fault (slot slots place) (limit_at layout place) mid error value)
     (λ value rest ok other. absurd cc))
 
-pairs_fault : (layout : Layout) (n : ℕ) (slots : Slots) (bytes : List ℕ) (error : WireFault) → pairs_at layout n slots bytes ≡ refused Slots error → IsMapFault error
+pairs_fault : (layout : Layout) (n : ℕ) (slots : Slots) (bytes : List ℕ) (error : WireFault)
+    → pairs_at layout n slots bytes ≡ refused Slots error → IsMapFault error
 unfolding pairs_at
 pairs_fault layout zero slots bytes error e = absurd cc
 pairs_fault layout (suc n) slots bytes error e = then_err (pair_at layout slots bytes) (pairs_at layout n) error e (IsMapFault error)

@@ -23,20 +23,23 @@ use Rattle.swim_wire.proofs.Readings.{parts_to, parts_joined, read, read_value, 
 use Rattle.swim_wire.proofs.Keys.{IsLegalLayout, same_key, false≢true, first_from_place, place_from_first, limit_from_first, some_is, found, all_at}
 use Rattle.swim_wire.proofs.Filling.{HoldsSlots, Fills, fills_distinct, holds_from_fills, fills_from, all_vacant}
 
-value_takes : (limit : Limit) (bytes : List ℕ) (value : Spelled) (rest : List ℕ) → value_at limit bytes ≡ read value rest → TakesText (λ b. Spells limit b value) bytes rest
+value_takes : (limit : Limit) (bytes : List ℕ) (value : Spelled) (rest : List ℕ) → value_at limit bytes ≡ read value rest
+    → TakesText (λ b. Spells limit b value) bytes rest
 unfolding value_at
 value_takes (limits.Number max) bytes value rest e =
     let t = then_ok (lift fault_of_pack (uint_at max) bytes) (λ v. gives (number v)) value rest e in
     let h = uint_takes max bytes t.0 t.1 (lift_ok fault_of_pack (uint_at max bytes) t.0 t.1 t.2) in
     let is = read_value (number t.0) value t.1 rest t.3 in
     let rest_is = read_rest (number t.0) value t.1 rest t.3 in
-    subst (λ v. TakesText (λ b. Spells (limits.Number max) b v) bytes rest) is (record { text = h.text; is = (h.is.1, h.is.0); parts = parts_to h.text h.parts rest_is })
+    subst (λ v. TakesText (λ b. Spells (limits.Number max) b v) bytes rest) is
+    (record { text = h.text; is = (h.is.1, h.is.0); parts = parts_to h.text h.parts rest_is })
 value_takes (limits.Raw limit) bytes value rest e =
     let t = then_ok (lift fault_of_pack (raw_at limit) bytes) (λ s. gives (raw s)) value rest e in
     let h = raw_takes limit bytes t.0 t.1 (lift_ok fault_of_pack (raw_at limit bytes) t.0 t.1 t.2) in
     let is = read_value (raw t.0) value t.1 rest t.3 in
     let rest_is = read_rest (raw t.0) value t.1 rest t.3 in
-    subst (λ v. TakesText (λ b. Spells (limits.Raw limit) b v) bytes rest) is (record { text = h.text; is = (h.is.1, h.is.0); parts = parts_to h.text h.parts rest_is })
+    subst (λ v. TakesText (λ b. Spells (limits.Raw limit) b v) bytes rest) is
+    (record { text = h.text; is = (h.is.1, h.is.0); parts = parts_to h.text h.parts rest_is })
 value_takes limits.Flag bytes value rest e =
     let t = then_ok (lift fault_of_pack flag_at bytes) (λ f. gives (flag f)) value rest e in
     let h = flag_takes bytes t.0 t.1 (lift_ok fault_of_pack (flag_at bytes) t.0 t.1 t.2) in
@@ -67,12 +70,15 @@ record PairTaken (layout : Layout) (slots : Slots) (bytes : List ℕ) (out : Slo
   vacant : slot slots place ≡ None
   filled : out ≡ slice_set slots place (Some pair.1)
 
-vacant_ok : (o : Option Spelled) (reading : Reading Spelled) (mid : List ℕ) (x : Spelled) (rest : List ℕ) → if_vacant o reading mid ≡ read x rest → (o ≡ None) × (reading mid ≡ read x rest)
+vacant_ok : (o : Option Spelled) (reading : Reading Spelled) (mid : List ℕ) (x : Spelled) (rest : List ℕ)
+    → if_vacant o reading mid ≡ read x rest → (o ≡ None) × (reading mid ≡ read x rest)
 vacant_ok None reading mid x rest e = (refl, e)
 vacant_ok (Some y) reading mid x rest e = absurd cc
 
-pair_made : (layout : Layout) (slots : Slots) (bytes k mid behind v end rest : List ℕ) (key : List ℕ) (value : Spelled) (place : ℕ) (out : Slots) → Raw k key → bytes ≡ k ++ mid
-    → place_of layout key ≡ Some place → slot slots place ≡ None → Spells (limit_at layout place) v value → mid ≡ behind → behind ≡ v ++ end → end ≡ rest → out ≡ slice_set slots place (Some value)
+pair_made : (layout : Layout) (slots : Slots) (bytes k mid behind v end rest : List ℕ) (key : List ℕ) (value : Spelled)
+    (place : ℕ) (out : Slots) → Raw k key → bytes ≡ k ++ mid
+    → place_of layout key ≡ Some place → slot slots place ≡ None → Spells (limit_at layout place) v value → mid ≡ behind
+    → behind ≡ v ++ end → end ≡ rest → out ≡ slice_set slots place (Some value)
     → PairTaken layout slots bytes out rest
 pair_made layout slots bytes k mid behind v end rest key value place out key_is first at vacant value_is same second last filled = record {
   text = k ++ v;
@@ -93,10 +99,14 @@ pair_made layout slots bytes k mid behind v end rest key value place out key_is 
   filled = filled;
 }
 
-pair_takes : (layout : Layout) (slots : Slots) (bytes : List ℕ) (out : Slots) (rest : List ℕ) → pair_at layout slots bytes ≡ read out rest → PairTaken layout slots bytes out rest
+pair_takes : (layout : Layout) (slots : Slots) (bytes : List ℕ) (out : Slots) (rest : List ℕ)
+    → pair_at layout slots bytes ≡ read out rest → PairTaken layout slots bytes out rest
 unfolding pair_at key_at
 pair_takes layout slots bytes out rest e =
-    let t = then_ok (key_at layout bytes) (λ place. if_vacant (slot slots place) (value_at (limit_at layout place)) >>= (λ value. gives (slice_set slots place (Some value)))) out rest e in
+    let t =
+    then_ok (key_at layout bytes)
+    (λ place. if_vacant (slot slots place) (value_at (limit_at layout place)) >>= (λ value. gives (slice_set slots place (Some value))))
+    out rest e in
     let k = then_ok (lift fault_of_key (raw_at 12) bytes) (λ key. some_or UnknownKey (place_of layout key)) t.0 t.1 t.2 in
     let known = some_ok UnknownKey (place_of layout k.0) k.1 t.0 t.1 k.3 in
     let key = raw_takes 12 bytes k.0 k.1 (lift_ok fault_of_key (raw_at 12 bytes) k.0 k.1 k.2) in
@@ -170,7 +180,8 @@ pair_again layout slots b rest pair place text at limit_is short vacant =
     let value = value_again text.limit text.value_text rest pair.1 text.value in
     rw (text.text, append_assoc text.key_text text.value_text rest, key, at, vacant, limit_is, value) refl
 
-pairs_again : (layout : Layout) (slots : Slots) (b rest : List ℕ) (pairs : Pairs) (out : Slots) → IsLegalLayout layout → PairTexts layout b pairs → Fills layout slots pairs out
+pairs_again : (layout : Layout) (slots : Slots) (b rest : List ℕ) (pairs : Pairs) (out : Slots) → IsLegalLayout layout
+    → PairTexts layout b pairs → Fills layout slots pairs out
     → pairs_at layout (length pairs) slots (b ++ rest) ≡ read out rest
 unfolding pairs_at
 pairs_again layout slots b rest [] out legal texts fills = rw (texts, fills) refl
@@ -181,13 +192,16 @@ pairs_again layout slots b rest (pair ∷ pairs) out legal texts fills =
     let here : key.place ≡ fills.0 = some_is key.place fills.0 (sym (place_from_first layout pair.0 key.place key.first) ∙ fills.1) in
     let short = subst (λ k. length k ≤ 12) first.here (all_at (λ k. length k ≤ 12) layout fills.0 legal.short first.inside) in
     let one = pair_again layout slots texts.0 (texts.1 ++ rest) pair fills.0 text fills.1 (ap (limit_at layout) (sym here) ∙ key.limit_is) short fills.2 in
-    rw (texts.4, append_assoc texts.0 texts.1 rest, one) (pairs_again layout (slice_set slots fills.0 (Some pair.1)) texts.1 rest pairs out legal texts.3 fills.3)
+    rw (texts.4, append_assoc texts.0 texts.1 rest, one)
+    (pairs_again layout (slice_set slots fills.0 (Some pair.1)) texts.1 rest pairs out legal texts.3 fills.3)
 
-known_key : (layout : Layout) (b : List ℕ) (pairs : Pairs) → PairTexts layout b pairs → (q : List ℕ) → list_any (bytes_eq q) (keys_of pairs) ≡ true → IsSome (of_key q layout)
+known_key : (layout : Layout) (b : List ℕ) (pairs : Pairs) → PairTexts layout b pairs → (q : List ℕ) → list_any (bytes_eq q)
+    (keys_of pairs) ≡ true → IsSome (of_key q layout)
 known_key layout b [] texts q e = absurd (false≢true e)
 known_key layout b (pair ∷ pairs) texts q e = by (bytes_eq q pair.0) refl e (known_key layout texts.1 pairs texts.3 q)
   where
-    by : (t : Bool) → bytes_eq q pair.0 ≡ t → (t || list_any (bytes_eq q) (keys_of pairs)) ≡ true → (list_any (bytes_eq q) (keys_of pairs) ≡ true → IsSome (of_key q layout)) → IsSome (of_key q layout)
+    by : (t : Bool) → bytes_eq q pair.0 ≡ t → (t || list_any (bytes_eq q) (keys_of pairs)) ≡ true →
+        (list_any (bytes_eq q) (keys_of pairs) ≡ true → IsSome (of_key q layout)) → IsSome (of_key q layout)
     by true t e later =
         let text : PairText layout texts.0 pair = texts.2 in
         let is = ap (λ (k : List ℕ). of_key k layout) (same_key q pair.0 t) ∙ text.in_layout in

@@ -17,7 +17,8 @@ use Rattle.swim_wire.proofs.StreamTexts.{header_again, state_again}
 use Rattle.swim_wire.proofs.DatagramTexts.{begins, compound_again}
 
 -- two texts that one reading takes are one
-same_text : {A : Type 0} (reading : Reading A) (a b x y : List ℕ) (v w : A) → reading (a ++ x) ≡ read v x → reading (b ++ y) ≡ read w y → a ++ x ≡ b ++ y → (a ≡ b) × (v ≡ w)
+same_text : {A : Type 0} (reading : Reading A) (a b x y : List ℕ) (v w : A) → reading (a ++ x) ≡ read v x → reading
+    (b ++ y) ≡ read w y → a ++ x ≡ b ++ y → (a ≡ b) × (v ≡ w)
 same_text reading a b x y v w p q e =
     let both : read v x ≡ read w y = sym p ∙ ap reading e ∙ q in
     let rest = read_rest v w x y both in
@@ -46,11 +47,13 @@ no_compound first bytes t = rw t refl
 datagram_again_at : (b rest : List ℕ) (packets : List PacketValue) → DatagramText b packets → datagram_at (b ++ rest) ≡ read packets rest
 datagram_again_at b rest packets (packet p text is) =
     let t = begins b p text in
-    ap (λ (bytes : List ℕ). datagram_at (bytes ++ rest)) t.2 ∙ no_compound t.0 (t.1 ++ rest) t.3 ∙ ap (λ (bytes : List ℕ). one_more packet_at (bytes ++ rest)) (sym t.2)
+    ap (λ (bytes : List ℕ). datagram_at (bytes ++ rest)) t.2 ∙ no_compound t.0 (t.1 ++ rest) t.3
+    ∙ ap (λ (bytes : List ℕ). one_more packet_at (bytes ++ rest)) (sym t.2)
     ∙ ap (then_read (λ q. gives (q ∷ []))) (packet_again b rest p text) ∙ ap (λ (ps : List PacketValue). read ps rest) (sym is)
 datagram_again_at b rest packets (compound parts few short is texts) =
     let again = compound_again parts packets rest short texts in
     rw (is, append_assoc (flat_map (λ part. to_be_bytes w16 (length part)) parts) (flat_map (λ part. part) parts) rest) again
 
-pub datagram_one : (a b x y : List ℕ) (packets others : List PacketValue) → DatagramText a packets → DatagramText b others → a ++ x ≡ b ++ y → (a ≡ b) × (packets ≡ others)
+pub datagram_one : (a b x y : List ℕ) (packets others : List PacketValue) → DatagramText a packets → DatagramText b others
+    → a ++ x ≡ b ++ y → (a ≡ b) × (packets ≡ others)
 datagram_one a b x y packets others s t e = same_text datagram_at a b x y packets others (datagram_again_at a x packets s) (datagram_again_at b y others t) e

@@ -36,8 +36,11 @@ one_stream a b x y claims others join flag s t e =
     sym (in_parts s.head s.records s.user x) ∙ ap (λ z. z ++ x) (sym s.bytes) ∙ e ∙ ap (λ z. z ++ y) t.bytes ∙ in_parts t.head t.records t.user y in
     let heads = header_one s.head t.head _ _ s.header t.header s.head_text t.head_text parts in
     let behind = after_same s.head t.head _ _ heads.0 parts in
-    let records = records_one s.records t.records (s.user ++ x) (t.user ++ y) claims others (s.nodes ∙ ap (λ h. h.nodes) heads.1 ∙ sym t.nodes) s.record_texts t.record_texts behind in
-    let user = same_bytes s.user t.user x y (s.user_len ∙ ap (λ h. h.user_len) heads.1 ∙ sym t.user_len) (after_same s.records t.records _ _ records.0 behind) in
+    let records =
+    records_one s.records t.records (s.user ++ x) (t.user ++ y) claims others
+    (s.nodes ∙ ap (λ h. h.nodes) heads.1 ∙ sym t.nodes) s.record_texts t.record_texts behind in
+    let user =
+    same_bytes s.user t.user x y (s.user_len ∙ ap (λ h. h.user_len) heads.1 ∙ sym t.user_len) (after_same s.records t.records _ _ records.0 behind) in
     (s.bytes ∙ (λ i. heads.0 i ++ records.0 i ++ user i) ∙ sym t.bytes, records.1, sym s.flag ∙ ap (λ h. h.join) heads.1 ∙ t.flag)
   where
     in_parts : (head records user more : List ℕ) → (head ++ records ++ user) ++ more ≡ head ++ (records ++ (user ++ more))

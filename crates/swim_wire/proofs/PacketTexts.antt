@@ -12,7 +12,7 @@ use Rattle.swim_wire.specs.Checks.{AliveFails, BeginsFailing, ExplainsPacket, Ex
 use Rattle.swim_wire.specs.Layout.{Pairs, MapText, of_key, number_of, raw_of, alive_layout, accusation_layout}
 use Rattle.swim_wire.specs.Packet.{PacketValue}
 use Rattle.swim_wire.specs.Reading.{Reading, Slots, slot, checked, with_name, with_details, map_at, alive_of, suspect_of, dead_of, dead_claim, alive_at, suspect_at, dead_at, packet_at, nothing_after, whole_packet}
-use Rattle.swim_wire.specs.Texts.{PacketText, details_of}
+use Rattle.swim_wire.specs.Texts.{PacketText, told_details}
 use Rattle.swim_wire.specs.Texts.PacketText.{alive, suspect, leave, confirm}
 use Rattle.swim_wire.proofs.Readings.{read, refused, then_ok, then_err}
 use Rattle.swim_wire.proofs.Keys.{alive_legal, accusation_legal, same_key, key_same, other_key, false≢true}
@@ -28,7 +28,7 @@ abbrev alive_with : Pairs → DetailsValue → PacketValue
 alive_with pairs details = record { claim = Alive (raw_of (codes "Node") pairs) (number_of (codes "Incarnation") pairs) details; from = [] }
 
 abbrev alive_from : Pairs → Result PacketValue WireFault
-alive_from pairs = with_name (raw_of (codes "Node") pairs) (with_details (details_of pairs) (alive_with pairs))
+alive_from pairs = with_name (raw_of (codes "Node") pairs) (with_details (told_details pairs) (alive_with pairs))
 
 alive_same : (pairs : Pairs) (slots : Slots) → HoldsSlots alive_layout pairs slots → alive_of slots ≡ alive_from pairs
 alive_same pairs slots holds =
@@ -54,7 +54,8 @@ suspect_same pairs slots holds =
     rw (from, inc, node) refl
 
 abbrev dead_packet : Bool → Pairs → PacketValue
-dead_packet own pairs = record { claim = dead_claim own (raw_of (codes "Node") pairs) (number_of (codes "Incarnation") pairs); from = raw_of (codes "From") pairs }
+dead_packet own pairs =
+    record { claim = dead_claim own (raw_of (codes "Node") pairs) (number_of (codes "Incarnation") pairs); from = raw_of (codes "From") pairs }
 
 abbrev dead_from : Pairs → Result PacketValue WireFault
 dead_from pairs = with_name (raw_of (codes "Node") pairs) (Ok (dead_packet (bytes_eq (raw_of (codes "From") pairs) (raw_of (codes "Node") pairs)) pairs))
@@ -71,21 +72,23 @@ passed_is p q e = cc
 
 -- ---- a packet that was read
 
-alive_takes : (first : ℕ) (bytes : List ℕ) (p : PacketValue) (rest : List ℕ) → first ≡ 4 → alive_at bytes ≡ read p rest → TakesText (λ b. PacketText b p) (first ∷ bytes) rest
+alive_takes : (first : ℕ) (bytes : List ℕ) (p : PacketValue) (rest : List ℕ) → first ≡ 4 → alive_at bytes ≡ read p rest
+    → TakesText (λ b. PacketText b p) (first ∷ bytes) rest
 unfolding alive_at
 alive_takes first bytes p rest type e =
     let t = then_ok (map_at alive_layout bytes) (λ slots. checked (alive_of slots)) p rest e in
     let m = map_takes alive_layout bytes t.0 t.1 alive_legal t.2 in
     let c = checked_ok (alive_of t.0) t.1 p rest t.3 in
     let named = with_name_ok (raw_of (codes "Node") m.1) _ p (sym (alive_same m.1 t.0 m.4) ∙ c.0) in
-    let legal = with_details_ok (details_of m.1) (alive_with m.1) p named.1 in
+    let legal = with_details_ok (told_details m.1) (alive_with m.1) p named.1 in
     record {
       text = first ∷ m.0;
       is = alive m.0 m.1 (ap (λ (x : ℕ). x ∷ m.0) type) m.2 named.0 (legal.0, legal.1) legal.2;
       parts = ap (λ (r : List ℕ). first ∷ r) (m.3 ∙ ap (λ (r : List ℕ). m.0 ++ r) c.1);
     }
 
-suspect_takes : (first : ℕ) (bytes : List ℕ) (p : PacketValue) (rest : List ℕ) → first ≡ 3 → suspect_at bytes ≡ read p rest → TakesText (λ b. PacketText b p) (first ∷ bytes) rest
+suspect_takes : (first : ℕ) (bytes : List ℕ) (p : PacketValue) (rest : List ℕ) → first ≡ 3 → suspect_at bytes ≡ read p rest
+    → TakesText (λ b. PacketText b p) (first ∷ bytes) rest
 unfolding suspect_at
 suspect_takes first bytes p rest type e =
     let t = then_ok (map_at accusation_layout bytes) (λ slots. checked (suspect_of slots)) p rest e in
@@ -98,7 +101,8 @@ suspect_takes first bytes p rest type e =
       parts = ap (λ (r : List ℕ). first ∷ r) (m.3 ∙ ap (λ (r : List ℕ). m.0 ++ r) c.1);
     }
 
-dead_takes : (first : ℕ) (bytes : List ℕ) (p : PacketValue) (rest : List ℕ) → first ≡ 5 → dead_at bytes ≡ read p rest → TakesText (λ b. PacketText b p) (first ∷ bytes) rest
+dead_takes : (first : ℕ) (bytes : List ℕ) (p : PacketValue) (rest : List ℕ) → first ≡ 5 → dead_at bytes ≡ read p rest
+    → TakesText (λ b. PacketText b p) (first ∷ bytes) rest
 unfolding dead_at
 dead_takes first bytes p rest type e =
     let t = then_ok (map_at accusation_layout bytes) (λ slots. checked (dead_of slots)) p rest e in
@@ -107,7 +111,8 @@ dead_takes first bytes p rest type e =
     let named = with_name_ok (raw_of (codes "Node") m.1) _ p (sym (dead_same m.1 t.0 m.4) ∙ c.0) in
     record {
       text = first ∷ m.0;
-      is = by m.0 m.1 (bytes_eq (raw_of (codes "From") m.1) (raw_of (codes "Node") m.1)) refl (ap (λ (x : ℕ). x ∷ m.0) type) m.2 named.0 (passed_is _ p named.1);
+      is =
+          by m.0 m.1 (bytes_eq (raw_of (codes "From") m.1) (raw_of (codes "Node") m.1)) refl (ap (λ (x : ℕ). x ∷ m.0) type) m.2 named.0 (passed_is _ p named.1);
       parts = ap (λ (r : List ℕ). first ∷ r) (m.3 ∙ ap (λ (r : List ℕ). m.0 ++ r) c.1);
     }
   where
@@ -133,7 +138,8 @@ pub packet_again : (b rest : List ℕ) (p : PacketValue) → PacketText b p → 
 unfolding packet_at alive_at suspect_at dead_at
 packet_again b rest p (alive m pairs type text named legal is) =
     let a = map_again alive_layout m pairs rest alive_legal text in
-    let value : alive_of a.0 ≡ passed p = alive_same pairs a.0 a.2 ∙ with_name_again _ _ named ∙ with_details_again (details_of pairs) (alive_with pairs) legal.0 legal.1 ∙ ap passed (sym is) in
+    let value : alive_of a.0 ≡ passed p =
+    alive_same pairs a.0 a.2 ∙ with_name_again _ _ named ∙ with_details_again (told_details pairs) (alive_with pairs) legal.0 legal.1 ∙ ap passed (sym is) in
     rw (type, a.1) (ap (λ (r : Result PacketValue WireFault). checked r rest) value)
 packet_again b rest p (suspect m pairs type text named is) =
     let a = map_again accusation_layout m pairs rest accusation_legal text in
@@ -170,38 +176,44 @@ alive_refusal first bytes error type e =
     (λ map. explained_by_map error (first ∷ bytes) (map_refusal alive_layout bytes error map))
     (λ slots mid ok check. failing slots mid (map_takes alive_layout bytes slots mid alive_legal ok) (checked_err (alive_of slots) mid error check))
   where
-    failing : (slots : Slots) (mid : List ℕ) → (m : List ℕ) × (pairs : Pairs) × MapText alive_layout m pairs × (bytes ≡ m ++ mid) × HoldsSlots alive_layout pairs slots
+    failing : (slots : Slots) (mid : List ℕ) → (m : List ℕ) × (pairs : Pairs) × MapText alive_layout m pairs ×
+        (bytes ≡ m ++ mid) × HoldsSlots alive_layout pairs slots
         → alive_of slots ≡ failed PacketValue error → ExplainsPacket error (first ∷ bytes)
     failing slots mid m fails =
         let begins : (F : Pairs → Type 0) → F m.1 → BeginsFailing alive_layout F bytes =
         λ F h. record { map_text = m.0; pairs = m.1; rest = mid; text = m.2; parts = m.3; failing = h } in
-        with_name_err (raw_of (codes "Node") m.1) (with_details (details_of m.1) (alive_with m.1)) error (sym (alive_same m.1 slots m.4) ∙ fails) (ExplainsPacket error (first ∷ bytes))
+        with_name_err (raw_of (codes "Node") m.1) (with_details (told_details m.1) (alive_with m.1)) error
+        (sym (alive_same m.1 slots m.4) ∙ fails) (ExplainsPacket error (first ∷ bytes))
         (λ empty is. subst (λ f. ExplainsPacket f (first ∷ bytes)) is (inl (type, begins (AliveFails NameEmpty) empty)))
-        (λ named more. with_details_err (details_of m.1) (alive_with m.1) error more (ExplainsPacket error (first ∷ bytes))
+        (λ named more. with_details_err (told_details m.1) (alive_with m.1) error more (ExplainsPacket error (first ∷ bytes))
         (λ address is. subst (λ f. ExplainsPacket f (first ∷ bytes)) is (inl (type, begins (AliveFails BadAddress) (named, address))))
         (λ address versions is. subst (λ f. ExplainsPacket f (first ∷ bytes)) is (inl (type, begins (AliveFails BadVersions) (named, (address, versions))))))
 
 -- a suspect or dead message, whose value is checked for its name alone
 accusation_refusal : (value : Pairs → PacketValue) (of_slots : Slots → Result PacketValue WireFault)
     → ((pairs : Pairs) (slots : Slots) → HoldsSlots accusation_layout pairs slots → of_slots slots ≡ with_name (raw_of (codes "Node") pairs) (Ok (value pairs)))
-    → (first : ℕ) (bytes : List ℕ) (error : WireFault) → (first ≡ 3) ⊎ (first ≡ 5) → (map_at accusation_layout >>= (λ slots. checked (of_slots slots))) bytes ≡ refused PacketValue error
+    → (first : ℕ) (bytes : List ℕ) (error : WireFault) → (first ≡ 3) ⊎ (first ≡ 5)
+    → (map_at accusation_layout >>= (λ slots. checked (of_slots slots))) bytes ≡ refused PacketValue error
     → ExplainsPacket error (first ∷ bytes)
 accusation_refusal value of_slots same first bytes error type e =
     then_err (map_at accusation_layout bytes) (λ slots. checked (of_slots slots)) error e (ExplainsPacket error (first ∷ bytes))
     (λ map. explained_by_map error (first ∷ bytes) (map_refusal accusation_layout bytes error map))
     (λ slots mid ok check. failing slots mid (map_takes accusation_layout bytes slots mid accusation_legal ok) (checked_err (of_slots slots) mid error check))
   where
-    failing : (slots : Slots) (mid : List ℕ) → (m : List ℕ) × (pairs : Pairs) × MapText accusation_layout m pairs × (bytes ≡ m ++ mid) × HoldsSlots accusation_layout pairs slots
+    failing : (slots : Slots) (mid : List ℕ) → (m : List ℕ) × (pairs : Pairs) × MapText accusation_layout m pairs ×
+        (bytes ≡ m ++ mid) × HoldsSlots accusation_layout pairs slots
         → of_slots slots ≡ failed PacketValue error → ExplainsPacket error (first ∷ bytes)
     failing slots mid m fails =
         with_name_err (raw_of (codes "Node") m.1) (passed (value m.1)) error (sym (same m.1 slots m.4) ∙ fails) (ExplainsPacket error (first ∷ bytes))
-        (λ empty is. subst (λ f. ExplainsPacket f (first ∷ bytes)) is (inr (type, record { map_text = m.0; pairs = m.1; rest = mid; text = m.2; parts = m.3; failing = empty })))
+        (λ empty is. subst (λ f. ExplainsPacket f (first ∷ bytes)) is
+        (inr (type, record { map_text = m.0; pairs = m.1; rest = mid; text = m.2; parts = m.3; failing = empty })))
         (λ named more. absurd cc)
 
 ended : (error : WireFault) → Ended ≡ error → ExplainsPacket error []
 ended error is = subst (λ f. ExplainsPacket f []) is tt
 
-wrong_type : (first : ℕ) (bytes : List ℕ) (error : WireFault) → eqb first 4 ≡ false → eqb first 3 ≡ false → eqb first 5 ≡ false → refuses (WrongType first) bytes ≡ refused PacketValue error
+wrong_type : (first : ℕ) (bytes : List ℕ) (error : WireFault) → eqb first 4 ≡ false → eqb first 3 ≡ false
+    → eqb first 5 ≡ false → refuses (WrongType first) bytes ≡ refused PacketValue error
     → ExplainsPacket error (first ∷ bytes)
 wrong_type first bytes error four three five e =
     let is : WrongType first ≡ error = cc in
@@ -225,7 +237,9 @@ packet_refusal (first ∷ bytes) error e =
     suspects type = accusation_refusal suspect_packet suspect_of suspect_same first bytes error type
 
     deads : (first ≡ 3) ⊎ (first ≡ 5) → P dead_at
-    deads type = accusation_refusal (λ pairs. dead_packet (bytes_eq (raw_of (codes "From") pairs) (raw_of (codes "Node") pairs)) pairs) dead_of dead_same first bytes error type
+    deads type =
+        accusation_refusal (λ pairs. dead_packet (bytes_eq (raw_of (codes "From") pairs) (raw_of (codes "Node") pairs)) pairs)
+        dead_of dead_same first bytes error type
 
 -- ---- packets with nothing after them
 

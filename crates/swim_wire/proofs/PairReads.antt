@@ -22,11 +22,14 @@ within_slots (field ∷ layout) (value ∷ values) zero fits within = omega arit
 within_slots (field ∷ layout) (value ∷ values) (suc place) fits within =
     let below = within_slots layout values place fits.1 (omega arith) in omega (arith, below)
 
-slot_is : (values : List (Option Value)) (place : ℕ) (d : Option Value) → place < length values → slot (slots_of values) place ≡ option_map spelled (slice_index_or values place d)
+slot_is : (values : List (Option Value)) (place : ℕ) (d : Option Value) → place < length values → slot
+    (slots_of values) place ≡ option_map spelled (slice_index_or values place d)
 slot_is values place d within = get_or-map (λ value. option_map spelled value) values place d None within
 
-limit_is : (fields : List Field) (place : ℕ) (d : Field) → place < length fields → limit_at (layout_of fields) place ≡ (let field = slice_index_or fields place d in field.limit)
-limit_is fields place d within = ap (λ (entry : List ℕ × Limit). entry.1) (get_or-map (λ (field : Field). (key_text field.key, field.limit)) fields place d ([], limits.Flag) within)
+limit_is : (fields : List Field) (place : ℕ) (d : Field) → place < length fields → limit_at (layout_of fields) place ≡
+    (let field = slice_index_or fields place d in field.limit)
+limit_is fields place d within =
+    ap (λ (entry : List ℕ × Limit). entry.1) (get_or-map (λ (field : Field). (key_text field.key, field.limit)) fields place d ([], limits.Flag) within)
 
 none_where : (old : Option Value) → is_some old ≡ false → option_map spelled old ≡ None
 none_where None h = refl
@@ -43,16 +46,19 @@ vacant_value fields values place e d known within none q =
 
 -- no pair was read, since its key was refused
 pub pair_without_key : {X : Type 0} {view : X → Slots} {a b : Source} {error : WireFault} (fields : List Field) (values : List (Option Value))
-    → ReadsAs {X = ℕ} wire_cause same (key_at (layout_of fields)) a b (Err error) → ReadsAs {X = X} wire_cause view (pair_at (layout_of fields) (slots_of values)) a b (Err error)
+    → ReadsAs {X = ℕ} wire_cause same (key_at (layout_of fields)) a b (Err error)
+    → ReadsAs {X = X} wire_cause view (pair_at (layout_of fields) (slots_of values)) a b (Err error)
 unfolding pair_at
 pair_without_key fields values p = Reads-exit _ p
 
 -- since its key was there before
 pub pair_twice : {X : Type 0} {view : X → Slots} {a b : Source} (fields : List Field) (values : List (Option Value)) (place : ℕ) (e : Option Value)
     → place < length values → is_some (slice_index_or values place e) ≡ true
-    → ReadsAs wire_cause same (key_at (layout_of fields)) a b (Ok place) → ReadsAs {X = X} wire_cause view (pair_at (layout_of fields) (slots_of values)) a b (Err DuplicateKey)
+    → ReadsAs wire_cause same (key_at (layout_of fields)) a b (Ok place)
+    → ReadsAs {X = X} wire_cause view (pair_at (layout_of fields) (slots_of values)) a b (Err DuplicateKey)
 unfolding pair_at
-pair_twice {X} {view} {a} {b} fields values place e within some p = Reads-then _ p (Reads-exit _ (duplicate (slice_index_or values place e) some (slot_is values place e within)))
+pair_twice {X} {view} {a} {b} fields values place e within some p =
+    Reads-then _ p (Reads-exit _ (duplicate (slice_index_or values place e) some (slot_is values place e within)))
   where
     duplicate : (o : Option Value) → is_some o ≡ true → slot (slots_of values) place ≡ option_map spelled o
         → ReadsAs {X = Value} wire_cause spelled (if_vacant (slot (slots_of values) place) (value_at (limit_at (layout_of fields) place))) b b (Err DuplicateKey)
@@ -60,21 +66,26 @@ pair_twice {X} {view} {a} {b} fields values place e within some p = Reads-then _
     duplicate (Some value) h e = rw e (Reads-refuses DuplicateKey refl)
 
 -- since its value was refused
-pub pair_without_value : {X : Type 0} {view : X → Slots} {a b c : Source} {error : WireFault} (fields : List Field) (values : List (Option Value)) (place : ℕ) (e : Option Value) (d : Field)
+pub pair_without_value : {X : Type 0} {view : X → Slots} {a b c : Source} {error : WireFault} (fields : List Field)
+    (values : List (Option Value)) (place : ℕ) (e : Option Value) (d : Field)
     → place < length fields → place < length values → is_some (slice_index_or values place e) ≡ false
-    → ReadsAs wire_cause same (key_at (layout_of fields)) a b (Ok place) → ReadsAs {X = Value} wire_cause spelled (value_at (let field = slice_index_or fields place d in field.limit)) b c (Err error)
+    → ReadsAs wire_cause same (key_at (layout_of fields)) a b (Ok place)
+    → ReadsAs {X = Value} wire_cause spelled (value_at (let field = slice_index_or fields place d in field.limit)) b c (Err error)
     → ReadsAs {X = X} wire_cause view (pair_at (layout_of fields) (slots_of values)) a c (Err error)
 unfolding pair_at
 pair_without_value fields values place e d known within none p q = Reads-then _ p (Reads-exit _ (vacant_value fields values place e d known within none q))
 
 -- a pair was read
-pub pair_read : {X : Type 0} {x : X} {a b c : Source} {value : Value} (fields : List Field) (values : List (Option Value)) (place : ℕ) (e : Option Value) (d : Field)
+pub pair_read : {X : Type 0} {x : X} {a b c : Source} {value : Value} (fields : List Field) (values : List (Option Value))
+    (place : ℕ) (e : Option Value) (d : Field)
     → place < length fields → place < length values → is_some (slice_index_or values place e) ≡ false
-    → ReadsAs wire_cause same (key_at (layout_of fields)) a b (Ok place) → ReadsAs wire_cause spelled (value_at (let field = slice_index_or fields place d in field.limit)) b c (Ok value)
+    → ReadsAs wire_cause same (key_at (layout_of fields)) a b (Ok place)
+    → ReadsAs wire_cause spelled (value_at (let field = slice_index_or fields place d in field.limit)) b c (Ok value)
     → ReadsAs wire_cause (λ (y : X). slots_of (slice_set values place (Some value))) (pair_at (layout_of fields) (slots_of values)) a c (Ok x)
 unfolding pair_at
 pair_read {X} {x} {c} {value} fields values place e d known within none p q =
-    let after : slots_of (slice_set values place (Some value)) ≡ slice_set (slots_of values) place (Some (spelled value)) = map-set (λ value. option_map spelled value) values place (Some value) in
+    let after : slots_of (slice_set values place (Some value)) ≡ slice_set (slots_of values) place (Some (spelled value)) =
+    map-set (λ value. option_map spelled value) values place (Some value) in
     let set : ReadsAs wire_cause (λ (y : X). slots_of (slice_set values place (Some value))) (gives (slice_set (slots_of values) place (Some (spelled value)))) c c (Ok x) =
     rw after (Reads-gives {view = λ (y : X). slice_set (slots_of values) place (Some (spelled value))} x) in
     Reads-then _ p (Reads-then _ (vacant_value fields values place e d known within none q) set)

@@ -54,7 +54,8 @@ lengths_short (suc n) (high ∷ low ∷ bytes) lt =
     rw (one, more) refl
 
 -- the lengths are there
-pub compound_lengths : (n : ℕ) (bytes : List ℕ) → 2 * n ≤ length bytes → compound_at (n ∷ bytes) ≡ parts_at (lengths_in (take (2 * n) bytes)) [] (drop (2 * n) bytes)
+pub compound_lengths : (n : ℕ) (bytes : List ℕ) → 2 * n ≤ length bytes → compound_at (n ∷ bytes) ≡ parts_at
+    (lengths_in (take (2 * n) bytes)) [] (drop (2 * n) bytes)
 unfolding compound_at
 compound_lengths n bytes le =
     let long : length (take (2 * n) bytes) ≡ 2 * n = omega (arith, length-take (2 * n) bytes) in
@@ -88,12 +89,14 @@ part_read : (lens : List ℕ) (len : ℕ) (packets more : List PacketValue) (res
 unfolding parts_at
 part_read lens len packets more rest le e = let one = bytes_there len rest le in rw (one, e) refl
 
-part_wrong : (lens : List ℕ) (len : ℕ) (packets : List PacketValue) (rest : List ℕ) (error : WireFault) → len ≤ length rest → packets_of (take len rest) ≡ failed (List PacketValue) error
+part_wrong : (lens : List ℕ) (len : ℕ) (packets : List PacketValue) (rest : List ℕ) (error : WireFault) → len ≤ length rest
+    → packets_of (take len rest) ≡ failed (List PacketValue) error
     → parts_at (len ∷ lens) packets rest ≡ refused (List PacketValue) error
 unfolding parts_at
 part_wrong lens len packets rest error le e = let one = bytes_there len rest le in rw (one, e) refl
 
-part_cut : (lens : List ℕ) (len : ℕ) (packets : List PacketValue) (rest : List ℕ) → length rest < len → parts_at (len ∷ lens) packets rest ≡ refused (List PacketValue) Ended
+part_cut : (lens : List ℕ) (len : ℕ) (packets : List PacketValue) (rest : List ℕ) → length rest < len → parts_at
+    (len ∷ lens) packets rest ≡ refused (List PacketValue) Ended
 unfolding parts_at
 part_cut lens len packets rest lt = let one = bytes_short len rest lt in rw one refl
 
@@ -101,23 +104,27 @@ pub no_part : (packets : List PacketValue) (rest : List ℕ) → parts_at [] pac
 unfolding parts_at
 no_part packets rest = refl
 
-as_length : (bytes two : List ℕ) (len : ℕ) → 2 ≤ length bytes → two ≡ take 2 bytes → len ≡ from_be_bytes w16 two → lengths_in bytes ≡ len ∷ lengths_in (drop 2 bytes)
+as_length : (bytes two : List ℕ) (len : ℕ) → 2 ≤ length bytes → two ≡ take 2 bytes → len ≡ from_be_bytes w16 two
+    → lengths_in bytes ≡ len ∷ lengths_in (drop 2 bytes)
 as_length bytes two len le is e = first_length bytes le ∙ ap (λ (n : ℕ). n ∷ lengths_in (drop 2 bytes)) (ap (from_be_bytes w16) (sym is) ∙ sym e)
 
 -- a part was read
-pub parts_go_on : (bytes two : List ℕ) (len : ℕ) (packets more : List PacketValue) (rest : List ℕ) → 2 ≤ length bytes → two ≡ take 2 bytes → len ≡ from_be_bytes w16 two
+pub parts_go_on : (bytes two : List ℕ) (len : ℕ) (packets more : List PacketValue) (rest : List ℕ) → 2 ≤ length bytes
+    → two ≡ take 2 bytes → len ≡ from_be_bytes w16 two
     → len ≤ length rest → packets_of (take len rest) ≡ packet_list more
     → parts_at (lengths_in bytes) packets rest ≡ parts_at (lengths_in (drop 2 bytes)) (packets ++ more) (drop len rest)
 parts_go_on bytes two len packets more rest le is e fits own =
     ap (λ (ls : List ℕ). parts_at ls packets rest) (as_length bytes two len le is e) ∙ part_read (lengths_in (drop 2 bytes)) len packets more rest fits own
 
-pub parts_wrong : (bytes two : List ℕ) (len : ℕ) (packets : List PacketValue) (rest : List ℕ) (error : WireFault) → 2 ≤ length bytes → two ≡ take 2 bytes → len ≡ from_be_bytes w16 two
+pub parts_wrong : (bytes two : List ℕ) (len : ℕ) (packets : List PacketValue) (rest : List ℕ) (error : WireFault)
+    → 2 ≤ length bytes → two ≡ take 2 bytes → len ≡ from_be_bytes w16 two
     → len ≤ length rest → packets_of (take len rest) ≡ failed (List PacketValue) error
     → parts_at (lengths_in bytes) packets rest ≡ refused (List PacketValue) error
 parts_wrong bytes two len packets rest error le is e fits own =
     ap (λ (ls : List ℕ). parts_at ls packets rest) (as_length bytes two len le is e) ∙ part_wrong (lengths_in (drop 2 bytes)) len packets rest error fits own
 
-pub parts_cut : (bytes two : List ℕ) (len : ℕ) (packets : List PacketValue) (rest : List ℕ) → 2 ≤ length bytes → two ≡ take 2 bytes → len ≡ from_be_bytes w16 two
+pub parts_cut : (bytes two : List ℕ) (len : ℕ) (packets : List PacketValue) (rest : List ℕ) → 2 ≤ length bytes
+    → two ≡ take 2 bytes → len ≡ from_be_bytes w16 two
     → length rest < len → parts_at (lengths_in bytes) packets rest ≡ refused (List PacketValue) Ended
 parts_cut bytes two len packets rest le is e lt =
     ap (λ (ls : List ℕ). parts_at ls packets rest) (as_length bytes two len le is e) ∙ part_cut (lengths_in (drop 2 bytes)) len packets rest lt
@@ -128,7 +135,8 @@ parts_end bytes packets rest lt = ap (λ (ls : List ℕ). parts_at ls packets re
 
 -- ---- what was added
 
-pub added : (wanted : Result (List PacketValue) WireFault) (old new : List PacketValue) (done : ⊤) → GrowsBy wanted old new (Ok done) → (more : List PacketValue) × (wanted ≡ packet_list more) × (new ≡ old ++ more)
+pub added : (wanted : Result (List PacketValue) WireFault) (old new : List PacketValue) (done : ⊤) → GrowsBy wanted old new
+    (Ok done) → (more : List PacketValue) × (wanted ≡ packet_list more) × (new ≡ old ++ more)
 added (Ok more) old new done h = (more, refl, h)
 added (Err error) old new done h = absurd h
 
@@ -139,7 +147,8 @@ not_added (Err other) old new error h = h
 
 -- ---- from the first part to here
 
-pub next_part : (start : Result (List PacketValue × List ℕ) WireFault) (bytes two later : List ℕ) (len : ℕ) (packets new : List PacketValue) (rest part behind : List ℕ) (done : ⊤)
+pub next_part : (start : Result (List PacketValue × List ℕ) WireFault) (bytes two later : List ℕ) (len : ℕ)
+    (packets new : List PacketValue) (rest part behind : List ℕ) (done : ⊤)
     → start ≡ parts_at (lengths_in bytes) packets rest → 2 ≤ length bytes → two ≡ take 2 bytes → later ≡ drop 2 bytes → len ≡ from_be_bytes w16 two
     → len ≤ length rest → part ≡ take len rest → behind ≡ drop len rest → GrowsBy (packets_of part) packets new (Ok done)
     → start ≡ parts_at (lengths_in later) new behind
@@ -149,7 +158,8 @@ next_part start bytes two later len packets new rest part behind done before le 
     before ∙ step ∙ ap (λ (ps : List PacketValue). parts_at (lengths_in (drop 2 bytes)) ps (drop len rest)) (sym a.2)
     ∙ ap (λ (bs : List ℕ). parts_at (lengths_in bs) new (drop len rest)) (sym later_is) ∙ ap (parts_at (lengths_in later) new) (sym behind_is)
 
-pub wrong_part : (start : Result (List PacketValue × List ℕ) WireFault) (bytes two : List ℕ) (len : ℕ) (packets new : List PacketValue) (rest part : List ℕ) (error : WireFault)
+pub wrong_part : (start : Result (List PacketValue × List ℕ) WireFault) (bytes two : List ℕ) (len : ℕ)
+    (packets new : List PacketValue) (rest part : List ℕ) (error : WireFault)
     → start ≡ parts_at (lengths_in bytes) packets rest → 2 ≤ length bytes → two ≡ take 2 bytes → len ≡ from_be_bytes w16 two
     → len ≤ length rest → part ≡ take len rest → GrowsBy (packets_of part) packets new (Err error)
     → (nothing_after start ≡ failed (List PacketValue) error) ⊎ (error ≡ Memory)
@@ -175,10 +185,12 @@ pub compound_none : (body : List ℕ) → length body ≡ 0 → nothing_after (c
 compound_none [] none = ap nothing_after compound_empty
 compound_none (byte ∷ body) none = absurd (omega arith)
 
-pub lengths_cut : (body rest : List ℕ) (count n : ℕ) → body ≡ count ∷ rest → n ≡ count → length rest < 2 * n → nothing_after (compound_at body) ≡ failed (List PacketValue) Ended
+pub lengths_cut : (body rest : List ℕ) (count n : ℕ) → body ≡ count ∷ rest → n ≡ count → length rest < 2 * n → nothing_after
+    (compound_at body) ≡ failed (List PacketValue) Ended
 lengths_cut body rest count n is same lt = ap nothing_after (ap compound_at (is ∙ ap (λ (k : ℕ). k ∷ rest) (sym same)) ∙ compound_cut n rest lt)
 
-pub compound_parts : (body rest lens parts : List ℕ) (count n : ℕ) → body ≡ count ∷ rest → n ≡ count → 2 * n ≤ length rest → lens ≡ take (2 * n) rest → parts ≡ drop (2 * n) rest
+pub compound_parts : (body rest lens parts : List ℕ) (count n : ℕ) → body ≡ count ∷ rest → n ≡ count → 2 * n ≤ length rest
+    → lens ≡ take (2 * n) rest → parts ≡ drop (2 * n) rest
     → compound_at body ≡ parts_at (lengths_in lens) [] parts
 compound_parts body rest lens parts count n is same le lens_is parts_is =
     ap compound_at (is ∙ ap (λ (k : ℕ). k ∷ rest) (sym same)) ∙ compound_lengths n rest le

@@ -25,7 +25,8 @@ prompt-vacant (Some value) p = prompt-refuses _
 
 prompt-pair : (layout : Layout) (slots : Slots) → IsPrompt wire_cause (pair_at layout slots)
 unfolding pair_at
-prompt-pair layout slots = prompt-then (prompt-key layout) (λ place. prompt-then (prompt-vacant (slot slots place) (prompt-value (limit_at layout place))) (λ value. prompt-gives _))
+prompt-pair layout slots =
+    prompt-then (prompt-key layout) (λ place. prompt-then (prompt-vacant (slot slots place) (prompt-value (limit_at layout place))) (λ value. prompt-gives _))
 
 prompt-pairs : (layout : Layout) (n : ℕ) (slots : Slots) → IsPrompt wire_cause (pairs_at layout n slots)
 unfolding pairs_at

@@ -35,15 +35,18 @@ pub then_err : {A B : Type 0} (r : Result (A × List ℕ) WireFault) (next : A �
 then_err {A} (Ok r) next error e P first second = second r.0 r.1 refl e
 then_err {A} (Err other) next error e P first second = first cc
 
-pub lift_ok : {A : Type 0} (f : PackFault → WireFault) (r : Result (A × List ℕ) PackFault) (x : A) (rest : List ℕ) → lift_error f r ≡ read x rest → r ≡ Ok (x, rest)
+pub lift_ok : {A : Type 0} (f : PackFault → WireFault) (r : Result (A × List ℕ) PackFault) (x : A) (rest : List ℕ)
+    → lift_error f r ≡ read x rest → r ≡ Ok (x, rest)
 lift_ok f (Ok r) x rest e = cc
 lift_ok f (Err error) x rest e = absurd cc
 
-pub lift_err : {A : Type 0} (f : PackFault → WireFault) (r : Result (A × List ℕ) PackFault) (error : WireFault) → lift_error f r ≡ refused A error → (pack : PackFault) × (error ≡ f pack)
+pub lift_err : {A : Type 0} (f : PackFault → WireFault) (r : Result (A × List ℕ) PackFault) (error : WireFault)
+    → lift_error f r ≡ refused A error → (pack : PackFault) × (error ≡ f pack)
 lift_err f (Ok r) error e = absurd cc
 lift_err f (Err pack) error e = (pack, cc)
 
-pub some_ok : {A : Type 0} (error : WireFault) (o : Option A) (mid : List ℕ) (x : A) (rest : List ℕ) → some_or error o mid ≡ read x rest → (o ≡ Some x) × (mid ≡ rest)
+pub some_ok : {A : Type 0} (error : WireFault) (o : Option A) (mid : List ℕ) (x : A) (rest : List ℕ)
+    → some_or error o mid ≡ read x rest → (o ≡ Some x) × (mid ≡ rest)
 some_ok error None mid x rest e = absurd cc
 some_ok error (Some y) mid x rest e = (ap Some (read_value y x mid rest e), read_rest y x mid rest e)
 

@@ -22,5 +22,6 @@ PartTexts-canonical (p ∷ rest) legal =
 pub DatagramText-canonical : (packets : List PacketValue) → length packets ≤ 255 → All IsLegal packets → DatagramText (packets_bytes packets) packets
 DatagramText-canonical packets few legal =
     datagrams.compound (map packet_bytes packets) (omega (arith, length-map packets packet_bytes))
-    (All-map (λ part. length part < 2 ^ 16) packet_bytes packets (λ k d in_range. let here : IsLegal _ = legal k d in_range in packet_bytes-short _ here.0 here.1))
+    (All-map (λ part. length part < 2 ^ 16) packet_bytes packets
+    (λ k d in_range. let here : IsLegal _ = legal k d in_range in packet_bytes-short _ here.0 here.1))
     refl (PartTexts-canonical packets legal)

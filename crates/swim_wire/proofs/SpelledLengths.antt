@@ -20,7 +20,8 @@ either false x y n p q = q
 pub length-number_text : (v : ℕ) → length (number_text v) ≤ 9
 unfolding number_text
 length-number_text v =
-    either (ltb v 128) _ _ 9 (lit≤ tt) (either (ltb v (2 ^ 8)) _ _ 9 (lit≤ tt) (either (ltb v (2 ^ 16)) _ _ 9 (lit≤ tt) (either (ltb v (2 ^ 32)) _ _ 9 (lit≤ tt) (lit≤ tt))))
+    either (ltb v 128) _ _ 9 (lit≤ tt)
+    (either (ltb v (2 ^ 8)) _ _ 9 (lit≤ tt) (either (ltb v (2 ^ 16)) _ _ 9 (lit≤ tt) (either (ltb v (2 ^ 32)) _ _ 9 (lit≤ tt) (lit≤ tt))))
 
 pub length-raw_text : (s : List ℕ) → length (raw_text s) ≤ length s + 3
 unfolding raw_text
@@ -48,7 +49,14 @@ length-value_text (flag false) = lit≤ tt
 length-pairs : (pairs : Pairs) → length (flat_map pair_text pairs) ≤ sizes pairs
 length-pairs [] = lit≤ tt
 length-pairs (pair ∷ pairs) =
-    omega (arith, length-append (pair_text pair) (flat_map pair_text pairs), length-append (raw_text pair.0) (value_text pair.1), length-raw_text pair.0, length-value_text pair.1, length-pairs pairs)
+    omega (
+      arith,
+      length-append (pair_text pair) (flat_map pair_text pairs),
+      length-append (raw_text pair.0) (value_text pair.1),
+      length-raw_text pair.0,
+      length-value_text pair.1,
+      length-pairs pairs,
+    )
 
 along : {x y : List ℕ} → x ≡ y → length y < 2 ^ 16 → length x < 2 ^ 16
 along e short = omega (arith, ap length e)

@@ -29,13 +29,15 @@ record_pairs name inc state details =
 pub alive_bytes-pairs : (name : List ℕ) (inc : ℕ) (details : DetailsValue) → alive_bytes name inc details ≡ 4 ∷ map_text (alive_pairs name inc details)
 alive_bytes-pairs name inc details = simp (append_assoc, append-nil)
 
-pub accusation_bytes-pairs : (type : ℕ) (name : List ℕ) (inc : ℕ) (from : List ℕ) → accusation_bytes type name inc from ≡ type ∷ map_text (accusation_pairs name inc from)
+pub accusation_bytes-pairs : (type : ℕ) (name : List ℕ) (inc : ℕ) (from : List ℕ)
+    → accusation_bytes type name inc from ≡ type ∷ map_text (accusation_pairs name inc from)
 accusation_bytes-pairs type name inc from = simp (append_assoc, append-nil)
 
 pub header_bytes-pairs : (h : Header) → header_bytes h ≡ 6 ∷ map_text (header_pairs h)
 header_bytes-pairs h = simp (append_assoc, append-nil)
 
-pub record_bytes-pairs : (name : List ℕ) (inc state : ℕ) (details : DetailsValue) → record_bytes name inc state details ≡ map_text (record_pairs name inc state details)
+pub record_bytes-pairs : (name : List ℕ) (inc state : ℕ) (details : DetailsValue)
+    → record_bytes name inc state details ≡ map_text (record_pairs name inc state details)
 record_bytes-pairs name inc state details = simp (append_assoc, append-nil)
 
 -- the claim by its parts
@@ -45,7 +47,9 @@ state_bytes-parts (Suspect name inc) = refl
 state_bytes-parts (Confirm name inc) = refl
 state_bytes-parts (Leave name inc) = refl
 
-pub state_bytes-pairs : (c : Claim) (name : List ℕ) (inc state : ℕ) (details : DetailsValue) → name_of c ≡ name → inc_of c ≡ inc → state_number (kind_of c) ≡ state
+pub state_bytes-pairs : (c : Claim) (name : List ℕ) (inc state : ℕ) (details : DetailsValue) → name_of c ≡ name
+    → inc_of c ≡ inc → state_number (kind_of c) ≡ state
     → details_or_none (details_of c) ≡ details → state_bytes c ≡ map_text (record_pairs name inc state details)
 state_bytes-pairs c name inc state details named at_inc at_state with_details =
-    rw (← named, ← at_inc, ← at_state, ← with_details) (state_bytes-parts c ∙ record_bytes-pairs (name_of c) (inc_of c) (state_number (kind_of c)) (details_or_none (details_of c)))
+    rw (← named, ← at_inc, ← at_state, ← with_details)
+    (state_bytes-parts c ∙ record_bytes-pairs (name_of c) (inc_of c) (state_number (kind_of c)) (details_or_none (details_of c)))

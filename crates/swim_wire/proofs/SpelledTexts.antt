@@ -17,11 +17,15 @@ use Rattle.swim_wire.proofs.SpelledMaps.{IsPairOf, MapText-canonical}
 use Rattle.swim_wire.proofs.SpelledPairs.{alive_pairs, accusation_pairs, header_pairs, record_pairs, alive_bytes-pairs, accusation_bytes-pairs, header_bytes-pairs, record_bytes-pairs}
 
 -- a number and bytes within the limit of their key
-number_within : (layout : Layout) (key : List ℕ) (max v : ℕ) → of_key key layout ≡ Some (limits.Number max) → length key < 2 ^ 16 → v ≤ max → max < 2 ^ 64 → IsPairOf layout (key, number v)
-number_within layout key max v in_layout short within fits = record { limit = limits.Number max; in_layout = in_layout; short = short; value = (within, omega arith) }
+number_within : (layout : Layout) (key : List ℕ) (max v : ℕ) → of_key key layout ≡ Some (limits.Number max)
+    → length key < 2 ^ 16 → v ≤ max → max < 2 ^ 64 → IsPairOf layout (key, number v)
+number_within layout key max v in_layout short within fits =
+    record { limit = limits.Number max; in_layout = in_layout; short = short; value = (within, omega arith) }
 
-raw_within : (layout : Layout) (key : List ℕ) (limit : ℕ) (s : List ℕ) → of_key key layout ≡ Some (limits.Raw limit) → length key < 2 ^ 16 → length s ≤ limit → limit < 2 ^ 16 → IsPairOf layout (key, raw s)
-raw_within layout key limit s in_layout short within fits = record { limit = limits.Raw limit; in_layout = in_layout; short = short; value = (within, omega arith) }
+raw_within : (layout : Layout) (key : List ℕ) (limit : ℕ) (s : List ℕ) → of_key key layout ≡ Some (limits.Raw limit)
+    → length key < 2 ^ 16 → length s ≤ limit → limit < 2 ^ 16 → IsPairOf layout (key, raw s)
+raw_within layout key limit s in_layout short within fits =
+    record { limit = limits.Raw limit; in_layout = in_layout; short = short; value = (within, omega arith) }
 
 flag_within : (layout : Layout) (key : List ℕ) (f : Bool) → of_key key layout ≡ Some limits.Flag → length key < 2 ^ 16 → IsPairOf layout (key, flag f)
 flag_within layout key f in_layout short = record { limit = limits.Flag; in_layout = in_layout; short = short; value = tt }

@@ -12,7 +12,7 @@ use Rattle.swim_wire.specs.declared.stream.Header.{Header}
 use Rattle.swim_wire.specs.Checks.{HeaderFails, StateFails, BeginsFailing, ExplainsHeader, ExplainsState}
 use Rattle.swim_wire.specs.Layout.{Pairs, MapText, of_key, number_of, raw_of, flag_of, header_layout, state_layout}
 use Rattle.swim_wire.specs.Reading.{Reading, Slots, slot, checked, with_name, with_details, map_at, header_of, header_at, state_of, state_at}
-use Rattle.swim_wire.specs.Texts.{HeaderText, StateText, IsStateOf, details_of}
+use Rattle.swim_wire.specs.Texts.{HeaderText, StateText, IsStateOf, told_details}
 use Rattle.swim_wire.specs.Texts.IsStateOf.{alive, suspect, confirm, leave}
 use Rattle.swim_wire.proofs.Readings.{read, refused, then_ok, then_err, parts_to}
 use Rattle.swim_wire.proofs.Keys.{header_legal, state_legal}
@@ -53,7 +53,9 @@ header_ok pairs h = split (ltb 131072 (number_of (codes "Nodes") pairs)) P _ _ (
 header_err : (pairs : Pairs) (error : WireFault) → header_from pairs ≡ failed Header error
     → (Q : Type 0) → (HeaderFails TooManyNodes pairs → TooManyNodes ≡ error → Q) → (HeaderFails UserTooLong pairs → UserTooLong ≡ error → Q) → Q
 header_err pairs error fails Q nodes user = split (ltb 131072 (number_of (codes "Nodes") pairs)) P _ _ (λ many e. nodes (ltb-true _ _ many) cc)
-    (λ few. split (ltb 20971520 (number_of (codes "UserStateLen") pairs)) P _ _ (λ long e. user (ltb-false _ _ few, ltb-true _ _ long) cc) (λ short e. absurd cc)) fails
+    (λ few. split (ltb 20971520 (number_of (codes "UserStateLen") pairs)) P _ _
+    (λ long e. user (ltb-false _ _ few, ltb-true _ _ long) cc) (λ short e. absurd cc))
+    fails
   where
     P : Result Header WireFault → Type 0
     P r = r ≡ failed Header error → Q
@@ -64,7 +66,8 @@ header_err pairs error fails Q nodes user = split (ltb 131072 (number_of (codes 
 abbrev header_after : Reading Header
 header_after = map_at header_layout >>= (λ slots. checked (header_of slots))
 
-header_after_takes : (first : ℕ) (bytes : List ℕ) (h : Header) (rest : List ℕ) → first ≡ 6 → header_after bytes ≡ read h rest → TakesText (λ b. HeaderText b h) (first ∷ bytes) rest
+header_after_takes : (first : ℕ) (bytes : List ℕ) (h : Header) (rest : List ℕ) → first ≡ 6 → header_after bytes ≡ read h rest
+    → TakesText (λ b. HeaderText b h) (first ∷ bytes) rest
 header_after_takes first bytes h rest type e =
     let t = then_ok (map_at header_layout bytes) (λ slots. checked (header_of slots)) h rest e in
     let m = map_takes header_layout bytes t.0 t.1 header_legal t.2 in
@@ -111,13 +114,15 @@ header_by_map UserTooLong bytes h = absurd h
 header_by_map Trailing bytes h = absurd h
 header_by_map error bytes h = tt
 
-header_after_refusal : (first : ℕ) (bytes : List ℕ) (error : WireFault) → first ≡ 6 → header_after bytes ≡ refused Header error → ExplainsHeader error (first ∷ bytes)
+header_after_refusal : (first : ℕ) (bytes : List ℕ) (error : WireFault) → first ≡ 6
+    → header_after bytes ≡ refused Header error → ExplainsHeader error (first ∷ bytes)
 header_after_refusal first bytes error type e =
     then_err (map_at header_layout bytes) (λ slots. checked (header_of slots)) error e (ExplainsHeader error (first ∷ bytes))
     (λ map. header_by_map error (first ∷ bytes) (map_refusal header_layout bytes error map))
     (λ slots mid ok check. failing slots mid (map_takes header_layout bytes slots mid header_legal ok) (checked_err (header_of slots) mid error check))
   where
-    failing : (slots : Slots) (mid : List ℕ) → (m : List ℕ) × (pairs : Pairs) × MapText header_layout m pairs × (bytes ≡ m ++ mid) × HoldsSlots header_layout pairs slots
+    failing : (slots : Slots) (mid : List ℕ) → (m : List ℕ) × (pairs : Pairs) × MapText header_layout m pairs ×
+        (bytes ≡ m ++ mid) × HoldsSlots header_layout pairs slots
         → header_of slots ≡ failed Header error → ExplainsHeader error (first ∷ bytes)
     failing slots mid m fails =
         let begins : (F : Pairs → Type 0) → F m.1 → BeginsFailing header_layout F bytes =
@@ -151,7 +156,7 @@ leave_with pairs = Leave (raw_of (codes "Name") pairs) (number_of (codes "Incarn
 
 abbrev claim_from : Pairs → ℕ → Result Claim WireFault
 claim_from pairs state =
-    cond (eqb state 0) (with_details (details_of pairs) (alive_with pairs))
+    cond (eqb state 0) (with_details (told_details pairs) (alive_with pairs))
     (cond (eqb state 1) (Ok (suspect_with pairs))
     (cond (eqb state 2) (Ok (confirm_with pairs))
     (cond (eqb state 3) (Ok (leave_with pairs)) (Err (BadState state)))))
@@ -179,7 +184,9 @@ state_is pairs state n same t = sym same ∙ eqb-true _ _ t
 
 claim_ok : (pairs : Pairs) (state : ℕ) (c : Claim) → state ≡ number_of (codes "State") pairs → claim_from pairs state ≡ passed c → IsStateOf pairs c
 claim_ok pairs state c same =
-    split (eqb state 0) P _ _ (λ t e. let legal = with_details_ok (details_of pairs) (alive_with pairs) c e in alive (state_is pairs state 0 same t) (legal.0, legal.1) legal.2) (λ _.
+    split (eqb state 0) P _ _
+    (λ t e. let legal = with_details_ok (told_details pairs) (alive_with pairs) c e in alive (state_is pairs state 0 same t) (legal.0, legal.1) legal.2)
+    (λ _.
     split (eqb state 1) P _ _ (λ t e. suspect (state_is pairs state 1 same t) (claim_is (suspect_with pairs) c e)) (λ _.
     split (eqb state 2) P _ _ (λ t e. confirm (state_is pairs state 2 same t) (claim_is (confirm_with pairs) c e)) (λ _.
     split (eqb state 3) P _ _ (λ t e. leave (state_is pairs state 3 same t) (claim_is (leave_with pairs) c e)) (λ _ e. absurd cc))))
@@ -188,7 +195,7 @@ claim_ok pairs state c same =
     P r = r ≡ passed c → IsStateOf pairs c
 
 claim_again : (pairs : Pairs) (c : Claim) → IsStateOf pairs c → claim_from pairs (number_of (codes "State") pairs) ≡ passed c
-claim_again pairs c (alive state legal is) = rw (state, is) (with_details_again (details_of pairs) (alive_with pairs) legal.0 legal.1)
+claim_again pairs c (alive state legal is) = rw (state, is) (with_details_again (told_details pairs) (alive_with pairs) legal.0 legal.1)
 claim_again pairs c (suspect state is) = rw (state, is) refl
 claim_again pairs c (confirm state is) = rw (state, is) refl
 claim_again pairs c (leave state is) = rw (state, is) refl
@@ -197,11 +204,14 @@ claim_again pairs c (leave state is) = rw (state, is) refl
 above_three : (state : ℕ) → eqb state 0 ≡ false → eqb state 1 ≡ false → eqb state 2 ≡ false → eqb state 3 ≡ false → 3 < state
 above_three state none one two three = grind (arith, nat_tests)
 
-claim_err : (pairs : Pairs) (state : ℕ) (error : WireFault) → state ≡ number_of (codes "State") pairs → raw_of (codes "Name") pairs ≢ [] → claim_from pairs state ≡ failed Claim error
-    → (Q : Type 0) → (StateFails BadAddress pairs → BadAddress ≡ error → Q) → (StateFails BadVersions pairs → BadVersions ≡ error → Q) → (StateFails (BadState state) pairs → BadState state ≡ error → Q) → Q
+claim_err : (pairs : Pairs) (state : ℕ) (error : WireFault) → state ≡ number_of (codes "State") pairs → raw_of
+    (codes "Name") pairs ≢ [] → claim_from pairs state ≡ failed Claim error
+    → (Q : Type 0) → (StateFails BadAddress pairs → BadAddress ≡ error → Q)
+    → (StateFails BadVersions pairs → BadVersions ≡ error → Q) → (StateFails (BadState state) pairs → BadState state ≡ error → Q)
+    → Q
 claim_err pairs state error same named fails Q address versions bad =
     split (eqb state 0) P _ _
-    (λ t e. with_details_err (details_of pairs) (alive_with pairs) error e Q
+    (λ t e. with_details_err (told_details pairs) (alive_with pairs) error e Q
     (λ a is. address (named, state_is pairs state 0 same t, a) is) (λ a v is. versions (named, state_is pairs state 0 same t, (a, v)) is)) (λ none.
     split (eqb state 1) P _ _ (λ t e. absurd cc) (λ one.
     split (eqb state 2) P _ _ (λ t e. absurd cc) (λ two.
@@ -250,7 +260,8 @@ state_refusal bytes error e =
     (λ map. state_by_map error bytes (map_refusal state_layout bytes error map))
     (λ slots mid ok check. failing slots mid (map_takes state_layout bytes slots mid state_legal ok) (checked_err (state_of slots) mid error check))
   where
-    failing : (slots : Slots) (mid : List ℕ) → (m : List ℕ) × (pairs : Pairs) × MapText state_layout m pairs × (bytes ≡ m ++ mid) × HoldsSlots state_layout pairs slots
+    failing : (slots : Slots) (mid : List ℕ) → (m : List ℕ) × (pairs : Pairs) × MapText state_layout m pairs ×
+        (bytes ≡ m ++ mid) × HoldsSlots state_layout pairs slots
         → state_of slots ≡ failed Claim error → ExplainsState error bytes
     failing slots mid m fails =
         let begins : (F : Pairs → Type 0) → F m.1 → BeginsFailing state_layout F bytes =

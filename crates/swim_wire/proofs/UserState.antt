@@ -18,7 +18,8 @@ too_few (Some all) (Some rest) faults len left size bytes gone sum le short = λ
     omega (arith, is_all, in_text, long, sum, le, short)
 
 -- the pull of a piece was refused
-pub user_lacks : (a b : Source) (len left size : ℕ) (bytes : List ℕ) (pull : PullFault) → Consumes a.coming b.coming bytes → length bytes + left ≡ len → size ≤ left
+pub user_lacks : (a b : Source) (len left size : ℕ) (bytes : List ℕ) (pull : PullFault) → Consumes a.coming b.coming bytes
+    → length bytes + left ≡ len → size ≤ left
     → (pull ≡ pulls.Ended → IsShorter b.coming size) → UnlessFailed (wire_cause (fault_of_pull pull)) (Lacks a (λ b. length b ≡ len))
 user_lacks a b len left size bytes pulls.Ended gone sum le short = too_few a.coming b.coming a.faults len left size bytes gone sum le (short refl)
 user_lacks a b len left size bytes pulls.Fault gone sum le short = tt

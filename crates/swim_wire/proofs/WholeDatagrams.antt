@@ -10,7 +10,8 @@ use Rattle.swim_wire.specs.Texts.{DatagramText}
 use Rattle.swim_wire.proofs.DatagramTexts.{datagram_takes, datagram_lacks}
 use Rattle.swim_wire.proofs.DatagramRefusals.{datagram_refusal}
 
-pub datagram_reads : {X : Type 0} (items : X → List PacketValue) (b : List ℕ) (r : Result X WireFault) → AreBytes b → ListsUnlessMemory items (whole_datagram b) r
+pub datagram_reads : {X : Type 0} (items : X → List PacketValue) (b : List ℕ) (r : Result X WireFault) → AreBytes b
+    → ListsUnlessMemory items (whole_datagram b) r
     → IfOk r (λ packets. DatagramText b (items packets))
 datagram_reads items b (Ok packets) are h = datagram_takes b (items packets) are h
 datagram_reads items b (Err error) are h = tt
@@ -21,7 +22,8 @@ datagram_refuses items b (Ok packets) h = tt
 datagram_refuses items b (Err error) (inl e) = λ _ packets text. datagram_lacks b error e packets text
 datagram_refuses items b (Err error) (inr e) = λ other. absurd (other e)
 
-pub datagram_explains : {X : Type 0} (items : X → List PacketValue) (b : List ℕ) (r : Result X WireFault) → AreBytes b → ListsUnlessMemory items (whole_datagram b) r
+pub datagram_explains : {X : Type 0} (items : X → List PacketValue) (b : List ℕ) (r : Result X WireFault) → AreBytes b
+    → ListsUnlessMemory items (whole_datagram b) r
     → IfErr r (λ error. error ≢ Memory → ExplainsDatagram error b)
 datagram_explains items b (Ok packets) are h = tt
 datagram_explains items b (Err error) are (inl e) = λ _. datagram_refusal b error are e

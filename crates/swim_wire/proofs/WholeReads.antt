@@ -19,7 +19,8 @@ use Rattle.swim_wire.proofs.Checking.{with_details_ok, with_details_err}
 
 -- a map, and then a check that passes
 pub Reads-passed : {A : Type 0} {a b : Source} {values : List (Option Value)} (reading : Reading Slots) (f : Slots → Result A WireFault) (x : A)
-    → f (slots_of values) ≡ Ok x → ReadsAs wire_cause slots_of reading a b (Ok values) → ReadsAs wire_cause same (reading >>= (λ slots. checked (f slots))) a b (Ok x)
+    → f (slots_of values) ≡ Ok x → ReadsAs wire_cause slots_of reading a b (Ok values)
+    → ReadsAs wire_cause same (reading >>= (λ slots. checked (f slots))) a b (Ok x)
 Reads-passed {A} {a} {b} {values} reading f x passed p =
     let given : ReadsAs wire_cause same (checked (f (slots_of values))) b b (Ok x) = rw passed (Reads-gives {view = same} x) in
     Reads-then (λ slots. checked (f slots)) p given
@@ -96,10 +97,12 @@ Reads-wrong_type found reading other =
 pub header_many : (slots : Slots) (nodes : ℕ) → nodes ≡ number_in slots 1 → 131072 < nodes → header_of slots ≡ Err TooManyNodes
 header_many slots nodes is above = grind (arith, nat_tests)
 
-pub header_long : (slots : Slots) (nodes user : ℕ) → nodes ≡ number_in slots 1 → nodes ≤ 131072 → user ≡ number_in slots 2 → 20971520 < user → header_of slots ≡ Err UserTooLong
+pub header_long : (slots : Slots) (nodes user : ℕ) → nodes ≡ number_in slots 1 → nodes ≤ 131072 → user ≡ number_in slots 2
+    → 20971520 < user → header_of slots ≡ Err UserTooLong
 header_long slots nodes user is few user_is above = grind (arith, nat_tests)
 
-pub header_fine : (slots : Slots) (nodes user : ℕ) (join : Bool) → nodes ≡ number_in slots 1 → nodes ≤ 131072 → user ≡ number_in slots 2 → user ≤ 20971520 → join ≡ flag_in slots 0
+pub header_fine : (slots : Slots) (nodes user : ℕ) (join : Bool) → nodes ≡ number_in slots 1 → nodes ≤ 131072
+    → user ≡ number_in slots 2 → user ≤ 20971520 → join ≡ flag_in slots 0
     → header_of slots ≡ Ok (record { nodes = nodes; user_len = user; join = join })
 header_fine slots nodes user join is few user_is short join_is =
     let first : nat_lt 131072 (number_in slots 1) ≡ false = grind (arith, nat_tests) in

@@ -9,30 +9,36 @@ use Rattle.swim_wire.specs.declared.stream.Header.{Header}
 use Rattle.swim_wire.specs.Packet.{PacketValue}
 use Rattle.swim_wire.specs.Texts.{compound_bytes}
 
--- a key and a value
+-- a key and a number
 abbrev pub number_pair : List ℕ → ℕ → List ℕ
 number_pair key v = raw_text key ++ number_text v
 
+-- a key and bytes
 abbrev pub raw_pair : List ℕ → List ℕ → List ℕ
 raw_pair key s = raw_text key ++ raw_text s
 
 -- memberlist's alive
 abbrev pub alive_bytes : List ℕ → ℕ → DetailsValue → List ℕ
 alive_bytes name inc details =
-    4 ∷ count_text 6 ++ raw_pair (codes "Addr") details.addr ++ number_pair (codes "Incarnation") inc ++ raw_pair (codes "Meta") details.meta
-    ++ raw_pair (codes "Node") name ++ number_pair (codes "Port") details.port ++ raw_pair (codes "Vsn") details.vsn
+    4 ∷ count_text 6 ++ raw_pair (codes "Addr") details.addr
+    ++ number_pair (codes "Incarnation") inc ++ raw_pair (codes "Meta") details.meta
+    ++ raw_pair (codes "Node") name ++ number_pair (codes "Port") details.port
+    ++ raw_pair (codes "Vsn") details.vsn
 
 -- memberlist's suspect and dead, by their type
 abbrev pub accusation_bytes : ℕ → List ℕ → ℕ → List ℕ → List ℕ
 accusation_bytes type name inc from =
-    type ∷ count_text 3 ++ raw_pair (codes "From") from ++ number_pair (codes "Incarnation") inc ++ raw_pair (codes "Node") name
+    type ∷ count_text 3 ++ raw_pair (codes "From") from ++ number_pair (codes "Incarnation") inc
+    ++ raw_pair (codes "Node") name
 
+-- the packet of a claim, made by the member of this name
 abbrev pub claim_bytes : Claim → List ℕ → List ℕ
 claim_bytes (Alive name inc details) from = alive_bytes name inc details
 claim_bytes (Suspect name inc) from = accusation_bytes 3 name inc from
 claim_bytes (Confirm name inc) from = accusation_bytes 5 name inc from
 claim_bytes (Leave name inc) from = accusation_bytes 5 name inc from
 
+-- a packet
 abbrev pub packet_bytes : PacketValue → List ℕ
 packet_bytes p = claim_bytes p.claim p.from
 
@@ -43,19 +49,22 @@ packets_bytes packets = compound_bytes (map packet_bytes packets)
 -- memberlist's pushPullHeader
 abbrev pub header_bytes : Header → List ℕ
 header_bytes h =
-    6 ∷ count_text 3 ++ (raw_text (codes "Join") ++ flag_text h.join) ++ number_pair (codes "Nodes") h.nodes
-    ++ number_pair (codes "UserStateLen") h.user_len
+    6 ∷ count_text 3 ++ (raw_text (codes "Join") ++ flag_text h.join)
+    ++ number_pair (codes "Nodes") h.nodes ++ number_pair (codes "UserStateLen") h.user_len
 
 -- memberlist's pushNodeState; only an Alive has an address, a port, metadata and versions
 abbrev pub record_bytes : List ℕ → ℕ → ℕ → DetailsValue → List ℕ
 record_bytes name inc state details =
-    count_text 7 ++ raw_pair (codes "Addr") details.addr ++ number_pair (codes "Incarnation") inc ++ raw_pair (codes "Meta") details.meta
-    ++ raw_pair (codes "Name") name ++ number_pair (codes "Port") details.port ++ number_pair (codes "State") state
+    count_text 7 ++ raw_pair (codes "Addr") details.addr ++ number_pair (codes "Incarnation") inc
+    ++ raw_pair (codes "Meta") details.meta ++ raw_pair (codes "Name") name
+    ++ number_pair (codes "Port") details.port ++ number_pair (codes "State") state
     ++ raw_pair (codes "Vsn") details.vsn
 
+-- the details in a state record that is no Alive's
 abbrev pub no_details : DetailsValue
 no_details = record { addr = []; port = 0; meta = []; vsn = [] }
 
+-- the state record of a claim: states 0 to 3 are alive, suspect, dead and left
 abbrev pub state_bytes : Claim → List ℕ
 state_bytes (Alive name inc details) = record_bytes name inc 0 details
 state_bytes (Suspect name inc) = record_bytes name inc 1 no_details

@@ -1,10 +1,12 @@
--- Why bytes are no message: the checks of a message as a whole, in their order, and what stands around its map.
+-- Why bytes are no message: the checks of a message as a whole, in their order, and what stands
+-- around its map.
 use Rattle.std.specs.Prelude.{◌≡◌, ◌≢◌, ℕ, ◌≤◌, ◌<◌, ◌⊎◌, List, [], ◌∷◌, ◌++◌, codes, ⊤, IfSome}
 use Rattle.swim_pack.specs.Ends.{Source}
 use Rattle.swim_claim.specs.Details.{IsAddress, IsVersions}
 use Rattle.swim_wire.specs.declared.fault.WireFault.{WireFault}
 use Rattle.swim_wire.specs.declared.fault.WireFault.TheVariants.{NameEmpty, BadAddress, BadVersions, WrongType, BadState, TooManyNodes, UserTooLong, Trailing}
 use Rattle.swim_wire.specs.Layout.{Layout, Pairs, MapText, number_of, raw_of, alive_layout, accusation_layout, header_layout, state_layout}
+use Rattle.swim_wire.specs.Limits.{most_nodes, most_user_state}
 use Rattle.swim_wire.specs.Packet.{PacketValue}
 use Rattle.swim_wire.specs.Texts.{PacketText}
 
@@ -13,7 +15,8 @@ use Rattle.swim_wire.specs.Texts.{PacketText}
 -- the address is checked before the versions
 abbrev pub DetailsFail : WireFault → Pairs → Type 0
 DetailsFail BadAddress pairs = ¬ IsAddress (raw_of (codes "Addr") pairs)
-DetailsFail BadVersions pairs = IsAddress (raw_of (codes "Addr") pairs) × (¬ IsVersions (raw_of (codes "Vsn") pairs))
+DetailsFail BadVersions pairs = IsAddress (raw_of (codes "Addr") pairs)
+    × (¬ IsVersions (raw_of (codes "Vsn") pairs))
 DetailsFail error pairs = ⊥
 
 -- an alive message needs a name, and then legal details
@@ -28,15 +31,18 @@ AccusationFails error pairs = ⊥
 
 -- the count of members is checked before the length of the user state
 abbrev pub HeaderFails : WireFault → Pairs → Type 0
-HeaderFails TooManyNodes pairs = 131072 < number_of (codes "Nodes") pairs
-HeaderFails UserTooLong pairs = (number_of (codes "Nodes") pairs ≤ 131072) × (20971520 < number_of (codes "UserStateLen") pairs)
+HeaderFails TooManyNodes pairs = most_nodes < number_of (codes "Nodes") pairs
+HeaderFails UserTooLong pairs = (number_of (codes "Nodes") pairs ≤ most_nodes)
+    × (most_user_state < number_of (codes "UserStateLen") pairs)
 HeaderFails error pairs = ⊥
 
 -- a state record needs a name, a state of 0 to 3, and, where it is alive, legal details
 abbrev pub StateFails : WireFault → Pairs → Type 0
 StateFails NameEmpty pairs = raw_of (codes "Name") pairs ≡ []
-StateFails (BadState found) pairs = (raw_of (codes "Name") pairs ≢ []) × (number_of (codes "State") pairs ≡ found) × (3 < found)
-StateFails error pairs = (raw_of (codes "Name") pairs ≢ []) × (number_of (codes "State") pairs ≡ 0) × DetailsFail error pairs
+StateFails (BadState found) pairs = (raw_of (codes "Name") pairs ≢ [])
+    × (number_of (codes "State") pairs ≡ found) × (3 < found)
+StateFails error pairs = (raw_of (codes "Name") pairs ≢ []) × (number_of (codes "State") pairs ≡ 0)
+    × DetailsFail error pairs
 
 -- ---- bytes that begin with such a map
 
@@ -56,6 +62,7 @@ PacketFails error (first ∷ rest) =
     ((first ≡ 4) × BeginsFailing alive_layout (AliveFails error) rest)
     ⊎ (((first ≡ 3) ⊎ (first ≡ 5)) × BeginsFailing accusation_layout (AccusationFails error) rest)
 
+-- the byte is that of no packet: of a suspect, an alive or a dead message
 abbrev pub IsNoPacketType : ℕ → Type 0
 IsNoPacketType first = (first ≢ 3) × (first ≢ 4) × (first ≢ 5)
 
@@ -63,7 +70,8 @@ IsNoPacketType first = (first ≢ 3) × (first ≢ 4) × (first ≢ 5)
 abbrev pub BeginsWith : ℕ → List ℕ → Type 0
 BeginsWith found bytes = (rest : List ℕ) × (bytes ≡ found ∷ rest)
 
--- What a refusal says of bytes that begin with no packet. Of the others it says where the reading of a map stopped.
+-- What a refusal says of bytes that begin with no packet. Of the others it says where the reading
+-- of a map stopped.
 abbrev pub ExplainsPacket : WireFault → List ℕ → Type 0
 ExplainsPacket (WrongType found) bytes = BeginsWith found bytes × IsNoPacketType found
 ExplainsPacket NameEmpty bytes = PacketFails NameEmpty bytes
@@ -77,7 +85,8 @@ ExplainsPacket error bytes = ⊤
 
 -- a packet, and at least one byte after it
 abbrev pub HasTrailing : List ℕ → Type 0
-HasTrailing bytes = (front : List ℕ) × (p : PacketValue) × (byte : ℕ) × (rest : List ℕ) × PacketText front p × (bytes ≡ front ++ byte ∷ rest)
+HasTrailing bytes = (front : List ℕ) × (p : PacketValue) × (byte : ℕ) × (rest : List ℕ)
+    × PacketText front p × (bytes ≡ front ++ byte ∷ rest)
 
 -- what a refusal says of bytes that are no packet
 abbrev pub ExplainsWhole : WireFault → List ℕ → Type 0
@@ -87,8 +96,10 @@ ExplainsWhole error bytes = ExplainsPacket error bytes
 -- what a refusal says of bytes that begin with no header
 abbrev pub ExplainsHeader : WireFault → List ℕ → Type 0
 ExplainsHeader (WrongType found) bytes = BeginsWith found bytes × (found ≢ 6)
-ExplainsHeader TooManyNodes bytes = (rest : List ℕ) × (bytes ≡ 6 ∷ rest) × BeginsFailing header_layout (HeaderFails TooManyNodes) rest
-ExplainsHeader UserTooLong bytes = (rest : List ℕ) × (bytes ≡ 6 ∷ rest) × BeginsFailing header_layout (HeaderFails UserTooLong) rest
+ExplainsHeader TooManyNodes bytes = (rest : List ℕ) × (bytes ≡ 6 ∷ rest)
+    × BeginsFailing header_layout (HeaderFails TooManyNodes) rest
+ExplainsHeader UserTooLong bytes = (rest : List ℕ) × (bytes ≡ 6 ∷ rest)
+    × BeginsFailing header_layout (HeaderFails UserTooLong) rest
 ExplainsHeader NameEmpty bytes = ⊥
 ExplainsHeader BadAddress bytes = ⊥
 ExplainsHeader BadVersions bytes = ⊥
@@ -101,7 +112,8 @@ abbrev pub ExplainsState : WireFault → List ℕ → Type 0
 ExplainsState NameEmpty bytes = BeginsFailing state_layout (StateFails NameEmpty) bytes
 ExplainsState BadAddress bytes = BeginsFailing state_layout (StateFails BadAddress) bytes
 ExplainsState BadVersions bytes = BeginsFailing state_layout (StateFails BadVersions) bytes
-ExplainsState (BadState found) bytes = BeginsFailing state_layout (StateFails (BadState found)) bytes
+ExplainsState (BadState found) bytes =
+    BeginsFailing state_layout (StateFails (BadState found)) bytes
 ExplainsState (WrongType found) bytes = ⊥
 ExplainsState TooManyNodes bytes = ⊥
 ExplainsState UserTooLong bytes = ⊥

@@ -1,5 +1,6 @@
 -- The messages that make no claim: which bytes are which of them, and their reading.
 use Rattle.std.specs.Prelude.{◌≡◌, ◌⊎◌, ℕ, ◌==◌, List, [], ◌∷◌, length, Option, Some, None, Result, Ok, Err, codes, if◌then◌else◌}
+use Rattle.swim_claim.specs.Limits.{longest_name}
 use Rattle.swim_wire.specs.declared.claimless.Claimless.{Claimless}
 use Rattle.swim_wire.specs.declared.claimless.Claimless.TheVariants.{Ping, IndirectPing, Ack, User, Nack, Error}
 use Rattle.swim_wire.specs.declared.fault.WireFault.{WireFault}
@@ -17,17 +18,21 @@ type_of User = 8
 type_of Nack = 11
 type_of Error = 13
 
--- memberlist's ping, indirectPingReq, ackResp, nackResp and errResp. A payload and the text of an error have
--- at most so many bytes. A user message has no map.
+-- memberlist's ping, indirectPingReq, ackResp, nackResp and errResp. A payload and the text of an
+-- error have at most so many bytes. A user message has no map.
 abbrev pub claimless_layout : ℕ → Claimless → Layout
 claimless_layout limit Ping =
-    (codes "Node", limits.Raw 1024) ∷ (codes "SeqNo", limits.Number 0xffff_ffff) ∷ (codes "SourceAddr", limits.Raw 16)
-    ∷ (codes "SourceNode", limits.Raw 1024) ∷ (codes "SourcePort", limits.Number 0xffff) ∷ []
+    (codes "Node", limits.Raw longest_name) ∷ (codes "SeqNo", limits.Number 0xffff_ffff)
+    ∷ (codes "SourceAddr", limits.Raw 16)
+    ∷ (codes "SourceNode", limits.Raw longest_name)
+    ∷ (codes "SourcePort", limits.Number 0xffff) ∷ []
 claimless_layout limit IndirectPing =
-    (codes "Nack", limits.Flag) ∷ (codes "Node", limits.Raw 1024) ∷ (codes "Port", limits.Number 0xffff)
-    ∷ (codes "SeqNo", limits.Number 0xffff_ffff) ∷ (codes "SourceAddr", limits.Raw 16) ∷ (codes "SourceNode", limits.Raw 1024)
+    (codes "Nack", limits.Flag) ∷ (codes "Node", limits.Raw longest_name)
+    ∷ (codes "Port", limits.Number 0xffff) ∷ (codes "SeqNo", limits.Number 0xffff_ffff)
+    ∷ (codes "SourceAddr", limits.Raw 16) ∷ (codes "SourceNode", limits.Raw longest_name)
     ∷ (codes "SourcePort", limits.Number 0xffff) ∷ (codes "Target", limits.Raw 16) ∷ []
-claimless_layout limit Ack = (codes "Payload", limits.Raw limit) ∷ (codes "SeqNo", limits.Number 0xffff_ffff) ∷ []
+claimless_layout limit Ack =
+    (codes "Payload", limits.Raw limit) ∷ (codes "SeqNo", limits.Number 0xffff_ffff) ∷ []
 claimless_layout limit User = []
 claimless_layout limit Nack = (codes "SeqNo", limits.Number 0xffff_ffff) ∷ []
 claimless_layout limit Error = (codes "Error", limits.Raw limit) ∷ []
@@ -36,7 +41,8 @@ claimless_layout limit Error = (codes "Error", limits.Raw limit) ∷ []
 abbrev pub IsMapOf : Layout → List ℕ → Type 0
 IsMapOf layout b = (pairs : Pairs) × MapText layout b pairs
 
--- what stands behind the first byte: any bytes in a user message, else one map of the message's own keys
+-- what stands behind the first byte: any bytes in a user message, else one map of the message's own
+-- keys
 abbrev pub BodyText : List ℕ → Claimless → Type 0
 BodyText body User = Unit {0}
 BodyText body kind = IsMapOf (claimless_layout (length body) kind) body
@@ -50,8 +56,8 @@ pub record ClaimlessText (b : List ℕ) (kind : Claimless) : Type 0 where
 -- ---- the reading
 
 -- the kind of message that begins with this byte
-abbrev pub kind_of : ℕ → Option Claimless
-kind_of first =
+abbrev pub claimless_kind : ℕ → Option Claimless
+claimless_kind first =
     if first == 0 then Some Ping else
     if first == 1 then Some IndirectPing else
     if first == 2 then Some Ack else
@@ -59,6 +65,7 @@ kind_of first =
     if first == 11 then Some Nack else
     if first == 13 then Some Error else None
 
+-- the values of a map of the layout with nothing after it
 abbrev pub whole_map : Layout → List ℕ → Result Slots WireFault
 whole_map layout bytes = nothing_after (map_at layout bytes)
 
@@ -72,13 +79,15 @@ abbrev pub as_kind : Claimless → Result Slots WireFault → Result Claimless W
 as_kind kind (Ok slots) = Ok kind
 as_kind kind (Err fault) = Err fault
 
+-- the message behind a first byte of this kind, or the refusal of a byte that is of none
 abbrev pub behind_type : ℕ → List ℕ → Option Claimless → Result Claimless WireFault
 behind_type first body None = Err (WrongType first)
 behind_type first body (Some kind) = as_kind kind (whole_body kind body)
 
+-- which message the bytes are, or why they are none
 abbrev pub whole_claimless : List ℕ → Result Claimless WireFault
 whole_claimless [] = Err Ended
-whole_claimless (first ∷ body) = behind_type first body (kind_of first)
+whole_claimless (first ∷ body) = behind_type first body (claimless_kind first)
 
 -- it is read where this is, and refused as this is, unless memory ran out
 abbrev pub IsReadUnlessMemory : {A X : Type 0} → Result A WireFault → Result X WireFault → Type 0

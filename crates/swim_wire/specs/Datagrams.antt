@@ -31,13 +31,15 @@ abbrev pub alone : Result PacketValue WireFault → Result (List PacketValue) Wi
 alone (Ok p) = Ok (p ∷ [])
 alone (Err error) = Err error
 
+-- whether the byte is that of a packet: of a suspect, an alive or a dead message
 abbrev pub is_packet_type : ℕ → Bool
 is_packet_type first = (first == 3) || (first == 4) || (first == 5)
 
 -- the packet of a part, or none where the part is passed over
 abbrev pub packets_of : List ℕ → Result (List PacketValue) WireFault
 packets_of [] = Ok []
-packets_of (first ∷ rest) = if is_packet_type first then alone (whole_packet (first ∷ rest)) else Ok []
+packets_of (first ∷ rest) =
+    if is_packet_type first then alone (whole_packet (first ∷ rest)) else Ok []
 
 -- the packets of parts of these lengths, behind those of the parts before them
 unfoldable pub parts_at : List ℕ → List PacketValue → Reading (List PacketValue)
@@ -54,13 +56,16 @@ compound_at = do
   lens ← lengths_at count
   parts_at lens []
 
+-- the packets of a datagram with nothing after it
 abbrev pub whole_datagram : List ℕ → Result (List PacketValue) WireFault
 whole_datagram [] = Err Ended
-whole_datagram (first ∷ rest) = if first == 7 then nothing_after (compound_at rest) else alone (whole_packet (first ∷ rest))
+whole_datagram (first ∷ rest) =
+    if first == 7 then nothing_after (compound_at rest) else alone (whole_packet (first ∷ rest))
 
 -- ---- what a refusal says
 
--- The bytes are a compound packet up to a part that is a packet by its first byte, and no packet for this reason.
+-- The bytes are a compound packet up to a part that is a packet by its first byte, and no packet
+-- for this reason.
 pub record HasBadPart (error : WireFault) (bytes : List ℕ) : Type 0 where
   pub before : List (List ℕ)
   pub packets : List PacketValue
@@ -70,7 +75,8 @@ pub record HasBadPart (error : WireFault) (bytes : List ℕ) : Type 0 where
   pub rest : List ℕ
   -- the lengths of the parts
   pub lengths : lens ≡ map length before ++ length part ∷ later
-  pub text : bytes ≡ 7 ∷ length lens ∷ flat_map (to_be_bytes w16) lens ++ (flat_map (λ p. p) before ++ (part ++ rest))
+  pub text : bytes ≡ 7 ∷ length lens ∷ flat_map (to_be_bytes w16) lens
+      ++ (flat_map (λ p. p) before ++ (part ++ rest))
   pub right : PartTexts before packets
   pub is_packet : IsPacketPart part
   pub wrong : ExplainsWhole error part
@@ -78,7 +84,8 @@ pub record HasBadPart (error : WireFault) (bytes : List ℕ) : Type 0 where
 -- a datagram, and at least one byte after it
 abbrev pub HasTrailingDatagram : List ℕ → Type 0
 HasTrailingDatagram bytes =
-    (front : List ℕ) × (packets : List PacketValue) × (byte : ℕ) × (rest : List ℕ) × DatagramText front packets × (bytes ≡ front ++ byte ∷ rest)
+    (front : List ℕ) × (packets : List PacketValue) × (byte : ℕ) × (rest : List ℕ)
+    × DatagramText front packets × (bytes ≡ front ++ byte ∷ rest)
 
 -- the datagram is one packet that is refused so, or has a part that is
 abbrev pub PacketOrPart : WireFault → List ℕ → Type 0
@@ -86,7 +93,8 @@ PacketOrPart error bytes = ExplainsWhole error bytes ⊎ HasBadPart error bytes
 
 -- what a refusal says of bytes that are no datagram
 abbrev pub ExplainsDatagram : WireFault → List ℕ → Type 0
-ExplainsDatagram (WrongType found) bytes = BeginsWith found bytes × IsNoPacketType found × (found ≢ 7)
+ExplainsDatagram (WrongType found) bytes = BeginsWith found bytes × IsNoPacketType found
+    × (found ≢ 7)
 ExplainsDatagram Trailing bytes = HasTrailingDatagram bytes ⊎ HasBadPart Trailing bytes
 ExplainsDatagram NameEmpty bytes = PacketOrPart NameEmpty bytes
 ExplainsDatagram BadAddress bytes = PacketOrPart BadAddress bytes

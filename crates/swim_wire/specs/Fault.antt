@@ -10,27 +10,27 @@ use Rattle.swim_wire.specs.declared.fault.WireFault.{WireFault}
 use Rattle.swim_wire.specs.declared.fault.WireFault.TheVariants.{Ended, NotUnsigned, OutOfRange, NotBool, NotRaw, TooLong, NotMap, MapCount, Fault, Memory, NameEmpty, BadAddress, BadVersions, WrongType, UnknownKey, DuplicateKey, BadState, TooManyNodes, UserTooLong, Trailing}
 
 -- the number by which reports name a fault
-abbrev pub number_of : WireFault → ℕ
-number_of Ended = 1
-number_of NotUnsigned = 2
-number_of OutOfRange = 3
-number_of NotBool = 4
-number_of NotRaw = 5
-number_of TooLong = 6
-number_of NotMap = 7
-number_of MapCount = 8
-number_of Fault = 9
-number_of Memory = 10
-number_of NameEmpty = 11
-number_of BadAddress = 13
-number_of BadVersions = 15
-number_of (WrongType found) = 16
-number_of UnknownKey = 17
-number_of DuplicateKey = 18
-number_of (BadState found) = 19
-number_of TooManyNodes = 20
-number_of UserTooLong = 21
-number_of Trailing = 22
+abbrev pub wire_number : WireFault → ℕ
+wire_number Ended = 1
+wire_number NotUnsigned = 2
+wire_number OutOfRange = 3
+wire_number NotBool = 4
+wire_number NotRaw = 5
+wire_number TooLong = 6
+wire_number NotMap = 7
+wire_number MapCount = 8
+wire_number Fault = 9
+wire_number Memory = 10
+wire_number NameEmpty = 11
+wire_number BadAddress = 13
+wire_number BadVersions = 15
+wire_number (WrongType found) = 16
+wire_number UnknownKey = 17
+wire_number DuplicateKey = 18
+wire_number (BadState found) = 19
+wire_number TooManyNodes = 20
+wire_number UserTooLong = 21
+wire_number Trailing = 22
 
 -- a value that MessagePack does not spell
 abbrev pub fault_of_pack : PackFault → WireFault

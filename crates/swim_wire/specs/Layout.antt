@@ -1,8 +1,10 @@
--- Maps as memberlist writes them in MessagePack: keys of a layout, each with a value within its limit.
+-- Maps as memberlist writes them in MessagePack: keys of a layout, each with a value within its
+-- limit.
 use Rattle.std.specs.Prelude.{◌≡◌, ℕ, ◌≤◌, Bool, false, List, [], ◌∷◌, ◌++◌, length, map, Option, Some, codes}
 use Rattle.std.specs.List.{IsDistinct}
 use Rattle.std.specs.Map.{lookup}
 use Rattle.std.specs.Str.{bytes_eq}
+use Rattle.swim_claim.specs.Limits.{longest_meta, longest_name}
 use Rattle.swim_pack.specs.Spelling.{Number, Raw, Flag, Count}
 use Rattle.swim_wire.specs.declared.layout.Limit.{Limit}
 use Rattle.swim_wire.specs.declared.layout.Limit.TheVariants as limits
@@ -45,7 +47,8 @@ pub record PairText (layout : Layout) (b : List ℕ) (pair : List ℕ × Spelled
 -- The bytes b spell these pairs, one behind the other.
 abbrev pub PairTexts : Layout → List ℕ → Pairs → Type 0
 PairTexts layout b [] = b ≡ []
-PairTexts layout b (pair ∷ pairs) = (first rest : List ℕ) × PairText layout first pair × PairTexts layout rest pairs × (b ≡ first ++ rest)
+PairTexts layout b (pair ∷ pairs) = (first rest : List ℕ) × PairText layout first pair
+    × PairTexts layout rest pairs × (b ≡ first ++ rest)
 
 -- The bytes b spell a map of the layout: the count of its pairs, and then the pairs, no key twice.
 pub record MapText (layout : Layout) (b : List ℕ) (pairs : Pairs) : Type 0 where
@@ -56,38 +59,45 @@ pub record MapText (layout : Layout) (b : List ℕ) (pairs : Pairs) : Type 0 whe
   pub distinct : IsDistinct bytes_eq (map (λ pair. pair.0) pairs)
   pub text : b ≡ count_text ++ pairs_text
 
--- the value of a key, or what its absence means: 0, nothing, or false
+-- the number, or 0 where the key is absent
 abbrev pub number_or_zero : Option Spelled → ℕ
 number_or_zero (Some (number v)) = v
 number_or_zero value = 0
 
+-- the bytes, or none where the key is absent
 abbrev pub raw_or_empty : Option Spelled → List ℕ
 raw_or_empty (Some (raw s)) = s
 raw_or_empty value = []
 
+-- the truth value, or false where the key is absent
 abbrev pub flag_or_false : Option Spelled → Bool
 flag_or_false (Some (flag f)) = f
 flag_or_false value = false
 
+-- the number that the pairs tell of a key
 abbrev pub number_of : List ℕ → Pairs → ℕ
 number_of key pairs = number_or_zero (of_key key pairs)
 
+-- the bytes that the pairs tell of a key
 abbrev pub raw_of : List ℕ → Pairs → List ℕ
 raw_of key pairs = raw_or_empty (of_key key pairs)
 
+-- the truth value that the pairs tell of a key
 abbrev pub flag_of : List ℕ → Pairs → Bool
 flag_of key pairs = flag_or_false (of_key key pairs)
 
 -- memberlist's alive
 abbrev pub alive_layout : Layout
 alive_layout =
-    (codes "Addr", limits.Raw 16) ∷ (codes "Incarnation", limits.Number 0xffff_ffff) ∷ (codes "Meta", limits.Raw 512)
-    ∷ (codes "Node", limits.Raw 1024) ∷ (codes "Port", limits.Number 0xffff) ∷ (codes "Vsn", limits.Raw 6) ∷ []
+    (codes "Addr", limits.Raw 16) ∷ (codes "Incarnation", limits.Number 0xffff_ffff)
+    ∷ (codes "Meta", limits.Raw longest_meta) ∷ (codes "Node", limits.Raw longest_name)
+    ∷ (codes "Port", limits.Number 0xffff) ∷ (codes "Vsn", limits.Raw 6) ∷ []
 
 -- memberlist's suspect and dead
 abbrev pub accusation_layout : Layout
 accusation_layout =
-    (codes "From", limits.Raw 1024) ∷ (codes "Incarnation", limits.Number 0xffff_ffff) ∷ (codes "Node", limits.Raw 1024) ∷ []
+    (codes "From", limits.Raw longest_name) ∷ (codes "Incarnation", limits.Number 0xffff_ffff)
+    ∷ (codes "Node", limits.Raw longest_name) ∷ []
 
 -- memberlist's pushPullHeader
 abbrev pub header_layout : Layout
@@ -98,6 +108,7 @@ header_layout =
 -- memberlist's pushNodeState
 abbrev pub state_layout : Layout
 state_layout =
-    (codes "Addr", limits.Raw 16) ∷ (codes "Incarnation", limits.Number 0xffff_ffff) ∷ (codes "Meta", limits.Raw 512)
-    ∷ (codes "Name", limits.Raw 1024) ∷ (codes "Port", limits.Number 0xffff) ∷ (codes "State", limits.Number 0xffff_ffff_ffff_ffff)
+    (codes "Addr", limits.Raw 16) ∷ (codes "Incarnation", limits.Number 0xffff_ffff)
+    ∷ (codes "Meta", limits.Raw longest_meta) ∷ (codes "Name", limits.Raw longest_name)
+    ∷ (codes "Port", limits.Number 0xffff) ∷ (codes "State", limits.Number 0xffff_ffff_ffff_ffff)
     ∷ (codes "Vsn", limits.Raw 6) ∷ []

@@ -1,5 +1,7 @@
+pub mod Limits
 pub mod Fault
 pub mod Layout
+pub mod Places
 pub mod Slots
 pub mod Packet
 pub mod Texts

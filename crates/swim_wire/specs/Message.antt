@@ -4,31 +4,36 @@ use Rattle.swim_wire.specs.declared.message.Alive.{Alive}
 use Rattle.swim_wire.specs.declared.message.Accusation.{Accusation}
 use Rattle.swim_wire.specs.declared.message.PushPullHeader.{PushPullHeader}
 use Rattle.swim_wire.specs.declared.message.PushNodeState.{PushNodeState}
+use Rattle.swim_wire.specs.Places.{alive_addr, alive_incarnation, alive_meta, alive_node, alive_port, alive_vsn, accusation_from, accusation_incarnation, accusation_node, header_join, header_nodes, header_user_state_len, state_addr, state_incarnation, state_meta, state_name, state_port, state_state, state_vsn}
 use Rattle.swim_wire.specs.Reading.{Slots, number_in, raw_in, flag_in}
 
+-- memberlist's alive
 pub record SaysAlive (slots : Slots) (alive : Alive) : Type 0 where
-  pub addr : alive.addr.items ≡ raw_in slots 0
-  pub incarnation : alive.incarnation ≡ number_in slots 1
-  pub meta : alive.meta.items ≡ raw_in slots 2
-  pub node : alive.node.items ≡ raw_in slots 3
-  pub port : alive.port ≡ number_in slots 4
-  pub vsn : alive.vsn.items ≡ raw_in slots 5
+  pub addr : alive.addr.items ≡ raw_in slots alive_addr
+  pub incarnation : alive.incarnation ≡ number_in slots alive_incarnation
+  pub meta : alive.meta.items ≡ raw_in slots alive_meta
+  pub node : alive.node.items ≡ raw_in slots alive_node
+  pub port : alive.port ≡ number_in slots alive_port
+  pub vsn : alive.vsn.items ≡ raw_in slots alive_vsn
 
+-- memberlist's suspect and dead
 pub record SaysAccusation (slots : Slots) (accusation : Accusation) : Type 0 where
-  pub from : accusation.from.items ≡ raw_in slots 0
-  pub incarnation : accusation.incarnation ≡ number_in slots 1
-  pub node : accusation.node.items ≡ raw_in slots 2
+  pub from : accusation.from.items ≡ raw_in slots accusation_from
+  pub incarnation : accusation.incarnation ≡ number_in slots accusation_incarnation
+  pub node : accusation.node.items ≡ raw_in slots accusation_node
 
+-- memberlist's pushPullHeader
 pub record SaysHeader (slots : Slots) (header : PushPullHeader) : Type 0 where
-  pub join : header.join ≡ flag_in slots 0
-  pub nodes : header.nodes ≡ number_in slots 1
-  pub user_state_len : header.user_state_len ≡ number_in slots 2
+  pub join : header.join ≡ flag_in slots header_join
+  pub nodes : header.nodes ≡ number_in slots header_nodes
+  pub user_state_len : header.user_state_len ≡ number_in slots header_user_state_len
 
+-- memberlist's pushNodeState
 pub record SaysState (slots : Slots) (state : PushNodeState) : Type 0 where
-  pub addr : state.addr.items ≡ raw_in slots 0
-  pub incarnation : state.incarnation ≡ number_in slots 1
-  pub meta : state.meta.items ≡ raw_in slots 2
-  pub name : state.name.items ≡ raw_in slots 3
-  pub port : state.port ≡ number_in slots 4
-  pub number : state.state ≡ number_in slots 5
-  pub vsn : state.vsn.items ≡ raw_in slots 6
+  pub addr : state.addr.items ≡ raw_in slots state_addr
+  pub incarnation : state.incarnation ≡ number_in slots state_incarnation
+  pub meta : state.meta.items ≡ raw_in slots state_meta
+  pub name : state.name.items ≡ raw_in slots state_name
+  pub port : state.port ≡ number_in slots state_port
+  pub number : state.state ≡ number_in slots state_state
+  pub vsn : state.vsn.items ≡ raw_in slots state_vsn

@@ -2,6 +2,7 @@
 use Rattle.std.specs.Prelude.{◌≡◌, ◌≢◌, ℕ, ◌≤◌, List, [], length}
 use Rattle.swim_claim.specs.declared.claim.Claim.{Claim}
 use Rattle.swim_claim.specs.declared.claim.Claim.TheVariants.{Alive, Suspect, Confirm, Leave}
+use Rattle.swim_claim.specs.Limits.{longest_name}
 
 -- a claim, and the name of the member that makes it
 pub record PacketValue : Type 0 where
@@ -15,5 +16,6 @@ IsMadeBy (Suspect name inc) from = Unit {0}
 IsMadeBy (Confirm name inc) from = from ≢ name
 IsMadeBy (Leave name inc) from = from ≡ name
 
+-- the name is that of one who may make the claim, and has at most 1,024 bytes
 abbrev pub IsLegalPacket : Claim → List ℕ → Type 0
-IsLegalPacket claim from = IsMadeBy claim from × (length from ≤ 1024)
+IsLegalPacket claim from = IsMadeBy claim from × (length from ≤ longest_name)

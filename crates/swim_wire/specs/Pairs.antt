@@ -5,47 +5,51 @@ use Rattle.swim_claim.specs.declared.claim.Kind.{Kind}
 use Rattle.swim_claim.specs.declared.claim.Kind.TheVariants as kind
 use Rattle.swim_claim.specs.Details.{DetailsValue}
 use Rattle.swim_pack.specs.Spelling.{number_text, raw_text, flag_text, count_text}
-use Rattle.swim_wire.specs.declared.canonical.pairs.Value.{Value}
-use Rattle.swim_wire.specs.declared.canonical.pairs.Value.TheVariants as values
+use Rattle.swim_wire.specs.declared.canonical.pairs.Written.{Written}
+use Rattle.swim_wire.specs.declared.canonical.pairs.Written.TheVariants as written
 use Rattle.swim_wire.specs.declared.layout.Key.{Key}
 use Rattle.swim_wire.specs.Canonical.{no_details}
 use Rattle.swim_wire.specs.Layout.{Spelled, Pairs}
 use Rattle.swim_wire.specs.Layout.Spelled.{number, raw, flag}
 use Rattle.swim_wire.specs.Slots.{key_text}
 
--- the canonical bytes of a value, of a pair, and of a map
+-- the canonical bytes of a value
 abbrev pub value_text : Spelled → List ℕ
 value_text (number v) = number_text v
 value_text (raw s) = raw_text s
 value_text (flag f) = flag_text f
 
+-- the canonical bytes of a key and its value
 abbrev pub pair_text : List ℕ × Spelled → List ℕ
 pair_text pair = raw_text pair.0 ++ value_text pair.1
 
+-- the canonical bytes of a map: the count of its pairs, and then the pairs
 abbrev pub map_text : Pairs → List ℕ
 map_text pairs = count_text (length pairs) ++ flat_map pair_text pairs
 
+-- a value that the code writes
+abbrev pub written_value : Written → Spelled
+written_value (written.Number v) = number v
+written_value (written.Raw bytes) = raw bytes.now
+written_value (written.Flag f) = flag f
+
+-- a pair that the code writes
+abbrev pub pair_of : Key × Written → List ℕ × Spelled
+pair_of pair = (key_text pair.0, written_value pair.1)
+
 -- the pairs that the code writes
-abbrev pub spelled : Value → Spelled
-spelled (values.Number v) = number v
-spelled (values.Raw bytes) = raw bytes.now
-spelled (values.Flag f) = flag f
-
-abbrev pub pair_of : Key × Value → List ℕ × Spelled
-pair_of pair = (key_text pair.0, spelled pair.1)
-
-abbrev pub pairs_of : List (Key × Value) → Pairs
+abbrev pub pairs_of : List (Key × Written) → Pairs
 pairs_of pairs = map pair_of pairs
 
 -- bytes are short enough for two bytes of length
-abbrev pub IsShort : Value → Type 0
-IsShort (values.Number v) = Unit {0}
-IsShort (values.Raw bytes) = length bytes.now < 2 ^ 16
-IsShort (values.Flag f) = Unit {0}
+abbrev pub IsShort : Written → Type 0
+IsShort (written.Number v) = Unit {0}
+IsShort (written.Raw bytes) = length bytes.now < 2 ^ 16
+IsShort (written.Flag f) = Unit {0}
 
 -- parts of details are
-abbrev pub AreShort : List ℕ → List ℕ → List ℕ → Type 0
-AreShort addr meta vsn = (length addr < 2 ^ 16) × (length meta < 2 ^ 16) × (length vsn < 2 ^ 16)
+abbrev pub AreShortParts : List ℕ → List ℕ → List ℕ → Type 0
+AreShortParts addr meta vsn = (length addr < 2 ^ 16) × (length meta < 2 ^ 16) × (length vsn < 2 ^ 16)
 
 -- memberlist's numbers of the states of members
 abbrev pub state_number : Kind → ℕ

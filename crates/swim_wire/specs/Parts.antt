@@ -12,12 +12,14 @@ lengths_in (high ∷ []) = []
 lengths_in (high ∷ low ∷ bytes) = from_be_bytes w16 (high ∷ low ∷ []) ∷ lengths_in bytes
 
 -- the answer's packets are these, or its refusal is this one, unless memory ran out
-abbrev pub ListsUnlessMemory : {X : Type 0} → (X → List PacketValue) → Result (List PacketValue) WireFault → Result X WireFault → Type 0
+abbrev pub ListsUnlessMemory : {X : Type 0} → (X → List PacketValue)
+    → Result (List PacketValue) WireFault → Result X WireFault → Type 0
 ListsUnlessMemory items wanted (Ok packets) = wanted ≡ Ok (items packets)
 ListsUnlessMemory items wanted (Err error) = (wanted ≡ Err error) ⊎ (error ≡ Memory)
 
 -- these packets were added, unless they were refused or memory ran out
-abbrev pub GrowsBy : Result (List PacketValue) WireFault → List PacketValue → List PacketValue → Result ⊤ WireFault → Type 0
+abbrev pub GrowsBy : Result (List PacketValue) WireFault → List PacketValue → List PacketValue
+    → Result ⊤ WireFault → Type 0
 GrowsBy (Ok more) old new (Ok done) = new ≡ old ++ more
 GrowsBy (Err error) old new (Ok done) = ⊥
 GrowsBy wanted old new (Err error) = (wanted ≡ Err error) ⊎ (error ≡ Memory)

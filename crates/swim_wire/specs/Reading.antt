@@ -15,9 +15,12 @@ use Rattle.swim_wire.specs.declared.layout.Limit.TheVariants as limits
 use Rattle.swim_wire.specs.declared.stream.Header.{Header}
 use Rattle.swim_wire.specs.Fault.{fault_of_pack, fault_of_key}
 use Rattle.swim_wire.specs.Layout.{Layout, Spelled, number_or_zero, raw_or_empty, flag_or_false, alive_layout, accusation_layout, header_layout, state_layout}
+use Rattle.swim_wire.specs.Limits.{most_nodes, most_user_state}
+use Rattle.swim_wire.specs.Places.{alive_addr, alive_incarnation, alive_meta, alive_node, alive_port, alive_vsn, accusation_from, accusation_incarnation, accusation_node, header_join, header_nodes, header_user_state_len, state_addr, state_incarnation, state_meta, state_name, state_port, state_state, state_vsn}
 use Rattle.swim_wire.specs.Layout.Spelled.{number, raw, flag}
 use Rattle.swim_wire.specs.Packet.{PacketValue}
 
+-- a value and the bytes after it, or the fault
 abbrev pub Reading : Type 0 → Type 0
 Reading V = composing.Reading WireFault V
 
@@ -32,6 +35,7 @@ wire_cause error = by_bytes
 abbrev pub Slots : Type 0
 Slots = List (Option Spelled)
 
+-- the value at a place, if one was read
 abbrev pub slot : Slots → ℕ → Option Spelled
 slot slots place = slice_index_or slots place None
 
@@ -51,6 +55,7 @@ value_at limits.Flag = do
 abbrev pub place_of : Layout → List ℕ → Option ℕ
 place_of layout key = position (λ field. bytes_eq field.0 key) layout
 
+-- the limit of the value at a place of the layout
 abbrev pub limit_at : Layout → ℕ → Limit
 limit_at layout place = let field = slice_index_or layout place ([], limits.Flag) in field.1
 
@@ -94,58 +99,84 @@ abbrev pub checked : {A : Type 0} → Result A WireFault → Reading A
 checked (Ok x) = gives x
 checked (Err fault) = refuses fault
 
+-- the number at a place, or 0 where none was read
 abbrev pub number_in : Slots → ℕ → ℕ
 number_in slots place = number_or_zero (slot slots place)
 
+-- the bytes at a place, or none where none were read
 abbrev pub raw_in : Slots → ℕ → List ℕ
 raw_in slots place = raw_or_empty (slot slots place)
 
+-- the truth value at a place, or false where none was read
 abbrev pub flag_in : Slots → ℕ → Bool
 flag_in slots place = flag_or_false (slot slots place)
 
 -- ---- the checks of the whole, in their order
 
+-- the result, where the name is not empty
 abbrev pub with_name : {A : Type 0} → List ℕ → Result A WireFault → Result A WireFault
 with_name [] result = Err NameEmpty
 with_name (byte ∷ bytes) result = result
 
+-- what is made of the details, where the address and then the versions are legal
 abbrev pub with_details : {A : Type 0} → DetailsValue → (DetailsValue → A) → Result A WireFault
 with_details details f =
     if (length details.addr == 4) || (length details.addr == 16)
-    then (if (length details.vsn == 0) || (length details.vsn == 6) then Ok (f details) else Err BadVersions)
+    then (if (length details.vsn == 0) || (length details.vsn == 6)
+    then Ok (f details) else Err BadVersions)
     else Err BadAddress
 
 -- ---- packets
 
+-- the packet that the values of an alive message tell
 abbrev pub alive_of : Slots → Result PacketValue WireFault
 alive_of slots =
-    with_name (raw_in slots 3)
-    (with_details (record { addr = raw_in slots 0; port = number_in slots 4; meta = raw_in slots 2; vsn = raw_in slots 5 })
-    (λ details. record { claim = Alive (raw_in slots 3) (number_in slots 1) details; from = [] }))
+    with_name (raw_in slots alive_node) (with_details (record {
+      addr = raw_in slots alive_addr;
+      port = number_in slots alive_port;
+      meta = raw_in slots alive_meta;
+      vsn = raw_in slots alive_vsn;
+    })
+    (λ details. record {
+      claim = Alive (raw_in slots alive_node) (number_in slots alive_incarnation) details;
+      from = [];
+    }))
 
+-- the packet that the values of a suspect message tell
 abbrev pub suspect_of : Slots → Result PacketValue WireFault
-suspect_of slots = with_name (raw_in slots 2) (Ok (record { claim = Suspect (raw_in slots 2) (number_in slots 1); from = raw_in slots 0 }))
+suspect_of slots =
+    with_name (raw_in slots accusation_node) (Ok (record {
+      claim = Suspect (raw_in slots accusation_node) (number_in slots accusation_incarnation);
+      from = raw_in slots accusation_from;
+    }))
 
 -- a member that is dead by its own word has left
 abbrev pub dead_claim : Bool → List ℕ → ℕ → Claim
 dead_claim true name inc = Leave name inc
 dead_claim false name inc = Confirm name inc
 
+-- the packet that the values of a dead message tell
 abbrev pub dead_of : Slots → Result PacketValue WireFault
 dead_of slots =
-    with_name (raw_in slots 2)
-    (Ok (record { claim = dead_claim (bytes_eq (raw_in slots 0) (raw_in slots 2)) (raw_in slots 2) (number_in slots 1); from = raw_in slots 0 }))
+    with_name (raw_in slots accusation_node) (Ok (record {
+      claim = dead_claim (bytes_eq (raw_in slots accusation_from) (raw_in slots accusation_node))
+          (raw_in slots accusation_node) (number_in slots accusation_incarnation);
+      from = raw_in slots accusation_from;
+    }))
 
+-- an alive message, behind its type byte
 unfoldable pub alive_at : Reading PacketValue
 alive_at = do
   slots ← map_at alive_layout
   checked (alive_of slots)
 
+-- a suspect message, behind its type byte
 unfoldable pub suspect_at : Reading PacketValue
 suspect_at = do
   slots ← map_at accusation_layout
   checked (suspect_of slots)
 
+-- a dead message, behind its type byte
 unfoldable pub dead_at : Reading PacketValue
 dead_at = do
   slots ← map_at accusation_layout
@@ -158,6 +189,7 @@ packet_after first =
     if first == 3 then suspect_at else
     if first == 5 then dead_at else refuses (WrongType first)
 
+-- a packet, with its type byte
 unfoldable pub packet_at : Reading PacketValue
 packet_at = do
   first ← lift fault_of_pack next_byte
@@ -173,17 +205,24 @@ nothing_after (Err fault) = Err fault
 abbrev pub AnswersUnlessMemory : {A : Type 0} → Result A WireFault → Result A WireFault → Type 0
 AnswersUnlessMemory wanted result = (result ≡ wanted) ⊎ (result ≡ Err Memory)
 
+-- a packet with nothing after it
 abbrev pub whole_packet : List ℕ → Result PacketValue WireFault
 whole_packet bytes = nothing_after (packet_at bytes)
 
 -- ---- streams
 
+-- the header that the values tell; its count of members is checked first
 abbrev pub header_of : Slots → Result Header WireFault
 header_of slots =
-    if nat_lt 131072 (number_in slots 1) then Err TooManyNodes else
-    if nat_lt 20971520 (number_in slots 2) then Err UserTooLong else
-    Ok (record { nodes = number_in slots 1; user_len = number_in slots 2; join = flag_in slots 0 })
+    if nat_lt most_nodes (number_in slots header_nodes) then Err TooManyNodes else
+    if nat_lt most_user_state (number_in slots header_user_state_len) then Err UserTooLong else
+    Ok (record {
+      nodes = number_in slots header_nodes;
+      user_len = number_in slots header_user_state_len;
+      join = flag_in slots header_join;
+    })
 
+-- the header of a stream, with its type byte
 unfoldable pub header_at : Reading Header
 header_at = do
   first ← lift fault_of_pack next_byte
@@ -193,14 +232,27 @@ header_at = do
 -- the claim of a state record by its state
 abbrev pub claim_of_state : Slots → ℕ → Result Claim WireFault
 claim_of_state slots state =
-    if state == 0 then with_details (record { addr = raw_in slots 0; port = number_in slots 4; meta = raw_in slots 2; vsn = raw_in slots 6 }) (λ details. Alive (raw_in slots 3) (number_in slots 1) details) else
-    if state == 1 then Ok (Suspect (raw_in slots 3) (number_in slots 1)) else
-    if state == 2 then Ok (Confirm (raw_in slots 3) (number_in slots 1)) else
-    if state == 3 then Ok (Leave (raw_in slots 3) (number_in slots 1)) else Err (BadState state)
+    if state == 0 then with_details (record {
+      addr = raw_in slots state_addr;
+      port = number_in slots state_port;
+      meta = raw_in slots state_meta;
+      vsn = raw_in slots state_vsn;
+    })
+    (λ details. Alive (raw_in slots state_name) (number_in slots state_incarnation) details) else
+    if state == 1
+    then Ok (Suspect (raw_in slots state_name) (number_in slots state_incarnation)) else
+    if state == 2
+    then Ok (Confirm (raw_in slots state_name) (number_in slots state_incarnation)) else
+    if state == 3
+    then Ok (Leave (raw_in slots state_name) (number_in slots state_incarnation))
+    else Err (BadState state)
 
+-- the claim that the values of a state record tell; its name is checked first
 abbrev pub state_of : Slots → Result Claim WireFault
-state_of slots = with_name (raw_in slots 3) (claim_of_state slots (number_in slots 5))
+state_of slots =
+    with_name (raw_in slots state_name) (claim_of_state slots (number_in slots state_state))
 
+-- a state record
 unfoldable pub state_at : Reading Claim
 state_at = do
   slots ← map_at state_layout

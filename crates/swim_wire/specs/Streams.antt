@@ -7,10 +7,11 @@ use Rattle.swim_wire.specs.Texts.{HeaderText, StateText}
 -- The bytes are the state records of these claims, one after the other.
 pub data StateTexts : List ℕ → List Claim → Type 0 where
   none : StateTexts [] []
-  one : (b rest : List ℕ) (c : Claim) (claims : List Claim) → StateText b c → StateTexts rest claims → StateTexts (b ++ rest) (c ∷ claims)
+  one : (b rest : List ℕ) (c : Claim) (claims : List Claim) → StateText b c → StateTexts rest claims
+      → StateTexts (b ++ rest) (c ∷ claims)
 
--- The bytes b are a stream of these claims with this join flag: a header, as many state records as it
--- promises, and as many bytes of user state, of any values.
+-- The bytes b are a stream of these claims with this join flag: a header, as many state records as
+-- it promises, and as many bytes of user state, of any values.
 pub record StreamText (b : List ℕ) (claims : List Claim) (join : Bool) : Type 0 where
   pub header : Header
   pub head : List ℕ

@@ -1,5 +1,5 @@
-//! Messages in their canonical bytes: all keys of the layout in alphabetical order, each value in its
-//! canonical spelling (own).
+//! Messages in their canonical bytes: all keys of the layout in alphabetical order, each value in
+//! its canonical spelling (own).
 
 mod pairs;
 
@@ -8,12 +8,14 @@ ghost use Rattle.std.specs.Option.{option_copied};
 ghost use Rattle.swim_claim.specs.declared.claim.Claim.{Claim};
 ghost use Rattle.swim_claim.specs.Claim.{name_of, HasFacts, IsLegalClaim, IsLegalFacts};
 ghost use Rattle.swim_claim.specs.Details.{IsLegalDetails};
+ghost use Rattle.swim_claim.specs.Limits.{longest_name};
 ghost use Rattle.swim_wire.specs.Canonical.{packet_bytes, packets_bytes, header_bytes, state_bytes, alive_bytes, accusation_bytes};
+ghost use Rattle.swim_wire.specs.Limits.{most_nodes, most_user_state};
 ghost use Rattle.swim_wire.specs.Packet.{IsLegalPacket};
-ghost use Rattle.swim_wire.specs.Pairs.{details_or_none, state_number, AreShort};
+ghost use Rattle.swim_wire.specs.Pairs.{details_or_none, state_number, AreShortParts};
 ghost use Rattle.swim_wire.specs.Texts.{PacketText, HeaderText, StateText, DatagramText};
 
-use crate::canonical::pairs::{Value, write_map, write_message};
+use crate::canonical::pairs::{Written, write_map, write_message};
 use crate::layout::Key;
 use crate::message::{
     ALIVE_MESSAGE, COMPOUND_MESSAGE, DEAD_MESSAGE, PUSH_PULL_MESSAGE, SUSPECT_MESSAGE,
@@ -28,19 +30,24 @@ use swim_claim::{Claim, Details, Facts, Kind, Name};
 ///
 /// # Errors
 ///
-/// `AllocError` where the vector had to grow and memory ran out. Its contents are then as they were.
+/// `AllocError` where the vector had to grow and memory ran out. Its contents are then as they
+/// were.
 pub fn write_header(out: &mut Vec<u8>, header: &Header) -> Result<(), AllocError>
     ensures ok { OnOk result (out.new.items ≡ out.old.items ++ header_bytes header.now) }
-    ensures text { header.now.nodes ≤ 131072 → header.now.user_len ≤ 20971520 → HeaderText (header_bytes header.now) header.now }
+    ensures text { header.now.nodes ≤ most_nodes → header.now.user_len ≤ most_user_state
+        → HeaderText (header_bytes header.now) header.now }
     ensures refused { OnErr result (out.new.items ≡ out.old.items) }
 {
     write_message(
         out,
         PUSH_PULL_MESSAGE,
         &[
-            (Key::Join, Value::Flag(header.join)),
-            (Key::Nodes, Value::Number(u64::from(header.nodes))),
-            (Key::UserStateLen, Value::Number(u64::from(header.user_len))),
+            (Key::Join, Written::Flag(header.join)),
+            (Key::Nodes, Written::Number(u64::from(header.nodes))),
+            (
+                Key::UserStateLen,
+                Written::Number(u64::from(header.user_len)),
+            ),
         ],
     )
 }
@@ -51,29 +58,31 @@ pub fn write_header(out: &mut Vec<u8>, header: &Header) -> Result<(), AllocError
 ///
 /// # Errors
 ///
-/// `AllocError` where the vector had to grow and memory ran out. Its contents are then as they were.
+/// `AllocError` where the vector had to grow and memory ran out. Its contents are then as they
+/// were.
 pub fn write_state<'a>(
     out: &mut Vec<u8>,
     name: &'a Name,
     facts: Facts<'a>,
 ) -> Result<(), AllocError>
     requires { IsLegalFacts facts }
-    ensures ok { OnOk result
-        ((c : Claim) → name_of c ≡ name.now → HasFacts c facts.entry → out.new.items ≡ out.old.items ++ state_bytes c) }
-    ensures text { (c : Claim) → name_of c ≡ name.now → HasFacts c facts.entry → StateText (state_bytes c) c }
+    ensures ok { OnOk result ((c : Claim) → name_of c ≡ name.now → HasFacts c facts.entry
+        → out.new.items ≡ out.old.items ++ state_bytes c) }
+    ensures text { (c : Claim) → name_of c ≡ name.now → HasFacts c facts.entry
+        → StateText (state_bytes c) c }
     ensures refused { OnErr result (out.new.items ≡ out.old.items) }
 {
     let details = RecordDetails::of(facts.details);
     write_map(
         out,
         &[
-            (Key::Addr, Value::Raw(details.addr)),
-            (Key::Incarnation, Value::Number(u64::from(facts.inc))),
-            (Key::Meta, Value::Raw(details.meta)),
-            (Key::Name, Value::Raw(name.bytes())),
-            (Key::Port, Value::Number(u64::from(details.port))),
-            (Key::State, Value::Number(state_of(facts.kind))),
-            (Key::Vsn, Value::Raw(details.vsn)),
+            (Key::Addr, Written::Raw(details.addr)),
+            (Key::Incarnation, Written::Number(u64::from(facts.inc))),
+            (Key::Meta, Written::Raw(details.meta)),
+            (Key::Name, Written::Raw(name.bytes())),
+            (Key::Port, Written::Number(u64::from(details.port))),
+            (Key::State, Written::Number(state_of(facts.kind))),
+            (Key::Vsn, Written::Raw(details.vsn)),
         ],
     )
 }
@@ -101,8 +110,13 @@ struct RecordDetails<'a> {
 
 impl<'a> RecordDetails<'a> {
     fn of(details: Option<&'a Details>) -> RecordDetails<'a>
-        ensures same { details_or_none (option_copied details.entry) ≡ record { addr = result.addr.now; port = result.port; meta = result.meta.now; vsn = result.vsn.now } }
-        ensures short { AreShort result.addr.now result.meta.now result.vsn.now }
+        ensures same { details_or_none (option_copied details.entry) ≡ record {
+          addr = result.addr.now;
+          port = result.port;
+          meta = result.meta.now;
+          vsn = result.vsn.now;
+        } }
+        ensures short { AreShortParts result.addr.now result.meta.now result.vsn.now }
         ensures legal { IfSome (option_copied details.entry) IsLegalDetails }
     {
         match details {
@@ -136,10 +150,10 @@ pub fn encode_packet(alloc: Global, packet: &Packet) -> Result<Vec<u8>, AllocErr
     Ok(out)
 }
 
-/// The canonical bytes of a compound packet: its type byte, the count of the packets, their lengths in
-/// two bytes each with the higher first, and the packets (memberlist's `makeCompoundMessage`). It is a
-/// condition that there are at most 255 of them. Each has fewer than 65,536 bytes, so that two tell its
-/// length.
+/// The canonical bytes of a compound packet: its type byte, the count of the packets, their lengths
+/// in two bytes each with the higher first, and the packets (memberlist's `makeCompoundMessage`).
+/// It is a condition that there are at most 255 of them. Each has fewer than 65,536 bytes, so that
+/// two tell its length.
 ///
 /// # Errors
 ///
@@ -194,12 +208,12 @@ fn write_alive<'a>(
         out,
         ALIVE_MESSAGE,
         &[
-            (Key::Addr, Value::Raw(details.addr())),
-            (Key::Incarnation, Value::Number(u64::from(inc))),
-            (Key::Meta, Value::Raw(details.meta())),
-            (Key::Node, Value::Raw(name.bytes())),
-            (Key::Port, Value::Number(u64::from(details.port()))),
-            (Key::Vsn, Value::Raw(details.vsn())),
+            (Key::Addr, Written::Raw(details.addr())),
+            (Key::Incarnation, Written::Number(u64::from(inc))),
+            (Key::Meta, Written::Raw(details.meta())),
+            (Key::Node, Written::Raw(name.bytes())),
+            (Key::Port, Written::Number(u64::from(details.port()))),
+            (Key::Vsn, Written::Raw(details.vsn())),
         ],
     )
 }
@@ -212,16 +226,17 @@ fn write_accusation<'a>(
     inc: u32,
     from: &'a [u8],
 ) -> Result<(), AllocError>
-    requires { length from.now ≤ 1024 }
-    ensures { OnOk result (out.new.items ≡ out.old.items ++ accusation_bytes message name.now inc from.now) }
+    requires { length from.now ≤ longest_name }
+    ensures { OnOk result
+        (out.new.items ≡ out.old.items ++ accusation_bytes message name.now inc from.now) }
 {
     write_message(
         out,
         message,
         &[
-            (Key::From, Value::Raw(from)),
-            (Key::Incarnation, Value::Number(u64::from(inc))),
-            (Key::Node, Value::Raw(name.bytes())),
+            (Key::From, Written::Raw(from)),
+            (Key::Incarnation, Written::Number(u64::from(inc))),
+            (Key::Node, Written::Raw(name.bytes())),
         ],
     )
 }

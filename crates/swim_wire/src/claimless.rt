@@ -1,7 +1,7 @@
 //! Messages that make no claim.
 
 ghost use Rattle.std.specs.Prelude.{◌≡◌, ◌≢◌, ◌≤◌, length, Some, IfOk, IfErr};
-ghost use Rattle.swim_wire.specs.Claimless.{ClaimlessText, IsReadUnlessMemory, kind_of, whole_map, whole_body, whole_claimless, claimless_layout};
+ghost use Rattle.swim_wire.specs.Claimless.{ClaimlessText, IsReadUnlessMemory, claimless_kind, whole_map, whole_body, whole_claimless, claimless_layout};
 ghost use Rattle.swim_wire.specs.Reading.{AnswersUnlessMemory};
 ghost use Rattle.swim_wire.specs.Slots.{layout_of};
 
@@ -30,14 +30,14 @@ pub enum Claimless {
 
 /// Which message that makes no claim the bytes are: its type byte, one map of its own keys, each of
 /// which may be absent, and nothing after it; a user message has any bytes in place of a map
-/// (memberlist's `net.go`). Names have at most 1,024 bytes and addresses 16. It takes no more memory
-/// than the message has bytes.
+/// (memberlist's `net.go`). Names have at most 1,024 bytes and addresses 16. It takes no more
+/// memory than the message has bytes.
 ///
 /// # Errors
 ///
 /// The first of these that holds: `Ended` where the bytes are none; `WrongType` where the first is
-/// none of 0, 1, 2, 8, 11 and 13; the faults of the map, as its count, its keys and values are read;
-/// `Trailing` where bytes follow. `Memory` comes where a growth was refused.
+/// none of 0, 1, 2, 8, 11 and 13; the faults of the map, as its count, its keys and values are
+/// read; `Trailing` where bytes follow. `Memory` comes where a growth was refused.
 pub fn decode_claimless(alloc: Global, bytes: &[u8]) -> Result<Claimless, WireFault>
     // The bytes are such a message.
     ensures reads { IfOk result (λ kind. ClaimlessText bytes.now kind) }
@@ -69,7 +69,7 @@ fn decode_whole_claimless(alloc: Global, bytes: &[u8]) -> Result<Claimless, Wire
 
 /// The kind of message that begins with this byte, as in memberlist's `net.go`.
 fn kind_of(first: u8) -> Option<Claimless>
-    ensures { result ≡ kind_of first }
+    ensures { result ≡ claimless_kind first }
 {
     match first {
         0 => Some(Claimless::Ping),

@@ -12,15 +12,15 @@ use crate::map::{Values, raw, read_map};
 use std::alloc::Global;
 use swim_pack::{Inlet, SliceInlet};
 
-/// The compressed bytes that the map of a compressed message carries (memberlist's `compress`): `Algo`, which
-/// is 0 for LZW, and `Buf`, the bytes. An absent `Algo` is 0 and an absent `Buf` is no bytes. It takes no more
-/// memory than the map has bytes, less than once for them all.
+/// The compressed bytes that the map of a compressed message carries (memberlist's `compress`):
+/// `Algo`, which is 0 for LZW, and `Buf`, the bytes. An absent `Algo` is 0 and an absent `Buf` is
+/// no bytes. It takes no more memory than the map has bytes, less than once for them all.
 ///
 /// # Errors
 ///
-/// The first of these that holds: the faults of the map, as its count, its keys and values are read, of which
-/// `OutOfRange` is an `Algo` above 0 and `TooLong` a `Buf` longer than all the bytes; `Trailing` where bytes
-/// follow. `Memory` comes where the growth for `Buf` was refused.
+/// The first of these that holds: the faults of the map, as its count, its keys and values are
+/// read, of which `OutOfRange` is an `Algo` above 0 and `TooLong` a `Buf` longer than all the
+/// bytes; `Trailing` where bytes follow. `Memory` comes where the growth for `Buf` was refused.
 pub fn decode_compression(alloc: Global, bytes: &[u8]) -> Result<Vec<u8>, WireFault>
     // The bytes are the map of these compressed bytes.
     ensures reads { IfOk result (λ packed. CompressionText bytes.now packed.items) }
@@ -29,7 +29,8 @@ pub fn decode_compression(alloc: Global, bytes: &[u8]) -> Result<Vec<u8>, WireFa
     ensures refuses { IfErr result (λ fault. fault ≢ WireFault.Memory
         → (packed : List ℕ) → ¬ CompressionText bytes.now packed) }
     // Which refusal it is.
-    ensures exact { ShowsUnlessMemory (λ packed. packed.items) (whole_compression bytes.now) result }
+    ensures exact { ShowsUnlessMemory (λ packed. packed.items)
+        (whole_compression bytes.now) result }
 {
     decode_whole_compression(alloc, bytes)
 }
@@ -52,7 +53,8 @@ fn read_compression<I: Inlet>(
     inlet: &mut I,
     limit: usize,
 ) -> Result<Vec<u8>, WireFault>
-    ensures { ReadsAs wire_cause (λ packed. packed.items) (compression_at limit) (I.seen inlet.old) (I.seen inlet.new) result }
+    ensures { ReadsAs wire_cause (λ packed. packed.items) (compression_at limit)
+        (I.seen inlet.old) (I.seen inlet.new) result }
 {
     let layout = [
         Field {

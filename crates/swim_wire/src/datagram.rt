@@ -10,8 +10,8 @@ ghost use Rattle.swim_wire.specs.Texts.{DatagramText};
 ghost use Rattle.swim_wire.specs.Parts.{lengths_in, ListsUnlessMemory, GrowsBy};
 
 use crate::WireFault;
-use crate::message::COMPOUND_MESSAGE;
-use crate::packet::{Packet, decode_whole};
+use crate::message::{ALIVE_MESSAGE, COMPOUND_MESSAGE, DEAD_MESSAGE, SUSPECT_MESSAGE};
+use crate::packet::{Packet, decode_whole_packet};
 use std::alloc::{AllocError, Global};
 
 /// What a datagram carries: a packet by itself, or the packets of a compound packet.
@@ -38,13 +38,15 @@ impl Datagram {
         // Refused for another cause than memory they are no datagram, and the refusal says why.
         ensures refuses { IfErr result (λ fault. fault ≢ WireFault.Memory
             → (packets : List PacketValue) → ¬ DatagramText bytes.now packets) }
-        ensures explains { IfErr result (λ fault. fault ≢ WireFault.Memory → ExplainsDatagram fault bytes.now) }
+        ensures explains { IfErr result (λ fault. fault ≢ WireFault.Memory
+            → ExplainsDatagram fault bytes.now) }
 
         // It is the one at which the reading stops. A slice never fails.
-        ensures exact { IfErr result (λ fault. fault ≢ WireFault.Memory → whole_datagram bytes.now ≡ Err fault) }
+        ensures exact { IfErr result (λ fault. fault ≢ WireFault.Memory
+            → whole_datagram bytes.now ≡ Err fault) }
         ensures no_fault { ¬ IsErrOf result WireFault.Fault }
     {
-        decode_either(alloc, bytes)
+        decode_any_datagram(alloc, bytes)
     }
 
     /// The packets as a list.
@@ -74,34 +76,38 @@ impl Datagram {
 /// # Errors
 ///
 /// The first of these that holds: `Ended` where the bytes are none; `WrongType` where the first is
-/// none of 3, 4, 5 and 7; for one packet what `decode_packet` says; in a compound packet `Ended` where
-/// its count or one of its lengths is cut; then, part by part, `Ended` where the part is cut and what
-/// `decode_packet` says of it; `Trailing` where bytes follow. `Memory` comes where a growth was
-/// refused: of one packet, or of at most the limit of a value. A refusal answers no packet.
+/// none of 3, 4, 5 and 7; for one packet what `decode_packet` says; in a compound packet `Ended`
+/// where its count or one of its lengths is cut; then, part by part, `Ended` where the part is cut
+/// and what `decode_packet` says of it; `Trailing` where bytes follow. `Memory` comes where a
+/// growth was refused: of one packet, or of at most the limit of a value. A refusal answers no
+/// packet.
 pub fn decode_datagram(alloc: Global, bytes: &[u8]) -> Result<Vec<Packet>, WireFault>
     // The bytes are a datagram of the packets.
     ensures reads { IfOk result (λ packets. DatagramText bytes.now packets.items) }
 
     // Refused for another cause than memory they are no datagram, and the refusal says why.
-    ensures refuses { IfErr result (λ fault. fault ≢ WireFault.Memory → (packets : List PacketValue) → ¬ DatagramText bytes.now packets) }
-    ensures explains { IfErr result (λ fault. fault ≢ WireFault.Memory → ExplainsDatagram fault bytes.now) }
+    ensures refuses { IfErr result (λ fault. fault ≢ WireFault.Memory
+        → (packets : List PacketValue) → ¬ DatagramText bytes.now packets) }
+    ensures explains { IfErr result (λ fault. fault ≢ WireFault.Memory
+        → ExplainsDatagram fault bytes.now) }
 
     // It is the one at which the reading stops. A slice never fails.
-    ensures exact { IfErr result (λ fault. fault ≢ WireFault.Memory → whole_datagram bytes.now ≡ Err fault) }
+    ensures exact { IfErr result (λ fault. fault ≢ WireFault.Memory
+        → whole_datagram bytes.now ≡ Err fault) }
     ensures no_fault { ¬ IsErrOf result WireFault.Fault }
 {
-    decode_all(alloc, bytes)
+    decode_whole_datagram(alloc, bytes)
 }
 
-fn decode_all(alloc: Global, bytes: &[u8]) -> Result<Vec<Packet>, WireFault>
+fn decode_whole_datagram(alloc: Global, bytes: &[u8]) -> Result<Vec<Packet>, WireFault>
     ensures lists { ListsUnlessMemory (λ packets. packets.items) (whole_datagram bytes.now) result }
     ensures no_fault { ¬ IsErrOf result WireFault.Fault }
 {
-    let packets = decode_either(alloc, bytes)?.into_packets(alloc)?;
+    let packets = decode_any_datagram(alloc, bytes)?.into_packets(alloc)?;
     Ok(packets)
 }
 
-fn decode_either(alloc: Global, bytes: &[u8]) -> Result<Datagram, WireFault>
+fn decode_any_datagram(alloc: Global, bytes: &[u8]) -> Result<Datagram, WireFault>
     ensures lists { ListsUnlessMemory packets_in (whole_datagram bytes.now) result }
     ensures no_fault { ¬ IsErrOf result WireFault.Fault }
     ensures compound { IfOk result (λ datagram. IsCompound datagram ↔ BeginsWith 7 bytes.now) }
@@ -121,13 +127,14 @@ fn decode_alone(alloc: Global, bytes: &[u8]) -> Result<Datagram, WireFault>
     ensures no_fault { ¬ IsErrOf result WireFault.Fault }
     ensures alone { IfOk result (λ datagram. ¬ IsCompound datagram) }
 {
-    let packet = decode_whole(alloc, bytes)?;
+    let packet = decode_whole_packet(alloc, bytes)?;
     Ok(Datagram::Packet(packet))
 }
 
 /// What follows the type byte of a compound packet.
 fn decode_compound(alloc: Global, body: &[u8]) -> Result<Vec<Packet>, WireFault>
-    ensures lists { ListsUnlessMemory (λ packets. packets.items) (nothing_after (compound_at body.now)) result }
+    ensures lists { ListsUnlessMemory (λ packets. packets.items)
+        (nothing_after (compound_at body.now)) result }
     ensures no_fault { ¬ IsErrOf result WireFault.Fault }
 {
     let Some((count, rest)) = body.split_first() else {
@@ -142,7 +149,8 @@ fn decode_compound(alloc: Global, body: &[u8]) -> Result<Vec<Packet>, WireFault>
 
 /// Parts of these lengths, each of two bytes.
 fn decode_parts(alloc: Global, lengths: &[u8], parts: &[u8]) -> Result<Vec<Packet>, WireFault>
-    ensures lists { ListsUnlessMemory (λ packets. packets.items) (nothing_after (parts_at (lengths_in lengths.now) [] parts.now)) result }
+    ensures lists { ListsUnlessMemory (λ packets. packets.items)
+        (nothing_after (parts_at (lengths_in lengths.now) [] parts.now)) result }
     ensures no_fault { ¬ IsErrOf result WireFault.Fault }
 {
     let mut packets = Vec::new(alloc);
@@ -169,8 +177,8 @@ fn take_part(alloc: Global, part: &[u8], packets: &mut Vec<Packet>) -> Result<()
     ensures grows { GrowsBy (packets_of part.now) packets.old.items packets.new.items result }
     ensures no_fault { ¬ IsErrOf result WireFault.Fault }
 {
-    if let Some(3..=5) = part.first() {
-        let packet = decode_whole(alloc, part)?;
+    if let Some(&SUSPECT_MESSAGE | &ALIVE_MESSAGE | &DEAD_MESSAGE) = part.first() {
+        let packet = decode_whole_packet(alloc, part)?;
         packets.push(packet).map_err(AllocError::from)?;
     }
     Ok(())

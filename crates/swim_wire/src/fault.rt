@@ -2,7 +2,7 @@
 
 ghost use Rattle.std.specs.Prelude.{◌≡◌};
 ghost use Rattle.swim_wire.specs.declared.fault.WireFault.TheVariants.{Memory};
-ghost use Rattle.swim_wire.specs.Fault.{number_of, fault_of_pack, fault_of_pull, fault_of_claim};
+ghost use Rattle.swim_wire.specs.Fault.{wire_number, fault_of_pack, fault_of_pull, fault_of_claim};
 
 use std::alloc::AllocError;
 use swim_claim::ClaimFault;
@@ -77,7 +77,7 @@ pub enum WireFault {
 impl WireFault {
     /// The number by which reports name the fault.
     pub fn number(&self) -> u32
-        ensures { result ≡ number_of self.now }
+        ensures { result ≡ wire_number self.now }
     {
         match self {
             WireFault::Ended => 1,

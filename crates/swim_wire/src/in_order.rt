@@ -5,14 +5,17 @@
 //! is left to be read as `map` reads it, which also tells its first fault.
 
 ghost use Rattle.std.specs.Prelude.{◌≡◌, ◌≤◌, ◌++◌, ◌∷◌, [], List, ℕ, length, IfSome, IfOk, IsNone, Ok};
+ghost use Rattle.swim_claim.specs.Limits.{longest_name};
 ghost use Rattle.swim_pack.specs.Composing.{ReadsAs, same};
 ghost use Rattle.swim_wire.specs.declared.layout.Limit.TheVariants as limits;
 ghost use Rattle.swim_wire.specs.InOrder.{state_slots, alive_slots, accusation_slots, header_slots};
 ghost use Rattle.swim_wire.specs.Layout.{alive_layout, state_layout, accusation_layout, header_layout};
 ghost use Rattle.swim_wire.specs.Layout.Spelled.{number, raw, flag};
+ghost use Rattle.swim_wire.specs.Limits.{most_nodes, most_user_state};
 ghost use Rattle.swim_wire.specs.Reading.{wire_cause, value_at, map_at, state_of, state_at, alive_at, suspect_of, suspect_at, dead_of, dead_at, header_at, whole_packet};
 
 use crate::WireFault;
+use crate::layout::{ADDRESS, META, NAME, VERSIONS};
 use crate::message::{ALIVE_MESSAGE, DEAD_MESSAGE, SUSPECT_MESSAGE};
 use crate::packet::Packet;
 use crate::stream::{Header, MOST_NODES, MOST_USER_STATE};
@@ -106,13 +109,13 @@ fn state_in_order(bytes: &[u8]) -> Option<BorrowedState>
         )) }
     ensures shorter { IfSome result (λ found. length found.rest.now ≤ length bytes.now) }
 {
-    let (addr, bytes) = raw_behind(bytes, b"\x87\xa4Addr", 16)?;
+    let (addr, bytes) = raw_behind(bytes, b"\x87\xa4Addr", ADDRESS)?;
     let (incarnation, bytes) = number_behind(bytes, b"\xabIncarnation", u32::MAX as u64)?;
-    let (meta, bytes) = raw_behind(bytes, b"\xa4Meta", 512)?;
-    let (name, bytes) = raw_behind(bytes, b"\xa4Name", 1024)?;
+    let (meta, bytes) = raw_behind(bytes, b"\xa4Meta", META)?;
+    let (name, bytes) = raw_behind(bytes, b"\xa4Name", NAME)?;
     let (port, bytes) = number_behind(bytes, b"\xa4Port", u16::MAX as u64)?;
     let (state, bytes) = number_behind(bytes, b"\xa5State", u64::MAX)?;
-    let (vsn, rest) = raw_behind(bytes, b"\xa3Vsn", 6)?;
+    let (vsn, rest) = raw_behind(bytes, b"\xa3Vsn", VERSIONS)?;
     Some(BorrowedState {
         addr,
         incarnation: incarnation as u32,
@@ -136,12 +139,12 @@ fn alive_in_order(bytes: &[u8]) -> Option<BorrowedState>
         )) }
     ensures state { IfSome result (λ found. found.state ≡ 0) }
 {
-    let (addr, bytes) = raw_behind(bytes, b"\x86\xa4Addr", 16)?;
+    let (addr, bytes) = raw_behind(bytes, b"\x86\xa4Addr", ADDRESS)?;
     let (incarnation, bytes) = number_behind(bytes, b"\xabIncarnation", u32::MAX as u64)?;
-    let (meta, bytes) = raw_behind(bytes, b"\xa4Meta", 512)?;
-    let (name, bytes) = raw_behind(bytes, b"\xa4Node", 1024)?;
+    let (meta, bytes) = raw_behind(bytes, b"\xa4Meta", META)?;
+    let (name, bytes) = raw_behind(bytes, b"\xa4Node", NAME)?;
     let (port, bytes) = number_behind(bytes, b"\xa4Port", u16::MAX as u64)?;
-    let (vsn, rest) = raw_behind(bytes, b"\xa3Vsn", 6)?;
+    let (vsn, rest) = raw_behind(bytes, b"\xa3Vsn", VERSIONS)?;
     Some(BorrowedState {
         addr,
         incarnation: incarnation as u32,
@@ -158,11 +161,11 @@ fn alive_in_order(bytes: &[u8]) -> Option<BorrowedState>
 fn accusation_in_order(bytes: &[u8]) -> Option<BorrowedAccusation>
     ensures reads { IfSome result (λ found. map_at accusation_layout bytes.now
         ≡ Ok (accusation_slots found.from.now found.incarnation found.node.now, found.rest.now)) }
-    ensures short { IfSome result (λ found. length found.from.now ≤ 1024) }
+    ensures short { IfSome result (λ found. length found.from.now ≤ longest_name) }
 {
-    let (from, bytes) = raw_behind(bytes, b"\x83\xa4From", 1024)?;
+    let (from, bytes) = raw_behind(bytes, b"\x83\xa4From", NAME)?;
     let (incarnation, bytes) = number_behind(bytes, b"\xabIncarnation", u32::MAX as u64)?;
-    let (node, rest) = raw_behind(bytes, b"\xa4Node", 1024)?;
+    let (node, rest) = raw_behind(bytes, b"\xa4Node", NAME)?;
     Some(BorrowedAccusation {
         from,
         incarnation: incarnation as u32,
@@ -173,7 +176,8 @@ fn accusation_in_order(bytes: &[u8]) -> Option<BorrowedAccusation>
 
 /// The header of a stream of all its keys at the front of the bytes, type byte included.
 fn header_in_order(bytes: &[u8]) -> Option<BorrowedHeader>
-    ensures reads { IfSome result (λ found. (body : List ℕ) × (bytes.now ≡ 6 ∷ body) × (map_at header_layout body
+    ensures reads { IfSome result (λ found. (body : List ℕ) × (bytes.now ≡ 6 ∷ body)
+        × (map_at header_layout body
         ≡ Ok (header_slots found.join found.nodes found.user_state_len, found.rest.now))) }
     ensures shorter { IfSome result (λ found. length found.rest.now ≤ length bytes.now) }
 {
@@ -218,7 +222,7 @@ fn packet_of_suspect(
     alloc: Global,
     suspect: BorrowedAccusation,
 ) -> Result<Option<Packet>, AllocError>
-    requires { length suspect.from.now ≤ 1024 }
+    requires { length suspect.from.now ≤ longest_name }
     ensures { IfOk result (λ made. IfSome made (λ packet.
         suspect_of (accusation_slots suspect.entry.from.now suspect.entry.incarnation
         suspect.entry.node.now) ≡ Ok packet)) }
@@ -233,9 +237,10 @@ fn packet_of_suspect(
 
 /// The packet of a dead message, or none where its name is empty.
 fn packet_of_dead(alloc: Global, dead: BorrowedAccusation) -> Result<Option<Packet>, AllocError>
-    requires { length dead.from.now ≤ 1024 }
+    requires { length dead.from.now ≤ longest_name }
     ensures { IfOk result (λ made. IfSome made (λ packet.
-        dead_of (accusation_slots dead.entry.from.now dead.entry.incarnation dead.entry.node.now) ≡ Ok packet)) }
+        dead_of (accusation_slots dead.entry.from.now dead.entry.incarnation dead.entry.node.now)
+        ≡ Ok packet)) }
 {
     let Ok(name) = Name::copied(alloc, dead.node)? else {
         return Ok(None);
@@ -296,8 +301,8 @@ pub(crate) fn packet_in_order(alloc: Global, bytes: &[u8]) -> Result<Option<Pack
     }
 }
 
-/// Reads a state record that is at hand whole, with all its keys in alphabetical order. Another one,
-/// and one that is refused for another cause than memory, is left to be read.
+/// Reads a state record that is at hand whole, with all its keys in alphabetical order. Another
+/// one, and one that is refused for another cause than memory, is left to be read.
 pub(crate) fn read_state_in_order<I: Inlet>(
     alloc: Global,
     inlet: &mut I,
@@ -325,7 +330,8 @@ pub(crate) fn read_state_in_order<I: Inlet>(
 pub(crate) fn read_header_in_order<I: Inlet>(inlet: &mut I) -> Option<Header>
     ensures read { IfSome result (λ header.
         ReadsAs wire_cause same header_at (I.seen inlet.old) (I.seen inlet.new) (Ok header)) }
-    ensures within { IfSome result (λ header. (header.nodes ≤ 131072) × (header.user_len ≤ 20971520)) }
+    ensures within { IfSome result (λ header. (header.nodes ≤ most_nodes)
+        × (header.user_len ≤ most_user_state)) }
     ensures left { IsNone result → I.seen inlet.new ≡ I.seen inlet.old }
 {
     let hand = inlet.at_hand();

@@ -49,16 +49,16 @@ pub(crate) struct Field {
 }
 
 /// The longest address in bytes, that of IPv6.
-const ADDRESS: usize = 16;
+pub(crate) const ADDRESS: usize = 16;
 
 /// The longest metadata in bytes, as in memberlist.
-const META: usize = 512;
+pub(crate) const META: usize = 512;
 
 /// The longest name of a member in bytes.
-const NAME: usize = 1024;
+pub(crate) const NAME: usize = 1024;
 
 /// The versions of memberlist's protocol and of its user's, three bytes each.
-const VERSIONS: usize = 6;
+pub(crate) const VERSIONS: usize = 6;
 
 /// memberlist's `alive`.
 pub(crate) const ALIVE: [Field; 6] = [

@@ -1,4 +1,19 @@
 //! The messages of memberlist, as bytes and as claims: packets, and the parts of push/pull streams.
+//!
+//! | module | subject |
+//! |---|---|
+//! | `packet`, `datagram` | packets of one claim; one packet, or a compound packet of several |
+//! | `stream`, `user_state` | the header and the records of a stream; the user state at its end |
+//! | `claimless` | messages that make no claim |
+//! | `compression` | the map of a compressed message |
+//! | `layout` | the keys of each map, what stands behind them, and their limits |
+//! | `map` | maps of a layout, read key by key |
+//! | `in_order` | messages that are at hand whole, each key once in alphabetical order |
+//! | `message` | what the maps say, before it is checked as a whole |
+//! | `canonical` | messages in their canonical bytes |
+//! | `fault` | why a message was refused |
+//! | `laws` | what holds of messages, apart from any code |
+//! | `stream_law`, `canonical_law` | the same, of streams and of canonical bytes |
 #![tactic(auto)]
 
 mod canonical;

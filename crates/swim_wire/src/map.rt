@@ -38,7 +38,8 @@ pub(crate) fn read_map<I: Inlet>(
 ) -> Result<Values, WireFault>
     requires few { length layout.now ≤ 8 }
     requires memory { CanReadEach alloc layout.now }
-    ensures exact { ReadsAs wire_cause slots_of (map_at (layout_of layout.now)) (I.seen inlet.old) (I.seen inlet.new) result }
+    ensures exact { ReadsAs wire_cause slots_of (map_at (layout_of layout.now))
+        (I.seen inlet.old) (I.seen inlet.new) result }
     ensures within { IfOk result (FitsEach layout.now) }
     ensures no_memory { IsNone alloc → ¬ IsErrOf result WireFault.Memory }
 {
@@ -59,7 +60,9 @@ fn read_pair<I: Inlet>(
     requires few { length layout.now ≤ 8 }
     requires memory { CanReadEach alloc layout.now }
     requires within { FitsEach layout.now values.old }
-    ensures exact { ReadsAs wire_cause (λ _. slots_of values.new) (pair_at (layout_of layout.now) (slots_of values.old)) (I.seen inlet.old) (I.seen inlet.new) result }
+    ensures exact { ReadsAs wire_cause (λ _. slots_of values.new)
+        (pair_at (layout_of layout.now) (slots_of values.old))
+        (I.seen inlet.old) (I.seen inlet.new) result }
     ensures within { FitsEach layout.now values.new }
     ensures no_memory { IsNone alloc → ¬ IsErrOf result WireFault.Memory }
 {
@@ -73,7 +76,8 @@ fn read_pair<I: Inlet>(
 
 /// Reads a key, and answers its place in the layout.
 fn read_place<I: Inlet>(inlet: &mut I, layout: &[Field]) -> Result<usize, WireFault>
-    ensures exact { ReadsAs wire_cause same (key_at (layout_of layout.now)) (I.seen inlet.old) (I.seen inlet.new) result }
+    ensures exact { ReadsAs wire_cause same (key_at (layout_of layout.now))
+        (I.seen inlet.old) (I.seen inlet.new) result }
     ensures within { IfOk result (λ place. place < length layout.now) }
     ensures no_memory { ¬ IsErrOf result WireFault.Memory }
 {
@@ -84,7 +88,8 @@ fn read_place<I: Inlet>(inlet: &mut I, layout: &[Field]) -> Result<usize, WireFa
 
 /// Reads the text of a key. One that is too long is no key of a layout.
 fn read_key_text<I: Inlet>(inlet: &mut I, text: &mut [u8; 12]) -> Result<usize, WireFault>
-    ensures exact { ReadsAs wire_cause (λ len. take len text.new) (lift fault_of_key (raw_at 12)) (I.seen inlet.old) (I.seen inlet.new) result }
+    ensures exact { ReadsAs wire_cause (λ len. take len text.new) (lift fault_of_key (raw_at 12))
+        (I.seen inlet.old) (I.seen inlet.new) result }
     ensures fits { IfOk result (λ len. len ≤ 12) }
     ensures no_memory { ¬ IsErrOf result WireFault.Memory }
 {
@@ -118,7 +123,8 @@ fn read_value<I: Inlet>(
     limit: Limit,
 ) -> Result<Value, WireFault>
     requires { CanRead alloc limit }
-    ensures exact { ReadsAs wire_cause spelled (value_at limit) (I.seen inlet.old) (I.seen inlet.new) result }
+    ensures exact { ReadsAs wire_cause spelled (value_at limit)
+        (I.seen inlet.old) (I.seen inlet.new) result }
     ensures within { IfOk result (Fits limit) }
     ensures no_memory { IsNone alloc → ¬ IsErrOf result WireFault.Memory }
 {

@@ -1,6 +1,7 @@
 //! What the maps of messages say, with memberlist's names, before it is checked as a whole.
 
 ghost use Rattle.std.specs.Prelude.{◌≤◌, length};
+ghost use Rattle.swim_claim.specs.Limits.{longest_meta, longest_name};
 ghost use Rattle.swim_wire.specs.Message.{SaysAlive, SaysAccusation, SaysHeader, SaysState};
 ghost use Rattle.swim_wire.specs.Slots.{FitsEach, slots_of};
 
@@ -66,8 +67,8 @@ impl Alive {
     pub(crate) fn new(alloc: Global, values: Values) -> Alive
         requires { FitsEach ALIVE values }
         ensures says { SaysAlive (slots_of values) result }
-        ensures short_node { length result.node.items ≤ 1024 }
-        ensures short_meta { length result.meta.items ≤ 512 }
+        ensures short_node { length result.node.items ≤ longest_name }
+        ensures short_meta { length result.meta.items ≤ longest_meta }
     {
         let [addr, incarnation, meta, node, port, vsn, ..] = values;
         Alive {
@@ -85,8 +86,8 @@ impl Accusation {
     pub(crate) fn new(alloc: Global, values: Values) -> Accusation
         requires { FitsEach ACCUSATION values }
         ensures says { SaysAccusation (slots_of values) result }
-        ensures short_from { length result.from.items ≤ 1024 }
-        ensures short_node { length result.node.items ≤ 1024 }
+        ensures short_from { length result.from.items ≤ longest_name }
+        ensures short_node { length result.node.items ≤ longest_name }
     {
         let [from, incarnation, node, ..] = values;
         Accusation {
@@ -115,8 +116,8 @@ impl PushNodeState {
     pub(crate) fn new(alloc: Global, values: Values) -> PushNodeState
         requires { FitsEach STATE values }
         ensures says { SaysState (slots_of values) result }
-        ensures short_name { length result.name.items ≤ 1024 }
-        ensures short_meta { length result.meta.items ≤ 512 }
+        ensures short_name { length result.name.items ≤ longest_name }
+        ensures short_meta { length result.meta.items ≤ longest_meta }
     {
         let [addr, incarnation, meta, name, port, state, vsn, _] = values;
         PushNodeState {

@@ -74,35 +74,38 @@ impl Packet {
 ///
 /// The first of these that holds: `Ended` where the bytes are none; `WrongType` where the first is
 /// none of 3, 4 and 5; the faults of the map, as its count, its keys and values are read; of the
-/// whole, `NameEmpty`, then `BadAddress` and `BadVersions` in an alive packet; `Trailing` where bytes
-/// follow. `Memory` comes where a growth was refused, of at most the limit of a value.
+/// whole, `NameEmpty`, then `BadAddress` and `BadVersions` in an alive packet; `Trailing` where
+/// bytes follow. `Memory` comes where a growth was refused, of at most the limit of a value.
 pub fn decode_packet(alloc: Global, bytes: &[u8]) -> Result<Packet, WireFault>
     // The bytes are the packet.
     ensures reads { IfOk result (λ packet. PacketText bytes.now packet) }
 
     // Refused for another cause than memory they are no packet, and the refusal says why.
-    ensures refuses { IfErr result (λ fault. fault ≢ WireFault.Memory → (p : PacketValue) → ¬ PacketText bytes.now p) }
-    ensures explains { IfErr result (λ fault. fault ≢ WireFault.Memory → ExplainsWhole fault bytes.now) }
+    ensures refuses { IfErr result (λ fault. fault ≢ WireFault.Memory
+        → (p : PacketValue) → ¬ PacketText bytes.now p) }
+    ensures explains { IfErr result (λ fault. fault ≢ WireFault.Memory
+        → ExplainsWhole fault bytes.now) }
 
     // It is the one at which the reading stops. A slice never fails.
-    ensures exact { IfErr result (λ fault. fault ≢ WireFault.Memory → whole_packet bytes.now ≡ Err fault) }
+    ensures exact { IfErr result (λ fault. fault ≢ WireFault.Memory
+        → whole_packet bytes.now ≡ Err fault) }
     ensures no_fault { ¬ IsErrOf result WireFault.Fault }
 {
-    decode_whole(alloc, bytes)
+    decode_whole_packet(alloc, bytes)
 }
 
-pub(crate) fn decode_whole(alloc: Global, bytes: &[u8]) -> Result<Packet, WireFault>
+pub(crate) fn decode_whole_packet(alloc: Global, bytes: &[u8]) -> Result<Packet, WireFault>
     ensures answers { AnswersUnlessMemory (whole_packet bytes.now) result }
     ensures no_fault { ¬ IsErrOf result WireFault.Fault }
 {
     match packet_in_order(alloc, bytes)? {
         Some(packet) => Ok(packet),
-        None => decode_any(alloc, bytes),
+        None => decode_any_packet(alloc, bytes),
     }
 }
 
 /// The packet, however its map is written.
-pub(crate) fn decode_any(alloc: Global, bytes: &[u8]) -> Result<Packet, WireFault>
+pub(crate) fn decode_any_packet(alloc: Global, bytes: &[u8]) -> Result<Packet, WireFault>
     ensures answers { AnswersUnlessMemory (whole_packet bytes.now) result }
     ensures no_fault { ¬ IsErrOf result WireFault.Fault }
 {
@@ -130,7 +133,8 @@ fn read_packet<I: Inlet>(alloc: Global, inlet: &mut I) -> Result<Packet, WireFau
 /// Reads the type byte of a message.
 pub(crate) fn read_type<I: Inlet>(inlet: &mut I) -> Result<u8, WireFault>
     ensures no_memory { ¬ IsErrOf result WireFault.Memory }
-    ensures exact { ReadsAs wire_cause same (lift fault_of_pack next_byte) (I.seen inlet.old) (I.seen inlet.new) result }
+    ensures exact { ReadsAs wire_cause same (lift fault_of_pack next_byte)
+        (I.seen inlet.old) (I.seen inlet.new) result }
 {
     let mut first = [0];
     inlet.pull(&mut first)?;

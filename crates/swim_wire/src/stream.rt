@@ -7,6 +7,7 @@ ghost use Rattle.swim_pack.specs.Composing.{ReadsAs, UnlessFailed, same, refuses
 ghost use Rattle.swim_wire.specs.declared.stream.Header.{Header};
 ghost use Rattle.swim_wire.specs.Checks.{ExplainsHeader, ExplainsState, ExplainsStart};
 ghost use Rattle.swim_wire.specs.Layout.{header_layout};
+ghost use Rattle.swim_wire.specs.Limits.{most_nodes, most_user_state};
 ghost use Rattle.swim_wire.specs.Reading.{wire_cause, map_at, header_at, state_at};
 ghost use Rattle.swim_wire.specs.Slots.{FitsEach, slots_of};
 ghost use Rattle.swim_wire.specs.Texts.{HeaderText, StateText};
@@ -38,25 +39,30 @@ pub struct Header {
     pub join: bool,
 }
 
-/// Reads the header of a push/pull stream: its type byte and its map (memberlist's `net.go`). It takes
-/// no memory.
+/// Reads the header of a push/pull stream: its type byte and its map (memberlist's `net.go`). It
+/// takes no memory.
 ///
 /// # Errors
 ///
-/// The first of these that holds: `WrongType` where the first byte is not 6; the faults of the map, as
-/// its count, its keys and values are read; of the whole, `TooManyNodes` above 131,072 and then
+/// The first of these that holds: `WrongType` where the first byte is not 6; the faults of the map,
+/// as its count, its keys and values are read; of the whole, `TooManyNodes` above 131,072 and then
 /// `UserTooLong` above 20,971,520 (own). What is left are bytes from the end of those before.
 pub fn read_header<I: Inlet>(inlet: &mut I) -> Result<Header, WireFault>
     // The bytes taken are the header.
-    ensures takes { IfOk result (λ header. Takes (I.seen inlet.old) (I.seen inlet.new) (λ b. HeaderText b header)) }
-    // Refused for another cause than a failing end no header stands at the front, and the refusal says why.
-    ensures lacks { IfErr result (λ fault. UnlessFailed (wire_cause fault) (Lacks (I.seen inlet.old) (λ b. (header : Header) × HeaderText b header))) }
-    ensures explains { IfErr result (λ fault. ExplainsStart (ExplainsHeader fault) (I.seen inlet.old)) }
+    ensures takes { IfOk result (λ header.
+        Takes (I.seen inlet.old) (I.seen inlet.new) (λ b. HeaderText b header)) }
+    // Refused for another cause than a failing end no header stands at the front, and the refusal
+    // says why.
+    ensures lacks { IfErr result (λ fault. UnlessFailed (wire_cause fault)
+        (Lacks (I.seen inlet.old) (λ b. (header : Header) × HeaderText b header))) }
+    ensures explains { IfErr result (λ fault.
+        ExplainsStart (ExplainsHeader fault) (I.seen inlet.old)) }
     ensures no_memory { ¬ IsErrOf result WireFault.Memory }
     // What was read, what is left, and that a fault of the end was counted.
     ensures exact { ReadsAs wire_cause same header_at (I.seen inlet.old) (I.seen inlet.new) result }
     // Also where the inlet tells no bytes.
-    ensures within { IfOk result (λ header. (header.nodes ≤ 131072) × (header.user_len ≤ 20971520)) }
+    ensures within { IfOk result (λ header. (header.nodes ≤ most_nodes)
+        × (header.user_len ≤ most_user_state)) }
 {
     read_whole_header(inlet)
 }
@@ -64,7 +70,8 @@ pub fn read_header<I: Inlet>(inlet: &mut I) -> Result<Header, WireFault>
 fn read_whole_header<I: Inlet>(inlet: &mut I) -> Result<Header, WireFault>
     ensures exact { ReadsAs wire_cause same header_at (I.seen inlet.old) (I.seen inlet.new) result }
     ensures no_memory { ¬ IsErrOf result WireFault.Memory }
-    ensures within { IfOk result (λ header. (header.nodes ≤ 131072) × (header.user_len ≤ 20971520)) }
+    ensures within { IfOk result (λ header. (header.nodes ≤ most_nodes)
+        × (header.user_len ≤ most_user_state)) }
 {
     match read_header_in_order(inlet) {
         Some(header) => Ok(header),
@@ -76,7 +83,8 @@ fn read_whole_header<I: Inlet>(inlet: &mut I) -> Result<Header, WireFault>
 fn read_any_header<I: Inlet>(inlet: &mut I) -> Result<Header, WireFault>
     ensures exact { ReadsAs wire_cause same header_at (I.seen inlet.old) (I.seen inlet.new) result }
     ensures no_memory { ¬ IsErrOf result WireFault.Memory }
-    ensures within { IfOk result (λ header. (header.nodes ≤ 131072) × (header.user_len ≤ 20971520)) }
+    ensures within { IfOk result (λ header. (header.nodes ≤ most_nodes)
+        × (header.user_len ≤ most_user_state)) }
 {
     let found = read_type(inlet)?;
     let header = PushPullHeader::new(read_header_map(inlet, found)?);
@@ -95,7 +103,9 @@ fn read_any_header<I: Inlet>(inlet: &mut I) -> Result<Header, WireFault>
 
 /// Reads the map behind a type byte, which has to be that of a stream.
 fn read_header_map<I: Inlet>(inlet: &mut I, found: u8) -> Result<Values, WireFault>
-    ensures exact { ReadsAs wire_cause slots_of (if found == 6 then map_at header_layout else refuses (WireFault.WrongType found)) (I.seen inlet.old) (I.seen inlet.new) result }
+    ensures exact { ReadsAs wire_cause slots_of
+        (if found == 6 then map_at header_layout else refuses (WireFault.WrongType found))
+        (I.seen inlet.old) (I.seen inlet.new) result }
     ensures no_memory { ¬ IsErrOf result WireFault.Memory }
     ensures within { IfOk result (FitsEach HEADER) }
 {
@@ -106,21 +116,26 @@ fn read_header_map<I: Inlet>(inlet: &mut I, found: u8) -> Result<Values, WireFau
     }
 }
 
-/// Reads one state record of a push/pull stream (memberlist's `pushNodeState`): state 0 is an Alive, 1 a
-/// Suspect, 2 a Confirm and 3 a Leave. Of the last three only the name and the incarnation are kept.
+/// Reads one state record of a push/pull stream (memberlist's `pushNodeState`): state 0 is an
+/// Alive, 1 a Suspect, 2 a Confirm and 3 a Leave. Of the last three only the name and the
+/// incarnation are kept.
 ///
 /// # Errors
 ///
-/// The first of these that holds: the faults of the map, as its count, its keys and values are read; of
-/// the whole, `NameEmpty`; `BadState` above 3; for state 0 `BadAddress` and then `BadVersions`. `Memory`
-/// comes where a growth was refused, of at most the limit of a value. What is left are bytes from the
-/// end of those before.
+/// The first of these that holds: the faults of the map, as its count, its keys and values are
+/// read; of the whole, `NameEmpty`; `BadState` above 3; for state 0 `BadAddress` and then
+/// `BadVersions`. `Memory` comes where a growth was refused, of at most the limit of a value. What
+/// is left are bytes from the end of those before.
 pub fn read_state<I: Inlet>(alloc: Global, inlet: &mut I) -> Result<Claim, WireFault>
     // The bytes taken are the record.
-    ensures takes { IfOk result (λ claim. Takes (I.seen inlet.old) (I.seen inlet.new) (λ b. StateText b claim)) }
-    // Refused for another cause than a failing end or memory no record stands at the front, and the refusal says why.
-    ensures lacks { IfErr result (λ fault. UnlessFailed (wire_cause fault) (Lacks (I.seen inlet.old) (λ b. (claim : Claim) × StateText b claim))) }
-    ensures explains { IfErr result (λ fault. ExplainsStart (ExplainsState fault) (I.seen inlet.old)) }
+    ensures takes { IfOk result (λ claim.
+        Takes (I.seen inlet.old) (I.seen inlet.new) (λ b. StateText b claim)) }
+    // Refused for another cause than a failing end or memory no record stands at the front, and the
+    // refusal says why.
+    ensures lacks { IfErr result (λ fault. UnlessFailed (wire_cause fault)
+        (Lacks (I.seen inlet.old) (λ b. (claim : Claim) × StateText b claim))) }
+    ensures explains { IfErr result (λ fault.
+        ExplainsStart (ExplainsState fault) (I.seen inlet.old)) }
     // What was read, what is left, and that a fault of the end was counted.
     ensures exact { ReadsAs wire_cause same state_at (I.seen inlet.old) (I.seen inlet.new) result }
 {

@@ -6,6 +6,7 @@ ghost use Rattle.swim_wire.specs.Streams.{StreamText};
 
 /// No push/pull stream begins another one, and each has one list of claims and one join flag.
 pub fn one_stream()
-    ensures { (a b x y : List ℕ) (claims others : List Claim) (join flag : Bool) → StreamText a claims join
-        → StreamText b others flag → a ++ x ≡ b ++ y → (a ≡ b) × (claims ≡ others) × (join ≡ flag) }
+    ensures { (a b x y : List ℕ) (claims others : List Claim) (join flag : Bool)
+        → StreamText a claims join → StreamText b others flag → a ++ x ≡ b ++ y
+        → (a ≡ b) × (claims ≡ others) × (join ≡ flag) }
 {}

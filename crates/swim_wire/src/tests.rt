@@ -36,7 +36,8 @@ fn assert_count(rt: &impl Abort, found: usize, wanted: usize) {
     assert_eq!(rt; found, wanted);
 }
 
-/// That the bytes were refused for this fault, or for want of memory, which is an error of the test.
+/// That the bytes were refused for this fault, or for want of memory, which is an error of the
+/// test.
 fn assert_fault(
     rt: &impl Abort,
     found: Option<WireFault>,

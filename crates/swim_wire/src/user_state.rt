@@ -15,14 +15,18 @@ use swim_pack::Inlet;
 ///
 /// `Ended` where fewer bytes are left, and `Fault` where the inlet failed.
 pub fn skip_user<I: Inlet>(inlet: &mut I, len: u32) -> Result<(), WireFault>
-    ensures takes { OnOk result (Takes (I.seen inlet.old) (I.seen inlet.new) (λ b. length b ≡ len)) }
+    ensures takes { OnOk result
+        (Takes (I.seen inlet.old) (I.seen inlet.new) (λ b. length b ≡ len)) }
     // Refused for another cause than the inlet's failing, fewer bytes stand at the front.
-    ensures lacks { IfErr result (λ fault. UnlessFailed (wire_cause fault) (Lacks (I.seen inlet.old) (λ b. length b ≡ len))) }
+    ensures lacks { IfErr result (λ fault.
+        UnlessFailed (wire_cause fault) (Lacks (I.seen inlet.old) (λ b. length b ≡ len))) }
 
     // Which refusals there are, and what is left.
-    ensures refusals { IfErr result (λ fault. (fault ≡ WireFault.Ended) ⊎ (fault ≡ WireFault.Fault)) }
+    ensures refusals { IfErr result (λ fault. (fault ≡ WireFault.Ended)
+        ⊎ (fault ≡ WireFault.Fault)) }
     ensures no_memory { ¬ IsErrOf result WireFault.Memory }
-    ensures fault { IsErrOf result WireFault.Fault → Rises (I.seen inlet.old).faults (I.seen inlet.new).faults }
+    ensures fault { IsErrOf result WireFault.Fault
+        → Rises (I.seen inlet.old).faults (I.seen inlet.new).faults }
     ensures rest { Skips (I.seen inlet.old).coming (I.seen inlet.new).coming }
     ensures faults_stay { (I.seen inlet.old).faults ≤ (I.seen inlet.new).faults }
 {

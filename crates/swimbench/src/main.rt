@@ -1,5 +1,15 @@
 //! A program that measures the table: nanoseconds and bytes a record, by size and by order of the
 //! names.
+//!
+//! | module | subject |
+//! |---|---|
+//! | `order`, `workload` | the orders of names; claims, packets and streams in them |
+//! | `tables` | tables of workloads |
+//! | `work` | what is measured |
+//! | `timing`, `reading` | one run of each measurement; one reading of the clock over it |
+//! | `figures`, `memory` | the rows of the table of times, and of the table of memory |
+//! | `agreement` | that what is measured agrees with itself |
+//! | `failure` | why the program stops |
 #![tactic(auto)]
 
 mod agreement;

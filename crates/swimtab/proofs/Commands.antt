@@ -31,8 +31,13 @@ has_verb n (inr (inr (inr (inr (inl e))))) none = let bad : verb_of (codes "run"
 has_verb n (inr (inr (inr (inr (inr h))))) none = h
 
 -- a command that was found has a verb
-pub found_verb : (m : ArgMatches) (words : List Text) (n : Text) → subcommand_rows_of m ≡ subcommand_of program words → Some n ≡ subcommand_name_of m → verb_of n ≢ None
-found_verb m words n rows name = has_verb n (is_command (built program) n (stop_after (built program).top.rules (names_of (built program)) (argument_words program words)) (ap (option_map (λ p. p.0)) (sym rows) ∙ names_agree (out-ArgMatches m).subcommand ∙ sym name))
+pub found_verb : (m : ArgMatches) (words : List Text) (n : Text) → subcommand_rows_of m ≡ subcommand_of program words
+    → Some n ≡ subcommand_name_of m → verb_of n ≢ None
+found_verb m words n rows name =
+    has_verb n
+    (is_command (built program) n
+    (stop_after (built program).top.rules (names_of (built program)) (argument_words program words))
+    (ap (option_map (λ p. p.0)) (sym rows) ∙ names_agree (out-ArgMatches m).subcommand ∙ sym name))
 
 asked : (o : Option (Text × List Row)) (n : Text) (rows : List Row) (choice : Choice) → option_map (λ p. p.0) o ≡ Some n → option_map (λ p. p.1) o ≡ Some rows
     → verb_of n ≡ Some choice.verb → choice.files ≡ unwrap_or (all_of (codes "FILE") rows) [] → AsksFor o choice

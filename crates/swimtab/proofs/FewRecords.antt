@@ -55,7 +55,8 @@ records_put (entry ∷ rest) s = by_place (records_put rest s) (name_cmp (name_o
     by_place : length (Reduced (put rest s)) ≤ length (Reduced rest) + length (kept s) → (o : Ordering)
         → length (Reduced (by_order o (s ∷ entry ∷ rest) (combined entry s ∷ rest) (entry ∷ put rest s))) ≤ length (Reduced (entry ∷ rest)) + length (kept s)
     by_place later Less = omega (arith, length-append (kept s) (Reduced (entry ∷ rest)))
-    by_place later Equal = omega (arith, kept_combined entry s, length-append (kept (combined entry s)) (Reduced rest), length-append (kept entry) (Reduced rest))
+    by_place later Equal =
+        omega (arith, kept_combined entry s, length-append (kept (combined entry s)) (Reduced rest), length-append (kept entry) (Reduced rest))
     by_place later Greater = omega (arith, later, length-append (kept entry) (Reduced (put rest s)), length-append (kept entry) (Reduced rest))
 
 -- each claim adds one record at most
@@ -88,4 +89,10 @@ a_byte_each (c ∷ claims) = omega (arith, state_some c, a_byte_each claims, len
 -- a table whose dump is short has few enough records
 pub fits_few : (table : Entries) → FitsLoop table → ¬ HasTooMany table
 fits_few table fits many =
-    omega (arith, fits, many, a_byte_each (Reduced table), length-append (header_bytes (record { nodes = length (Reduced table); user_len = 0; join = false })) (flat_map state_bytes (Reduced table)))
+    omega (
+      arith,
+      fits,
+      many,
+      a_byte_each (Reduced table),
+      length-append (header_bytes (record { nodes = length (Reduced table); user_len = 0; join = false })) (flat_map state_bytes (Reduced table)),
+    )

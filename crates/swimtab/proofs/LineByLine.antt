@@ -32,9 +32,11 @@ no_text_claims (digit ∷ digits) bytes claims some e none t =
 
 -- what takes the claims of the packets of a text in takes those of the text in
 pub text_taken : {X : Type 0} (text bytes : List ℕ) (old new : Entries) (result : Result X What) → 0 < length text → decode_of text ≡ Ok bytes
-    → OnOk result ((packets : List PacketValue) × DatagramText bytes packets × ((taken : List Claim) → TableOf old taken → TableOf new (taken ++ map (λ p. p.claim) packets)))
+    → OnOk result ((packets : List PacketValue) × DatagramText bytes packets
+    × ((taken : List Claim) → TableOf old taken → TableOf new (taken ++ map (λ p. p.claim) packets)))
     → OnOk result ((claims : List Claim) × TextClaims text claims × ((taken : List Claim) → TableOf old taken → TableOf new (taken ++ claims)))
-text_taken text bytes old new (Ok done) some e took = (map (λ p. p.claim) took.0, text_claims text bytes took.0 (map (λ p. p.claim) took.0) some e took.1 refl, took.2)
+text_taken text bytes old new (Ok done) some e took =
+    (map (λ p. p.claim) took.0, text_claims text bytes took.0 (map (λ p. p.claim) took.0) some e took.1 refl, took.2)
 text_taken text bytes old new (Err what) some e took = tt
 
 -- and what is refused for packets is refused for the text
@@ -45,13 +47,15 @@ text_refused text bytes (Ok done) some e none = tt
 text_refused text bytes (Err what) some e none = λ seen claims. no_text_claims text bytes claims some e (none seen)
 
 -- one more line
-pub EachLine-push : (lines : List (List ℕ)) (line : List ℕ) (claims own : List Claim) → EachLine lines claims → LineClaims line own → EachLine (lines ++ line ∷ []) (claims ++ own)
+pub EachLine-push : (lines : List (List ℕ)) (line : List ℕ) (claims own : List Claim) → EachLine lines claims
+    → LineClaims line own → EachLine (lines ++ line ∷ []) (claims ++ own)
 EachLine-push [] line claims own each h = (own, [], h, refl, ap (λ t. t ++ own) each ∙ sym (append-nil own))
 EachLine-push (first ∷ lines) line claims own each h =
     (each.0, each.1 ++ own, each.2, EachLine-push lines line each.1 own each.3 h, ap (λ t. t ++ own) each.4 ∙ append_assoc each.0 each.1 own)
 
 -- each line makes claims
-pub EachLine-at : (lines : List (List ℕ)) (n : ℕ) (d : List ℕ) (claims : List Claim) → n < length lines → EachLine lines claims → (own : List Claim) × LineClaims (get_or lines n d) own
+pub EachLine-at : (lines : List (List ℕ)) (n : ℕ) (d : List ℕ) (claims : List Claim) → n < length lines
+    → EachLine lines claims → (own : List Claim) × LineClaims (get_or lines n d) own
 EachLine-at [] n d claims l each = absurd (omega arith)
 EachLine-at (line ∷ lines) zero d claims l each = (each.0, each.2)
 EachLine-at (line ∷ lines) (suc n) d claims l each = EachLine-at lines n d each.1 (omega arith) each.3

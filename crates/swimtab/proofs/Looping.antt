@@ -48,7 +48,8 @@ alike one other claims h e =
     rw (← e) (itself, itself)
 
 -- they are where the relation says so
-pub equal_told : (one other : Entries) (claims : List Claim) (r : Relation) → TableOf one claims → IsRelation one other r → IsTrue (sameb the_type r Equal) ↔ (one ≡ other)
+pub equal_told : (one other : Entries) (claims : List Claim) (r : Relation) → TableOf one claims → IsRelation one other r
+    → IsTrue (sameb the_type r Equal) ↔ (one ≡ other)
 equal_told one other claims Equal h below = (λ t. below_both one other below.0 below.1, λ e. refl)
 equal_told one other claims Behind h below = (λ t. absurd cc, λ e. absurd (below.1 (alike one other claims h e).1))
 equal_told one other claims Ahead h below = (λ t. absurd cc, λ e. absurd (below.0 (alike one other claims h e).0))

@@ -23,7 +23,7 @@ use Rattle.swim_program.specs.Lines.{input_lines}
 use Rattle.swim_program.specs.Report.{what_of_why}
 use Rattle.swimtab.specs.Replay.{IsOfEvent, node_line, shown_from, EachTable, heard_after, Replays, Refuses, RefusedEvent, StopsSo}
 use Rattle.swim_script.specs.ScriptReading.{AreNumbered, plan_events}
-use Rattle.swim_script.specs.Script.{Start, Script, ComesWith, AreStarted, member_of, start_claims}
+use Rattle.swim_script.specs.Script.{Start, Script, ComesWith, AreStarted, started_member, start_claims}
 use Rattle.swim_script.proofs.ScriptNumbers.{event_line_past}
 
 -- ---- stops of a run in two parts
@@ -46,25 +46,29 @@ stopped_later old mid new events more stop r s = record {
 }
 
 -- a run that stops before the levelling that may end a plan
-pub stopped_in_plan : (old new : List NodeValue) (events : List Event) (nodes : ℕ) (level : Option ℕ) (stop : Stop) → Stopped old new events stop → Stopped old new (plan_events events nodes level) stop
+pub stopped_in_plan : (old new : List NodeValue) (events : List Event) (nodes : ℕ) (level : Option ℕ) (stop : Stop)
+    → Stopped old new events stop → Stopped old new (plan_events events nodes level) stop
 stopped_in_plan old new events nodes None stop s = s
 stopped_in_plan old new events nodes (Some line) stop s = stopped_earlier old new events (level_list nodes) stop s
 
 -- a plan that ends with a levelling
-pub ran_plan : (old mid new : List NodeValue) (events : List Event) (level : Option ℕ) (line : ℕ) → level ≡ Some line → Ran old mid events → Ran mid new (level_list (length mid))
+pub ran_plan : (old mid new : List NodeValue) (events : List Event) (level : Option ℕ) (line : ℕ) → level ≡ Some line
+    → Ran old mid events → Ran mid new (level_list (length mid))
     → Ran old new (plan_events events (length old) level)
 ran_plan old mid new events level line is r s =
     subst (λ (o : Option ℕ). Ran old new (plan_events events (length old) o)) (sym is)
     (ran-append old mid new events (level_list (length old)) r (subst (λ (n : ℕ). Ran mid new (level_list n)) (length-ran old mid events r) s))
 
-pub stops_plan : (old mid : List NodeValue) (events : List Event) (numbers : List ℕ) (level : Option ℕ) (line : ℕ) (report : Report) → level ≡ Some line → length numbers ≡ length events → Ran old mid events
+pub stops_plan : (old mid : List NodeValue) (events : List Event) (numbers : List ℕ) (level : Option ℕ) (line : ℕ)
+    (report : Report) → level ≡ Some line → length numbers ≡ length events → Ran old mid events
     → StopsSo mid (level_list (length mid)) [] (Some line) report → StopsSo old (plan_events events (length old) level) numbers level report
 stops_plan old mid events numbers level line report is count r (new, stop, number, stopped, same, numbered, named) = (
   new,
   record { done = length events + stop.done; why = stop.why },
   number,
   subst (λ (o : Option ℕ). Stopped old new (plan_events events (length old) o) (record { done = length events + stop.done; why = stop.why })) (sym is)
-      (stopped_later old mid new events (level_list (length old)) stop r (subst (λ (n : ℕ). Stopped mid new (level_list n) stop) (length-ran old mid events r) stopped)),
+      (stopped_later old mid new events (level_list (length old)) stop r
+      (subst (λ (n : ℕ). Stopped mid new (level_list n) stop) (length-ran old mid events r) stopped)),
   same,
   event_line_past numbers level (length events + stop.done) (omega (arith, count)) ∙ is ∙ numbered,
   named,
@@ -72,7 +76,8 @@ stops_plan old mid events numbers level line report is count r (new, stop, numbe
 
 -- ---- what is shown
 
-shown-append : (k : ℕ) (tables : List Entries) (table : Entries) → shown_from k (tables ++ table ∷ []) ≡ (shown_from k tables ++ node_line (k + length tables)) ++ listing table
+shown-append : (k : ℕ) (tables : List Entries) (table : Entries) → shown_from k (tables ++ table ∷ []) ≡
+    (shown_from k tables ++ node_line (k + length tables)) ++ listing table
 shown-append k [] table =
     let same : k ≡ k + 0 = omega arith in
     append-nil (node_line k ++ listing table) ∙ ap (λ (n : ℕ). node_line n ++ listing table) same
@@ -99,11 +104,12 @@ shown_more tables k table below is =
 some_same : {X : Type 0} (x y : X) → Some x ≡ Some y → x ≡ y
 some_same x y same = cc (same)
 
-pub started_members : (nodes : List NodeValue) (starts : List Start) → AreStarted nodes starts → members_of nodes ≡ map member_of starts
-started_members [] starts are = sym (ap (map member_of) are)
+pub started_members : (nodes : List NodeValue) (starts : List Start) → AreStarted nodes starts → members_of nodes ≡ map started_member starts
+started_members [] starts are = sym (ap (map started_member) are)
 started_members (node ∷ nodes) starts are =
-    let same : node_member node ≡ member_of are.0 = (λ i. record { name = are.2.0 i; details = are.2.1 i }) in
-    ap (λ (m : Member). m ∷ members_of nodes) same ∙ ap (λ (l : List Member). member_of are.0 ∷ l) (started_members nodes are.1 are.3) ∙ sym (ap (map member_of) are.4)
+    let same : node_member node ≡ started_member are.0 = (λ i. record { name = are.2.0 i; details = are.2.1 i }) in
+    ap (λ (m : Member). m ∷ members_of nodes) same
+    ∙ ap (λ (l : List Member). started_member are.0 ∷ l) (started_members nodes are.1 are.3) ∙ sym (ap (map started_member) are.4)
 
 started_at : (nodes : List NodeValue) (starts : List Start) → AreStarted nodes starts → (k : ℕ) (node : NodeValue) → slice_get nodes k ≡ Some node
     → TableOf node.table (heard_by (map start_claims starts) k)
@@ -127,15 +133,23 @@ pub each_table : (nodes : List NodeValue) (lists : List (List Claim)) → Tables
 each_table [] [] h = refl
 each_table [] (claims ∷ rest) h = (let number = h.number in absurd (omega (arith, number)))
 each_table (node ∷ nodes) [] h = (let number = h.number in absurd (omega (arith, number)))
-each_table (node ∷ nodes) (claims ∷ rest) h =
-    (claims, rest, h.each 0 node refl, each_table nodes rest (record { number = (let number = h.number in omega (arith, number)); each = λ k other at. h.each (suc k) other at }), refl)
+each_table (node ∷ nodes) (claims ∷ rest) h = (
+  claims,
+  rest,
+  h.each 0 node refl,
+  each_table nodes rest (record { number = (let number = h.number in omega (arith, number)); each = λ k other at. h.each (suc k) other at }),
+  refl,
+)
 
 -- what the nodes have heard
-tables_after : (nodes new : List NodeValue) (starts : List Start) (events : List Event) → AreStarted nodes starts → Ran nodes new events → TablesOf new (heard_after starts events)
+tables_after : (nodes new : List NodeValue) (starts : List Start) (events : List Event) → AreStarted nodes starts
+    → Ran nodes new events → TablesOf new (heard_after starts events)
 tables_after nodes new starts events are r =
-    subst (λ (members : List Member). TablesOf new (heard members (map start_claims starts) events)) (started_members nodes starts are) (r.tables (map start_claims starts) (started_tables nodes starts are))
+    subst (λ (members : List Member). TablesOf new (heard members (map start_claims starts) events))
+    (started_members nodes starts are) (r.tables (map start_claims starts) (started_tables nodes starts are))
 
-pub replayed : (input text : List ℕ) (nodes new : List NodeValue) (starts : List Start) (events : List Event) → AreStarted nodes starts → Script input starts events → Ran nodes new events
+pub replayed : (input text : List ℕ) (nodes new : List NodeValue) (starts : List Start) (events : List Event)
+    → AreStarted nodes starts → Script input starts events → Ran nodes new events
     → text ≡ shown_from 0 (map (λ n. n.table) new) → Replays input text
 replayed input text nodes new starts events are script r shown = record {
   starts = starts;
@@ -150,11 +164,16 @@ replayed input text nodes new starts events are script r shown = record {
 
 -- ---- refused events
 
-refuses_so : (new : List NodeValue) (lists : List (List Claim)) (event : Event) (cause : Why) → TablesOf new lists → StopsBy new event cause → Refuses lists event (what_of_why cause)
+refuses_so : (new : List NodeValue) (lists : List (List Claim)) (event : Event) (cause : Why) → TablesOf new lists
+    → StopsBy new event cause → Refuses lists event (what_of_why cause)
 refuses_so new lists event why.NoSuchNode h stops =
     (λ same. subst (λ (n : ℕ). ¬ NamesNodes n event) (sym h.number) stops, λ other. absurd (omega (arith, other)), λ other. absurd (omega (arith, other)), refl)
-refuses_so new lists event why.SameNode h stops =
-    (λ other. absurd (omega (arith, other)), λ same. (subst (λ (n : ℕ). NamesNodes n event) (sym h.number) stops.0, stops.1), λ other. absurd (omega (arith, other)), refl)
+refuses_so new lists event why.SameNode h stops = (
+  λ other. absurd (omega (arith, other)),
+  λ same. (subst (λ (n : ℕ). NamesNodes n event) (sym h.number) stops.0, stops.1),
+  λ other. absurd (omega (arith, other)),
+  refl,
+)
 refuses_so new lists event why.TooManyRecords h stops = (
   λ other. absurd (omega (arith, other)),
   λ other. absurd (omega (arith, other)),
@@ -174,8 +193,10 @@ why_of_event why.SameNode other = refl
 why_of_event why.TooManyRecords other = refl
 why_of_event why.Memory other = absurd (other refl)
 
-pub refused_event : (input : List ℕ) (nodes : List NodeValue) (starts : List Start) (events : List Event) (numbers : List ℕ) (level : Option ℕ) (report : Report)
-    → AreStarted nodes starts → Script input starts events → AreNumbered (input_lines input) starts events numbers level → StopsSo nodes events numbers level report → RefusedEvent input report
+pub refused_event : (input : List ℕ) (nodes : List NodeValue) (starts : List Start) (events : List Event) (numbers : List ℕ)
+    (level : Option ℕ) (report : Report)
+    → AreStarted nodes starts → Script input starts events → AreNumbered (input_lines input) starts events numbers level
+    → StopsSo nodes events numbers level report → RefusedEvent input report
 refused_event input nodes starts events numbers level report are script each (new, stop, number, stopped, is, numbered, named) = record {
   starts = starts;
   events = events;
@@ -184,6 +205,7 @@ refused_event input nodes starts events numbers level report are script each (ne
   event = stopped.why.0;
   at = stopped.why.1;
   refuses = subst (Refuses (heard_after starts (take stop.done events)) stopped.why.0) (sym is)
-      (refuses_so new (heard_after starts (take stop.done events)) stopped.why.0 stop.why (tables_after nodes new starts (take stop.done events) are stopped.ran) stopped.why.2);
+      (refuses_so new (heard_after starts (take stop.done events)) stopped.why.0 stop.why
+      (tables_after nodes new starts (take stop.done events) are stopped.ran) stopped.why.2);
   line = subst (ComesWith (input_lines input) starts events stop.done) (sym named) (each stop.done number stopped.before numbered);
 }

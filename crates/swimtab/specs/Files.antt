@@ -1,7 +1,10 @@
 -- Files with dumps, the claims that they make, and why they are refused.
-use Rattle.std.specs.Prelude.{◌≡◌, ℕ, ◌<◌, ◌≤◌, Bool, List, [], ◌∷◌, ◌++◌, length, codes, All, None}
+use Rattle.std.specs.Prelude.{◌≡◌, ℕ, ◌<◌, ◌≤◌, Bool, List, [], ◌∷◌, ◌++◌, length, map, codes, All, None}
+use Rattle.std.specs.declared.vec.Vec.{Vec}
 use Rattle.swim_claim.specs.declared.claim.Claim.{Claim}
+use Rattle.swim_program.specs.Limits.{most_bytes}
 use Rattle.swim_wire.specs.declared.fault.WireFault.{WireFault}
+use Rattle.swim_wire.specs.Limits.{most_nodes}
 use Rattle.swim_wire.specs.Streams.{StreamText}
 use Rattle.swim_table.specs.declared.table.Relation.{Relation}
 use Rattle.swim_table.specs.declared.table.Relation.TheVariants.{Equal, Behind, Ahead, Apart}
@@ -13,6 +16,10 @@ use Rattle.swim_program.specs.declared.report.What.TheVariants.{Refused, Memory}
 use Rattle.swim_program.specs.declared.report.Report.{Report}
 use Rattle.swim_program.specs.Report.{what_of}
 
+-- the bytes of each file
+abbrev pub bytes_of : {Z : Type 0} → List (Vec ℕ Z) → List (List ℕ)
+bytes_of files = map (λ file. file.items) files
+
 -- the file is one stream of these claims, with any join flag
 abbrev pub FileClaims : List ℕ → List Claim → Type 0
 FileClaims file claims = (join : Bool) × StreamText file claims join
@@ -21,7 +28,8 @@ FileClaims file claims = (join : Bool) × StreamText file claims join
 abbrev pub FilesClaims : List (List ℕ) → List Claim → Type 0
 FilesClaims [] claims = claims ≡ []
 FilesClaims (file ∷ files) claims =
-    (own : List Claim) × (others : List Claim) × FileClaims file own × FilesClaims files others × (claims ≡ own ++ others)
+    (own : List Claim) × (others : List Claim) × FileClaims file own × FilesClaims files others
+    × (claims ≡ own ++ others)
 
 -- The file is no stream, and what is said is the fault of its bytes.
 pub record IsNoDump (file : List ℕ) (what : What) : Type 0 where
@@ -31,8 +39,8 @@ pub record IsNoDump (file : List ℕ) (what : What) : Type 0 where
   pub told : what ≡ what_of fault
 
 -- no file is longer than its bound
-abbrev pub AreShort : List (List ℕ) → Type 0
-AreShort files = All (λ file. length file ≤ 268435456) files
+abbrev pub AreShortFiles : List (List ℕ) → Type 0
+AreShortFiles files = All (λ file. length file ≤ most_bytes) files
 
 -- the file at place k is longer than its bound, and none before it is
 pub record IsFirstLong (files : List (List ℕ)) (k : ℕ) : Type 0 where
@@ -41,8 +49,8 @@ pub record IsFirstLong (files : List (List ℕ)) (k : ℕ) : Type 0 where
   pub after : List (List ℕ)
   pub parts : files ≡ before ++ file ∷ after
   pub place : length before ≡ k
-  pub short : AreShort before
-  pub long : 268435456 < length file
+  pub short : AreShortFiles before
+  pub long : most_bytes < length file
 
 -- the file at place k is no stream, as is said of it, and each before it is one
 pub record IsFirstNoDump (files : List (List ℕ)) (k : ℕ) (what : What) : Type 0 where
@@ -57,18 +65,20 @@ pub record IsFirstNoDump (files : List (List ℕ)) (k : ℕ) (what : What) : Typ
 
 -- Why files are refused: one is too long, or else one is no stream, or there is no memory.
 pub data AreRefused (files : List (List ℕ)) (report : Report) : Type 0 where
-  too_long : (k : ℕ) → IsFirstLong files k → report.place ≡ File k → report.what ≡ Refused 32 None → AreRefused files report
-  no_stream : (k : ℕ) → AreShort files → IsFirstNoDump files k report.what → report.place ≡ File k → AreRefused files report
-  memory : AreShort files → report.what ≡ Memory → AreRefused files report
+  too_long : (k : ℕ) → IsFirstLong files k → report.place ≡ File k → report.what ≡ Refused 32 None
+      → AreRefused files report
+  no_stream : (k : ℕ) → AreShortFiles files → IsFirstNoDump files k report.what → report.place ≡ File k
+      → AreRefused files report
+  memory : AreShortFiles files → report.what ≡ Memory → AreRefused files report
 
 -- the table of the claims of the files has more records than a dump
 pub record HaveTooMany (files : List (List ℕ)) (report : Report) : Type 0 where
   pub claims : List Claim
   pub table : Entries
-  pub short : AreShort files
+  pub short : AreShortFiles files
   pub made : FilesClaims files claims
   pub table_of : TableOf table claims
-  pub many : 131072 < length (Reduced table)
+  pub many : most_nodes < length (Reduced table)
   pub place : report.place ≡ Output
   pub what : report.what ≡ Refused 23 None
 

@@ -9,7 +9,8 @@ use Rattle.swim_program.specs.declared.report.Place.{Place}
 use Rattle.swim_program.specs.declared.report.Place.TheVariants.{Line}
 use Rattle.swim_program.specs.Lines.{input_lines}
 
--- a text that is not empty is the hexadecimal of a datagram whose packets make these claims; an empty one makes none
+-- a text that is not empty is the hexadecimal of a datagram whose packets make these claims; an
+-- empty one makes none
 abbrev pub TextClaims : List ℕ → List Claim → Type 0
 TextClaims [] claims = claims ≡ []
 TextClaims (digit ∷ digits) claims =
@@ -24,7 +25,8 @@ LineClaims line claims = TextClaims (strip_carriage_return line) claims
 abbrev pub EachLine : List (List ℕ) → List Claim → Type 0
 EachLine [] claims = claims ≡ []
 EachLine (line ∷ lines) claims =
-    (own : List Claim) × (others : List Claim) × LineClaims line own × EachLine lines others × (claims ≡ own ++ others)
+    (own : List Claim) × (others : List Claim) × LineClaims line own × EachLine lines others
+    × (claims ≡ own ++ others)
 
 -- the lines of the input make these claims
 abbrev pub PacketLines : List ℕ → List Claim → Type 0

@@ -1,6 +1,7 @@
 -- Tables that are exchanged over a connection, and why they are not.
 use Rattle.std.specs.Prelude.{◌≡◌, ◌⊎◌, ◌↔◌, ◌<◌, ◌≤◌, ℕ, Bool, false, None, List, ◌++◌, length, IsTrue}
 use Rattle.swim_claim.specs.declared.claim.Claim.{Claim}
+use Rattle.swim_program.specs.Limits.{most_bytes}
 use Rattle.swim_wire.specs.declared.fault.WireFault.{WireFault}
 use Rattle.swim_table.specs.Dump.{dump_bytes}
 use Rattle.swim_table.specs.Listing.{listing}
@@ -18,26 +19,29 @@ FitsLoop table = length (dump_bytes table false) ≤ 16384
 
 -- The table is that of the claims of the file, and it can be sent.
 pub record IsLoopTable (file : List ℕ) (table : Entries) : Type 0 where
-  pub short : length file ≤ 268435456
+  pub short : length file ≤ most_bytes
   pub claims : List Claim
   pub made : FileClaims file claims
   pub table_of : TableOf table claims
   pub fits : FitsLoop table
 
--- Why a file gives no table that can be sent: it is too long, no stream, or that of too great a table, or there is no memory.
+-- Why a file gives no table that can be sent: it is too long, no stream, or that of too great a
+-- table, or there is no memory.
 pub data IsLoopRefused (file : List ℕ) (what : What) : Type 0 where
-  too_long : 268435456 < length file → what ≡ Refused 32 None → IsLoopRefused file what
-  no_stream : length file ≤ 268435456 → IsNoDump file what → IsLoopRefused file what
-  too_large : (claims : List Claim) (table : Entries) → length file ≤ 268435456 → FileClaims file claims → TableOf table claims
-      → 16384 < length (dump_bytes table false) → what ≡ Refused 28 None → IsLoopRefused file what
-  memory : length file ≤ 268435456 → what ≡ Memory → IsLoopRefused file what
+  too_long : most_bytes < length file → what ≡ Refused 32 None → IsLoopRefused file what
+  no_stream : length file ≤ most_bytes → IsNoDump file what → IsLoopRefused file what
+  too_large : (claims : List Claim) (table : Entries) → length file ≤ most_bytes
+      → FileClaims file claims → TableOf table claims → 16384 < length (dump_bytes table false)
+      → what ≡ Refused 28 None → IsLoopRefused file what
+  memory : length file ≤ most_bytes → what ≡ Memory → IsLoopRefused file what
 
 -- The table took these claims in, and lost none of its own.
 pub record TakesIn (before after : Entries) (claims : List Claim) : Type 0 where
   pub reduced : TableOf after (Reduced before ++ claims)
   pub all : (known : List Claim) → TableOf before known → TableOf after (known ++ claims)
 
--- Each of two tables took some claims in; the text lists the first, and the flag tells whether both are equal.
+-- Each of two tables took some claims in; the text lists the first, and the flag tells whether both
+-- are equal.
 pub record IsLooped (first second : Entries) (text : List ℕ) (equal : Bool) : Type 0 where
   pub claims : List Claim
   pub others : List Claim
@@ -48,7 +52,8 @@ pub record IsLooped (first second : Entries) (text : List ℕ) (equal : Bool) : 
   pub shown : text ≡ listing one
   pub told : IsTrue equal ↔ (one ≡ other)
 
--- No stream came over the connection, or it failed, or there is no memory; at the output only for the listing.
+-- No stream came over the connection, or it failed, or there is no memory; at the output only for
+-- the listing.
 pub record IsLoopStopped (report : Report) : Type 0 where
   pub fault : WireFault
   pub what : report.what ≡ what_of fault

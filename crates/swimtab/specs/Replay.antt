@@ -15,7 +15,7 @@ use Rattle.swim_program.specs.declared.report.What.{What}
 use Rattle.swim_program.specs.declared.report.What.TheVariants.{Refused, Device, Memory}
 use Rattle.swim_program.specs.Lines.{input_lines}
 use Rattle.swim_program.specs.Report.{is_of_event, what_of_why}
-use Rattle.swim_script.specs.Script.{Start, Script, ComesWith, member_of, start_claims}
+use Rattle.swim_script.specs.Script.{Start, Script, ComesWith, started_member, start_claims}
 use Rattle.swim_script.specs.ScriptReading.{event_line}
 
 -- the line with a node's number
@@ -31,18 +31,20 @@ shown_from k (table ∷ tables) = node_line k ++ listing table ++ shown_from (k 
 abbrev pub EachTable : List Entries → List (List Claim) → Type 0
 EachTable [] lists = lists ≡ []
 EachTable (table ∷ tables) lists =
-    (claims : List Claim) × (rest : List (List Claim)) × TableOf table claims × EachTable tables rest × (lists ≡ claims ∷ rest)
+    (claims : List Claim) × (rest : List (List Claim)) × TableOf table claims
+    × EachTable tables rest × (lists ≡ claims ∷ rest)
 
 -- what each node has heard after the events
 abbrev pub heard_after : List Start → List Event → List (List Claim)
-heard_after starts events = heard (map member_of starts) (map start_claims starts) events
+heard_after starts events = heard (map started_member starts) (map start_claims starts) events
 
--- The input is a script whose events can all happen, and the text shows what its nodes have heard at its end.
+-- The input is a script whose events can all happen, and the text shows what its nodes have heard
+-- at its end.
 pub record Replays (input text : List ℕ) : Type 0 where
   pub starts : List Start
   pub events : List Event
   pub script : Script input starts events
-  pub could : EachCanHappen (map member_of starts) (map start_claims starts) events
+  pub could : EachCanHappen (map started_member starts) (map start_claims starts) events
   pub tables : List Entries
   pub each : EachTable tables (heard_after starts events)
   pub shown : text ≡ shown_from 0 tables
@@ -53,12 +55,14 @@ Refuses lists event (Refused number found) =
     (number ≡ 26 → ¬ NamesNodes (length lists) event)
     × (number ≡ 27 → NamesNodes (length lists) event × NamesOneTwice event)
     × (number ≡ 23 → NamesNodes (length lists) event × (¬ NamesOneTwice event)
-    × ((k : ℕ) × (table : Entries) × Dumps event k × TableOf table (heard_by lists k) × HasTooMany table))
+    × ((k : ℕ) × (table : Entries) × Dumps event k × TableOf table (heard_by lists k)
+    × HasTooMany table))
     × (found ≡ None)
 Refuses lists event Device = ⊥
 Refuses lists event Memory = Unit {0}
 
--- The input is a script with an event that does not happen after those before it, and the place names the line that it comes with.
+-- The input is a script with an event that does not happen after those before it, and the place
+-- names the line that it comes with.
 pub record RefusedEvent (input : List ℕ) (report : Report) : Type 0 where
   pub starts : List Start
   pub events : List Event
@@ -72,7 +76,8 @@ pub record RefusedEvent (input : List ℕ) (report : Report) : Type 0 where
 -- a run of the events, which lines of these numbers tell, on the nodes stops so
 abbrev pub StopsSo : List NodeValue → List Event → List ℕ → Option ℕ → Report → Type 0
 StopsSo nodes events numbers level report =
-    (new : List NodeValue) × (stop : Stop) × (number : ℕ) × Stopped nodes new events stop × (report.what ≡ what_of_why stop.why)
+    (new : List NodeValue) × (stop : Stop) × (number : ℕ) × Stopped nodes new events stop
+    × (report.what ≡ what_of_why stop.why)
     × (event_line numbers level stop.done ≡ Some number) × (report.place ≡ Line number)
 
 -- it is the fault of an event

@@ -11,20 +11,32 @@ use Rattle.swimtab.specs.Chosen.{Choice}
 
 -- the words that name files: one at least
 abbrev pub files_rule : Rule
-files_rule = record (new_rule (codes "FILE")) { required = true; range = Some (record { start_inclusive = 1; end_inclusive = usize_max }) }
+files_rule = record (new_rule (codes "FILE")) {
+  required = true;
+  range = Some (record { start_inclusive = 1; end_inclusive = usize_max });
+}
 
 -- two of them
 abbrev pub pair_rule : Rule
 pair_rule = record (new_rule (codes "FILE")) { required = true; value_names = 2 }
 
+-- a command that names files
 abbrev pub files_command : Text → App
 files_command name = with_rule (new_app name) files_rule
 
+-- a command that names two files
 abbrev pub pair_command : Text → App
 pair_command name = with_rule (new_app name) pair_rule
 
+-- the program without a command
 abbrev pub bare : App
-bare = record (new_app (codes "swimtab")) { top = record (new_app (codes "swimtab")).top { no_binary_name = true; disable_help_subcommand = true; has_version = true } }
+bare = record (new_app (codes "swimtab")) {
+  top = record (new_app (codes "swimtab")).top {
+    no_binary_name = true;
+    disable_help_subcommand = true;
+    has_version = true;
+  };
+}
 
 -- a command beside those before it
 abbrev pub beside : App → App → App
@@ -32,7 +44,12 @@ beside before command = with_subcommand before command.top
 
 -- the commands that name files
 abbrev pub filing : App
-filing = beside (beside (beside (beside bare (files_command (codes "list"))) (files_command (codes "merge"))) (pair_command (codes "relate"))) (pair_command (codes "loop"))
+filing =
+    beside (beside (beside (beside bare
+    (files_command (codes "list")))
+    (files_command (codes "merge")))
+    (pair_command (codes "relate")))
+    (pair_command (codes "loop"))
 
 -- no words, or `list`, `merge`, `relate` or `loop` with files, or `run`
 abbrev pub program : App
@@ -40,6 +57,7 @@ program = beside filing (new_app (codes "run"))
 
 -- ---- what the words ask for
 
+-- what a command asks for, by its name
 abbrev pub verb_of : Text → Option Verb
 verb_of name =
     if bytes_eq name (codes "list") then Some verb.List
@@ -52,4 +70,5 @@ verb_of name =
 -- without a command the packets are listed, and a command has the files that its words name
 abbrev pub AsksFor : Option (Text × List Row) → Choice → Type 0
 AsksFor None choice = (choice.verb ≡ verb.Packets) × (choice.files ≡ [])
-AsksFor (Some command) choice = (verb_of command.0 ≡ Some choice.verb) × (choice.files ≡ unwrap_or (all_of (codes "FILE") command.1) [])
+AsksFor (Some command) choice = (verb_of command.0 ≡ Some choice.verb)
+    × (choice.files ≡ unwrap_or (all_of (codes "FILE") command.1) [])

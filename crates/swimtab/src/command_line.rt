@@ -1,16 +1,15 @@
 //! The words after the program's name.
 
-ghost use Rattle.std.specs.Prelude.{◌≡◌, true, [], codes, map, string_bytes, unwrap_or, IfOk, IfErr};
-ghost use Rattle.clap.specs.Words.{app_of, fault_of, found_of, rows_of, takes, subcommand_of, new_app};
-ghost use Rattle.clap.specs.Walk.{all_of};
+ghost use Rattle.std.specs.Prelude.{◌≡◌, true, [], map, string_bytes, IfOk, IfErr};
+ghost use Rattle.clap.specs.Words.{app_of, fault_of, takes, subcommand_of, new_app};
 ghost use Rattle.swim_program.specs.Words.{IsRefusal};
 ghost use Rattle.swimtab.specs.Words.{program, bare, beside, files_command, pair_command, AsksFor};
 
 use crate::help;
 use crate::verb::{Chosen, Verb};
-use clap::{Arg, ArgMatches, Command};
+use clap::{Arg, Command};
 use std::alloc::{AllocError, Global};
-use swim_program::WordFault;
+use swim_program::{WordFault, texts_of};
 
 /// The words that stand for the two files of `relate` and `loop`.
 static PAIR: [&str; 2] = ["A", "B"];
@@ -29,12 +28,13 @@ pub fn chosen(alloc: Global, words: &[String]) -> Result<Chosen, WordFault>
     ensures faultless { IfOk result (λ _. fault_of program (map string_bytes words.now) ≡ []) }
     ensures faulty { IfErr result (IsRefusal (fault_of program (map string_bytes words.now))) }
     // Words that clap takes are refused for want of memory alone.
-    ensures takes { IfErr result (λ fault. takes program (map string_bytes words.now) ≡ true → fault ≡ WordFault.Memory) }
+    ensures takes { IfErr result (λ fault. takes program (map string_bytes words.now) ≡ true
+        → fault ≡ WordFault.Memory) }
 {
     let matches = command(alloc)?.try_get_matches_from(words)?;
     match matches.subcommand() {
         Some((name, found)) => match Verb::named(name) {
-            Some(verb) => Ok(Chosen::new(verb, files_of(alloc, found)?)),
+            Some(verb) => Ok(Chosen::new(verb, texts_of(alloc, found, "FILE")?)),
             None => unreachable!(),
         },
         None => Ok(Chosen::new(Verb::Packets, Vec::new(alloc))),
@@ -103,7 +103,8 @@ fn add_files<'a>(
     command: Command<'a>,
     page: Page<'a>,
 ) -> Result<Command<'a>, AllocError>
-    ensures { IfOk result (λ whole. app_of whole ≡ beside (app_of command.entry) (files_command page.entry.name.now)) }
+    ensures { IfOk result (λ whole.
+        app_of whole ≡ beside (app_of command.entry) (files_command page.entry.name.now)) }
 {
     let files = Arg::new(alloc, "FILE")
         .help(help::FILE)
@@ -122,7 +123,8 @@ fn add_pair<'a>(
     command: Command<'a>,
     page: Page<'a>,
 ) -> Result<Command<'a>, AllocError>
-    ensures { IfOk result (λ whole. app_of whole ≡ beside (app_of command.entry) (pair_command page.entry.name.now)) }
+    ensures { IfOk result (λ whole.
+        app_of whole ≡ beside (app_of command.entry) (pair_command page.entry.name.now)) }
 {
     let pair = Arg::new(alloc, "FILE")
         .help(help::FILE)
@@ -141,30 +143,11 @@ fn add_lone<'a>(
     command: Command<'a>,
     page: Page<'a>,
 ) -> Result<Command<'a>, AllocError>
-    ensures { IfOk result (λ whole. app_of whole ≡ beside (app_of command.entry) (new_app page.entry.name.now)) }
+    ensures { IfOk result (λ whole.
+        app_of whole ≡ beside (app_of command.entry) (new_app page.entry.name.now)) }
 {
     let added = Command::new(alloc, page.name)
         .about(page.about)
         .after_help(page.example);
     command.subcommand(added)
-}
-
-/// The words that name files.
-fn files_of(alloc: Global, found: &ArgMatches) -> Result<Vec<String>, AllocError>
-    ensures { IfOk result (λ files. map string_bytes files.items ≡ unwrap_or (all_of (codes "FILE") (rows_of (found_of found.now))) []) }
-{
-    match found.get_strs("FILE") {
-        Some(words) => copies_of(alloc, words),
-        None => Ok(Vec::new(alloc)),
-    }
-}
-
-fn copies_of(alloc: Global, words: &[&str]) -> Result<Vec<String>, AllocError>
-    ensures { IfOk result (λ copies. map string_bytes copies.items ≡ map (λ word. word.now) words.now) }
-{
-    let mut copies = Vec::new(alloc);
-    for word in words {
-        copies.push(String::from_str(alloc, word)?)?;
-    }
-    Ok(copies)
 }

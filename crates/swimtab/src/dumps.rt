@@ -1,12 +1,13 @@
 //! Dumps in files: their listing, their join, and how two of them relate.
 
-ghost use Rattle.std.specs.Prelude.{◌≡◌, ◌⊎◌, ◌<◌, ◌≤◌, ◌∷◌, [], false, List, map, length, IfOk, IfErr, OnOk};
+ghost use Rattle.std.specs.Prelude.{◌≡◌, ◌⊎◌, ◌<◌, ◌≤◌, ◌∷◌, [], false, List, length, IfOk, IfErr, OnOk};
 ghost use Rattle.swim_claim.specs.declared.claim.Claim.{Claim};
+ghost use Rattle.swim_program.specs.Limits.{most_bytes};
 ghost use Rattle.swim_table.specs.Covering.{IsRelation};
 ghost use Rattle.swim_table.specs.Dump.{dump_bytes};
 ghost use Rattle.swim_table.specs.Listing.{listing};
 ghost use Rattle.swim_table.specs.Table.{Entries, TableOf};
-ghost use Rattle.swimtab.specs.Files.{FileClaims, FilesClaims, IsNoDump, AreShort, AreRefused, HaveTooMany, relation_text};
+ghost use Rattle.swimtab.specs.Files.{bytes_of, FileClaims, FilesClaims, IsNoDump, AreShortFiles, AreRefused, HaveTooMany, relation_text};
 ghost use Rattle.swim_program.specs.Report.{IsAmong};
 
 use std::alloc::{AllocError, Global};
@@ -17,14 +18,16 @@ use swim_table::{EncodeFault, Relation, Table, encode, list, read_dump, relation
 /// stream.
 ///
 /// First the lengths of all files are checked: one of more than 268,435,456 bytes is refused
-/// (InputTooLong). Then the files are read in their order, and the first that is refused is reported
-/// with the fault of its stream.
+/// (InputTooLong). Then the files are read in their order, and the first that is refused is
+/// reported with the fault of its stream.
 pub fn listed(alloc: Global, files: &[Vec<u8>]) -> Result<Vec<u8>, Report>
     // The text is the listing of the table of the claims that the files make.
-    ensures lists { IfOk result (λ text. (claims : List Claim) × (table : Entries) × AreShort (map (λ file. file.items) files.now)
-        × FilesClaims (map (λ file. file.items) files.now) claims × TableOf table claims × (text.items ≡ listing table)) }
+    ensures lists { IfOk result (λ text. (claims : List Claim) × (table : Entries)
+        × AreShortFiles (bytes_of files.now)
+        × FilesClaims (bytes_of files.now) claims
+        × TableOf table claims × (text.items ≡ listing table)) }
 
-    ensures refuses { IfErr result (AreRefused (map (λ file. file.items) files.now)) }
+    ensures refuses { IfErr result (AreRefused (bytes_of files.now)) }
     ensures place { IfErr result (λ report. IsAmong report.place (length files.now)) }
 {
     let table = joined(alloc, files)?;
@@ -40,10 +43,13 @@ pub fn listed(alloc: Global, files: &[Vec<u8>]) -> Result<Vec<u8>, Report>
 /// (TooManyRecords).
 pub fn merged(alloc: Global, files: &[Vec<u8>]) -> Result<Vec<u8>, Report>
     // The bytes are the dump of the table of the claims that the files make.
-    ensures merges { IfOk result (λ bytes. (claims : List Claim) × (table : Entries) × AreShort (map (λ file. file.items) files.now)
-        × FilesClaims (map (λ file. file.items) files.now) claims × TableOf table claims × (bytes.items ≡ dump_bytes table false)) }
+    ensures merges { IfOk result (λ bytes. (claims : List Claim) × (table : Entries)
+        × AreShortFiles (bytes_of files.now)
+        × FilesClaims (bytes_of files.now) claims
+        × TableOf table claims × (bytes.items ≡ dump_bytes table false)) }
 
-    ensures refuses { IfErr result (λ report. AreRefused (map (λ file. file.items) files.now) report ⊎ HaveTooMany (map (λ file. file.items) files.now) report) }
+    ensures refuses { IfErr result (λ report. AreRefused (bytes_of files.now) report
+        ⊎ HaveTooMany (bytes_of files.now) report) }
     ensures place { IfErr result (λ report. IsAmong report.place (length files.now)) }
 {
     let table = joined(alloc, files)?;
@@ -59,7 +65,8 @@ pub fn merged(alloc: Global, files: &[Vec<u8>]) -> Result<Vec<u8>, Report>
 ///
 /// It is refused as [`listed`] is.
 pub fn related(alloc: Global, first: &[u8], second: &[u8]) -> Result<Relation, Report>
-    ensures relates { IfOk result (λ relation. (claims others : List Claim) × (table other : Entries) × AreShort (first.now ∷ second.now ∷ [])
+    ensures relates { IfOk result (λ relation. (claims others : List Claim)
+        × (table other : Entries) × AreShortFiles (first.now ∷ second.now ∷ [])
         × FileClaims first.now claims × FileClaims second.now others
         × TableOf table claims × TableOf other others × IsRelation table other relation) }
 
@@ -68,8 +75,8 @@ pub fn related(alloc: Global, first: &[u8], second: &[u8]) -> Result<Relation, R
 {
     check_length(first, 0)?;
     check_length(second, 1)?;
-    let table = read_file(alloc, first, 0)?;
-    let other = read_file(alloc, second, 1)?;
+    let table = table_of_file(alloc, first, 0)?;
+    let other = table_of_file(alloc, second, 1)?;
     Ok(relation(&table, &other))
 }
 
@@ -87,15 +94,16 @@ pub fn relation_line(relation: Relation) -> &'static str
 
 /// The table of all claims of the files.
 fn joined(alloc: Global, files: &[Vec<u8>]) -> Result<Table, Report>
-    ensures joins { IfOk result (λ table. (claims : List Claim) × AreShort (map (λ file. file.items) files.now)
-        × FilesClaims (map (λ file. file.items) files.now) claims × TableOf table claims) }
-    ensures refuses { IfErr result (AreRefused (map (λ file. file.items) files.now)) }
+    ensures joins { IfOk result (λ table. (claims : List Claim)
+        × AreShortFiles (bytes_of files.now)
+        × FilesClaims (bytes_of files.now) claims × TableOf table claims) }
+    ensures refuses { IfErr result (AreRefused (bytes_of files.now)) }
     ensures place { IfErr result (λ report. IsAmong report.place (length files.now)) }
 {
     check_lengths(files)?;
     let mut table = Table::new(alloc);
     for (place, file) in files.iter().enumerate() {
-        let other = read_file(alloc, file, place)?;
+        let other = table_of_file(alloc, file, place)?;
         match table.join(other) {
             Ok(()) => {}
             Err(_) => return Err(What::Memory.at(Place::File(place))),
@@ -105,8 +113,8 @@ fn joined(alloc: Global, files: &[Vec<u8>]) -> Result<Table, Report>
 }
 
 fn check_lengths(files: &[Vec<u8>]) -> Result<(), Report>
-    ensures short { OnOk result (AreShort (map (λ file. file.items) files.now)) }
-    ensures refuses { IfErr result (AreRefused (map (λ file. file.items) files.now)) }
+    ensures short { OnOk result (AreShortFiles (bytes_of files.now)) }
+    ensures refuses { IfErr result (AreRefused (bytes_of files.now)) }
     ensures place { IfErr result (λ report. IsAmong report.place (length files.now)) }
 {
     for (place, file) in files.iter().enumerate() {
@@ -117,8 +125,9 @@ fn check_lengths(files: &[Vec<u8>]) -> Result<(), Report>
 
 /// That a file is no longer than its bound.
 pub(crate) fn check_length(file: &[u8], place: usize) -> Result<(), Report>
-    ensures short { OnOk result (length file.now ≤ 268435456) }
-    ensures long { IfErr result (λ report. (268435456 < length file.now) × (report ≡ record { place = Place.File place; what = What.Refused 32 None })) }
+    ensures short { OnOk result (length file.now ≤ most_bytes) }
+    ensures long { IfErr result (λ report. (most_bytes < length file.now)
+        × (report ≡ record { place = Place.File place; what = What.Refused 32 None })) }
 {
     if file.len() > BOUND {
         Err(What::input_too_long().at(Place::File(place)))
@@ -128,9 +137,11 @@ pub(crate) fn check_length(file: &[u8], place: usize) -> Result<(), Report>
 }
 
 /// The table of the claims of one file.
-pub(crate) fn read_file(alloc: Global, file: &[u8], place: usize) -> Result<Table, Report>
-    ensures reads { IfOk result (λ table. (claims : List Claim) × FileClaims file.now claims × TableOf table claims) }
-    ensures refuses { IfErr result (λ report. (report.what ≡ What.Memory) ⊎ IsNoDump file.now report.what) }
+pub(crate) fn table_of_file(alloc: Global, file: &[u8], place: usize) -> Result<Table, Report>
+    ensures reads { IfOk result (λ table. (claims : List Claim) × FileClaims file.now claims
+        × TableOf table claims) }
+    ensures refuses { IfErr result (λ report. (report.what ≡ What.Memory)
+        ⊎ IsNoDump file.now report.what) }
     ensures place { IfErr result (λ report. report.place ≡ Place.File place) }
 {
     match read_dump(alloc, file) {

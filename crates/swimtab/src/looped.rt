@@ -2,11 +2,12 @@
 
 ghost use Rattle.std.specs.Prelude.{◌≡◌, ◌↔◌, ◌<◌, List, length, None, IfOk, IfErr, OnOk};
 ghost use Rattle.swim_claim.specs.declared.claim.Claim.{Claim};
+ghost use Rattle.swim_program.specs.Limits.{most_bytes};
 ghost use Rattle.swim_wire.specs.declared.fault.WireFault.{WireFault};
 ghost use Rattle.swimtab.specs.Looping.{FitsLoop, IsLoopTable, IsLoopRefused, TakesIn, IsLooped, IsLoopStopped};
 ghost use Rattle.swim_program.specs.Report.{IsAmong, what_of};
 
-use crate::dumps::{check_length, read_file};
+use crate::dumps::{check_length, table_of_file};
 use std::alloc::{AllocError, Global};
 use std::io;
 use std::net::{Ipv4Addr, TcpListener, TcpStream};
@@ -25,8 +26,8 @@ const PATIENCE: u64 = 10;
 /// The table of a dump for [`looped`]: a file that is one push/pull stream, and whose table has a
 /// canonical dump of at most 16,384 bytes.
 ///
-/// A report names the file by its place, and says one of these. TooManyRecords never comes, since one
-/// stream has at most 131,072 records.
+/// A report names the file by its place, and says one of these. TooManyRecords never comes, since
+/// one stream has at most 131,072 records.
 ///
 /// - InputTooLong exactly where the file has more than 268,435,456 bytes (own).
 /// - The fault of the stream where the file is none.
@@ -38,11 +39,12 @@ pub fn loop_table(alloc: Global, dump: &[u8], file: usize) -> Result<Table, Repo
     ensures reads { IfOk result (IsLoopTable dump.now) }
 
     ensures refuses { IfErr result (λ report. IsLoopRefused dump.now report.what) }
-    ensures long { (268435456 < length dump.now) ↔ (result ≡ Err (record { place = Place.File file; what = What.Refused 32 None })) }
+    ensures long { (most_bytes < length dump.now)
+        ↔ (result ≡ Err (record { place = Place.File file; what = What.Refused 32 None })) }
     ensures place { IfErr result (λ report. report.place ≡ Place.File file) }
 {
     check_length(dump, file)?;
-    let table = read_file(alloc, dump, file)?;
+    let table = table_of_file(alloc, dump, file)?;
     let what = match encode(alloc, &table, false) {
         Ok(bytes) if bytes.len() <= MOST_BYTES => return Ok(table),
         Ok(_) => What::too_large_for_loop(),
@@ -53,8 +55,8 @@ pub fn loop_table(alloc: Global, dump: &[u8], file: usize) -> Result<Table, Repo
     Err(what.at(Place::File(file)))
 }
 
-/// A listener for [`looped`], on this machine alone and on a port that the system picks. Where there
-/// is none, that is a device fault at the loop.
+/// A listener for [`looped`], on this machine alone and on a port that the system picks. Where
+/// there is none, that is a device fault at the loop.
 pub fn local_listener(rt: &HostRuntime) -> Result<TcpListener, Report>
     ensures { IfErr result (λ report. report ≡ record { place = Place.Loop; what = What.Device }) }
 {
@@ -64,17 +66,17 @@ pub fn local_listener(rt: &HostRuntime) -> Result<TcpListener, Report>
     }
 }
 
-/// Exchanges two tables over a connection to the listener and lists the first one, with whether both
-/// ended equal. The first table offers, the second answers, and the first finishes, as memberlist's
-/// push/pull does (`net.go`).
+/// Exchanges two tables over a connection to the listener and lists the first one, with whether
+/// both ended equal. The first table offers, the second answers, and the first finishes, as
+/// memberlist's push/pull does (`net.go`).
 ///
-/// The condition is that each table's canonical dump has at most 16,384 bytes (own). The second table
-/// answers on the connection that the listener gives next: where another one was made before, that
-/// one.
+/// The condition is that each table's canonical dump has at most 16,384 bytes (own). The second
+/// table answers on the connection that the listener gives next: where another one was made before,
+/// that one.
 ///
 /// A report says, at the loop, that there was no connection, that it failed or kept silent for 10
-/// seconds (both a device fault), with which fault no stream came over it, or that memory was refused;
-/// and at the output that there was no memory for the listing. TooManyRecords never comes.
+/// seconds (both a device fault), with which fault no stream came over it, or that memory was
+/// refused; and at the output that there was no memory for the listing. TooManyRecords never comes.
 pub fn looped(
     rt: &HostRuntime,
     listener: TcpListener,
@@ -109,7 +111,7 @@ pub(crate) fn looped_within(
 {
     let mut first = first;
     let mut second = second;
-    if let Err(what) = exchange(rt, &listener, &mut first, &mut second, patience) {
+    if let Err(what) = exchange_over_socket(rt, &listener, &mut first, &mut second, patience) {
         return Err(what.at(Place::Loop));
     }
     match list(rt.alloc(), &first) {
@@ -121,9 +123,9 @@ pub(crate) fn looped_within(
 /// Exchanges two tables over a connection to the listener.
 ///
 /// Each side writes its whole dump before the other side reads it. Nobody waits, since a dump of at
-/// most 16,384 bytes fits the buffers of the sockets; but where the listener gives the connection of
-/// a stranger, it may keep silent.
-fn exchange(
+/// most 16,384 bytes fits the buffers of the sockets; but where the listener gives the connection
+/// of a stranger, it may keep silent.
+fn exchange_over_socket(
     rt: &HostRuntime,
     listener: &TcpListener,
     first: &mut Table,

@@ -2,6 +2,7 @@
 
 ghost use Rattle.std.specs.Prelude.{◌≡◌, ◌≢◌, ◌↔◌, ◌<◌, ◌≤◌, ◌++◌, ◌∷◌, [], List, map, length, IfOk, IfErr, OnOk};
 ghost use Rattle.swim_claim.specs.declared.claim.Claim.{Claim};
+ghost use Rattle.swim_program.specs.Limits.{most_bytes};
 ghost use Rattle.swim_table.specs.Listing.{listing};
 ghost use Rattle.swim_table.specs.Table.{Entries, TableOf};
 ghost use Rattle.swim_wire.specs.Packet.{PacketValue};
@@ -18,19 +19,23 @@ use swim_wire::Datagram;
 /// The listing of the table of the datagrams, packets and compound packets, which are given in
 /// hexadecimal, one a line.
 ///
-/// A line ends with a line feed, which the last may lack; one carriage return at its end is dropped,
-/// and an empty line is skipped. The first line that is refused is reported by its number from 1,
-/// with the fault of its datagram or as no hexadecimal (BadHex). An input of more than 268,435,456
-/// bytes is refused as a whole (InputTooLong).
+/// A line ends with a line feed, which the last may lack; one carriage return at its end is
+/// dropped, and an empty line is skipped. The first line that is refused is reported by its number
+/// from 1, with the fault of its datagram or as no hexadecimal (BadHex). An input of more than
+/// 268,435,456 bytes is refused as a whole (InputTooLong).
 pub fn packets(alloc: Global, input: &[u8]) -> Result<Vec<u8>, Report>
     // The text is the listing of the table of the claims that the lines make.
-    ensures lists { IfOk result (λ text. (claims : List Claim) × (table : Entries) × PacketLines input.now claims × TableOf table claims × (text.items ≡ listing table)) }
+    ensures lists { IfOk result (λ text. (claims : List Claim) × (table : Entries)
+        × PacketLines input.now claims × TableOf table claims × (text.items ≡ listing table)) }
 
     // Refused for another cause than memory and its length, the lines make no claims.
-    ensures refuses { IfErr result (λ report. report.what ≢ What.Memory → length input.now ≤ 268435456 → (claims : List Claim) → ¬ PacketLines input.now claims) }
+    ensures refuses { IfErr result (λ report. report.what ≢ What.Memory
+        → length input.now ≤ most_bytes → (claims : List Claim) → ¬ PacketLines input.now claims) }
     // And the report names the first line that makes none.
-    ensures line { IfErr result (λ report. report.what ≢ What.Memory → length input.now ≤ 268435456 → IsFirstWrong input.now report.place) }
-    ensures long { (268435456 < length input.now) ↔ (result ≡ Err (record { place = Place.Input; what = What.Refused 32 None })) }
+    ensures line { IfErr result (λ report. report.what ≢ What.Memory → length input.now ≤ most_bytes
+        → IsFirstWrong input.now report.place) }
+    ensures long { (most_bytes < length input.now)
+        ↔ (result ≡ Err (record { place = Place.Input; what = What.Refused 32 None })) }
     ensures no_device { IfErr result (λ report. report.what ≢ What.Device) }
     ensures place { IfErr result (λ report. IsAmong report.place 0) }
 {
@@ -53,7 +58,8 @@ pub fn packets(alloc: Global, input: &[u8]) -> Result<Vec<u8>, Report>
 fn take_line(alloc: Global, table: &mut Table, line: &[u8]) -> Result<(), What>
     ensures takes { OnOk result ((claims : List Claim) × LineClaims line.now claims
         × ((taken : List Claim) → TableOf table.old taken → TableOf table.new (taken ++ claims))) }
-    ensures refuses { IfErr result (λ what. what ≢ What.Memory → (claims : List Claim) → ¬ LineClaims line.now claims) }
+    ensures refuses { IfErr result (λ what. what ≢ What.Memory
+        → (claims : List Claim) → ¬ LineClaims line.now claims) }
     ensures no_device { IfErr result (λ what. what ≢ What.Device) }
 {
     take_text(alloc, table, without_return(line))
@@ -62,7 +68,8 @@ fn take_line(alloc: Global, table: &mut Table, line: &[u8]) -> Result<(), What>
 fn take_text(alloc: Global, table: &mut Table, text: &[u8]) -> Result<(), What>
     ensures takes { OnOk result ((claims : List Claim) × TextClaims text.now claims
         × ((taken : List Claim) → TableOf table.old taken → TableOf table.new (taken ++ claims))) }
-    ensures refuses { IfErr result (λ what. what ≢ What.Memory → (claims : List Claim) → ¬ TextClaims text.now claims) }
+    ensures refuses { IfErr result (λ what. what ≢ What.Memory
+        → (claims : List Claim) → ¬ TextClaims text.now claims) }
     ensures no_device { IfErr result (λ what. what ≢ What.Device) }
 {
     if text.is_empty() {

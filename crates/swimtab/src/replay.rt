@@ -1,6 +1,7 @@
 //! Scripts that are replayed: what the nodes of a cluster list after all that happened.
 
 ghost use Rattle.std.specs.Prelude.{◌≡◌, ◌≢◌, ◌↔◌, ◌<◌, ◌≤◌, ◌++◌, [], List, length, map, Some, None, IfOk, IfErr, OnOk};
+ghost use Rattle.swim_program.specs.Limits.{most_bytes};
 ghost use Rattle.swim_sync.specs.declared.event.Event.{Event};
 ghost use Rattle.swim_sync.specs.Cluster.{Ran};
 ghost use Rattle.swim_sync.specs.Levels.{level_list};
@@ -21,19 +22,24 @@ use swim_table::list;
 ///
 /// The whole script is read first, and refused as it is read: the first line that cannot be read is
 /// reported by its number from 1, and an input of more than 268,435,456 bytes as a whole
-/// (InputTooLong). Then all that it tells of happens in turn. An event that cannot happen is reported
-/// by its line, and one of the levelling by the line `level`: NoSuchNode, SameNode or TooManyRecords.
+/// (InputTooLong). Then all that it tells of happens in turn. An event that cannot happen is
+/// reported by its line, and one of the levelling by the line `level`: NoSuchNode, SameNode or
+/// TooManyRecords.
 pub fn script(alloc: Global, input: &[u8]) -> Result<Vec<u8>, Report>
     // The input is a script, and the text shows what its nodes have heard.
     ensures replays { IfOk result (λ text. Replays input.now text.items) }
 
-    // Refused for the fault of an event, it is a script with such an event, on the line that the report names;
-    // else it is none, from the line on that the report names.
-    ensures events { IfErr result (λ report. IsOfEvent report.what → RefusedEvent input.now report) }
-    ensures refuses { IfErr result (λ report. report.what ≢ What.Memory → length input.now ≤ 268435456 → ¬ IsOfEvent report.what
+    // Refused for the fault of an event, it is a script with such an event, on the line that the
+    // report names; else it is none, from the line on that the report names.
+    ensures events { IfErr result (λ report. IsOfEvent report.what
+        → RefusedEvent input.now report) }
+    ensures refuses { IfErr result (λ report. report.what ≢ What.Memory
+        → length input.now ≤ most_bytes → ¬ IsOfEvent report.what
         → (starts : List Start) → (events : List Event) → ¬ Script input.now starts events) }
-    ensures line { IfErr result (λ report. report.what ≢ What.Memory → length input.now ≤ 268435456 → ¬ IsOfEvent report.what → IsFirstWrongLine input.now report.place) }
-    ensures long { (268435456 < length input.now) ↔ (result ≡ Err (record { place = Place.Input; what = What.Refused 32 None })) }
+    ensures line { IfErr result (λ report. report.what ≢ What.Memory → length input.now ≤ most_bytes
+        → ¬ IsOfEvent report.what → IsFirstWrongLine input.now report.place) }
+    ensures long { (most_bytes < length input.now)
+        ↔ (result ≡ Err (record { place = Place.Input; what = What.Refused 32 None })) }
     ensures no_device { IfErr result (λ report. report.what ≢ What.Device) }
     ensures place { IfErr result (λ report. IsAmong report.place 0) }
 {
@@ -49,8 +55,11 @@ pub fn script(alloc: Global, input: &[u8]) -> Result<Vec<u8>, Report>
 fn played(alloc: Global, plan: Plan) -> Result<Cluster, Report>
     requires lines { length plan.lines.items ≡ length plan.events.items }
     requires few { length plan.nodes.items ≤ 268435457 }
-    ensures runs { IfOk result (λ cluster. Ran plan.nodes.items cluster (plan_events plan.events.items (length plan.nodes.items) plan.level)) }
-    ensures stops { IfErr result (λ report. StopsSo plan.nodes.items (plan_events plan.events.items (length plan.nodes.items) plan.level) plan.lines.items plan.level report) }
+    ensures runs { IfOk result (λ cluster. Ran plan.nodes.items cluster
+        (plan_events plan.events.items (length plan.nodes.items) plan.level)) }
+    ensures stops { IfErr result (λ report. StopsSo plan.nodes.items
+        (plan_events plan.events.items (length plan.nodes.items) plan.level)
+        plan.lines.items plan.level report) }
     ensures place { IfErr result (λ report. IsAmong report.place 0) }
 {
     let Plan {
@@ -73,7 +82,8 @@ fn played(alloc: Global, plan: Plan) -> Result<Cluster, Report>
 fn levelled(mut cluster: Cluster, line: u64) -> Result<Cluster, Report>
     requires { length cluster ≤ 2147483648 }
     ensures runs { IfOk result (λ new. Ran cluster new (level_list (length cluster))) }
-    ensures stops { IfErr result (λ report. StopsSo cluster (level_list (length cluster)) [] (Some line) report) }
+    ensures stops { IfErr result (λ report.
+        StopsSo cluster (level_list (length cluster)) [] (Some line) report) }
     ensures place { IfErr result (λ report. IsAmong report.place 0) }
 {
     match cluster.level() {
@@ -84,7 +94,8 @@ fn levelled(mut cluster: Cluster, line: u64) -> Result<Cluster, Report>
 
 /// For each node the line `node K` and its listing.
 fn list_nodes(alloc: Global, cluster: &Cluster) -> Result<Vec<u8>, AllocError>
-    ensures { IfOk result (λ text. text.items ≡ shown_from 0 (map (λ node. node.table) cluster.now)) }
+    ensures { IfOk result (λ text.
+        text.items ≡ shown_from 0 (map (λ node. node.table) cluster.now)) }
 {
     let mut text = Vec::new(alloc);
     for k in 0..cluster.len() {

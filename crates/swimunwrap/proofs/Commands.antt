@@ -1,5 +1,5 @@
 -- The command and the flag that `clap` is given.
-use Rattle.std.proofs.Common.{◌≡◌, ◌∙◌, List, [], ◌∷◌, Bool, Option, Some, None, Bor, ℕ, refl, true, false, ap, codes, sym}
+use Rattle.std.proofs.Common.{◌≡◌, ◌∙◌, List, [], ◌∷◌, ◌++◌, Bool, Option, Some, None, Bor, ℕ, refl, true, false, ap, codes, sym}
 use Rattle.std.specs.Prelude.{◌≢◌, option_map, if◌then◌else◌}
 use Rattle.std.specs.Str.{bytes_eq}
 use Rattle.std.proofs.lemmas.Slice.Eq.{bytes_eq-Decides}
@@ -7,7 +7,7 @@ use Rattle.clap.specs.Words.{Row, Text, first_of, is_simple, is_simple_and_free}
 use Rattle.clap.proofs.OnLiterals.{clap_on_literals}
 use Rattle.swimunwrap.specs.Chosen.{Choice}
 use Rattle.swimunwrap.specs.declared.verb.Verb.TheVariants as verb
-use Rattle.swimunwrap.specs.Words.{AsksFor, at_most_one, program, verb_of_flag}
+use Rattle.swimunwrap.specs.Words.{AsksFor, at_most_one, key_words, program, verb_of_flag}
 
 -- the words of this program are among those of which `clap` gives the matches
 pub program_is_simple : is_simple program ≡ true
@@ -21,17 +21,17 @@ program_is_free = refl
 
 -- what is chosen is what the words ask for, where they name the command
 pub asks_stream : (o : Option (Text × List Row)) (flags rows : List Row) (choice : Choice) → Some rows ≡ option_map (λ p. p.1) o → choice.verb ≡ verb.Stream
-    → choice.files ≡ at_most_one (first_of (codes "FILE") rows) → AsksFor o flags choice
-asks_stream None flags rows choice found verb files = absurd cc
-asks_stream (Some p) flags rows choice found verb files =
+    → choice.files ≡ at_most_one (first_of (codes "FILE") rows) → choice.key_files ≡ key_words flags ++ key_words rows → AsksFor o flags choice
+asks_stream None flags rows choice found verb files keys = absurd cc
+asks_stream (Some p) flags rows choice found verb files keys =
     let same : rows ≡ p.1 = cc in
-    (verb, files ∙ ap (λ r. at_most_one (first_of (codes "FILE") r)) same)
+    (verb, files ∙ ap (λ r. at_most_one (first_of (codes "FILE") r)) same, keys ∙ ap (λ r. key_words flags ++ key_words r) same)
 
 -- and where they name none
 pub asks_lines : (o : Option (Text × List Row)) (flags rows : List Row) (choice : Choice) → None ≡ option_map (λ (p : Text × List Row). p.1) o → rows ≡ flags
-    → choice.verb ≡ verb_of_flag (first_of (codes "skip") rows) → choice.files ≡ [] → AsksFor o flags choice
-asks_lines None flags rows choice none same verb files = (verb ∙ ap (λ r. verb_of_flag (first_of (codes "skip") r)) same, files)
-asks_lines (Some p) flags rows choice none same verb files = absurd cc
+    → choice.verb ≡ verb_of_flag (first_of (codes "skip") rows) → choice.files ≡ [] → choice.key_files ≡ key_words rows → AsksFor o flags choice
+asks_lines None flags rows choice none same verb files keys = (verb ∙ ap (λ r. verb_of_flag (first_of (codes "skip") r)) same, files, keys ∙ ap key_words same)
+asks_lines (Some p) flags rows choice none same verb files keys = absurd cc
 
 -- ---- the flag, by the word that `clap` gives it
 
@@ -61,7 +61,8 @@ keeps_unasked o flag read is =
 
 -- ---- the file, by the word that `clap` gives
 
-pub one_file : (o : Option (Bor (List ℕ))) (word : Bor (List ℕ)) (found : Option Text) (text : List ℕ) → option_map (λ s. s.now) o ≡ found → o ≡ Some word → text ≡ word.now
+pub one_file : (o : Option (Bor (List ℕ))) (word : Bor (List ℕ)) (found : Option Text) (text : List ℕ) → option_map
+    (λ s. s.now) o ≡ found → o ≡ Some word → text ≡ word.now
     → text ∷ [] ≡ at_most_one found
 one_file o word found text read is same =
     let said : found ≡ Some word.now = sym read ∙ ap (option_map (λ s. s.now)) is in rw said (ap (λ t. t ∷ []) same)

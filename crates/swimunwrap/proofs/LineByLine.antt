@@ -9,10 +9,11 @@ use Rattle.swimunwrap.specs.Lines.{Becomes, AllBecome, BecomeTooLong}
 use Rattle.swimunwrap.specs.Unwrapped.{parted}
 
 -- one more line, behind those before
-behind : (skip : Bool) (before : List ℕ) (lines : List (List ℕ)) (line text own : List ℕ) (causes first : List Cause) → AllBecome skip (before ∷ lines) text causes → Becomes skip line own first
-    → AllBecome skip (before ∷ lines ++ line ∷ []) (text ++ 10 ∷ own) (causes ++ first)
-behind skip before [] line text own causes first each h = (text, own, causes, first, each, h, refl, refl)
-behind skip before (next ∷ lines) line text own causes first each h =
+behind : (keys : List (List ℕ)) (skip : Bool) (before : List ℕ) (lines : List (List ℕ)) (line text own : List ℕ)
+    (causes first : List Cause) → AllBecome keys skip (before ∷ lines) text causes → Becomes keys skip line own first
+    → AllBecome keys skip (before ∷ lines ++ line ∷ []) (text ++ 10 ∷ own) (causes ++ first)
+behind keys skip before [] line text own causes first each h = (text, own, causes, first, each, h, refl, refl)
+behind keys skip before (next ∷ lines) line text own causes first each h =
     let own0 = each.0 in
     let rest = each.1 in
     let first0 = each.2 in
@@ -22,7 +23,7 @@ behind skip before (next ∷ lines) line text own causes first each h =
       first0,
       more ++ first,
       each.4,
-      behind skip next lines line rest own more first each.5 h,
+      behind keys skip next lines line rest own more first each.5 h,
       ap (λ t. t ++ 10 ∷ own) each.6 ∙ append_assoc own0 (10 ∷ rest) (10 ∷ own),
       ap (λ t. t ++ first) each.7 ∙ append_assoc first0 more first,
     )
@@ -32,34 +33,39 @@ parted-more : (index : ℕ) (text : List ℕ) → parted (suc index) text ≡ te
 parted-more index text = grind (arith, nat_tests)
 
 -- one more line, by how many stand before it
-pub AllBecome-push : (skip : Bool) (lines : List (List ℕ)) (index : ℕ) (line text own : List ℕ) (causes first : List Cause) → index ≡ length lines
-    → AllBecome skip lines text causes → Becomes skip line own first → AllBecome skip (lines ++ line ∷ []) (parted index text ++ own) (causes ++ first)
-AllBecome-push skip [] zero line text own causes first e each h =
-    let T : List ℕ → Type 0 = λ t. Becomes skip line (t ++ own) (causes ++ first) in
-    let C : List Cause → Type 0 = λ c. Becomes skip line own (c ++ first) in
+pub AllBecome-push : (keys : List (List ℕ)) (skip : Bool) (lines : List (List ℕ)) (index : ℕ) (line text own : List ℕ)
+    (causes first : List Cause) → index ≡ length lines
+    → AllBecome keys skip lines text causes → Becomes keys skip line own first
+    → AllBecome keys skip (lines ++ line ∷ []) (parted index text ++ own) (causes ++ first)
+AllBecome-push keys skip [] zero line text own causes first e each h =
+    let T : List ℕ → Type 0 = λ t. Becomes keys skip line (t ++ own) (causes ++ first) in
+    let C : List Cause → Type 0 = λ c. Becomes keys skip line own (c ++ first) in
     subst T (sym each.0) (subst C (sym each.1) h)
-AllBecome-push skip [] (suc index) line text own causes first e each h = absurd cc
-AllBecome-push skip (before ∷ lines) zero line text own causes first e each h = absurd cc
-AllBecome-push skip (before ∷ lines) (suc index) line text own causes first e each h =
-    let T : List ℕ → Type 0 = λ t. AllBecome skip (before ∷ lines ++ line ∷ []) t (causes ++ first) in
-    subst T (sym (append_assoc text (10 ∷ []) own) ∙ sym (ap (λ t. t ++ own) (parted-more index text))) (behind skip before lines line text own causes first each h)
+AllBecome-push keys skip [] (suc index) line text own causes first e each h = absurd cc
+AllBecome-push keys skip (before ∷ lines) zero line text own causes first e each h = absurd cc
+AllBecome-push keys skip (before ∷ lines) (suc index) line text own causes first e each h =
+    let T : List ℕ → Type 0 = λ t. AllBecome keys skip (before ∷ lines ++ line ∷ []) t (causes ++ first) in
+    subst T (sym (append_assoc text (10 ∷ []) own) ∙ sym (ap (λ t. t ++ own) (parted-more index text)))
+    (behind keys skip before lines line text own causes first each h)
 
 -- one more line of an input, by how many of them were read before
-pub AllBecome-next : (skip : Bool) (lines before : List (List ℕ)) (n index : ℕ) (line text own : List ℕ) (causes first : List Cause) → before ≡ take n lines
+pub AllBecome-next : (keys : List (List ℕ)) (skip : Bool) (lines before : List (List ℕ)) (n index : ℕ)
+    (line text own : List ℕ) (causes first : List Cause) → before ≡ take n lines
     → (n < length (enumerate_from 0 lines)) × ((index, line) ≡ get_or (enumerate_from 0 lines) n (index, line))
-    → AllBecome skip before text causes → Becomes skip line own first
-    → (before ++ line ∷ [] ≡ take (suc n) lines) × AllBecome skip (before ++ line ∷ []) (parted index text ++ own) (causes ++ first)
-AllBecome-next skip lines before n index line text own causes first front here each h =
+    → AllBecome keys skip before text causes → Becomes keys skip line own first
+    → (before ++ line ∷ [] ≡ take (suc n) lines) × AllBecome keys skip (before ++ line ∷ []) (parted index text ++ own) (causes ++ first)
+AllBecome-next keys skip lines before n index line text own causes first front here each h =
     let within : n < length lines = omega (arith, here.0, length-enumerate_from 0 lines) in
     let at : (index, line) ≡ (0 + n, get_or lines n line) = here.1 ∙ get_or-enumerate_from 0 lines n (index, line) within in
     let counted : index ≡ 0 + n = ap (λ (p : ℕ × List ℕ). p.0) at in
     let many : length before ≡ n = ap length front ∙ length-take-le n lines (omega (arith, within)) in
     let more : before ++ line ∷ [] ≡ take (suc n) lines =
     ap₂ (λ xs x. xs ++ x ∷ []) front (ap (λ (p : ℕ × List ℕ). p.1) at) ∙ sym (take-suc lines n line within) in
-    (more, AllBecome-push skip before index line text own causes first (omega (arith, counted, many)) each h)
+    (more, AllBecome-push keys skip before index line text own causes first (omega (arith, counted, many)) each h)
 
 -- the text of the first lines is too long
-pub too_long : (skip : Bool) (limit n : ℕ) (lines before : List (List ℕ)) (text : List ℕ) (causes : List Cause) → before ≡ take (suc n) lines
-    → AllBecome skip before text causes → limit < length text → BecomeTooLong skip limit lines
-too_long skip limit n lines before text causes front each long =
-    record { count = suc n; text = text; causes = causes; become = subst (λ b. AllBecome skip b text causes) front each; long = long }
+pub too_long : (keys : List (List ℕ)) (skip : Bool) (limit n : ℕ) (lines before : List (List ℕ)) (text : List ℕ)
+    (causes : List Cause) → before ≡ take (suc n) lines
+    → AllBecome keys skip before text causes → limit < length text → BecomeTooLong keys skip limit lines
+too_long keys skip limit n lines before text causes front each long =
+    record { count = suc n; text = text; causes = causes; become = subst (λ b. AllBecome keys skip b text causes) front each; long = long }

@@ -1,3 +1,5 @@
+pub mod Limits
+pub mod Cause
 pub mod Chosen
 pub mod Lines
 pub mod Outcome

@@ -1,29 +1,34 @@
 -- What becomes of lines.
 use Rattle.std.specs.Prelude.{◌≡◌, ◌⊎◌, ◌<◌, ℕ, Bool, true, false, List, [], ◌∷◌, ◌++◌, length, take}
 use Rattle.swimunwrap.specs.declared.cause.Cause.{Cause}
-use Rattle.swimunwrap.specs.Packet.{Reads, Fails}
+use Rattle.swimunwrap.specs.Packet.{ReadsLine, Fails}
 
--- a line of which nothing is read stays as it is; where such lines are left out it is empty, and its cause is kept
+-- a line of which nothing is read stays as it is; where such lines are left out it is empty, and
+-- its cause is kept
 abbrev pub Stays : Bool → List ℕ → Cause → List ℕ → List Cause → Type 0
 Stays false line cause text causes = (text ≡ line) × (causes ≡ [])
 Stays true line cause text causes = (text ≡ []) × (causes ≡ cause ∷ [])
 
 -- what becomes of a line, and why it was left out, if it was
-abbrev pub Becomes : Bool → List ℕ → List ℕ → List Cause → Type 0
-Becomes skip line text causes = (Reads line text × (causes ≡ [])) ⊎ ((cause : Cause) × Fails line cause × Stays skip line cause text causes)
+abbrev pub Becomes : List (List ℕ) → Bool → List ℕ → List ℕ → List Cause → Type 0
+Becomes keys skip line text causes =
+    (ReadsLine keys line text × (causes ≡ []))
+    ⊎ ((cause : Cause) × Fails keys line cause × Stays skip line cause text causes)
 
 -- what becomes of lines, with a line feed between each two
-abbrev pub AllBecome : Bool → List (List ℕ) → List ℕ → List Cause → Type 0
-AllBecome skip [] text causes = (text ≡ []) × (causes ≡ [])
-AllBecome skip (line ∷ []) text causes = Becomes skip line text causes
-AllBecome skip (line ∷ next ∷ lines) text causes =
+abbrev pub AllBecome : List (List ℕ) → Bool → List (List ℕ) → List ℕ → List Cause → Type 0
+AllBecome keys skip [] text causes = (text ≡ []) × (causes ≡ [])
+AllBecome keys skip (line ∷ []) text causes = Becomes keys skip line text causes
+AllBecome keys skip (line ∷ next ∷ lines) text causes =
     (own : List ℕ) × (rest : List ℕ) × (first : List Cause) × (more : List Cause)
-    × Becomes skip line own first × AllBecome skip (next ∷ lines) rest more × (text ≡ own ++ 10 ∷ rest) × (causes ≡ first ++ more)
+    × Becomes keys skip line own first × AllBecome keys skip (next ∷ lines) rest more
+    × (text ≡ own ++ 10 ∷ rest) × (causes ≡ first ++ more)
 
 -- the first lines, so many of them, become a text that is longer than the limit
-pub record BecomeTooLong (skip : Bool) (limit : ℕ) (lines : List (List ℕ)) : Type 0 where
+pub record BecomeTooLong (keys : List (List ℕ)) (skip : Bool) (limit : ℕ) (lines : List (List ℕ))
+    : Type 0 where
   pub count : ℕ
   pub text : List ℕ
   pub causes : List Cause
-  pub become : AllBecome skip (take count lines) text causes
+  pub become : AllBecome keys skip (take count lines) text causes
   pub long : limit < length text

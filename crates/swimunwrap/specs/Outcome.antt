@@ -1,19 +1,18 @@
 -- What a line becomes, step by step.
-use Rattle.std.specs.Prelude.{◌≡◌, ◌⊎◌, ℕ, List, [], string_bytes}
+use Rattle.std.specs.Prelude.{◌≡◌, ◌≢◌, ◌⊎◌, ◌<◌, ℕ, List, [], string_bytes}
 use Rattle.hex.specs.Hex.{encode_lower}
-use Rattle.memberlist_wrap.specs.Explaining.{ExplainsIn}
-use Rattle.memberlist_wrap.specs.Wrapping.{Unwraps}
+use Rattle.memberlist_keyring.specs.Opening.{Opens, OpensFirst}
 use Rattle.swim_wire.specs.declared.claimless.Claimless.{Claimless}
 use Rattle.swim_wire.specs.Claimless.{ClaimlessText}
-use Rattle.swimunwrap.specs.declared.cause.Cause.TheVariants.{Wrapped, NoMessage}
+use Rattle.swimunwrap.specs.declared.cause.Cause.TheVariants.{NoMessage, NoKeyFits}
 use Rattle.swimunwrap.specs.declared.packet.Outcome.{Outcome}
 use Rattle.swimunwrap.specs.declared.packet.Outcome.TheVariants.{Text, Unread}
-use Rattle.swimunwrap.specs.Packet.{Reads, Fails, MakesClaims, IsNoMessage}
+use Rattle.swimunwrap.specs.Packet.{ReadsLine, Fails, ReadsBytes, FailsBytes, MakesClaims, IsNoMessage, IsUnclear}
 
 -- of a line
-abbrev pub IsOutcome : List ℕ → Outcome → Type 0
-IsOutcome line (Text text) = Reads line (string_bytes text)
-IsOutcome line (Unread cause) = Fails line cause
+abbrev pub IsOutcome : List (List ℕ) → List ℕ → Outcome → Type 0
+IsOutcome keys line (Text text) = ReadsLine keys line (string_bytes text)
+IsOutcome keys line (Unread cause) = Fails keys line cause
 
 -- of a message
 abbrev pub IsOutcomeIn : List ℕ → Outcome → Type 0
@@ -24,7 +23,25 @@ IsOutcomeIn message (Text text) =
 IsOutcomeIn message (Unread (NoMessage first)) = IsNoMessage message first
 IsOutcomeIn message (Unread cause) = ⊥
 
--- of bytes, by the message in them, or why there is none
-abbrev pub IsOutcomeOf : List ℕ → Outcome → Type 0
-IsOutcomeOf bytes (Unread (Wrapped fault)) = ExplainsIn 4 1048576 fault bytes × ((message : List ℕ) → ¬ Unwraps 1048576 bytes message)
-IsOutcomeOf bytes outcome = (message : List ℕ) × Unwraps 1048576 bytes message × IsOutcomeIn message outcome
+-- of bytes in the clear
+abbrev pub IsClearOutcome : List ℕ → Outcome → Type 0
+IsClearOutcome bytes (Text text) = ReadsBytes bytes (string_bytes text)
+IsClearOutcome bytes (Unread cause) = FailsBytes bytes cause
+
+-- it says that a version of encryption is no message
+abbrev pub IsUnclearOutcome : Outcome → Type 0
+IsUnclearOutcome (Unread (NoMessage first)) = first < 2
+IsUnclearOutcome outcome = ⊥
+
+-- of bytes that are opened
+abbrev pub IsOpenedOutcome : List (List ℕ) → List ℕ → Outcome → Type 0
+IsOpenedOutcome keys bytes (Unread NoKeyFits) = (inner : List ℕ) → ¬ Opens keys bytes inner
+IsOpenedOutcome keys bytes outcome =
+    (inner : List ℕ) × OpensFirst keys bytes inner × IsClearOutcome inner outcome
+
+-- Of bytes: as in the clear, or as opened where there are keys and they are unclear.
+pub data IsOutcomeOf (keys : List (List ℕ)) (bytes : List ℕ) (outcome : Outcome) : Type 0 where
+  clear : IsClearOutcome bytes outcome → (IsUnclear bytes → keys ≡ [])
+      → IsOutcomeOf keys bytes outcome
+  opened : IsUnclear bytes → keys ≢ [] → IsOpenedOutcome keys bytes outcome
+      → IsOutcomeOf keys bytes outcome

@@ -1,7 +1,8 @@
 -- The words of a command line, and what they ask for.
-use Rattle.std.specs.Prelude.{◌≡◌, true, List, [], ◌∷◌, Option, Some, None, codes, if◌then◌else◌}
+use Rattle.std.specs.Prelude.{◌≡◌, true, List, [], ◌∷◌, ◌++◌, Option, Some, None, codes, if◌then◌else◌, unwrap_or}
 use Rattle.std.specs.Str.{bytes_eq}
-use Rattle.clap.specs.declared.builder.action.ArgAction.TheVariants.{SetTrue}
+use Rattle.clap.specs.declared.builder.action.ArgAction.TheVariants.{Append, SetTrue}
+use Rattle.clap.specs.Walk.{all_of}
 use Rattle.clap.specs.Words.{App, Row, Rule, Text, first_of, new_app, new_rule, with_rule, with_subcommand}
 use Rattle.swimunwrap.specs.declared.verb.Verb.{Verb}
 use Rattle.swimunwrap.specs.declared.verb.Verb.TheVariants as verb
@@ -13,19 +14,34 @@ use Rattle.swimunwrap.specs.Chosen.{Choice}
 abbrev pub skip_rule : Rule
 skip_rule = record (new_rule (codes "skip")) { long = Some (codes "skip"); action = Some SetTrue }
 
+-- the flag before each word that names a file of keys
+abbrev pub key_rule : Rule
+key_rule = record (new_rule (codes "key-file")) {
+  long = Some (codes "key-file");
+  action = Some Append;
+}
+
 -- a word that names a file, or none
 abbrev pub file_rule : Rule
 file_rule = new_rule (codes "FILE")
 
+-- the command whose word may name a file
 abbrev pub stream_command : App
-stream_command = with_rule (new_app (codes "stream")) file_rule
+stream_command = with_rule (with_rule (new_app (codes "stream")) key_rule) file_rule
 
+-- the program without its flags and its command
 abbrev pub bare : App
-bare = record (new_app (codes "swimunwrap")) { top = record (new_app (codes "swimunwrap")).top { no_binary_name = true; disable_help_subcommand = true; has_version = true } }
+bare = record (new_app (codes "swimunwrap")) {
+  top = record (new_app (codes "swimunwrap")).top {
+    no_binary_name = true;
+    disable_help_subcommand = true;
+    has_version = true;
+  };
+}
 
--- no words, or `--skip`, or `stream` and a file or none
+-- no words, or `--skip`, or `stream` and a file or none; and files of keys in both places
 abbrev pub program : App
-program = with_subcommand (with_rule bare skip_rule) stream_command.top
+program = with_subcommand (with_rule (with_rule bare skip_rule) key_rule) stream_command.top
 
 -- ---- what the words ask for
 
@@ -39,7 +55,17 @@ abbrev pub verb_of_flag : Option Text → Verb
 verb_of_flag None = verb.Lines
 verb_of_flag (Some text) = if bytes_eq text (codes "true") then verb.Skipping else verb.Lines
 
--- the command is `stream`, and has the file that its word names
+-- the words that name files of keys
+abbrev pub key_words : List Row → List Text
+key_words rows = unwrap_or (all_of (codes "key-file") rows) []
+
+-- the command is `stream`, and has the file that its word names; files of keys are named before it
+-- and behind it
 abbrev pub AsksFor : Option (Text × List Row) → List Row → Choice → Type 0
-AsksFor None rows choice = (choice.verb ≡ verb_of_flag (first_of (codes "skip") rows)) × (choice.files ≡ [])
-AsksFor (Some command) rows choice = (choice.verb ≡ verb.Stream) × (choice.files ≡ at_most_one (first_of (codes "FILE") command.1))
+AsksFor None rows choice =
+    (choice.verb ≡ verb_of_flag (first_of (codes "skip") rows)) × (choice.files ≡ [])
+    × (choice.key_files ≡ key_words rows)
+AsksFor (Some command) rows choice =
+    (choice.verb ≡ verb.Stream)
+    × (choice.files ≡ at_most_one (first_of (codes "FILE") command.1))
+    × (choice.key_files ≡ key_words rows ++ key_words command.1)

@@ -1,12 +1,13 @@
 //! Why a line is none that can be read.
 
-ghost use Rattle.std.specs.Prelude.{◌<◌};
+ghost use Rattle.std.specs.Prelude.{◌≡◌, ◌<◌};
+ghost use Rattle.swimunwrap.specs.Cause.{cause_place};
 
 use memberlist_wrap::WrapFault;
 use std::fmt;
 
-/// How many causes there are, told apart by the first byte of what is no message.
-pub(crate) const CAUSES: usize = 267;
+/// How many places causes have.
+pub(crate) const PLACES: usize = 307;
 
 /// Why a line can be read as no message.
 #[derive(Clone, Copy, Debug, PartialEq, Eq)]
@@ -15,20 +16,24 @@ pub enum Cause {
     NotHex,
     /// It wraps nothing.
     Wrapped(WrapFault),
-    /// What it wraps begins with this byte, and is no message that packets have: it is encrypted, or
-    /// broken, or of another kind.
+    /// What it wraps begins with this byte, and is no message that packets have: it is encrypted,
+    /// or broken, or of another kind.
     NoMessage(u8),
+    /// It is encrypted, and none of the keys opens it.
+    NoKeyFits,
 }
 
 impl Cause {
-    /// Its place among all causes.
+    /// Its place among all causes, of which each has its own.
     pub(crate) fn place(self) -> usize
-        ensures { result < 267 }
+        ensures is { result ≡ cause_place self }
+        ensures bound { result < 307 }
     {
         match self {
             Cause::NotHex => 0,
-            Cause::Wrapped(fault) => fault.number() as usize - 39,
-            Cause::NoMessage(first) => first as usize + 11,
+            Cause::NoKeyFits => 1,
+            Cause::Wrapped(fault) => fault.number() as usize,
+            Cause::NoMessage(first) => first as usize + 50,
         }
     }
 }
@@ -42,6 +47,7 @@ impl fmt::Display for Cause {
                 write!(f, "encrypted or no message (first byte {first:02x})")
             }
             Cause::NoMessage(first) => write!(f, "no message (first byte {first:02x})"),
+            Cause::NoKeyFits => f.write_str("encrypted, no key fits"),
         }
     }
 }

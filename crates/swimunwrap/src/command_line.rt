@@ -1,17 +1,18 @@
 //! The words after the program's name.
 
-ghost use Rattle.std.specs.Prelude.{◌≡◌, true, [], codes, map, string_bytes, IfOk, IfErr};
-ghost use Rattle.clap.specs.Words.{app_of, fault_of, found_of, rows_of, first_of, matches_of, takes, subcommand_of, with_rule, with_subcommand};
+ghost use Rattle.std.specs.Prelude.{◌≡◌, true, false, [], codes, map, string_bytes, IfOk, IfErr};
+ghost use Rattle.clap.specs.Words.{app_of, fault_of, found_of, rows_of, first_of, matches_of, rule_of, takes, subcommand_of, with_subcommand};
 ghost use Rattle.swim_program.specs.Words.{IsRefusal};
-ghost use Rattle.swimunwrap.specs.Words.{program, bare, skip_rule, stream_command, at_most_one, verb_of_flag, AsksFor};
+ghost use Rattle.swimunwrap.specs.Words.{program, bare, key_rule, stream_command, at_most_one, verb_of_flag, AsksFor};
 
 use crate::help;
 use crate::verb::{Chosen, Verb};
 use clap::{Arg, ArgAction, ArgMatches, Command};
 use std::alloc::{AllocError, Global};
-use swim_program::WordFault;
+use swim_program::{WordFault, texts_of};
 
-/// Reads the words after the program's name: none, or `--skip`, or `stream` with a file or none.
+/// Reads the words after the program's name: none, or `--skip`, or `stream` with a file or none;
+/// and `--key-file` with a file before or behind `stream`, as often as there are files of keys.
 ///
 /// # Errors
 ///
@@ -19,17 +20,23 @@ use swim_program::WordFault;
 /// `Memory` where a growth was refused.
 pub fn chosen(alloc: Global, words: &[String]) -> Result<Chosen, WordFault>
     // The verb and the file are those of the command, or of the flag, that clap finds in the words.
-    ensures asks { IfOk result (AsksFor (subcommand_of program (map string_bytes words.now)) (matches_of program (map string_bytes words.now))) }
+    ensures asks { IfOk result (AsksFor (subcommand_of program (map string_bytes words.now))
+        (matches_of program (map string_bytes words.now))) }
     // They are taken only where clap finds no fault in them, and refused by a fault that it finds.
     ensures faultless { IfOk result (λ _. fault_of program (map string_bytes words.now) ≡ []) }
     ensures faulty { IfErr result (IsRefusal (fault_of program (map string_bytes words.now))) }
     // Words that clap takes are refused for want of memory alone.
-    ensures takes { IfErr result (λ fault. takes program (map string_bytes words.now) ≡ true → fault ≡ WordFault.Memory) }
+    ensures takes { IfErr result (λ fault. takes program (map string_bytes words.now) ≡ true
+        → fault ≡ WordFault.Memory) }
 {
     let matches = command(alloc)?.try_get_matches_from(words)?;
+    let mut key_files = texts_of(alloc, &matches, "key-file")?;
     match matches.subcommand() {
-        Some((_, found)) => Ok(Chosen::new(Verb::Stream, file_of(alloc, found)?)),
-        None => Ok(Chosen::new(verb_of_flag(&matches), Vec::new(alloc))),
+        Some((_, found)) => {
+            key_files.append(&mut texts_of(alloc, found, "key-file")?)?;
+            Ok(Chosen::new(Verb::Stream, file_of(alloc, found)?, key_files))
+        }
+        None => Ok(Chosen::new(verb_of_flag(&matches), Vec::new(alloc), key_files)),
     }
 }
 
@@ -42,7 +49,8 @@ fn command<'a>(alloc: Global) -> Result<Command<'a>, AllocError>
         .action(ArgAction::SetTrue)
         .help(help::SKIP);
     let with_skip = lone_program(alloc).arg(skip)?;
-    add_stream(alloc, with_skip)?.bin_name("swimunwrap")
+    let with_keys = with_skip.arg(key_argument(alloc))?;
+    add_stream(alloc, with_keys)?.bin_name("swimunwrap")
 }
 
 /// The program without its command and its flag.
@@ -59,14 +67,27 @@ fn lone_program<'a>(alloc: Global) -> Command<'a>
 
 /// Adds the command whose word may name a file.
 fn add_stream<'a>(alloc: Global, command: Command<'a>) -> Result<Command<'a>, AllocError>
-    ensures { IfOk result (λ whole. app_of whole ≡ with_subcommand (app_of command.entry) stream_command.top) }
+    ensures { IfOk result (λ whole.
+        app_of whole ≡ with_subcommand (app_of command.entry) stream_command.top) }
 {
     let file = Arg::new(alloc, "FILE").help(help::FILE);
     let stream = Command::new(alloc, "stream")
         .about("Prints the push/pull stream in one direction of a TCP connection")
         .after_help(help::STREAM)
+        .arg(key_argument(alloc))?
         .arg(file)?;
     command.subcommand(stream)
+}
+
+/// The flag before each word that names a file of keys.
+fn key_argument<'a>(alloc: Global) -> Arg<'a>
+    ensures rule { rule_of result ≡ key_rule }
+    ensures local { result.global ≡ false }
+{
+    Arg::new(alloc, "key-file")
+        .long("key-file")
+        .action(ArgAction::Append)
+        .help(help::KEY_FILE)
 }
 
 /// Whether lines that cannot be read are left out.
@@ -85,7 +106,8 @@ fn verb_of_flag(matches: &ArgMatches) -> Verb
 
 /// The word that names a file, if there is one.
 fn file_of(alloc: Global, found: &ArgMatches) -> Result<Vec<String>, AllocError>
-    ensures { IfOk result (λ files. map string_bytes files.items ≡ at_most_one (first_of (codes "FILE") (rows_of (found_of found.now)))) }
+    ensures { IfOk result (λ files. map string_bytes files.items
+        ≡ at_most_one (first_of (codes "FILE") (rows_of (found_of found.now)))) }
 {
     let mut files = Vec::new(alloc);
     if let Some(word) = found.get_str("FILE") {

@@ -1,11 +1,11 @@
 //! What is said of lines that were left out.
 
 use crate::NAME;
-use crate::cause::{CAUSES, Cause};
+use crate::cause::{Cause, PLACES};
 use std::alloc::{AllocError, Global};
 
-/// How many lines were left out of how many, and for each cause how many, in the order in which the causes
-/// came: `swimunwrap: 3 of 217 lines left out: 2 not hexadecimal, 1 checksum wrong`.
+/// How many lines were left out of how many, and for each cause how many, in the order in which the
+/// causes came: `swimunwrap: 3 of 217 lines left out: 2 not hexadecimal, 1 checksum wrong`.
 pub fn left_out_text(alloc: Global, causes: &[Cause], input: &[u8]) -> Result<String, AllocError> {
     let mut counts = counts_of(causes);
     let mut text = format!(in alloc;
@@ -28,8 +28,8 @@ pub fn left_out_text(alloc: Global, causes: &[Cause], input: &[u8]) -> Result<St
 }
 
 /// How often each cause came.
-fn counts_of(causes: &[Cause]) -> [usize; CAUSES] {
-    let mut counts = [0usize; CAUSES];
+fn counts_of(causes: &[Cause]) -> [usize; PLACES] {
+    let mut counts = [0usize; PLACES];
     for cause in causes {
         let place = cause.place();
         counts[place] = counts[place].saturating_add(1);

@@ -1,6 +1,7 @@
 //! Packets in hexadecimal, one a line, without their wrappers.
 
 ghost use Rattle.std.specs.Prelude.{◌≡◌, ◌≢◌, ◌↔◌, ◌⊎◌, ◌<◌, ◌≤◌, ◌++◌, ◌∷◌, [], ℕ, List, length, None, IfOk, IfErr, OnOk};
+ghost use Rattle.swim_program.specs.Limits.{most_bytes};
 ghost use Rattle.swim_program.specs.Lines.{input_lines};
 ghost use Rattle.swim_program.specs.Report.{IsAmong};
 ghost use Rattle.swimunwrap.specs.declared.cause.Cause.{Cause};
@@ -9,12 +10,14 @@ ghost use Rattle.swimunwrap.specs.Unwrapped.{parted};
 
 use crate::cause::Cause;
 use crate::packet::{Outcome, outcome_of_line};
+use memberlist_keyring::Keyring;
 use memberlist_wrap::WrapFault;
 use std::alloc::{AllocError, Global};
 use std::marker::Model;
 use swim_program::{BOUND, Place, Report, What};
 
-/// What became of lines: their text, and why each was left out that was. Contracts see it as these two.
+/// What became of lines: their text, and why each was left out that was. Contracts see it as these
+/// two.
 #[derive(Debug, Drop)]
 pub struct Unwrapped {
     text: Vec<u8>,
@@ -62,11 +65,20 @@ impl Unwrapped {
     }
 
     /// What becomes of one more line.
-    fn add(&mut self, alloc: Global, line: &[u8], skip: bool) -> Result<(), AllocError>
-        ensures { OnOk result ((own : List ℕ) × (causes : List Cause) × Becomes skip line.now own causes
-            × (self.new ≡ record { text = self.old.text ++ own; causes = self.old.causes ++ causes })) }
+    fn add(
+        &mut self,
+        alloc: Global,
+        keys: &Keyring,
+        line: &[u8],
+        skip: bool,
+    ) -> Result<(), AllocError>
+        ensures { OnOk result ((own : List ℕ) × (causes : List Cause)
+            × Becomes keys.now skip line.now own causes × (self.new ≡ record {
+              text = self.old.text ++ own;
+              causes = self.old.causes ++ causes;
+            })) }
     {
-        match outcome_of_line(alloc, line)? {
+        match outcome_of_line(alloc, keys, line)? {
             Outcome::Text(text) => self.text.extend_from_slice(text.as_bytes())?,
             Outcome::Unread(cause) if skip => self.left_out.push(cause)?,
             Outcome::Unread(_) => self.text.extend_from_slice(line)?,
@@ -75,28 +87,38 @@ impl Unwrapped {
     }
 }
 
-/// The packets, which are given in hexadecimal, one a line, without their wrappers: for each line one line.
+/// The packets, which are given in hexadecimal, one a line, without their wrappers: for each line
+/// one line.
 ///
-/// It is the message inside, in hexadecimal, where that makes claims (its first byte is 3, 4, 5 or 7). It is
-/// empty where the message is a whole ping, indirect ping, ack, nack, user message or error, or is empty. Else
-/// it is the line as it was, or, with `skip`, empty, and its cause is kept. A message has at most 1,048,576
-/// bytes. The last line of the text has a line feed where that of the input has one.
+/// It is the message inside, in hexadecimal, where that makes claims (its first byte is 3, 4, 5 or
+/// 7). It is empty where the message is a whole ping, indirect ping, ack, nack, user message or
+/// error, or is empty. Else it is the line as it was, or, with `skip`, empty, and its cause is
+/// kept. What is no message and begins as an encrypted packet is first opened with the keys, where
+/// there are some. A message has at most 1,048,576 bytes. The last line of the text has a line feed
+/// where that of the input has one.
 ///
 /// # Errors
 ///
-/// InputTooLong at the input where it has more than 268,435,456 bytes; TooLarge at the output where the text
-/// has more; Memory.
-pub fn unwrap_lines(alloc: Global, input: &[u8], skip: bool) -> Result<Unwrapped, Report>
+/// InputTooLong at the input where it has more than 268,435,456 bytes; TooLarge at the output where
+/// the text has more; Memory.
+pub fn unwrap_lines(
+    alloc: Global,
+    keys: &Keyring,
+    input: &[u8],
+    skip: bool,
+) -> Result<Unwrapped, Report>
     // Each line becomes what the definitions say.
-    ensures each { IfOk result (λ u. AllBecome skip (input_lines input.now) u.text u.causes) }
-    ensures within { IfOk result (λ u. length u.text ≤ 268435456) }
+    ensures each { IfOk result (λ u.
+        AllBecome keys.now skip (input_lines input.now) u.text u.causes) }
+    ensures within { IfOk result (λ u. length u.text ≤ most_bytes) }
 
-    ensures long { (268435456 < length input.now)
+    ensures long { (most_bytes < length input.now)
         ↔ (result ≡ Err (record { place = Place.Input; what = What.Refused 32 None })) }
     // Another refusal is for want of memory, or what comes out is too long.
-    ensures large { IfErr result (λ report. report.what ≢ What.Memory → length input.now ≤ 268435456
+    ensures large { IfErr result (λ report. report.what ≢ What.Memory
+        → length input.now ≤ most_bytes
         → (report ≡ record { place = Place.Output; what = What.Refused 47 None })
-        × BecomeTooLong skip 268435456 (input_lines input.now)) }
+        × BecomeTooLong keys.now skip most_bytes (input_lines input.now)) }
     ensures place { IfErr result (λ report. IsAmong report.place 0) }
 {
     if input.len() > BOUND {
@@ -104,7 +126,7 @@ pub fn unwrap_lines(alloc: Global, input: &[u8], skip: bool) -> Result<Unwrapped
     }
     let mut unwrapped = Unwrapped::new(alloc);
     for (index, line) in input.split(|byte| *byte == b'\n').enumerate() {
-        if let Err(AllocError) = add_line(alloc, &mut unwrapped, index, line, skip) {
+        if let Err(AllocError) = add_line(alloc, keys, &mut unwrapped, index, line, skip) {
             return Err(What::Memory.at(Place::Line(index as u64 + 1)));
         }
         if unwrapped.text.len() > BOUND {
@@ -117,18 +139,22 @@ pub fn unwrap_lines(alloc: Global, input: &[u8], skip: bool) -> Result<Unwrapped
 /// What becomes of a line, behind a line feed where it is not the first.
 fn add_line(
     alloc: Global,
+    keys: &Keyring,
     unwrapped: &mut Unwrapped,
     index: usize,
     line: &[u8],
     skip: bool,
 ) -> Result<(), AllocError>
-    ensures { OnOk result ((own : List ℕ) × (causes : List Cause) × Becomes skip line.now own causes
-        × (unwrapped.new ≡ record { text = parted index unwrapped.old.text ++ own; causes = unwrapped.old.causes ++ causes })) }
+    ensures { OnOk result ((own : List ℕ) × (causes : List Cause)
+        × Becomes keys.now skip line.now own causes × (unwrapped.new ≡ record {
+          text = parted index unwrapped.old.text ++ own;
+          causes = unwrapped.old.causes ++ causes;
+        })) }
 {
     if index > 0 {
         unwrapped.end_line()?;
     }
-    unwrapped.add(alloc, line, skip)
+    unwrapped.add(alloc, keys, line, skip)
 }
 
 /// That what comes out is longer than the bound.

@@ -1,5 +1,17 @@
 //! A program that takes off what memberlist's transport wraps around messages: packets in
 //! hexadecimal or one stream in, the same without their wrappers out.
+//!
+//! | module | subject |
+//! |---|---|
+//! | `verb` | what the words of a command line ask for |
+//! | `command_line` | the words after the program's name |
+//! | `help` | what help and the version show |
+//! | `key_files` | the keys of a cluster, from files |
+//! | `lines` | packets in hexadecimal, one a line |
+//! | `packet` | the packet on a line, and the message in it |
+//! | `cause` | why a line can be read as no message |
+//! | `left_out` | what is said of lines that were left out |
+//! | `stream` | a push/pull stream |
 #![tactic(auto)]
 
 ghost use Rattle.std.specs.Prelude.{◌≡◌, ◌⊎◌, length, IfErr};
@@ -8,6 +20,7 @@ ghost use Rattle.swim_program.specs.Report.{IsAmong};
 mod cause;
 mod command_line;
 mod help;
+mod key_files;
 mod left_out;
 mod lines;
 mod packet;
@@ -17,12 +30,14 @@ mod tests;
 mod verb;
 
 use command_line::chosen;
+use key_files::keyring_of;
 use left_out::left_out_text;
 use lines::unwrap_lines;
+use memberlist_keyring::Keyring;
 use std::alloc::AllocError;
 use std::process::ExitCode;
 use stream::unwrap_stream;
-use swim_program::{Failure, Place, Report, What, read_file, read_to_bound, words_of, write_out};
+use swim_program::{Failure, Place, Report, What, read_file, read_input, words_of, write_out};
 use verb::{Chosen, Verb};
 
 /// The program's name, with which what it says on standard error begins.
@@ -39,28 +54,29 @@ fn run(rt: &HostRuntime) -> Result<(), Failure> {
     let alloc = rt.alloc();
     let words = words_of(rt)?;
     let chosen = chosen(alloc, words.as_slice())?;
-    match run_chosen(rt, &chosen) {
+    let keys = keyring_of(rt, chosen.key_files())?;
+    match run_chosen(rt, &keys, &chosen) {
         Ok(()) => Ok(()),
         Err(report) => Err(Failure::refused(alloc, NAME, &report, chosen.files())),
     }
 }
 
-fn run_chosen(rt: &HostRuntime, chosen: &Chosen) -> Result<(), Report>
+fn run_chosen(rt: &HostRuntime, keys: &Keyring, chosen: &Chosen) -> Result<(), Report>
     ensures { IfErr result (λ report. IsAmong report.place (length chosen.now.files)) }
 {
     match chosen.verb() {
-        Verb::Lines => print_lines(rt, false),
-        Verb::Skipping => print_lines(rt, true),
-        Verb::Stream => print_file(rt, chosen.files()),
+        Verb::Lines => print_lines(rt, keys, false),
+        Verb::Skipping => print_lines(rt, keys, true),
+        Verb::Stream => print_file(rt, keys, chosen.files()),
     }
 }
 
 /// Unwraps the packets on standard input, and says how many lines were left out, where some were.
-fn print_lines(rt: &HostRuntime, skip: bool) -> Result<(), Report>
+fn print_lines(rt: &HostRuntime, keys: &Keyring, skip: bool) -> Result<(), Report>
     ensures { IfErr result (λ report. IsAmong report.place 0) }
 {
-    let input = read_input(rt)?;
-    let unwrapped = unwrap_lines(rt.alloc(), &input, skip)?;
+    let input = read_input(rt, NAME, "packets")?;
+    let unwrapped = unwrap_lines(rt.alloc(), keys, &input, skip)?;
     print(rt, unwrapped.text())?;
     if unwrapped.left_out().is_empty() {
         return Ok(());
@@ -75,23 +91,23 @@ fn print_lines(rt: &HostRuntime, skip: bool) -> Result<(), Report>
 }
 
 /// Unwraps the stream in the file, or on standard input where there is none or its word is `-`.
-fn print_file(rt: &HostRuntime, files: &[String]) -> Result<(), Report>
+fn print_file(rt: &HostRuntime, keys: &Keyring, files: &[String]) -> Result<(), Report>
     ensures { IfErr result (λ report. IsAmong report.place (length files.now)) }
 {
     match files {
         [word, ..] if word.as_str() != "-" => match read_file(rt, word) {
-            Ok(bytes) => print_stream(rt, &bytes, Place::File(0)),
+            Ok(bytes) => print_stream(rt, keys, &bytes, Place::File(0)),
             Err(what) => Err(what.at(Place::File(0))),
         },
-        _ => print_stream(rt, &read_input(rt)?, Place::Input),
+        _ => print_stream(rt, keys, &read_input(rt, NAME, "a stream")?, Place::Input),
     }
 }
 
 /// Unwraps the stream that these bytes of a place are.
-fn print_stream(rt: &HostRuntime, bytes: &[u8], place: Place) -> Result<(), Report>
+fn print_stream(rt: &HostRuntime, keys: &Keyring, bytes: &[u8], place: Place) -> Result<(), Report>
     ensures { IfErr result (λ report. (report.place ≡ place) ⊎ (report.place ≡ Place.Output)) }
 {
-    match unwrap_stream(rt.alloc(), bytes) {
+    match unwrap_stream(rt.alloc(), keys, bytes) {
         Ok(stream) => match write_out(&mut rt.stdout(), &stream) {
             Ok(()) => Ok(()),
             Err(what) => Err(what.at(Place::Output)),
@@ -100,17 +116,7 @@ fn print_stream(rt: &HostRuntime, bytes: &[u8], place: Place) -> Result<(), Repo
     }
 }
 
-/// Standard input to its bound.
-fn read_input(rt: &HostRuntime) -> Result<Vec<u8>, Report>
-    ensures { IfErr result (λ report. IsAmong report.place 0) }
-{
-    match read_to_bound(rt.alloc(), &mut rt.stdin()) {
-        Ok(input) => Ok(input),
-        Err(what) => Err(what.at(Place::Input)),
-    }
-}
-
-/// To standard output.
+/// Prints bytes to standard output.
 fn print(rt: &HostRuntime, bytes: &[u8]) -> Result<(), Report>
     ensures { IfErr result (λ report. IsAmong report.place 0) }
 {

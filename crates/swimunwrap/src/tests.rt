@@ -1,17 +1,19 @@
 //! What clauses do not say: real messages, texts, and each public call on its happy path.
 
+mod keys;
 mod streams;
 mod texts;
 mod words;
 
 use crate::cause::Cause;
 use crate::lines::unwrap_lines;
+use memberlist_keyring::Keyring;
 use memberlist_wrap::WrapFault;
 use std::test::Fail;
 use swim_program::{What, status};
 
-/// An alive packet of `a`, and what Go's hash/crc32 and compress/lzw make of it as memberlist does: a checksum, a
-/// compression, and a checksum round a compression.
+/// An alive packet of `a`, and what Go's hash/crc32 and compress/lzw make of it as memberlist does:
+/// a checksum, a compression, and a checksum round a compression.
 const ALIVE: &str =
     "0486a441646472a47f000001ab496e6361726e6174696f6e00a44d657461a0a44e6f6465a161a4506f7274cd1f0aa356736ea0";
 
@@ -35,7 +37,12 @@ const CLAIMLESS: [&str; 4] = [
 #[test]
 fn what_makes_claims_is_unwrapped(rt: HostRuntime) -> Result<(), Fail> {
     for line in [ALIVE, CHECKED, COMPRESSED, BOTH] {
-        let unwrapped = unwrap_lines(rt.alloc(), line.as_bytes(), false)?;
+        let unwrapped = unwrap_lines(
+            rt.alloc(),
+            &Keyring::new(rt.alloc()),
+            line.as_bytes(),
+            false,
+        )?;
         assert_eq!(rt; unwrapped.text(), ALIVE.as_bytes(), "{line}");
         assert!(rt; unwrapped.left_out().is_empty());
     }
@@ -45,7 +52,7 @@ fn what_makes_claims_is_unwrapped(rt: HostRuntime) -> Result<(), Fail> {
 #[test]
 fn what_makes_none_is_an_empty_line(rt: HostRuntime) -> Result<(), Fail> {
     for line in CLAIMLESS {
-        let unwrapped = unwrap_lines(rt.alloc(), line.as_bytes(), true)?;
+        let unwrapped = unwrap_lines(rt.alloc(), &Keyring::new(rt.alloc()), line.as_bytes(), true)?;
         assert_eq!(rt; unwrapped.text().len(), 0, "{line}");
         assert!(rt; unwrapped.left_out().is_empty());
     }
@@ -62,9 +69,19 @@ fn each_line_becomes_a_line(rt: HostRuntime) -> Result<(), Fail> {
         ("0x\r", "0x\r", ""),
         ("0c00000000\n0c00000001\n", "\n0c00000001\n", "\n\n"),
     ] {
-        let unwrapped = unwrap_lines(rt.alloc(), input.as_bytes(), false)?;
+        let unwrapped = unwrap_lines(
+            rt.alloc(),
+            &Keyring::new(rt.alloc()),
+            input.as_bytes(),
+            false,
+        )?;
         assert_eq!(rt; unwrapped.text(), kept.as_bytes(), "{input:?}");
-        let unwrapped = unwrap_lines(rt.alloc(), input.as_bytes(), true)?;
+        let unwrapped = unwrap_lines(
+            rt.alloc(),
+            &Keyring::new(rt.alloc()),
+            input.as_bytes(),
+            true,
+        )?;
         assert_eq!(rt; unwrapped.text(), skipped.as_bytes(), "{input:?}");
     }
     Ok(())
@@ -88,10 +105,15 @@ fn what_cannot_be_read_is_left_out_with_its_cause(rt: HostRuntime) -> Result<(),
         ("0a", Cause::NoMessage(10)),
         ("06", Cause::NoMessage(6)),
     ] {
-        let unwrapped = unwrap_lines(rt.alloc(), line.as_bytes(), true)?;
+        let unwrapped = unwrap_lines(rt.alloc(), &Keyring::new(rt.alloc()), line.as_bytes(), true)?;
         assert_eq!(rt; unwrapped.left_out(), [cause].as_slice(), "{line}");
         assert!(rt; unwrapped.text().is_empty());
-        let unwrapped = unwrap_lines(rt.alloc(), line.as_bytes(), false)?;
+        let unwrapped = unwrap_lines(
+            rt.alloc(),
+            &Keyring::new(rt.alloc()),
+            line.as_bytes(),
+            false,
+        )?;
         assert_eq!(rt; unwrapped.text(), line.as_bytes());
     }
     Ok(())
@@ -99,10 +121,20 @@ fn what_cannot_be_read_is_left_out_with_its_cause(rt: HostRuntime) -> Result<(),
 
 #[test]
 fn want_of_memory_is_answered_as_such_and_then_repeated(rt: HostRuntime) -> Result<(), Fail> {
-    if let Err(report) = unwrap_lines(rt.alloc(), BOTH.as_bytes(), false) {
+    if let Err(report) = unwrap_lines(
+        rt.alloc(),
+        &Keyring::new(rt.alloc()),
+        BOTH.as_bytes(),
+        false,
+    ) {
         assert_eq!(rt; report.what, What::Memory);
         assert_eq!(rt; status(&report), 5);
-        let unwrapped = unwrap_lines(rt.alloc(), BOTH.as_bytes(), false)?;
+        let unwrapped = unwrap_lines(
+            rt.alloc(),
+            &Keyring::new(rt.alloc()),
+            BOTH.as_bytes(),
+            false,
+        )?;
         assert_eq!(rt; unwrapped.text(), ALIVE.as_bytes());
     }
     Ok(())

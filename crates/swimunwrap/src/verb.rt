@@ -15,11 +15,13 @@ pub enum Verb {
     Stream,
 }
 
-/// What the words ask for: a verb, and the word that names a file, if there is one.
+/// What the words ask for: a verb, the word that names a file, if there is one, and those that name
+/// files of keys.
 #[derive(Debug, Drop)]
 pub struct Chosen {
     verb: Verb,
     files: Vec<String>,
+    key_files: Vec<String>,
 }
 
 impl Model for Chosen {
@@ -28,14 +30,26 @@ impl Model for Chosen {
 
     ghost Value = { Choice };
 
-    ghost view = { λ c. record { verb = c.verb; files = map string_bytes c.files.items } };
+    ghost view = { λ c. record {
+      verb = c.verb;
+      files = map string_bytes c.files.items;
+      key_files = map string_bytes c.key_files.items;
+    } };
 }
 
 impl Chosen {
-    pub(crate) fn new(verb: Verb, files: Vec<String>) -> Chosen
-        ensures { result ≡ record { verb = verb; files = map string_bytes files.items } }
+    pub(crate) fn new(verb: Verb, files: Vec<String>, key_files: Vec<String>) -> Chosen
+        ensures { result ≡ record {
+          verb = verb;
+          files = map string_bytes files.items;
+          key_files = map string_bytes key_files.items;
+        } }
     {
-        Chosen { verb, files }
+        Chosen {
+            verb,
+            files,
+            key_files,
+        }
     }
 
     /// What the program is asked to do.
@@ -50,5 +64,12 @@ impl Chosen {
         ensures { map string_bytes result.now ≡ self.now.files }
     {
         &self.files
+    }
+
+    /// The words that name files of keys, in the order in which they are read.
+    pub fn key_files(&self) -> &[String]
+        ensures { map string_bytes result.now ≡ self.now.key_files }
+    {
+        &self.key_files
     }
 }

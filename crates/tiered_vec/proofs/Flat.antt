@@ -18,15 +18,18 @@ module _ {X : Type 0} where
   pub flatten-parts : (s : List (List X)) (k : ℕ) → k < length s → flatten s ≡ flatten (take k s) ++ (block_at s k ++ flatten (drop (suc k) s))
   flatten-parts [] k h = absurd (omega arith)
   flatten-parts (b ∷ s) zero h = refl
-  flatten-parts (b ∷ s) (suc k) h = ap (λ xs. b ++ xs) (flatten-parts s k (omega arith)) ∙ sym (append_assoc b (flatten (take k s)) (block_at s k ++ flatten (drop (suc k) s)))
+  flatten-parts (b ∷ s) (suc k) h =
+      ap (λ xs. b ++ xs) (flatten-parts s k (omega arith)) ∙ sym (append_assoc b (flatten (take k s)) (block_at s k ++ flatten (drop (suc k) s)))
 
   pub flatten-set : (s : List (List X)) (k : ℕ) (c : List X) → k < length s → flatten (set s k c) ≡ flatten (take k s) ++ (c ++ flatten (drop (suc k) s))
   flatten-set [] k c h = absurd (omega arith)
   flatten-set (b ∷ s) zero c h = refl
-  flatten-set (b ∷ s) (suc k) c h = ap (λ xs. b ++ xs) (flatten-set s k c (omega arith)) ∙ sym (append_assoc b (flatten (take k s)) (c ++ flatten (drop (suc k) s)))
+  flatten-set (b ∷ s) (suc k) c h =
+      ap (λ xs. b ++ xs) (flatten-set s k c (omega arith)) ∙ sym (append_assoc b (flatten (take k s)) (c ++ flatten (drop (suc k) s)))
 
   -- to put an element into a block is to put it among all
-  pub flatten-put : (s : List (List X)) (k at : ℕ) (x : X) → k < length s → at ≤ length (block_at s k) → flatten (set s k (insert (block_at s k) at x)) ≡ insert (flatten s) (start s k + at) x
+  pub flatten-put : (s : List (List X)) (k at : ℕ) (x : X) → k < length s → at ≤ length (block_at s k) → flatten
+      (set s k (insert (block_at s k) at x)) ≡ insert (flatten s) (start s k + at) x
   flatten-put s k at x h a =
       let front = flatten (take k s) in
       let rest = flatten (drop (suc k) s) in
@@ -38,7 +41,8 @@ module _ {X : Type 0} where
       ∙ ap (λ xs. insert xs (start s k + at) x) (sym (flatten-parts s k h))
 
   -- an element of a block among all
-  pub placed : (s : List (List X)) (k j : ℕ) (d : X) → k < length s → j < length (block_at s k) → get_or (flatten s) (start s k + j) d ≡ get_or (block_at s k) j d
+  pub placed : (s : List (List X)) (k j : ℕ) (d : X) → k < length s → j < length (block_at s k) → get_or (flatten s)
+      (start s k + j) d ≡ get_or (block_at s k) j d
   placed s k j d h l = get_or-flat_map (λ (b : List X). b) s k j [] d h l
 
   pub start-suc : (s : List (List X)) (k : ℕ) → k < length s → start s (suc k) ≡ start s k + length (block_at s k)
@@ -55,7 +59,8 @@ module _ {X : Type 0} where
   cut-is (b ∷ s) (suc k) h = ap (λ t. b ∷ t) (cut-is s k (omega arith))
 
   -- the last element of the last block is the last of all
-  pub last_item : (s : List (List X)) (b : List X) (k : ℕ) → k + 1 ≡ length s → b ≡ block_at s k → 0 < length b → slice_get b (length b - 1) ≡ slice_get (flatten s) (length (flatten s) - 1)
+  pub last_item : (s : List (List X)) (b : List X) (k : ℕ) → k + 1 ≡ length s → b ≡ block_at s k → 0 < length b → slice_get b
+      (length b - 1) ≡ slice_get (flatten s) (length (flatten s) - 1)
   last_item s [] k n e h = absurd (omega arith)
   last_item s (d ∷ rest) k n e h =
       let b = d ∷ rest in
@@ -64,11 +69,13 @@ module _ {X : Type 0} where
       let long : length (flatten s) ≡ start s k + length (block_at s k) = sym (start-all s) ∙ ap (start s) (sym one) ∙ start-suc s k within in
       let at : start s k + (length b - 1) ≡ length (flatten s) - 1 = omega (arith, long, ap length e, h) in
       slice_get-get_or b (length b - 1) d (omega (arith, h))
-      ∙ ap Some (ap (λ c. get_or c (length b - 1) d) e ∙ sym (placed s k (length b - 1) d within (omega (arith, ap length e, h))) ∙ ap (λ i. get_or (flatten s) i d) at)
+      ∙ ap Some
+      (ap (λ c. get_or c (length b - 1) d) e ∙ sym (placed s k (length b - 1) d within (omega (arith, ap length e, h))) ∙ ap (λ i. get_or (flatten s) i d) at)
       ∙ sym (slice_get-get_or (flatten s) (length (flatten s) - 1) d (omega (arith, long, ap length e, h)))
 
   -- to cut a block is to leave its lower half and to insert the upper one after it
-  pub cut-insert : (s : List (List X)) (k : ℕ) → k < length s → insert (set s k (take half_size (block_at s k))) (k + 1) (drop half_size (block_at s k)) ≡ cut s k
+  pub cut-insert : (s : List (List X)) (k : ℕ) → k < length s → insert (set s k (take half_size (block_at s k))) (k + 1)
+      (drop half_size (block_at s k)) ≡ cut s k
   cut-insert s k h =
       let n : k + 1 ≡ suc k = omega arith in
       ap (λ i. insert (set s k (take half_size (block_at s k))) i (drop half_size (block_at s k))) n ∙ cut-is s k h
@@ -101,7 +108,8 @@ module _ {X : Type 0} where
   pub All-cut : (s : List (List X)) (k : ℕ) → k < length s → length (block_at s k) ≡ block_size → All IsBlock s → All IsBlock (cut s k)
   All-cut [] k h full a = absurd (omega arith)
   All-cut (b ∷ s) zero h full a =
-      let low : IsBlock (take half_size b) = record { filled = omega (arith, length-take-le half_size b (omega arith)); fits = omega (arith, length-take-le half_size b (omega arith)) } in
+      let low : IsBlock (take half_size b) =
+      record { filled = omega (arith, length-take-le half_size b (omega arith)); fits = omega (arith, length-take-le half_size b (omega arith)) } in
       let high : IsBlock (drop half_size b) = record { filled = omega (arith, length-drop half_size b); fits = omega (arith, length-drop half_size b) } in
       All-cons IsBlock (take half_size b) (drop half_size b ∷ s) low (All-cons IsBlock (drop half_size b) s high (All-tail IsBlock b s a))
   All-cut (b ∷ s) (suc k) h full a = All-cons IsBlock b (cut s k) (All-head IsBlock b s a) (All-cut s k (omega arith) full (All-tail IsBlock b s a))
@@ -190,7 +198,14 @@ none_before X (suc k) = refl
 module _ {X : Type 0} (s : List (List X)) (p : Position) where
   pub index_in_range : IsPlace s p → index_of s p < length (flatten s)
   unfolding index_of
-  index_in_range h = omega (arith, ap length (flatten-parts s p.block h.in_block), length-append (flatten (take p.block s)) (block_at s p.block ++ flatten (drop (suc p.block) s)), length-append (block_at s p.block) (flatten (drop (suc p.block) s)), h.in_range)
+  index_in_range h =
+      omega (
+        arith,
+        ap length (flatten-parts s p.block h.in_block),
+        length-append (flatten (take p.block s)) (block_at s p.block ++ flatten (drop (suc p.block) s)),
+        length-append (block_at s p.block) (flatten (drop (suc p.block) s)),
+        h.in_range,
+      )
 
   pub index_in_gap : IsGap s p → index_of s p ≤ length (flatten s)
   unfolding index_of
@@ -204,10 +219,17 @@ module _ {X : Type 0} (s : List (List X)) (p : Position) where
           omega (arith, h.in_range)
       by_blocks (b ∷ u) e =
           let some : p.block < length s = omega (arith, ap length e, h.in_block) in
-          omega (arith, ap length (flatten-parts s p.block some), length-append (flatten (take p.block s)) (block_at s p.block ++ flatten (drop (suc p.block) s)), length-append (block_at s p.block) (flatten (drop (suc p.block) s)), h.in_range)
+          omega (
+            arith,
+            ap length (flatten-parts s p.block some),
+            length-append (flatten (take p.block s)) (block_at s p.block ++ flatten (drop (suc p.block) s)),
+            length-append (block_at s p.block) (flatten (drop (suc p.block) s)),
+            h.in_range,
+          )
 
 -- an insertion leaves room for one less
-pub room_left : (os ns old mid new : ℕ) → half_size * os - old ≤ half_size * ns - mid → new ≤ mid + 1 → os ≤ ns + 1 → max os (half_size * os - old) ≤ max ns (half_size * ns - new) + 1
+pub room_left : (os ns old mid new : ℕ) → half_size * os - old ≤ half_size * ns - mid → new ≤ mid + 1 → os ≤ ns + 1 → max os
+    (half_size * os - old) ≤ max ns (half_size * ns - new) + 1
 room_left os ns old mid new h l m = omega arith
 
 module _ {X : Type 0} where
@@ -220,16 +242,24 @@ module _ {X : Type 0} where
   load-most (b ∷ s) a = omega (arith, overfull-most (b ∷ s) a)
 
   -- the element that a read of a block's front gives
-  pub first_of : (s : List (List X)) (k : ℕ) (b : List X) (x : X) → k < length s → b ≡ block_at s k → 0 < length b → x ≡ get_or b 0 x → (d : X) → x ≡ get_or (flatten s) (start s k) d
+  pub first_of : (s : List (List X)) (k : ℕ) (b : List X) (x : X) → k < length s → b ≡ block_at s k → 0 < length b
+      → x ≡ get_or b 0 x → (d : X) → x ≡ get_or (flatten s) (start s k) d
   first_of s k b x h e l r d =
       let n : start s k + 0 ≡ start s k = omega arith in
       r ∙ get_or_default b 0 x d l ∙ ap (λ c. get_or c 0 d) e ∙ sym (placed s k 0 d h (subst (λ c. 0 < length c) e l)) ∙ ap (λ i. get_or (flatten s) i d) n
 
   pub block_within : (s : List (List X)) (k : ℕ) → k < length s → start s k + length (block_at s k) ≤ length (flatten s)
-  block_within s k h = omega (arith, ap length (flatten-parts s k h), length-append (flatten (take k s)) (block_at s k ++ flatten (drop (suc k) s)), length-append (block_at s k) (flatten (drop (suc k) s)))
+  block_within s k h =
+      omega (
+        arith,
+        ap length (flatten-parts s k h),
+        length-append (flatten (take k s)) (block_at s k ++ flatten (drop (suc k) s)),
+        length-append (block_at s k) (flatten (drop (suc k) s)),
+      )
 
   -- a new block at the end is open
-  pub opened-new : (s t : List (List X)) (n : ℕ) → All IsBlock s → t ≡ s ++ [] ∷ [] → n ≡ length s → IsOpened s t (length (flatten s)) (record { block = n; at = 0 })
+  pub opened-new : (s t : List (List X)) (n : ℕ) → All IsBlock s → t ≡ s ++ [] ∷ [] → n ≡ length s → IsOpened s t
+      (length (flatten s)) (record { block = n; at = 0 })
   unfolding index_of
   opened-new s t n a e m = subst (λ u. IsOpened s u (length (flatten s)) (record { block = n; at = 0 })) (sym e)
       (let here : block_at (s ++ [] ∷ []) n ≡ [] = get_or_push s [] [] n (sym m) in
@@ -246,12 +276,14 @@ module _ {X : Type 0} where
       })
 
 -- so many blocks are enough for n insertions wherever
-pub room_enough : (n spares filled len : ℕ) → filled ≤ half_size * len + half_size → min n (len + n / half_size + 2) ≤ spares → n ≤ max spares (half_size * spares - filled)
+pub room_enough : (n spares filled len : ℕ) → filled ≤ half_size * len + half_size → min n (len + n / half_size + 2) ≤ spares
+    → n ≤ max spares (half_size * spares - filled)
 room_enough n spares filled len h e = omega arith
 
 module _ {X : Type 0} where
   -- to change an element of a block is to change it among all
-  pub flatten-set_at : (s : List (List X)) (k at : ℕ) (x : X) → k < length s → at < length (block_at s k) → flatten (set s k (set (block_at s k) at x)) ≡ set (flatten s) (start s k + at) x
+  pub flatten-set_at : (s : List (List X)) (k at : ℕ) (x : X) → k < length s → at < length (block_at s k) → flatten
+      (set s k (set (block_at s k) at x)) ≡ set (flatten s) (start s k + at) x
   flatten-set_at s k at x h a =
       let front = flatten (take k s) in
       let rest = flatten (drop (suc k) s) in
@@ -262,7 +294,9 @@ module _ {X : Type 0} where
       ∙ sym (set-append_right front (block_at s k ++ rest) (length front) (length front + at) x refl (omega arith))
       ∙ ap (λ xs. set xs (start s k + at) x) (sym (flatten-parts s k h))
 
-  pub set_sound : {Z Y : Type 0} (len : ℕ) (blocks spares : Vec (Vec X Z) Y) (k j : ℕ) (b : Vec X Z) (w : X) → IsSound len blocks spares → k < length blocks.items → b ≡ get_or blocks.items k b → j < length b.items → IsSound len (with_item blocks k (with_item b j w)) spares
+  pub set_sound : {Z Y : Type 0} (len : ℕ) (blocks spares : Vec (Vec X Z) Y) (k j : ℕ) (b : Vec X Z) (w : X)
+      → IsSound len blocks spares → k < length blocks.items → b ≡ get_or blocks.items k b → j < length b.items → IsSound len
+      (with_item blocks k (with_item b j w)) spares
   set_sound len blocks spares k j b w i h e l =
       let bs = blocks.items in
       let c = with_item b j w in
@@ -274,9 +308,18 @@ module _ {X : Type 0} where
       let is = shape-set bs k c ∙ ap (λ xs. set (shape bs) k (set xs j w)) (block_read bs k b h e) in
       let l' : j < length (block_at (shape bs) k) = omega (arith, ap length (block_read bs k b h e)) in
       record {
-        vectors = record { rooms = All-set HasRoom bs k c room i.vectors.rooms; empties = i.vectors.empties; places = omega (arith, long, i.vectors.places); few = omega (arith, long, i.vectors.few) };
-        each = subst (All IsBlock) (sym (shape-set bs k c)) (All-set IsBlock (shape bs) k c.items (record { filled = omega (arith, same, good.filled); fits = omega (arith, same, good.fits) }) i.each);
-        count = omega (arith, i.count, ap length (ap flatten is ∙ flatten-set_at (shape bs) k j w h' l'), length-set (flatten (shape bs)) (start (shape bs) k + j) w);
+        vectors =
+            record {
+              rooms = All-set HasRoom bs k c room i.vectors.rooms;
+              empties = i.vectors.empties;
+              places = omega (arith, long, i.vectors.places);
+              few = omega (arith, long, i.vectors.few);
+            };
+        each =
+            subst (All IsBlock) (sym (shape-set bs k c))
+            (All-set IsBlock (shape bs) k c.items (record { filled = omega (arith, same, good.filled); fits = omega (arith, same, good.fits) }) i.each);
+        count =
+            omega (arith, i.count, ap length (ap flatten is ∙ flatten-set_at (shape bs) k j w h' l'), length-set (flatten (shape bs)) (start (shape bs) k + j) w);
       }
 
   overfull-set_same : (s : List (List X)) (k : ℕ) (c : List X) → length c ≡ length (block_at s k) → overfull (set s k c) ≡ overfull s
@@ -292,4 +335,6 @@ module _ {X : Type 0} where
   -- nor does it change the room
   pub room-with_item_at : (v : Tiers X) (p : Position) (x : X) → room (with_item_at v p x) ≡ room v
   unfolding room with_item_at
-  room-with_item_at v p x = ap (λ l. max v.spares (half_size * v.spares - l)) (load-set_same v.blocks p.block (set (block_at v.blocks p.block) p.at x) (length-set (block_at v.blocks p.block) p.at x))
+  room-with_item_at v p x =
+      ap (λ l. max v.spares (half_size * v.spares - l))
+      (load-set_same v.blocks p.block (set (block_at v.blocks p.block) p.at x) (length-set (block_at v.blocks p.block) p.at x))

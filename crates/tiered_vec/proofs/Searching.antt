@@ -27,7 +27,8 @@ is_Greater Equal h = absurd (true≢false (sym h))
 is_Greater Greater h = refl
 
 -- one call of a closure that always returns so
-pub answers_next : {F X R : Type 0} (g : Mut F X R) (P : X → R → Type 0) (f : F) (a : X) (r : R) (f' : F) → Called g f a r f' → AlwaysReturns g P f → P a r × AlwaysReturns g P f'
+pub answers_next : {F X R : Type 0} (g : Mut F X R) (P : X → R → Type 0) (f : F) (a : X) (r : R) (f' : F) → Called g f a r f'
+    → AlwaysReturns g P f → P a r × AlwaysReturns g P f'
 answers_next g P f a r f' c h = ((h.at (a ∷ []) r f' c).0, record { at = λ xs. (h.at (a ∷ xs) r f' c).1 })
 
 module _ {X : Type 0} (ord : X → Ordering) (s : List (List X)) where
@@ -39,13 +40,16 @@ module _ {X : Type 0} (ord : X → Ordering) (s : List (List X)) where
   pub Narrowed-whole : Narrowed 0 (length s)
   Narrowed-whole = record { above = inl refl; below = inl refl }
 
-  pub Narrowed-lower : (low mid high : ℕ) (x : X) → Narrowed low high → ((d : X) → x ≡ get_or (flatten s) (start s mid) d) → is_gt (ord x) ≡ true → Narrowed low mid
+  pub Narrowed-lower : (low mid high : ℕ) (x : X) → Narrowed low high → ((d : X) → x ≡ get_or (flatten s) (start s mid) d)
+      → is_gt (ord x) ≡ true → Narrowed low mid
   Narrowed-lower low mid high x n read e = record { above = n.above; below = inr (λ d. subst (λ y. is_gt (ord y) ≡ true) (read d) e) }
 
-  pub Narrowed-upper : (low mid high : ℕ) (x : X) → Narrowed low high → ((d : X) → x ≡ get_or (flatten s) (start s mid) d) → is_gt (ord x) ≡ false → Narrowed mid high
+  pub Narrowed-upper : (low mid high : ℕ) (x : X) → Narrowed low high → ((d : X) → x ≡ get_or (flatten s) (start s mid) d)
+      → is_gt (ord x) ≡ false → Narrowed mid high
   Narrowed-upper low mid high x n read e = record { above = inr (λ d. subst (λ y. is_gt (ord y) ≡ false) (read d) e); below = n.below }
 
-  pub found_in_block : (k j : ℕ) → k < length s → j < length (block_at s k) → HoldsAt (λ y. ord y ≡ Equal) (block_at s k) j → HoldsAt (λ y. ord y ≡ Equal) (flatten s) (start s k + j)
+  pub found_in_block : (k j : ℕ) → k < length s → j < length (block_at s k) → HoldsAt (λ y. ord y ≡ Equal) (block_at s k) j
+      → HoldsAt (λ y. ord y ≡ Equal) (flatten s) (start s k + j)
   found_in_block k j h l e d = subst (λ y. ord y ≡ Equal) (sym (placed s k j d h l)) (e d)
 
   module _ (k j : ℕ) (h : k < length s) (l : j ≤ length (block_at s k)) (filled : 0 < length (block_at s k)) (n : Narrowed k (k + 1))
@@ -75,13 +79,17 @@ module _ {X : Type 0} (ord : X → Ordering) (s : List (List X)) where
           by_place zero e = elim n.above [
             | inl first ↦ let none : start s k ≡ 0 = ap (start s) first in absurd (omega arith)
             | inr not_above ↦
-                let here : ord (get_or (flatten s) (start s k + 0) d) ≡ Greater = subst (λ y. ord y ≡ Greater) (sym (placed s k 0 d h filled)) (parted.1 0 d (omega arith) filled) in
+                let here : ord (get_or (flatten s) (start s k + 0) d) ≡ Greater =
+                subst (λ y. ord y ≡ Greater) (sym (placed s k 0 d h filled)) (parted.1 0 d (omega arith) filled) in
                 let at : start s k + 0 ≡ start s k = omega arith in
                 absurd (true≢false (sym (ap is_gt (subst (λ q. ord (get_or (flatten s) q d) ≡ Greater) at here)) ∙ not_above d))
           ]
           by_place (suc m) e =
-              let last : ord (get_or (flatten s) (start s k + m) d) ≡ Less = subst (λ y. ord y ≡ Less) (sym (placed s k m d h (omega arith))) (parted.0 m d (omega arith) (omega arith)) in
-              bottom _ (subst (λ (o : Ordering). ordering_index (ord (get_or (flatten s) i d)) ≤ ordering_index o) last (up i (start s k + m) d (omega arith) (omega arith)))
+              let last : ord (get_or (flatten s) (start s k + m) d) ≡ Less =
+              subst (λ y. ord y ≡ Less) (sym (placed s k m d h (omega arith))) (parted.0 m d (omega arith) (omega arith)) in
+              bottom _
+              (subst (λ (o : Ordering). ordering_index (ord (get_or (flatten s) i d)) ≤ ordering_index o) last
+              (up i (start s k + m) d (omega arith) (omega arith)))
 
       -- and from there on `Greater`
       pub greater_above : AllWithin (λ y. ord y ≡ Greater) (flatten s) (start s k + j) (length (flatten s))
@@ -93,7 +101,9 @@ module _ {X : Type 0} (ord : X → Ordering) (s : List (List X)) where
         | inr beyond ↦ elim n.below [
           | inl last ↦ let all : start s (k + 1) ≡ length (flatten s) = ap (start s) last ∙ start-all s in absurd (omega (arith, all, next_start))
           | inr above ↦
-              top _ (subst (λ (o : Ordering). ordering_index o ≤ ordering_index (ord (get_or (flatten s) i d))) (is_Greater _ (above d)) (up (start s (k + 1)) i d (omega (arith, next_start)) to))
+              top _
+              (subst (λ (o : Ordering). ordering_index o ≤ ordering_index (ord (get_or (flatten s) i d)))
+              (is_Greater _ (above d)) (up (start s (k + 1)) i d (omega (arith, next_start)) to))
         ]
       ]
 

@@ -9,15 +9,18 @@ pub record Tiers (T : Type 0) : Type 0 where
   pub blocks : List (List T)
   pub spares : ℕ
 
+-- how proofs tell such values apart: by the pair of their fields
 abbrev pub tiers_code : {T : Type 0} → Coded T → Coded (Tiers T)
 tiers_code {T} code =
-    code_by (List (List T) × ℕ) (coded× (coded_list (coded_list code)) coded_ℕ) (λ v. (v.blocks, v.spares))
+    code_by (List (List T) × ℕ) (coded× (coded_list (coded_list code)) coded_ℕ)
+    (λ v. (v.blocks, v.spares))
     (λ p. record { blocks = p.0; spares = p.1 }) (λ _. refl)
 
--- the most elements of a block, and where a full one is cut
+-- the most elements of a block
 abbrev pub block_size : ℕ
 block_size = 128
 
+-- where a full block is cut
 abbrev pub half_size : ℕ
 half_size = block_size / 2
 
@@ -61,7 +64,8 @@ module _ {T : Type 0} where
 
   -- how many more elements fit into the last block
   abbrev pub left_in_last : List (List T) → ℕ
-  left_in_last blocks = block_size * length blocks - (block_size * (length blocks - 1) + length (block_at blocks (length blocks - 1)))
+  left_in_last blocks = block_size * length blocks
+      - (block_size * (length blocks - 1) + length (block_at blocks (length blocks - 1)))
 
   -- so many insertions, at whatever places, fit where each spare block takes half of a full one
   abbrev pub cut_room : List (List T) → ℕ → ℕ
@@ -110,7 +114,9 @@ module _ {T : Type 0} where
 
   -- v with another element at a place
   unfoldable pub with_item_at : Tiers T → Position → T → Tiers T
-  with_item_at v p x = record v { blocks = slice_set v.blocks p.block (slice_set (block_at v.blocks p.block) p.at x) }
+  with_item_at v p x = record v {
+    blocks = slice_set v.blocks p.block (slice_set (block_at v.blocks p.block) p.at x);
+  }
 
   -- The n-th place was made ready for an element: where that is then.
   pub record IsOpened (old new : List (List T)) (n : ℕ) (p : Position) : Type 0 where

@@ -18,8 +18,8 @@ pub(crate) const HALF: usize = BLOCK / 2;
 /// The most blocks.
 const MOST: usize = 1 << 54;
 
-/// Makes empty blocks until there are n, with a place for each among the blocks. Where there are n it
-/// takes no memory.
+/// Makes empty blocks until there are n, with a place for each among the blocks. Where there are n
+/// it takes no memory.
 ///
 /// # Errors
 ///
@@ -184,7 +184,8 @@ pub(crate) fn open_end<T>(
     ensures room { OnOk result (end_room (shape blocks.old.items) (length spares.old.items)
         ≤ end_room (shape blocks.new.items) (length spares.new.items)) }
     ensures err { OnErr result (blocks.new.items ≡ blocks.old.items) }
-    ensures succeeds { 0 < end_room (shape blocks.old.items) (length spares.old.items) → IsOk result }
+    ensures succeeds { 0 < end_room (shape blocks.old.items) (length spares.old.items)
+        → IsOk result }
 {
     let count = blocks.len();
     if count > 0 {
@@ -226,7 +227,8 @@ pub(crate) fn place_of<T>(blocks: &[Vec<T>], index: usize) -> Place
     requires { index ≤ length (flatten (shape blocks.now)) }
     ensures gap { IsGap (shape blocks.now) result }
     ensures index { index_of (shape blocks.now) result ≡ index }
-    ensures place { index < length (flatten (shape blocks.now)) → IsPlace (shape blocks.now) result }
+    ensures place { index < length (flatten (shape blocks.now))
+        → IsPlace (shape blocks.now) result }
 {
     let mut at = index;
     let mut block = 0;
@@ -266,7 +268,8 @@ pub(crate) fn find_among<T, F: FnMut(&T) -> Ordering>(
     requires each { All IsBlock (shape blocks.now) }
     ensures range { MatchResult result (IsPlace (shape blocks.now)) (IsGap (shape blocks.now)) }
     ensures position { (ord : T → Ordering) → ComputesKey F.FnMut ord f
-        → IsBinarySearchResult ord (flatten (shape blocks.now)) (index_result (shape blocks.now) result) }
+        → IsBinarySearchResult ord (flatten (shape blocks.now))
+        (index_result (shape blocks.now) result) }
 {
     if blocks.len() == 0 {
         return Err(Place { block: 0, at: 0 });

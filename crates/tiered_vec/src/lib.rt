@@ -1,5 +1,12 @@
 //! A vector in blocks, in which an insertion in the middle is cheap: it moves the elements of one
 //! block. To its callers it is one list.
+//!
+//! | module | subject |
+//! |---|---|
+//! | `tiered_vec` | the vector, as its callers see it |
+//! | `place` | where an element is among the blocks |
+//! | `blocks` | what is done to the vectors of the blocks |
+//! | `iter` | the iterators |
 #![tactic(auto)]
 
 mod blocks;

@@ -1,8 +1,8 @@
 //! Where an element is among the blocks.
 use std::marker::Model;
 
-/// Where an element is, or would go: in which block, and where in it. It is got from the list in which
-/// it is used, and holds until an insertion or a push there succeeds.
+/// Where an element is, or would go: in which block, and where in it. It is got from the list in
+/// which it is used, and holds until an insertion or a push there succeeds.
 #[derive(Clone, Copy, Debug)]
 pub struct Place {
     pub(crate) block: usize,

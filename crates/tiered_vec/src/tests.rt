@@ -1,5 +1,5 @@
-//! A vector in blocks beside a plain vector, on both sides of each border of a block, and with memory
-//! refused.
+//! A vector in blocks beside a plain vector, on both sides of each border of a block, and with
+//! memory refused.
 ghost use Rattle.std.specs.Prelude.{◌≡◌, ◌+◌, ◌≤◌, ◌<◌, ◌++◌, ◌∷◌, [], IfOk};
 ghost use Rattle.tiered_vec.specs.Tiers.{items, tail_room};
 

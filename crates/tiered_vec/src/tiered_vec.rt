@@ -50,7 +50,8 @@ impl<T> TieredVec<T> {
     ghost use Rattle.std.specs.Borrow.{sem};
     ghost use Rattle.tiered_vec.specs.Lending.{lends_item};
 
-    /// The list of no elements, which takes memory from the allocator as it grows. It takes none now.
+    /// The list of no elements, which takes memory from the allocator as it grows. It takes none
+    /// now.
     pub fn new(alloc: Global) -> TieredVec<T>
         ensures { items result ≡ [] }
     {
@@ -108,9 +109,9 @@ impl<T> TieredVec<T> {
         &mut block[place.at]
     }
 
-    /// Puts an element at a place: those from there on come after it. While there is room this takes
-    /// no memory. At most one block of elements is moved, and where a full block is cut in two, one
-    /// word for each block that follows it.
+    /// Puts an element at a place: those from there on come after it. While there is room this
+    /// takes no memory. At most one block of elements is moved, and where a full block is cut in
+    /// two, one word for each block that follows it.
     ///
     /// # Errors
     ///
@@ -154,13 +155,13 @@ impl<T> TieredVec<T> {
     }
 
     /// Makes room for n insertions, at whatever places: those then take no memory. As each of them
-    /// may cut a full block, this keeps a spare block for each half block of them and for each block
-    /// that is there, and at most n.
+    /// may cut a full block, this keeps a spare block for each half block of them and for each
+    /// block that is there, and at most n.
     ///
     /// # Errors
     ///
-    /// Memory for them is refused, or they need more than 2^54 blocks. The elements and their places
-    /// are as they were, and no room is lost.
+    /// Memory for them is refused, or they need more than 2^54 blocks. The elements and their
+    /// places are as they were, and no room is lost.
     pub fn reserve(&mut self, n: usize) -> Result<(), AllocError>
         ensures blocks { self.new.blocks ≡ self.old.blocks }
         ensures spares { self.old.spares ≤ self.new.spares }

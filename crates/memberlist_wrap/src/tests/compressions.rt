@@ -89,8 +89,8 @@ fn codes_behind_the_greatest_stand_for_no_more_words(rt: HostRuntime) -> Result<
     Ok(())
 }
 
-/// Words that each have a byte more than the one before, and then the longest again and again: 100 KB that
-/// stand for more than 100 MB.
+/// Words that each have a byte more than the one before, and then the longest again and again:
+/// 100 KB that stand for more than 100 MB.
 #[test]
 fn a_bomb_is_refused_at_the_limit(rt: HostRuntime) -> Result<(), Fail> {
     let mut codes = Codes::new(rt.alloc());

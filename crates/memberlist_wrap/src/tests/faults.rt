@@ -7,9 +7,9 @@ use std::test::Fail;
 #[test]
 fn each_fault_has_its_number_and_its_text(rt: HostRuntime) -> Result<(), Fail> {
     for (bytes, number, text) in [
-        (b"\x0c\0\0\0".as_slice(), 40, "the bytes end too soon"),
-        (b"\x09", 40, "the bytes end too soon"),
-        (b"\x09\x80", 40, "the bytes end too soon"),
+        (b"\x0c\0\0\0".as_slice(), 40, "the bytes end too early"),
+        (b"\x09", 40, "the bytes end too early"),
+        (b"\x09\x80", 40, "the bytes end too early"),
         (
             b"\x09\x82\xa4Algo\0\xa3Buf\xa4\0\x03\x02\0",
             41,

@@ -1,3 +1,5 @@
+//! Values at the front of bytes at hand, and bytes at hand that are passed.
+
 use crate::tests::fakes::Pieces;
 use crate::tests::{assert_bytes, assert_pulls};
 use crate::{FromRead, Inlet, SliceInlet, StopInlet, bool_at_hand, raw_at_hand, uint_at_hand};

@@ -1,3 +1,5 @@
+//! The numbers and texts of the faults.
+
 use crate::{PackFault, PullFault, PushFault};
 use std::alloc::{AllocError, Global};
 use std::fmt::Display;

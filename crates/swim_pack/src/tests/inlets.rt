@@ -1,3 +1,5 @@
+//! Inlets over memory and over readers, where they give, end and fail.
+
 use crate::tests::fakes::Pieces;
 use crate::tests::{assert_bytes, assert_pull_refused, assert_pulls};
 use crate::{FromRead, Inlet, PullFault, SliceInlet, StopInlet};
@@ -15,7 +17,8 @@ fn bytes_in_memory_come_in_order_and_then_end(rt: HostRuntime) {
     assert_pulls(&rt, &mut inlet, b"");
 }
 
-/// That an inlet which fails from this call on gives the bytes before, each behind a pull of nothing.
+/// That an inlet which fails from this call on gives the bytes before, each behind a pull of
+/// nothing.
 fn assert_stops(rt: &impl Abort, calls: usize, good: &[u8]) {
     let mut inlet = StopInlet::new(b"abcd", calls);
     for byte in good {

@@ -1,3 +1,5 @@
+//! Outlets into memory and over writers, where they take and fail.
+
 use crate::tests::assert_bytes;
 use crate::tests::fakes::{Refusal, Taker};
 use crate::{Outlet, PushFault, StopOutlet, ToWrite, VecOutlet, write_whole};

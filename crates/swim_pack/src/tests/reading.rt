@@ -1,3 +1,5 @@
+//! Values by their spellings, as they are read or refused.
+
 use crate::tests::fakes::Pieces;
 use crate::tests::{assert_bytes, assert_cause};
 use crate::{

@@ -51,8 +51,8 @@ fn assert_map_len(rt: &impl Abort, bytes: &[u8], fault: PackFault, rest: &[u8]) 
     assert_left(rt, found, inlet.rest(), fault, rest);
 }
 
-/// That the bytes of this length or less are refused for the fault, or for want of memory, and what is
-/// left behind them.
+/// That the bytes of this length or less are refused for the fault, or for want of memory, and what
+/// is left behind them.
 fn assert_raw(
     rt: &impl Abort,
     alloc: Global,

@@ -1,3 +1,5 @@
+//! Values by their canonical spellings, as they are written and read back.
+
 use crate::tests::assert_bytes;
 use crate::{
     SliceInlet, read_bool, read_map_len, read_raw, read_uint, write_bool, write_map_len, write_raw,

@@ -53,7 +53,16 @@ fn each_fault_is_reported_by_its_number_and_its_name(rt: HostRuntime) -> Result<
         (47, "TooLarge"),
         (48, "TooDeep"),
         (49, "Memory"),
-        (50, "Unknown"),
+        (50, "BadKey"),
+        (51, "TooLong"),
+        (52, "TooShort"),
+        (53, "WrongVersion"),
+        (54, "WrongTag"),
+        (55, "BadPadding"),
+        (56, "NotEncrypted"),
+        (57, "Trailing"),
+        (58, "Memory"),
+        (59, "Unknown"),
     ] {
         let found = None;
         let report = What::Refused { number, found }.at(Place::Input);

@@ -26,8 +26,8 @@ fn a_cut_stream_finishes_nothing(rt: HostRuntime) -> Result<(), AllocError> {
     Ok(())
 }
 
-/// Asserts that this front of the reply to the table of `a` finishes nothing, and that a whole exchange
-/// then joins both.
+/// Asserts that this front of the reply to the table of `a` finishes nothing, and that a whole
+/// exchange then joins both.
 fn assert_joins_after_cut(rt: &impl Abort, alloc: Global, front: &[u8]) -> Result<(), AllocError> {
     let mut first = alive_table(rt, alloc)?;
     let mut second = suspect_table(rt, alloc)?;
@@ -141,7 +141,8 @@ fn finish_pieces(alloc: Global, most: usize, table: &mut Table) -> Result<bool, 
     finish(alloc, &mut pieces(most), table)
 }
 
-/// Asserts that the stream of `a` in such pieces finishes, at the second try where memory is refused.
+/// Asserts that the stream of `a` in such pieces finishes, at the second try where memory is
+/// refused.
 fn assert_pieces_finish(rt: &impl Abort, alloc: Global, most: usize) -> Result<(), AllocError> {
     let mut table = alive_table(rt, alloc)?;
     let mut finished = finish_pieces(alloc, most, &mut table);

@@ -120,8 +120,8 @@ fn answer_stopping(
     )
 }
 
-/// Asserts that the offer is not answered with the table of `b`, for this fault, where the inlet and
-/// the outlet fail from these calls on: the table stays, and nothing is pushed. Where memory is
+/// Asserts that the offer is not answered with the table of `b`, for this fault, where the inlet
+/// and the outlet fail from these calls on: the table stays, and nothing is pushed. Where memory is
 /// refused the repeat answers so.
 fn assert_unanswered(
     rt: &impl Abort,

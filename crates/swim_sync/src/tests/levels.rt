@@ -11,8 +11,8 @@ use swim_table::list;
 const ALL_LISTING: &str =
     "a alive 0 0/7f000001/7946//\nb alive 0 0/7f000002/7946//\nc alive 0 0/7f000003/7946//\n";
 
-/// Asserts that levelling as many nodes as there are listings leaves them with these. Where memory is
-/// refused it stops within so many exchanges, and the repeat levels them.
+/// Asserts that levelling as many nodes as there are listings leaves them with these. Where memory
+/// is refused it stops within so many exchanges, and the repeat levels them.
 fn assert_levels(
     rt: &impl Abort,
     alloc: Global,

@@ -85,7 +85,8 @@ fn assert_read_back(rt: &impl Abort, alloc: Global, bytes: &[u8], table: &Table,
     assert_eq!(rt; flag, join);
 }
 
-/// Asserts that the table of the claims has this dump, which is read back as the table and the flag.
+/// Asserts that the table of the claims has this dump, which is read back as the table and the
+/// flag.
 fn assert_dumped(
     rt: &impl Abort,
     alloc: Global,

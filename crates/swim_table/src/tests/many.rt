@@ -22,7 +22,8 @@ fn suspects(
     Ok(claims)
 }
 
-/// Takes the claims in at once. Where memory is refused the table stays, and the repeat takes them in.
+/// Takes the claims in at once. Where memory is refused the table stays, and the repeat takes them
+/// in.
 fn take(rt: &impl Abort, table: &mut Table, alloc: Global, first: u32) -> Result<(), AllocError> {
     let before = table.len();
     let claims = suspects(rt, alloc, first, 300)?;

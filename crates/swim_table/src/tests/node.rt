@@ -54,7 +54,8 @@ fn refute_again(
     Ok(repeated)
 }
 
-/// What the node answers. Where memory is refused the table has to stay, and the second try answers.
+/// What the node answers. Where memory is refused the table has to stay, and the second try
+/// answers.
 fn refute(rt: &impl Abort, alloc: Global, node: &mut Node) -> Result<Answer, AllocError> {
     let before = list(alloc, node.table())?;
     match node.refute() {

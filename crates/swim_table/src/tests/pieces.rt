@@ -30,7 +30,8 @@ fn read_stopping(alloc: Global, calls: usize) -> Result<(Table, bool), WireFault
     read_either(alloc, &mut inlet, &mut other)
 }
 
-/// Whether the stream is read from an inlet that fails at this call. Else it has to be for the fault.
+/// Whether the stream is read from an inlet that fails at this call. Else it has to be for the
+/// fault.
 fn is_read(rt: &impl Abort, alloc: Global, calls: usize) -> Result<bool, AllocError> {
     match read_stopping(alloc, calls) {
         Ok((table, _)) => {

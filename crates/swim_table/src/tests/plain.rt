@@ -96,7 +96,8 @@ fn saying(number: u32) -> Saying {
     }
 }
 
-/// The table of the claims, the back half of which came one by one, and then the front half at once.
+/// The table of the claims, the back half of which came one by one, and then the front half at
+/// once.
 fn table_of_several(
     rt: &impl Abort,
     alloc: Global,

@@ -10,7 +10,8 @@ use std::test::Fail;
 use swim_pack::SliceInlet;
 use swim_wire::{Header, WireFault};
 
-/// Of `a` an Alive at incarnation 4, at 127.0.0.1 and port 7947, and then a Suspect at incarnation 5.
+/// Of `a` an Alive at incarnation 4, at 127.0.0.1 and port 7947, and then a Suspect at incarnation
+/// 5.
 pub(super) const SUSPECTED: &[u8] =
     b"\x06\x83\xa4Join\xc2\xa5Nodes\x02\xacUserStateLen\0\x87\xa4Addr\xa4\x7f\0\0\x01\xabIncarnation\x04\xa4Meta\xa0\xa4Name\xa1a\xa4Port\xcd\x1f\x0b\xa5State\0\xa3Vsn\xa0\x87\xa4Addr\xa0\xabIncarnation\x05\xa4Meta\xa0\xa4Name\xa1a\xa4Port\0\xa5State\x01\xa3Vsn\xa0";
 
@@ -24,7 +25,8 @@ const ALIVE: &[u8] =
 const SUSPECT: &[u8] =
     b"\x06\x83\xa4Join\xc2\xa5Nodes\x01\xacUserStateLen\0\x87\xa4Addr\xa0\xabIncarnation\x01\xa4Meta\xa0\xa4Name\xa1b\xa4Port\0\xa5State\x01\xa3Vsn\xa0";
 
-/// A Confirm of `b` at incarnation 2, with an address and metadata, and a Leave of `c` at incarnation 3.
+/// A Confirm of `b` at incarnation 2, with an address and metadata, and a Leave of `c` at
+/// incarnation 3.
 const DEAD_AND_LEFT: &[u8] =
     b"\x06\x81\xa5Nodes\x02\x85\xa4Name\xa1b\xa4Addr\xa4\x7f\0\0\x01\xa4Meta\xa2\xab\xcd\xabIncarnation\x02\xa5State\x02\x83\xa4Name\xa1c\xabIncarnation\x03\xa5State\x03";
 
@@ -45,8 +47,8 @@ fn read(alloc: Global, bytes: &[u8]) -> Result<(Table, bool), WireFault> {
     }
 }
 
-/// Reads a stream at the front of the bytes, and answers too how many bytes are left after it. Where
-/// memory is refused the repeat reads it.
+/// Reads a stream at the front of the bytes, and answers too how many bytes are left after it.
+/// Where memory is refused the repeat reads it.
 fn read_front(alloc: Global, bytes: &[u8]) -> Result<(Table, usize), WireFault> {
     let mut inlet = SliceInlet::new(bytes);
     let answer = match read_stream(alloc, &mut inlet) {
@@ -60,7 +62,8 @@ fn read_front(alloc: Global, bytes: &[u8]) -> Result<(Table, usize), WireFault> 
     Ok((table, inlet.rest().len()))
 }
 
-/// Reads a stream from the front of the bytes step by step. Where memory is refused the repeat reads it.
+/// Reads a stream from the front of the bytes step by step. Where memory is refused the repeat
+/// reads it.
 fn read_steps(alloc: Global, bytes: &[u8]) -> Result<Table, WireFault> {
     match read_steps_once(alloc, bytes) {
         Err(WireFault::Memory) => read_steps_once(alloc, bytes),
@@ -98,8 +101,8 @@ fn assert_cause_or_memory(
     }
 }
 
-/// Asserts that the bytes are no dump, for this cause, and begin with no stream for the same one, read as a
-/// whole or step by step.
+/// Asserts that the bytes are no dump, for this cause, and begin with no stream for the same one,
+/// read as a whole or step by step.
 fn assert_refused(rt: &impl Abort, alloc: Global, bytes: &[u8], cause: WireFault) {
     assert_cause(rt, read(alloc, bytes).err(), cause, bytes);
     assert_cause(rt, read_front(alloc, bytes).err(), cause, bytes);
@@ -378,8 +381,8 @@ fn assert_dumped(rt: &impl Abort, alloc: Global, table: &Table) -> Result<(), Fa
     Ok(())
 }
 
-/// Asserts that the canonical dump of what the bytes are read as, if they are read at all, is read as
-/// an equal table.
+/// Asserts that the canonical dump of what the bytes are read as, if they are read at all, is read
+/// as an equal table.
 fn assert_dumped_alike(rt: &impl Abort, alloc: Global, bytes: &[u8]) -> Result<(), Fail> {
     match read(alloc, bytes) {
         Ok((table, _)) => assert_dumped(rt, alloc, &table),

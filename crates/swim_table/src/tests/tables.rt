@@ -89,8 +89,8 @@ fn entries_are_read_by_name_and_by_place(rt: HostRuntime) -> Result<(), AllocErr
     Ok(())
 }
 
-/// Takes several claims in. Where memory is refused the table has to stay empty, and they have to be
-/// taken in at the second try.
+/// Takes several claims in. Where memory is refused the table has to stay empty, and they have to
+/// be taken in at the second try.
 fn take_all(rt: &impl Abort, table: &mut Table, claims: Vec<Claim>, again: Vec<Claim>) {
     if table.take_all(claims).is_err() {
         assert!(rt; table.is_empty());
@@ -169,7 +169,8 @@ fn table_of_b(rt: &impl Abort, alloc: Global) -> Result<Table, AllocError> {
     table_of(rt, alloc, &[suspect(b"b", 1)])
 }
 
-/// Joins the table of `b` in, at the second try, after it was handed back. Both have to have stayed.
+/// Joins the table of `b` in, at the second try, after it was handed back. Both have to have
+/// stayed.
 fn join_back(
     rt: &impl Abort,
     alloc: Global,

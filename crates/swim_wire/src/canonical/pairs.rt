@@ -10,22 +10,23 @@ use swim_pack::{write_bool, write_map_len, write_raw, write_uint};
 
 /// A value to be written.
 #[derive(Clone, Copy)]
-pub(crate) enum Value<'a> {
+pub(crate) enum Written<'a> {
     Number(u64),
     Raw(&'a [u8]),
     Flag(bool),
 }
 
-/// Appends a type byte, and behind it a map of these pairs. A refused call leaves the contents as they
-/// were.
+/// Appends a type byte, and behind it a map of these pairs. A refused call leaves the contents as
+/// they were.
 pub(crate) fn write_message(
     out: &mut Vec<u8>,
     first: u8,
-    pairs: &[(Key, Value)],
+    pairs: &[(Key, Written)],
 ) -> Result<(), AllocError>
     requires few { length pairs.now < 16 }
     requires short { AllByRecursion (λ pair. IsShort pair.1) pairs.now }
-    ensures ok { OnOk result (out.new.items ≡ out.old.items ++ first ∷ map_text (pairs_of pairs.now)) }
+    ensures ok { OnOk result
+        (out.new.items ≡ out.old.items ++ first ∷ map_text (pairs_of pairs.now)) }
     ensures refused { OnErr result (out.new.items ≡ out.old.items) }
 {
     out.extend_from_slice(&[first])?;
@@ -37,7 +38,7 @@ pub(crate) fn write_message(
 }
 
 /// Appends a map of these pairs. A refused call leaves the contents as they were.
-pub(crate) fn write_map(out: &mut Vec<u8>, pairs: &[(Key, Value)]) -> Result<(), AllocError>
+pub(crate) fn write_map(out: &mut Vec<u8>, pairs: &[(Key, Written)]) -> Result<(), AllocError>
     requires few { length pairs.now < 16 }
     requires short { AllByRecursion (λ pair. IsShort pair.1) pairs.now }
     ensures ok { OnOk result (out.new.items ≡ out.old.items ++ map_text (pairs_of pairs.now)) }
@@ -52,7 +53,7 @@ pub(crate) fn write_map(out: &mut Vec<u8>, pairs: &[(Key, Value)]) -> Result<(),
 }
 
 /// Appends a map of these pairs. A refused call may leave a part of it.
-fn append_map(out: &mut Vec<u8>, pairs: &[(Key, Value)]) -> Result<(), AllocError>
+fn append_map(out: &mut Vec<u8>, pairs: &[(Key, Written)]) -> Result<(), AllocError>
     requires few { length pairs.now < 16 }
     requires short { AllByRecursion (λ pair. IsShort pair.1) pairs.now }
     ensures ok { OnOk result (out.new.items ≡ out.old.items ++ map_text (pairs_of pairs.now)) }
@@ -66,15 +67,16 @@ fn append_map(out: &mut Vec<u8>, pairs: &[(Key, Value)]) -> Result<(), AllocErro
 }
 
 /// Appends a key and its value. A refused call may leave the key.
-fn append_pair(out: &mut Vec<u8>, key: Key, value: Value) -> Result<(), AllocError>
+fn append_pair(out: &mut Vec<u8>, key: Key, value: Written) -> Result<(), AllocError>
     requires { IsShort value }
-    ensures ok { OnOk result (out.new.items ≡ out.old.items ++ pair_text (pair_of (key, value.entry))) }
+    ensures ok { OnOk result
+        (out.new.items ≡ out.old.items ++ pair_text (pair_of (key, value.entry))) }
     ensures refused { OnErr result (Extends out.old.items out.new.items) }
 {
     write_raw(out, key.text())?;
     match value {
-        Value::Number(number) => write_uint(out, number),
-        Value::Raw(bytes) => write_raw(out, bytes),
-        Value::Flag(flag) => write_bool(out, flag),
+        Written::Number(number) => write_uint(out, number),
+        Written::Raw(bytes) => write_raw(out, bytes),
+        Written::Flag(flag) => write_bool(out, flag),
     }
 }

@@ -2,7 +2,7 @@
 
 use super::canonical::OTHER_ALIVE;
 use super::{ALIVE, CONFIRM, LEAVE, SUSPECT};
-use crate::packet::decode_any;
+use crate::packet::decode_any_packet;
 use crate::{Packet, WireFault, decode_packet, read_header, read_state};
 use std::alloc::Global;
 use std::process::Abort;
@@ -10,8 +10,9 @@ use std::test::Fail;
 use swim_claim::Claim;
 use swim_pack::{SliceInlet, StopInlet};
 
-/// Packets; a header of two members and 300 bytes of user state; records of `a`, alive at 127.0.0.1 and
-/// port 7946, and of suspect `b`, dead `c` in longer spellings and left `d`; a record in another order.
+/// Packets; a header of two members and 300 bytes of user state; records of `a`, alive at 127.0.0.1
+/// and port 7946, and of suspect `b`, dead `c` in longer spellings and left `d`; a record in
+/// another order.
 const MESSAGES: [&[u8]; 11] = [
     ALIVE,
     OTHER_ALIVE,
@@ -88,7 +89,7 @@ fn assert_same_maker(
 
 fn decode_both_ways(rt: &impl Abort, alloc: Global, bytes: &[u8]) -> Result<(), Fail> {
     let whole = decode_packet(alloc, bytes);
-    let apart = decode_any(alloc, bytes);
+    let apart = decode_any_packet(alloc, bytes);
     assert_same_maker(rt, &whole, &apart, bytes);
     let (whole, apart) = (whole.map(Packet::into_claim), apart.map(Packet::into_claim));
     assert!(rt; same_claim(whole, apart)?, "{bytes:?}");

@@ -82,7 +82,8 @@ fn a_compound_of_no_packets_is_its_type_and_a_zero(rt: HostRuntime) -> Result<()
     Ok(())
 }
 
-/// Appends the header. Where memory is refused the vector stays as it was, and the repeat appends it.
+/// Appends the header. Where memory is refused the vector stays as it was, and the repeat appends
+/// it.
 fn with_header(out: &mut Vec<u8>, header: &Header) -> Result<(), AllocError> {
     let len = out.len();
     match write_header(out, header) {
@@ -119,8 +120,8 @@ fn a_header_is_appended(rt: HostRuntime) -> Result<(), Fail> {
     Ok(())
 }
 
-/// Appends the record of the claim. Where memory is refused the vector stays as it was, and the repeat
-/// appends it.
+/// Appends the record of the claim. Where memory is refused the vector stays as it was, and the
+/// repeat appends it.
 fn with_state(out: &mut Vec<u8>, claim: &Claim) -> Result<(), AllocError> {
     let len = out.len();
     match write_state(out, claim.name(), claim.facts()) {

@@ -134,8 +134,8 @@ fn the_second_table_answers_who_connected_before(rt: HostRuntime) -> Result<(), 
     assert_reported(&rt, report, ended.at(Place::Loop), "the stranger ended")
 }
 
-/// A connection to the listener that comes before that of the loop, and writes these bytes, with the
-/// report of the loop.
+/// A connection to the listener that comes before that of the loop, and writes these bytes, with
+/// the report of the loop.
 fn stranger(rt: &HostRuntime, bytes: &[u8]) -> Result<(Option<Report>, TcpStream), Fail> {
     let listener = local_listener(rt)?;
     let mut stranger = TcpStream::connect(rt, listener.local_addr()?)?;

@@ -1,5 +1,5 @@
-//! One packet of each kind in many spellings: longer forms, other orders of keys, bytes for text, and
-//! values that are absent or nil.
+//! One packet of each kind in many spellings: longer forms, other orders of keys, bytes for text,
+//! and values that are absent or nil.
 
 /// An alive packet of `a` at incarnation 0, whose metadata and versions are empty.
 pub(crate) const ALIVE: [&str; 24] = [

@@ -1,6 +1,7 @@
 //! Streams without their wrappers.
 
 use crate::stream::unwrap_stream;
+use memberlist_keyring::Keyring;
 use std::alloc::Global;
 use std::process::Abort;
 use std::test::Fail;
@@ -16,8 +17,15 @@ const COMPRESSED: &str =
 #[test]
 fn a_stream_is_unwrapped(rt: HostRuntime) -> Result<(), Fail> {
     let alloc = rt.alloc();
-    assert_eq!(rt; unwrap_stream(alloc, STREAM)?.as_slice(), STREAM);
-    let stream = unwrap_stream(alloc, &hex::decode(alloc, COMPRESSED)?)?;
+    assert_eq!(rt;
+        unwrap_stream(alloc, &Keyring::new(alloc), STREAM)?.as_slice(),
+        STREAM
+    );
+    let stream = unwrap_stream(
+        alloc,
+        &Keyring::new(alloc),
+        &hex::decode(alloc, COMPRESSED)?,
+    )?;
     let wanted =
         "0683a44a6f696ec2a54e6f64657301ac5573657253746174654c656e0087a441646472a47f000001ab496e6361726e6174696f6e00a44d657461a0a44e616d65a161a4506f7274cd1f0aa5537461746500a356736ea0";
     assert_eq!(rt; hex::encode(alloc, &stream)?.as_str(), wanted);
@@ -26,7 +34,7 @@ fn a_stream_is_unwrapped(rt: HostRuntime) -> Result<(), Fail> {
 
 /// Why the bytes are refused.
 fn refusal(rt: &impl Abort, alloc: Global, bytes: &[u8]) -> Result<What, Fail> {
-    match unwrap_stream(alloc, bytes) {
+    match unwrap_stream(alloc, &Keyring::new(alloc), bytes) {
         Ok(stream) => panic!(rt; "{bytes:?} is {stream:?}"),
         Err(What::Memory) => Err(Fail::from(What::Memory)),
         Err(what) => Ok(what),

@@ -51,6 +51,7 @@ fn each_cause_has_its_text(rt: HostRuntime) -> Result<(), Fail> {
             "encrypted or no message (first byte 01)",
         ),
         (Cause::NoMessage(255), "no message (first byte ff)"),
+        (Cause::NoKeyFits, "encrypted, no key fits"),
     ] {
         assert_eq!(rt; format!(in rt.alloc(); "{cause}")?.as_str(), wanted);
     }

@@ -6,22 +6,42 @@ use std::alloc::Global;
 use std::test::Fail;
 use swim_program::WordFault;
 
-/// Words that are taken, what they ask for, and the words that name files.
-const TAKEN: [(&[&str], Verb, &[&str]); 6] = [
-    (&[], Verb::Lines, &[]),
-    (&["--skip"], Verb::Skipping, &[]),
-    (&["stream"], Verb::Stream, &[]),
-    (&["stream", "x"], Verb::Stream, &["x"]),
-    (&["stream", "-"], Verb::Stream, &["-"]),
-    (&["stream", "--", "-x"], Verb::Stream, &["-x"]),
+/// Words that are taken, what they ask for, the words that name files, and those that name files of
+/// keys.
+const TAKEN: [(&[&str], Verb, &[&str], &[&str]); 9] = [
+    (&[], Verb::Lines, &[], &[]),
+    (&["--skip"], Verb::Skipping, &[], &[]),
+    (&["stream"], Verb::Stream, &[], &[]),
+    (&["stream", "x"], Verb::Stream, &["x"], &[]),
+    (&["stream", "-"], Verb::Stream, &["-"], &[]),
+    (&["stream", "--", "-x"], Verb::Stream, &["-x"], &[]),
+    (
+        &["--key-file", "a", "--key-file", "b"],
+        Verb::Lines,
+        &[],
+        &["a", "b"],
+    ),
+    (
+        &["stream", "--key-file", "b", "x"],
+        Verb::Stream,
+        &["x"],
+        &["b"],
+    ),
+    (
+        &["--key-file", "a", "stream", "--key-file", "b"],
+        Verb::Stream,
+        &[],
+        &["a", "b"],
+    ),
 ];
 
 /// Words that are refused.
-const REFUSED: [&[&str]; 10] = [
+const REFUSED: [&[&str]; 11] = [
     &["x"],
     &["-"],
     &[""],
     &["--skip", "x"],
+    &["--key-file"],
     &["--skip", "--skip"],
     &["stream", "x", "y"],
     &["stream", "--skip"],
@@ -41,13 +61,17 @@ fn texts(alloc: Global, words: &[&str]) -> Result<Vec<String>, Fail> {
 #[test]
 fn words_ask_for_a_verb_and_its_file(rt: HostRuntime) -> Result<(), Fail> {
     let alloc = rt.alloc();
-    for (words, verb, files) in TAKEN {
+    for (words, verb, files, key_files) in TAKEN {
         let words = texts(alloc, words)?;
         match chosen(alloc, words.as_slice()) {
             Ok(chosen) => {
                 assert_eq!(rt; chosen.verb(), verb);
                 assert_eq!(rt; chosen.files().len(), files.len());
                 for (file, wanted) in chosen.files().iter().zip(files) {
+                    assert_eq!(rt; file.as_str(), *wanted);
+                }
+                assert_eq!(rt; chosen.key_files().len(), key_files.len());
+                for (file, wanted) in chosen.key_files().iter().zip(key_files) {
                     assert_eq!(rt; file.as_str(), *wanted);
                 }
             }
@@ -86,7 +110,7 @@ fn help_and_version_tell_what_there_is(rt: HostRuntime) -> Result<(), Fail> {
         (&["--version"], &["swimunwrap 0.1.0", "rattle-kit-13b"]),
         (
             &["stream", "--help"],
-            &["swimunwrap stream [FILE]", "Example"],
+            &["swimunwrap stream [OPTIONS] [FILE]", "Example"],
         ),
     ];
     for (words, wanted) in asked {

@@ -6,4 +6,5 @@ pub returns-clause-limits : goal.returns-clause-limits
 returns-clause-limits c = IfErr-weaker c.read_codes.result c.read_codes.ensures.err (λ fault why m. no_lzw_within c.args.limit fault c.args.bytes.now (why m))
 
 pub returns-clause-refuses : goal.returns-clause-refuses
-returns-clause-refuses c = IfErr-weaker c.read_codes.result c.read_codes.ensures.err (λ fault why m other. no_lzw c.args.limit fault c.args.bytes.now (why m) other)
+returns-clause-refuses c =
+    IfErr-weaker c.read_codes.result c.read_codes.ensures.err (λ fault why m other. no_lzw c.args.limit fault c.args.bytes.now (why m) other)

@@ -1,4 +1,4 @@
-use Rattle.std.proofs.Common.{◌≡◌, ◌⊎◌, ◌<◌, ◌∷◌, ◌++◌, length, true, IsTrue, refl, ap, ◌∙◌, rules, arith, inl, inr}
+use Rattle.std.proofs.Common.{◌≡◌, ◌∷◌, length, true, IsTrue, refl, ap, ◌∙◌, rules, arith, inl, inr}
 use Rattle.std.proofs.lemmas.Result.{err_from_is_err_and}
 use Rattle.memberlist_wrap.specs.Explaining.FailsHere.{deep, broken}
 use Rattle.memberlist_wrap.specs.Wrapping.Wrapper.{compression, checksum, label}

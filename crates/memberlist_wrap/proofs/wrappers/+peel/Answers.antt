@@ -11,7 +11,8 @@ returns-in_err-take_off-clause-err t c =
 pub returns-in-Layer-clause-ok : goal.returns-in-Layer-clause-ok
 returns-in-Layer-clause-ok t c =
     let s = rw c.in-Layer.is at c.in_ok-take_off.ensures.ok in
-    IfOk-weaker c.peel.result c.peel.ensures.ok (λ core holds. Holds-more c.args.depth c.args.bytes.now c.in-Layer.inner.now s.2.0 s.2.1 core s.0 s.1 s.2.2 s.2.3 holds)
+    IfOk-weaker c.peel.result c.peel.ensures.ok
+    (λ core holds. Holds-more c.args.depth c.args.bytes.now c.in-Layer.inner.now s.2.0 s.2.1 core s.0 s.1 s.2.2 s.2.3 holds)
 
 pub returns-in-Layer-clause-err : goal.returns-in-Layer-clause-err
 returns-in-Layer-clause-err t c =

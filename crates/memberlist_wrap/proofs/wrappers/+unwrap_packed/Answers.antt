@@ -22,7 +22,8 @@ returns-in_err-inner-in-Compression-clause-err t c =
     rw exit.1 (λ m. elim c.in_err-inner-in-Compression.ensures.exact [
       | inl no_map ↦
           inside c.in_ok-layer.layer.items lzw c.in_ok-layer.ensures.within
-          (map_fails c.args.depth c.args.limit c.in-Compression.left c.in_ok-layer.layer.items c.in-Compression.map.now holds.0 holds.1 (holds.2 c.args.limit) _ _ no_map is)
+          (map_fails c.args.depth c.args.limit c.in-Compression.left c.in_ok-layer.layer.items c.in-Compression.map.now holds.0
+          holds.1 (holds.2 c.args.limit) _ _ no_map is)
       | inr memory ↦ absurd (m (is ∙ ap fault_of_map memory))
     ])
 
@@ -51,7 +52,8 @@ returns-in_ok-inner-in-Compression-clause-ok t c =
       lzw = lzw;
       within = c.in_ok-layer.ensures.within;
       unwraps =
-          packed_unwraps c.args.depth c.args.limit c.in-Compression.left c.in_ok-layer.layer.items c.in-Compression.map.now holds.0 holds.1 (holds.2 c.args.limit)
+          packed_unwraps c.args.depth c.args.limit c.in-Compression.left c.in_ok-layer.layer.items c.in-Compression.map.now
+          holds.0 holds.1 (holds.2 c.args.limit)
           c.in_ok-inner-in-Compression.inner.items message.items c.in_ok-inner-in-Compression.ensures.reads p;
     })
 

@@ -1,4 +1,4 @@
-use Rattle.std.proofs.Common.{◌≡◌, ap, ◌∙◌, inl, inr}
+use Rattle.std.proofs.Common.{ap, ◌∙◌, inl, inr}
 use Rattle.std.proofs.lemmas.Result.{err_from_is_err_and}
 use Rattle.memberlist_wrap.specs.Explaining.{fault_of_map}
 use Rattle.memberlist_wrap.proofs.Weakening.{IfOk-weaker, IfErr-weaker}
@@ -11,7 +11,8 @@ returns-in_err-packed-in-Compression-clause-err c =
     let is = exit.2 in
     let holds = rw c.in-Compression.is at c.in_ok-message.ensures.ok in
     rw exit.1 (λ m. elim c.in_err-packed-in-Compression.ensures.exact [
-      | inl no_map ↦ map_fails 4 c.args.limit c.in-Compression.depth c.args.bytes.now c.in-Compression.map.now holds.0 holds.1 (holds.2 c.args.limit) _ _ no_map is
+      | inl no_map ↦
+          map_fails 4 c.args.limit c.in-Compression.depth c.args.bytes.now c.in-Compression.map.now holds.0 holds.1 (holds.2 c.args.limit) _ _ no_map is
       | inr memory ↦ absurd (m (is ∙ ap fault_of_map memory))
     ])
 

@@ -8,7 +8,9 @@ pub returns-in_err-packet-clause-refused : goal.returns-in_err-packet-clause-ref
 returns-in_err-packet-clause-refused c =
     let p = err_from_is_err_and c.from_residual.result c.from_residual.ensures.1 in
     let why = c.in_err-packet.ensures in
-    rw (p.1, p.2) (λ no_memory. record { none = why.refuses no_memory; explains = why.explains no_memory; exact = why.exact no_memory; no_end = λ e. why.no_fault (ap Err e) })
+    rw (p.1, p.2)
+    (λ no_memory.
+    record { none = why.refuses no_memory; explains = why.explains no_memory; exact = why.exact no_memory; no_end = λ e. why.no_fault (ap Err e) })
 
 pub returns-in_ok-take_claim-in-Packet-clause-takes : goal.returns-in_ok-take_claim-in-Packet-clause-takes
 returns-in_ok-take_claim-in-Packet-clause-takes c =
@@ -17,7 +19,9 @@ returns-in_ok-take_claim-in-Packet-clause-takes c =
     record {
       packets = packets;
       text = text;
-      taken = subst (λ claim. TakesClaims (claim ∷ []) c.args.node.now.table c.take_claim.new.node.table) c.into_claim.ensures c.in_ok-take_claim-in-Packet.ensures.takes;
+      taken =
+          subst (λ claim. TakesClaims (claim ∷ []) c.args.node.now.table c.take_claim.new.node.table) c.into_claim.ensures
+          c.in_ok-take_claim-in-Packet.ensures.takes;
       member = c.take_claim.ensures.member;
     }
 

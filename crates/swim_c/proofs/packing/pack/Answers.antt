@@ -8,7 +8,8 @@ use Rattle.swim_c.proofs.packing.pack.Goals as goal
 
 pub encode_compound-requires : goal.encode_compound-requires
 encode_compound-requires c =
-    let each : length c.in_ok-packets.packets.items ≡ length c.args.lens.now = length-packets c.args.lens.now c.args.bytes.now c.in_ok-packets.packets.items c.in_ok-packets.ensures.reads in
+    let each : length c.in_ok-packets.packets.items ≡ length c.args.lens.now =
+    length-packets c.args.lens.now c.args.bytes.now c.in_ok-packets.packets.items c.in_ok-packets.ensures.reads in
     omega arith
 
 pub returns-in_err-packets-clause-refused : goal.returns-in_err-packets-clause-refused

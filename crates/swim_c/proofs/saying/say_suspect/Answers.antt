@@ -8,4 +8,6 @@ use Rattle.swim_c.proofs.saying.say_suspect.Goals as goal
 pub returns-in-Ok : goal.returns-in-Ok
 returns-in-Ok c =
     let names = c.in-Ok.ensures.names in
-    said c.new-packet.result _ _ _ _ _ IsNoMemory (IsNoName c.args.name.now) (c.new-packet.ensures ∙ (λ i. record { claim = Suspect (names.0 i) c.args.inc; from = names.1 i })) (λ why. inr (inr why)) c.packet_out.ensures
+    said c.new-packet.result _ _ _ _ _ IsNoMemory (IsNoName c.args.name.now)
+    (c.new-packet.ensures ∙ (λ i. record { claim = Suspect (names.0 i) c.args.inc; from = names.1 i })) (λ why. inr (inr why))
+    c.packet_out.ensures

@@ -19,17 +19,27 @@ loop-index-init c =
 pub returns-in-Err-clause-line : goal.returns-in-Err-clause-line
 returns-in-Err-clause-line c = λ seen within.
     let start : c.into_iter-index-iterator.result ≡ c.enumerate-index-items.result = search rules in
-    let here = yielded_at (YieldsList-at start (YieldsList-from_enumerate (YieldsList-at c.enumerate-index-items.ensures.source (YieldsList-from_slice_split _ (λ b. eqb b 10) c.args.input.now c.split.ensures.rest c.split.ensures.done c.split.ensures.closure (λ x r q k. search (rules, tests)))) c.enumerate-index-items.ensures.count)) c.loop-index.yielded _ c.loop-index.yielded_by _ _ (c.in-Some.index, c.in-Some.line) c.in-Some.is c.next.ensures.steps in
+    let here =
+    yielded_at
+    (YieldsList-at start
+    (YieldsList-from_enumerate
+    (YieldsList-at c.enumerate-index-items.ensures.source
+    (YieldsList-from_slice_split _ (λ b. eqb b 10) c.args.input.now c.split.ensures.rest c.split.ensures.done
+    c.split.ensures.closure (λ x r q k. search (rules, tests))))
+    c.enumerate-index-items.ensures.count))
+    c.loop-index.yielded _ c.loop-index.yielded_by _ _ (c.in-Some.index, c.in-Some.line) c.in-Some.is c.next.ensures.steps in
     let lines = input_lines c.args.input.now in
     let n = length c.loop-index.yielded in
     let before : List (List ℕ) = map (λ p. p.1.now) c.loop-index.yielded in
     let number : length before ≡ n = length-map c.loop-index.yielded (λ p. p.1.now) in
     let first : before ≡ take n lines = first_counted c.loop-index.yielded 0 n lines here.2 in
     let inside : n < length lines = omega (arith, here.0, length-enumerate_from 0 lines) in
-    let line : c.in-Some.line.now ≡ get_or lines n c.in-Some.line.now = ap (λ p. p.1) (here.1 ∙ get_or-enumerate_from 0 lines n (c.in-Some.index, c.in-Some.line.now) inside) in
+    let line : c.in-Some.line.now ≡ get_or lines n c.in-Some.line.now =
+    ap (λ p. p.1) (here.1 ∙ get_or-enumerate_from 0 lines n (c.in-Some.index, c.in-Some.line.now) inside) in
     let wrong = c.in-Err.ensures.refuses (λ e. seen (ap (λ r. r.what) c.at-in-Err.ensures ∙ e)) in
     let counted : c.in-Some.index + 1 ≡ length before + 1 = number_of_line c.loop-index.yielded lines c.in-Some.index c.in-Some.line.now (here.0, here.1) in
-    first_wrong_line c.args.input.now before c.in-Some.line.now c.without_return.result.now c.loop-index.invariant.2.starts c.loop-index.plan c.at-in-Err.result.place
+    first_wrong_line c.args.input.now before c.in-Some.line.now c.without_return.result.now c.loop-index.invariant.2.starts
+    c.loop-index.plan c.at-in-Err.result.place
     (first ∙ ap (λ k. take k lines) (sym number))
     (omega (arith, inside, number))
     (line ∙ ap (λ k. get_or lines k c.in-Some.line.now) (sym number))
@@ -41,23 +51,55 @@ returns-in-Err-clause-line c = λ seen within.
 pub loop-index-preserved : goal.loop-index-preserved
 loop-index-preserved c =
     let start : c.into_iter-index-iterator.result ≡ c.enumerate-index-items.result = search rules in
-    let here = YieldsList-turn (YieldsList-at start (YieldsList-from_enumerate (YieldsList-at c.enumerate-index-items.ensures.source (YieldsList-from_slice_split _ (λ b. eqb b 10) c.args.input.now c.split.ensures.rest c.split.ensures.done c.split.ensures.closure (λ x r q k. search (rules, tests)))) c.enumerate-index-items.ensures.count)) c.loop-index.yielded _ c.loop-index.yielded_by _ _ (c.in-Some.index, c.in-Some.line) c.in-Some.is c.next.ensures.steps in
+    let here =
+    YieldsList-turn
+    (YieldsList-at start
+    (YieldsList-from_enumerate
+    (YieldsList-at c.enumerate-index-items.ensures.source
+    (YieldsList-from_slice_split _ (λ b. eqb b 10) c.args.input.now c.split.ensures.rest c.split.ensures.done
+    c.split.ensures.closure (λ x r q k. search (rules, tests))))
+    c.enumerate-index-items.ensures.count))
+    c.loop-index.yielded _ c.loop-index.yielded_by _ _ (c.in-Some.index, c.in-Some.line) c.in-Some.is c.next.ensures.steps in
     let read : List (List ℕ) = map (λ p. p.1.now) c.loop-index.yielded in
-    let counted : c.in-Some.index + 1 ≡ length read + 1 = number_of_line c.loop-index.yielded (input_lines c.args.input.now) c.in-Some.index c.in-Some.line.now here in
-    let were = read_more read c.in-Some.line.now c.without_return.result.now (c.in-Some.index + 1) c.loop-index.plan c.take_line.new.self c.without_return.ensures counted c.loop-index.invariant.2 c.in_default.ensures.takes in
-    (search rules, search rules, subst (λ l. WereRead l c.take_line.new.self) (sym (map_push (λ p. p.1.now) c.loop-index.yielded (c.in-Some.index, c.in-Some.line))) were)
+    let counted : c.in-Some.index + 1 ≡ length read + 1 =
+    number_of_line c.loop-index.yielded (input_lines c.args.input.now) c.in-Some.index c.in-Some.line.now here in
+    let were =
+    read_more read c.in-Some.line.now c.without_return.result.now (c.in-Some.index + 1) c.loop-index.plan c.take_line.new.self
+    c.without_return.ensures counted c.loop-index.invariant.2 c.in_default.ensures.takes in (
+      search rules,
+      search rules,
+      subst (λ l. WereRead l c.take_line.new.self) (sym (map_push (λ p. p.1.now) c.loop-index.yielded (c.in-Some.index, c.in-Some.line))) were,
+    )
 
 pub returns-clause-reads : goal.returns-clause-reads
 returns-clause-reads c =
     let start : c.into_iter-index-iterator.result ≡ c.enumerate-index-items.result = search rules in
-    let all = YieldsList-end (YieldsList-at start (YieldsList-from_enumerate (YieldsList-at c.enumerate-index-items.ensures.source (YieldsList-from_slice_split _ (λ b. eqb b 10) c.args.input.now c.split.ensures.rest c.split.ensures.done c.split.ensures.closure (λ x r q k. search (rules, tests)))) c.enumerate-index-items.ensures.count)) c.loop-index.yielded _ c.loop-index.yielded_by _ _ c.in-None.is c.next.ensures.steps in
+    let all =
+    YieldsList-end
+    (YieldsList-at start
+    (YieldsList-from_enumerate
+    (YieldsList-at c.enumerate-index-items.ensures.source
+    (YieldsList-from_slice_split _ (λ b. eqb b 10) c.args.input.now c.split.ensures.rest c.split.ensures.done
+    c.split.ensures.closure (λ x r q k. search (rules, tests))))
+    c.enumerate-index-items.ensures.count))
+    c.loop-index.yielded _ c.loop-index.yielded_by _ _ c.in-None.is c.next.ensures.steps in
     let were = subst (λ lines. WereRead lines c.loop-index.plan) (counted_lines c.loop-index.yielded 0 _ all.0) c.loop-index.invariant.2 in
     (were.starts, were.was.started, was_read_whole (input_lines c.args.input.now) were.starts c.loop-index.plan were.was, were.numbered)
 
 pub returns-clause-few : goal.returns-clause-few
 returns-clause-few c =
     let start : c.into_iter-index-iterator.result ≡ c.enumerate-index-items.result = search rules in
-    let all = YieldsList-end (YieldsList-at start (YieldsList-from_enumerate (YieldsList-at c.enumerate-index-items.ensures.source (YieldsList-from_slice_split _ (λ b. eqb b 10) c.args.input.now c.split.ensures.rest c.split.ensures.done c.split.ensures.closure (λ x r q k. search (rules, tests)))) c.enumerate-index-items.ensures.count)) c.loop-index.yielded _ c.loop-index.yielded_by _ _ c.in-None.is c.next.ensures.steps in
+    let all =
+    YieldsList-end
+    (YieldsList-at start
+    (YieldsList-from_enumerate
+    (YieldsList-at c.enumerate-index-items.ensures.source
+    (YieldsList-from_slice_split _ (λ b. eqb b 10) c.args.input.now c.split.ensures.rest c.split.ensures.done
+    c.split.ensures.closure (λ x r q k. search (rules, tests))))
+    c.enumerate-index-items.ensures.count))
+    c.loop-index.yielded _ c.loop-index.yielded_by _ _ c.in-None.is c.next.ensures.steps in
     let were = subst (λ lines. WereRead lines c.loop-index.plan) (counted_lines c.loop-index.yielded 0 _ all.0) c.loop-index.invariant.2 in
-    let nodes = few_nodes c.args.input.now c.loop-index.plan.nodes.items were.starts _ were.was.started (was_read_whole (input_lines c.args.input.now) were.starts c.loop-index.plan were.was) in
+    let nodes =
+    few_nodes c.args.input.now c.loop-index.plan.nodes.items were.starts _ were.was.started
+    (was_read_whole (input_lines c.args.input.now) were.starts c.loop-index.plan were.was) in
     omega (arith, nodes, c.if-input-gt-BOUND.false)

@@ -15,7 +15,8 @@ returns-in_err-claims_of-in-7-clause-refuses c =
 
 pub returns-in_err-decode_packet-in_default-clause-refuses : goal.returns-in_err-decode_packet-in_default-clause-refuses
 returns-in_err-decode_packet-in_default-clause-refuses c =
-    let other : get_or c.args.datagram.now 0 0 ≢ 7 = elim c.in_default.branch [ in_default-via-then-datagram-lt1 w ↦ none_first c.args.datagram.now (search rules) | in_default-via-else-datagram-lt1+in_default-1 w ↦ search rules ] in
+    let other : get_or c.args.datagram.now 0 0 ≢ 7 =
+    elim c.in_default.branch [ in_default-via-then-datagram-lt1 w ↦ none_first c.args.datagram.now (search rules) | in_default-via-else-datagram-lt1+in_default-1 w ↦ search rules ] in
     let p = err_from_is_err_and c.from_residual-in_err-decode_packet-in_default.result c.from_residual-in_err-decode_packet-in_default.ensures.1 in
     rw p.1 (λ seen. no_packet _ c.args.datagram.now other (c.in_err-decode_packet-in_default.ensures.refuses (λ m. seen (p.2 ∙ ap what_of m))))
 

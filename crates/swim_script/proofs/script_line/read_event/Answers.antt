@@ -29,16 +29,23 @@ returns-in_err-one_number-in-Refute-clause-refuses c =
 
 pub returns-in-Hear-clause-refuses : goal.returns-in-Hear-clause-refuses
 returns-in-Hear-clause-refuses c =
-    subst (λ k. IfErr c.read_hear.result (λ what. what ≢ Memory → (event : Event) → ¬ EventWords (word_of k ∷ map (λ w. w.now) c.args.fields.now) event)) (sym c.in-Hear.is) c.read_hear.ensures.refuses
+    subst
+    (λ k. IfErr c.read_hear.result (λ what. what ≢ Memory → (event : Event) → ¬ EventWords (word_of k ∷ map (λ w. w.now) c.args.fields.now) event))
+    (sym c.in-Hear.is) c.read_hear.ensures.refuses
 
 pub returns-in_ok-first-in-Exchange-clause-reads : goal.returns-in_ok-first-in-Exchange-clause-reads
 returns-in_ok-first-in-Exchange-clause-reads c =
-    subst (λ k. EventWords (word_of k ∷ map (λ w. w.now) c.args.fields.now) (Exchange c.in_ok-first-in-Exchange.first c.in_ok-first-in-Exchange.second)) (sym c.in-Exchange.is) (exchange_told _ _ _ c.in_ok-first-in-Exchange.ensures.reads)
+    subst
+    (λ k. EventWords (word_of k ∷ map (λ w. w.now) c.args.fields.now) (Exchange c.in_ok-first-in-Exchange.first c.in_ok-first-in-Exchange.second))
+    (sym c.in-Exchange.is) (exchange_told _ _ _ c.in_ok-first-in-Exchange.ensures.reads)
 
 pub returns-in_ok-first-in-Half-clause-reads : goal.returns-in_ok-first-in-Half-clause-reads
 returns-in_ok-first-in-Half-clause-reads c =
-    subst (λ k. EventWords (word_of k ∷ map (λ w. w.now) c.args.fields.now) (Half c.in_ok-first-in-Half.first c.in_ok-first-in-Half.second)) (sym c.in-Half.is) (half_told _ _ _ c.in_ok-first-in-Half.ensures.reads)
+    subst
+    (λ k. EventWords (word_of k ∷ map (λ w. w.now) c.args.fields.now) (Half c.in_ok-first-in-Half.first c.in_ok-first-in-Half.second))
+    (sym c.in-Half.is) (half_told _ _ _ c.in_ok-first-in-Half.ensures.reads)
 
 pub returns-in_ok-one_number-in-Refute-clause-reads : goal.returns-in_ok-one_number-in-Refute-clause-reads
 returns-in_ok-one_number-in-Refute-clause-reads c =
-    subst (λ k. EventWords (word_of k ∷ map (λ w. w.now) c.args.fields.now) (Refute c.in_ok-one_number-in-Refute.field-0)) (sym c.in-Refute.is) (refute_told _ _ c.in_ok-one_number-in-Refute.ensures.reads)
+    subst (λ k. EventWords (word_of k ∷ map (λ w. w.now) c.args.fields.now) (Refute c.in_ok-one_number-in-Refute.field-0))
+    (sym c.in-Refute.is) (refute_told _ _ c.in_ok-one_number-in-Refute.ensures.reads)

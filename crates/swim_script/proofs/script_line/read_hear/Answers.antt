@@ -7,14 +7,20 @@ use Rattle.swim_script.proofs.script_line.read_hear.Goals as goal
 pub returns-in_err-datagram-clause-refuses : goal.returns-in_err-datagram-clause-refuses
 returns-in_err-datagram-clause-refuses c =
     let p = err_from_is_err_and c.from_residual-in_err-datagram.result c.from_residual-in_err-datagram.ensures.1 in
-    rw (p.1, p.2) (λ seen event. no_hex c.args.fields.now _ event (omega (arith, c.in-len2.len_at_least, c.in-len2.len_below)) (c.in_err-datagram.ensures.refuses seen))
+    rw (p.1, p.2)
+    (λ seen event. no_hex c.args.fields.now _ event (omega (arith, c.in-len2.len_at_least, c.in-len2.len_below)) (c.in_err-datagram.ensures.refuses seen))
 
 pub returns-clause-reads : goal.returns-clause-reads
 returns-clause-reads c =
     let hex = subst (HexBytes _) (sym c.deref.ensures.value) c.in_ok-datagram.ensures.reads in
-    IfOk-weaker c.heard.result _ _ (λ event hears. hear_told c.args.fields.now _ _ _ event (omega (arith, c.in-len2.len_at_least, c.in-len2.len_below)) c.in_ok-node.ensures.reads hex hears) c.heard.ensures.reads
+    IfOk-weaker c.heard.result _ _
+    (λ event hears. hear_told c.args.fields.now _ _ _ event (omega (arith, c.in-len2.len_at_least, c.in-len2.len_below)) c.in_ok-node.ensures.reads hex hears)
+    c.heard.ensures.reads
 
 pub returns-clause-refuses : goal.returns-clause-refuses
 returns-clause-refuses c =
     let hex = subst (HexBytes _) (sym c.deref.ensures.value) c.in_ok-datagram.ensures.reads in
-    IfErr-weaker c.heard.result _ _ (λ what none seen event. no_heard c.args.fields.now _ _ _ event (omega (arith, c.in-len2.len_at_least, c.in-len2.len_below)) c.in_ok-node.ensures.reads hex (none seen event)) c.heard.ensures.refuses
+    IfErr-weaker c.heard.result _ _
+    (λ what none seen event. no_heard c.args.fields.now _ _ _ event (omega (arith, c.in-len2.len_at_least, c.in-len2.len_below))
+    c.in_ok-node.ensures.reads hex (none seen event))
+    c.heard.ensures.refuses

@@ -12,7 +12,9 @@ pub returns-in_default-named-clause-refuses : goal.returns-in_default-named-clau
 returns-in_default-named-clause-refuses c =
     let all : c.deref.result.now ≡ c.in-Some.first.now ∷ c.in-Some.fields.now = search rules in
     let line = sym c.in_ok-words.ensures.words ∙ ap (map (λ w. w.now)) (sym c.deref.ensures.value ∙ all) in
-    λ seen. subst (SpellsNothing c.args.nodes_may_come) (sym line) (unknown_first c.args.nodes_may_come c.in-Some.first.now.now (map (λ w. w.now) c.in-Some.fields.now) (c.in_default-named.ensures.unknown refl))
+    λ seen.
+    subst (SpellsNothing c.args.nodes_may_come) (sym line)
+    (unknown_first c.args.nodes_may_come c.in-Some.first.now.now (map (λ w. w.now) c.in-Some.fields.now) (c.in_default-named.ensures.unknown refl))
 
 pub returns-in_err-read_node-in-Node-clause-refuses : goal.returns-in_err-read_node-in-Node-clause-refuses
 returns-in_err-read_node-in-Node-clause-refuses c =
@@ -21,17 +23,24 @@ returns-in_err-read_node-in-Node-clause-refuses c =
     let first = c.in-Some-named.ensures.known ∙ ap word_of c.in-Node.is in
     let line = sym c.in_ok-words.ensures.words ∙ ap (map (λ w. w.now)) (sym c.deref.ensures.value ∙ all) ∙ ap (λ w. w ∷ rest) first in
     let p = err_from_is_err_and c.from_residual-in_err-read_node-in-Node.result c.from_residual-in_err-read_node-in-Node.ensures.1 in
-    rw (p.1, p.2) (λ seen. subst (SpellsNothing c.args.nodes_may_come) (sym line) (no_node_told c.args.nodes_may_come rest (c.in_err-read_node-in-Node.ensures.refuses seen)))
+    rw (p.1, p.2)
+    (λ seen. subst (SpellsNothing c.args.nodes_may_come) (sym line) (no_node_told c.args.nodes_may_come rest (c.in_err-read_node-in-Node.ensures.refuses seen)))
 
 pub returns-in_err-read_event-in_default-keyword-clause-refuses : goal.returns-in_err-read_event-in_default-keyword-clause-refuses
 returns-in_err-read_event-in_default-keyword-clause-refuses c =
     let all : c.deref.result.now ≡ c.in-Some.first.now ∷ c.in-Some.fields.now = search rules in
     let rest = map (λ w. w.now) c.in-Some.fields.now in
     let line = sym c.in_ok-words.ensures.words ∙ ap (map (λ w. w.now)) (sym c.deref.ensures.value ∙ all) ∙ ap (λ w. w ∷ rest) c.in-Some-named.ensures.known in
-    let node : c.in-Some-named.keyword ≡ key.Node → c.args.nodes_may_come ≡ true → ⊥ = elim c.in_default-keyword.branch [ in_default-keyword-via-in-Node+else-nodes_may_come w ↦ search rules | in_default-keyword-via-in-Level+else-is_empty w ↦ search rules | in_default-keyword-via-in_default-keyword w ↦ search rules ] in
-    let some : c.in-Some-named.keyword ≡ key.Level → 0 < length c.in-Some.fields.now = elim c.in_default-keyword.branch [ in_default-keyword-via-in-Node+else-nodes_may_come w ↦ search rules | in_default-keyword-via-in-Level+else-is_empty w ↦ search rules | in_default-keyword-via-in_default-keyword w ↦ search rules ] in
+    let node : c.in-Some-named.keyword ≡ key.Node → c.args.nodes_may_come ≡ true → ⊥ =
+    elim c.in_default-keyword.branch [ in_default-keyword-via-in-Node+else-nodes_may_come w ↦ search rules | in_default-keyword-via-in-Level+else-is_empty w ↦ search rules | in_default-keyword-via-in_default-keyword w ↦ search rules ] in
+    let some : c.in-Some-named.keyword ≡ key.Level → 0 < length c.in-Some.fields.now =
+    elim c.in_default-keyword.branch [ in_default-keyword-via-in-Node+else-nodes_may_come w ↦ search rules | in_default-keyword-via-in-Level+else-is_empty w ↦ search rules | in_default-keyword-via-in_default-keyword w ↦ search rules ] in
     let p = err_from_is_err_and c.from_residual-in_err-read_event-in_default-keyword.result c.from_residual-in_err-read_event-in_default-keyword.ensures.1 in
-    rw (p.1, p.2) (λ seen. subst (SpellsNothing c.args.nodes_may_come) (sym line) (nothing_told c.args.nodes_may_come c.in-Some-named.keyword rest node (λ e. omega (arith, some e, length-map c.in-Some.fields.now (λ w. w.now))) (c.in_err-read_event-in_default-keyword.ensures.refuses seen)))
+    rw (p.1, p.2)
+    (λ seen. subst (SpellsNothing c.args.nodes_may_come) (sym line)
+    (nothing_told c.args.nodes_may_come c.in-Some-named.keyword rest node
+    (λ e. omega (arith, some e, length-map c.in-Some.fields.now (λ w. w.now)))
+    (c.in_err-read_event-in_default-keyword.ensures.refuses seen)))
 
 pub returns-clause-reads : goal.returns-clause-reads
 returns-clause-reads c =

@@ -9,34 +9,48 @@ use Rattle.swim_script.proofs.script_line.read_node.Goals as goal
 pub returns-in_err-addr-clause-refuses : goal.returns-in_err-addr-clause-refuses
 returns-in_err-addr-clause-refuses c =
     let p = err_from_is_err_and c.from_residual-in_err-addr.result c.from_residual-in_err-addr.ensures.1 in
-    rw (p.1, p.2) (λ seen start own. c.in_err-addr.ensures.refuses seen _ (node_told c.args.fields.now _ start (omega (arith, c.in-len6.len_at_least, c.in-len6.len_below)) own).addr)
+    rw (p.1, p.2)
+    (λ seen start own. c.in_err-addr.ensures.refuses seen _
+    (node_told c.args.fields.now _ start (omega (arith, c.in-len6.len_at_least, c.in-len6.len_below)) own).addr)
 
 pub returns-in_err-port-clause-refuses : goal.returns-in_err-port-clause-refuses
 returns-in_err-port-clause-refuses c =
     let p = err_from_is_err_and c.from_residual-in_err-port.result c.from_residual-in_err-port.ensures.1 in
-    rw (p.1, p.2) (λ seen start own. c.in_err-port.ensures.refuses _ (node_told c.args.fields.now _ start (omega (arith, c.in-len6.len_at_least, c.in-len6.len_below)) own).port)
+    rw (p.1, p.2)
+    (λ seen start own. c.in_err-port.ensures.refuses _
+    (node_told c.args.fields.now _ start (omega (arith, c.in-len6.len_at_least, c.in-len6.len_below)) own).port)
 
 pub returns-in_err-meta-clause-refuses : goal.returns-in_err-meta-clause-refuses
 returns-in_err-meta-clause-refuses c =
     let p = err_from_is_err_and c.from_residual-in_err-meta.result c.from_residual-in_err-meta.ensures.1 in
-    rw (p.1, p.2) (λ seen start own. c.in_err-meta.ensures.refuses seen _ (node_told c.args.fields.now _ start (omega (arith, c.in-len6.len_at_least, c.in-len6.len_below)) own).meta)
+    rw (p.1, p.2)
+    (λ seen start own. c.in_err-meta.ensures.refuses seen _
+    (node_told c.args.fields.now _ start (omega (arith, c.in-len6.len_at_least, c.in-len6.len_below)) own).meta)
 
 pub returns-in_err-vsn-clause-refuses : goal.returns-in_err-vsn-clause-refuses
 returns-in_err-vsn-clause-refuses c =
     let p = err_from_is_err_and c.from_residual-in_err-vsn.result c.from_residual-in_err-vsn.ensures.1 in
-    rw (p.1, p.2) (λ seen start own. c.in_err-vsn.ensures.refuses seen _ (node_told c.args.fields.now _ start (omega (arith, c.in-len6.len_at_least, c.in-len6.len_below)) own).vsn)
+    rw (p.1, p.2)
+    (λ seen start own. c.in_err-vsn.ensures.refuses seen _
+    (node_told c.args.fields.now _ start (omega (arith, c.in-len6.len_at_least, c.in-len6.len_below)) own).vsn)
 
 pub returns-in_err-inc-clause-refuses : goal.returns-in_err-inc-clause-refuses
 returns-in_err-inc-clause-refuses c =
     let p = err_from_is_err_and c.from_residual-in_err-inc.result c.from_residual-in_err-inc.ensures.1 in
-    rw (p.1, p.2) (λ seen start own. c.in_err-inc.ensures.refuses _ (node_told c.args.fields.now _ start (omega (arith, c.in-len6.len_at_least, c.in-len6.len_below)) own).inc)
+    rw (p.1, p.2)
+    (λ seen start own. c.in_err-inc.ensures.refuses _
+    (node_told c.args.fields.now _ start (omega (arith, c.in-len6.len_at_least, c.in-len6.len_below)) own).inc)
 
 pub returns-in_err-details-clause-refuses : goal.returns-in_err-details-clause-refuses
 returns-in_err-details-clause-refuses c =
     let p = err_from_is_err_and c.from_residual-in_err-details.result c.from_residual-in_err-details.ensures.1 in
     rw p.1 (λ seen start own.
     let told = node_told c.args.fields.now _ start (omega (arith, c.in-len6.len_at_least, c.in-len6.len_below)) own in
-    let bad : false ≡ true = c.in_err-details.ensures.legal.1 (subst IsLegalDetails (details_told _ _ _ _ _ _ start _ _ _ _ told c.in_ok-addr.ensures.reads c.in_ok-port.ensures.reads c.in_ok-meta.ensures.reads c.in_ok-vsn.ensures.reads) told.legal_details) in
+    let bad : false ≡ true =
+    c.in_err-details.ensures.legal.1
+    (subst IsLegalDetails
+    (details_told _ _ _ _ _ _ start _ _ _ _ told c.in_ok-addr.ensures.reads c.in_ok-port.ensures.reads c.in_ok-meta.ensures.reads c.in_ok-vsn.ensures.reads)
+    told.legal_details) in
     absurd cc)
 
 pub returns-clause-reads : goal.returns-clause-reads

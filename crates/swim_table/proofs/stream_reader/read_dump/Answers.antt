@@ -29,14 +29,18 @@ returns-in_err-read-clause-back c table join legal few is =
     let p = err_from_is_err_and c.from_residual.result c.from_residual.ensures.1 in
     let why = c.in_err-read.ensures in
     let bytes = c.args.bytes.now in
-    rw (p.1, p.2)
-    (tt, refused_front c.in_err-read.field-0.0 bytes bytes [] (Reduced table) join (rw c.new-inlet.ensures at why.lacks) (λ e. absurd (search rules)) (dumped bytes table join legal few is) (sym (append-nil bytes)))
+    rw (p.1, p.2) (
+      tt,
+      refused_front c.in_err-read.field-0.0 bytes bytes [] (Reduced table) join (rw c.new-inlet.ensures at why.lacks) (λ e. absurd (search rules)) (dumped bytes table join legal few is) (sym (append-nil bytes)),
+    )
 
 pub returns-in_err-read-clause-after : goal.returns-in_err-read-clause-after
 returns-in_err-read-clause-after c front rest claims join text more parts =
     let p = err_from_is_err_and c.from_residual.result c.from_residual.ensures.1 in
     let why = c.in_err-read.ensures in
-    let memory = refused_front c.in_err-read.field-0.0 c.args.bytes.now front rest claims join (rw c.new-inlet.ensures at why.lacks) (λ e. absurd (search rules)) text parts in
+    let memory =
+    refused_front c.in_err-read.field-0.0 c.args.bytes.now front rest claims join (rw c.new-inlet.ensures at why.lacks)
+    (λ e. absurd (search rules)) text parts in
     inr (p.1 ∙ ap Err (p.2 ∙ memory))
 
 pub returns-then-is_empty-clause-after : goal.returns-then-is_empty-clause-after
@@ -59,13 +63,15 @@ pub returns-else-is_empty-clause-refuses : goal.returns-else-is_empty-clause-ref
 returns-else-is_empty-clause-refuses c other claims join whole =
     let read = c.in_ok-read.ensures.takes in
     let more : c.read_stream.new.inlet ≢ [] = search rules in
-    trailing_whole c.args.bytes.now read.2.0 c.read_stream.new.inlet read.0 claims c.in_ok-read.read.1 join read.2.1 (sym c.new-inlet.ensures ∙ read.2.2) more whole
+    trailing_whole c.args.bytes.now read.2.0 c.read_stream.new.inlet read.0 claims c.in_ok-read.read.1 join read.2.1
+    (sym c.new-inlet.ensures ∙ read.2.2) more whole
 
 pub returns-else-is_empty-clause-back : goal.returns-else-is_empty-clause-back
 returns-else-is_empty-clause-back c table join legal few is =
     let read = c.in_ok-read.ensures.takes in
     let more : c.read_stream.new.inlet ≢ [] = search rules in (
       tt,
-      absurd (trailing_whole c.args.bytes.now read.2.0 c.read_stream.new.inlet read.0 (Reduced table) c.in_ok-read.read.1 join read.2.1 (sym c.new-inlet.ensures ∙ read.2.2) more
+      absurd
+          (trailing_whole c.args.bytes.now read.2.0 c.read_stream.new.inlet read.0 (Reduced table) c.in_ok-read.read.1 join read.2.1 (sym c.new-inlet.ensures ∙ read.2.2) more
           (dumped c.args.bytes.now table join legal few is)),
     )

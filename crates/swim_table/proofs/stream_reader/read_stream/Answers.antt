@@ -19,12 +19,15 @@ pub returns-in_err-next-clause-lacks : goal.returns-in_err-next-clause-lacks
 returns-in_err-next-clause-lacks g c =
     let p = err_from_is_err_and c.from_residual-in_err-next.result c.from_residual-in_err-next.ensures.1 in
     rw (p.1, p.2) (UnlessFailed-weaker (wire_cause c.in_err-next.field-0.0)
-    (none_wanted (g.I.Inlet.seen c.args.inlet.now) (g.I.Inlet.seen c.loop-next.inlet) c.loop-next.reader c.loop-next.invariant.some) c.in_err-next.ensures.lacks)
+    (none_wanted (g.I.Inlet.seen c.args.inlet.now) (g.I.Inlet.seen c.loop-next.inlet) c.loop-next.reader c.loop-next.invariant.some)
+    c.in_err-next.ensures.lacks)
 
 pub returns-in_err-next-clause-explains : goal.returns-in_err-next-clause-explains
 returns-in_err-next-clause-explains g c =
     let p = err_from_is_err_and c.from_residual-in_err-next.result c.from_residual-in_err-next.ensures.1 in
-    rw (p.1, p.2) (step_explains c.in_err-next.field-0.0 (g.I.Inlet.seen c.args.inlet.now) (g.I.Inlet.seen c.loop-next.inlet) c.loop-next.reader c.loop-next.invariant.some c.in_err-next.ensures.explains)
+    rw (p.1, p.2)
+    (step_explains c.in_err-next.field-0.0 (g.I.Inlet.seen c.args.inlet.now) (g.I.Inlet.seen c.loop-next.inlet)
+    c.loop-next.reader c.loop-next.invariant.some c.in_err-next.ensures.explains)
 
 pub returns-in_err-next-clause-rest : goal.returns-in_err-next-clause-rest
 returns-in_err-next-clause-rest g c =
@@ -37,14 +40,17 @@ loop-next-preserved g c =
     let before = c.loop-next.invariant.rest in
     let after = c.step.ensures.rest in
     record {
-      some = stepped (g.I.Inlet.seen c.args.inlet.now) (g.I.Inlet.seen c.loop-next.inlet) (g.I.Inlet.seen c.step.new.inlet) c.loop-next.reader c.in-More.next c.loop-next.invariant.some (rw c.in-More.is at c.in_ok-next.ensures.takes);
+      some =
+          stepped (g.I.Inlet.seen c.args.inlet.now) (g.I.Inlet.seen c.loop-next.inlet) (g.I.Inlet.seen c.step.new.inlet)
+          c.loop-next.reader c.in-More.next c.loop-next.invariant.some (rw c.in-More.is at c.in_ok-next.ensures.takes);
       rest = (before.0 ++ after.0, Consumes-trans _ _ _ before.0 after.0 before.1 after.1);
       faults = let stay = c.loop-next.invariant.faults in let more = c.step.ensures.faults_stay in omega arith;
     }
 
 pub returns-in-End-clause-takes : goal.returns-in-End-clause-takes
 returns-in-End-clause-takes g c =
-    ended (g.I.Inlet.seen c.args.inlet.now) (g.I.Inlet.seen c.loop-next.inlet) (g.I.Inlet.seen c.step.new.inlet) c.loop-next.reader c.in-End.table c.in-End.join c.loop-next.invariant.some (rw c.in-End.is at c.in_ok-next.ensures.takes)
+    ended (g.I.Inlet.seen c.args.inlet.now) (g.I.Inlet.seen c.loop-next.inlet) (g.I.Inlet.seen c.step.new.inlet)
+    c.loop-next.reader c.in-End.table c.in-End.join c.loop-next.invariant.some (rw c.in-End.is at c.in_ok-next.ensures.takes)
 
 pub returns-in-End-clause-rest : goal.returns-in-End-clause-rest
 returns-in-End-clause-rest g c =

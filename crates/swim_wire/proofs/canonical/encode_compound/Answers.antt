@@ -33,7 +33,9 @@ loop-packet-preserved c =
     let spelled : c.extend_from_slice-in-loop-packet.new.self.items ≡ c.loop-packet.out.items ++ to_be_bytes w16 (length (packet_bytes item)) =
     c.in_ok-extend_from_slice-2.ensures.items ∙ ap (λ z. c.loop-packet.out.items ++ z) (c.to_be_bytes.ensures ∙ ap (λ z. to_be_bytes w16 z) len) in
     record {
-      lengths = flat_map-one_more (λ part. to_be_bytes w16 (length part)) packet_bytes packets i item (7 ∷ length packets ∷ []) _ _ in_range c.loop-packet.invariant.lengths
+      lengths =
+          flat_map-one_more (λ part. to_be_bytes w16 (length part)) packet_bytes packets i item (7 ∷ length packets ∷ []) _ _
+          in_range c.loop-packet.invariant.lengths
           (spelled ∙ ap (λ p. c.loop-packet.out.items ++ to_be_bytes w16 (length (packet_bytes p))) is);
       packets = flat_map-one_more (λ part. part) packet_bytes packets i item [] _ _ in_range c.loop-packet.invariant.packets
           (c.in_ok-write_packet.ensures.ok ∙ ap (λ p. c.loop-packet.parts.items ++ packet_bytes p) is);

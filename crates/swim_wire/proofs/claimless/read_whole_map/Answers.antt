@@ -1,6 +1,5 @@
-use Rattle.std.proofs.Common.{◌≡◌, List, [], Ok, ap, sym, ◌∙◌, rules}
-use Rattle.swim_wire.specs.Reading.{map_at, nothing_after}
-use Rattle.swim_wire.specs.Slots.{layout_of, slots_of}
+use Rattle.std.proofs.Common.{rules}
+use Rattle.swim_wire.specs.Slots.{slots_of}
 use Rattle.swim_wire.proofs.Fitting.{CanReadEach-some}
 use Rattle.swim_wire.proofs.claimless.read_whole_map.Goals as goal
 

@@ -13,4 +13,6 @@ returns-in_err-read_map g c =
 
 pub returns : goal.returns
 unfolding compression_at
-returns g c = Reads-shown (λ packed. packed.items) (map_at (compression_layout c.args.limit)) (λ slots. raw_in slots 1) c.packed_of.result c.packed_of.ensures c.in_ok-read_map.ensures.exact
+returns g c =
+    Reads-shown (λ packed. packed.items) (map_at (compression_layout c.args.limit)) (λ slots. raw_in slots 1) c.packed_of.result
+    c.packed_of.ensures c.in_ok-read_map.ensures.exact

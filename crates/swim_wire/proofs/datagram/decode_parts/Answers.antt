@@ -23,7 +23,8 @@ returns-in_err-take_part-clause-lists c =
     let le : 2 ≤ length c.loop-length.lengths.now = omega arith in
     let len : c.from-len.result ≡ from_be_bytes w16 c.in-Some.length.now = search rules in
     let parts = c.in-Some-split_at_checked.ensures.cases in
-    rw (p.1, p.2) (wrong_part _ _ _ _ _ c.take_part.new.packets.items _ _ _ c.loop-length.invariant le pair.0 len parts.0 parts.1 c.in_err-take_part.ensures.grows)
+    rw (p.1, p.2)
+    (wrong_part _ _ _ _ _ c.take_part.new.packets.items _ _ _ c.loop-length.invariant le pair.0 len parts.0 parts.1 c.in_err-take_part.ensures.grows)
 
 pub loop-length-preserved : goal.loop-length-preserved
 loop-length-preserved c =

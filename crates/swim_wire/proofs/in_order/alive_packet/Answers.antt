@@ -11,7 +11,8 @@ pub returns-in-Some-2 : goal.returns-in-Some-2
 returns-in-Some-2 c =
     let alive = c.in-Some.alive in
     let none = nil_from_length alive.rest.now (eqb-true _ _ (sym c.is_empty.ensures ∙ c.if-is_empty.true)) in
-    let of : ℕ → Claim → Type 0 = λ state claim. state_of (state_slots alive.addr.now alive.incarnation alive.meta.now alive.name.now alive.port state alive.vsn.now) ≡ Ok claim in
+    let of : ℕ → Claim → Type 0 =
+    λ state claim. state_of (state_slots alive.addr.now alive.incarnation alive.meta.now alive.name.now alive.port state alive.vsn.now) ≡ Ok claim in
     let claimed : of alive.state c.in-Some-2.claim = rw c.in-Some-2.is at c.in_ok-claim-in-Some.ensures in
     let of_alive : of 0 c.in-Some-2.claim = subst (λ state. of state c.in-Some-2.claim) c.in-Some.ensures.state claimed in
     let is = alive_claimed alive.addr.now alive.meta.now alive.name.now alive.vsn.now alive.incarnation alive.port c.in-Some-2.claim of_alive in

@@ -13,4 +13,5 @@ returns-then-pass-clause-read g c =
     let few : found.nodes ≤ 131072 = grind arith in
     let short : found.user_state_len ≤ 20971520 = grind arith in
     header_passed _ _ c.at_hand-hand.result.now found.rest.now _ _ c.at_hand-hand.ensures.front
-    (header_told c.at_hand-hand.result.now reads.0 found.rest.now found.join found.nodes found.user_state_len reads.1 reads.2 few short) (omega (arith, shorter)) c.if-pass.ensures.passed
+    (header_told c.at_hand-hand.result.now reads.0 found.rest.now found.join found.nodes found.user_state_len reads.1 reads.2 few short)
+    (omega (arith, shorter)) c.if-pass.ensures.passed

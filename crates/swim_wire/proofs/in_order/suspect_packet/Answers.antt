@@ -8,4 +8,6 @@ pub returns-in-Some : goal.returns-in-Some
 returns-in-Some c =
     let found = c.in-Some.suspect in
     let none = nil_from_length found.rest.now (eqb-true _ _ (sym c.is_empty.ensures ∙ c.if-is_empty.true)) in
-    each_made _ _ c.packet_of_suspect.result (λ packet is. suspect_told c.args.body.now found.rest.now _ packet c.in-Some.ensures.reads none is) c.packet_of_suspect.ensures
+    each_made _ _ c.packet_of_suspect.result
+    (λ packet is. suspect_told c.args.body.now found.rest.now _ packet c.in-Some.ensures.reads none is)
+    c.packet_of_suspect.ensures

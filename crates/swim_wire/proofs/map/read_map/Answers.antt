@@ -15,15 +15,19 @@ pub returns-in_err-count-clause-exact : goal.returns-in_err-count-clause-exact
 unfolding map_at
 returns-in_err-count-clause-exact g c =
     let p = err_from_is_err_and c.from_residual.result c.from_residual.ensures.1 in
-    let keys : length (layout_of c.args.layout.now) ≡ length c.args.layout.now = length-map c.args.layout.now (λ (field : Field). (key_text field.key, field.limit)) in
+    let keys : length (layout_of c.args.layout.now) ≡ length c.args.layout.now =
+    length-map c.args.layout.now (λ (field : Field). (key_text field.key, field.limit)) in
     rw (p.1, p.2, keys) (Reads-exit _ (Wire-err c.in_err-count.ensures.exact))
 
 pub loop-init : goal.loop-init
 unfolding map_at
 loop-init g c =
     let all : c.in_ok-count.count - 0 ≡ c.in_ok-count.count = omega arith in
-    let keys : length (layout_of c.args.layout.now) ≡ length c.args.layout.now = length-map c.args.layout.now (λ (field : Field). (key_text field.key, field.limit)) in
-    (FitsEach-nones c.args.layout.now 8 c.requires.few, rw (all, keys) (Completes-start _ _ (count_at (length c.args.layout.now)) _ _ c.in_ok-count.ensures.exact))
+    let keys : length (layout_of c.args.layout.now) ≡ length c.args.layout.now =
+    length-map c.args.layout.now (λ (field : Field). (key_text field.key, field.limit)) in (
+      FitsEach-nones c.args.layout.now 8 c.requires.few,
+      rw (all, keys) (Completes-start _ _ (count_at (length c.args.layout.now)) _ _ c.in_ok-count.ensures.exact),
+    )
 
 pub returns-in_err-read_pair-clause-exact : goal.returns-in_err-read_pair-clause-exact
 returns-in_err-read_pair-clause-exact g c =

@@ -2,13 +2,13 @@ use Rattle.swim_wire.proofs.WholePackets.{packet_reads, packet_refuses, packet_e
 use Rattle.swim_wire.proofs.packet.decode_packet.Goals as goal
 
 pub returns-clause-reads : goal.returns-clause-reads
-returns-clause-reads c = packet_reads _ _ c.decode_whole.ensures.answers
+returns-clause-reads c = packet_reads _ _ c.decode_whole_packet.ensures.answers
 
 pub returns-clause-refuses : goal.returns-clause-refuses
-returns-clause-refuses c = packet_refuses _ _ c.decode_whole.ensures.answers
+returns-clause-refuses c = packet_refuses _ _ c.decode_whole_packet.ensures.answers
 
 pub returns-clause-explains : goal.returns-clause-explains
-returns-clause-explains c = packet_explains _ _ c.decode_whole.ensures.answers
+returns-clause-explains c = packet_explains _ _ c.decode_whole_packet.ensures.answers
 
 pub returns-clause-exact : goal.returns-clause-exact
-returns-clause-exact c = packet_exact _ _ c.decode_whole.ensures.answers
+returns-clause-exact c = packet_exact _ _ c.decode_whole_packet.ensures.answers

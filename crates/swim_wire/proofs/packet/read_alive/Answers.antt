@@ -23,7 +23,9 @@ unfolding alive_at
 returns-in_err-name g c =
     let p = err_from_is_err_and c.from_residual-in_err-name.result c.from_residual-in_err-name.ensures.1 in
     let why = c.in_err-name.ensures in
-    let refused = name_refused c.new-alive.result.node.items (Err c.in_err-name.field-0.0) c.in_err-name.field-0.0 refl why.empty why.too_long why.no_other c.new-alive.ensures.short_node in
+    let refused =
+    name_refused c.new-alive.result.node.items (Err c.in_err-name.field-0.0) c.in_err-name.field-0.0 refl why.empty why.too_long
+    why.no_other c.new-alive.ensures.short_node in
     let empty = sym c.new-alive.ensures.says.node ∙ refused.0 in
     rw (p.1, p.2)
     (Reads-failed (map_at alive_layout) alive_of _ (named_cause c.in_err-name.field-0.0)
@@ -37,8 +39,11 @@ returns-in_err-details g c =
     let why = c.in_err-details.ensures in
     let slots = slots_of c.in_ok-read_map.field-0 in
     let named : raw_in slots 3 ≢ [] = λ none. name_made _ (Ok c.in_ok-name.name) _ refl c.in_ok-name.ensures.empty (says.node ∙ none) in
-    let refused = details_refused (record { addr = c.new-alive.result.addr.items; port = c.new-alive.result.port; meta = c.new-alive.result.meta.items; vsn = c.new-alive.result.vsn.items })
-    (λ details. record { claim = Alive (raw_in slots 3) (number_in slots 1) details; from = [] }) (Err c.in_err-details.field-0.0) c.in_err-details.field-0.0 refl
+    let refused =
+    details_refused
+    (record { addr = c.new-alive.result.addr.items; port = c.new-alive.result.port; meta = c.new-alive.result.meta.items; vsn = c.new-alive.result.vsn.items })
+    (λ details. record { claim = Alive (raw_in slots 3) (number_in slots 1) details; from = [] }) (Err c.in_err-details.field-0.0)
+    c.in_err-details.field-0.0 refl
     why.bad_address why.meta_too_long why.bad_versions why.no_other c.new-alive.ensures.short_meta in
     rw (p.1, p.2)
     (Reads-failed (map_at alive_layout) alive_of _ (named_cause c.in_err-details.field-0.0)
@@ -53,11 +58,14 @@ returns g c =
     let named : raw_in slots 3 ≢ [] = λ none. name_made _ (Ok c.in_ok-name.name) _ refl c.in_ok-name.ensures.empty (says.node ∙ none) in
     let inc = says.incarnation in
     let legal = c.in_ok-details.ensures.legal.0 refl in
-    let d : DetailsValue = record { addr = c.new-alive.result.addr.items; port = c.new-alive.result.port; meta = c.new-alive.result.meta.items; vsn = c.new-alive.result.vsn.items } in
+    let d : DetailsValue =
+    record { addr = c.new-alive.result.addr.items; port = c.new-alive.result.port; meta = c.new-alive.result.meta.items; vsn = c.new-alive.result.vsn.items } in
     let packet_of : DetailsValue → PacketValue = λ details. record { claim = Alive (raw_in slots 3) (number_in slots 1) details; from = [] } in
     let made = with_details_again d packet_of legal.addr legal.vsn in
     let details_are = c.in_ok-details.ensures.same in
     let nobody = c.new-3.ensures.items in
     let built = c.new-4.ensures in
     let same : packet_of d ≡ c.new-4.result = cc in
-    Reads-passed (map_at alive_layout) alive_of _ (with_name_again _ _ named ∙ rw (sym says.addr, sym says.port, sym says.meta, sym says.vsn) made ∙ ap Ok same) c.in_ok-read_map.ensures.exact
+    Reads-passed (map_at alive_layout) alive_of _
+    (with_name_again _ _ named ∙ rw (sym says.addr, sym says.port, sym says.meta, sym says.vsn) made ∙ ap Ok same)
+    c.in_ok-read_map.ensures.exact

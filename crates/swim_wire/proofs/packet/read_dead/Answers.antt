@@ -24,7 +24,9 @@ unfolding dead_at
 returns-in_err-name g c =
     let p = err_from_is_err_and c.from_residual-in_err-name.result c.from_residual-in_err-name.ensures.1 in
     let why = c.in_err-name.ensures in
-    let refused = name_refused c.new-dead.result.node.items (Err c.in_err-name.field-0.0) c.in_err-name.field-0.0 refl why.empty why.too_long why.no_other c.new-dead.ensures.short_node in
+    let refused =
+    name_refused c.new-dead.result.node.items (Err c.in_err-name.field-0.0) c.in_err-name.field-0.0 refl why.empty why.too_long
+    why.no_other c.new-dead.ensures.short_node in
     let empty = sym c.new-dead.ensures.says.node ∙ refused.0 in
     rw (p.1, p.2)
     (Reads-failed (map_at accusation_layout) dead_of _ (named_cause c.in_err-name.field-0.0)
@@ -43,11 +45,16 @@ returns g c =
     let value : Bool → PacketValue = λ own. record { claim = dead_claim own (raw_in slots 2) (number_in slots 1); from = raw_in slots 0 } in
     let own_word = bytes_eq (raw_in slots 0) (raw_in slots 2) in
     let asked : c.eq.result ≡ own_word =
-    c.eq.ensures ∙ ap (λ s. bytes_eq s c.bytes.result.now) (c.as_slice.ensures.value ∙ from) ∙ ap (λ s. bytes_eq (raw_in slots 0) s) (c.bytes.ensures.bytes ∙ name_is) in
+    c.eq.ensures ∙ ap (λ s. bytes_eq s c.bytes.result.now) (c.as_slice.ensures.value ∙ from)
+    ∙ ap (λ s. bytes_eq (raw_in slots 0) s) (c.bytes.ensures.bytes ∙ name_is) in
     let claimed : c.if-eq.claim ≡ dead_claim own_word (raw_in slots 2) (number_in slots 1) =
     elim c.if-eq.branch [
-      | then-eq w ↦ w.claim-is ∙ ap (λ name. Leave name c.new-dead.result.incarnation) name_is ∙ ap (λ i. Leave (raw_in slots 2) i) inc ∙ ap (λ own. dead_claim own (raw_in slots 2) (number_in slots 1)) (sym w.if-eq.true ∙ asked)
-      | else-eq w ↦ w.claim-is ∙ ap (λ name. Confirm name c.new-dead.result.incarnation) name_is ∙ ap (λ i. Confirm (raw_in slots 2) i) inc ∙ ap (λ own. dead_claim own (raw_in slots 2) (number_in slots 1)) (sym w.if-eq.false ∙ asked)
+      | then-eq w ↦
+          w.claim-is ∙ ap (λ name. Leave name c.new-dead.result.incarnation) name_is ∙ ap (λ i. Leave (raw_in slots 2) i) inc
+          ∙ ap (λ own. dead_claim own (raw_in slots 2) (number_in slots 1)) (sym w.if-eq.true ∙ asked)
+      | else-eq w ↦
+          w.claim-is ∙ ap (λ name. Confirm name c.new-dead.result.incarnation) name_is ∙ ap (λ i. Confirm (raw_in slots 2) i) inc
+          ∙ ap (λ own. dead_claim own (raw_in slots 2) (number_in slots 1)) (sym w.if-eq.false ∙ asked)
     ]
     in
     let same : value own_word ≡ c.new-2.result = cc in

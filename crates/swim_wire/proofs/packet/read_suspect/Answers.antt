@@ -22,7 +22,9 @@ unfolding suspect_at
 returns-in_err-name g c =
     let p = err_from_is_err_and c.from_residual-in_err-name.result c.from_residual-in_err-name.ensures.1 in
     let why = c.in_err-name.ensures in
-    let refused = name_refused c.new-suspect.result.node.items (Err c.in_err-name.field-0.0) c.in_err-name.field-0.0 refl why.empty why.too_long why.no_other c.new-suspect.ensures.short_node in
+    let refused =
+    name_refused c.new-suspect.result.node.items (Err c.in_err-name.field-0.0) c.in_err-name.field-0.0 refl why.empty
+    why.too_long why.no_other c.new-suspect.ensures.short_node in
     let empty = sym c.new-suspect.ensures.says.node ∙ refused.0 in
     rw (p.1, p.2)
     (Reads-failed (map_at accusation_layout) suspect_of _ (named_cause c.in_err-name.field-0.0)

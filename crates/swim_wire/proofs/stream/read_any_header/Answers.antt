@@ -23,14 +23,17 @@ pub returns-then-header-gt-MOST_NODES-clause-exact : goal.returns-then-header-gt
 unfolding header_at
 returns-then-header-gt-MOST_NODES-clause-exact g c =
     Reads-then _ c.in_ok-found.ensures.exact
-    (Reads-failed _ header_of TooManyNodes refl (header_many (slots_of c.in_ok-read_header_map.field-0) _ c.new-header.ensures.nodes c.if-header-gt-MOST_NODES.true) c.in_ok-read_header_map.ensures.exact)
+    (Reads-failed _ header_of TooManyNodes refl
+    (header_many (slots_of c.in_ok-read_header_map.field-0) _ c.new-header.ensures.nodes c.if-header-gt-MOST_NODES.true)
+    c.in_ok-read_header_map.ensures.exact)
 
 pub returns-then-header-gt-MOST_USER_STATE-clause-exact : goal.returns-then-header-gt-MOST_USER_STATE-clause-exact
 unfolding header_at
 returns-then-header-gt-MOST_USER_STATE-clause-exact g c =
     Reads-then _ c.in_ok-found.ensures.exact
     (Reads-failed _ header_of UserTooLong refl
-    (header_long (slots_of c.in_ok-read_header_map.field-0) _ _ c.new-header.ensures.nodes c.if-header-gt-MOST_NODES.false c.new-header.ensures.user_state_len c.if-header-gt-MOST_USER_STATE.true)
+    (header_long (slots_of c.in_ok-read_header_map.field-0) _ _ c.new-header.ensures.nodes c.if-header-gt-MOST_NODES.false
+    c.new-header.ensures.user_state_len c.if-header-gt-MOST_USER_STATE.true)
     c.in_ok-read_header_map.ensures.exact)
 
 pub returns-clause-exact : goal.returns-clause-exact
@@ -39,5 +42,6 @@ returns-clause-exact g c =
     let says = c.new-header.ensures in
     Reads-then _ c.in_ok-found.ensures.exact
     (Reads-passed _ header_of _
-    (header_fine (slots_of c.in_ok-read_header_map.field-0) _ _ _ says.nodes c.if-header-gt-MOST_NODES.false says.user_state_len c.if-header-gt-MOST_USER_STATE.false says.join)
+    (header_fine (slots_of c.in_ok-read_header_map.field-0) _ _ _ says.nodes c.if-header-gt-MOST_NODES.false says.user_state_len
+    c.if-header-gt-MOST_USER_STATE.false says.join)
     c.in_ok-read_header_map.ensures.exact)

@@ -24,7 +24,9 @@ unfolding state_at
 returns-in_err-name g c =
     let p = err_from_is_err_and c.from_residual-in_err-name.result c.from_residual-in_err-name.ensures.1 in
     let why = c.in_err-name.ensures in
-    let refused = name_refused c.new-state.result.name.items (Err c.in_err-name.field-0.0) c.in_err-name.field-0.0 refl why.empty why.too_long why.no_other c.new-state.ensures.short_name in
+    let refused =
+    name_refused c.new-state.result.name.items (Err c.in_err-name.field-0.0) c.in_err-name.field-0.0 refl why.empty why.too_long
+    why.no_other c.new-state.ensures.short_name in
     let empty = sym c.new-state.ensures.says.name ∙ refused.0 in
     rw (p.1, p.2)
     (Reads-failed (map_at state_layout) state_of _ (named_cause c.in_err-name.field-0.0)
@@ -38,12 +40,15 @@ returns-in_err-details-in-0 g c =
     let why = c.in_err-details-in-0.ensures in
     let slots = slots_of c.in_ok-read_map.field-0 in
     let named : raw_in slots 3 ≢ [] = λ none. name_made _ (Ok c.in_ok-name.name) _ refl c.in_ok-name.ensures.empty (says.name ∙ none) in
-    let refused = details_refused (record { addr = c.new-state.result.addr.items; port = c.new-state.result.port; meta = c.new-state.result.meta.items; vsn = c.new-state.result.vsn.items })
+    let refused =
+    details_refused
+    (record { addr = c.new-state.result.addr.items; port = c.new-state.result.port; meta = c.new-state.result.meta.items; vsn = c.new-state.result.vsn.items })
     (λ details. Alive (raw_in slots 3) (number_in slots 1) details) (Err c.in_err-details-in-0.field-0.0) c.in_err-details-in-0.field-0.0 refl
     why.bad_address why.meta_too_long why.bad_versions why.no_other c.new-state.ensures.short_meta in
     rw (p.1, p.2)
     (Reads-failed (map_at state_layout) state_of _ (named_cause c.in_err-details-in-0.field-0.0)
-    (with_name_again _ _ named ∙ ap (claim_of_state slots) (sym says.number ∙ c.in-0.is) ∙ rw (sym says.addr, sym says.port, sym says.meta, sym says.vsn) refused)
+    (with_name_again _ _ named ∙ ap (claim_of_state slots) (sym says.number ∙ c.in-0.is)
+    ∙ rw (sym says.addr, sym says.port, sym says.meta, sym says.vsn) refused)
     c.in_ok-read_map.ensures.exact)
 
 pub returns-in_ok-details-in-0 : goal.returns-in_ok-details-in-0
@@ -55,13 +60,15 @@ returns-in_ok-details-in-0 g c =
     let named : raw_in slots 3 ≢ [] = λ none. name_made _ (Ok c.in_ok-name.name) _ refl c.in_ok-name.ensures.empty (says.name ∙ none) in
     let inc = says.incarnation in
     let legal = c.in_ok-details-in-0.ensures.legal.0 refl in
-    let d : DetailsValue = record { addr = c.new-state.result.addr.items; port = c.new-state.result.port; meta = c.new-state.result.meta.items; vsn = c.new-state.result.vsn.items } in
+    let d : DetailsValue =
+    record { addr = c.new-state.result.addr.items; port = c.new-state.result.port; meta = c.new-state.result.meta.items; vsn = c.new-state.result.vsn.items } in
     let claim_of : DetailsValue → Claim = λ details. Alive (raw_in slots 3) (number_in slots 1) details in
     let made = with_details_again d claim_of legal.addr legal.vsn in
     let details_are = c.in_ok-details-in-0.ensures.same in
     let same : claim_of d ≡ Alive c.in_ok-name.name c.new-state.result.incarnation c.in_ok-details-in-0.details = cc in
     Reads-passed (map_at state_layout) state_of _
-    (with_name_again _ _ named ∙ ap (claim_of_state slots) (sym says.number ∙ c.in-0.is) ∙ rw (sym says.addr, sym says.port, sym says.meta, sym says.vsn) made ∙ ap Ok same)
+    (with_name_again _ _ named ∙ ap (claim_of_state slots) (sym says.number ∙ c.in-0.is)
+    ∙ rw (sym says.addr, sym says.port, sym says.meta, sym says.vsn) made ∙ ap Ok same)
     c.in_ok-read_map.ensures.exact
 
 pub returns-in-1 : goal.returns-in-1
@@ -74,7 +81,9 @@ returns-in-1 g c =
     let inc = says.incarnation in
     let claimed : Claim = Suspect (raw_in slots 3) (number_in slots 1) in
     let same : claimed ≡ Suspect c.in_ok-name.name c.new-state.result.incarnation = cc in
-    Reads-passed (map_at state_layout) state_of _ (with_name_again _ _ named ∙ ap (claim_of_state slots) (sym says.number ∙ c.in-1.is) ∙ ap Ok same) c.in_ok-read_map.ensures.exact
+    Reads-passed (map_at state_layout) state_of _
+    (with_name_again _ _ named ∙ ap (claim_of_state slots) (sym says.number ∙ c.in-1.is) ∙ ap Ok same)
+    c.in_ok-read_map.ensures.exact
 
 pub returns-in-2 : goal.returns-in-2
 unfolding state_at
@@ -86,7 +95,9 @@ returns-in-2 g c =
     let inc = says.incarnation in
     let claimed : Claim = Confirm (raw_in slots 3) (number_in slots 1) in
     let same : claimed ≡ Confirm c.in_ok-name.name c.new-state.result.incarnation = cc in
-    Reads-passed (map_at state_layout) state_of _ (with_name_again _ _ named ∙ ap (claim_of_state slots) (sym says.number ∙ c.in-2.is) ∙ ap Ok same) c.in_ok-read_map.ensures.exact
+    Reads-passed (map_at state_layout) state_of _
+    (with_name_again _ _ named ∙ ap (claim_of_state slots) (sym says.number ∙ c.in-2.is) ∙ ap Ok same)
+    c.in_ok-read_map.ensures.exact
 
 pub returns-in-3 : goal.returns-in-3
 unfolding state_at
@@ -98,7 +109,9 @@ returns-in-3 g c =
     let inc = says.incarnation in
     let claimed : Claim = Leave (raw_in slots 3) (number_in slots 1) in
     let same : claimed ≡ Leave c.in_ok-name.name c.new-state.result.incarnation = cc in
-    Reads-passed (map_at state_layout) state_of _ (with_name_again _ _ named ∙ ap (claim_of_state slots) (sym says.number ∙ c.in-3.is) ∙ ap Ok same) c.in_ok-read_map.ensures.exact
+    Reads-passed (map_at state_layout) state_of _
+    (with_name_again _ _ named ∙ ap (claim_of_state slots) (sym says.number ∙ c.in-3.is) ∙ ap Ok same)
+    c.in_ok-read_map.ensures.exact
 
 pub returns-in_default : goal.returns-in_default
 unfolding state_at
@@ -107,4 +120,5 @@ returns-in_default g c =
     let slots = slots_of c.in_ok-read_map.field-0 in
     let named : raw_in slots 3 ≢ [] = λ none. name_made _ (Ok c.in_ok-name.name) _ refl c.in_ok-name.ensures.empty (says.name ∙ none) in
     let none : claim_of_state slots c.new-state.result.state ≡ Err (BadState c.new-state.result.state) = search rules in
-    Reads-failed (map_at state_layout) state_of (BadState c.new-state.result.state) refl (with_name_again _ _ named ∙ ap (claim_of_state slots) (sym says.number) ∙ none) c.in_ok-read_map.ensures.exact
+    Reads-failed (map_at state_layout) state_of (BadState c.new-state.result.state) refl
+    (with_name_again _ _ named ∙ ap (claim_of_state slots) (sym says.number) ∙ none) c.in_ok-read_map.ensures.exact

@@ -9,7 +9,9 @@ returns-in_err-pull-clause-lacks g c =
     let p = err_from_is_err_and c.from_residual.result c.from_residual.ensures.1 in
     let gone = c.loop-left.invariant.dropped in
     let le : c.min-size.result ≤ c.loop-left.left = search rules in
-    rw (p.1, p.2) (user_lacks (g.I.Inlet.seen c.args.inlet.now) (g.I.Inlet.seen c.loop-left.inlet) c.args.len c.loop-left.left c.min-size.result gone.0 c.in_err-pull.field-0.0 gone.1 gone.2 le (λ ended. search rules))
+    rw (p.1, p.2)
+    (user_lacks (g.I.Inlet.seen c.args.inlet.now) (g.I.Inlet.seen c.loop-left.inlet) c.args.len c.loop-left.left
+    c.min-size.result gone.0 c.in_err-pull.field-0.0 gone.1 gone.2 le (λ ended. search rules))
 
 pub returns-in_err-pull-clause-rest : goal.returns-in_err-pull-clause-rest
 returns-in_err-pull-clause-rest g c =

@@ -11,12 +11,13 @@ returns-in-Ok-clause-loops c =
     record {
       claims = first.0;
       others = second.0;
-      one = c.exchange.new.first;
-      other = c.exchange.new.second;
+      one = c.exchange_over_socket.new.first;
+      other = c.exchange_over_socket.new.second;
       taken = first.1;
       taken_too = second.1;
       shown = c.in-Ok.ensures;
-      told = rw c.eq.ensures (equal_told c.exchange.new.first c.exchange.new.second _ c.relation.result first.1.reduced c.relation.ensures);
+      told =
+          rw c.eq.ensures (equal_told c.exchange_over_socket.new.first c.exchange_over_socket.new.second _ c.relation.result first.1.reduced c.relation.ensures);
     }
 
 pub returns-clause-stops : goal.returns-clause-stops

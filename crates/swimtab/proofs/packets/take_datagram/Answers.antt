@@ -13,14 +13,20 @@ returns-in_err-packet-clause-refuses c =
 pub returns-in_ok-take_claim-in-Packet-clause-takes : goal.returns-in_ok-take_claim-in-Packet-clause-takes
 returns-in_ok-take_claim-in-Packet-clause-takes c =
     let packets = c.in-Packet.packet ∷ [] in
-    let text : DatagramText c.args.bytes.now packets = rw c.in-Packet.is at c.in_ok-packet.ensures.reads in
-    (packets, text, λ taken own. subst (λ claim. TableOf c.take_claim.new.table (taken ++ claim ∷ [])) c.into_claim.ensures (c.in_ok-take_claim-in-Packet.ensures taken own))
+    let text : DatagramText c.args.bytes.now packets = rw c.in-Packet.is at c.in_ok-packet.ensures.reads in (
+      packets,
+      text,
+      λ taken own. subst (λ claim. TableOf c.take_claim.new.table (taken ++ claim ∷ [])) c.into_claim.ensures (c.in_ok-take_claim-in-Packet.ensures taken own),
+    )
 
 pub returns-in_ok-take_all-in-Compound-clause-takes : goal.returns-in_ok-take_all-in-Compound-clause-takes
 returns-in_ok-take_all-in-Compound-clause-takes c =
     let packets = c.in-Compound.packets.items in
-    let text : DatagramText c.args.bytes.now packets = rw c.in-Compound.is at c.in_ok-packet.ensures.reads in
-    (packets, text, λ taken own. subst (λ claims. TableOf c.take_all.new.self (taken ++ claims)) c.in_ok-into_claims-in-Compound.ensures (c.in_ok-take_all-in-Compound.ensures.all taken own))
+    let text : DatagramText c.args.bytes.now packets = rw c.in-Compound.is at c.in_ok-packet.ensures.reads in (
+      packets,
+      text,
+      λ taken own. subst (λ claims. TableOf c.take_all.new.self (taken ++ claims)) c.in_ok-into_claims-in-Compound.ensures (c.in_ok-take_all-in-Compound.ensures.all taken own),
+    )
 
 pub returns-in_err-take_claim-in-Packet-clause-refuses : goal.returns-in_err-take_claim-in-Packet-clause-refuses
 returns-in_err-take_claim-in-Packet-clause-refuses c =

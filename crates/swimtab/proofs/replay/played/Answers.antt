@@ -26,10 +26,15 @@ pub returns-in-Some-clause-runs : goal.returns-in-Some-clause-runs
 returns-in-Some-clause-runs c =
     let ran = subst (λ (events : List Event). Ran c.args.plan.nodes.items c.run.new.self events) c.deref.ensures.value
     (subst (λ (nodes : List NodeValue). Ran nodes c.run.new.self c.deref.result.now) c.new-cluster.ensures c.in_default.ensures.ok) in
-    IfOk-weaker c.levelled.result _ _ (λ new. ran_plan c.args.plan.nodes.items c.run.new.self new c.args.plan.events.items c.args.plan.level c.in-Some.line c.in-Some.is ran) c.levelled.ensures.runs
+    IfOk-weaker c.levelled.result _ _
+    (λ new. ran_plan c.args.plan.nodes.items c.run.new.self new c.args.plan.events.items c.args.plan.level c.in-Some.line c.in-Some.is ran)
+    c.levelled.ensures.runs
 
 pub returns-in-Some-clause-stops : goal.returns-in-Some-clause-stops
 returns-in-Some-clause-stops c =
     let ran = subst (λ (events : List Event). Ran c.args.plan.nodes.items c.run.new.self events) c.deref.ensures.value
     (subst (λ (nodes : List NodeValue). Ran nodes c.run.new.self c.deref.result.now) c.new-cluster.ensures c.in_default.ensures.ok) in
-    IfErr-weaker c.levelled.result _ _ (λ report. stops_plan c.args.plan.nodes.items c.run.new.self c.args.plan.events.items c.args.plan.lines.items c.args.plan.level c.in-Some.line report c.in-Some.is c.requires.lines ran) c.levelled.ensures.stops
+    IfErr-weaker c.levelled.result _ _
+    (λ report. stops_plan c.args.plan.nodes.items c.run.new.self c.args.plan.events.items c.args.plan.lines.items
+    c.args.plan.level c.in-Some.line report c.in-Some.is c.requires.lines ran)
+    c.levelled.ensures.stops

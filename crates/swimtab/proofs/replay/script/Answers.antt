@@ -24,7 +24,9 @@ returns-in_err-cluster-clause-events c =
     let read = c.in_ok-plan.ensures.reads in
     let plan = c.in_ok-plan.plan in
     rw (err.1 ∙ ap (λ (r : Report). Err r) err.2)
-    (λ of. refused_event c.args.input.now plan.nodes.items read.0 (plan_events plan.events.items (length plan.nodes.items) plan.level) plan.lines.items plan.level c.in_err-cluster.field-0.0 read.1 read.2 read.3 c.in_err-cluster.ensures.stops)
+    (λ of. refused_event c.args.input.now plan.nodes.items read.0
+    (plan_events plan.events.items (length plan.nodes.items) plan.level) plan.lines.items plan.level c.in_err-cluster.field-0.0
+    read.1 read.2 read.3 c.in_err-cluster.ensures.stops)
 
 pub returns-in_err-cluster-clause-line : goal.returns-in_err-cluster-clause-line
 returns-in_err-cluster-clause-line c =
@@ -37,4 +39,6 @@ pub returns-in-Ok-clause-replays : goal.returns-in-Ok-clause-replays
 returns-in-Ok-clause-replays c =
     let read = c.in_ok-plan.ensures.reads in
     let plan = c.in_ok-plan.plan in
-    replayed c.args.input.now c.in-Ok.text.items plan.nodes.items c.in_ok-cluster.cluster read.0 (plan_events plan.events.items (length plan.nodes.items) plan.level) read.1 read.2 c.in_ok-cluster.ensures.runs c.in-Ok.ensures
+    replayed c.args.input.now c.in-Ok.text.items plan.nodes.items c.in_ok-cluster.cluster read.0
+    (plan_events plan.events.items (length plan.nodes.items) plan.level) read.1 read.2 c.in_ok-cluster.ensures.runs
+    c.in-Ok.ensures

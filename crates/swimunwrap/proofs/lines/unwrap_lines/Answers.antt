@@ -12,31 +12,67 @@ use Rattle.swimunwrap.proofs.lines.unwrap_lines.Goals as goal
 pub returns-then-len-gt-BOUND-clause-large : goal.returns-then-len-gt-BOUND-clause-large
 returns-then-len-gt-BOUND-clause-large c = λ seen within.
     let start : c.into_iter-index-iterator.result ≡ c.enumerate-index-items.result = search rules in
-    let here = yielded_at (YieldsList-at start (YieldsList-from_enumerate (YieldsList-at c.enumerate-index-items.ensures.source (YieldsList-from_slice_split _ (λ b. eqb b 10) c.args.input.now c.split.ensures.rest c.split.ensures.done c.split.ensures.closure (λ x r q k. search (rules, tests)))) c.enumerate-index-items.ensures.count)) c.loop-index.yielded _ c.loop-index.yielded_by _ _ (c.in-Some.index, c.in-Some.line) c.in-Some.is c.next.ensures.steps in
+    let here =
+    yielded_at
+    (YieldsList-at start
+    (YieldsList-from_enumerate
+    (YieldsList-at c.enumerate-index-items.ensures.source
+    (YieldsList-from_slice_split _ (λ b. eqb b 10) c.args.input.now c.split.ensures.rest c.split.ensures.done
+    c.split.ensures.closure (λ x r q k. search (rules, tests))))
+    c.enumerate-index-items.ensures.count))
+    c.loop-index.yielded _ c.loop-index.yielded_by _ _ (c.in-Some.index, c.in-Some.line) c.in-Some.is c.next.ensures.steps in
     let lines = input_lines c.args.input.now in
     let before = first_counted c.loop-index.yielded 0 (length c.loop-index.yielded) lines here.2 in
     let added = c.in_default.ensures in
-    let next = AllBecome-next c.args.skip lines (map (λ p. p.1.now) c.loop-index.yielded) (length c.loop-index.yielded) c.in-Some.index c.in-Some.line.now c.loop-index.unwrapped.text added.0 c.loop-index.unwrapped.causes added.1 before (here.0, here.1) c.loop-index.invariant.2 added.2 in
-    let long : 268435456 < length c.add_line.new.unwrapped.text = search rules in
-    (search rules, too_long c.args.skip 268435456 (length c.loop-index.yielded) lines _ _ _ next.0 next.1 (subst (λ (s : Shown). 268435456 < length s.text) added.3 long))
+    let next =
+    AllBecome-next c.args.keys.now c.args.skip lines (map (λ p. p.1.now) c.loop-index.yielded) (length c.loop-index.yielded)
+    c.in-Some.index c.in-Some.line.now c.loop-index.unwrapped.text added.0 c.loop-index.unwrapped.causes added.1 before
+    (here.0, here.1) c.loop-index.invariant.2 added.2 in
+    let long : 268435456 < length c.add_line.new.unwrapped.text = search rules in (
+      search rules,
+      too_long c.args.keys.now c.args.skip 268435456 (length c.loop-index.yielded) lines _ _ _ next.0 next.1 (subst (λ (s : Shown). 268435456 < length s.text) added.3 long),
+    )
 
 pub loop-index-preserved : goal.loop-index-preserved
 loop-index-preserved c =
     let start : c.into_iter-index-iterator.result ≡ c.enumerate-index-items.result = search rules in
-    let here = yielded_at (YieldsList-at start (YieldsList-from_enumerate (YieldsList-at c.enumerate-index-items.ensures.source (YieldsList-from_slice_split _ (λ b. eqb b 10) c.args.input.now c.split.ensures.rest c.split.ensures.done c.split.ensures.closure (λ x r q k. search (rules, tests)))) c.enumerate-index-items.ensures.count)) c.loop-index.yielded _ c.loop-index.yielded_by _ _ (c.in-Some.index, c.in-Some.line) c.in-Some.is c.next.ensures.steps in
+    let here =
+    yielded_at
+    (YieldsList-at start
+    (YieldsList-from_enumerate
+    (YieldsList-at c.enumerate-index-items.ensures.source
+    (YieldsList-from_slice_split _ (λ b. eqb b 10) c.args.input.now c.split.ensures.rest c.split.ensures.done
+    c.split.ensures.closure (λ x r q k. search (rules, tests))))
+    c.enumerate-index-items.ensures.count))
+    c.loop-index.yielded _ c.loop-index.yielded_by _ _ (c.in-Some.index, c.in-Some.line) c.in-Some.is c.next.ensures.steps in
     let lines = input_lines c.args.input.now in
     let before = first_counted c.loop-index.yielded 0 (length c.loop-index.yielded) lines here.2 in
     let added = c.in_default.ensures in
-    let next = AllBecome-next c.args.skip lines (map (λ p. p.1.now) c.loop-index.yielded) (length c.loop-index.yielded) c.in-Some.index c.in-Some.line.now c.loop-index.unwrapped.text added.0 c.loop-index.unwrapped.causes added.1 before (here.0, here.1) c.loop-index.invariant.2 added.2 in
-    let shown = subst (λ (s : Shown). AllBecome c.args.skip (map (λ p. p.1.now) c.loop-index.yielded ++ c.in-Some.line.now ∷ []) s.text s.causes) (sym added.3) next.1 in (
+    let next =
+    AllBecome-next c.args.keys.now c.args.skip lines (map (λ p. p.1.now) c.loop-index.yielded) (length c.loop-index.yielded)
+    c.in-Some.index c.in-Some.line.now c.loop-index.unwrapped.text added.0 c.loop-index.unwrapped.causes added.1 before
+    (here.0, here.1) c.loop-index.invariant.2 added.2 in
+    let shown =
+    subst
+    (λ (s : Shown). AllBecome c.args.keys.now c.args.skip (map (λ p. p.1.now) c.loop-index.yielded ++ c.in-Some.line.now ∷ []) s.text s.causes)
+    (sym added.3) next.1 in (
       search rules,
       search rules,
-      subst (λ read. AllBecome c.args.skip read c.add_line.new.unwrapped.text c.add_line.new.unwrapped.causes) (sym (map_push (λ p. p.1.now) c.loop-index.yielded (c.in-Some.index, c.in-Some.line))) shown,
+      subst (λ read. AllBecome c.args.keys.now c.args.skip read c.add_line.new.unwrapped.text c.add_line.new.unwrapped.causes) (sym (map_push (λ p. p.1.now) c.loop-index.yielded (c.in-Some.index, c.in-Some.line))) shown,
       search rules,
     )
 
 pub returns-clause-each : goal.returns-clause-each
 returns-clause-each c =
     let start : c.into_iter-index-iterator.result ≡ c.enumerate-index-items.result = search rules in
-    let all = YieldsList-end (YieldsList-at start (YieldsList-from_enumerate (YieldsList-at c.enumerate-index-items.ensures.source (YieldsList-from_slice_split _ (λ b. eqb b 10) c.args.input.now c.split.ensures.rest c.split.ensures.done c.split.ensures.closure (λ x r q k. search (rules, tests)))) c.enumerate-index-items.ensures.count)) c.loop-index.yielded _ c.loop-index.yielded_by _ _ c.in-None.is c.next.ensures.steps in
-    subst (λ lines. AllBecome c.args.skip lines c.loop-index.unwrapped.text c.loop-index.unwrapped.causes) (counted_lines c.loop-index.yielded 0 _ all.0) c.loop-index.invariant.2
+    let all =
+    YieldsList-end
+    (YieldsList-at start
+    (YieldsList-from_enumerate
+    (YieldsList-at c.enumerate-index-items.ensures.source
+    (YieldsList-from_slice_split _ (λ b. eqb b 10) c.args.input.now c.split.ensures.rest c.split.ensures.done
+    c.split.ensures.closure (λ x r q k. search (rules, tests))))
+    c.enumerate-index-items.ensures.count))
+    c.loop-index.yielded _ c.loop-index.yielded_by _ _ c.in-None.is c.next.ensures.steps in
+    subst (λ lines. AllBecome c.args.keys.now c.args.skip lines c.loop-index.unwrapped.text c.loop-index.unwrapped.causes)
+    (counted_lines c.loop-index.yielded 0 _ all.0) c.loop-index.invariant.2

@@ -1,11 +1,14 @@
-use Rattle.std.proofs.Common.{◌∙◌, ap}
-use Rattle.swimunwrap.specs.Stream.{what_of_wrap}
-use Rattle.swimunwrap.proofs.Streams.{refused}
+use Rattle.std.proofs.lemmas.Result.{IfErr-weaker}
+use Rattle.swimunwrap.proofs.Streams.{no_stream, own_unless_memory}
 use Rattle.swimunwrap.proofs.stream.unwrap_stream.Goals as goal
 
-pub returns-in-Ok-clause-refuses : goal.returns-in-Ok-clause-refuses
-returns-in-Ok-clause-refuses c = refused c.args.bytes.now c.in-Ok.message.items c.stream_of.result c.in-Ok.ensures.unwraps c.stream_of.ensures.err
+pub returns-clause-refuses : goal.returns-clause-refuses
+returns-clause-refuses c =
+    IfErr-weaker c.stream_within.result _ _ (λ what h seen within. no_stream c.args.keys.now c.args.bytes.now what (h seen)) c.stream_within.ensures.explains
 
-pub returns-in-Err-clause-refuses : goal.returns-in-Err-clause-refuses
-returns-in-Err-clause-refuses c = λ seen within stream is.
-    c.in-Err.ensures.limits (λ memory. seen (c.what_of_wrap.ensures ∙ ap what_of_wrap memory)) stream is.0
+pub returns-clause-explains : goal.returns-clause-explains
+returns-clause-explains c = IfErr-weaker c.stream_within.result _ _ (λ what h seen within. h seen) c.stream_within.ensures.explains
+
+pub returns-clause-no_device : goal.returns-clause-no_device
+returns-clause-no_device c =
+    IfErr-weaker c.stream_within.result _ _ (λ what h. (own_unless_memory c.args.keys.now c.args.bytes.now what h).0) c.stream_within.ensures.explains

@@ -14,7 +14,9 @@ use Rattle.tiered_vec.proofs.blocks.find_among.Goals as goal
 pub index-requires : goal.index-requires
 index-requires g c =
     let b = c.index-blocks-mid.result in
-    let good = block_good c.args.blocks.now (c.loop-high.low + (c.loop-high.high - c.loop-high.low) / 2) b (omega (arith, c.loop-high.invariant.some, c.loop-high.invariant.within)) c.index-blocks-mid.is c.requires.each in
+    let good =
+    block_good c.args.blocks.now (c.loop-high.low + (c.loop-high.high - c.loop-high.low) / 2) b
+    (omega (arith, c.loop-high.invariant.some, c.loop-high.invariant.within)) c.index-blocks-mid.is c.requires.each in
     omega (arith, good.filled, b.ok.0)
 
 pub loop-high-preserved-then-is_gt : goal.loop-high-preserved-then-is_gt
@@ -26,7 +28,9 @@ loop-high-preserved-then-is_gt g c =
     let mid = low + (high - low) / 2 in
     let h : mid < length bs = omega (arith, c.loop-high.invariant.some, c.loop-high.invariant.within) in
     let good = block_good bs mid b h c.index-blocks-mid.is c.requires.each in
-    let read = first_of (shape bs) mid b.items c.index.result.now (omega (arith, h, length-map bs (λ v. v.items))) (block_read bs mid b h c.index-blocks-mid.is) good.filled c.index.ensures in
+    let read =
+    first_of (shape bs) mid b.items c.index.result.now (omega (arith, h, length-map bs (λ v. v.items)))
+    (block_read bs mid b h c.index-blocks-mid.is) good.filled c.index.ensures in
     record {
       some = omega (arith, c.loop-high-test.true);
       within = omega (arith, h);
@@ -46,7 +50,9 @@ loop-high-preserved g c =
     let mid = low + (high - low) / 2 in
     let h : mid < length bs = omega (arith, c.loop-high.invariant.some, c.loop-high.invariant.within) in
     let good = block_good bs mid b h c.index-blocks-mid.is c.requires.each in
-    let read = first_of (shape bs) mid b.items c.index.result.now (omega (arith, h, length-map bs (λ v. v.items))) (block_read bs mid b h c.index-blocks-mid.is) good.filled c.index.ensures in
+    let read =
+    first_of (shape bs) mid b.items c.index.result.now (omega (arith, h, length-map bs (λ v. v.items)))
+    (block_read bs mid b h c.index-blocks-mid.is) good.filled c.index.ensures in
     record {
       some = omega (arith, c.loop-high-test.true);
       within = omega (arith, c.loop-high.invariant.within);
@@ -85,5 +91,7 @@ returns-in-Err-clause-position g c = λ ord k up.
     let next : c.loop-high.high ≡ low + 1 = omega (arith, c.loop-high-test.false, c.loop-high.invariant.some) in
     gap_among ord (shape bs) low c.in-Err.at h' (omega (arith, ap length read, c.in-Err.ensures.bound)) (omega (arith, good.filled, ap length is))
     (subst (Narrowed ord (shape bs) low) next i.1)
-    (subst (λ xs. IsNonDecreasingBy (λ y. ordering_index (ord y)) xs → IsPartitionPoint (λ y. ord y ≡ Less) (λ y. ord y ≡ Greater) xs c.in-Err.at) read (c.in-Err.ensures.position ord i.0))
+    (subst
+    (λ xs. IsNonDecreasingBy (λ y. ordering_index (ord y)) xs → IsPartitionPoint (λ y. ord y ≡ Less) (λ y. ord y ≡ Greater) xs c.in-Err.at)
+    read (c.in-Err.ensures.position ord i.0))
     up (block_within (shape bs) low h')

@@ -10,7 +10,8 @@ invariant-loop-high g l = record {
   some : l.low < l.high;
   within : l.high ≤ length l.blocks;
   callable : always_mut g.F.FnMut l.f;
-  narrowed : (ord : g.row.T.Denot → Ordering) → ComputesKey g.F.FnMut ord l.initial.f → ComputesKey g.F.FnMut ord l.f × Narrowed ord (shape l.blocks) l.low l.high;
+  narrowed : (ord : g.row.T.Denot → Ordering) → ComputesKey g.F.FnMut ord l.initial.f
+      → ComputesKey g.F.FnMut ord l.f × Narrowed ord (shape l.blocks) l.low l.high;
 }
 
 abbrev pub decreases-loop-high : goal.decreases-loop-high

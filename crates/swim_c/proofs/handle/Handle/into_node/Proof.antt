@@ -64,13 +64,17 @@ module _ {M : Type 1} (𝓤 : Ura M) (𝓛 : Logic 𝓤) (𝓜 : Model 𝓤 𝓛
 
   walk : Wired 𝓡.env code.code → (p : Ptr) (y : Bool) (n : Option node.the_row.Denot) (a : Global) (hs vs : List Val)
       → Sq 𝓛 (‵ (handle_owns p y n) ∷ ‵ ((heap.the_row).own_val a (heap_val ∷ [])) ∷ [])
-      (prop (WpFn 𝓤 𝓛.H (tables 𝓤 𝓛.H 𝓜 𝓡 𝓡.env).C (tables 𝓤 𝓛.H 𝓜 𝓡 𝓡.env).Λ code.function (both (ptr_val p) (vbool y) ∷ heap_val ∷ []) (W.post (bound p y n a hs vs))))
+      (prop
+      (WpFn 𝓤 𝓛.H (tables 𝓤 𝓛.H 𝓜 𝓡 𝓡.env).C (tables 𝓤 𝓛.H 𝓜 𝓡 𝓡.env).Λ code.function
+      (both (ptr_val p) (vbool y) ∷ heap_val ∷ []) (W.post (bound p y n a hs vs))))
   walk wired p true (Some x) a hs vs =
       let 𝓣 = tables 𝓤 𝓛.H 𝓜 𝓡 𝓡.env in let γ = 𝓡.env in let z = bound p true (Some x) a hs vs in
       let En = g.ended E.row E.al.row E.al.g E.al.d E.al.drops in
       let G = triple_of 𝓛 En.signature (g.spec E.row E.al.row E.al.g E.al.d E.al.drops 𝓛 𝓜.mem 𝓡.returns) in
       let known = met 𝓤 𝓛 𝓜 𝓡 (code.calls-std_alloc::boxed::Box::from_raw γ wired) E.row E.al.row E.laws E.al.laws E.al.g E.al.d E.al.drops
-      (passed γ (code.calls-std_heap::GlobalAllocator::allocate γ wired) (code.calls-std_heap::GlobalAllocator::deallocate γ wired) (code.calls-std_heap::GlobalAllocator::grow γ wired) (code.calls-std_heap::GlobalAllocator::shrink γ wired) _ 𝓤 𝓛 𝓜 𝓡)
+      (passed γ (code.calls-std_heap::GlobalAllocator::allocate γ wired)
+      (code.calls-std_heap::GlobalAllocator::deallocate γ wired) (code.calls-std_heap::GlobalAllocator::grow γ wired)
+      (code.calls-std_heap::GlobalAllocator::shrink γ wired) _ 𝓤 𝓛 𝓜 𝓡)
       (heap_goes 𝓤 𝓛 𝓜 𝓡 (code.calls-swim_c::Destruct++none::drop γ wired)) in
       let y : G.Ghost = ((([], ([], tt)), (full_share, (full_share, tt)), tt, (a, (p, tt)), (heap_val ∷ [], (ptr_val p ∷ [], tt))), x) in
       enter ! _ _ _ _ _ $ alloc_all ! (λ l. pass_all ! refl (handle_good p true, (heap_good, tt)) $ let Ev = env (code.function).locals l in
@@ -80,16 +84,21 @@ module _ {M : Type 1} (𝓤 : Ura M) (𝓛 : Logic 𝓤) (𝓜 : Model 𝓤 𝓛
       first ! $ branches ! (get ! refl) (λ none. absurd none)
       (λ held. skips ! $ exec ! 𝓣.C 𝓣.Λ Ev code.Mir.t-6 (at_ret Ev (W.post z)) $
       first ! $ blocks ! $
-      sets ! (of_opd ! (get ! refl)) refl heap_good $ sets ! (of_opd ! (get ! refl)) refl (pointer_good p) $ sets ! (of_opd ! (get ! refl)) refl (pointer_good p) $
+      sets ! (of_opd ! (get ! refl)) refl heap_good $ sets ! (of_opd ! (get ! refl)) refl (pointer_good p) $ sets !
+      (of_opd ! (get ! refl)) refl (pointer_good p) $
       -- [what the handle owned; the allocator; the locals]
-      outlived ! $ nothing ! $ feq_i ! (List Val) (ptr_val p ∷ []) (ptr_val p ∷ []) refl $ fjoin ! $ move ! (2 ∷ 0 ∷ []) $ fjoin ! $ tokens_in ! $ join ! $ join ! $
+      outlived ! $ nothing ! $ feq_i ! (List Val) (ptr_val p ∷ []) (ptr_val p ∷ []) refl $ fjoin ! $ move ! (2 ∷ 0 ∷ []) $ fjoin !
+      $ tokens_in ! $ join ! $ join ! $
       use1 𝓛 (raw (G.pre y)) (id⊢ 𝓤 _) $
       calls_at_last ! (framed 𝓤 𝓛.H 𝓜 𝓣) G known y (and_then ! (get ! refl) (and_then ! (get ! refl) (no_more !))) (λ u.
       use1 𝓛 (later (some (λ (d : D E). (Tokens 𝓤 ⊛ ‵ ((B E).own_val d (u ∷ []))) ⊛
       some (λ (ws : Lasts En y.0.0 y.0.3). ‵ (lasts En y.0.0 y.0.3 ws) ⊛ raw (fact 𝓤 (d.value ≡ x)) ⊛ raw (fact 𝓤 (d.alloc ≡ a)))))) (id⊢ 𝓤 _) $
-      await ! tt $ pick ! (λ d. split ! $ split ! $ drop ! $ move ! (1 ∷ []) $ pick ! (λ ws. split ! $ drop ! $ split ! $ heard ! (d.value ≡ x) (λ same. drop ! $
+      await ! tt $ pick !
+      (λ d. split ! $ split ! $ drop ! $ move ! (1 ∷ []) $ pick ! (λ ws. split ! $ drop ! $ split ! $ heard ! (d.value ≡ x) (λ same. drop ! $
       box_tells ! d (u ∷ []) (λ b o is_u. rewrite ! 0 (λ (us : List Val). ‵ ((B E).own_val d us)) (sym is_u) refl $
-      let good = subst (λ (v : Val). T (has_ty (layout Boxed) v) × WT v) (sym (ap only is_u)) (box_good b o) in let out : Val = live 1 (vcons u vnil) in let good' : Good (layout Out) out = (and_tt _ good.0, (record { fits = lit< tt }, (good.1, tt))) in
+      let good =
+      subst (λ (v : Val). T (has_ty (layout Boxed) v) × WT v) (sym (ap only is_u)) (box_good b o) in let out : Val =
+      live 1 (vcons u vnil) in let good' : Good (layout Out) out = (and_tt _ good.0, (record { fits = lit< tt }, (good.1, tt))) in
       lands_last ! refl good $ exec ! 𝓣.C 𝓣.Λ Ev code.Mir.t-7 (at_ret Ev (W.post z)) $
       sets ! (of_opd ! (get ! refl)) refl good $ sets ! (agg ! (and_then ! (lit ! tt) (and_then ! (get ! refl) (no_more !)))) refl good' $
       returns ! (look_at ! 0 refl) $ free_all ! refl $

@@ -41,7 +41,9 @@ of_spec 𝓤 𝓛 𝓜 𝓡 wired =
     let G = triple_of 𝓛 T.signature (g.spec E.row E.al.row E.al.g E.al.d E.al.drops node_drops 𝓛 𝓜.mem 𝓡.returns) in
     let env = 𝓡.env in
     let known = met 𝓤 𝓛 𝓜 𝓡 (code.calls-std_alloc::boxed::Box::into_raw env wired) E.row E.al.row E.laws E.al.laws E.al.g E.al.d E.al.drops node_drops
-    (passed env (code.calls-std_heap::GlobalAllocator::allocate env wired) (code.calls-std_heap::GlobalAllocator::deallocate env wired) (code.calls-std_heap::GlobalAllocator::grow env wired) (code.calls-std_heap::GlobalAllocator::shrink env wired) _ 𝓤 𝓛 𝓜 𝓡)
+    (passed env (code.calls-std_heap::GlobalAllocator::allocate env wired)
+    (code.calls-std_heap::GlobalAllocator::deallocate env wired) (code.calls-std_heap::GlobalAllocator::grow env wired)
+    (code.calls-std_heap::GlobalAllocator::shrink env wired) _ 𝓤 𝓛 𝓜 𝓡)
     (heap_goes 𝓤 𝓛 𝓜 𝓡 (code.calls-swim_c::Destruct++none::drop env wired))
     (node_goes 𝓤 𝓛 𝓜 𝓡 (code.calls-swim_c::swim_table++node++Node+Destruct::drop env wired)) in
     proved_at 𝓛 f.ended stayed c 𝓜 𝓡 (Goes-dropped 𝓛 0 (plain (λ _. Boxed)) yes (λ κs x w. refl), tt)
@@ -62,5 +64,7 @@ of_spec 𝓤 𝓛 𝓜 𝓡 wired =
     sets ! (of_opd ! (get ! refl)) refl (pointer_good p) $
     sets ! (agg ! (and_then ! (get ! refl) (and_then ! (true_lit !) (no_more !)))) refl (handle_good p true) $
     returns ! (look_at ! 0 refl) $ free_all ! refl $
-    suffices ! _ (ends_at 𝓛 f.ended stayed c z (both (ptr_val p) (vbool true)) (record { at = p; held = true; node = Some d.value }) (tt, tt) (tt, tt)) $ says ! refl $
+    suffices ! _
+    (ends_at 𝓛 f.ended stayed c z (both (ptr_val p) (vbool true)) (record { at = p; held = true; node = Some d.value }) (tt, tt) (tt, tt))
+    $ says ! refl $
     handle_in ! p true (Some d.value) $ nothing ! $ nothing ! $ fjoin ! $ join ! $ nothing ! $ join ! $ done !)))))))

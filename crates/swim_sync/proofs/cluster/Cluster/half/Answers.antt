@@ -13,7 +13,8 @@ use Rattle.swim_sync.proofs.cluster.Cluster.half.Goals as goal
 
 pub returns-clause-ok : goal.returns-clause-ok
 returns-clause-ok c =
-    let two : AreTwoNodes (length c.self.inside.nodes.items) c.args.first c.args.second = subst (λ (n : List NodeValue). AreTwoNodes (length n) c.args.first c.args.second) (sym c.self.view_is) c.in_ok-check_two.ensures.ok in
+    let two : AreTwoNodes (length c.self.inside.nodes.items) c.args.first c.args.second =
+    subst (λ (n : List NodeValue). AreTwoNodes (length n) c.args.first c.args.second) (sym c.self.view_is) c.in_ok-check_two.ensures.ok in
     let at_first = node_at c.self.inside.nodes.items c.args.first c.index.result.now two.0 c.index.ensures in
     let at_second = node_at c.self.inside.nodes.items c.args.second c.index_mut.result.now two.1 c.index_mut.ensures.value in
     let own = c.table.ensures.table in
@@ -21,14 +22,19 @@ returns-clause-ok c =
     ok_both c.answered.result
     (λ takes few. subst (λ (nodes : List NodeValue). Ran nodes (set c.self.inside.nodes.items c.args.second (with_table c.index_mut.result.now c.answered.new.table)) (Half c.args.first c.args.second ∷ [])) c.self.view_is
     (ran_half c.self.inside.nodes.items c.args.first c.args.second c.index.result.now c.index_mut.result.now (with_table c.index_mut.result.now c.answered.new.table) two at_first at_second
-    (record { name = refl; details = refl })
-    (subst (λ (t : Entries). ¬ HasTooMany t) own (few_enough c.table.result.now c.in_ok-offer.ensures.offers.few), subst (λ (t : Entries). ¬ HasTooMany t) theirs few)
-    (λ claims others h g. takes c.table.result.now (subst (IsOffer c.table.result.now) (sym c.bytes.ensures) c.in_ok-offer.ensures.offers) claims others (subst (λ (t : Entries). TableOf t claims) (sym theirs) h) (subst (λ (t : Entries). TableOf t others) (sym own) g))))
+    (record { name = refl; details = refl }) (
+      subst (λ (t : Entries). ¬ HasTooMany t) own (few_enough c.table.result.now c.in_ok-offer.ensures.offers.few),
+      subst (λ (t : Entries). ¬ HasTooMany t) theirs few,
+    )
+    (λ claims others h g. takes c.table.result.now
+    (subst (IsOffer c.table.result.now) (sym c.bytes.ensures) c.in_ok-offer.ensures.offers) claims others
+    (subst (λ (t : Entries). TableOf t claims) (sym theirs) h) (subst (λ (t : Entries). TableOf t others) (sym own) g))))
     c.answered.ensures.takes c.answered.ensures.few
 
 pub returns-clause-refused : goal.returns-clause-refused
 returns-clause-refused c =
-    let two : AreTwoNodes (length c.self.inside.nodes.items) c.args.first c.args.second = subst (λ (n : List NodeValue). AreTwoNodes (length n) c.args.first c.args.second) (sym c.self.view_is) c.in_ok-check_two.ensures.ok in
+    let two : AreTwoNodes (length c.self.inside.nodes.items) c.args.first c.args.second =
+    subst (λ (n : List NodeValue). AreTwoNodes (length n) c.args.first c.args.second) (sym c.self.view_is) c.in_ok-check_two.ensures.ok in
     let at_second = node_at c.self.inside.nodes.items c.args.second c.index_mut.result.now two.1 c.index_mut.ensures.value in
     IfErr-weaker c.answered.result _ _
     (λ why hinders. subst (λ (nodes : List NodeValue). StopsBy nodes (Half c.args.first c.args.second) why) c.self.view_is

@@ -13,7 +13,8 @@ at : (c : goal.Joined-take-2) → slice_get c.self.inside.nodes.items c.args.k �
 at c =
     let number = c.len.ensures in
     let below = c.if-k-len.false in
-    node_at c.self.inside.nodes.items c.args.k c.index_mut.result.now (let same = ap length c.self.view_is in omega (arith, number, below, same)) c.index_mut.ensures.value
+    node_at c.self.inside.nodes.items c.args.k c.index_mut.result.now
+    (let same = ap length c.self.view_is in omega (arith, number, below, same)) c.index_mut.ensures.value
 
 pub returns-clause-ok : goal.returns-clause-ok
 returns-clause-ok c = elim c.match-take.branch [
@@ -30,5 +31,6 @@ returns-clause-unchanged c = elim c.match-take.branch [
   | in-Ok w ↦ not_refused c.match-take.result _ _ w.result-is
   | in-Err w ↦
       refused c.match-take.result _ _ w.result-is
-      (unchanged_node c.self.inside.nodes.items c.args.k c.index_mut.result.now c.take.new.self (at c) w.in-Err.ensures.member w.in-Err.ensures.err ∙ c.self.view_is)
+      (unchanged_node c.self.inside.nodes.items c.args.k c.index_mut.result.now c.take.new.self (at c) w.in-Err.ensures.member w.in-Err.ensures.err
+      ∙ c.self.view_is)
 ]

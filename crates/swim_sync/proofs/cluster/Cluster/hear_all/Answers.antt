@@ -22,6 +22,9 @@ returns-clause-ok c =
     let below = c.if-k-len.false in
     let within : c.args.k < length c.self.inside.nodes.items = (let same = ap length c.self.view_is in omega (arith, number, below, same)) in
     let at = node_at c.self.inside.nodes.items c.args.k c.index_mut.result.now within c.index_mut.ensures.value in
-    subst (λ (nodes : List NodeValue). Ran nodes (set c.self.inside.nodes.items c.args.k c.take_all.new.self) (HearAll c.args.k c.args.claims.now ∷ [])) c.self.view_is
+    subst
+    (λ (nodes : List NodeValue). Ran nodes (set c.self.inside.nodes.items c.args.k c.take_all.new.self) (HearAll c.args.k c.args.claims.now ∷ []))
+    c.self.view_is
     (ran_hear_all c.self.inside.nodes.items c.args.k c.index_mut.result.now c.take_all.new.self c.args.claims.now at c.in_ok-take_all.ensures.member
-    (λ claims h. subst (λ (all : List Claim). TableOf c.take_all.new.self.table (claims ++ all)) c.in_ok-claims.ensures (c.in_ok-take_all.ensures.all claims h)))
+    (λ claims h. subst (λ (all : List Claim). TableOf c.take_all.new.self.table (claims ++ all)) c.in_ok-claims.ensures
+    (c.in_ok-take_all.ensures.all claims h)))

@@ -23,7 +23,8 @@ returns-in_err-meet_each-clause-stopped c =
 pub returns-clause-ok : goal.returns-clause-ok
 returns-clause-ok c =
     on_ok_weaker c.meet_each-2.result
-    (levelled c.args.self.now c.meet_each.new.self c.meet_each-2.new.self c.saturating_sub-others.result c.saturating_sub.result (one c) (two c) c.in_ok-meet_each.ensures.ok)
+    (levelled c.args.self.now c.meet_each.new.self c.meet_each-2.new.self c.saturating_sub-others.result c.saturating_sub.result
+    (one c) (two c) c.in_ok-meet_each.ensures.ok)
     c.meet_each-2.ensures.ok
 
 pub returns-clause-level : goal.returns-clause-level

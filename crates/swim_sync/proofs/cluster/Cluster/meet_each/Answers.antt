@@ -37,4 +37,5 @@ pub returns-clause-ok : goal.returns-clause-ok
 returns-clause-ok c =
     let number = length-meet_each c.args.count in
     let past = c.loop-met-test.false in
-    subst (λ (events : List Event). Ran c.args.self.now c.loop-met.self events) (take_all c.loop-met.met (meet_each c.args.count) (omega (arith, number, past))) c.loop-met.invariant.0
+    subst (λ (events : List Event). Ran c.args.self.now c.loop-met.self events)
+    (take_all c.loop-met.met (meet_each c.args.count) (omega (arith, number, past))) c.loop-met.invariant.0

@@ -12,7 +12,12 @@ loop-claim-preserved c =
     let rest = map standing_of (into_iter_items c.next.new.self) in
     let pushed = c.in_ok-push.ensures.items ∙ ap (λ s. c.loop-claim.entries.items ++ s ∷ []) c.in-Ok.ensures.ok in
     record {
-      whole = ap (λ t. t ++ rest) pushed ∙ append_assoc c.loop-claim.entries.items (standing_of c.in-Some.claim ∷ []) rest ∙ sym (ap (λ t. c.loop-claim.entries.items ++ map standing_of t) next.0) ∙ c.loop-claim.invariant.whole;
-      legal = λ h. c.loop-claim.invariant.legal (subst (All IsLegalClaim) (sym next.0) (All-cons IsLegalClaim c.in-Some.claim (into_iter_items c.next.new.self) c.new.ensures.legal h));
+      whole =
+          ap (λ t. t ++ rest) pushed ∙ append_assoc c.loop-claim.entries.items (standing_of c.in-Some.claim ∷ []) rest
+          ∙ sym (ap (λ t. c.loop-claim.entries.items ++ map standing_of t) next.0) ∙ c.loop-claim.invariant.whole;
+      legal =
+          λ h.
+          c.loop-claim.invariant.legal
+          (subst (All IsLegalClaim) (sym next.0) (All-cons IsLegalClaim c.in-Some.claim (into_iter_items c.next.new.self) c.new.ensures.legal h));
       counted = omega (arith, next.1, fewer, c.loop-claim.invariant.counted);
     }

@@ -13,4 +13,6 @@ unreachable-requires c =
 pub returns-clause-refuted : goal.returns-clause-refuted
 returns-clause-refuted c =
     let due = rw (← c.self.view_is) at c.in-Disputed.ensures.word in
-    rw (← c.self.view_is) (refuted _ _ c.in-Disputed.inc c.in-Some.next c.in_ok-refutation.refutation due c.in-Some.ensures.1 c.in_ok-refutation.ensures c.in-Ok.ensures.ok c.in-Ok.ensures.all)
+    rw (← c.self.view_is)
+    (refuted _ _ c.in-Disputed.inc c.in-Some.next c.in_ok-refutation.refutation due c.in-Some.ensures.1
+    c.in_ok-refutation.ensures c.in-Ok.ensures.ok c.in-Ok.ensures.all)

@@ -11,7 +11,8 @@ use Rattle.swim_table.specs.Table.{Entries, TableOf, Reduced}
 use Rattle.swim_table.proofs.Streams.{user_explains}
 use Rattle.swim_table.proofs.stream_reader.StreamReader.step.Goals as goal
 
-one_record : (reader inside : Streaming) (old new : Source) (c : Claim) (table : Entries) → inside ≡ reader → inside.left ≢ 0 → Takes old new (λ b. StateText b c)
+one_record : (reader inside : Streaming) (old new : Source) (c : Claim) (table : Entries) → inside ≡ reader → inside.left ≢ 0
+    → Takes old new (λ b. StateText b c)
     → TableOf table (Reduced inside.table ++ c ∷ []) → ((claims : List Claim) → TableOf inside.table claims → TableOf table (claims ++ c ∷ []))
     → Steps reader old new (More (record { header = inside.header; left = inside.left - 1; table = table }))
 one_record reader inside old new c table same some taken reduced all =
@@ -23,7 +24,8 @@ pub returns-in-Ok-clause-takes : goal.returns-in-Ok-clause-takes
 returns-in-Ok-clause-takes g c =
     let inside : Streaming = record { header = c.self.inside.header; left = c.self.inside.left; table = c.self.inside.table } in
     let same : inside ≡ c.args.self = cc in
-    one_record c.args.self inside _ _ c.in_ok-claim.claim c.take.new.self same c.if-left-eq0.false c.in_ok-claim.ensures.takes c.in-Ok.ensures.ok c.in-Ok.ensures.all
+    one_record c.args.self inside _ _ c.in_ok-claim.claim c.take.new.self same c.if-left-eq0.false c.in_ok-claim.ensures.takes
+    c.in-Ok.ensures.ok c.in-Ok.ensures.all
 
 pub returns-in_err-skip_user-clause-explains : goal.returns-in_err-skip_user-clause-explains
 returns-in_err-skip_user-clause-explains g c =

@@ -12,10 +12,12 @@ pub invariant_of-self-lent : goal.invariant_of-self-lent
 invariant_of-self-lent g c = λ w.
     let bs = c.self.inside.blocks.items in
     let p : Position = record { block = c.place.inside.block; at = c.place.inside.at } in
-    let here : IsPlace (shape bs) p = subst (λ v. IsPlace v.blocks p) (sym c.self.view_is) (subst (IsPlace c.args.self.now.blocks) (sym c.place.view_is) c.requires) in
+    let here : IsPlace (shape bs) p =
+    subst (λ v. IsPlace v.blocks p) (sym c.self.view_is) (subst (IsPlace c.args.self.now.blocks) (sym c.place.view_is) c.requires) in
     let h : p.block < length bs = omega (arith, length-map bs (λ b. b.items), here.in_block) in
     let read = block_read bs p.block c.index_mut-block.result.now h c.index_mut-block.ensures.value in
-    set_sound c.self.inside.len c.self.inside.blocks c.self.inside.spares p.block p.at c.index_mut-block.result.now w c.self.invariant h c.index_mut-block.ensures.value (omega (arith, ap length read, here.in_range))
+    set_sound c.self.inside.len c.self.inside.blocks c.self.inside.spares p.block p.at c.index_mut-block.result.now w
+    c.self.invariant h c.index_mut-block.ensures.value (omega (arith, ap length read, here.in_range))
 
 pub returns : goal.returns
 unfolding index_of with_item_at
@@ -34,7 +36,8 @@ returns g c =
         refl,
         λ w. subst (λ u. record { blocks = shape (set bs p.block (with_item b p.at w)); spares = ns } ≡ with_item_at u c.args.place w) c.self.view_is
             (subst (λ q. record { blocks = shape (set bs p.block (with_item b p.at w)); spares = ns } ≡ with_item_at v q w) c.place.view_is
-            (ap (λ (u : _). let t : Tiers g.row.T.Denot = record { blocks = u; spares = ns } in t) (shape-set bs p.block (with_item b p.at w) ∙ ap (λ xs. set s p.block (set xs p.at w)) read))),
+            (ap (λ (u : _). let t : Tiers g.row.T.Denot = record { blocks = u; spares = ns } in t)
+            (shape-set bs p.block (with_item b p.at w) ∙ ap (λ xs. set s p.block (set xs p.at w)) read))),
       ),
       record {
         writes_back = tt;

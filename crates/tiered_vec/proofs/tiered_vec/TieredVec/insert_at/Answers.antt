@@ -24,7 +24,13 @@ invariant_of-self g c =
     let gap = subst (λ v. IsGap v.blocks c.args.place) (sym c.self.view_is) c.requires in
     let more = ap length (ap flatten c.put.ensures.shape ∙ put_flatten s t (index_of s c.args.place) p c.args.x o) in
     record {
-      vectors = record { rooms = c.put.ensures.rooms; empties = rooms.empties; places = omega (arith, c.put.ensures.len, c.put.ensures.capacity, rooms.places); few = omega (arith, c.put.ensures.len, rooms.few) };
+      vectors =
+          record {
+            rooms = c.put.ensures.rooms;
+            empties = rooms.empties;
+            places = omega (arith, c.put.ensures.len, c.put.ensures.capacity, rooms.places);
+            few = omega (arith, c.put.ensures.len, rooms.few);
+          };
       each = subst (All IsBlock) (sym c.put.ensures.shape) (put_each s t (index_of s c.args.place) p c.args.x o);
       count = omega (arith, more, length-insert (flatten s) (index_of s c.args.place) c.args.x (index_in_gap s c.args.place gap), c.self.invariant.count);
     }

@@ -22,7 +22,13 @@ invariant_of-self g c =
     let rooms = c.in-Ok.ensures.rooms in
     let more = ap length (ap flatten c.put.ensures.shape ∙ put_flatten s t (length (flatten s)) p c.args.x o) in
     record {
-      vectors = record { rooms = c.put.ensures.rooms; empties = rooms.empties; places = omega (arith, c.put.ensures.len, c.put.ensures.capacity, rooms.places); few = omega (arith, c.put.ensures.len, rooms.few) };
+      vectors =
+          record {
+            rooms = c.put.ensures.rooms;
+            empties = rooms.empties;
+            places = omega (arith, c.put.ensures.len, c.put.ensures.capacity, rooms.places);
+            few = omega (arith, c.put.ensures.len, rooms.few);
+          };
       each = subst (All IsBlock) (sym c.put.ensures.shape) (put_each s t (length (flatten s)) p c.args.x o);
       count = omega (arith, more, length-insert (flatten s) (length (flatten s)) c.args.x (omega arith), c.self.invariant.count);
     }

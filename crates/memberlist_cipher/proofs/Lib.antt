@@ -1,0 +1,13 @@
+pub mod Tables
+pub mod Sixteen
+pub mod Hashes
+pub mod Products
+pub mod Scheduling
+pub mod Twice
+pub mod StandardFacts
+pub mod Sealing
+pub mod Refusing
+pub mod Causes
+pub mod Once
+pub mod Streams
+pub mod Mixing

@@ -1,0 +1,8 @@
+use Rattle.std.proofs.Common.{◌∙◌, refl}
+use Rattle.memberlist_cipher.proofs.Mixing.{column_is}
+use Rattle.memberlist_cipher.proofs.columns.column.Goals as goal
+
+pub returns : goal.returns
+returns c =
+    c.to_be_bytes.ensures
+    ∙ column_is c.args.a c.args.b c.args.c c.args.d _ c.ranges.a.fits c.ranges.b.fits c.ranges.c.fits c.ranges.d.fits refl

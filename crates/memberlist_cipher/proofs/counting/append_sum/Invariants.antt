@@ -1,0 +1,6 @@
+use Rattle.std.proofs.Common.{◌≡◌, ◌++◌, drop}
+use Rattle.memberlist_cipher.specs.Block.{plus_bytes}
+use Rattle.memberlist_cipher.proofs.counting.append_sum.Given as goal
+
+abbrev pub invariant-loop-i : goal.invariant-loop-i
+invariant-loop-i l = l.out.items ++ plus_bytes (drop l.i l.front) (drop l.i l.mask) ≡ l.fn.out.items ++ plus_bytes l.front l.mask

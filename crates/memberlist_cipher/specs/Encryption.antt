@@ -1,0 +1,49 @@
+-- What memberlist writes under a cluster's key: packets, and streams.
+use Rattle.std.specs.Prelude.{◌≡◌, ℕ, ◌-◌, ◌%◌, ◌^◌, ◌<◌, ◌≤◌, ◌⊎◌, List, ◌∷◌, ◌++◌, length, replicate}
+use Rattle.std.specs.Int.{w32, to_be_bytes}
+use Rattle.memberlist_cipher.specs.Block.{aes}
+use Rattle.memberlist_cipher.specs.Gcm.{ctr, tag}
+
+-- 16, 24 or 32 bytes
+abbrev pub IsKey : List ℕ → Type 0
+IsKey key = (length key ≡ 16) ⊎ (length key ≡ 24) ⊎ (length key ≡ 32)
+
+-- The standard's limits (SP 800-38D, 5.2.1.1): 2 ^ 36 - 32 bytes of text, to which 29 bytes are
+-- added here, and 2 ^ 61 - 1 associated bytes.
+abbrev pub IsWithin : List ℕ → List ℕ → Type 0
+IsWithin associated bytes = (length bytes ≤ 2 ^ 36 - 3) × (length associated < 2 ^ 61)
+
+-- the enciphered text and its tag (7.1)
+unfoldable pub sealed : List ℕ → List ℕ → List ℕ → List ℕ → List ℕ
+sealed key nonce associated text =
+    let c = ctr (aes key) nonce text in c ++ tag (aes key) nonce associated c
+
+-- 1 to 16 bytes more, each their count, up to a multiple of 16 (PKCS #7)
+unfoldable pub padded : List ℕ → List ℕ
+padded message = let more = 16 - length message % 16 in message ++ replicate more more
+
+-- The bytes are an encryption of this message under the key, with these associated bytes: a
+-- version, a nonce of 12 bytes, the enciphered text and its tag. In version 0 the text is the
+-- padded message, in version 1 the message.
+pub record Encryption (key associated bytes message : List ℕ) : Type 0 where
+  pub good_key : IsKey key
+  pub within : IsWithin associated bytes
+  pub nonce : List ℕ
+  pub nonce_size : length nonce ≡ 12
+  pub text : (bytes ≡ 0 ∷ nonce ++ sealed key nonce associated (padded message))
+      ⊎ (bytes ≡ 1 ∷ nonce ++ sealed key nonce associated message)
+
+-- the head of a stream of which n bytes follow
+unfoldable pub head : ℕ → List ℕ
+head n = 10 ∷ to_be_bytes w32 n
+
+-- a head, and as many bytes as it announces, at most 2 ^ 28
+pub record IsStream (bytes inner : List ℕ) : Type 0 where
+  pub few : length inner ≤ 2 ^ 28
+  pub text : bytes ≡ head (length inner) ++ inner
+
+-- The stream holds an encryption of this message; its head and the label are associated.
+pub record StreamEncryption (key label bytes message : List ℕ) : Type 0 where
+  pub inner : List ℕ
+  pub stream : IsStream bytes inner
+  pub encryption : Encryption key (head (length inner) ++ label) inner message

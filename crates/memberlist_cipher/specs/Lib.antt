@@ -1,0 +1,7 @@
+pub mod Field
+pub mod Block
+pub mod Gcm
+pub mod Products
+pub mod Encryption
+pub mod Fault
+pub mod Refusal

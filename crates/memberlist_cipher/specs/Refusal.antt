@@ -1,0 +1,87 @@
+-- Why bytes are refused, fault by fault. Each case repeats what was found to be right before it is
+-- looked at.
+use Rattle.std.specs.Prelude.{◌≡◌, ◌≢◌, ℕ, ◌+◌, ◌^◌, ◌<◌, ◌≤◌, ◌⊎◌, List, ◌∷◌, ◌++◌, length, drop, slice_index}
+use Rattle.std.specs.Int.{w32, from_be_bytes}
+use Rattle.memberlist_cipher.specs.declared.fault.CipherFault.{CipherFault}
+use Rattle.memberlist_cipher.specs.declared.fault.CipherFault.TheVariants.{BadKey, TooLong, TooShort, WrongVersion, WrongTag, BadPadding, NotEncrypted, Trailing, Memory}
+use Rattle.memberlist_cipher.specs.Block.{aes}
+use Rattle.memberlist_cipher.specs.Gcm.{ctr, tag}
+use Rattle.memberlist_cipher.specs.Encryption.{IsKey, IsWithin, padded, head, IsStream}
+
+-- the bytes taken apart: a version, a nonce of 12 bytes, enciphered bytes, and 16 bytes where the
+-- tag stands
+pub record PacketParts (bytes : List ℕ) : Type 0 where
+  pub version : ℕ
+  pub nonce : List ℕ
+  pub inner : List ℕ
+  pub mark : List ℕ
+  pub known : version < 2
+  pub nonce_size : length nonce ≡ 12
+  pub mark_size : length mark ≡ 16
+  pub text : bytes ≡ version ∷ (nonce ++ (inner ++ mark))
+
+-- the tag is right
+abbrev pub IsTagged : (key associated bytes : List ℕ) → PacketParts bytes → Type 0
+IsTagged key associated bytes l = l.mark ≡ tag (aes key) l.nonce associated l.inner
+
+-- the deciphered bytes are no padded message
+abbrev pub IsUnpadded : (key bytes : List ℕ) → PacketParts bytes → Type 0
+IsUnpadded key bytes l = (message : List ℕ) → padded message ≢ ctr (aes key) l.nonce l.inner
+
+-- the causes by which bytes have no layout
+abbrev pub FormCause : CipherFault → List ℕ → Type 0
+FormCause TooShort bytes = length bytes < 29
+FormCause WrongVersion bytes = (29 ≤ length bytes) × (1 < slice_index bytes 0)
+FormCause BadKey bytes = ⊥
+FormCause TooLong bytes = ⊥
+FormCause WrongTag bytes = ⊥
+FormCause BadPadding bytes = ⊥
+FormCause NotEncrypted bytes = ⊥
+FormCause Trailing bytes = ⊥
+FormCause Memory bytes = ⊥
+
+-- the causes of a refusal by decrypt
+abbrev pub PacketCause : CipherFault → List ℕ → List ℕ → List ℕ → Type 0
+PacketCause BadKey key associated bytes = ¬ IsKey key
+PacketCause TooLong key associated bytes = IsKey key × ¬ IsWithin associated bytes
+PacketCause TooShort key associated bytes = IsKey key × IsWithin associated bytes × (length bytes < 29)
+PacketCause WrongVersion key associated bytes =
+    IsKey key × IsWithin associated bytes × (29 ≤ length bytes) × (1 < slice_index bytes 0)
+PacketCause WrongTag key associated bytes =
+    IsKey key × IsWithin associated bytes × (l : PacketParts bytes) × ¬ IsTagged key associated bytes l
+PacketCause BadPadding key associated bytes =
+    IsKey key × IsWithin associated bytes × (l : PacketParts bytes) × IsTagged key associated bytes l
+    × (l.version ≡ 0) × IsUnpadded key bytes l
+PacketCause Memory key associated bytes = IsKey key × IsWithin associated bytes × PacketParts bytes
+PacketCause NotEncrypted key associated bytes = ⊥
+PacketCause Trailing key associated bytes = ⊥
+
+-- how many bytes a stream's head announces
+abbrev pub announced : List ℕ → ℕ
+announced bytes = from_be_bytes w32 (drop 1 bytes)
+
+-- the bytes begin with a head
+abbrev pub HasHead : List ℕ → Type 0
+HasHead bytes = (5 ≤ length bytes) × (slice_index bytes 0 ≡ 10)
+
+-- the causes by which bytes are no stream
+abbrev pub HeadCause : CipherFault → List ℕ → Type 0
+HeadCause TooShort bytes =
+    (length bytes < 5)
+    ⊎ (HasHead bytes × (announced bytes ≤ 2 ^ 28) × (length bytes < 5 + announced bytes))
+HeadCause NotEncrypted bytes = (5 ≤ length bytes) × (slice_index bytes 0 ≢ 10)
+HeadCause TooLong bytes = HasHead bytes × (2 ^ 28 < announced bytes)
+HeadCause Trailing bytes =
+    HasHead bytes × (announced bytes ≤ 2 ^ 28) × (5 + announced bytes < length bytes)
+HeadCause BadKey bytes = ⊥
+HeadCause WrongVersion bytes = ⊥
+HeadCause WrongTag bytes = ⊥
+HeadCause BadPadding bytes = ⊥
+HeadCause Memory bytes = ⊥
+
+-- the causes of a refusal by decrypt_stream
+abbrev pub StreamCause : CipherFault → List ℕ → List ℕ → List ℕ → Type 0
+StreamCause fault key label bytes =
+    HeadCause fault bytes
+    ⊎ ((inner : List ℕ) × IsStream bytes inner
+    × ((fault ≡ Memory) ⊎ PacketCause fault key (head (length inner) ++ label) inner))

@@ -1,0 +1,76 @@
+//! Why bytes were refused, and the number of each fault.
+
+ghost use Rattle.std.specs.Prelude.{◌≡◌};
+ghost use Rattle.memberlist_cipher.specs.declared.fault.CipherFault.TheVariants.{Memory};
+ghost use Rattle.memberlist_cipher.specs.Fault.{cipher_number};
+
+use std::alloc::{AllocError, AllocFailed};
+use thiserror::Error;
+
+/// Why bytes hold no message, or why it is not known what they hold (own).
+#[derive(Clone, Copy, Debug, PartialEq, Eq, Error)]
+pub enum CipherFault {
+    /// The key has another length than 16, 24 or 32 bytes.
+    #[error("a key has 16, 24 or 32 bytes")]
+    BadKey,
+    /// The bytes, or the associated bytes, are more than the standard allows, or a stream announces
+    /// more than 268,435,456 bytes.
+    #[error("the encrypted bytes are too many")]
+    TooLong,
+    /// The bytes end before a message or a stream can end.
+    #[error("the encrypted bytes end too early")]
+    TooShort,
+    /// The version byte is neither 0 nor 1.
+    #[error("the version of encryption is neither 0 nor 1")]
+    WrongVersion,
+    /// The tag is not that of these bytes and associated bytes under this key.
+    #[error("the tag is that of another key or of other bytes")]
+    WrongTag,
+    /// The tag is right, the version is 0, and what was encrypted ends in no padding.
+    #[error("the decrypted bytes have no padding")]
+    BadPadding,
+    /// A stream's first byte is not 10.
+    #[error("the stream is not encrypted")]
+    NotEncrypted,
+    /// Bytes follow the length that a stream announces.
+    #[error("bytes follow the encrypted stream")]
+    Trailing,
+    /// A growth of memory was refused.
+    #[error("out of memory")]
+    Memory,
+}
+
+impl CipherFault {
+    /// The number by which reports name the fault: 50 to 58 (own).
+    pub fn number(&self) -> u32
+        ensures { result ≡ cipher_number self.now }
+    {
+        match self {
+            CipherFault::BadKey => 50,
+            CipherFault::TooLong => 51,
+            CipherFault::TooShort => 52,
+            CipherFault::WrongVersion => 53,
+            CipherFault::WrongTag => 54,
+            CipherFault::BadPadding => 55,
+            CipherFault::NotEncrypted => 56,
+            CipherFault::Trailing => 57,
+            CipherFault::Memory => 58,
+        }
+    }
+}
+
+impl From<AllocError> for CipherFault {
+    ghost from_gives = { λ _ fault. fault ≡ Memory };
+
+    fn from(_error: AllocError) -> CipherFault {
+        CipherFault::Memory
+    }
+}
+
+impl<T: Drop> From<AllocFailed<T>> for CipherFault {
+    ghost from_gives = { λ _ fault. fault ≡ Memory };
+
+    fn from(_error: AllocFailed<T>) -> CipherFault {
+        CipherFault::Memory
+    }
+}

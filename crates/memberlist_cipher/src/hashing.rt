@@ -1,0 +1,159 @@
+//! The product and the hash of blocks, SP 800-38D, 6.3 and 6.4.
+
+ghost use Rattle.std.specs.Prelude.{◌≡◌, ◌+◌, ◌*◌, ◌<◌, ◌≤◌, ◌^◌, ◌==◌, ◌++◌, if◌then◌else◌, bit_xor, length, replicate, slice_index, take, drop, IfOk, OnOk};
+ghost use Rattle.std.specs.Int.{bit_at};
+ghost use Rattle.memberlist_cipher.specs.Gcm.{times_x, steps, block_product, block, hash};
+ghost use Rattle.memberlist_cipher.specs.Products.{row, rows};
+
+use std::alloc::{AllocError, Global};
+
+/// The block times x.
+fn times_x(v: u128) -> u128
+    ensures { result ≡ times_x v }
+{
+    if v % 2 == 1 {
+        (v / 2) ^ (0xe1 << 120)
+    } else {
+        v / 2
+    }
+}
+
+/// z, and v where x has a bit at this place.
+fn plus_at(x: u128, place: u32, z: u128, v: u128) -> u128
+    requires { place < 128 }
+    ensures { result ≡ (if bit_at x place == 1 then bit_xor z v else z) }
+{
+    if (x >> place) & 1 == 1 { z ^ v } else { z }
+}
+
+/// The product of four bits and a block. The highest of the bits stands for the lowest power of x.
+fn times_digit(digit: u128, v: u128) -> u128
+    ensures { result ≡ steps 4 digit 0 v }
+{
+    let second = times_x(v);
+    let third = times_x(second);
+    let fourth = times_x(third);
+    let one = plus_at(digit, 3, 0, v);
+    let two = plus_at(digit, 2, one, second);
+    let three = plus_at(digit, 1, two, third);
+    plus_at(digit, 0, three, fourth)
+}
+
+/// A block by which others are multiplied: its products with each four bits at each of their 32
+/// places in a block. They are overwritten before their memory is given back.
+pub(crate) struct Factor {
+    pub(crate) block: u128,
+    products: Vec<u128>,
+    ghost has_rows: { products.items ≡ rows 32 block },
+}
+
+impl Factor {
+    /// A block, made ready to multiply others.
+    pub(crate) fn new(alloc: Global, block: u128) -> Result<Factor, AllocError>
+        ensures { IfOk result (λ made. made.block ≡ block) }
+    {
+        let mut products = Vec::with_capacity(alloc, 512)?;
+        let mut v = block;
+        for _ in 0..32usize {
+            append_row(&mut products, v)?;
+            v = times_x(times_x(times_x(times_x(v))));
+        }
+        Ok(Factor { block, products })
+    }
+}
+
+impl Drop for Factor {
+    fn drop(self) {
+        let Factor {
+            block: _,
+            mut products,
+        } = self;
+        overwrite(&mut products);
+    }
+}
+
+/// Writes 0 over each block.
+fn overwrite(blocks: &mut [u128])
+    ensures { blocks.new ≡ replicate (length blocks.old) 0 }
+{
+    blocks.fill(0);
+}
+
+/// Adds the products of each four bits and a block at the end.
+fn append_row(products: &mut Vec<u128>, v: u128) -> Result<(), AllocError>
+    ensures { OnOk result (products.new.items ≡ products.old.items ++ row 16 0 v) }
+{
+    for digit in 0..16u8 {
+        products.push(times_digit(digit as u128, v))?;
+    }
+    Ok(())
+}
+
+/// The product of two blocks.
+pub(crate) fn times(x: u128, factor: &Factor) -> u128
+    ensures { result ≡ block_product x factor.now.block }
+{
+    let mut z: u128 = 0;
+    for place in 0..32 {
+        let digit = (x >> (124 - 4 * place)) % 16;
+        z ^= factor.products[16 * place + digit as usize];
+    }
+    z
+}
+
+/// The byte at a place, or 0 past the end.
+fn at(bytes: &[u8], i: usize) -> u8
+    ensures { result ≡ slice_index bytes.now i }
+{
+    if i < bytes.len() { bytes[i] } else { 0 }
+}
+
+/// The first block, with zeros where the bytes end.
+fn block(bytes: &[u8]) -> u128
+    ensures { result ≡ block bytes.now }
+{
+    u128::from_be_bytes([
+        at(bytes, 0),
+        at(bytes, 1),
+        at(bytes, 2),
+        at(bytes, 3),
+        at(bytes, 4),
+        at(bytes, 5),
+        at(bytes, 6),
+        at(bytes, 7),
+        at(bytes, 8),
+        at(bytes, 9),
+        at(bytes, 10),
+        at(bytes, 11),
+        at(bytes, 12),
+        at(bytes, 13),
+        at(bytes, 14),
+        at(bytes, 15),
+    ])
+}
+
+/// The first 16 bytes, or all, and the rest.
+pub(crate) fn split_block(bytes: &[u8]) -> (&[u8], &[u8])
+    ensures front { result.0.now ≡ take 16 bytes.now }
+    ensures back { result.1.now ≡ drop 16 bytes.now }
+{
+    if bytes.len() < 16 {
+        bytes.split_at(bytes.len())
+    } else {
+        bytes.split_at(16)
+    }
+}
+
+/// The hash after these bytes.
+pub(crate) fn hash(factor: &Factor, start: u128, bytes: &[u8]) -> u128
+    ensures { result ≡ hash factor.now.block start bytes.now }
+{
+    let mut y = start;
+    let mut rest = bytes;
+    while 0 < rest.len() {
+        y = times(y ^ block(rest), factor);
+        let (_, back) = split_block(rest);
+        rest = back;
+    }
+    y
+}

@@ -1,0 +1,13 @@
+//! Laws of the definitions, apart from any code. Each is the contract of a function that does
+//! nothing.
+
+ghost use Rattle.std.specs.Prelude.{◌≡◌, List, ℕ};
+ghost use Rattle.memberlist_cipher.specs.Encryption.{Encryption, StreamEncryption};
+
+/// For one key and the same associated bytes, bytes are the encryption of one message.
+pub fn one_message()
+    ensures packet { (key associated bytes x y : List ℕ) → Encryption key associated bytes x
+        → Encryption key associated bytes y → x ≡ y }
+    ensures stream { (key label bytes x y : List ℕ) → StreamEncryption key label bytes x
+        → StreamEncryption key label bytes y → x ≡ y }
+{}

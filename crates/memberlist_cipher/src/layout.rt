@@ -1,0 +1,49 @@
+//! Encrypted bytes taken apart: a version, a nonce, the enciphered bytes and a tag.
+
+ghost use Rattle.std.specs.Prelude.{◌≡◌, ◌+◌, ◌<◌, ◌≤◌, ◌∷◌, ◌++◌, length, slice_index, IfOk, IfErr};
+ghost use Rattle.memberlist_cipher.specs.Refusal.{FormCause};
+
+use crate::CipherFault;
+
+/// Encrypted bytes taken apart.
+#[derive(Drop)]
+pub(crate) struct Parts<'a> {
+    pub(crate) version: u8,
+    pub(crate) nonce: &'a [u8],
+    pub(crate) inner: &'a [u8],
+    pub(crate) mark: &'a [u8],
+}
+
+/// The parts of encrypted bytes.
+///
+/// # Errors
+///
+/// `TooShort` where there are fewer than 29 bytes, `WrongVersion` where the first byte is above 1.
+pub(crate) fn parts_of(bytes: &[u8]) -> Result<Parts<'_>, CipherFault>
+    ensures nonce { IfOk result (λ parts. length parts.nonce.now ≡ 12) }
+    ensures mark { IfOk result (λ parts. length parts.mark.now ≡ 16) }
+    ensures size { IfOk result (λ parts. length parts.inner.now + 29 ≡ length bytes.now) }
+    ensures text { IfOk result (λ parts. bytes.now
+        ≡ parts.version ∷ (parts.nonce.now ++ (parts.inner.now ++ parts.mark.now))) }
+    ensures version { IfOk result (λ parts. parts.version < 2) }
+    ensures refuses { IfErr result (λ fault. FormCause fault bytes.now) }
+{
+    let Some((first, rest)) = bytes.split_first() else {
+        return Err(CipherFault::TooShort);
+    };
+    if rest.len() < 28 {
+        return Err(CipherFault::TooShort);
+    }
+    let version = *first;
+    if version > 1 {
+        return Err(CipherFault::WrongVersion);
+    }
+    let (nonce, body) = rest.split_at(12);
+    let (inner, mark) = body.split_at(body.len() - 16);
+    Ok(Parts {
+        version,
+        nonce,
+        inner,
+        mark,
+    })
+}

@@ -1,0 +1,39 @@
+//! What memberlist enciphers with its cluster's key, deciphered.
+//!
+//! | module | subject |
+//! |---|---|
+//! | `fault` | why bytes are refused |
+//! | `field` | bytes as polynomials, and the S-box |
+//! | `columns` | columns of a state, through the S-box and mixed |
+//! | `block` | AES on one block |
+//! | `schedule` | the words of a key |
+//! | `hashing` | the product and the hash of blocks |
+//! | `counting` | counter mode |
+//! | `tagging` | the tag |
+//! | `unpadding` | padding taken off |
+//! | `layout` | encrypted bytes taken apart |
+//! | `opening` | the message of a packet |
+//! | `stream` | the message of a stream |
+//! | `laws` | what holds of the definitions, apart from any code |
+#![tactic(auto)]
+
+mod block;
+mod columns;
+mod counting;
+mod fault;
+mod field;
+mod hashing;
+pub mod laws;
+mod layout;
+mod opening;
+mod schedule;
+mod stream;
+mod tagging;
+mod unpadding;
+
+pub use fault::CipherFault;
+pub use opening::decrypt;
+pub use stream::decrypt_stream;
+
+#[cfg(test)]
+mod tests;

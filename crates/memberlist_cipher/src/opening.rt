@@ -1,0 +1,102 @@
+//! The message of a packet.
+
+ghost use Rattle.std.specs.Prelude.{◌≡◌, ◌≢◌, ℕ, List, MatchBool, IfOk, IfErr};
+ghost use Rattle.memberlist_cipher.specs.declared.fault.CipherFault.TheVariants.{Memory};
+ghost use Rattle.memberlist_cipher.specs.Encryption.{IsKey, IsWithin, Encryption};
+ghost use Rattle.memberlist_cipher.specs.Refusal.{PacketCause};
+
+use crate::CipherFault;
+use crate::counting::ctr;
+use crate::layout::parts_of;
+use crate::schedule::round_keys;
+use crate::tagging::{is_same, tag};
+use crate::unpadding::unpadded;
+use std::alloc::Global;
+
+/// The greatest number of bytes: 2^36 - 32 of text (SP 800-38D, 5.2.1.1), and 29 more.
+const MOST_BYTES: usize = 0xf_ffff_fffd;
+
+/// The greatest number of associated bytes (SP 800-38D, 5.2.1.1).
+const MOST_ASSOCIATED: usize = 0x1fff_ffff_ffff_ffff;
+
+/// The message that encrypted bytes hold under the key, of 16, 24 or 32 bytes.
+///
+/// The bytes are those of a packet, without what stands before the version byte. The associated
+/// bytes are none where the cluster has no label, and else the label's.
+///
+/// # Errors
+///
+/// In this order: `BadKey`, `TooLong` (more than 2^36 - 3 bytes, or 2^61 associated ones and more),
+/// `TooShort` (fewer than 29 bytes), `WrongVersion` (the first byte is above 1), `WrongTag`,
+/// `BadPadding` (in version 0). `Memory` comes after `WrongVersion`, where a growth of memory is
+/// refused.
+///
+/// Source: memberlist's security.go, FIPS 197, SP 800-38D, and PKCS #7; the order is own.
+pub fn decrypt(
+    alloc: Global,
+    key: &[u8],
+    associated: &[u8],
+    bytes: &[u8],
+) -> Result<Vec<u8>, CipherFault>
+    ensures opens { IfOk result (λ message.
+        Encryption key.now associated.now bytes.now message.items) }
+    ensures refuses { IfErr result (λ fault. PacketCause fault key.now associated.now bytes.now) }
+    ensures lacks { IfErr result (λ fault. fault ≢ Memory → (message : List ℕ)
+        → ¬ Encryption key.now associated.now bytes.now message) }
+{
+    opened(alloc, key, associated, bytes)
+}
+
+fn opened(
+    alloc: Global,
+    key: &[u8],
+    associated: &[u8],
+    bytes: &[u8],
+) -> Result<Vec<u8>, CipherFault>
+    ensures opens { IfOk result (λ message.
+        Encryption key.now associated.now bytes.now message.items) }
+    ensures refuses { IfErr result (λ fault. PacketCause fault key.now associated.now bytes.now) }
+{
+    if !is_key(key) {
+        return Err(CipherFault::BadKey);
+    }
+    if !is_within(associated, bytes) {
+        return Err(CipherFault::TooLong);
+    }
+    let parts = parts_of(bytes)?;
+    let keys = round_keys(alloc, key)?;
+    let count = key.len() / 4 + 5;
+    let expected = tag(
+        alloc,
+        &keys.words,
+        count,
+        associated,
+        parts.nonce,
+        parts.inner,
+    )?;
+    if !is_same(parts.mark, &expected) {
+        return Err(CipherFault::WrongTag);
+    }
+    let text = ctr(alloc, &keys.words, count, parts.nonce, parts.inner)?;
+    if parts.version == 1 {
+        return Ok(text);
+    }
+    let message = unpadded(text)?;
+    Ok(message)
+}
+
+/// Whether a key has one of the three lengths.
+fn is_key(key: &[u8]) -> bool
+    ensures { MatchBool result (IsKey key.now) (¬ IsKey key.now) }
+{
+    let len = key.len();
+    len == 16 || len == 24 || len == 32
+}
+
+/// Whether the standard allows so many bytes.
+fn is_within(associated: &[u8], bytes: &[u8]) -> bool
+    ensures { MatchBool result (IsWithin associated.now bytes.now)
+        (¬ IsWithin associated.now bytes.now) }
+{
+    bytes.len() <= MOST_BYTES && associated.len() <= MOST_ASSOCIATED
+}

@@ -1,0 +1,88 @@
+//! The words that a key is expanded to, FIPS-197, 5.2.
+
+ghost use Rattle.std.specs.Prelude.{◌≡◌, ◌+◌, ◌*◌, ◌/◌, ◌%◌, ◌<◌, ◌≤◌, ◌⊎◌, length, replicate, IfOk};
+ghost use Rattle.memberlist_cipher.specs.Block.{word, added, next_word, schedule};
+ghost use Rattle.memberlist_cipher.specs.Encryption.{IsKey};
+
+use crate::field::{sub, x_to};
+use std::alloc::{AllocError, Global};
+
+/// What is added to the word a key's length before.
+fn added(key_words: usize, i: usize, t: [u8; 4]) -> [u8; 4]
+    requires key { (key_words ≡ 4) ⊎ (key_words ≡ 6) ⊎ (key_words ≡ 8) }
+    requires low { key_words ≤ i }
+    requires high { i < 60 }
+    ensures { result ≡ added key_words i t }
+{
+    let place = i % key_words;
+    if place == 0 {
+        let power = x_to(i / key_words - 1);
+        [sub(t[1]) ^ power, sub(t[2]), sub(t[3]), sub(t[0])]
+    } else if place == 4 {
+        if key_words > 6 {
+            [sub(t[0]), sub(t[1]), sub(t[2]), sub(t[3])]
+        } else {
+            t
+        }
+    } else {
+        t
+    }
+}
+
+/// The next word.
+fn next_word(key_words: usize, words: &[u8]) -> [u8; 4]
+    requires key { (key_words ≡ 4) ⊎ (key_words ≡ 6) ⊎ (key_words ≡ 8) }
+    requires low { 4 * key_words ≤ length words.now }
+    requires high { length words.now < 240 }
+    ensures { result ≡ next_word key_words words.now }
+{
+    let n = words.len();
+    let old = n - 4 * key_words;
+    let at = n - 4;
+    let last = [words[at], words[at + 1], words[at + 2], words[at + 3]];
+    let t = added(key_words, n / 4, last);
+    [
+        words[old] ^ t[0],
+        words[old + 1] ^ t[1],
+        words[old + 2] ^ t[2],
+        words[old + 3] ^ t[3],
+    ]
+}
+
+/// The words of a key. They are overwritten before their memory is given back.
+pub(crate) struct RoundKeys {
+    pub(crate) words: Vec<u8>,
+}
+
+impl Drop for RoundKeys {
+    fn drop(self) {
+        let RoundKeys { mut words } = self;
+        overwrite(&mut words);
+    }
+}
+
+/// Writes 0 over each byte.
+fn overwrite(bytes: &mut [u8])
+    ensures { bytes.new ≡ replicate (length bytes.old) 0 }
+{
+    bytes.fill(0);
+}
+
+/// All words of a key.
+pub(crate) fn round_keys(alloc: Global, key: &[u8]) -> Result<RoundKeys, AllocError>
+    requires { IsKey key.now }
+    ensures words { IfOk result (λ keys. keys.words.items ≡ schedule key.now) }
+    ensures size { IfOk result (λ keys.
+        length keys.words.items ≡ 112 + 16 * (length key.now / 4)) }
+{
+    let key_words = key.len() / 4;
+    let mut keys = RoundKeys {
+        words: Vec::with_capacity(alloc, 240)?,
+    };
+    keys.words.extend_from_slice(key)?;
+    for _ in 0..28 + 3 * key_words {
+        let next = next_word(key_words, &keys.words);
+        keys.words.extend_from_slice(&next)?;
+    }
+    Ok(keys)
+}

@@ -1,0 +1,86 @@
+//! The message of a stream.
+
+ghost use Rattle.std.specs.Prelude.{◌≡◌, ◌≢◌, ◌++◌, ◌≤◌, ◌*◌, ◌^◌, ℕ, List, length, IfOk, IfErr};
+ghost use Rattle.memberlist_cipher.specs.declared.fault.CipherFault.TheVariants.{Memory};
+ghost use Rattle.memberlist_cipher.specs.Encryption.{head, IsStream, StreamEncryption};
+ghost use Rattle.memberlist_cipher.specs.Refusal.{HeadCause, StreamCause};
+
+use crate::CipherFault;
+use crate::opening::decrypt;
+use std::alloc::Global;
+
+/// The greatest length that a stream may announce (own).
+const MOST_BYTES: usize = 268_435_456;
+
+/// The message of an encrypted stream: the byte 10, a length of four bytes, the highest first, and
+/// so many bytes as [`decrypt`] takes.
+///
+/// The stream's first five bytes are associated, and after them the label, which is empty where
+/// the cluster has none.
+///
+/// # Errors
+///
+/// In this order: `TooShort` (fewer than five bytes), `NotEncrypted` (the first is not 10),
+/// `TooLong` (a length above 268,435,456), `TooShort` (fewer bytes than announced), `Trailing`
+/// (more bytes than announced), and then as [`decrypt`]. `Memory` comes after `Trailing`, where a
+/// growth of memory is refused.
+///
+/// Source: memberlist's net.go and security.go; the limit and the order are own.
+pub fn decrypt_stream(
+    alloc: Global,
+    key: &[u8],
+    label: &[u8],
+    bytes: &[u8],
+) -> Result<Vec<u8>, CipherFault>
+    ensures opens { IfOk result (λ message.
+        StreamEncryption key.now label.now bytes.now message.items) }
+    ensures refuses { IfErr result (λ fault. StreamCause fault key.now label.now bytes.now) }
+    ensures lacks { IfErr result (λ fault. fault ≢ Memory → (message : List ℕ)
+        → ¬ StreamEncryption key.now label.now bytes.now message) }
+{
+    opened_stream(alloc, key, label, bytes)
+}
+
+fn opened_stream(
+    alloc: Global,
+    key: &[u8],
+    label: &[u8],
+    bytes: &[u8],
+) -> Result<Vec<u8>, CipherFault>
+    ensures opens { IfOk result (λ message.
+        StreamEncryption key.now label.now bytes.now message.items) }
+    ensures refuses { IfErr result (λ fault. StreamCause fault key.now label.now bytes.now) }
+{
+    let (head, inner) = stream_parts(bytes)?;
+    let mut associated = Vec::with_capacity(alloc, 5)?;
+    associated.extend_from_slice(head)?;
+    associated.extend_from_slice(label)?;
+    let message = decrypt(alloc, key, &associated, inner)?;
+    Ok(message)
+}
+
+/// A stream's head, and what follows it.
+fn stream_parts(bytes: &[u8]) -> Result<(&[u8], &[u8]), CipherFault>
+    ensures stream { IfOk result (λ parts. IsStream bytes.now parts.1.now) }
+    ensures head { IfOk result (λ parts. parts.0.now ≡ head (length parts.1.now)) }
+    ensures refuses { IfErr result (λ fault. HeadCause fault bytes.now) }
+{
+    if bytes.len() < 5 {
+        return Err(CipherFault::TooShort);
+    }
+    if bytes[0] != 10 {
+        return Err(CipherFault::NotEncrypted);
+    }
+    let announced = u32::from_be_bytes([bytes[1], bytes[2], bytes[3], bytes[4]]) as usize;
+    if announced > MOST_BYTES {
+        return Err(CipherFault::TooLong);
+    }
+    let (head, inner) = bytes.split_at(5);
+    if inner.len() < announced {
+        return Err(CipherFault::TooShort);
+    }
+    if inner.len() > announced {
+        return Err(CipherFault::Trailing);
+    }
+    Ok((head, inner))
+}

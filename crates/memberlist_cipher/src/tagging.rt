@@ -1,0 +1,42 @@
+//! The tag of enciphered bytes, SP 800-38D, 7.1.
+
+ghost use Rattle.std.specs.Prelude.{◌≡◌, ◌≢◌, ◌+◌, ◌*◌, ◌<◌, ◌≤◌, ◌^◌, length, MatchBool, IfOk};
+ghost use Rattle.memberlist_cipher.specs.Block.{cipher};
+ghost use Rattle.memberlist_cipher.specs.Gcm.{tag};
+
+use crate::block::{cipher, plus_key};
+use crate::counting::counter_block;
+use crate::hashing::{Factor, hash, times};
+use std::alloc::{AllocError, Global};
+
+/// The tag of enciphered bytes and associated ones.
+pub(crate) fn tag(
+    alloc: Global,
+    words: &[u8],
+    count: usize,
+    associated: &[u8],
+    nonce: &[u8],
+    inner: &[u8],
+) -> Result<[u8; 16], AllocError>
+    requires few { count < 14 }
+    requires words { 16 * count + 32 ≤ length words.now }
+    requires nonce { length nonce.now ≡ 12 }
+    requires associated { length associated.now < 2 ^ 61 }
+    requires inner { length inner.now < 2 ^ 36 }
+    ensures { IfOk result (λ mark.
+        mark ≡ tag (cipher words.now count) nonce.now associated.now inner.now) }
+{
+    let h = Factor::new(alloc, u128::from_be_bytes(cipher(words, count, [0u8; 16])))?;
+    let high = associated.len() as u128 * 8 * 0x1_0000_0000_0000_0000;
+    let lengths = high + inner.len() as u128 * 8;
+    let s = times(hash(&h, hash(&h, 0, associated), inner) ^ lengths, &h);
+    let mask = cipher(words, count, counter_block(nonce, 1));
+    Ok(plus_key(s.to_be_bytes(), &mask))
+}
+
+/// Whether the bytes are the same.
+pub(crate) fn is_same(a: &[u8], b: &[u8]) -> bool
+    ensures { MatchBool result (a.now ≡ b.now) (a.now ≢ b.now) }
+{
+    a == b
+}

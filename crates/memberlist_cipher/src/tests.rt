@@ -1,0 +1,90 @@
+//! What no clause says: the standards' vectors, real messages, and the texts of faults.
+
+use crate::{CipherFault, decrypt, decrypt_stream};
+use std::alloc::Global;
+use std::process::Abort;
+
+mod faults;
+mod messages;
+mod refusals;
+mod standards;
+
+/// Decrypts a packet. Where memory is refused the repeat does.
+fn open(
+    alloc: Global,
+    key: &[u8],
+    associated: &[u8],
+    bytes: &[u8],
+) -> Result<Vec<u8>, CipherFault> {
+    match decrypt(alloc, key, associated, bytes) {
+        Err(CipherFault::Memory) => decrypt(alloc, key, associated, bytes),
+        answer => answer,
+    }
+}
+
+/// Decrypts a stream. Where memory is refused the repeat does.
+fn open_stream(
+    alloc: Global,
+    key: &[u8],
+    label: &[u8],
+    bytes: &[u8],
+) -> Result<Vec<u8>, CipherFault> {
+    match decrypt_stream(alloc, key, label, bytes) {
+        Err(CipherFault::Memory) => decrypt_stream(alloc, key, label, bytes),
+        answer => answer,
+    }
+}
+
+/// That the packet holds this message.
+fn assert_opens(
+    rt: &impl Abort,
+    alloc: Global,
+    key: &[u8],
+    associated: &[u8],
+    bytes: &[u8],
+    message: &[u8],
+) -> Result<(), CipherFault> {
+    let answer = open(alloc, key, associated, bytes)?;
+    assert_eq!(rt; answer.as_slice(), message);
+    Ok(())
+}
+
+/// That the stream holds this message.
+fn assert_opens_stream(
+    rt: &impl Abort,
+    alloc: Global,
+    key: &[u8],
+    label: &[u8],
+    bytes: &[u8],
+    message: &[u8],
+) -> Result<(), CipherFault> {
+    let answer = open_stream(alloc, key, label, bytes)?;
+    assert_eq!(rt; answer.as_slice(), message);
+    Ok(())
+}
+
+/// That the packet is refused, and why.
+fn assert_refused(
+    rt: &impl Abort,
+    alloc: Global,
+    key: &[u8],
+    associated: &[u8],
+    bytes: &[u8],
+    fault: CipherFault,
+) {
+    let answer = open(alloc, key, associated, bytes).err();
+    assert_eq!(rt; answer, Some(fault), "{bytes:?}");
+}
+
+/// That the stream is refused, and why.
+fn assert_refused_stream(
+    rt: &impl Abort,
+    alloc: Global,
+    key: &[u8],
+    label: &[u8],
+    bytes: &[u8],
+    fault: CipherFault,
+) {
+    let answer = open_stream(alloc, key, label, bytes).err();
+    assert_eq!(rt; answer, Some(fault), "{bytes:?}");
+}

@@ -1,0 +1,64 @@
+//! The numbers and texts of faults.
+
+use crate::CipherFault;
+use std::alloc::{AllocError, Global};
+use std::process::Abort;
+use std::test::Fail;
+
+/// The text that is shown for it, tried once more where memory is refused.
+fn text_of(alloc: Global, fault: &CipherFault) -> Result<String, AllocError> {
+    match format!(in alloc; "{fault}") {
+        Err(_) => format!(in alloc; "{fault}"),
+        text => text,
+    }
+}
+
+fn assert_named(
+    rt: &impl Abort,
+    alloc: Global,
+    fault: &CipherFault,
+    number: u32,
+    text: &str,
+) -> Result<(), AllocError> {
+    assert_eq!(rt; fault.number(), number, "{fault}");
+    assert_eq!(rt; text_of(alloc, fault)?.as_str(), text);
+    Ok(())
+}
+
+#[test]
+fn each_fault_has_its_number_and_its_text(rt: HostRuntime) -> Result<(), Fail> {
+    for (fault, number, text) in [
+        (CipherFault::BadKey, 50, "a key has 16, 24 or 32 bytes"),
+        (CipherFault::TooLong, 51, "the encrypted bytes are too many"),
+        (
+            CipherFault::TooShort,
+            52,
+            "the encrypted bytes end too early",
+        ),
+        (
+            CipherFault::WrongVersion,
+            53,
+            "the version of encryption is neither 0 nor 1",
+        ),
+        (
+            CipherFault::WrongTag,
+            54,
+            "the tag is that of another key or of other bytes",
+        ),
+        (
+            CipherFault::BadPadding,
+            55,
+            "the decrypted bytes have no padding",
+        ),
+        (CipherFault::NotEncrypted, 56, "the stream is not encrypted"),
+        (
+            CipherFault::Trailing,
+            57,
+            "bytes follow the encrypted stream",
+        ),
+        (CipherFault::Memory, 58, "out of memory"),
+    ] {
+        assert_named(&rt, rt.alloc(), &fault, number, text)?;
+    }
+    Ok(())
+}

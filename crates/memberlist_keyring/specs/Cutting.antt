@@ -1,0 +1,32 @@
+-- How bytes are cut for the cipher, and why a keyring refuses them.
+use Rattle.std.specs.Prelude.{◌≡◌, ◌⊎◌, ℕ, List, [], ◌∷◌, ◌++◌}
+use Rattle.memberlist_cipher.specs.declared.fault.CipherFault.{CipherFault}
+use Rattle.memberlist_cipher.specs.declared.fault.CipherFault.TheVariants.{WrongTag}
+use Rattle.memberlist_keyring.specs.Opening.{IsLabelled}
+
+-- A label and what it labels. Bytes that begin as a label and are none are left whole, with no
+-- label: the cipher refuses their first byte.
+abbrev pub IsCut : List ℕ → List ℕ → List ℕ → Type 0
+IsCut bytes label rest =
+    IsLabelled bytes label rest
+    ⊎ ((label ≡ []) × (rest ≡ bytes) × ((l r : List ℕ) → ¬ IsLabelled bytes l r))
+
+-- The last of the keys is refused for this cause.
+pub record LastRefuses (Cause : CipherFault → List ℕ → Type 0) (keys : List (List ℕ))
+    (fault : CipherFault) : Type 0 where
+  pub before : List (List ℕ)
+  pub key : List ℕ
+  pub last : keys ≡ before ++ key ∷ []
+  pub cause : Cause fault key
+
+-- Of no keys the fault is a wrong tag, else that of the last one.
+abbrev pub IsFaultOfKeys : (CipherFault → List ℕ → Type 0) → List (List ℕ) → CipherFault → Type 0
+IsFaultOfKeys Cause keys fault = ((keys ≡ []) × (fault ≡ WrongTag)) ⊎ LastRefuses Cause keys fault
+
+-- the fault by which a keyring refuses the bytes, where the cipher has these causes
+pub record IsRefused (Cause : CipherFault → List ℕ → List ℕ → List ℕ → Type 0)
+    (keys : List (List ℕ)) (bytes : List ℕ) (fault : CipherFault) : Type 0 where
+  pub label : List ℕ
+  pub rest : List ℕ
+  pub cut : IsCut bytes label rest
+  pub is : IsFaultOfKeys (λ f key. Cause f key label rest) keys fault

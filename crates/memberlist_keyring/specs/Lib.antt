@@ -1,0 +1,4 @@
+pub mod Opening
+pub mod Cutting
+pub mod KeyFile
+pub mod Fault

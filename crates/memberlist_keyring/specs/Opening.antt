@@ -1,0 +1,54 @@
+-- What a keyring opens: a packet or a stream that was encrypted under one of its keys.
+use Rattle.std.specs.Prelude.{◌≡◌, ◌≢◌, ◌⊎◌, ℕ, ◌<◌, List, [], ◌∷◌, ◌++◌, length}
+use Rattle.std.specs.List.{Contains}
+use Rattle.memberlist_cipher.specs.Encryption.{Encryption, StreamEncryption}
+
+-- a label of one byte at least and what it labels, or no label (memberlist's label.go)
+abbrev pub IsLabelled : List ℕ → List ℕ → List ℕ → Type 0
+IsLabelled bytes label rest =
+    ((label ≡ []) × (bytes ≡ rest) × ((more : List ℕ) → bytes ≢ 244 ∷ more))
+    ⊎ ((0 < length label) × (bytes ≡ 244 ∷ length label ∷ label ++ rest))
+
+-- The packet is, behind its label, an encryption of this message under one of the keys; the label
+-- is associated.
+pub record Opens (keys : List (List ℕ)) (bytes message : List ℕ) : Type 0 where
+  pub label : List ℕ
+  pub rest : List ℕ
+  pub labelled : IsLabelled bytes label rest
+  pub key : List ℕ
+  pub ours : Contains keys key
+  pub encryption : Encryption key label rest message
+
+-- The stream is, behind its label, an encrypted stream with this message under one of the keys.
+pub record OpensStream (keys : List (List ℕ)) (bytes message : List ℕ) : Type 0 where
+  pub label : List ℕ
+  pub rest : List ℕ
+  pub labelled : IsLabelled bytes label rest
+  pub key : List ℕ
+  pub ours : Contains keys key
+  pub encryption : StreamEncryption key label rest message
+
+-- The message is that of the first of the keys that open it.
+pub record IsFirst (Opened : List ℕ → List ℕ → Type 0) (keys : List (List ℕ)) (message : List ℕ)
+    : Type 0 where
+  pub before : List (List ℕ)
+  pub key : List ℕ
+  pub after : List (List ℕ)
+  pub parts : keys ≡ before ++ key ∷ after
+  pub earlier : (k : List ℕ) → Contains before k → (m : List ℕ) → ¬ Opened k m
+  pub opened : Opened key message
+
+-- The packet is, behind its label, an encryption of this message under the first key under which it
+-- is one of any.
+pub record OpensFirst (keys : List (List ℕ)) (bytes message : List ℕ) : Type 0 where
+  pub label : List ℕ
+  pub rest : List ℕ
+  pub labelled : IsLabelled bytes label rest
+  pub first : IsFirst (λ key m. Encryption key label rest m) keys message
+
+-- the same of a stream
+pub record OpensStreamFirst (keys : List (List ℕ)) (bytes message : List ℕ) : Type 0 where
+  pub label : List ℕ
+  pub rest : List ℕ
+  pub labelled : IsLabelled bytes label rest
+  pub first : IsFirst (λ key m. StreamEncryption key label rest m) keys message

@@ -1,0 +1,144 @@
+//! The keys of a file.
+
+ghost use Rattle.std.specs.Prelude.{◌≡◌, ◌⊎◌, ◌∷◌, ◌++◌, [], ℕ, List, length, map, MatchBool, IfOk, IfErr, OnOk};
+ghost use Rattle.std.specs.Str.Lines.{strip_carriage_return};
+ghost use Rattle.serde_json.specs.Data.{Data};
+ghost use Rattle.serde_json.specs.View.{view};
+ghost use Rattle.memberlist_keyring.specs.KeyFile.{IsKeyText, LineHolds, lines_of, ItemHolds, HoldInOrder, IsBlank, IsListText, IsKeyFile, IsJsonList, ItemsCause, KeyFileCause};
+
+use crate::KeyFileFault;
+use crate::key::{Key, key_of};
+use serde_json::Value;
+use std::alloc::{AllocError, Global};
+
+/// The keys of a file.
+pub(crate) fn keys_of(alloc: Global, text: &[u8]) -> Result<Vec<Key>, KeyFileFault>
+    ensures ok { IfOk result (λ keys. IsKeyFile text.now keys.items) }
+    ensures err { IfErr result (λ fault. KeyFileCause fault text.now) }
+{
+    if is_list(text) {
+        keys_of_list(alloc, text)
+    } else {
+        keys_of_lines(alloc, text)
+    }
+}
+
+/// Whether the first byte that is not blank is `[`.
+fn is_list(text: &[u8]) -> bool
+    ensures { MatchBool result (IsListText text.now) (¬ IsListText text.now) }
+{
+    for byte in text {
+        if !is_blank(*byte) {
+            return *byte == b'[';
+        }
+    }
+    false
+}
+
+fn is_blank(byte: u8) -> bool
+    ensures { MatchBool result (IsBlank byte) (¬ IsBlank byte) }
+{
+    byte == b' ' || byte == b'\t' || byte == b'\n' || byte == b'\r'
+}
+
+/// The keys of lines.
+fn keys_of_lines(alloc: Global, text: &[u8]) -> Result<Vec<Key>, KeyFileFault>
+    requires { ¬ IsListText text.now }
+    ensures ok { IfOk result (λ keys. HoldInOrder LineHolds (lines_of text.now) keys.items) }
+    ensures err { IfErr result (λ fault. KeyFileCause fault text.now) }
+{
+    let lines = lines_of(alloc, text)?;
+    let mut keys = Vec::new(alloc);
+    for (i, line) in lines.iter().enumerate() {
+        if !add_line(alloc, &mut keys, line)? {
+            return Err(KeyFileFault::Line(i as u64 + 1));
+        }
+    }
+    Ok(keys)
+}
+
+/// What stands between line feeds.
+fn lines_of(alloc: Global, text: &[u8]) -> Result<Vec<&[u8]>, AllocError>
+    ensures { IfOk result (λ lines. map (λ line. line.now) lines.items ≡ lines_of text.now) }
+{
+    text.split(|byte| *byte == b'\n').collect(alloc)
+}
+
+/// Adds the key of a line, if it has one. Says whether the line may stand in a file.
+fn add_line(alloc: Global, keys: &mut Vec<Key>, line: &[u8]) -> Result<bool, AllocError>
+    ensures { IfOk result (λ good. MatchBool good
+        ((held : List (List ℕ)) × LineHolds line.now held
+        × (keys.new.items ≡ keys.old.items ++ held))
+        ((held : List (List ℕ)) → ¬ LineHolds line.now held)) }
+{
+    let content = content_of(line);
+    if content.is_empty() {
+        return Ok(true);
+    }
+    add_text(alloc, keys, content)
+}
+
+/// A line without a carriage return at its end.
+fn content_of(line: &[u8]) -> &[u8]
+    ensures { result.now ≡ strip_carriage_return line.now }
+{
+    let len = line.len();
+    if len > 0 && line[len - 1] == b'\r' {
+        &line[..len - 1]
+    } else {
+        line
+    }
+}
+
+/// Adds the key whose base64 the text is. Says whether it is that of a key.
+fn add_text(alloc: Global, keys: &mut Vec<Key>, text: &[u8]) -> Result<bool, AllocError>
+    ensures { IfOk result (λ good. MatchBool good
+        ((key : List ℕ) × IsKeyText text.now key × (keys.new.items ≡ keys.old.items ++ key ∷ []))
+        ((key : List ℕ) → ¬ IsKeyText text.now key)) }
+{
+    let Some(key) = key_of(alloc, text)? else {
+        return Ok(false);
+    };
+    keys.push(key)?;
+    Ok(true)
+}
+
+/// The keys of a list of texts in JSON.
+fn keys_of_list(alloc: Global, text: &[u8]) -> Result<Vec<Key>, KeyFileFault>
+    requires { IsListText text.now }
+    ensures ok { IfOk result (λ keys. (items : List Data) × IsJsonList text.now items
+        × HoldInOrder ItemHolds items keys.items) }
+    ensures err { IfErr result (λ fault. KeyFileCause fault text.now) }
+{
+    let value = match Value::from_slice(alloc, text) {
+        Ok(value) => value,
+        Err(error) => {
+            return Err(if error.is_memory() {
+                KeyFileFault::Memory
+            } else {
+                KeyFileFault::NotList
+            });
+        }
+    };
+    let Some(items) = value.as_array() else {
+        return Err(KeyFileFault::NotList);
+    };
+    keys_of_items(alloc, items)
+}
+
+/// The keys of the items of a list.
+fn keys_of_items(alloc: Global, items: &[Value]) -> Result<Vec<Key>, KeyFileFault>
+    ensures ok { IfOk result (λ keys. HoldInOrder ItemHolds (map view items.now) keys.items) }
+    ensures err { IfErr result (λ fault. ItemsCause fault (map view items.now)) }
+{
+    let mut keys = Vec::new(alloc);
+    for (i, item) in items.iter().enumerate() {
+        let Some(text) = item.as_str() else {
+            return Err(KeyFileFault::NotList);
+        };
+        if !add_text(alloc, &mut keys, text.as_bytes())? {
+            return Err(KeyFileFault::Item(i as u64 + 1));
+        }
+    }
+    Ok(keys)
+}

@@ -1,0 +1,41 @@
+//! What no clause says: packets and streams of a real memberlist, real key files, the texts of
+//! faults.
+
+mod key_files;
+mod opening;
+mod packets;
+
+use crate::{KeyFileFault, Keyring};
+use std::alloc::Global;
+use std::process::Abort;
+use std::test::Fail;
+
+/// A key of 16 bytes in base64.
+const KEY: &str = "EBceJSwzOkFIT1ZdZGtyeQ==";
+
+/// A key of 24 bytes.
+const KEY_24: &str = "GB8mLTQ7QklQV15lbHN6gYiPlp2kq7K5";
+
+/// A key of 32 bytes, as `consul keygen` prints one.
+const KEY_32: &str = "ICcuNTxDSlFYX2ZtdHuCiZCXnqWss7rByM/W3eTr8vk=";
+
+/// Another key, which nothing here is encrypted under.
+const OTHER: &str = "AAAAAAAAAAAAAAAAAAAAAA==";
+
+/// A keyring with the keys of this file.
+fn keyring(alloc: Global, text: &str) -> Result<Keyring, Fail> {
+    let mut keyring = Keyring::new(alloc);
+    keyring.add_file(alloc, text.as_bytes())?;
+    Ok(keyring)
+}
+
+/// Why a file is refused.
+fn refusal(rt: &impl Abort, alloc: Global, text: &[u8]) -> Result<KeyFileFault, Fail> {
+    let mut keyring = Keyring::new(alloc);
+    let answer = keyring.add_file(alloc, text);
+    match answer {
+        Ok(()) => panic!(rt; "{text:?} is a key file"),
+        Err(KeyFileFault::Memory) => Err(Fail::from(KeyFileFault::Memory)),
+        Err(fault) => Ok(fault),
+    }
+}

@@ -1,0 +1,2 @@
+pub mod DetailsOrder
+pub mod OverridingOrder

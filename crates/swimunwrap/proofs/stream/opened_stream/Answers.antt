@@ -1,0 +1,19 @@
+use Rattle.std.proofs.Common.{◌∙◌, inl, inr, ap, rules}
+use Rattle.std.proofs.lemmas.Result.{IfOk-weaker, IfErr-weaker}
+use Rattle.memberlist_keyring.specs.Opening.{OpensStreamFirst}
+use Rattle.swimunwrap.specs.Stream.{what_of_cipher}
+use Rattle.swimunwrap.proofs.stream.opened_stream.Goals as goal
+
+pub returns-in-Ok-clause-ok : goal.returns-in-Ok-clause-ok
+returns-in-Ok-clause-ok c =
+    let opens : OpensStreamFirst c.args.keys.now c.args.bytes.now c.deref.result.now = search rules in
+    IfOk-weaker c.clear_stream.result _ _ (λ stream h. (c.deref.result.now, opens, h)) c.clear_stream.ensures.ok
+
+pub returns-in-Ok-clause-err : goal.returns-in-Ok-clause-err
+returns-in-Ok-clause-err c =
+    let opens : OpensStreamFirst c.args.keys.now c.args.bytes.now c.deref.result.now = search rules in
+    IfErr-weaker c.clear_stream.result _ _ (λ what h seen. inr (c.deref.result.now, opens, h seen)) c.clear_stream.ensures.err
+
+pub returns-in-Err-clause-err : goal.returns-in-Err-clause-err
+returns-in-Err-clause-err c =
+    λ seen. inl (c.in-Err.fault, c.in-Err.ensures.lacks (λ memory. seen (c.what_of_cipher.ensures ∙ ap what_of_cipher memory)), c.what_of_cipher.ensures)

@@ -1,0 +1,47 @@
+//! The keys of a cluster, from files.
+
+use crate::NAME;
+use memberlist_keyring::{KeyFileFault, Keyring};
+use std::alloc::{AllocError, Global};
+use swim_program::{Failure, Place, read_file};
+
+/// The keys in the files that these words name, in the order of the words.
+pub(crate) fn keyring_of(rt: &HostRuntime, files: &[String]) -> Result<Keyring, Failure> {
+    let mut keys = Keyring::new(rt.alloc());
+    for (index, file) in files.iter().enumerate() {
+        match read_file(rt, file) {
+            Ok(text) => if let Err(fault) = keys.add_file(rt.alloc(), &text) {
+                return Err(refused(rt.alloc(), file, fault));
+            },
+            Err(what) => {
+                let report = what.at(Place::File(index));
+                return Err(Failure::refused(rt.alloc(), NAME, &report, files));
+            }
+        }
+    }
+    Ok(keys)
+}
+
+/// That the file holds something else than keys.
+fn refused(alloc: Global, file: &str, fault: KeyFileFault) -> Failure {
+    match refusal_text(alloc, file, fault) {
+        Ok(Some(text)) => Failure::Refused { text, status: 3 },
+        Ok(None) | Err(AllocError) => Failure::Memory,
+    }
+}
+
+/// What is said of it, or nothing for want of memory: `swimunwrap: keys: line 2: fault 50 BadKey`.
+fn refusal_text(
+    alloc: Global,
+    file: &str,
+    fault: KeyFileFault,
+) -> Result<Option<String>, AllocError> {
+    let place = match fault {
+        KeyFileFault::Line(line) => format!(in alloc; "line {line}")?,
+        KeyFileFault::Item(item) => format!(in alloc; "text {item}")?,
+        KeyFileFault::NotList => String::from_str(alloc, "no list of texts")?,
+        KeyFileFault::Memory => return Ok(None),
+    };
+    let number = fault.number();
+    Ok(Some(format!(in alloc; "{NAME}: {file}: {place}: fault {number} BadKey")?))
+}

@@ -1,0 +1,143 @@
+//! Lines and streams that are encrypted, as Go's crypto/aes and crypto/cipher make them.
+
+use super::ALIVE;
+use crate::cause::Cause;
+use crate::lines::{Unwrapped, unwrap_lines};
+use crate::stream::unwrap_stream;
+use memberlist_keyring::Keyring;
+use std::alloc::Global;
+use std::test::Fail;
+use swim_program::What;
+
+/// Keys of 32 and of 16 bytes, and one of 24 that encrypted nothing here.
+const KEY: &str = "AAECAwQFBgcICQoLDA0ODxAREhMUFRYXGBkaGxwdHh8=";
+
+const SHORT_KEY: &str = "AAECAwQFBgcICQoLDA0ODw==";
+
+const OTHER_KEY: &str = "AAAAAAAAAAAAAAAAAAAAAAAAAAAAAAAA";
+
+/// The alive packet of `a`, of version 1, and of version 0 with a checksum.
+const SEALED: &str =
+    "016e6f6e63652d6e756d6265723920ab3d76e6704b1981b2c4e261f17ba5fc3f130ff8cd1d66bc9156e844b4b8bc30546c509b67376ac0f3e39120cd22726524f5faf2fb12e1daac6fa1317d508d4045";
+
+const CHECKED: &str =
+    "006e6f6e63652d6e756d6265723104d7c79c86844b27e5d6b7ed579f18c525181c18f0d01d076cb55cf225b051972b51a955b4ac036013e68ade451c00cc148e03034937c255037e855d315851108c572b333ab9d627cd40d7d76be2b0";
+
+/// It under the shorter key, and behind the label `dc`.
+const UNDER_SHORT: &str =
+    "016e6f6e63652d6e756d626572d62f586cb009446992e8786c1632c2c323a22cf64ea01a22bee3d4e8e3717010a1b0fda184e7438d8f944447f16368d6ebe476091f0b427f97a3afc347b9d49f162ddd";
+
+const LABELLED: &str =
+    "f4026463016e6f6e63652d6e756d6265723920ab3d76e6704b1981b2c4e261f17ba5fc3f130ff8cd1d66bc9156e844b4b8bc30546c509b67376ac0f3e39120cd2272652423e554e1f10971feecd5feda8d3d8cea";
+
+/// An ack, and a byte that is no message.
+const ACK: &str =
+    "016e6f6e63652d6e756d6265723f24a82c73fb6e8007e572601a4dee56ab8fa711b76e5035cde6a87f9b0ce9d72705";
+
+const NOTHING: &str = "016e6f6e63652d6e756d6265723b0b56637d80325b1ad4163cc9c2cbef66";
+
+/// A stream of one member, compressed, of version 1, of version 0 behind the label `dc`, and an ack
+/// as a stream.
+const STREAM: &str =
+    "0a0000008a016e6f6e63652d6e756d6265723424ab3d7ee56defc5c3c7a39328c118c98273d79fdcb844a452e54adf83d880f2f39ac5d8d9a46d9882f3e4be038d72c12ad6e19daac821b704768d546f7528744183bc06243ddbc40f0850f3d22ed0ccbc18544e0bf4f3d866e25a87d491ec3e0f6ad1a8bdb2950829fc54ff7494c7c8bc2500a0d7a1ab4fc76b5a98";
+
+const LABELLED_STREAM: &str =
+    "f40264630a0000008d006e6f6e63652d6e756d6265723424ab3d7ee56defc5c3c7a39328c118c98273d79fdcb844a452e54adf83d880f2f39ac5d8d9a46d9882f3e4be038d72c12ad6e19daac821b704768d546f7528744183bc06243ddbc40f0850f3d22ed0ccbc18544e0bf4f3d866e25a87d491ec3e0f6ad1a8bdb2950829fc54ff7279587b06cbcd7b5e5c17e150c6feb935b8d1";
+
+const ACK_STREAM: &str =
+    "0a0000002f016e6f6e63652d6e756d6265723f24a82c73fb6e8007e572601a4dee56ab8f2b2c23af1a5a34fd34c8c1ce29aa11ed";
+
+/// The keys of a file of these lines.
+fn keyring(alloc: Global, text: &str) -> Result<Keyring, Fail> {
+    let mut keys = Keyring::new(alloc);
+    keys.add_file(alloc, text.as_bytes())?;
+    Ok(keys)
+}
+
+/// What becomes of a line, where what cannot be read is left out.
+fn unwrapped(alloc: Global, keys: &str, line: &str) -> Result<Unwrapped, Fail> {
+    let keys = keyring(alloc, keys)?;
+    Ok(unwrap_lines(alloc, &keys, line.as_bytes(), true)?)
+}
+
+#[test]
+fn what_a_key_opens_is_unwrapped(rt: HostRuntime) -> Result<(), Fail> {
+    for line in [SEALED, CHECKED, LABELLED, ALIVE] {
+        let unwrapped = unwrapped(rt.alloc(), KEY, line)?;
+        assert_eq!(rt; unwrapped.text(), ALIVE.as_bytes(), "{line}");
+    }
+    Ok(())
+}
+
+#[test]
+fn keys_are_tried_in_order(rt: HostRuntime) -> Result<(), Fail> {
+    let keys = format!(in rt.alloc(); "{OTHER_KEY}\n{SHORT_KEY}\n{KEY}\n")?;
+    for line in [SEALED, UNDER_SHORT] {
+        let unwrapped = unwrapped(rt.alloc(), &keys, line)?;
+        assert_eq!(rt; unwrapped.text(), ALIVE.as_bytes(), "{line}");
+    }
+    Ok(())
+}
+
+#[test]
+fn a_message_without_claims_is_an_empty_line_behind_its_key_too(
+    rt: HostRuntime,
+) -> Result<(), Fail> {
+    let unwrapped = unwrapped(rt.alloc(), KEY, ACK)?;
+    assert!(rt; unwrapped.text().is_empty());
+    assert!(rt; unwrapped.left_out().is_empty());
+    Ok(())
+}
+
+#[test]
+fn what_no_key_opens_is_left_out_by_its_cause(rt: HostRuntime) -> Result<(), Fail> {
+    for (keys, line, cause) in [
+        (OTHER_KEY, SEALED, Cause::NoKeyFits),
+        (KEY, UNDER_SHORT, Cause::NoKeyFits),
+        (KEY, "01ff", Cause::NoKeyFits),
+        (KEY, NOTHING, Cause::NoMessage(6)),
+        (KEY, "06", Cause::NoMessage(6)),
+        ("", SEALED, Cause::NoMessage(1)),
+        ("", CHECKED, Cause::NoMessage(0)),
+    ] {
+        let unwrapped = unwrapped(rt.alloc(), keys, line)?;
+        assert_eq!(rt; unwrapped.left_out(), [cause].as_slice(), "{line}");
+    }
+    Ok(())
+}
+
+/// The stream that this is under these keys.
+fn stream(alloc: Global, keys: &str, text: &str) -> Result<Result<Vec<u8>, What>, Fail> {
+    let keys = keyring(alloc, keys)?;
+    let bytes = hex::decode(alloc, text)?;
+    Ok(unwrap_stream(alloc, &keys, &bytes))
+}
+
+#[test]
+fn a_stream_that_a_key_opens_is_unwrapped(rt: HostRuntime) -> Result<(), Fail> {
+    let wanted =
+        "0683a44a6f696ec2a54e6f64657301ac5573657253746174654c656e0087a441646472a47f000001ab496e6361726e6174696f6e00a44d657461a0a44e616d65a161a4506f7274cd1f0aa5537461746500a356736ea0";
+    for text in [STREAM, LABELLED_STREAM] {
+        let stream = stream(rt.alloc(), KEY, text)??;
+        assert_eq!(rt; hex::encode(rt.alloc(), &stream)?.as_str(), wanted);
+    }
+    Ok(())
+}
+
+#[test]
+fn a_stream_that_no_key_opens_is_refused(rt: HostRuntime) -> Result<(), Fail> {
+    for (keys, text, number, found) in [
+        (OTHER_KEY, STREAM, 54, None),
+        ("", STREAM, 16, Some(10)),
+        (KEY, "0a000000", 52, None),
+        (KEY, "0a0000000000", 57, None),
+        (KEY, ACK_STREAM, 16, Some(2)),
+    ] {
+        match stream(rt.alloc(), keys, text)? {
+            Ok(_) => panic!(rt; "{text} is taken"),
+            Err(What::Memory) => return Err(Fail::from(What::Memory)),
+            Err(what) => assert_eq!(rt; what, What::Refused { number, found }, "{text}"),
+        }
+    }
+    Ok(())
+}
