@@ -4,7 +4,7 @@
 #                   build/libswimtab.a and, where there is a C compiler, build/libswimtab.so; some
 #                   15 minutes the first time
 #   make run        the listings of examples/packets.hex and examples/default-cluster.hex
-#   make test       the gate: every proof from nothing, and all tests; one to two hours
+#   make test       the gate: every proof from nothing, and all tests; some two hours
 #   make bench      what a record costs, by size and by order of the names; some minutes
 #   make install    copies what make built to PREFIX: the programs to bin, their pages to share/man/man1,
 #                   the library to lib, its header to include, and what pkg-config reads to
