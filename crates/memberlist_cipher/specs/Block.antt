@@ -34,7 +34,8 @@ scrambled s = shift_rows (map sub s)
 -- the state after the first key and n rounds (5.1)
 unfoldable pub rounds : List ℕ → ℕ → List ℕ → List ℕ
 rounds words zero s = plus_bytes s (round_key words 0)
-rounds words (suc n) s = plus_bytes (mix_columns (scrambled (rounds words n s))) (round_key words (suc n))
+rounds words (suc n) s =
+    plus_bytes (mix_columns (scrambled (rounds words n s))) (round_key words (suc n))
 
 -- n rounds, and the last one
 unfoldable pub cipher : List ℕ → ℕ → List ℕ → List ℕ

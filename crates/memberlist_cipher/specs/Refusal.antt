@@ -44,14 +44,16 @@ FormCause Memory bytes = ⊥
 abbrev pub PacketCause : CipherFault → List ℕ → List ℕ → List ℕ → Type 0
 PacketCause BadKey key associated bytes = ¬ IsKey key
 PacketCause TooLong key associated bytes = IsKey key × ¬ IsWithin associated bytes
-PacketCause TooShort key associated bytes = IsKey key × IsWithin associated bytes × (length bytes < 29)
+PacketCause TooShort key associated bytes =
+    IsKey key × IsWithin associated bytes × (length bytes < 29)
 PacketCause WrongVersion key associated bytes =
     IsKey key × IsWithin associated bytes × (29 ≤ length bytes) × (1 < slice_index bytes 0)
 PacketCause WrongTag key associated bytes =
-    IsKey key × IsWithin associated bytes × (l : PacketParts bytes) × ¬ IsTagged key associated bytes l
+    IsKey key × IsWithin associated bytes × (l : PacketParts bytes)
+    × ¬ IsTagged key associated bytes l
 PacketCause BadPadding key associated bytes =
-    IsKey key × IsWithin associated bytes × (l : PacketParts bytes) × IsTagged key associated bytes l
-    × (l.version ≡ 0) × IsUnpadded key bytes l
+    IsKey key × IsWithin associated bytes × (l : PacketParts bytes)
+    × IsTagged key associated bytes l × (l.version ≡ 0) × IsUnpadded key bytes l
 PacketCause Memory key associated bytes = IsKey key × IsWithin associated bytes × PacketParts bytes
 PacketCause NotEncrypted key associated bytes = ⊥
 PacketCause Trailing key associated bytes = ⊥

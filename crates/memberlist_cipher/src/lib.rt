@@ -32,7 +32,7 @@ mod tagging;
 mod unpadding;
 
 pub use fault::CipherFault;
-pub use opening::decrypt;
+pub use opening::{decrypt, is_key};
 pub use stream::decrypt_stream;
 
 #[cfg(test)]

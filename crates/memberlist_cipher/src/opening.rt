@@ -85,8 +85,8 @@ fn opened(
     Ok(message)
 }
 
-/// Whether a key has one of the three lengths.
-fn is_key(key: &[u8]) -> bool
+/// Whether bytes may be a key, that is, are 16, 24 or 32 (FIPS 197; memberlist's security.go).
+pub fn is_key(key: &[u8]) -> bool
     ensures { MatchBool result (IsKey key.now) (¬ IsKey key.now) }
 {
     let len = key.len();

@@ -5,6 +5,7 @@ use std::alloc::Global;
 use std::process::Abort;
 
 mod faults;
+mod keys;
 mod messages;
 mod refusals;
 mod standards;

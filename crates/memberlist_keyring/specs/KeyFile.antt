@@ -88,7 +88,8 @@ ItemsCause Memory items = Unit {0}
 
 -- why a file is refused
 abbrev pub KeyFileCause : KeyFileFault → List ℕ → Type 0
-KeyFileCause (Line number) text = ¬ IsListText text × IsFirstKeyless LineHolds (lines_of text) number
+KeyFileCause (Line number) text =
+    ¬ IsListText text × IsFirstKeyless LineHolds (lines_of text) number
 KeyFileCause (Item number) text =
     IsListText text × (items : List Data) × IsJsonList text items × IsWrongText items number
 KeyFileCause NotList text =

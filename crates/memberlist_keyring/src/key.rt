@@ -1,11 +1,11 @@
 //! A key, and its text.
 
-ghost use Rattle.std.specs.Prelude.{◌≡◌, ℕ, List, length, replicate, IfOk, MatchBool, MatchOption};
-ghost use Rattle.memberlist_cipher.specs.Encryption.{IsKey};
+ghost use Rattle.std.specs.Prelude.{◌≡◌, ℕ, List, length, replicate, IfOk, MatchOption};
 ghost use Rattle.memberlist_keyring.specs.KeyFile.{IsKeyText};
 
 use base64::DecodeAllocError;
 use base64::engine::general_purpose::STANDARD;
+use memberlist_cipher::is_key;
 use std::alloc::{AllocError, Global};
 use std::marker::Model;
 
@@ -60,12 +60,4 @@ pub(crate) fn key_of(alloc: Global, text: &[u8]) -> Result<Option<Key>, AllocErr
         Err(DecodeAllocError::DecodeError(_)) => Ok(None),
         Err(DecodeAllocError::OutOfMemory) => Err(AllocError),
     }
-}
-
-/// Whether a key may have so many bytes.
-fn is_key(bytes: &[u8]) -> bool
-    ensures { MatchBool result (IsKey bytes.now) (¬ IsKey bytes.now) }
-{
-    let len = bytes.len();
-    len == 16 || len == 24 || len == 32
 }

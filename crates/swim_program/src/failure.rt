@@ -3,6 +3,7 @@
 ghost use Rattle.std.specs.Prelude.{length};
 ghost use Rattle.swim_program.specs.Report.{IsAmong};
 
+use crate::report::OUT_OF_MEMORY;
 use crate::{Report, WordFault, report_text, status};
 use std::alloc::{AllocError, Global};
 use std::io;
@@ -70,7 +71,7 @@ impl Failure {
                 ExitCode::from(*status)
             }
             Failure::Memory => {
-                let _ = eprintln!(rt; "{program}: out of memory");
+                let _ = eprintln!(rt; "{program}: {OUT_OF_MEMORY}");
                 ExitCode::from(5)
             }
         }

@@ -173,6 +173,9 @@ impl From<SyncFault> for What {
     }
 }
 
+/// What is said where there was no memory.
+pub(crate) const OUT_OF_MEMORY: &str = "out of memory";
+
 /// The line for standard error that this program says, without its line feed. A file is named by
 /// its word among `files`. It is refused only where there is no memory for the text.
 pub fn report_text(
@@ -183,32 +186,28 @@ pub fn report_text(
 ) -> Result<String, AllocError>
     requires { IsAmong report.now.place (length files.now) }
 {
+    let what = match report.what {
+        What::Refused { number, found } => fault_text(alloc, number, found)?,
+        What::Device => String::from_str(alloc, "device fault")?,
+        What::Memory => return format!(in alloc; "{program}: {OUT_OF_MEMORY}"),
+    };
     let place = match report.place {
-        _ if report.what == What::Memory => return out_of_memory(alloc, program),
         Place::Line(line) => format!(in alloc; "line {line}")?,
         Place::File(file) => files[file].clone()?,
         Place::Input => String::from_str(alloc, "input")?,
         Place::Output => String::from_str(alloc, "output")?,
         Place::Loop => String::from_str(alloc, "loop")?,
     };
-    match report.what {
-        What::Refused { number, found } => {
-            let name = fault_name(number);
-            match found {
-                Some(found) => format!(in alloc;
-                    "{program}: {place}: fault {number} {name} {found}"
-                ),
-                None => format!(in alloc; "{program}: {place}: fault {number} {name}"),
-            }
-        }
-        What::Device => format!(in alloc; "{program}: {place}: device fault"),
-        What::Memory => out_of_memory(alloc, program),
-    }
+    format!(in alloc; "{program}: {place}: {what}")
 }
 
-/// What is said where there was no memory.
-fn out_of_memory(alloc: Global, program: &str) -> Result<String, AllocError> {
-    format!(in alloc; "{program}: out of memory")
+/// What is said of a fault of this number, with the value that was found where it has one.
+fn fault_text(alloc: Global, number: u32, found: Option<u64>) -> Result<String, AllocError> {
+    let name = fault_name(number);
+    match found {
+        Some(found) => format!(in alloc; "fault {number} {name} {found}"),
+        None => format!(in alloc; "fault {number} {name}"),
+    }
 }
 
 /// The exit status of a run that was refused: 3 where the input is wrong, 4 where a file, a socket

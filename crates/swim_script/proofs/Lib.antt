@@ -1,4 +1,6 @@
+mod Packets
 mod ScriptLines
 pub mod ScriptNumbers
+pub mod ScriptOrder
 pub mod ScriptRun
 mod ScriptWords

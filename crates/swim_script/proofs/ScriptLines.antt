@@ -1,5 +1,5 @@
 -- The words of one line of a script, and what they say.
-use Rattle.std.proofs.Common.{None, ◌≡◌, ◌≢◌, ℕ, ◌<◌, ◌≤◌, ◌⊎◌, inl, inr, Bool, true, false, List, [], ◌∷◌, Ok, length, map, drop, get_or, codes, Bor, refl, sym, ap, subst, ◌∙◌, arith}
+use Rattle.std.proofs.Common.{None, ◌≡◌, ◌≢◌, ℕ, ◌<◌, ◌⊎◌, inl, inr, Bool, true, false, List, [], ◌∷◌, Ok, length, map, drop, get_or, codes, Bor, refl, sym, ap, subst, ◌∙◌, arith}
 use Rattle.std.proofs.lemmas.Bool.{false≢true}
 use Rattle.std.proofs.lemmas.Slice.Eq.{bytes_eq-Decides}
 use Rattle.std.specs.Str.{bytes_eq}
@@ -16,14 +16,14 @@ use Rattle.swim_program.specs.Report.{IsOfReading, what_of, what_of_hex}
 use Rattle.swim_sync.specs.declared.event.Event.{Event}
 use Rattle.swim_sync.specs.declared.event.Event.TheVariants.{Exchange, Half, Refute}
 use Rattle.swim_wire.specs.Packet.{PacketValue}
-use Rattle.swim_wire.specs.Texts.{PacketText, DatagramText}
-use Rattle.swim_wire.specs.Texts.PacketText.{alive, suspect, leave, confirm}
+use Rattle.swim_wire.specs.Texts.{DatagramText}
 use Rattle.swim_script.specs.declared.keyword.Keyword.{Keyword}
 use Rattle.swim_script.specs.declared.keyword.Keyword.TheVariants as key
 use Rattle.swim_script.specs.Script.{Start, Decimal, HexBytes, NodeNumber, NodeFields, NodeWords, HearsBytes, EventWords, LevelWords}
 use Rattle.swim_script.specs.Script.HearsBytes.{packet, compound}
 use Rattle.swim_script.specs.Script.EventWords.{hear, exchange, half, refute}
 use Rattle.swim_script.specs.ScriptReading.{OneNumber, SpellsNothing, TwoNumbers, word_of}
+use Rattle.swim_script.proofs.Packets.{one_packet}
 
 -- ---- fields by their places
 
@@ -83,28 +83,11 @@ one_bytes word bytes others (inr a) (inr b) = let same : Ok bytes ≡ Ok others 
 
 -- ---- what is heard
 
--- a packet does not begin with 7
-pub packet_first : (bytes : List ℕ) (p : PacketValue) → PacketText bytes p → get_or bytes 0 0 ≢ 7
-packet_first bytes p (alive m pairs e t n d v) seven = let bad : 4 ≡ 7 = sym (ap (λ b. get_or b 0 0) e) ∙ seven in absurd (omega (arith, bad))
-packet_first bytes p (suspect m pairs e t n v) seven = let bad : 3 ≡ 7 = sym (ap (λ b. get_or b 0 0) e) ∙ seven in absurd (omega (arith, bad))
-packet_first bytes p (leave m pairs e t n f v) seven = let bad : 5 ≡ 7 = sym (ap (λ b. get_or b 0 0) e) ∙ seven in absurd (omega (arith, bad))
-packet_first bytes p (confirm m pairs e t n f v) seven = let bad : 5 ≡ 7 = sym (ap (λ b. get_or b 0 0) e) ∙ seven in absurd (omega (arith, bad))
-
--- what begins with 7 and is no datagram is not heard
-pub no_compound : (k : ℕ) (bytes : List ℕ) → get_or bytes 0 0 ≡ 7 →
-    ((packets : List PacketValue) → ¬ DatagramText bytes packets) → (event : Event) → ¬ HearsBytes k bytes event
-no_compound k bytes seven none event (packet p t e) = packet_first bytes p t seven
-no_compound k bytes seven none event (compound body packets b t e) = none packets t
-
--- what does not begin with 7 and is no packet is not heard
-pub no_packet : (k : ℕ) (bytes : List ℕ) → get_or bytes 0 0 ≢ 7 → ((p : PacketValue) → ¬ PacketText bytes p) → (event : Event) → ¬ HearsBytes k bytes event
-no_packet k bytes other none event (packet p t e) = none p t
-no_packet k bytes other none event (compound body packets b t e) = other (ap (λ l. get_or l 0 0) b)
-
--- what begins with 7
-pub seven_first : (bytes : List ℕ) → 1 ≤ length bytes → get_or bytes 0 0 ≡ 7 → bytes ≡ 7 ∷ drop 1 bytes
-seven_first [] l e = absurd (omega (arith, l))
-seven_first (first ∷ body) l e = ap (λ b. b ∷ body) e
+-- what is no datagram is not heard
+pub not_heard : (k : ℕ) (bytes : List ℕ) → ((packets : List PacketValue) → ¬ DatagramText bytes packets) → (event : Event)
+    → ¬ HearsBytes k bytes event
+not_heard k bytes none event (packet p t e) = none (p ∷ []) (one_packet bytes p t)
+not_heard k bytes none event (compound body packets b t e) = none packets t
 
 -- ---- a node
 
@@ -123,11 +106,6 @@ details_told name addr port meta vsn inc start a p m v own one two three four =
     let with_meta : start.details ≡ record { addr = a; port = p; meta = m; vsn = start.details.vsn } =
     with_port ∙ ap (λ x. record { addr = a; port = p; meta = x; vsn = start.details.vsn }) g in
     with_meta ∙ ap (λ x. record { addr = a; port = p; meta = m; vsn = x }) h
-
--- what is empty does not begin with 7
-pub none_first : (bytes : List ℕ) → length bytes < 1 → get_or bytes 0 0 ≢ 7
-none_first [] l e = absurd (omega (arith, e))
-none_first (first ∷ body) l e = absurd (omega (arith, l))
 
 -- ---- an event
 

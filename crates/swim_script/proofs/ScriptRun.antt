@@ -1,5 +1,5 @@
 -- What was read of a script, line by line.
-use Rattle.std.proofs.Common.{◌≡◌, ◌≢◌, ℕ, zero, suc, ◌+◌, ◌<◌, ◌≤◌, ◌⊎◌, inl, inr, Bool, true, false, List, [], ◌∷◌, ◌++◌, Option, Some, None, is_some, length, map, take, drop, get_or, Bor, refl, sym, ap, ap₂, subst, ◌∙◌, append_assoc, append-nil, eqb-true, ne_eqb, arith}
+use Rattle.std.proofs.Common.{◌≡◌, ◌≢◌, ℕ, zero, suc, ◌+◌, ◌<◌, ◌≤◌, Bool, true, false, List, [], ◌∷◌, ◌++◌, Option, Some, None, is_some, length, map, take, drop, get_or, Bor, refl, sym, ap, ap₂, subst, ◌∙◌, append_assoc, append-nil, eqb-true, ne_eqb, arith}
 use Rattle.std.proofs.lemmas.List.Splits.{length-slice_split}
 use Rattle.std.proofs.lemmas.List.Sums.{count_by-le-length}
 use Rattle.std.proofs.lemmas.List.FromFn.{length-enumerate_from, get_or-enumerate_from}
@@ -17,68 +17,7 @@ use Rattle.swim_program.specs.Lines.{input_lines}
 use Rattle.swim_program.specs.declared.report.Place.{Place}
 use Rattle.swim_program.specs.declared.report.Place.TheVariants as place
 use Rattle.swim_script.specs.ScriptReading.{Adds, SpellsLine, SpellsNothing, IsOutOfPlace, plan_events}
-use Rattle.swim_script.proofs.ScriptLines.{node_first, level_first, node_no_level, event_first_other}
-
--- ---- what may still follow, without what it says
-
--- lines of nodes where they may come, then lines of events, then `level`, unless that came
-abbrev pub Follows : Bool → Bool → List (List ℕ) → Type 0
-Follows nodes ended [] = Unit {0}
-Follows nodes ended (line ∷ lines) =
-    (ended ≡ false)
-    × (((nodes ≡ true) × ((start : Start) × NodeWords (words line) start) × Follows true false lines)
-    ⊎ ((((event : Event) × EventWords (words line) event) × Follows false false lines)
-    ⊎ (LevelWords (words line) × Follows false true lines)))
-
-follows_last : (nodes : Bool) (count : ℕ) (last : List (List ℕ)) (levelled : List Event) → LastLine count last levelled → Follows nodes false last
-follows_last nodes count [] levelled own = tt
-follows_last nodes count (line ∷ lines) levelled own = (refl, inr (inr (own.0, subst (Follows false true) (sym own.1) tt)))
-
-follows_events : (nodes : Bool) (count : ℕ) (lines last : List (List ℕ)) (told levelled : List Event) → EventLines lines told
-    → LastLine count last levelled → Follows nodes false (lines ++ last)
-follows_events nodes count [] last told levelled each own = follows_last nodes count last levelled own
-follows_events nodes count (line ∷ lines) last told levelled each own =
-    (refl, inr (inl ((each.0, each.2), follows_events false count lines last each.1 levelled each.3 own)))
-
-follows_nodes : (count : ℕ) (first lines last : List (List ℕ)) (starts : List Start) (told levelled : List Event)
-    → NodeLines first starts → EventLines lines told → LastLine count last levelled
-    → Follows true false (first ++ (lines ++ last))
-follows_nodes count [] lines last starts told levelled nodes each own = follows_events true count lines last told levelled each own
-follows_nodes count (line ∷ first) lines last starts told levelled nodes each own =
-    (refl, inl (refl, (nodes.0, nodes.2), follows_nodes count first lines last nodes.1 told levelled nodes.3 each own))
-
--- a script is lines that may follow from the start on
-script_follows : (lines : List (List ℕ)) (starts : List Start) (events : List Event) → ScriptOf lines starts events → Follows true false (script_lines lines)
-script_follows lines starts events script =
-    subst (Follows true false) (sym (script.lines ∙ append_assoc script.node_lines script.event_lines script.last))
-    (follows_nodes (length starts) script.node_lines script.event_lines script.last starts script.told script.levelled script.nodes script.each script.ends)
-
--- after a line of a node the same may follow
-after_node : (nodes ended : Bool) (line : List ℕ) (lines : List (List ℕ)) (start : Start) → NodeWords (words line) start
-    → Follows nodes ended (line ∷ lines) → Follows true false lines
-after_node nodes ended line lines start own (e, inl h) = h.2
-after_node nodes ended line lines start own (e, inr (inl h)) = absurd ((event_first_other (words line) h.0.0 h.0.1).0 (node_first (words line) start own))
-after_node nodes ended line lines start own (e, inr (inr h)) = absurd (node_no_level (words line) start own h.0)
-
--- after a line of an event no node may follow
-after_event : (nodes ended : Bool) (line : List ℕ) (lines : List (List ℕ)) (event : Event) → EventWords (words line) event
-    → Follows nodes ended (line ∷ lines) → Follows false false lines
-after_event nodes ended line lines event own (e, inl h) = absurd ((event_first_other (words line) event own).0 (node_first (words line) h.1.0 h.1.1))
-after_event nodes ended line lines event own (e, inr (inl h)) = h.1
-after_event nodes ended line lines event own (e, inr (inr h)) = absurd ((event_first_other (words line) event own).1 (level_first (words line) h.0))
-
--- after `level` nothing may follow
-after_level : (nodes ended : Bool) (line : List ℕ) (lines : List (List ℕ)) → LevelWords (words line) → Follows nodes ended
-    (line ∷ lines) → Follows false true lines
-after_level nodes ended line lines own (e, inl h) = absurd (node_no_level (words line) h.1.0 h.1.1 own)
-after_level nodes ended line lines own (e, inr (inl h)) = absurd ((event_first_other (words line) h.0.0 h.0.1).1 (level_first (words line) own))
-after_level nodes ended line lines own (e, inr (inr h)) = h.1
-
--- a line that says nothing does not follow
-nothing_follows : (nodes ended : Bool) (line : List ℕ) (lines : List (List ℕ)) → SpellsNothing nodes (words line) → ¬ Follows nodes ended (line ∷ lines)
-nothing_follows nodes ended line lines none (e, inl h) = none.node h.0 h.1.0 h.1.1
-nothing_follows nodes ended line lines none (e, inr (inl h)) = none.event h.0.0 h.0.1
-nothing_follows nodes ended line lines none (e, inr (inr h)) = none.level h.0
+use Rattle.swim_script.proofs.ScriptOrder.{Follows, script_follows, after_node, after_event, after_level, nothing_follows}
 
 -- ---- what was read so far
 

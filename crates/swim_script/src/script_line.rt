@@ -2,8 +2,6 @@
 
 ghost use Rattle.std.specs.Prelude.{◌≡◌, ◌≢◌, ◌∷◌, ℕ, List, map, codes, IfOk, IfErr};
 ghost use Rattle.swim_sync.specs.declared.event.Event.{Event};
-ghost use Rattle.swim_wire.specs.Packet.{PacketValue};
-ghost use Rattle.swim_wire.specs.Texts.{DatagramText};
 ghost use Rattle.swim_program.specs.Report.{IsOfReading};
 ghost use Rattle.swim_script.specs.Script.{Start, IsStarted, NodeWords, EventWords, HearsBytes, NodeNumber, words};
 ghost use Rattle.swim_script.specs.ScriptReading.{OneNumber, SpellsLine, SpellsNothing, TwoNumbers, word_of};
@@ -15,10 +13,7 @@ use swim_claim::{Details, Name};
 use swim_program::{What, into_claims};
 use swim_sync::{Claims, Event};
 use swim_table::Node;
-use swim_wire::{decode_datagram, decode_packet};
-
-/// The first byte of a compound packet (memberlist's `compoundMsg`).
-const COMPOUND: u8 = 7;
+use swim_wire::Datagram;
 
 /// The greatest port.
 const MOST_PORT: u64 = 65_535;
@@ -127,32 +122,23 @@ fn read_hear(alloc: Global, fields: &[&[u8]]) -> Result<Event, What>
     };
     let node = node_number(node)?;
     let datagram = bytes_of(alloc, datagram)?;
-    heard(alloc, node, &datagram)
+    event_of_datagram(alloc, node, &datagram)
 }
 
 /// That a node hears the claim of a packet, or all the claims of a compound packet.
-fn heard(alloc: Global, node: usize, datagram: &[u8]) -> Result<Event, What>
+fn event_of_datagram(alloc: Global, node: usize, datagram: &[u8]) -> Result<Event, What>
     ensures reads { IfOk result (HearsBytes node datagram.now) }
     ensures refuses { IfErr result (λ what. what ≢ What.Memory
         → (event : Event) → ¬ HearsBytes node datagram.now event) }
     ensures kind { IfErr result IsOfReading }
 {
-    match datagram {
-        [COMPOUND, ..] => Ok(Event::HearAll(node, claims_of(alloc, datagram)?)),
-        _ => Ok(Event::Hear(node, decode_packet(alloc, datagram)?.into_claim())),
+    match Datagram::decode(alloc, datagram)? {
+        Datagram::Packet(packet) => Ok(Event::Hear(node, packet.into_claim())),
+        Datagram::Compound(packets) => {
+            let claims = into_claims(alloc, packets)?;
+            Ok(Event::HearAll(node, Claims::new(claims)))
+        }
     }
-}
-
-/// The claims of the packets of a datagram.
-fn claims_of(alloc: Global, datagram: &[u8]) -> Result<Claims, What>
-    ensures reads { IfOk result (λ claims. (packets : List PacketValue)
-        × DatagramText datagram.now packets × (claims ≡ map (λ p. p.claim) packets)) }
-    ensures refuses { IfErr result (λ what. what ≢ What.Memory
-        → (packets : List PacketValue) → ¬ DatagramText datagram.now packets) }
-    ensures kind { IfErr result IsOfReading }
-{
-    let packets = decode_datagram(alloc, datagram)?;
-    Ok(Claims::new(into_claims(alloc, packets)?))
 }
 
 /// The numbers of two nodes, which are all the fields.

@@ -2,7 +2,7 @@
 
 ghost use Rattle.std.specs.Prelude.{◌≡◌, ◌≢◌, ◌≤◌, ◌++◌, ◌⊎◌, ℕ, [], Bool, List, length, IfOk, IfErr, IsErrOf};
 ghost use Rattle.swim_claim.specs.declared.claim.Claim.{Claim};
-ghost use Rattle.swim_pack.specs.Ends.{Takes, Lacks, Skips, Rises};
+ghost use Rattle.swim_pack.specs.Ends.{Takes, Lacks, Draws, Rises};
 ghost use Rattle.swim_pack.specs.Composing.{UnlessFailed};
 ghost use Rattle.swim_wire.specs.declared.stream.Header.{Header};
 ghost use Rattle.swim_wire.specs.Checks.{ExplainsStart};
@@ -74,8 +74,7 @@ impl StreamReader {
         ensures no_memory { ¬ IsErrOf result WireFault.Memory }
         ensures fault { IsErrOf result WireFault.Fault
             → Rises (I.seen inlet.old).faults (I.seen inlet.new).faults }
-        ensures rest { Skips (I.seen inlet.old).coming (I.seen inlet.new).coming }
-        ensures faults_stay { (I.seen inlet.old).faults ≤ (I.seen inlet.new).faults }
+        ensures end { Draws (I.seen inlet.old) (I.seen inlet.new) }
     {
         let header = read_header(inlet)?;
         Ok(StreamReader {
@@ -128,8 +127,7 @@ impl StreamReader {
         ensures no_memory { self.left ≡ 0 → ¬ IsErrOf result WireFault.Memory }
         ensures fault { IsErrOf result WireFault.Fault
             → Rises (I.seen inlet.old).faults (I.seen inlet.new).faults }
-        ensures rest { Skips (I.seen inlet.old).coming (I.seen inlet.new).coming }
-        ensures faults_stay { (I.seen inlet.old).faults ≤ (I.seen inlet.new).faults }
+        ensures end { Draws (I.seen inlet.old) (I.seen inlet.new) }
     {
         let StreamReader {
             alloc,
@@ -175,8 +173,7 @@ pub fn read_stream<I: Inlet>(alloc: Global, inlet: &mut I) -> Result<(Table, boo
         ExplainsStart (ExplainsStream fault) (I.seen inlet.old)) }
     ensures fault { IsErrOf result WireFault.Fault
         → Rises (I.seen inlet.old).faults (I.seen inlet.new).faults }
-    ensures rest { Skips (I.seen inlet.old).coming (I.seen inlet.new).coming }
-    ensures faults_stay { (I.seen inlet.old).faults ≤ (I.seen inlet.new).faults }
+    ensures end { Draws (I.seen inlet.old) (I.seen inlet.new) }
 {
     let mut reader = StreamReader::begin(alloc, inlet)?;
     loop {

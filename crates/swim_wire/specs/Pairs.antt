@@ -49,7 +49,8 @@ IsShort (written.Flag f) = Unit {0}
 
 -- parts of details are
 abbrev pub AreShortParts : List ℕ → List ℕ → List ℕ → Type 0
-AreShortParts addr meta vsn = (length addr < 2 ^ 16) × (length meta < 2 ^ 16) × (length vsn < 2 ^ 16)
+AreShortParts addr meta vsn =
+    (length addr < 2 ^ 16) × (length meta < 2 ^ 16) × (length vsn < 2 ^ 16)
 
 -- memberlist's numbers of the states of members
 abbrev pub state_number : Kind → ℕ

@@ -37,6 +37,9 @@ pub use claimless::{Claimless, decode_claimless};
 pub use compression::decode_compression;
 pub use datagram::{Datagram, decode_datagram};
 pub use fault::WireFault;
+pub use message::{
+    ALIVE_MESSAGE, COMPOUND_MESSAGE, DEAD_MESSAGE, PUSH_PULL_MESSAGE, SUSPECT_MESSAGE,
+};
 pub use packet::{Packet, decode_packet};
 pub use stream::{Header, read_header, read_state};
 pub use user_state::skip_user;

@@ -10,19 +10,19 @@ use crate::map::{Values, flag, raw, uint};
 use std::alloc::Global;
 
 /// The first byte of a suspect message, as in memberlist's `net.go`.
-pub(crate) const SUSPECT_MESSAGE: u8 = 3;
+pub const SUSPECT_MESSAGE: u8 = 3;
 
 /// The first byte of an alive message.
-pub(crate) const ALIVE_MESSAGE: u8 = 4;
+pub const ALIVE_MESSAGE: u8 = 4;
 
 /// The first byte of a dead message.
-pub(crate) const DEAD_MESSAGE: u8 = 5;
+pub const DEAD_MESSAGE: u8 = 5;
 
 /// The first byte of a push/pull stream.
-pub(crate) const PUSH_PULL_MESSAGE: u8 = 6;
+pub const PUSH_PULL_MESSAGE: u8 = 6;
 
 /// The first byte of a compound packet.
-pub(crate) const COMPOUND_MESSAGE: u8 = 7;
+pub const COMPOUND_MESSAGE: u8 = 7;
 
 /// memberlist's `alive`.
 #[derive(Drop)]

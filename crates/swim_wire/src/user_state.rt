@@ -1,8 +1,8 @@
 //! The user state at the end of a push/pull stream.
 
-ghost use Rattle.std.specs.Prelude.{◌≡◌, ◌⊎◌, ◌≤◌, length, OnOk, IfErr, IsErrOf};
+ghost use Rattle.std.specs.Prelude.{◌≡◌, ◌⊎◌, length, OnOk, IfErr, IsErrOf};
 ghost use Rattle.swim_pack.specs.Composing.{UnlessFailed};
-ghost use Rattle.swim_pack.specs.Ends.{Takes, Lacks, Skips, Rises};
+ghost use Rattle.swim_pack.specs.Ends.{Takes, Lacks, Draws, Rises};
 ghost use Rattle.swim_wire.specs.Reading.{wire_cause};
 
 use crate::WireFault;
@@ -27,8 +27,7 @@ pub fn skip_user<I: Inlet>(inlet: &mut I, len: u32) -> Result<(), WireFault>
     ensures no_memory { ¬ IsErrOf result WireFault.Memory }
     ensures fault { IsErrOf result WireFault.Fault
         → Rises (I.seen inlet.old).faults (I.seen inlet.new).faults }
-    ensures rest { Skips (I.seen inlet.old).coming (I.seen inlet.new).coming }
-    ensures faults_stay { (I.seen inlet.old).faults ≤ (I.seen inlet.new).faults }
+    ensures end { Draws (I.seen inlet.old) (I.seen inlet.new) }
 {
     let mut piece = [0; 4096];
     let mut left = len as usize;

@@ -1,5 +1,5 @@
 -- The claims of the lines, one line after the other.
-use Rattle.std.proofs.Common.{◌≡◌, ℕ, ◌+◌, ◌<◌, List, [], ◌∷◌, ◌++◌, length, map, get_or, Result, Ok, Err, OnOk, IfErr, ◌≢◌, Bor, refl, sym, ap, ap₂, subst, ◌∙◌, take, length-take-le, append_assoc, append-nil, zero, suc, drop, arith}
+use Rattle.std.proofs.Common.{◌≡◌, ℕ, ◌+◌, ◌<◌, List, [], ◌∷◌, ◌++◌, length, map, get_or, Result, Ok, Err, OnOk, IfErr, ◌≢◌, refl, sym, ap, ap₂, subst, ◌∙◌, take, length-take-le, append_assoc, append-nil, zero, suc, drop, arith}
 use Rattle.std.specs.List.{enumerate_from}
 use Rattle.std.proofs.lemmas.List.FromFn.{length-enumerate_from, get_or-enumerate_from}
 use Rattle.hex.specs.Hex.{decode_of}

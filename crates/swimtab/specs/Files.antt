@@ -67,8 +67,8 @@ pub record IsFirstNoDump (files : List (List ℕ)) (k : ℕ) (what : What) : Typ
 pub data AreRefused (files : List (List ℕ)) (report : Report) : Type 0 where
   too_long : (k : ℕ) → IsFirstLong files k → report.place ≡ File k → report.what ≡ Refused 32 None
       → AreRefused files report
-  no_stream : (k : ℕ) → AreShortFiles files → IsFirstNoDump files k report.what → report.place ≡ File k
-      → AreRefused files report
+  no_stream : (k : ℕ) → AreShortFiles files → IsFirstNoDump files k report.what
+      → report.place ≡ File k → AreRefused files report
   memory : AreShortFiles files → report.what ≡ Memory → AreRefused files report
 
 -- the table of the claims of the files has more records than a dump

@@ -10,7 +10,9 @@ use memberlist_keyring::Keyring;
 use memberlist_wrap::{WrapFault, unwrap};
 use std::alloc::{AllocError, Global};
 use swim_program::without_return;
-use swim_wire::{WireFault, decode_claimless};
+use swim_wire::{
+    ALIVE_MESSAGE, COMPOUND_MESSAGE, DEAD_MESSAGE, SUSPECT_MESSAGE, WireFault, decode_claimless,
+};
 
 /// The most bytes of a line's message.
 const MESSAGE_LIMIT: usize = 1_048_576;
@@ -106,5 +108,8 @@ fn outcome_of_message(alloc: Global, message: &[u8]) -> Result<Outcome, AllocErr
 fn makes_claims(first: u8) -> bool
     ensures { IsTrue result ↔ ((first ≡ 3) ⊎ (first ≡ 4) ⊎ (first ≡ 5) ⊎ (first ≡ 7)) }
 {
-    matches!(first, 3 | 4 | 5 | 7)
+    matches!(
+        first,
+        SUSPECT_MESSAGE | ALIVE_MESSAGE | DEAD_MESSAGE | COMPOUND_MESSAGE
+    )
 }

@@ -12,10 +12,7 @@ use memberlist_keyring::Keyring;
 use memberlist_wrap::{WrapFault, unwrap};
 use std::alloc::Global;
 use swim_program::{BOUND, What};
-use swim_wire::WireFault;
-
-/// The first byte of a push/pull stream, as in memberlist's `net.go`.
-const PUSH_PULL: u8 = 6;
+use swim_wire::{PUSH_PULL_MESSAGE, WireFault};
 
 /// The first byte of an encrypted stream, as in memberlist's `net.go`.
 const ENCRYPTED: u8 = 10;
@@ -128,7 +125,7 @@ fn stream_of(message: Vec<u8>) -> Result<Vec<u8>, What>
         return Err(What::from(WireFault::Ended));
     };
     let found = *first;
-    if found == PUSH_PULL {
+    if found == PUSH_PULL_MESSAGE {
         Ok(message)
     } else {
         Err(What::from(WireFault::WrongType { found }))

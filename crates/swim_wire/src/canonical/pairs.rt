@@ -29,9 +29,10 @@ pub(crate) fn write_message(
         (out.new.items ≡ out.old.items ++ first ∷ map_text (pairs_of pairs.now)) }
     ensures refused { OnErr result (out.new.items ≡ out.old.items) }
 {
+    let before = out.len();
     out.extend_from_slice(&[first])?;
-    if write_map(out, pairs).is_err() {
-        out.pop();
+    if append_map(out, pairs).is_err() {
+        out.truncate(before);
         return Err(AllocError);
     }
     Ok(())

@@ -13,14 +13,14 @@ returns-in_err-datagram-clause-refuses c =
 pub returns-clause-reads : goal.returns-clause-reads
 returns-clause-reads c =
     let hex = subst (HexBytes _) (sym c.deref.ensures.value) c.in_ok-datagram.ensures.reads in
-    IfOk-weaker c.heard.result _ _
+    IfOk-weaker c.event_of_datagram.result _ _
     (λ event hears. hear_told c.args.fields.now _ _ _ event (omega (arith, c.in-len2.len_at_least, c.in-len2.len_below)) c.in_ok-node.ensures.reads hex hears)
-    c.heard.ensures.reads
+    c.event_of_datagram.ensures.reads
 
 pub returns-clause-refuses : goal.returns-clause-refuses
 returns-clause-refuses c =
     let hex = subst (HexBytes _) (sym c.deref.ensures.value) c.in_ok-datagram.ensures.reads in
-    IfErr-weaker c.heard.result _ _
+    IfErr-weaker c.event_of_datagram.result _ _
     (λ what none seen event. no_heard c.args.fields.now _ _ _ event (omega (arith, c.in-len2.len_at_least, c.in-len2.len_below))
     c.in_ok-node.ensures.reads hex (none seen event))
-    c.heard.ensures.refuses
+    c.event_of_datagram.ensures.refuses

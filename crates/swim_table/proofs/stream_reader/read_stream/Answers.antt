@@ -1,7 +1,6 @@
-use Rattle.std.proofs.Common.{◌++◌, arith}
-use Rattle.std.proofs.KnownBytes.{Consumes-trans}
 use Rattle.std.proofs.lemmas.Result.{err_from_is_err_and}
 use Rattle.swim_pack.proofs.Composing.{UnlessFailed-weaker}
+use Rattle.swim_pack.proofs.Ends.{Draws-trans}
 use Rattle.swim_wire.specs.Reading.{wire_cause}
 use Rattle.swim_table.proofs.Streams.{started, stepped, ended, none_wanted, step_explains}
 use Rattle.swim_table.proofs.stream_reader.read_stream.Goals as goal
@@ -11,8 +10,7 @@ loop-next-init g c =
     let begun = c.in_ok-reader.ensures in
     record {
       some = started (g.I.Inlet.seen c.args.inlet.now) (g.I.Inlet.seen c.begin.new.inlet) c.in_ok-reader.reader begun.takes begun.fresh;
-      rest = c.begin.ensures.rest;
-      faults = c.begin.ensures.faults_stay;
+      end = c.begin.ensures.end;
     }
 
 pub returns-in_err-next-clause-lacks : goal.returns-in_err-next-clause-lacks
@@ -29,31 +27,21 @@ returns-in_err-next-clause-explains g c =
     (step_explains c.in_err-next.field-0.0 (g.I.Inlet.seen c.args.inlet.now) (g.I.Inlet.seen c.loop-next.inlet)
     c.loop-next.reader c.loop-next.invariant.some c.in_err-next.ensures.explains)
 
-pub returns-in_err-next-clause-rest : goal.returns-in_err-next-clause-rest
-returns-in_err-next-clause-rest g c =
-    let before = c.loop-next.invariant.rest in
-    let after = c.step.ensures.rest in
-    (before.0 ++ after.0, Consumes-trans _ _ _ before.0 after.0 before.1 after.1)
+pub returns-in_err-next-clause-end : goal.returns-in_err-next-clause-end
+returns-in_err-next-clause-end g c = Draws-trans _ _ _ c.loop-next.invariant.end c.step.ensures.end
 
 pub loop-next-preserved : goal.loop-next-preserved
-loop-next-preserved g c =
-    let before = c.loop-next.invariant.rest in
-    let after = c.step.ensures.rest in
-    record {
-      some =
-          stepped (g.I.Inlet.seen c.args.inlet.now) (g.I.Inlet.seen c.loop-next.inlet) (g.I.Inlet.seen c.step.new.inlet)
-          c.loop-next.reader c.in-More.next c.loop-next.invariant.some (rw c.in-More.is at c.in_ok-next.ensures.takes);
-      rest = (before.0 ++ after.0, Consumes-trans _ _ _ before.0 after.0 before.1 after.1);
-      faults = let stay = c.loop-next.invariant.faults in let more = c.step.ensures.faults_stay in omega arith;
-    }
+loop-next-preserved g c = record {
+  some =
+      stepped (g.I.Inlet.seen c.args.inlet.now) (g.I.Inlet.seen c.loop-next.inlet) (g.I.Inlet.seen c.step.new.inlet)
+      c.loop-next.reader c.in-More.next c.loop-next.invariant.some (rw c.in-More.is at c.in_ok-next.ensures.takes);
+  end = Draws-trans _ _ _ c.loop-next.invariant.end c.step.ensures.end;
+}
 
 pub returns-in-End-clause-takes : goal.returns-in-End-clause-takes
 returns-in-End-clause-takes g c =
     ended (g.I.Inlet.seen c.args.inlet.now) (g.I.Inlet.seen c.loop-next.inlet) (g.I.Inlet.seen c.step.new.inlet)
     c.loop-next.reader c.in-End.table c.in-End.join c.loop-next.invariant.some (rw c.in-End.is at c.in_ok-next.ensures.takes)
 
-pub returns-in-End-clause-rest : goal.returns-in-End-clause-rest
-returns-in-End-clause-rest g c =
-    let before = c.loop-next.invariant.rest in
-    let after = c.step.ensures.rest in
-    (before.0 ++ after.0, Consumes-trans _ _ _ before.0 after.0 before.1 after.1)
+pub returns-in-End-clause-end : goal.returns-in-End-clause-end
+returns-in-End-clause-end g c = Draws-trans _ _ _ c.loop-next.invariant.end c.step.ensures.end

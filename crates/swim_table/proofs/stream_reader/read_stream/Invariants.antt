@@ -1,13 +1,11 @@
-use Rattle.std.proofs.Common.{◌≤◌}
-use Rattle.swim_pack.specs.Ends.{Skips}
+use Rattle.swim_pack.specs.Ends.{Draws}
 use Rattle.swim_table.proofs.Streams.{ReadSome}
 use Rattle.swim_table.proofs.stream_reader.read_stream.Given as goal
 
 abbrev pub invariant-loop-next : goal.invariant-loop-next
 invariant-loop-next g l = record {
   some : ReadSome (g.I.Inlet.seen l.fn.inlet) (g.I.Inlet.seen l.inlet) l.reader;
-  rest : Skips (g.I.Inlet.seen l.fn.inlet).coming (g.I.Inlet.seen l.inlet).coming;
-  faults : (g.I.Inlet.seen l.fn.inlet).faults ≤ (g.I.Inlet.seen l.inlet).faults;
+  end : Draws (g.I.Inlet.seen l.fn.inlet) (g.I.Inlet.seen l.inlet);
 }
 
 abbrev pub decreases-loop-next : goal.decreases-loop-next

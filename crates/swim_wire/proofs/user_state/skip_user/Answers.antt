@@ -1,6 +1,7 @@
 use Rattle.std.proofs.Common.{◌≡◌, ◌≤◌, ◌+◌, ◌-◌, ◌++◌, length, length-append, arith, rules}
 use Rattle.std.proofs.KnownBytes.{Consumes-trans}
 use Rattle.std.proofs.lemmas.Result.{err_from_is_err_and}
+use Rattle.swim_pack.specs.Ends.{Skips}
 use Rattle.swim_wire.proofs.UserState.{user_lacks}
 use Rattle.swim_wire.proofs.user_state.skip_user.Goals as goal
 
@@ -13,11 +14,15 @@ returns-in_err-pull-clause-lacks g c =
     (user_lacks (g.I.Inlet.seen c.args.inlet.now) (g.I.Inlet.seen c.loop-left.inlet) c.args.len c.loop-left.left
     c.min-size.result gone.0 c.in_err-pull.field-0.0 gone.1 gone.2 le (λ ended. search rules))
 
-pub returns-in_err-pull-clause-rest : goal.returns-in_err-pull-clause-rest
-returns-in_err-pull-clause-rest g c =
+pub returns-in_err-pull-clause-end : goal.returns-in_err-pull-clause-end
+returns-in_err-pull-clause-end g c =
     let gone = c.loop-left.invariant.dropped in
     let more = c.in_err-pull.ensures.refused in
-    (gone.0 ++ more.0, Consumes-trans _ _ _ gone.0 more.0 gone.1 more.1)
+    let stay = c.loop-left.invariant.faults in
+    let after = c.in_err-pull.ensures.faults_stay in
+    let taken : Skips (g.I.Inlet.seen c.args.inlet.now).coming (g.I.Inlet.seen c.pull.new.self).coming =
+    (gone.0 ++ more.0, Consumes-trans _ _ _ gone.0 more.0 gone.1 more.1) in
+    (taken, omega arith)
 
 pub loop-left-preserved : goal.loop-left-preserved
 loop-left-preserved g c =
