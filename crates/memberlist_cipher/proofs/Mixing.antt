@@ -138,7 +138,8 @@ unfolding four_xor
 four_small x y z w hx hy hz hw = xor_of_8 (bit_xor (bit_xor x y) z) w (xor_of_8 (bit_xor x y) z (xor_of_8 x y hx hy) hz) hw
 
 mixed : (a b c d : ℕ)
-    → four_xor (product 2 a) (product 3 b) c d ∷ four_xor a (product 2 b) (product 3 c) d ∷ four_xor a b (product 2 c) (product 3 d) ∷ four_xor (product 3 a) b c (product 2 d) ∷ []
+    → four_xor (product 2 a) (product 3 b) c d ∷ four_xor a (product 2 b) (product 3 c) d
+    ∷ four_xor a b (product 2 c) (product 3 d) ∷ four_xor (product 3 a) b c (product 2 d) ∷ []
     ≡ mix_columns (a ∷ b ∷ c ∷ d ∷ [])
 unfolding mix_columns mix four_xor
 mixed a b c d =

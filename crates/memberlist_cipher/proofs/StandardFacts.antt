@@ -13,7 +13,8 @@ product_vector = refl
 pub aes_128 : aes (0 ∷ 1 ∷ 2 ∷ 3 ∷ 4 ∷ 5 ∷ 6 ∷ 7 ∷ 8 ∷ 9 ∷ 10 ∷ 11 ∷ 12 ∷ 13 ∷ 14 ∷ 15 ∷ [])
     (0x00 ∷ 0x11 ∷ 0x22 ∷ 0x33 ∷ 0x44 ∷ 0x55 ∷ 0x66 ∷ 0x77 ∷ 0x88 ∷ 0x99 ∷ 0xaa ∷ 0xbb ∷ 0xcc ∷ 0xdd ∷ 0xee ∷ 0xff ∷ [])
     ≡ 0x69 ∷ 0xc4 ∷ 0xe0 ∷ 0xd8 ∷ 0x6a ∷ 0x7b ∷ 0x04 ∷ 0x30 ∷ 0xd8 ∷ 0xcd ∷ 0xb7 ∷ 0x80 ∷ 0x70 ∷ 0xb4 ∷ 0xc5 ∷ 0x5a ∷ []
-unfolding carryless modulo product inverse_up_to inverse affine_bit affine sub x_to plus_bytes shift_rows mix mix_columns round_key scrambled rounds cipher word turned added next_word expanded schedule aes
+unfolding carryless modulo product inverse_up_to inverse affine_bit affine sub x_to plus_bytes shift_rows
+    mix mix_columns round_key scrambled rounds cipher word turned added next_word expanded schedule aes
 aes_128 = refl
 
 -- FIPS-197, C.2
@@ -22,7 +23,8 @@ pub aes_192 : aes
     ∷ 0x12 ∷ 0x13 ∷ 0x14 ∷ 0x15 ∷ 0x16 ∷ 0x17 ∷ [])
     (0x00 ∷ 0x11 ∷ 0x22 ∷ 0x33 ∷ 0x44 ∷ 0x55 ∷ 0x66 ∷ 0x77 ∷ 0x88 ∷ 0x99 ∷ 0xaa ∷ 0xbb ∷ 0xcc ∷ 0xdd ∷ 0xee ∷ 0xff ∷ [])
     ≡ 0xdd ∷ 0xa9 ∷ 0x7c ∷ 0xa4 ∷ 0x86 ∷ 0x4c ∷ 0xdf ∷ 0xe0 ∷ 0x6e ∷ 0xaf ∷ 0x70 ∷ 0xa0 ∷ 0xec ∷ 0x0d ∷ 0x71 ∷ 0x91 ∷ []
-unfolding carryless modulo product inverse_up_to inverse affine_bit affine sub x_to plus_bytes shift_rows mix mix_columns round_key scrambled rounds cipher word turned added next_word expanded schedule aes
+unfolding carryless modulo product inverse_up_to inverse affine_bit affine sub x_to plus_bytes shift_rows
+    mix mix_columns round_key scrambled rounds cipher word turned added next_word expanded schedule aes
 aes_192 = refl
 
 -- FIPS-197, C.3
@@ -31,12 +33,15 @@ pub aes_256 : aes
     ∷ 0x12 ∷ 0x13 ∷ 0x14 ∷ 0x15 ∷ 0x16 ∷ 0x17 ∷ 0x18 ∷ 0x19 ∷ 0x1a ∷ 0x1b ∷ 0x1c ∷ 0x1d ∷ 0x1e ∷ 0x1f ∷ [])
     (0x00 ∷ 0x11 ∷ 0x22 ∷ 0x33 ∷ 0x44 ∷ 0x55 ∷ 0x66 ∷ 0x77 ∷ 0x88 ∷ 0x99 ∷ 0xaa ∷ 0xbb ∷ 0xcc ∷ 0xdd ∷ 0xee ∷ 0xff ∷ [])
     ≡ 0x8e ∷ 0xa2 ∷ 0xb7 ∷ 0xca ∷ 0x51 ∷ 0x67 ∷ 0x45 ∷ 0xbf ∷ 0xea ∷ 0xfc ∷ 0x49 ∷ 0x90 ∷ 0x4b ∷ 0x49 ∷ 0x60 ∷ 0x89 ∷ []
-unfolding carryless modulo product inverse_up_to inverse affine_bit affine sub x_to plus_bytes shift_rows mix mix_columns round_key scrambled rounds cipher word turned added next_word expanded schedule aes
+unfolding carryless modulo product inverse_up_to inverse affine_bit affine sub x_to plus_bytes shift_rows
+    mix mix_columns round_key scrambled rounds cipher word turned added next_word expanded schedule aes
 aes_256 = refl
 
 -- McGrew and Viega, test case 2
 pub gcm_2 : tag (aes (replicate 16 0)) (replicate 12 0) []
     (0x03 ∷ 0x88 ∷ 0xda ∷ 0xce ∷ 0x60 ∷ 0xb6 ∷ 0xa3 ∷ 0x92 ∷ 0xf3 ∷ 0x28 ∷ 0xc2 ∷ 0xb9 ∷ 0x71 ∷ 0xb2 ∷ 0xfe ∷ 0x78 ∷ [])
     ≡ 0xab ∷ 0x6e ∷ 0x47 ∷ 0xd4 ∷ 0x2c ∷ 0xec ∷ 0x13 ∷ 0xbd ∷ 0xf5 ∷ 0x3a ∷ 0x67 ∷ 0xb2 ∷ 0x12 ∷ 0x57 ∷ 0xbd ∷ 0xdf ∷ []
-unfolding carryless modulo product inverse_up_to inverse affine_bit affine sub x_to plus_bytes shift_rows mix mix_columns round_key scrambled rounds cipher word turned added next_word expanded schedule aes times_x steps block_product block blocks hashed hash counter_block lengths tag
+unfolding carryless modulo product inverse_up_to inverse affine_bit affine sub x_to plus_bytes shift_rows
+    mix mix_columns round_key scrambled rounds cipher word turned added next_word expanded schedule aes
+    times_x steps block_product block blocks hashed hash counter_block lengths tag
 gcm_2 = refl

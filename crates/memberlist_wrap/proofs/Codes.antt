@@ -2,7 +2,7 @@
 use Rattle.std.proofs.Common.{◌≡◌, ℕ, ◌+◌, ◌^◌, ◌<◌, ◌≤◌, List, [], ◌∷◌, ◌++◌, length, refl, sym, ap, subst, ◌∙◌, arith, append_assoc, inl, inr, get_or, drop, cond, ltb, Bool, true, false}
 use Rattle.std.proofs.lemmas.List.{append-nil, length-append, at_drop_more, get_or_default, drop_more}
 use Rattle.memberlist_wrap.specs.Bits.{bits, bits_of}
-use Rattle.memberlist_wrap.specs.Lzw.{NextCode, kept_words, width, StandsFor, ReadsCodes, Reaches}
+use Rattle.memberlist_wrap.specs.Lzw.{NextCode, kept_words, width, StandsFor, ReadsCodes, CodesGive}
 use Rattle.memberlist_wrap.specs.Lzw.StandsFor.{literal, again as repeated}
 use Rattle.memberlist_wrap.proofs.Polynomials.{length-bits}
 
@@ -32,14 +32,14 @@ Reads-then words (code ∷ codes) all out after rest codes' out' after' rest' fi
   )
 ]
 
-pub Reaches-start : (bytes : List ℕ) → Reaches bytes [] [] (bits_of bytes)
-Reaches-start bytes = record { codes = []; reads = (refl, refl, refl) }
+pub CodesGive-start : (bytes : List ℕ) → CodesGive bytes [] [] (bits_of bytes)
+CodesGive-start bytes = record { codes = []; reads = (refl, refl, refl) }
 
 -- a clear code more
-pub Reaches-clear : (bytes out : List ℕ) (words : List (List ℕ)) (rest more : List ℕ) (code : ℕ)
-    → Reaches bytes out words rest → NextCode words rest code more → code ≡ 256
-    → Reaches bytes out [] more
-Reaches-clear bytes out words rest more code reaches next clear = record {
+pub CodesGive-clear : (bytes out : List ℕ) (words : List (List ℕ)) (rest more : List ℕ) (code : ℕ)
+    → CodesGive bytes out words rest → NextCode words rest code more → code ≡ 256
+    → CodesGive bytes out [] more
+CodesGive-clear bytes out words rest more code reaches next clear = record {
   codes = reaches.codes ++ code ∷ [];
   reads =
       let P : List ℕ → Type 0 = λ o. ReadsCodes [] (reaches.codes ++ code ∷ []) (bits_of bytes) o [] more in
@@ -49,10 +49,10 @@ Reaches-clear bytes out words rest more code reaches next clear = record {
 }
 
 -- a word more
-pub Reaches-word : (bytes out : List ℕ) (words : List (List ℕ)) (rest more word : List ℕ) (code : ℕ)
-    → Reaches bytes out words rest → NextCode words rest code more → StandsFor words code word
-    → Reaches bytes (out ++ word) (kept_words words word) more
-Reaches-word bytes out words rest more word code reaches next stands = record {
+pub CodesGive-word : (bytes out : List ℕ) (words : List (List ℕ)) (rest more word : List ℕ) (code : ℕ)
+    → CodesGive bytes out words rest → NextCode words rest code more → StandsFor words code word
+    → CodesGive bytes (out ++ word) (kept_words words word) more
+CodesGive-word bytes out words rest more word code reaches next stands = record {
   codes = reaches.codes ++ code ∷ [];
   reads =
       Reads-then [] reaches.codes (bits_of bytes) out words rest (code ∷ []) word (kept_words words word) more reaches.reads

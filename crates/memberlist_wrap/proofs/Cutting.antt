@@ -6,7 +6,7 @@ use Rattle.std.proofs.lemmas.List.{append-nil, take_rest, get_or-take, drop-drop
 use Rattle.std.proofs.lemmas.Bool.{cases_lt}
 use Rattle.memberlist_wrap.specs.Lzw.{StandsFor}
 use Rattle.memberlist_wrap.specs.Lzw.StandsFor.{literal, again as repeated}
-use Rattle.memberlist_wrap.specs.Words.{next_start, cut, AreStarts, again}
+use Rattle.memberlist_wrap.specs.Words.{next_start, words_at, AreStarts, again}
 
 pub AreStarts-tail : (end s : ℕ) (r : List ℕ) → AreStarts end (s ∷ r) → AreStarts end r
 AreStarts-tail end s r are = record {
@@ -20,17 +20,17 @@ below_next end s (e ∷ r) are =
     let last = are.inside 1 (omega arith) in
     (are.ascending 0 (omega arith), omega arith)
 
-pub length-cut : (output starts : List ℕ) → length (cut output starts) ≡ length starts
-length-cut output [] = refl
-length-cut output (s ∷ r) = ap suc (length-cut output r)
+pub length-words_at : (output starts : List ℕ) → length (words_at output starts) ≡ length starts
+length-words_at output [] = refl
+length-words_at output (s ∷ r) = ap suc (length-words_at output r)
 
-pub concat_cut : (output : List ℕ) (s : ℕ) (r : List ℕ) → AreStarts (length output) (s ∷ r) → concat (cut output (s ∷ r)) ≡ drop s output
-concat_cut output s [] are = append-nil _ ∙ take_rest output s
-concat_cut output s (e ∷ r) are =
+pub concat_words_at : (output : List ℕ) (s : ℕ) (r : List ℕ) → AreStarts (length output) (s ∷ r) → concat (words_at output (s ∷ r)) ≡ drop s output
+concat_words_at output s [] are = append-nil _ ∙ take_rest output s
+concat_words_at output s (e ∷ r) are =
     let up = are.ascending 0 (omega arith) in
     let gap : s + (e - s) ≡ e = omega arith in
     ap (λ x. take (e - s) (drop s output) ++ x)
-    (concat_cut output e r (AreStarts-tail _ s (e ∷ r) are) ∙ ap (λ n. drop n output) (sym gap) ∙ sym (drop-drop (e - s) s output))
+    (concat_words_at output e r (AreStarts-tail _ s (e ∷ r) are) ∙ ap (λ n. drop n output) (sym gap) ∙ sym (drop-drop (e - s) s output))
     ∙ take-append-drop (e - s) (drop s output)
 
 part_grown : (output v : List ℕ) (s t : ℕ) → s ≤ t → t ≤ length output → take (t - s) (drop s (output ++ v)) ≡ take (t - s) (drop s output)
@@ -46,16 +46,17 @@ same_cons : (a b : List ℕ) (p q : List (List ℕ)) → a ≡ b → p ≡ q →
 same_cons a b p q e f = cc
 
 -- a word more
-pub cut_grown : (output v starts : List ℕ) → AreStarts (length output) starts → cut (output ++ v) (starts ++ length output ∷ []) ≡ cut output starts ++ v ∷ []
-cut_grown output v [] are =
+pub words_at_grown : (output v starts : List ℕ) → AreStarts (length output) starts
+    → words_at (output ++ v) (starts ++ length output ∷ []) ≡ words_at output starts ++ v ∷ []
+words_at_grown output v [] are =
     same_cons _ _ _ _
     (ap (take (length (output ++ v) - length output)) (drop_at output v (length output) refl) ∙ take_all _ v (omega (arith, length-append output v)))
     refl
-cut_grown output v (s ∷ r) are =
+words_at_grown output v (s ∷ r) are =
     let next = below_next (length output) s r are in
     same_cons _ _ _ _
     (ap (λ n. take (n - s) (drop s (output ++ v))) (next_grown output v r) ∙ part_grown output v s _ (omega (arith, next.0)) next.1)
-    (cut_grown output v r (AreStarts-tail _ s r are))
+    (words_at_grown output v r (AreStarts-tail _ s r are))
 
 pub AreStarts-grown : (end more : ℕ) (starts : List ℕ) → AreStarts end starts → end < more → AreStarts more (starts ++ end ∷ [])
 AreStarts-grown end more starts are up = record {
@@ -87,7 +88,7 @@ pub record WordAt (output starts : List ℕ) (place : ℕ) : Type 0 where
   pub before : List (List ℕ)
   pub old : List ℕ
   pub after : List (List ℕ)
-  pub parts : cut output starts ≡ before ++ old ∷ after
+  pub parts : words_at output starts ≡ before ++ old ∷ after
   pub place_is : length before ≡ place
   pub old_is : old ≡ take (next_start (length output) (drop (suc place) starts) - get_or starts place 0) (drop (get_or starts place 0) output)
   pub after_is : concat after ≡ drop (next_start (length output) (drop (suc place) starts)) output
@@ -100,11 +101,11 @@ word_at output (s ∷ e ∷ r) zero are within =
     record {
       before = [];
       old = _;
-      after = cut output (e ∷ r);
+      after = words_at output (e ∷ r);
       parts = refl;
       place_is = refl;
       old_is = refl;
-      after_is = concat_cut output e r (AreStarts-tail _ s (e ∷ r) are);
+      after_is = concat_words_at output e r (AreStarts-tail _ s (e ∷ r) are);
     }
 word_at output (s ∷ r) (suc place) are within =
     let w = word_at output r place (AreStarts-tail _ s r are) (omega arith) in
@@ -125,13 +126,13 @@ abbrev pub AreFull : List (List ℕ) → Type 0
 AreFull [] = ⊤
 AreFull (w ∷ ws) = (0 < length w) × AreFull ws
 
-pub AreFull-cut : (output starts : List ℕ) → AreStarts (length output) starts → AreFull (cut output starts)
-AreFull-cut output [] are = tt
-AreFull-cut output (s ∷ r) are =
+pub AreFull-words_at : (output starts : List ℕ) → AreStarts (length output) starts → AreFull (words_at output starts)
+AreFull-words_at output [] are = tt
+AreFull-words_at output (s ∷ r) are =
     let next = below_next (length output) s r are in
     let n = next_start (length output) r in (
       omega (arith, next.0, next.1, length-take (n - s) (drop s output), length-drop s output),
-      AreFull-cut output r (AreStarts-tail _ s r are),
+      AreFull-words_at output r (AreStarts-tail _ s r are),
     )
 
 full_at : (before : List (List ℕ)) (old : List ℕ) (after : List (List ℕ)) → AreFull (before ++ old ∷ after) → 0 < length old
@@ -200,7 +201,7 @@ next_byte output part to x within full is =
 
 -- the repeated part
 pub Stands-again : (output starts : List ℕ) (place : ℕ) → AreStarts (length output) starts → place < length starts
-    → StandsFor (cut output starts) (258 + place) (again output (get_or starts place 0) (next_start (length output) (drop (suc place) starts)))
+    → StandsFor (words_at output starts) (258 + place) (again output (get_or starts place 0) (next_start (length output) (drop (suc place) starts)))
 Stands-again output starts place are within =
     let w = word_at output starts place are within in
     let from = get_or starts place 0 in
@@ -269,30 +270,30 @@ AreFull-take (suc n) [] full = tt
 AreFull-take (suc n) (w ∷ words) full = (full.0, AreFull-take n words full.1)
 
 -- the words before the last do not change where more comes out
-cut_longer : (n : ℕ) (output v starts : List ℕ) → AreStarts (length output) starts → n < length starts → take n
-    (cut (output ++ v) starts) ≡ take n (cut output starts)
-cut_longer n output v [] are within = absurd (omega arith)
-cut_longer zero output v (s ∷ r) are within = refl
-cut_longer (suc n) output v (s ∷ []) are within = absurd (omega arith)
-cut_longer (suc n) output v (s ∷ e ∷ r) are within =
+words_at_longer : (n : ℕ) (output v starts : List ℕ) → AreStarts (length output) starts → n < length starts → take n
+    (words_at (output ++ v) starts) ≡ take n (words_at output starts)
+words_at_longer n output v [] are within = absurd (omega arith)
+words_at_longer zero output v (s ∷ r) are within = refl
+words_at_longer (suc n) output v (s ∷ []) are within = absurd (omega arith)
+words_at_longer (suc n) output v (s ∷ e ∷ r) are within =
     let up = are.ascending 0 (omega arith) in
     let last = are.inside 1 (omega arith) in
-    same_cons _ _ _ _ (part_grown output v s e (omega arith) (omega arith)) (cut_longer n output v (e ∷ r) (AreStarts-tail _ s (e ∷ r) are) (omega arith))
+    same_cons _ _ _ _ (part_grown output v s e (omega arith) (omega arith)) (words_at_longer n output v (e ∷ r) (AreStarts-tail _ s (e ∷ r) are) (omega arith))
 
 -- the words that are kept, once one more came out
-pub cut_kept : (n : ℕ) (output v starts : List ℕ) → AreStarts (length output) starts → length starts ≤ suc n
-    → take n (cut (output ++ v) (take (suc n) (starts ++ length output ∷ []))) ≡ take n (take n (cut output starts) ++ v ∷ [])
-cut_kept n output v starts are few = elim (cases_lt (length starts) (suc n)) [
+pub words_at_kept : (n : ℕ) (output v starts : List ℕ) → AreStarts (length output) starts → length starts ≤ suc n
+    → take n (words_at (output ++ v) (take (suc n) (starts ++ length output ∷ []))) ≡ take n (take n (words_at output starts) ++ v ∷ [])
+words_at_kept n output v starts are few = elim (cases_lt (length starts) (suc n)) [
   | inl room ↦
-      ap (λ s. take n (cut (output ++ v) s)) (take_all (suc n) (starts ++ length output ∷ []) (omega (arith, length-append starts (length output ∷ []))))
-      ∙ ap (take n) (cut_grown output v starts are)
-      ∙ ap (λ x. take n (x ++ v ∷ [])) (sym (take_all n (cut output starts) (omega (arith, length-cut output starts))))
+      ap (λ s. take n (words_at (output ++ v) s)) (take_all (suc n) (starts ++ length output ∷ []) (omega (arith, length-append starts (length output ∷ []))))
+      ∙ ap (take n) (words_at_grown output v starts are)
+      ∙ ap (λ x. take n (x ++ v ∷ [])) (sym (take_all n (words_at output starts) (omega (arith, length-words_at output starts))))
   | inr full ↦
-      ap (λ s. take n (cut (output ++ v) s)) (take-append-le (suc n) starts (length output ∷ []) full ∙ take_all (suc n) starts few)
-      ∙ cut_longer n output v starts are (omega arith)
+      ap (λ s. take n (words_at (output ++ v) s)) (take-append-le (suc n) starts (length output ∷ []) full ∙ take_all (suc n) starts few)
+      ∙ words_at_longer n output v starts are (omega arith)
       ∙ sym (
-      take-append-le n (take n (cut output starts)) (v ∷ []) (omega (arith, length-take n (cut output starts), length-cut output starts))
-      ∙ take_all n (take n (cut output starts)) (omega (arith, length-take n (cut output starts)))
+      take-append-le n (take n (words_at output starts)) (v ∷ []) (omega (arith, length-take n (words_at output starts), length-words_at output starts))
+      ∙ take_all n (take n (words_at output starts)) (omega (arith, length-take n (words_at output starts)))
       )
 ]
 
@@ -345,7 +346,7 @@ Stands-kept m words place word full room (repeated before old after p q r) =
 -- an earlier word once more, as the code finds it
 pub Stands-read : (m : ℕ) (out starts : List ℕ) (place from to : ℕ) → AreStarts (length out) starts → place < length starts
     → place + 2 ≤ m → ReadEnds out starts place from to
-    → StandsFor (take m (cut out starts)) (258 + place) (again out from to)
+    → StandsFor (take m (words_at out starts)) (258 + place) (again out from to)
 Stands-read m out starts place from to are inside room ends =
-    Stands-kept m (cut out starts) place (again out from to) (AreFull-cut out starts are) room
+    Stands-kept m (words_at out starts) place (again out from to) (AreFull-words_at out starts are) room
     (rw (ends.from_is, ends.to_is) (Stands-again out starts place are inside))

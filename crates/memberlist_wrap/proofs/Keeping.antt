@@ -3,8 +3,8 @@ use Rattle.std.proofs.Common.{◌≡◌, ℕ, ◌+◌, ◌<◌, ◌≤◌, inl, 
 use Rattle.std.proofs.lemmas.Bool.{cases_lt}
 use Rattle.std.proofs.lemmas.List.{length-append, length-take}
 use Rattle.memberlist_wrap.specs.Lzw.{kept_words, width}
-use Rattle.memberlist_wrap.specs.Words.{Made, made, cut, AreKept}
-use Rattle.memberlist_wrap.proofs.Cutting.{AreStarts-kept, AreStarts-longer, cut_kept, length-cut}
+use Rattle.memberlist_wrap.specs.Words.{Made, made, words_at, AreKept}
+use Rattle.memberlist_wrap.proofs.Cutting.{AreStarts-kept, AreStarts-longer, words_at_kept, length-words_at}
 
 abbrev of : List ℕ → List (List ℕ) → Made
 of output words = record { output = output; words = words }
@@ -15,7 +15,7 @@ pub made_kept : (output starts v output' starts' : List ℕ) (n : ℕ) (now : Ma
 made_kept output starts v output' starts' n now end seen are e f =
     ap (λ o. made o starts') e
     ∙ ap (λ s. made (output ++ v) s) (f ∙ ap (λ k. take 3840 (starts ++ k ∷ [])) end)
-    ∙ ap (λ ws. of (output ++ v) ws) (cut_kept 3839 output v starts are.0 are.1)
+    ∙ ap (λ ws. of (output ++ v) ws) (words_at_kept 3839 output v starts are.0 are.1)
     ∙ ap (λ (m : Made). of (m.output ++ v) (kept_words m.words v)) seen
 
 -- the places are kept
@@ -33,7 +33,12 @@ AreKept-longer end more starts starts' are up same = rw same (AreStarts-longer e
 
 -- how many words are seen
 pub few_words : (output starts : List ℕ) (now : Made) → made output starts ≡ now → length now.words ≤ length starts
-few_words output starts now seen = omega (arith, ap (λ (m : Made). length m.words) seen, length-take 3839 (cut output starts), length-cut output starts)
+few_words output starts now seen = omega (
+  arith,
+  ap (λ (m : Made). length m.words) seen,
+  length-take 3839 (words_at output starts),
+  length-words_at output starts,
+)
 
 width_most : (n : ℕ) → 3839 ≤ n → width n ≡ 12
 width_most n many =
@@ -45,11 +50,12 @@ width_most n many =
 -- a code is as wide behind all places as behind the words that are kept
 pub width_kept : (output starts : List ℕ) (now : Made) → made output starts ≡ now → width (length starts) ≡ width (length now.words)
 width_kept output starts now seen =
-    let size : length now.words ≡ length (take 3839 (cut output starts)) = ap (λ (m : Made). length m.words) (sym seen) in
-    let kept_size = length-take 3839 (cut output starts) in
-    let all = length-cut output starts in
+    let size : length now.words ≡ length (take 3839 (words_at output starts)) = ap (λ (m : Made). length m.words) (sym seen) in
+    let kept_size = length-take 3839 (words_at output starts) in
+    let all = length-words_at output starts in
     elim (cases_lt (length starts) 3840) [
       | inl few ↦ let same : length starts ≡ length now.words = omega arith in ap width same
       | inr many ↦
-          let most : length now.words ≡ 3839 = omega arith in width_most (length starts) (omega arith) ∙ sym (width_most 3839 (omega arith)) ∙ ap width (sym most)
+          let most : length now.words ≡ 3839 = omega arith in
+          width_most (length starts) (omega arith) ∙ sym (width_most 3839 (omega arith)) ∙ ap width (sym most)
     ]

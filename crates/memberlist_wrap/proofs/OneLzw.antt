@@ -5,7 +5,7 @@ use Rattle.memberlist_wrap.specs.Bits.{bits, bits_of}
 use Rattle.memberlist_wrap.specs.declared.fault.WrapFault.{WrapFault}
 use Rattle.memberlist_wrap.specs.declared.fault.WrapFault.TheVariants.{Ended, Trailing, BadCode, BadChecksum, BadMap, BadAlgo, BadLabel, TooLarge, TooDeep, Memory}
 use Rattle.memberlist_wrap.specs.Fault.{CodesStopAt, ExplainsLzw}
-use Rattle.memberlist_wrap.specs.Lzw.{NextCode, kept_words, width, StandsFor, ReadsCodes, Reaches, Ends, Lzw}
+use Rattle.memberlist_wrap.specs.Lzw.{NextCode, kept_words, width, StandsFor, ReadsCodes, CodesGive, Ends, Lzw}
 use Rattle.memberlist_wrap.proofs.Codes.{no_clear, no_end, wide}
 use Rattle.memberlist_wrap.proofs.Cutting.{AreFull, AreFull-take, one_word, full_word}
 use Rattle.memberlist_wrap.proofs.Polynomials.{bits_once, length-bits}
@@ -82,7 +82,7 @@ goes_on words (code ∷ codes) all out after rest (code' ∷ codes') whole after
     ]
 
 -- what the bytes are a compression of goes on where the codes have come to
-pub Lzw-goes_on : (bytes out : List ℕ) (words : List (List ℕ)) (rest whole : List ℕ) → Reaches bytes out words rest
+pub Lzw-goes_on : (bytes out : List ℕ) (words : List (List ℕ)) (rest whole : List ℕ) → CodesGive bytes out words rest
     → Lzw bytes whole → GoesOn words rest out whole
 Lzw-goes_on bytes out words rest whole reaches lzw =
     goes_on [] reaches.codes (bits_of bytes) out words rest lzw.reaches.codes whole lzw.words lzw.rest tt reaches.reads lzw.reaches.reads lzw.ends
@@ -113,8 +113,14 @@ says_code : (words : List (List ℕ)) (rest : List ℕ) (codes out : List ℕ) (
     → (code : ℕ) × (more : List ℕ) × NextCode words rest code more
 says_code words rest [] out after left reads ends =
     let same = reads.1 in
-    let all = reads.2 in
-    (257, ends.padding, record { is = sym all ∙ ends.code ∙ ap (λ (ws : List (List ℕ)). bits (width (length ws)) 257 ++ ends.padding) same; below = wide (length words) })
+    let all = reads.2 in (
+      257,
+      ends.padding,
+      record {
+        is = sym all ∙ ends.code ∙ ap (λ (ws : List (List ℕ)). bits (width (length ws)) 257 ++ ends.padding) same;
+        below = wide (length words);
+      },
+    )
 says_code words rest (code ∷ codes) out after left reads ends = (code, reads.0, record { is = reads.1; below = reads.2 })
 
 too_few : (words : List (List ℕ)) (rest out : List ℕ) → length rest < width (length words) → Says words rest out → ⊥

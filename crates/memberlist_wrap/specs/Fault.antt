@@ -2,7 +2,7 @@
 use Rattle.std.specs.Prelude.{◌≢◌, ℕ, ◌<◌, ◌≤◌, List, length}
 use Rattle.memberlist_wrap.specs.declared.fault.WrapFault.{WrapFault}
 use Rattle.memberlist_wrap.specs.declared.fault.WrapFault.TheVariants.{Ended, Trailing, BadCode, BadChecksum, BadMap, BadAlgo, BadLabel, TooLarge, TooDeep, Memory}
-use Rattle.memberlist_wrap.specs.Lzw.{NextCode, width, StandsFor, Reaches}
+use Rattle.memberlist_wrap.specs.Lzw.{NextCode, width, StandsFor, CodesGive}
 
 -- the number by which reports name a fault
 abbrev pub wrap_number : WrapFault → ℕ
@@ -36,5 +36,5 @@ pub record ExplainsLzw (limit : ℕ) (fault : WrapFault) (bytes : List ℕ) : Ty
   pub out : List ℕ
   pub words : List (List ℕ)
   pub rest : List ℕ
-  pub reaches : Reaches bytes out words rest
+  pub reaches : CodesGive bytes out words rest
   pub stops : CodesStopAt limit fault out words rest

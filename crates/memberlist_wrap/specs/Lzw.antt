@@ -37,7 +37,7 @@ ReadsCodes words (code ∷ codes) all out after rest =
 
 -- The bytes begin with codes that stand for these bytes; then these are the words, and these bits
 -- are left.
-pub record Reaches (bytes out : List ℕ) (words : List (List ℕ)) (rest : List ℕ) : Type 0 where
+pub record CodesGive (bytes out : List ℕ) (words : List (List ℕ)) (rest : List ℕ) : Type 0 where
   pub codes : List ℕ
   pub reads : ReadsCodes [] codes (bits_of bytes) out words rest
 
@@ -57,5 +57,5 @@ pub record Ends (words : List (List ℕ)) (rest : List ℕ) : Type 0 where
 pub record Lzw (bytes out : List ℕ) : Type 0 where
   pub words : List (List ℕ)
   pub rest : List ℕ
-  pub reaches : Reaches bytes out words rest
+  pub reaches : CodesGive bytes out words rest
   pub ends : Ends words rest

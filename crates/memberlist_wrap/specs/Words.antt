@@ -12,14 +12,14 @@ next_start end [] = end
 next_start end (start ∷ starts) = start
 
 -- the words that begin at these places, each up to the next
-abbrev pub cut : List ℕ → List ℕ → List (List ℕ)
-cut output [] = []
-cut output (start ∷ starts) =
-    take (next_start (length output) starts - start) (drop start output) ∷ cut output starts
+abbrev pub words_at : List ℕ → List ℕ → List (List ℕ)
+words_at output [] = []
+words_at output (start ∷ starts) =
+    take (next_start (length output) starts - start) (drop start output) ∷ words_at output starts
 
 -- what is made: the place behind the words that are kept ends the last of them
 abbrev pub made : List ℕ → List ℕ → Made
-made output starts = record { output = output; words = take 3839 (cut output starts) }
+made output starts = record { output = output; words = take 3839 (words_at output starts) }
 
 -- the places ascend, and a byte stands at each
 pub record AreStarts (end : ℕ) (starts : List ℕ) : Type 0 where

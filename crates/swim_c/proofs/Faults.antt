@@ -15,7 +15,7 @@ use Rattle.swim_table.specs.Table.{Entries}
 use Rattle.swim_sync.specs.declared.fault.SyncFault.{SyncFault}
 use Rattle.swim_sync.specs.declared.fault.SyncFault.TheVariants as sync
 use Rattle.swim_sync.specs.Exchanging as exchanging
-use Rattle.swim_c.specs.Exchanges.{LacksStream, IsFinishRefused, IsAnswerRefused}
+use Rattle.swim_c.specs.Exchanges.{HoldsNoStream, FinishCause, AnswerCause}
 use Rattle.swim_c.specs.Taking.{IsNoDatagram, TakeDone, RefuteDone}
 use Rattle.swim_c.specs.Packing.{LacksPackets, CompoundDone}
 use Rattle.swim_c.proofs.WholeStreams.{begins}
@@ -25,7 +25,7 @@ abbrev pub memory : List ℕ → Source
 memory bytes = record { coming = Some bytes; faults = 0 }
 
 -- no stream stands at the front of bytes in memory
-pub lacks : (bytes rest : List ℕ) (fault : WireFault) → exchanging.LacksStream (memory bytes) (memory rest) fault → LacksStream bytes fault
+pub lacks : (bytes rest : List ℕ) (fault : WireFault) → exchanging.LacksStream (memory bytes) (memory rest) fault → HoldsNoStream bytes fault
 lacks bytes rest fault why =
     let no_end : fault ≢ wire.Fault = λ e. let rises = why.failed e in omega (arith, rises) in record {
       no_memory = why.no_memory;
@@ -50,21 +50,21 @@ compound_refused bytes lens old new status len fault few is no_len same why = el
   | inr other ↦ let no_memory : fault ≢ wire.Memory = λ e. other.1 (ap wire_number e) in CompoundDone.refused few fault is no_memory (why no_memory) no_len same
 ]
 
-pub finish_refused : (bytes rest : List ℕ) (fault : SyncFault) → exchanging.IsFinishRefused (memory bytes) (memory rest) fault → IsFinishRefused bytes fault
+pub finish_refused : (bytes rest : List ℕ) (fault : SyncFault) → exchanging.IsFinishRefused (memory bytes) (memory rest) fault → FinishCause bytes fault
 finish_refused bytes rest (sync.Wire error) why = lacks bytes rest error why
 finish_refused bytes rest sync.TooManyRecords why = why
 finish_refused bytes rest sync.Push why = why
 finish_refused bytes rest sync.Memory why = why
 
 answer_lacks : (bytes rest : List ℕ) (table : Entries) (fault : SyncFault) → exchanging.IsPrepareRefused (memory bytes) (memory rest) table fault
-    → IsAnswerRefused bytes table fault
+    → AnswerCause bytes table fault
 answer_lacks bytes rest table (sync.Wire error) why = lacks bytes rest error why
 answer_lacks bytes rest table sync.TooManyRecords why = (why.0, (why.1.1, length bytes - length rest, (why.1.0, begins bytes rest why.1.0 why.1.1 why.1.2)))
 answer_lacks bytes rest table sync.Push why = why
 answer_lacks bytes rest table sync.Memory why = why
 
 pub answer_refused : (bytes inlet rest : List ℕ) (table own : Entries) (fault : SyncFault) → inlet ≡ bytes → own ≡ table
-    → exchanging.IsPrepareRefused (memory inlet) (memory rest) own fault → IsAnswerRefused bytes table fault
+    → exchanging.IsPrepareRefused (memory inlet) (memory rest) own fault → AnswerCause bytes table fault
 answer_refused bytes inlet rest table own fault is same why =
     answer_lacks bytes rest table fault (subst (λ (b : List ℕ). exchanging.IsPrepareRefused (memory b) (memory rest) table fault) is
     (subst (λ (t : Entries). exchanging.IsPrepareRefused (memory inlet) (memory rest) t fault) same why))

@@ -5,7 +5,7 @@ use Rattle.swim_claim.specs.declared.claim.Claim.{Claim}
 use Rattle.swim_wire.specs.Streams.{StreamText}
 use Rattle.swim_table.specs.Node.{NodeValue, SameMember}
 use Rattle.swim_table.specs.Table.{Entries, Reduced, TableOf, IsLegalTable}
-use Rattle.swim_c.specs.Exchanges.{BeginsStream, TakesStream}
+use Rattle.swim_c.specs.Exchanges.{BeginsStream, NodeTakesStream}
 
 -- what is gone from the front is the stream
 pub begins : (bytes rest : List ℕ) (claims : List Claim) (join : Bool) → (text : List ℕ) × StreamText text claims join × (bytes ≡ text ++ rest)
@@ -18,7 +18,7 @@ begins bytes rest claims join gone =
 pub taken_in : (bytes : List ℕ) (offered : Entries) (claims : List Claim) (join : Bool) (used : ℕ) (before after : NodeValue)
     → BeginsStream bytes claims join used → TableOf offered claims → IsLegalTable before.table
     → ((claims others : List Claim) → TableOf before.table claims → TableOf offered others → TableOf after.table (claims ++ others))
-    → SameMember before after → TakesStream bytes join used before after
+    → SameMember before after → NodeTakesStream bytes join used before after
 taken_in bytes offered claims join used before after stream of legal all member = record {
   claims = claims;
   begins = stream;

@@ -29,7 +29,7 @@ abbrev pub ReadsStream : List ℕ → Bool → ℕ → Type 0
 ReadsStream bytes join used = (claims : List Claim) × BeginsStream bytes claims join used
 
 -- a stream of this length and flag stands at the front, whose claims the node took in
-pub record TakesStream (bytes : List ℕ) (join : Bool) (used : ℕ)
+pub record NodeTakesStream (bytes : List ℕ) (join : Bool) (used : ℕ)
     (before after : NodeValue) : Type 0 where
   pub claims : List Claim
   pub begins : BeginsStream bytes claims join used
@@ -37,7 +37,7 @@ pub record TakesStream (bytes : List ℕ) (join : Bool) (used : ℕ)
   pub member : SameMember before after
 
 -- No stream stands at the front, and the fault says why. Bytes in memory do not fail.
-pub record LacksStream (bytes : List ℕ) (fault : WireFault) : Type 0 where
+pub record HoldsNoStream (bytes : List ℕ) (fault : WireFault) : Type 0 where
   pub no_memory : fault ≢ wire.Memory
   pub no_end : fault ≢ wire.Fault
   pub lacks : (text rest : List ℕ) (claims : List Claim) (join : Bool) → StreamText text claims join
@@ -45,23 +45,23 @@ pub record LacksStream (bytes : List ℕ) (fault : WireFault) : Type 0 where
   pub explains : ExplainsStream fault bytes
 
 -- why a table has no dump: too many records (23), or no memory (10)
-abbrev pub IsOfferRefused : Entries → ℕ → Type 0
-IsOfferRefused table status = ((status ≡ 23) × HasTooMany table) ⊎ (status ≡ 10)
+abbrev pub LacksDump : Entries → ℕ → Type 0
+LacksDump table status = ((status ≡ 23) × HasTooMany table) ⊎ (status ≡ 10)
 
 -- why a reply is not taken in
-abbrev pub IsFinishRefused : List ℕ → SyncFault → Type 0
-IsFinishRefused stream (Wire fault) = LacksStream stream fault
-IsFinishRefused stream TooManyRecords = ⊥
-IsFinishRefused stream Push = ⊥
-IsFinishRefused stream Memory = Unit {0}
+abbrev pub FinishCause : List ℕ → SyncFault → Type 0
+FinishCause stream (Wire fault) = HoldsNoStream stream fault
+FinishCause stream TooManyRecords = ⊥
+FinishCause stream Push = ⊥
+FinishCause stream Memory = Unit {0}
 
 -- why an offer is not answered: for too many records only where a stream stands there
-abbrev pub IsAnswerRefused : List ℕ → Entries → SyncFault → Type 0
-IsAnswerRefused stream table (Wire fault) = LacksStream stream fault
-IsAnswerRefused stream table TooManyRecords = HasTooMany table
+abbrev pub AnswerCause : List ℕ → Entries → SyncFault → Type 0
+AnswerCause stream table (Wire fault) = HoldsNoStream stream fault
+AnswerCause stream table TooManyRecords = HasTooMany table
     × ((join : Bool) × (used : ℕ) × ReadsStream stream join used)
-IsAnswerRefused stream table Push = ⊥
-IsAnswerRefused stream table Memory = Unit {0}
+AnswerCause stream table Push = ⊥
+AnswerCause stream table Memory = Unit {0}
 
 -- nothing is told of a stream
 pub record IsUntold (join : Bool) (used len : ℕ) : Type 0 where
@@ -73,30 +73,30 @@ pub record IsUntold (join : Bool) (used len : ℕ) : Type 0 where
 -- and the status is that of the fault.
 pub data FinishDone (stream : List ℕ) (status : ℕ) (join : Bool) (used len : ℕ)
     (before after : NodeValue) : Type 0 where
-  finished : status ≡ 0 → len ≡ 0 → TakesStream stream join used before after
+  finished : status ≡ 0 → len ≡ 0 → NodeTakesStream stream join used before after
       → FinishDone stream status join used len before after
-  refused : (fault : SyncFault) → IsFinishRefused stream fault → status ≡ sync_number fault
+  refused : (fault : SyncFault) → FinishCause stream fault → status ≡ sync_number fault
       → IsUntold join used len
       → after ≡ before → FinishDone stream status join used len before after
 
 -- A stream was read, and the dump of before written and the stream taken in (0), or the dump does
 -- not fit and nothing has changed (66).
-pub data Answers (stream old new : List ℕ) (status : ℕ) (join : Bool) (used len : ℕ)
+pub data AnswersOffer (stream old new : List ℕ) (status : ℕ) (join : Bool) (used len : ℕ)
     (before after : NodeValue) : Type 0 where
-  answered : status ≡ 0 → TakesStream stream join used before after
+  answered : status ≡ 0 → NodeTakesStream stream join used before after
       → Copied (dump_bytes before.table join) old new status len
-      → Answers stream old new status join used len before after
+      → AnswersOffer stream old new status join used len before after
   too_small : status ≡ 66 → ReadsStream stream join used
       → Copied (dump_bytes before.table join) old new status len → after ≡ before
-      → Answers stream old new status join used len before after
+      → AnswersOffer stream old new status join used len before after
 
 -- An offer was answered, or the reply does not fit; or the node and the buffer are as they were: no
 -- stream stands there, and the status is that of the fault, or the node's table has too many
 -- records (23), or there is no memory (10).
 pub data AnswerDone (stream old new : List ℕ) (status : ℕ) (join : Bool) (used len : ℕ)
     (before after : NodeValue) : Type 0 where
-  answers : Answers stream old new status join used len before after
+  answers : AnswersOffer stream old new status join used len before after
       → AnswerDone stream old new status join used len before after
-  refused : (fault : SyncFault) → IsAnswerRefused stream before.table fault
+  refused : (fault : SyncFault) → AnswerCause stream before.table fault
       → status ≡ sync_number fault → IsUntold join used len
       → after ≡ before → new ≡ old → AnswerDone stream old new status join used len before after

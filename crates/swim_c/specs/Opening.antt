@@ -18,7 +18,7 @@ open_number Memory = 10
 
 -- the node of a member of this name and these details, of which nothing is known but its Alive at
 -- this incarnation
-pub record IsOpened (name : List ℕ) (details : DetailsValue) (inc : ℕ)
+pub record IsNewMember (name : List ℕ) (details : DetailsValue) (inc : ℕ)
     (node : NodeValue) : Type 0 where
   pub name_is : node.name ≡ name
   pub details_is : node.details ≡ details
@@ -41,6 +41,7 @@ IsUnopened name details Memory = ⊤
 -- status says why.
 abbrev pub OpenDone : List ℕ → DetailsValue → ℕ → Option NodeValue → Option NodeValue → ℕ → Type 0
 OpenDone name details inc (Some before) new status = (status ≡ 65) × (new ≡ Some before)
-OpenDone name details inc None (Some after) status = (status ≡ 0) × IsOpened name details inc after
+OpenDone name details inc None (Some after) status =
+    (status ≡ 0) × IsNewMember name details inc after
 OpenDone name details inc None None status = (fault : OpenFault) × (status ≡ open_number fault)
     × IsUnopened name details fault

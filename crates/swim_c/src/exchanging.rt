@@ -3,7 +3,7 @@
 ghost use Rattle.std.specs.Prelude.{◌≡◌, false, IfOk, IfErr, OnErr};
 ghost use Rattle.swim_table.specs.Dump.{dump_bytes};
 ghost use Rattle.swim_c.specs.Buffers.{WrittenOr};
-ghost use Rattle.swim_c.specs.Exchanges.{Answers, IsOfferRefused, IsAnswerRefused, FinishDone, AnswerDone};
+ghost use Rattle.swim_c.specs.Exchanges.{AnswersOffer, LacksDump, AnswerCause, FinishDone, AnswerDone};
 
 use crate::copy::{Written, copy_out};
 use crate::status::DONE;
@@ -41,7 +41,7 @@ impl Exchanged {
 /// Writes the node's dump to the buffer, where it is long enough.
 pub fn offer_out(alloc: Global, node: &Node, join: bool, out: &mut [u8]) -> Written
     ensures { WrittenOr (dump_bytes node.now.table join)
-        out.old out.new result.status result.len (IsOfferRefused node.now.table) }
+        out.old out.new result.status result.len (LacksDump node.now.table) }
 {
     match encode(alloc, node.table(), join) {
         Ok(bytes) => copy_out(&bytes, out),
@@ -67,10 +67,10 @@ fn try_answer(
     stream: &[u8],
     out: &mut [u8],
 ) -> Result<Exchanged, SyncFault>
-    ensures answers { IfOk result (λ made. Answers stream.now
+    ensures answers { IfOk result (λ made. AnswersOffer stream.now
         out.old out.new made.status made.join made.used made.len node.old node.new) }
     ensures unchanged { OnErr result ((node.new ≡ node.old) × (out.new ≡ out.old)) }
-    ensures refused { IfErr result (IsAnswerRefused stream.now node.old.table) }
+    ensures refused { IfErr result (AnswerCause stream.now node.old.table) }
 {
     let mut inlet = SliceInlet::new(stream);
     let PreparedAnswer {

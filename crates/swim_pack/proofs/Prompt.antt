@@ -122,7 +122,8 @@ prompt-next_bytes n = record { by = λ bytes value rest e. by_length bytes value
           text = take n bytes;
           is = record {
             settles =
-                λ more. exact (take n bytes) more long ∙ ap (λ (v : List ℕ). read v more) (same_value {E = PackFault} (take n bytes) value (drop n bytes) rest e);
+                λ more. exact (take n bytes) more long ∙ ap (λ (v : List ℕ). read v more)
+                (same_value {E = PackFault} (take n bytes) value (drop n bytes) rest e);
             waits = λ free front more parts some. rw (short front (omega (arith, long, ap length parts ∙ length-append front more, some))) refl;
           };
           parts =

@@ -37,7 +37,8 @@ two_words (a ∷ b ∷ e ∷ more) d l = absurd (omega (arith, l))
 
 -- six words are all that there are
 pub six_words : (fields : List (Bor (List ℕ))) (d : Bor (List ℕ)) → length fields ≡ 6
-    → map (λ w. w.now) fields ≡ (get_or fields 0 d).now ∷ (get_or fields 1 d).now ∷ (get_or fields 2 d).now ∷ (get_or fields 3 d).now ∷ (get_or fields 4 d).now ∷ (get_or fields 5 d).now ∷ []
+    → map (λ w. w.now) fields ≡ (get_or fields 0 d).now ∷ (get_or fields 1 d).now ∷ (get_or fields 2 d).now
+    ∷ (get_or fields 3 d).now ∷ (get_or fields 4 d).now ∷ (get_or fields 5 d).now ∷ []
 six_words [] d l = absurd (omega (arith, l))
 six_words (a ∷ []) d l = absurd (omega (arith, l))
 six_words (a ∷ b ∷ []) d l = absurd (omega (arith, l))
@@ -49,7 +50,8 @@ six_words (a ∷ b ∷ e ∷ f ∷ g ∷ h ∷ i ∷ more) d l = absurd (omega (
 
 -- what the six words after `node` tell
 pub node_told : (fields : List (Bor (List ℕ))) (d : Bor (List ℕ)) (start : Start) → length fields ≡ 6 → NodeWords (codes "node" ∷ map (λ w. w.now) fields) start
-    → NodeFields (get_or fields 0 d).now (get_or fields 1 d).now (get_or fields 2 d).now (get_or fields 3 d).now (get_or fields 4 d).now (get_or fields 5 d).now start
+    → NodeFields (get_or fields 0 d).now (get_or fields 1 d).now (get_or fields 2 d).now
+    (get_or fields 3 d).now (get_or fields 4 d).now (get_or fields 5 d).now start
 node_told fields d start l own =
     let P : List (List ℕ) → Type 0 =
     λ line. NodeFields (get_or line 1 []) (get_or line 2 []) (get_or line 3 []) (get_or line 4 []) (get_or line 5 []) (get_or line 6 []) start in
@@ -57,7 +59,8 @@ node_told fields d start l own =
 
 -- and where they tell it, the line is that of the node
 pub node_tells : (fields : List (Bor (List ℕ))) (d : Bor (List ℕ)) (start : Start) → length fields ≡ 6
-    → NodeFields (get_or fields 0 d).now (get_or fields 1 d).now (get_or fields 2 d).now (get_or fields 3 d).now (get_or fields 4 d).now (get_or fields 5 d).now start
+    → NodeFields (get_or fields 0 d).now (get_or fields 1 d).now (get_or fields 2 d).now
+    (get_or fields 3 d).now (get_or fields 4 d).now (get_or fields 5 d).now start
     → NodeWords (codes "node" ∷ map (λ w. w.now) fields) start
 node_tells fields d start l own = (
   (get_or fields 0 d).now,
@@ -271,7 +274,8 @@ nothing_told nodes keyword fields node level none = record {
   node =
       λ may start own.
       node
-      (node_word keyword (first_word (word_of keyword) (codes "node") fields (drop 1 (codes "node" ∷ own.0 ∷ own.1 ∷ own.2 ∷ own.3 ∷ own.4 ∷ own.5 ∷ [])) own.6))
+      (node_word keyword (first_word (word_of keyword) (codes "node") fields
+      (drop 1 (codes "node" ∷ own.0 ∷ own.1 ∷ own.2 ∷ own.3 ∷ own.4 ∷ own.5 ∷ [])) own.6))
       may;
   event = none;
   level = λ own. let some = level (level_word keyword (first_word (word_of keyword) (codes "level") fields [] own)) in

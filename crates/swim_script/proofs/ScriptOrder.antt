@@ -32,7 +32,8 @@ follows_nodes count (line ∷ first) lines last starts told levelled nodes each 
     (refl, inl (refl, (nodes.0, nodes.2), follows_nodes count first lines last nodes.1 told levelled nodes.3 each own))
 
 -- a script is lines that may follow from the start on
-pub script_follows : (lines : List (List ℕ)) (starts : List Start) (events : List Event) → ScriptOf lines starts events → Follows true false (script_lines lines)
+pub script_follows : (lines : List (List ℕ)) (starts : List Start) (events : List Event)
+    → ScriptOf lines starts events → Follows true false (script_lines lines)
 script_follows lines starts events script =
     subst (Follows true false) (sym (script.lines ∙ append_assoc script.node_lines script.event_lines script.last))
     (follows_nodes (length starts) script.node_lines script.event_lines script.last starts script.told script.levelled script.nodes script.each script.ends)

@@ -103,7 +103,9 @@ module _ (claims : List Claim) (member : Member) where
       by_test false test =
           inr (
             refl,
-            λ other by. (let same = IsNext-unique claims member.name inc other next by.1 in let above : 4294967295 < inc = grind (arith, nat_tests, test) in omega (arith, same, above, by.2)),
+            λ other by. (let same = IsNext-unique claims member.name inc other next by.1 in
+                let above : 4294967295 < inc = grind (arith, nat_tests, test) in
+                omega (arith, same, above, by.2)),
           )
 
   refutes_top : (s : Standing) (top : Claim) → s.top ≡ top → IsStandingOf claims member.name s → Refutes claims member (refuted member (Some top))

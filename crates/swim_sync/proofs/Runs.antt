@@ -114,7 +114,8 @@ hear_list lists k claims y = elim (cases_eq y k) [
             inr (
               same,
               below,
-              subst (λ m. get_or (set lists k (heard_by lists k ++ claims)) m [] ≡ heard_by lists k ++ claims) (sym same) (hear_same lists k claims (subst (λ m. m < length lists) same below)),
+              subst (λ m. get_or (set lists k (heard_by lists k ++ claims)) m [] ≡ heard_by lists k ++ claims) (sym same)
+                  (hear_same lists k claims (subst (λ m. m < length lists) same below)),
             )
         | inr past ↦ inl (ap (λ l. get_or l y []) (hear_nowhere lists k claims (subst (λ m. length lists ≤ m) same past)))
       ]
@@ -275,7 +276,8 @@ module _ (members : List Member) (lists : List (List Claim)) (c : Claim) where
         (let two : AreTwoNodes (length lists) j k = subst (λ m. AreTwoNodes (length lists) m k) to.0 (subst (AreTwoNodes (length lists) x) to.1 leads.0) in
         at_both two (inr to.1) (Contains-append_left (heard_by lists j) (heard_by lists k) c (subst (λ m. Contains (heard_by lists m) c) to.0 made)))
     | inr from ↦
-        (let two : AreTwoNodes (length lists) j k = turned (length lists) k j (subst (λ m. AreTwoNodes (length lists) m j) from.0 (subst (AreTwoNodes (length lists) x) from.1 leads.0)) in
+        (let two : AreTwoNodes (length lists) j k = turned (length lists) k j (subst (λ m. AreTwoNodes (length lists) m j) from.0
+        (subst (AreTwoNodes (length lists) x) from.1 leads.0)) in
         at_both two (inl from.1) (Contains-append_right (heard_by lists j) (heard_by lists k) c (subst (λ m. Contains (heard_by lists m) c) from.0 made)))
   ]
     where

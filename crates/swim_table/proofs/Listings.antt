@@ -225,7 +225,8 @@ same_line s t us vs h g same =
     same_first 32 (percent_encode ESCAPED (name_of s.top)) (percent_encode ESCAPED (name_of t.top)) _ _
     (name_lacks_space (name_of s.top)) (name_lacks_space (name_of t.top)) whole in
     let state =
-    same_first 32 (state_word (kind_of s.top)) (state_word (kind_of t.top)) _ _ (state_lacks_space (kind_of s.top)) (state_lacks_space (kind_of t.top)) name.1 in
+    same_first 32 (state_word (kind_of s.top)) (state_word (kind_of t.top)) _ _
+    (state_lacks_space (kind_of s.top)) (state_lacks_space (kind_of t.top)) name.1 in
     let inc =
     same_first 32 (decimal (inc_of s.top)) (decimal (inc_of t.top)) _ _
     (number_lacks 32 (inc_of s.top) space (wider (inc_of s.top) h.top.inc))

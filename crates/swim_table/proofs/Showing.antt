@@ -41,9 +41,11 @@ TableOf-sent table whole claims others more h g w = turned whole others more (Ta
 pub below_join : (table other : Entries) → Below table other ↔ (Join table other ≡ other)
 below_join table other = (
   λ below.
-      TableOf-unique (Join table other) other (Reduced table ++ Reduced other) (Reduced other ++ Reduced table) (TableOf-table_of (Reduced table ++ Reduced other)) below (Same-append_comm (Reduced table) (Reduced other)),
+      TableOf-unique (Join table other) other (Reduced table ++ Reduced other) (Reduced other ++ Reduced table)
+      (TableOf-table_of (Reduced table ++ Reduced other)) below (Same-append_comm (Reduced table) (Reduced other)),
   λ is.
-      turned other (Reduced table) (Reduced other) (subst (λ t. TableOf t (Reduced table ++ Reduced other)) is (TableOf-table_of (Reduced table ++ Reduced other))),
+      turned other (Reduced table) (Reduced other)
+      (subst (λ t. TableOf t (Reduced table ++ Reduced other)) is (TableOf-table_of (Reduced table ++ Reduced other))),
 )
 
 pub below_both : (table other : Entries) → Below table other → Below other table → table ≡ other

@@ -48,7 +48,8 @@ fills_distinct layout slots [] out room fills = tt
 fills_distinct layout slots (pair ∷ pairs) out room fills =
     let next = slice_set slots fills.0 (Some pair.1) in
     let long = length-set slots fills.0 (Some pair.1) in (
-      fills_apart layout next pairs out pair.0 fills.0 fills.3 fills.1 (λ e. some≢none pair.1 (sym (filled_slot layout slots pair.0 pair.1 fills.0 room fills.1) ∙ e)),
+      fills_apart layout next pairs out pair.0 fills.0 fills.3 fills.1
+          (λ e. some≢none pair.1 (sym (filled_slot layout slots pair.0 pair.1 fills.0 room fills.1) ∙ e)),
       fills_distinct layout next pairs out (omega arith) fills.3,
     )
 

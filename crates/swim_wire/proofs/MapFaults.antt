@@ -67,7 +67,8 @@ pair_fault layout slots bytes error e =
     (λ first. then_err (lift fault_of_key (raw_at 12) bytes) (λ key. some_or UnknownKey (place_of layout key)) error first (IsMapFault error)
     (λ key. lift_fault fault_of_key (raw_at 12 bytes) error key_fault key)
     (λ key mid ok unknown. unknown_fault (place_of layout key) mid error unknown))
-    (λ place mid ok second. then_err (if_vacant (slot slots place) (value_at (limit_at layout place)) mid) (λ value. gives (slice_set slots place (Some value))) error second (IsMapFault error)
+    (λ place mid ok second. then_err (if_vacant (slot slots place) (value_at (limit_at layout place)) mid) (λ value. gives (slice_set slots place (Some value)))
+    error second (IsMapFault error)
     (λ value. vacant_fault (slot slots place) (limit_at layout place) mid error value)
     (λ value rest ok other. absurd cc))
 

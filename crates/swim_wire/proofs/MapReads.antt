@@ -33,7 +33,8 @@ Completes-pair start now after layout reading zero slots pos c p = absurd (omega
 Completes-pair {view} {x} start now after layout reading (suc left) slots pos c p =
     let one : suc left - 1 ≡ left = omega arith in
     record {
-      by = λ end r q. c.by end r (Reads-then (pairs_at layout left) p (subst (λ n. ReadsAs wire_cause slots_of (pairs_at layout n (view x)) after end r) one q));
+      by = λ end r q. c.by end r (Reads-then (pairs_at layout left) p
+          (subst (λ n. ReadsAs wire_cause slots_of (pairs_at layout n (view x)) after end r) one q));
     }
 
 pub Completes-exit : {X : Type 0} {view : X → Slots} (start now after : Source) (layout : Layout) (reading : Reading Slots)

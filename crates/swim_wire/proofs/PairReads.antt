@@ -61,7 +61,8 @@ pair_twice {X} {view} {a} {b} fields values place e within some p =
     Reads-then _ p (Reads-exit _ (duplicate (slice_index_or values place e) some (slot_is values place e within)))
   where
     duplicate : (o : Option Value) → is_some o ≡ true → slot (slots_of values) place ≡ option_map spelled o
-        → ReadsAs {X = Value} wire_cause spelled (if_vacant (slot (slots_of values) place) (value_at (limit_at (layout_of fields) place))) b b (Err DuplicateKey)
+        → ReadsAs {X = Value} wire_cause spelled
+        (if_vacant (slot (slots_of values) place) (value_at (limit_at (layout_of fields) place))) b b (Err DuplicateKey)
     duplicate None h e = cc
     duplicate (Some value) h e = rw e (Reads-refuses DuplicateKey refl)
 
@@ -86,6 +87,7 @@ unfolding pair_at
 pair_read {X} {x} {c} {value} fields values place e d known within none p q =
     let after : slots_of (slice_set values place (Some value)) ≡ slice_set (slots_of values) place (Some (spelled value)) =
     map-set (λ value. option_map spelled value) values place (Some value) in
-    let set : ReadsAs wire_cause (λ (y : X). slots_of (slice_set values place (Some value))) (gives (slice_set (slots_of values) place (Some (spelled value)))) c c (Ok x) =
+    let set : ReadsAs wire_cause (λ (y : X). slots_of (slice_set values place (Some value))) (gives (slice_set (slots_of values) place (Some (spelled value))))
+    c c (Ok x) =
     rw after (Reads-gives {view = λ (y : X). slice_set (slots_of values) place (Some (spelled value))} x) in
     Reads-then _ p (Reads-then _ (vacant_value fields values place e d known within none q) set)

@@ -319,7 +319,12 @@ module _ {X : Type 0} where
             subst (All IsBlock) (sym (shape-set bs k c))
             (All-set IsBlock (shape bs) k c.items (record { filled = omega (arith, same, good.filled); fits = omega (arith, same, good.fits) }) i.each);
         count =
-            omega (arith, i.count, ap length (ap flatten is ∙ flatten-set_at (shape bs) k j w h' l'), length-set (flatten (shape bs)) (start (shape bs) k + j) w);
+            omega (
+              arith,
+              i.count,
+              ap length (ap flatten is ∙ flatten-set_at (shape bs) k j w h' l'),
+              length-set (flatten (shape bs)) (start (shape bs) k + j) w,
+            );
       }
 
   overfull-set_same : (s : List (List X)) (k : ℕ) (c : List X) → length c ≡ length (block_at s k) → overfull (set s k c) ≡ overfull s

@@ -3,7 +3,7 @@
 ghost use Rattle.std.specs.Prelude.{◌≡◌, false};
 ghost use Rattle.swim_table.specs.Dump.{dump_bytes};
 ghost use Rattle.swim_c.specs.Buffers.{WrittenOr};
-ghost use Rattle.swim_c.specs.Exchanges.{IsOfferRefused, FinishDone, AnswerDone};
+ghost use Rattle.swim_c.specs.Exchanges.{LacksDump, FinishDone, AnswerDone};
 ghost use Rattle.swim_c.specs.OnNode.{OnNode, OnSame};
 
 use crate::copy::Written;
@@ -33,7 +33,7 @@ pub extern "C" fn swimtab_raw_offer(
     ensures { OnSame node.old.node node.new.node
         ((result ≡ record { status = 64; len = 0 }) × (out.new ≡ out.old))
         (λ held. WrittenOr (dump_bytes held.table join)
-        out.old out.new result.status result.len (IsOfferRefused held.table)) }
+        out.old out.new result.status result.len (LacksDump held.table)) }
 {
     let Some(held) = node.take(alloc) else {
         return Written::refused(NO_NODE);

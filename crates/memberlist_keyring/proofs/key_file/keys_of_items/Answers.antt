@@ -19,5 +19,6 @@ pub loop-i-preserved : goal.loop-i-preserved
 loop-i-preserved c =
     let good = rw c.if-not-branch.false at c.in_ok-add_text.ensures in
     rw good.2
-    (HoldInOrder-more ItemHolds view c.args.items.now c.loop-i.i c.index-items-i.result c.loop-i.keys.items _ (omega arith) c.index-items-i.is c.loop-i.invariant
+    (HoldInOrder-more ItemHolds view c.args.items.now c.loop-i.i c.index-items-i.result c.loop-i.keys.items _ (omega arith)
+    c.index-items-i.is c.loop-i.invariant
     (item_holds (view c.index-items-i.result) c.in-Some.text.now c.as_bytes.result.now good.0 c.in-Some.ensures c.as_bytes.ensures.value good.1))

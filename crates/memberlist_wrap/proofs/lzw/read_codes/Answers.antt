@@ -3,13 +3,13 @@ use Rattle.std.proofs.lemmas.Result.{err_from_is_err_and}
 use Rattle.std.proofs.lemmas.List.{length-append, drop_all}
 use Rattle.memberlist_wrap.specs.Bits.{bits_of}
 use Rattle.memberlist_wrap.specs.Lzw.{width}
-use Rattle.memberlist_wrap.proofs.Codes.{Reaches-start, Reaches-clear, Reaches-word, taken_in, few_left, bits_of_some, read_code, few_again, width_between}
+use Rattle.memberlist_wrap.proofs.Codes.{CodesGive-start, CodesGive-clear, CodesGive-word, taken_in, few_left, bits_of_some, read_code, few_again, width_between}
 use Rattle.memberlist_wrap.proofs.Stopping.{trailing, ended, bad_code, large, ends}
 use Rattle.memberlist_wrap.proofs.lzw.read_codes.Goals as goal
 use Rattle.memberlist_wrap.proofs.lzw.read_codes.Goals.{in-None, in-Some-eq256, in-Some+in_ok-append-in-Some}
 
 pub loop-i-init : goal.loop-i-init
-loop-i-init c = rw (c.new-words.ensures, c.new-held.ensures) (record { few = omega arith; within = omega arith; reaches = Reaches-start c.args.bytes.now })
+loop-i-init c = rw (c.new-words.ensures, c.new-held.ensures) (record { few = omega arith; within = omega arith; reaches = CodesGive-start c.args.bytes.now })
 
 pub append-requires-clause-narrow : goal.append-requires-clause-narrow
 append-requires-clause-narrow c =
@@ -70,7 +70,8 @@ loop-i-preserved c =
                 rw (taken_in c.args.bytes.now c.loop-i.held c.add.new.self c.loop-i.i _ c.loop-i-test.true refl c.add.ensures) at c.loop-i.invariant.reaches;
           })
       | in-Some-eq256 w ↦
-          (let next = read_code c.args.bytes.now c.loop-i.words.words c.loop-i.held c.add.new.self c.take.new.self c.loop-i.i c.width.result w.in-Some-eq256.field-0
+          (let next = read_code c.args.bytes.now c.loop-i.words.words c.loop-i.held c.add.new.self c.take.new.self
+          c.loop-i.i c.width.result w.in-Some-eq256.field-0
           c.loop-i-test.true c.add.ensures c.width.ensures w.in-Some-eq256.ensures in
           rw (w.words-is, w.clear.ensures) (record {
             few =
@@ -78,7 +79,7 @@ loop-i-preserved c =
                 (omega (arith, c.width.ensures, c.loop-i.invariant.few)) c.add.ensures w.in-Some-eq256.ensures.1;
             within = c.loop-i.invariant.within;
             reaches =
-                Reaches-clear c.args.bytes.now c.loop-i.words.output c.loop-i.words.words _ _ w.in-Some-eq256.field-0
+                CodesGive-clear c.args.bytes.now c.loop-i.words.output c.loop-i.words.words _ _ w.in-Some-eq256.field-0
                 c.loop-i.invariant.reaches next w.in-Some-eq256.field-0-test;
           }))
       | in-Some+in_ok-append-in-Some w ↦
@@ -94,7 +95,7 @@ loop-i-preserved c =
             within = short;
             reaches =
                 rw added.2
-                (Reaches-word c.args.bytes.now c.loop-i.words.output c.loop-i.words.words _ _ added.0 w.in-Some.code c.loop-i.invariant.reaches next added.1);
+                (CodesGive-word c.args.bytes.now c.loop-i.words.output c.loop-i.words.words _ _ added.0 w.in-Some.code c.loop-i.invariant.reaches next added.1);
           }))
     ]
 

@@ -17,5 +17,6 @@ pub loop-sent-preserved : goal.loop-sent-preserved
 loop-sent-preserved g c = (
   search rules,
   search rules,
-  subst (Appends _ _) (sym (take-add c.loop-sent.sent c.in-Some.count c.args.bytes.now)) (Appends-trans _ _ _ _ _ c.loop-sent.invariant.2 (rw (take_rest c.args.bytes.now c.loop-sent.sent) at c.in-Some.ensures.taken)),
+  subst (Appends _ _) (sym (take-add c.loop-sent.sent c.in-Some.count c.args.bytes.now))
+      (Appends-trans _ _ _ _ _ c.loop-sent.invariant.2 (rw (take_rest c.args.bytes.now c.loop-sent.sent) at c.in-Some.ensures.taken)),
 )

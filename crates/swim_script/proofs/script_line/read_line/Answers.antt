@@ -32,9 +32,17 @@ returns-in_err-read_event-in_default-keyword-clause-refuses c =
     let rest = map (λ w. w.now) c.in-Some.fields.now in
     let line = sym c.in_ok-words.ensures.words ∙ ap (map (λ w. w.now)) (sym c.deref.ensures.value ∙ all) ∙ ap (λ w. w ∷ rest) c.in-Some-named.ensures.known in
     let node : c.in-Some-named.keyword ≡ key.Node → c.args.nodes_may_come ≡ true → ⊥ =
-    elim c.in_default-keyword.branch [ in_default-keyword-via-in-Node+else-nodes_may_come w ↦ search rules | in_default-keyword-via-in-Level+else-is_empty w ↦ search rules | in_default-keyword-via-in_default-keyword w ↦ search rules ] in
+    elim c.in_default-keyword.branch [
+      | in_default-keyword-via-in-Node+else-nodes_may_come w ↦ search rules
+      | in_default-keyword-via-in-Level+else-is_empty w ↦ search rules
+      | in_default-keyword-via-in_default-keyword w ↦ search rules
+    ] in
     let some : c.in-Some-named.keyword ≡ key.Level → 0 < length c.in-Some.fields.now =
-    elim c.in_default-keyword.branch [ in_default-keyword-via-in-Node+else-nodes_may_come w ↦ search rules | in_default-keyword-via-in-Level+else-is_empty w ↦ search rules | in_default-keyword-via-in_default-keyword w ↦ search rules ] in
+    elim c.in_default-keyword.branch [
+      | in_default-keyword-via-in-Node+else-nodes_may_come w ↦ search rules
+      | in_default-keyword-via-in-Level+else-is_empty w ↦ search rules
+      | in_default-keyword-via-in_default-keyword w ↦ search rules
+    ] in
     let p = err_from_is_err_and c.from_residual-in_err-read_event-in_default-keyword.result c.from_residual-in_err-read_event-in_default-keyword.ensures.1 in
     rw (p.1, p.2)
     (λ seen. subst (SpellsNothing c.args.nodes_may_come) (sym line)

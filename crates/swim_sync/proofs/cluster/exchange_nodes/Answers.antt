@@ -34,7 +34,8 @@ returns-clause-refused c =
     at_back c.args.nodes.now c.split_at_mut-front.result.0.now c.split_at_mut-front.result.1.now c.args.high second c.split_at_mut-front.ensures.value
     c.split_at_mut-front.ensures.front_len c.requires.nodes (ap (λ d. get_or c.split_at_mut-front.result.1.now 0 d) c.index-back-0.is) in
     IfErr-weaker c.exchanged.result _ _
-    (λ why. hinders_as _ _ (λ many. too_many_at c.args.nodes.now c.args.low c.args.high first second (Exchange c.args.low c.args.high) at_first at_second (λ x of. of)
+    (λ why. hinders_as _ _ (λ many. too_many_at c.args.nodes.now c.args.low c.args.high first second
+    (Exchange c.args.low c.args.high) at_first at_second (λ x of. of)
     (elim many [
       | inl own ↦ inl (subst HasTooMany c.table_mut.ensures.table own)
       | inr theirs ↦ inr (subst HasTooMany c.table_mut-2.ensures.table theirs)

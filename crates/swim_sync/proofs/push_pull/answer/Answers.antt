@@ -21,6 +21,8 @@ returns-in_err-push-clause-refused g c =
     let p = err_from_is_err_and c.from_residual-in_err-push.result c.from_residual-in_err-push.ensures.1 in
     let refused = c.in_err-push.ensures in
     rw (p.1, p.2)
-    (push_refused (g.I.Inlet.seen c.args.inlet.now) (g.I.Inlet.seen c.prepare_answer.new.inlet) (g.O.Outlet.seen c.args.outlet.now) (g.O.Outlet.seen c.push.new.self) c.args.table.now c.in_ok-join.field-0.offered c.in_ok-join.field-0.join c.deref.result.now
+    (push_refused (g.I.Inlet.seen c.args.inlet.now) (g.I.Inlet.seen c.prepare_answer.new.inlet) (g.O.Outlet.seen c.args.outlet.now)
+    (g.O.Outlet.seen c.push.new.self)
+    c.args.table.now c.in_ok-join.field-0.offered c.in_ok-join.field-0.join c.deref.result.now
     (c.deref.ensures.value ∙ c.in_ok-join.ensures.replies) c.in_ok-join.ensures.reads c.in_err-push.field-0.0
     (λ e. refused.fault (ap Err e)) (λ e. refused.front (ap Err e)) (λ e. refused.memory (ap Err e)))

@@ -31,7 +31,8 @@ returns-in_err-read-clause-back c table join legal few is =
     let bytes = c.args.bytes.now in
     rw (p.1, p.2) (
       tt,
-      refused_front c.in_err-read.field-0.0 bytes bytes [] (Reduced table) join (rw c.new-inlet.ensures at why.lacks) (λ e. absurd (search rules)) (dumped bytes table join legal few is) (sym (append-nil bytes)),
+      refused_front c.in_err-read.field-0.0 bytes bytes [] (Reduced table) join (rw c.new-inlet.ensures at why.lacks)
+          (λ e. absurd (search rules)) (dumped bytes table join legal few is) (sym (append-nil bytes)),
     )
 
 pub returns-in_err-read-clause-after : goal.returns-in_err-read-clause-after
@@ -72,6 +73,7 @@ returns-else-is_empty-clause-back c table join legal few is =
     let more : c.read_stream.new.inlet ≢ [] = search rules in (
       tt,
       absurd
-          (trailing_whole c.args.bytes.now read.2.0 c.read_stream.new.inlet read.0 (Reduced table) c.in_ok-read.read.1 join read.2.1 (sym c.new-inlet.ensures ∙ read.2.2) more
+          (trailing_whole c.args.bytes.now read.2.0 c.read_stream.new.inlet read.0 (Reduced table) c.in_ok-read.read.1
+          join read.2.1 (sym c.new-inlet.ensures ∙ read.2.2) more
           (dumped c.args.bytes.now table join legal few is)),
     )

@@ -7,4 +7,5 @@ use Rattle.swim_wire.proofs.map.read_map.Given as goal
 abbrev pub invariant-loop : goal.invariant-loop
 invariant-loop g l =
     FitsEach l.layout l.values
-    × Completes (g.I.Inlet.seen l.fn.inlet) (g.I.Inlet.seen l.inlet) (map_at (layout_of l.layout)) (pairs_at (layout_of l.layout) (l.count - l.counter) (slots_of l.values))
+    × Completes (g.I.Inlet.seen l.fn.inlet) (g.I.Inlet.seen l.inlet) (map_at (layout_of l.layout))
+    (pairs_at (layout_of l.layout) (l.count - l.counter) (slots_of l.values))

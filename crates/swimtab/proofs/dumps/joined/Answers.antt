@@ -18,5 +18,6 @@ loop-place-preserved c =
     let own = c.in_ok-other.ensures.reads in (
       before.0 ++ own.0,
       c.in-Ok.ensures.all before.0 own.0 before.1 own.2,
-      claims_push (λ file. file.items) c.args.files.now c.loop-place.place c.index-files-place.result c.deref.result.now before.0 own.0 c.loop-place-test.true c.index-files-place.is c.deref.ensures.value before.2 own.1,
+      claims_push (λ file. file.items) c.args.files.now c.loop-place.place c.index-files-place.result c.deref.result.now
+          before.0 own.0 c.loop-place-test.true c.index-files-place.is c.deref.ensures.value before.2 own.1,
     )

@@ -17,7 +17,8 @@ returns-in-Ok-clause-loops c =
       taken_too = second.1;
       shown = c.in-Ok.ensures;
       told =
-          rw c.eq.ensures (equal_told c.exchange_over_socket.new.first c.exchange_over_socket.new.second _ c.relation.result first.1.reduced c.relation.ensures);
+          rw c.eq.ensures (equal_told c.exchange_over_socket.new.first c.exchange_over_socket.new.second _ c.relation.result
+          first.1.reduced c.relation.ensures);
     }
 
 pub returns-clause-stops : goal.returns-clause-stops

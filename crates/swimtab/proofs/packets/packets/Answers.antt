@@ -49,7 +49,9 @@ loop-index-preserved c =
       (
         before.2.0 ++ took.0,
         took.2 before.2.0 before.2.1,
-        subst (λ lines. EachLine lines (before.2.0 ++ took.0)) (sym (map_push (λ p. p.1.now) c.loop-index.yielded (c.in-Some.index, c.in-Some.line))) (EachLine-push _ c.in-Some.line.now before.2.0 took.0 before.2.2 took.1),
+        subst (λ lines. EachLine lines (before.2.0 ++ took.0))
+            (sym (map_push (λ p. p.1.now) c.loop-index.yielded (c.in-Some.index, c.in-Some.line)))
+            (EachLine-push _ c.in-Some.line.now before.2.0 took.0 before.2.2 took.1),
       ),
     )
 

@@ -25,7 +25,8 @@ returns-in_ok-take_all-in-Compound-clause-takes c =
     let text : DatagramText c.args.bytes.now packets = rw c.in-Compound.is at c.in_ok-packet.ensures.reads in (
       packets,
       text,
-      λ taken own. subst (λ claims. TableOf c.take_all.new.self (taken ++ claims)) c.in_ok-into_claims-in-Compound.ensures (c.in_ok-take_all-in-Compound.ensures.all taken own),
+      λ taken own. subst (λ claims. TableOf c.take_all.new.self (taken ++ claims)) c.in_ok-into_claims-in-Compound.ensures
+          (c.in_ok-take_all-in-Compound.ensures.all taken own),
     )
 
 pub returns-in_err-take_claim-in-Packet-clause-refuses : goal.returns-in_err-take_claim-in-Packet-clause-refuses

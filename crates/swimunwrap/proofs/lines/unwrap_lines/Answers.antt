@@ -30,7 +30,8 @@ returns-then-len-gt-BOUND-clause-large c = λ seen within.
     (here.0, here.1) c.loop-index.invariant.2 added.2 in
     let long : 268435456 < length c.add_line.new.unwrapped.text = search rules in (
       search rules,
-      too_long c.args.keys.now c.args.skip 268435456 (length c.loop-index.yielded) lines _ _ _ next.0 next.1 (subst (λ (s : Shown). 268435456 < length s.text) added.3 long),
+      too_long c.args.keys.now c.args.skip 268435456 (length c.loop-index.yielded) lines _ _ _ next.0 next.1
+          (subst (λ (s : Shown). 268435456 < length s.text) added.3 long),
     )
 
 pub loop-index-preserved : goal.loop-index-preserved
@@ -58,7 +59,8 @@ loop-index-preserved c =
     (sym added.3) next.1 in (
       search rules,
       search rules,
-      subst (λ read. AllBecome c.args.keys.now c.args.skip read c.add_line.new.unwrapped.text c.add_line.new.unwrapped.causes) (sym (map_push (λ p. p.1.now) c.loop-index.yielded (c.in-Some.index, c.in-Some.line))) shown,
+      subst (λ read. AllBecome c.args.keys.now c.args.skip read c.add_line.new.unwrapped.text c.add_line.new.unwrapped.causes)
+          (sym (map_push (λ p. p.1.now) c.loop-index.yielded (c.in-Some.index, c.in-Some.line))) shown,
       search rules,
     )
 

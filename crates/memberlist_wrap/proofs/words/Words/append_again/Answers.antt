@@ -94,7 +94,8 @@ returns-clause-appends c =
     let word = again inside.output.items c.index-from.result.now c.start_after-to.result in
     let P : Made → Type 0 = λ m. StandsFor m.words (258 + c.args.place) word in
     let stands : P (made inside.output.items inside.starts.items) =
-    Stands-read 3839 inside.output.items inside.starts.items c.args.place _ _ c.self.invariant.0 (omega (arith, c.len.ensures, inside.starts.ok.0)) (omega arith) ends in (
+    Stands-read 3839 inside.output.items inside.starts.items c.args.place _ _ c.self.invariant.0
+    (omega (arith, c.len.ensures, inside.starts.ok.0)) (omega arith) ends in (
       word,
       subst P c.self.view_is stands,
       made_kept inside.output.items inside.starts.items word c.copy_again.new.output.items c.keep_start.new.starts.items

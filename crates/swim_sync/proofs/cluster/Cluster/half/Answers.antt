@@ -20,8 +20,11 @@ returns-clause-ok c =
     let own = c.table.ensures.table in
     let theirs = c.table_mut.ensures.table in
     ok_both c.answered.result
-    (λ takes few. subst (λ (nodes : List NodeValue). Ran nodes (set c.self.inside.nodes.items c.args.second (with_table c.index_mut.result.now c.answered.new.table)) (Half c.args.first c.args.second ∷ [])) c.self.view_is
-    (ran_half c.self.inside.nodes.items c.args.first c.args.second c.index.result.now c.index_mut.result.now (with_table c.index_mut.result.now c.answered.new.table) two at_first at_second
+    (λ takes few. subst (λ (nodes : List NodeValue). Ran nodes (set c.self.inside.nodes.items c.args.second
+    (with_table c.index_mut.result.now c.answered.new.table)) (Half c.args.first c.args.second ∷ []))
+    c.self.view_is
+    (ran_half c.self.inside.nodes.items c.args.first c.args.second c.index.result.now c.index_mut.result.now
+    (with_table c.index_mut.result.now c.answered.new.table) two at_first at_second
     (record { name = refl; details = refl }) (
       subst (λ (t : Entries). ¬ HasTooMany t) own (few_enough c.table.result.now c.in_ok-offer.ensures.offers.few),
       subst (λ (t : Entries). ¬ HasTooMany t) theirs few,

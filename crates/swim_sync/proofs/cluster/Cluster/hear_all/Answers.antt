@@ -14,7 +14,9 @@ returns-in_err-take_all-clause-unchanged c =
     let within : c.args.k < length c.self.inside.nodes.items = (let same = ap length c.self.view_is in omega (arith, number, below, same)) in
     let at = node_at c.self.inside.nodes.items c.args.k c.index_mut.result.now within c.index_mut.ensures.value in
     always_refused c.from_residual-in_err-take_all.result _
-    (unchanged_node c.self.inside.nodes.items c.args.k c.index_mut.result.now c.take_all.new.self at c.in_err-take_all.ensures.member c.in_err-take_all.ensures.err ∙ c.self.view_is)
+    (unchanged_node c.self.inside.nodes.items c.args.k c.index_mut.result.now c.take_all.new.self at
+    c.in_err-take_all.ensures.member c.in_err-take_all.ensures.err
+    ∙ c.self.view_is)
 
 pub returns-clause-ok : goal.returns-clause-ok
 returns-clause-ok c =

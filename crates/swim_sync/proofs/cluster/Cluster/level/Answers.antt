@@ -33,6 +33,7 @@ returns-clause-level c = on_ok_weaker c.meet_each-2.result (are_level c.args.sel
 pub returns-clause-stopped : goal.returns-clause-stopped
 returns-clause-stopped c =
     IfErr-weaker c.meet_each-2.result _ _
-    (λ stop (i, below, done, ran, stops). stopped_again c.args.self.now c.meet_each.new.self c.meet_each-2.new.self c.saturating_sub-others.result c.saturating_sub.result i stop (one c) (two c)
+    (λ stop (i, below, done, ran, stops). stopped_again c.args.self.now c.meet_each.new.self c.meet_each-2.new.self
+    c.saturating_sub-others.result c.saturating_sub.result i stop (one c) (two c)
     below done c.in_ok-meet_each.ensures.ok ran stops)
     c.meet_each-2.ensures.stopped

@@ -29,7 +29,8 @@ loop-met-preserved c =
     let number = length-meet_each c.args.count in
     let below = c.loop-met-test.true in
     let at = get_or_from_slice_get (meet_each c.args.count) c.loop-met.met event event (met_at c.args.count c.loop-met.met below) in (
-      ran_more c.args.self.now c.loop-met.self c.exchange.new.self (meet_each c.args.count) c.loop-met.met event (omega (arith, number, below)) (sym at) c.loop-met.invariant.0 c.in_default.ensures.ok,
+      ran_more c.args.self.now c.loop-met.self c.exchange.new.self (meet_each c.args.count) c.loop-met.met event
+          (omega (arith, number, below)) (sym at) c.loop-met.invariant.0 c.in_default.ensures.ok,
       λ none. absurd (omega (arith, none)),
     )
 

@@ -13,5 +13,6 @@ returns-clause-ok c =
     let at = node_at c.self.inside.nodes.items c.args.k c.index_mut.result.now within c.index_mut.ensures.value in
     subst (λ (nodes : List NodeValue). Ran nodes (set c.self.inside.nodes.items c.args.k c.refute.new.self) (Refute c.args.k ∷ [])) c.self.view_is
     (ran_refute c.self.inside.nodes.items c.args.k c.index_mut.result.now c.refute.new.self at c.refute.ensures.member
-    (refute_takes c.index_mut.result.now c.refute.new.self c.refute.result c.refute.ensures.range c.refute.ensures.refuted c.refute.ensures.rest c.refute.ensures.exhausted c.refute.ensures.gone
+    (refute_takes c.index_mut.result.now c.refute.new.self c.refute.result c.refute.ensures.range c.refute.ensures.refuted
+    c.refute.ensures.rest c.refute.ensures.exhausted c.refute.ensures.gone
     c.refute.ensures.err (not_memory _ _ refl c.refute.result c.if-eq.ensures)))

@@ -53,5 +53,6 @@ returns-in-Ok-clause-room g c =
     let o : IsOpened s t (index_of s c.args.place) p = subst (IsOpened s t (index_of s c.args.place)) (sym c.at.view_is) c.in-Ok.ensures.ok in
     let new : Tiers g.row.T.Denot = record { blocks = shape c.put.new.blocks.items; spares = length c.open.new.spares.items } in
     subst (λ v. room v ≤ room new + 1) c.self.view_is
-    (subst (λ u. room (record { blocks = s; spares = length c.self.inside.spares.items }) ≤ room (record { blocks = u; spares = length c.open.new.spares.items }) + 1) (sym c.put.ensures.shape)
+    (subst (λ u. room (record { blocks = s; spares = length c.self.inside.spares.items })
+    ≤ room (record { blocks = u; spares = length c.open.new.spares.items }) + 1) (sym c.put.ensures.shape)
     (room_left _ _ _ _ _ c.in-Ok.ensures.room (put_load s t (index_of s c.args.place) p c.args.x o) c.in-Ok.ensures.spares))
