@@ -129,7 +129,7 @@ fn help_and_version_tell_what_there_is(rt: HostRuntime) -> Result<(), Fail> {
             &["--help"],
             &["list", "merge", "relate", "loop", "run", "hexadecimal"],
         ),
-        (&["--version"], &["swimtab 0.1.0", "rattle-kit-13b"]),
+        (&["--version"], &["swimtab 0.1.0", "rattle-kit-13f"]),
         (&["list", "--help"], &["swimtab list <FILE>...", "Example"]),
         (
             &["merge", "--help"],

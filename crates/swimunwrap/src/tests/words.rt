@@ -107,7 +107,7 @@ fn help_and_version_tell_what_there_is(rt: HostRuntime) -> Result<(), Fail> {
             &["--help"],
             &["stream", "--skip", "hexadecimal", "encrypted"],
         ),
-        (&["--version"], &["swimunwrap 0.1.0", "rattle-kit-13b"]),
+        (&["--version"], &["swimunwrap 0.1.0", "rattle-kit-13f"]),
         (
             &["stream", "--help"],
             &["swimunwrap stream [OPTIONS] [FILE]", "Example"],
