@@ -1,10 +1,12 @@
 # swimtab: membership tables of a SWIM cluster; swimunwrap: what its members send, without wrappers.
 #
 #   make            the programs, at build/swimtab and build/swimunwrap, and the library for C, at
-#                   build/libswimtab.a and, where there is a C compiler, build/libswimtab.so; some
-#                   15 minutes the first time
-#   make run        the listings of examples/packets.hex and examples/default-cluster.hex
-#   make test       the gate: every proof from nothing, and all tests; some two hours
+#                   build/libswimtab.a and, where there is a C compiler, build/libswimtab.so
+#   make run        a listing of examples/packets.hex within a minute or two, before any proof; then
+#                   swimtab alone is proved and built, and lists it again
+#   make test       the gate: every proof from nothing, and all tests; README says how long it takes
+#   make wrong-bodies
+#                   tries the wrong bodies of crates that changed, and of one crate more; with ANEW=1 all
 #   make bench      what a record costs, by size and by order of the names; some minutes
 #   make install    copies what make built to PREFIX: the programs to bin, their pages to share/man/man1,
 #                   the library to lib, its header to include, and what pkg-config reads to
@@ -20,7 +22,7 @@ AR ?= ar
 SOURCES := $(shell find crates -type f -not -path '*/out/*') crates.txt HANDLES
 VERSION := $(shell sed -n 's/^.define SWIMTAB_VERSION "\(.*\)"/\1/p' include/swimtab.h)
 
-.PHONY: all programs library run test bench install clean help kit
+.PHONY: all programs library run test wrong-bodies bench install clean help kit
 
 programs := swimtab swimunwrap
 
@@ -34,18 +36,15 @@ library: build/libswimtab.a
 
 build/swimbench: words := -- check
 $(programs:%=build/%) build/swimbench: build/%: $(SOURCES) | kit
-	@mkdir -p build
-	@echo 'proving and building $*; the first time takes some minutes'
-	@cd crates/$* && rt run $(words) < /dev/null > out.log 2>&1 || { cat out.log; rm -f out.log; exit 1; }
-	@rm -f crates/$*/out.log
+	@echo 'proving $* and the libraries that it stands on, and building it; some minutes for each the first time'
+	@.ci/prove $* rt run $(words)
 	@cp crates/$*/out/$* build/$*
 
 # the crate's archive, and the kit's few functions over malloc, realloc and free, as one
 build/libswimtab.a: $(SOURCES) | kit
-	@mkdir -p build
-	@echo 'proving and building swim_c; the first time takes some minutes'
-	@cd crates/swim_c && rt lib < /dev/null > out.log 2>&1 || { cat out.log; rm -f out.log; exit 1; }
-	@rm -f crates/swim_c/out.log $@
+	@echo 'proving swim_c and the libraries that it stands on, and building it; some minutes for each the first time'
+	@.ci/prove swim_c rt lib
+	@rm -f $@
 	@printf 'create %s\naddlib %s\naddlib %s\nsave\nend\n' $@ crates/swim_c/out/libswim_c.a \
 		"$$(dirname "$$(rt doc)")/c/liblibc_c.a" | $(AR) -M
 	@$(AR) s $@
@@ -56,12 +55,20 @@ build/libswimtab.so: build/libswimtab.a
 		-Wl,--gc-sections -Wl,--whole-archive $< -Wl,--no-whole-archive
 	@rm -f build/libswimtab.map
 
-run: programs
+run: kit
+	@mkdir -p build
+	@echo 'swimtab lists examples/packets.hex, compiled with checks and before any proof, which takes about a minute:'
+	@cd crates/swimtab && rt try < ../../examples/packets.hex 2> ../../build/try.log || { cat ../../build/try.log; exit 1; }
+	@$(MAKE) --no-print-directory build/swimtab
+	@echo 'and lists it again, proved:'
 	@build/swimtab < examples/packets.hex
-	@build/swimunwrap < examples/default-cluster.hex | build/swimtab
+	@echo 'next: build/swimtab list examples/three.bin'
 
 test: kit
 	@.ci/gate
+
+wrong-bodies: kit
+	@tests/wrong_bodies $(if $(ANEW),,--due)
 
 bench: build/swimbench
 	@build/swimbench
