@@ -1,28 +1,23 @@
 //! Worked examples of names, details, claims and overriding.
+//!
+//! A helper answers in plain values what the owned values in it tell, and the tests compare those.
 ghost use Rattle.std.specs.Prelude.{◌≡◌, IfOk};
 ghost use Rattle.swim_claim.specs.Claim.{name_of};
 
 use crate::*;
 use std::alloc::{AllocError, Global};
 use std::cmp::Ordering;
-use std::process::Abort;
 use std::test::Fail;
 
 const IPV4: [u8; 4] = [0x7f, 0, 0, 1];
 
 const IPV6: [u8; 16] = [0x7f, 0, 0, 1, 0, 0, 0, 0, 0, 0, 0, 0, 0, 0, 0, 0];
 
-fn name_of_bytes(alloc: Global, bytes: &[u8]) -> Result<Name, Fail> {
-    Ok(Name::new(bytes.to_vec(alloc)?)?)
-}
+/// The address, the port, the metadata and the versions of details.
+type Parts<'a> = (&'a [u8], u16, &'a [u8], &'a [u8]);
 
-fn details_of_parts(
-    alloc: Global,
-    addr: &[u8],
-    port: u16,
-    meta: &[u8],
-    vsn: &[u8],
-) -> Result<Details, Fail> {
+fn details_of(alloc: Global, parts: Parts) -> Result<Details, Fail> {
+    let (addr, port, meta, vsn) = parts;
     Ok(Details::new(
         addr.to_vec(alloc)?,
         port,
@@ -32,21 +27,15 @@ fn details_of_parts(
 }
 
 /// A claim of this kind; only an alive one keeps the details.
-fn claim_of_kind(
-    alloc: Global,
-    kind: Kind,
-    name: &Name,
-    inc: u32,
-    details: &Details,
-) -> Result<Claim, Fail>
+fn claim_of(alloc: Global, name: &[u8], kind: Kind, inc: u32, details: Parts) -> Result<Claim, Fail>
     ensures { IfOk result (λ claim. name_of claim ≡ name.now) }
 {
-    let name = name.try_clone(alloc)?;
+    let name = Name::copied(alloc, name)??;
     Ok(match kind {
         Kind::Alive => Claim::Alive {
             name,
             inc,
-            details: details.try_clone(alloc)?,
+            details: details_of(alloc, details)?,
         },
         Kind::Suspect => Claim::Suspect { name, inc },
         Kind::Confirm => Claim::Confirm { name, inc },
@@ -54,61 +43,90 @@ fn claim_of_kind(
     })
 }
 
-#[test]
-fn a_name_has_1_to_1024_bytes(rt: HostRuntime) -> Result<(), Fail> {
-    let rows = [
-        (0, Some(ClaimFault::NameEmpty)),
-        (1, None),
-        (1024, None),
-        (1025, Some(ClaimFault::NameTooLong)),
-    ];
-    for (len, refused) in rows {
-        let bytes = vec![in rt.alloc(); b'n'; len]?;
-        match Name::new(bytes) {
-            Ok(name) => {
-                assert_eq!(rt; refused, None, "{len} bytes");
-                assert_eq!(rt; name.bytes().len(), len);
-                assert!(rt; name.bytes().iter().all(|&b| b == b'n'));
-            }
-            Err(fault) => assert_eq!(rt; Some(fault), refused, "{len} bytes"),
+/// The name again. Where a growth is refused, the next call finds memory.
+fn name_again(alloc: Global, name: &Name) -> Result<Name, AllocError> {
+    match name.try_clone(alloc) {
+        Ok(copy) => Ok(copy),
+        Err(AllocError) => name.try_clone(alloc),
+    }
+}
+
+/// The number of the fault for which the bytes are no name. It is 0 where they are one, and it and
+/// its copy give them.
+fn name_fault(alloc: Global, bytes: &[u8]) -> Result<u32, AllocError> {
+    match Name::new(bytes.to_vec(alloc)?) {
+        Ok(name) => {
+            let given = name.bytes() == bytes;
+            let copied = name_again(alloc, &name)?.bytes() == bytes;
+            Ok(if given && copied { 0 } else { u32::MAX })
         }
+        Err(fault) => Ok(fault.number()),
+    }
+}
+
+#[test]
+fn a_name_has_1_to_1024_bytes_and_gives_them(rt: HostRuntime) -> Result<(), Fail> {
+    let long = [b'n'; 1025];
+    for (bytes, fault) in [
+        (&long[..0], ClaimFault::NameEmpty.number()),
+        (&long[..1], 0),
+        (&long[..1024], 0),
+        (&long, ClaimFault::NameTooLong.number()),
+        (b"\x00a\xff", 0),
+    ] {
+        assert_eq!(rt; name_fault(rt.alloc(), bytes)?, fault, "{bytes:?}");
     }
     Ok(())
+}
+
+/// The number of the fault for which there are no details of so many bytes, or 0.
+fn details_fault(
+    alloc: Global,
+    addr_len: usize,
+    meta_len: usize,
+    vsn_len: usize,
+) -> Result<u32, AllocError> {
+    let addr = vec![in alloc; 1; addr_len]?;
+    let meta = vec![in alloc; 2; meta_len]?;
+    let vsn = vec![in alloc; 3; vsn_len]?;
+    Ok(match Details::new(addr, 7946, meta, vsn) {
+        Ok(_) => 0,
+        Err(fault) => fault.number(),
+    })
 }
 
 #[test]
 fn details_are_refused_at_the_first_part_past_its_limits(rt: HostRuntime) -> Result<(), Fail> {
-    let rows = [
-        (4, 0, 0, None),
-        (16, 512, 6, None),
-        (0, 513, 1, Some(ClaimFault::BadAddress)),
-        (3, 0, 0, Some(ClaimFault::BadAddress)),
-        (5, 0, 0, Some(ClaimFault::BadAddress)),
-        (15, 0, 0, Some(ClaimFault::BadAddress)),
-        (17, 0, 0, Some(ClaimFault::BadAddress)),
-        (4, 513, 0, Some(ClaimFault::MetaTooLong)),
-        (4, 513, 7, Some(ClaimFault::MetaTooLong)),
-        (4, 512, 1, Some(ClaimFault::BadVersions)),
-        (16, 0, 5, Some(ClaimFault::BadVersions)),
-        (16, 0, 7, Some(ClaimFault::BadVersions)),
-    ];
-    for (addr_len, meta_len, vsn_len, refused) in rows {
-        let addr = vec![in rt.alloc(); 1; addr_len]?;
-        let meta = vec![in rt.alloc(); 2; meta_len]?;
-        let vsn = vec![in rt.alloc(); 3; vsn_len]?;
-        let fault = Details::new(addr, 7946, meta, vsn).err();
-        assert_eq!(rt;
-            fault,
-            refused,
-            "{addr_len}, {meta_len} and {vsn_len} bytes"
-        );
+    let address = ClaimFault::BadAddress.number();
+    let meta = ClaimFault::MetaTooLong.number();
+    let versions = ClaimFault::BadVersions.number();
+    for (addr_len, meta_len, vsn_len, fault) in [
+        (4, 0, 0, 0),
+        (16, 512, 6, 0),
+        (0, 513, 1, address),
+        (3, 0, 0, address),
+        (5, 0, 0, address),
+        (15, 0, 0, address),
+        (17, 0, 0, address),
+        (4, 513, 0, meta),
+        (4, 513, 7, meta),
+        (4, 512, 1, versions),
+        (16, 0, 5, versions),
+        (16, 0, 7, versions),
+    ] {
+        let found = details_fault(rt.alloc(), addr_len, meta_len, vsn_len)?;
+        assert_eq!(rt; found, fault, "{addr_len}, {meta_len} and {vsn_len} bytes");
     }
     Ok(())
 }
 
+fn text_of(alloc: Global, fault: ClaimFault) -> Result<String, Fail> {
+    Ok(format!(in alloc; "{fault}")?)
+}
+
 #[test]
 fn a_fault_has_its_number_and_its_text(rt: HostRuntime) -> Result<(), Fail> {
-    let rows = [
+    for (fault, number, text) in [
         (ClaimFault::NameEmpty, 11, "the name is empty"),
         (
             ClaimFault::NameTooLong,
@@ -130,27 +148,53 @@ fn a_fault_has_its_number_and_its_text(rt: HostRuntime) -> Result<(), Fail> {
             15,
             "the versions have neither 0 nor 6 bytes",
         ),
-    ];
-    for (fault, number, text) in rows {
-        assert_eq!(rt; fault.number(), number);
-        assert_eq!(rt; format!(in rt.alloc(); "{fault}")?.as_str(), text);
+    ] {
+        let shown = text_of(rt.alloc(), fault)?.as_str() == text;
+        assert!(rt; shown && fault.number() == number, "{number}: {text}");
     }
     Ok(())
 }
 
-/// Whether the first of two claims about one name overrides the second.
-fn assert_overrides(rt: &impl Abort, claim: &Claim, other: &Claim, answer: bool)
-    requires { name_of claim.now ≡ name_of other.now }
-{
-    assert_eq!(rt; overrides(claim, other), answer, "{claim:?}, {other:?}");
-    assert_eq!(rt; outranks(claim.facts(), other.facts()), answer);
+/// Whether the claim overrides another one about its name, and its facts outrank those of that one.
+fn overrides_another(
+    alloc: Global,
+    claim: &Claim,
+    other: (Kind, u32, Parts),
+) -> Result<[bool; 2], Fail> {
+    let other = claim_of(alloc, claim.name().bytes(), other.0, other.1, other.2)?;
+    Ok([
+        overrides(claim, &other),
+        outranks(claim.facts(), other.facts()),
+    ])
+}
+
+/// What `overrides_another` answers of two claims about `a`.
+fn overriding(
+    alloc: Global,
+    first: (Kind, u32, Parts),
+    second: (Kind, u32, Parts),
+) -> Result<[bool; 2], Fail> {
+    let first = claim_of(alloc, b"a", first.0, first.1, first.2)?;
+    overrides_another(alloc, &first, second)
+}
+
+/// What `overriding` answers where the incarnation of the first claim is below, at and above that of
+/// the second.
+fn overriding_around(alloc: Global, kind: Kind, other: Kind) -> Result<[[bool; 2]; 3], Fail> {
+    let details = (IPV4.as_slice(), 7946, b"".as_slice(), b"".as_slice());
+    let second = (other, 5, details);
+    Ok([
+        overriding(alloc, (kind, 4, details), second)?,
+        overriding(alloc, (kind, 5, details), second)?,
+        overriding(alloc, (kind, 6, details), second)?,
+    ])
 }
 
 #[test]
 fn overriding_follows_the_table_of_kinds(rt: HostRuntime) -> Result<(), Fail> {
     use Kind::{Alive, Confirm, Leave, Suspect};
     // whether the first overrides where its incarnation is below, at and above that of the second
-    let rows = [
+    for (kind, other, below, at, above) in [
         (Alive, Alive, false, false, true),
         (Alive, Suspect, false, false, true),
         (Alive, Confirm, false, false, false),
@@ -167,37 +211,31 @@ fn overriding_follows_the_table_of_kinds(rt: HostRuntime) -> Result<(), Fail> {
         (Leave, Suspect, true, true, true),
         (Leave, Confirm, false, true, true),
         (Leave, Leave, false, false, true),
-    ];
-    let name = name_of_bytes(rt.alloc(), b"a")?;
-    let details = details_of_parts(rt.alloc(), &IPV4, 7946, b"", b"")?;
-    for (kind, other_kind, below, at, above) in rows {
-        for (inc, answer) in [(4, below), (5, at), (6, above)] {
-            let claim = claim_of_kind(rt.alloc(), kind, &name, inc, &details)?;
-            let other = claim_of_kind(rt.alloc(), other_kind, &name, 5, &details)?;
-            assert_overrides(&rt, &claim, &other, answer);
-        }
+    ] {
+        let found = overriding_around(rt.alloc(), kind, other)?;
+        let wanted = [[below; 2], [at; 2], [above; 2]];
+        assert!(rt; found == wanted, "{kind:?} over {other:?}: {found:?}");
     }
     Ok(())
 }
 
-fn assert_less(rt: &impl Abort, lesser: &Details, greater: &Details) {
-    assert_eq!(rt; lesser.cmp(greater), Ordering::Less);
-    assert!(rt; greater > lesser && greater != lesser && greater == greater);
+/// Whether the first details are the lesser ones, by each comparison of them.
+fn are_less(lesser: &Details, greater: &Details) -> bool {
+    lesser.cmp(greater) == Ordering::Less
+        && greater > lesser
+        && greater != lesser
+        && greater == greater
 }
 
-/// Of two Alives about the name the one of the greater details overrides.
-fn assert_alives(
-    rt: &impl Abort,
-    alloc: Global,
-    name: &Name,
-    lesser: &Details,
-    greater: &Details,
-) -> Result<(), Fail> {
-    let first = claim_of_kind(alloc, Kind::Alive, name, 1, lesser)?;
-    let second = claim_of_kind(alloc, Kind::Alive, name, 1, greater)?;
-    assert_overrides(rt, &second, &first, true);
-    assert_overrides(rt, &first, &second, false);
-    Ok(())
+fn less_than(alloc: Global, lesser: &Details, greater: Parts) -> Result<bool, Fail> {
+    let greater = details_of(alloc, greater)?;
+    Ok(are_less(lesser, &greater))
+}
+
+/// Whether details of the first parts are less than those of the second.
+fn less(alloc: Global, lesser: Parts, greater: Parts) -> Result<bool, Fail> {
+    let lesser = details_of(alloc, lesser)?;
+    less_than(alloc, &lesser, greater)
 }
 
 #[test]
@@ -207,7 +245,7 @@ fn of_two_alives_of_one_incarnation_the_greater_details_override(
     let mapped = [0, 0, 0, 0, 0, 0, 0, 0, 0, 0, 0xff, 0xff, 0x0a, 0, 0, 1];
     let ten = [0x0a, 0, 0, 1];
     // the lesser details, then the greater
-    let rows: [[(&[u8], u16, &[u8], &[u8]); 2]; 8] = [
+    let rows: [[Parts; 2]; 8] = [
         [(&IPV4, 255, b"", b""), (&IPV4, 256, b"", b"")],
         [(&IPV4, 7946, b"", b""), (&IPV6, 7946, b"", b"")],
         [(&mapped, 7946, b"", b""), (&ten, 7946, b"", b"")],
@@ -223,93 +261,119 @@ fn of_two_alives_of_one_incarnation_the_greater_details_override(
             (&IPV4, 1, b"a", b"\x01\x05\x02\x02\x05\x05"),
         ],
     ];
-    let name = name_of_bytes(rt.alloc(), b"a")?;
-    for [
-        (addr, port, meta, vsn),
-        (other_addr, other_port, other_meta, other_vsn),
-    ] in rows {
-        let lesser = details_of_parts(rt.alloc(), addr, port, meta, vsn)?;
-        let greater = details_of_parts(rt.alloc(), other_addr, other_port, other_meta, other_vsn)?;
-        assert_less(&rt, &lesser, &greater);
-        assert_alives(&rt, rt.alloc(), &name, &lesser, &greater)?;
+    for [lesser, greater] in rows {
+        let first = (Kind::Alive, 1, lesser);
+        let second = (Kind::Alive, 1, greater);
+        assert!(rt; less(rt.alloc(), lesser, greater)?);
+        assert_eq!(rt; overriding(rt.alloc(), second, first)?, [true; 2]);
+        assert_eq!(rt; overriding(rt.alloc(), first, second)?, [false; 2]);
     }
     Ok(())
 }
 
+/// Which readers of details give these parts.
+fn parts_given(details: &Details, parts: Parts) -> [bool; 4] {
+    let (addr, port, meta, vsn) = parts;
+    [
+        details.addr() == addr,
+        details.port() == port,
+        details.meta() == meta,
+        details.vsn() == vsn,
+    ]
+}
+
+/// The details again. Where a growth is refused, the next call finds memory.
+fn details_again(alloc: Global, details: &Details) -> Result<Details, AllocError> {
+    match details.try_clone(alloc) {
+        Ok(copy) => Ok(copy),
+        Err(AllocError) => details.try_clone(alloc),
+    }
+}
+
+/// Which readers of details, and of their copy, give their parts.
+fn details_given(alloc: Global, parts: Parts) -> Result<[[bool; 4]; 2], Fail> {
+    let details = details_of(alloc, parts)?;
+    let copy = details_again(alloc, &details)?;
+    Ok([parts_given(&details, parts), parts_given(&copy, parts)])
+}
+
+#[test]
+fn details_give_their_parts_and_so_do_their_copies(rt: HostRuntime) -> Result<(), Fail> {
+    let versions = b"\x01\x05\x02\x02\x05\x04".as_slice();
+    let parts = (IPV6.as_slice(), 255, b"web".as_slice(), versions);
+    assert_eq!(rt; details_given(rt.alloc(), parts)?, [[true; 4]; 2]);
+    Ok(())
+}
+
 /// The claim again. Where a growth is refused, the next call finds memory.
-fn copy_of(alloc: Global, claim: &Claim) -> Result<Claim, AllocError> {
+fn claim_again(alloc: Global, claim: &Claim) -> Result<Claim, AllocError> {
     match claim.try_clone(alloc) {
         Ok(copy) => Ok(copy),
         Err(AllocError) => claim.try_clone(alloc),
     }
 }
 
-/// That the claim is about `a`, and has these parts.
-fn assert_parts(rt: &impl Abort, claim: &Claim, kind: Kind, inc: u32, details: Option<&Details>) {
-    assert_eq!(rt; claim.name().bytes(), b"a".as_slice());
-    assert_eq!(rt; claim.inc(), inc);
-    assert_eq!(rt; claim.kind(), kind);
-    assert_eq!(rt; claim.details(), details);
+/// Whether these are details of the parts, or there are none, and should be none.
+fn are(details: Option<&Details>, parts: Option<Parts>) -> bool {
+    match (details, parts) {
+        (Some(details), Some(parts)) => parts_given(details, parts) == [true; 4],
+        (None, None) => true,
+        _ => false,
+    }
+}
+
+/// Which readers of a claim about `a`, and of its facts, give its parts.
+fn claim_parts_given(claim: &Claim, kind: Kind, inc: u32, details: Option<Parts>) -> [bool; 7] {
     let facts = claim.facts();
-    assert_eq!(rt; facts.kind, kind);
-    assert_eq!(rt; facts.inc, inc);
-    assert_eq!(rt; facts.details, details);
+    [
+        claim.name().bytes() == b"a".as_slice(),
+        claim.inc() == inc,
+        claim.kind() == kind,
+        are(claim.details(), details),
+        facts.kind == kind,
+        facts.inc == inc,
+        are(facts.details, details),
+    ]
+}
+
+fn copy_given(
+    alloc: Global,
+    claim: &Claim,
+    kind: Kind,
+    inc: u32,
+    details: Option<Parts>,
+) -> Result<[bool; 7], AllocError> {
+    let copy = claim_again(alloc, claim)?;
+    Ok(claim_parts_given(&copy, kind, inc, details))
+}
+
+/// Which readers of a claim about `a`, and of its copy, give its parts.
+fn claim_given(
+    alloc: Global,
+    kind: Kind,
+    inc: u32,
+    details: Parts,
+) -> Result<[[bool; 7]; 2], Fail> {
+    let wanted = (kind == Kind::Alive).then_some(details);
+    let claim = claim_of(alloc, b"a", kind, inc, details)?;
+    let given = claim_parts_given(&claim, kind, inc, wanted);
+    Ok([given, copy_given(alloc, &claim, kind, inc, wanted)?])
 }
 
 #[test]
 fn readers_give_the_parts_of_a_claim_and_of_its_copy(rt: HostRuntime) -> Result<(), Fail> {
-    let name = name_of_bytes(rt.alloc(), b"a")?;
-    let plain = details_of_parts(rt.alloc(), &IPV4, 7946, b"", b"")?;
-    let full = details_of_parts(
-        rt.alloc(),
-        &IPV6,
-        65535,
-        b"web",
-        b"\x01\x05\x02\x02\x05\x04",
-    )?;
-    let rows = [
-        (Kind::Alive, 0, &plain),
-        (Kind::Alive, 4294967295, &full),
-        (Kind::Suspect, 1, &plain),
-        (Kind::Confirm, 2, &plain),
-        (Kind::Leave, 3, &plain),
-    ];
-    for (kind, inc, details) in rows {
-        let details = (kind == Kind::Alive).then_some(details);
-        let claim = claim_of_kind(rt.alloc(), kind, &name, inc, details.unwrap_or(&plain))?;
-        assert_parts(&rt, &claim, kind, inc, details);
-        let copy = copy_of(rt.alloc(), &claim)?;
-        assert_parts(&rt, &copy, kind, inc, details);
+    let versions = b"\x01\x05\x02\x02\x05\x04".as_slice();
+    let plain = (IPV4.as_slice(), 7946, b"".as_slice(), b"".as_slice());
+    let full = (IPV6.as_slice(), 65535, b"web".as_slice(), versions);
+    for (kind, inc, details) in [
+        (Kind::Alive, 0, plain),
+        (Kind::Alive, 4294967295, full),
+        (Kind::Suspect, 1, plain),
+        (Kind::Confirm, 2, plain),
+        (Kind::Leave, 3, plain),
+    ] {
+        let given = claim_given(rt.alloc(), kind, inc, details)?;
+        assert_eq!(rt; given, [[true; 7]; 2], "{kind:?} of {inc}");
     }
-    Ok(())
-}
-
-#[test]
-fn a_name_gives_its_bytes_and_so_does_its_copy(rt: HostRuntime) -> Result<(), Fail> {
-    let name = name_of_bytes(rt.alloc(), b"\x00a\xff")?;
-    let copy = match name.try_clone(rt.alloc()) {
-        Ok(copy) => copy,
-        Err(AllocError) => name.try_clone(rt.alloc())?,
-    };
-    assert_eq!(rt; copy.bytes(), b"\x00a\xff".as_slice());
-    Ok(())
-}
-
-fn assert_full(rt: &impl Abort, details: &Details) {
-    assert_eq!(rt; details.addr(), IPV6.as_slice());
-    assert_eq!(rt; details.port(), 255);
-    assert_eq!(rt; details.meta(), b"web".as_slice());
-    assert_eq!(rt; details.vsn(), b"\x01\x05\x02\x02\x05\x04".as_slice());
-}
-
-#[test]
-fn details_give_their_parts_and_so_do_their_copies(rt: HostRuntime) -> Result<(), Fail> {
-    let details = details_of_parts(rt.alloc(), &IPV6, 255, b"web", b"\x01\x05\x02\x02\x05\x04")?;
-    assert_full(&rt, &details);
-    let copy = match details.try_clone(rt.alloc()) {
-        Ok(copy) => copy,
-        Err(AllocError) => details.try_clone(rt.alloc())?,
-    };
-    assert_full(&rt, &copy);
     Ok(())
 }
