@@ -92,6 +92,21 @@ impl Taker {
             refusal: Refusal::Error(ErrorKind::ConnectionReset),
         }
     }
+
+    /// One byte a write, so many of them, and then this refusal.
+    pub fn refusing(refusal: Refusal, good: u32) -> Taker {
+        let mut taker = Taker::new(1);
+        taker.refuses_at = good.saturating_add(1);
+        taker.refusal = refusal;
+        taker
+    }
+
+    /// One byte a write, after it was interrupted so many times.
+    pub fn interrupted(interruptions: u32) -> Taker {
+        let mut taker = Taker::new(1);
+        taker.interruptions = interruptions;
+        taker
+    }
 }
 
 impl Write for Taker {

@@ -1,21 +1,14 @@
 //! The numbers and texts of the faults.
 
+use crate::tests::{assert_answer, assert_bytes};
 use crate::{PackFault, PullFault, PushFault};
 use std::alloc::{AllocError, Global};
 use std::fmt::Display;
 use std::process::Abort;
 use std::test::Fail;
 
-/// The text that is shown for it, tried once more where memory is refused.
-fn text_of<T: Display>(alloc: Global, fault: &T) -> Result<String, AllocError> {
-    match format!(in alloc; "{fault}") {
-        Err(_) => format!(in alloc; "{fault}"),
-        text => text,
-    }
-}
-
 fn assert_number(rt: &impl Abort, number: u32, wanted: u32) {
-    assert_eq!(rt; number, wanted);
+    assert_answer(rt, (number, 0), (wanted, 0), b"");
 }
 
 #[test]
@@ -40,15 +33,22 @@ fn each_fault_has_its_number(rt: HostRuntime) {
     }
 }
 
-/// That the fault is shown by this text.
+fn shown<T: Display>(alloc: Global, fault: &T) -> Result<String, AllocError> {
+    format!(in alloc; "{fault}")
+}
+
+/// That the fault is shown by this text, tried once more where memory is refused.
 fn assert_shows<T: Display>(
     rt: &impl Abort,
     alloc: Global,
     fault: &T,
     wanted: &str,
 ) -> Result<(), AllocError> {
-    let text = text_of(alloc, fault)?;
-    assert_eq!(rt; text.as_str(), wanted);
+    let text = match shown(alloc, fault) {
+        Err(_) => shown(alloc, fault)?,
+        Ok(text) => text,
+    };
+    assert_bytes(rt, text.as_bytes(), wanted.as_bytes());
     Ok(())
 }
 

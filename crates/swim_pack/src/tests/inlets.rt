@@ -1,20 +1,20 @@
 //! Inlets over memory and over readers, where they give, end and fail.
+//!
+//! A pull stands as the bytes that it has to give and 0, or as so many bytes and its fault's number:
+//! 1 at an end, 9 at a failure.
 
 use crate::tests::fakes::Pieces;
-use crate::tests::{assert_bytes, assert_pull_refused, assert_pulls};
-use crate::{FromRead, Inlet, PullFault, SliceInlet, StopInlet};
+use crate::tests::{assert_answer, assert_bytes, assert_pull, assert_pulls, pull_number};
+use crate::{FromRead, Inlet, SliceInlet, StopInlet};
 use std::io::ErrorKind;
 use std::process::Abort;
 
 #[test]
 fn bytes_in_memory_come_in_order_and_then_end(rt: HostRuntime) {
     let mut inlet = SliceInlet::new(b"abc");
-    assert_pulls(&rt, &mut inlet, b"ab");
-    assert_pull_refused(&rt, &mut inlet, 2, PullFault::Ended);
+    assert_pulls(&rt, &mut inlet, &[(b"ab", 0), (b"..", 1)]);
     assert_bytes(&rt, inlet.rest(), b"c");
-    assert_pulls(&rt, &mut inlet, b"c");
-    assert_pull_refused(&rt, &mut inlet, 1, PullFault::Ended);
-    assert_pulls(&rt, &mut inlet, b"");
+    assert_pulls(&rt, &mut inlet, &[(b"c", 0), (b".", 1), (b"", 0)]);
 }
 
 /// That an inlet which fails from this call on gives the bytes before, each behind a pull of
@@ -22,12 +22,9 @@ fn bytes_in_memory_come_in_order_and_then_end(rt: HostRuntime) {
 fn assert_stops(rt: &impl Abort, calls: usize, good: &[u8]) {
     let mut inlet = StopInlet::new(b"abcd", calls);
     for byte in good {
-        assert_pulls(rt, &mut inlet, b"");
-        assert_pulls(rt, &mut inlet, &[*byte]);
+        assert_pulls(rt, &mut inlet, &[(b"", 0), (&[*byte], 0)]);
     }
-    assert_pulls(rt, &mut inlet, b"");
-    assert_pull_refused(rt, &mut inlet, 1, PullFault::Fault);
-    assert_pull_refused(rt, &mut inlet, 1, PullFault::Fault);
+    assert_pulls(rt, &mut inlet, &[(b"", 0), (b".", 9), (b".", 9)]);
 }
 
 #[test]
@@ -36,89 +33,85 @@ fn a_stop_inlet_fails_from_its_call_on(rt: HostRuntime) {
     assert_stops(&rt, 1, b"");
     assert_stops(&rt, 2, b"a");
     assert_stops(&rt, 3, b"ab");
-    assert_pull_refused(&rt, &mut StopInlet::new(b"a", 2), 2, PullFault::Ended);
+    assert_pull(&rt, &mut StopInlet::new(b"a", 2), b"..", 1);
 }
 
-/// That a reader of at most so many bytes a read gives ten of them, and then ends.
-fn assert_gives_pieces(rt: &impl Abort, most: usize) {
-    let mut inlet = FromRead::new(Pieces::new(b"0123456789", most));
-    assert_pulls(rt, &mut inlet, b"012");
-    assert_pulls(rt, &mut inlet, b"3456789");
-    assert_pulls(rt, &mut inlet, b"");
-    assert_pull_refused(rt, &mut inlet, 1, PullFault::Ended);
-    assert!(rt; inlet.unbroken(), "an end is no error");
+/// That an inlet over a reader gives pulls while it is unbroken, and then more, which leave it
+/// unbroken or do not. Answers how often the reader was asked.
+fn asked(
+    rt: &impl Abort,
+    mut reader: Pieces<'_>,
+    good: &[(&[u8], u32)],
+    more: &[(&[u8], u32)],
+    unbroken: bool,
+) -> u32 {
+    let mut inlet = FromRead::new(&mut reader);
+    assert_pulls(rt, &mut inlet, good);
+    assert_answer(rt, (0, u64::from(inlet.unbroken())), (0, 1), b"at first");
+    assert_pulls(rt, &mut inlet, more);
+    let left = u64::from(inlet.unbroken());
+    assert_answer(rt, (0, left), (0, u64::from(unbroken)), b"at last");
+    reader.reads
+}
+
+/// That the reader was asked so often.
+fn assert_asked(rt: &impl Abort, found: u32, wanted: u64) {
+    assert_answer(rt, (0, u64::from(found)), (0, wanted), b"asked");
 }
 
 #[test]
 fn a_reader_gives_its_bytes_in_pieces_of_any_size(rt: HostRuntime) {
     for most in 1..8 {
-        assert_gives_pieces(&rt, most);
+        let reader = Pieces::new(b"0123456789", most);
+        let pulls = [(b"012".as_slice(), 0), (b"3456789", 0), (b"", 0), (b".", 1)];
+        let _ = asked(&rt, reader, &pulls, &[], true);
     }
 }
 
 #[test]
 fn a_reader_is_asked_only_where_the_buffer_is_empty(rt: HostRuntime) {
-    let bytes = [7; 5000];
-    let mut reader = Pieces::new(&bytes, usize::MAX);
-    let mut inlet = FromRead::new(&mut reader);
-    for _ in 0..5000 {
-        assert_pulls(&rt, &mut inlet, &[7]);
-    }
-    assert_eq!(rt; reader.reads, 2);
-}
-
-/// That a reader which is interrupted so often gives its two bytes, and is broken if at all.
-fn assert_goes_on(rt: &impl Abort, interruptions: u32) {
-    let mut inlet = FromRead::new(Pieces::interrupted(b"ab", interruptions, 0));
-    assert!(rt; inlet.unbroken());
-    assert_pulls(rt, &mut inlet, b"ab");
-    assert_eq!(rt; inlet.unbroken(), interruptions == 0, "{interruptions}");
+    let reader = Pieces::new(&[7; 5000], usize::MAX);
+    let pulls = [(b"\x07".as_slice(), 0); 5000];
+    assert_asked(&rt, asked(&rt, reader, &pulls, &[], true), 2);
 }
 
 #[test]
 fn a_reader_may_be_interrupted_a_thousand_times_a_pull(rt: HostRuntime) {
-    assert_goes_on(&rt, 0);
-    assert_goes_on(&rt, 1);
-    assert_goes_on(&rt, 1000);
-    let mut inlet = FromRead::new(Pieces::interrupted(b"ab", 1001, 0));
-    assert!(rt; inlet.unbroken());
-    assert_pull_refused(&rt, &mut inlet, 2, PullFault::Fault);
-    assert!(rt; !inlet.unbroken());
+    for (interruptions, fault, unbroken) in [
+        (0, 0, true),
+        (1, 0, false),
+        (1000, 0, false),
+        (1001, 9, false),
+    ] {
+        let reader = Pieces::interrupted(b"ab", interruptions, 0);
+        let _ = asked(&rt, reader, &[], &[(b"ab", fault)], unbroken);
+    }
 }
 
 #[test]
 fn interruptions_are_counted_for_each_pull(rt: HostRuntime) {
+    let reader = Pieces::interrupted(b"abcd", 600, 600);
+    let _ = asked(&rt, reader, &[], &[(b"a", 0), (b"b", 0)], false);
     let mut inlet = FromRead::new(Pieces::interrupted(b"abcd", 600, 600));
-    assert_pulls(&rt, &mut inlet, b"a");
-    assert_pulls(&rt, &mut inlet, b"b");
-    let mut inlet = FromRead::new(Pieces::interrupted(b"abcd", 600, 600));
-    assert_pull_refused(&rt, &mut inlet, 2, PullFault::Fault);
-    let mut byte = [0; 1];
-    assert_eq!(rt; inlet.pull(&mut byte), Ok(()));
-}
-
-/// That a reader which fails so is asked once.
-fn assert_fails_at_once(rt: &impl Abort, kind: ErrorKind) {
-    let mut reader = Pieces::failing(b"", 1, kind);
-    let mut inlet = FromRead::new(&mut reader);
-    assert_pull_refused(rt, &mut inlet, 1, PullFault::Fault);
-    assert_eq!(rt; reader.reads, 1);
+    assert_pull(&rt, &mut inlet, b"..", 9);
+    let found = pull_number(inlet.pull(&mut [0]));
+    assert_answer(&rt, (found, 0), (0, 0), b"behind it");
 }
 
 #[test]
 fn each_other_error_of_a_reader_is_a_fault_at_once(rt: HostRuntime) {
     for kind in [ErrorKind::WouldBlock, ErrorKind::TimedOut, ErrorKind::Other] {
-        assert_fails_at_once(&rt, kind);
+        let reader = Pieces::failing(b"", 1, kind);
+        assert_asked(&rt, asked(&rt, reader, &[], &[(b".", 9)], false), 1);
     }
 }
 
 #[test]
 fn a_reader_that_fails_in_mid_stream_is_a_fault(rt: HostRuntime) {
-    let mut inlet = FromRead::new(Pieces::failing(b"abc", 2, ErrorKind::ConnectionReset));
-    assert_pulls(&rt, &mut inlet, b"a");
-    assert!(rt; inlet.unbroken());
-    assert_pull_refused(&rt, &mut inlet, 3, PullFault::Fault);
-    assert!(rt; !inlet.unbroken());
-    assert_pulls(&rt, &mut inlet, b"");
-    assert_pull_refused(&rt, &mut inlet, 1, PullFault::Fault);
+    let pulls = [(b"a".as_slice(), 0), (b"...", 9), (b"", 0), (b".", 9)];
+    // Broken it is at the fault, and it stays so.
+    for end in [2, 4] {
+        let reader = Pieces::failing(b"abc", 2, ErrorKind::ConnectionReset);
+        let _ = asked(&rt, reader, &pulls[..1], &pulls[1..end], false);
+    }
 }

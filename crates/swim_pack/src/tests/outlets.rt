@@ -1,79 +1,91 @@
 //! Outlets into memory and over writers, where they take and fail.
+//!
+//! What a push answers stands as its fault's number: 10 without memory, 29 at a failure.
 
-use crate::tests::assert_bytes;
 use crate::tests::fakes::{Refusal, Taker};
+use crate::tests::{assert_answer, assert_bytes};
 use crate::{Outlet, PushFault, StopOutlet, ToWrite, VecOutlet, write_whole};
+use std::alloc::Global;
 use std::io::ErrorKind;
 use std::process::Abort;
 
+fn push_number(pushed: Result<(), PushFault>) -> u32 {
+    match pushed {
+        Ok(()) => 0,
+        Err(fault) => fault.number(),
+    }
+}
+
 /// What pushing the bytes has to answer.
-fn assert_pushes(
-    rt: &impl Abort,
-    outlet: &mut impl Outlet,
-    bytes: &[u8],
-    wanted: Result<(), PushFault>,
-) {
-    assert_eq!(rt; outlet.push(bytes), wanted);
+fn assert_pushes(rt: &impl Abort, outlet: &mut impl Outlet, bytes: &[u8], fault: u32) {
+    let found = push_number(outlet.push(bytes));
+    assert_answer(rt, (found, 0), (fault, 0), bytes);
+}
+
+/// Pushes three bytes, once more where memory was refused.
+fn assert_takes(rt: &impl Abort, outlet: &mut VecOutlet) {
+    let fault = push_number(outlet.push(b"abc"));
+    if fault != 0 {
+        assert_answer(rt, (fault, 0), (10, 0), b"abc");
+        assert_bytes(rt, outlet.bytes(), b"");
+        assert_pushes(rt, outlet, b"abc", 0);
+    }
+    assert_bytes(rt, outlet.bytes(), b"abc");
 }
 
 #[test]
 fn a_push_that_is_refused_memory_writes_nothing(rt: HostRuntime) {
-    let mut outlet = VecOutlet::new(rt.alloc());
-    let mut answer = outlet.push(b"abc");
-    if answer == Err(PushFault::Memory) {
-        assert!(rt; outlet.bytes().is_empty());
-        answer = outlet.push(b"abc");
-    }
-    assert_eq!(rt; answer, Ok(()));
-    assert_bytes(&rt, outlet.bytes(), b"abc");
+    assert_takes(&rt, &mut VecOutlet::new(rt.alloc()));
 }
 
-/// Pushes a byte, and answers whether memory was refused for it, in which case nothing is pushed.
-fn lacks_memory(rt: &impl Abort, outlet: &mut StopOutlet) -> bool {
+/// Pushes a byte, and answers 1 where memory was refused for it, in which case nothing is pushed.
+fn refusals(rt: &impl Abort, outlet: &mut StopOutlet) -> u64 {
     let len = outlet.bytes().len();
-    match outlet.push(b"a") {
-        Ok(()) => {
-            assert_eq!(rt; outlet.bytes().len(), len + 1);
-            false
-        }
-        Err(fault) => {
-            assert_eq!(rt; fault, PushFault::Memory);
-            assert_eq!(rt; outlet.bytes().len(), len);
-            true
-        }
-    }
+    let fault = push_number(outlet.push(b"a"));
+    let grown = outlet.bytes().len().wrapping_sub(len);
+    let wanted = if fault == 0 { (0, 1) } else { (10, 0) };
+    assert_answer(rt, (fault, grown as u64), wanted, b"a");
+    u64::from(fault != 0)
 }
 
 /// That the outlet fails, and takes nothing.
 fn assert_stopped(rt: &impl Abort, outlet: &mut StopOutlet) {
-    let len = outlet.bytes().len();
-    assert_pushes(rt, outlet, b"a", Err(PushFault::Fault));
-    assert_pushes(rt, outlet, b"", Err(PushFault::Fault));
-    assert_eq!(rt; outlet.bytes().len(), len);
+    let len = outlet.bytes().len() as u64;
+    assert_pushes(rt, outlet, b"a", 29);
+    assert_pushes(rt, outlet, b"", 29);
+    assert_answer(rt, (0, outlet.bytes().len() as u64), (0, len), b"a");
+}
+
+/// That an outlet which fails from this call on takes so many bytes before. Answers how often
+/// memory was refused for one.
+fn refusals_before(rt: &impl Abort, alloc: Global, calls: usize, good: u32) -> u64 {
+    let mut outlet = StopOutlet::new(alloc, calls);
+    let mut count = 0u64;
+    for _ in 0..good {
+        count = count.saturating_add(refusals(rt, &mut outlet));
+    }
+    assert_stopped(rt, &mut outlet);
+    count
 }
 
 #[test]
 fn a_stop_outlet_fails_from_its_call_on(rt: HostRuntime) {
-    let mut refusals = 0u32;
+    let mut count = 0u64;
     for (calls, good) in [(0, 0), (1, 0), (2, 1), (3, 2)] {
-        let mut outlet = StopOutlet::new(rt.alloc(), calls);
-        for _ in 0..good {
-            if lacks_memory(&rt, &mut outlet) {
-                refusals = refusals.saturating_add(1);
-            }
-        }
-        assert_stopped(&rt, &mut outlet);
+        count = count.saturating_add(refusals_before(&rt, rt.alloc(), calls, good));
     }
-    assert!(rt; refusals <= 1, "a run refuses one growth at most");
+    // A run refuses one growth at most.
+    assert_answer(&rt, (0, count.saturating_sub(1)), (0, 0), b"refusals");
 }
 
 /// That a writer which takes at most so many bytes a write gets all of them.
 fn assert_gets_all(rt: &impl Abort, most: usize) {
     let mut writer = Taker::new(most);
     let mut outlet = ToWrite::new(&mut writer);
-    assert_pushes(rt, &mut outlet, b"abc", Ok(()));
-    assert_pushes(rt, &mut outlet, b"", Ok(()));
-    assert_eq!(rt; write_whole(&mut writer, b"defgh"), Ok(()), "{most}");
+    assert_pushes(rt, &mut outlet, b"abc", 0);
+    assert_pushes(rt, &mut outlet, b"", 0);
+    let fault = push_number(write_whole(&mut writer, b"defgh"));
+    assert_answer(rt, (fault, 0), (0, 0), b"defgh");
     assert_bytes(rt, &writer.taken, b"abcdefgh");
 }
 
@@ -84,14 +96,10 @@ fn a_writer_gets_all_bytes_however_few_it_takes(rt: HostRuntime) {
     }
 }
 
-/// That a writer which refuses a write behind so many good ones gets these bytes alone.
-fn assert_refuses(rt: &impl Abort, refusal: Refusal, good: u32) {
-    let mut writer = Taker::new(1);
-    writer.refuses_at = good.saturating_add(1);
-    writer.refusal = refusal;
-    let mut outlet = ToWrite::new(&mut writer);
-    assert_pushes(rt, &mut outlet, b"abcde", Err(PushFault::Fault));
-    assert_eq!(rt; writer.len as u64, u64::from(good));
+/// That a push to the writer has this fault. Answers how many bytes the writer got.
+fn taken(rt: &impl Abort, mut writer: Taker, bytes: &[u8], fault: u32) -> u64 {
+    assert_pushes(rt, &mut ToWrite::new(&mut writer), bytes, fault);
+    writer.len as u64
 }
 
 #[test]
@@ -103,20 +111,14 @@ fn a_writer_that_takes_nothing_or_fails_is_a_fault(rt: HostRuntime) {
         Refusal::Error(ErrorKind::ConnectionReset),
     ] {
         for good in 0..5 {
-            assert_refuses(&rt, refusal, good);
+            let len = taken(&rt, Taker::refusing(refusal, good), b"abcde", 29);
+            assert_answer(&rt, (0, len), (0, u64::from(good)), b"abcde");
         }
     }
 }
 
-/// What a push to a writer that is interrupted so often has to answer.
-fn assert_interrupted(rt: &impl Abort, interruptions: u32, wanted: Result<(), PushFault>) {
-    let mut writer = Taker::new(1);
-    writer.interruptions = interruptions;
-    assert_pushes(rt, &mut ToWrite::new(&mut writer), b"ab", wanted);
-}
-
 #[test]
 fn a_writer_may_be_interrupted_a_thousand_times_a_push(rt: HostRuntime) {
-    assert_interrupted(&rt, 1000, Ok(()));
-    assert_interrupted(&rt, 1001, Err(PushFault::Fault));
+    let _ = taken(&rt, Taker::interrupted(1000), b"ab", 0);
+    let _ = taken(&rt, Taker::interrupted(1001), b"ab", 29);
 }

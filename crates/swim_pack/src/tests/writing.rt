@@ -1,10 +1,8 @@
 //! Values by their canonical spellings, as they are written and read back.
 
-use crate::tests::assert_bytes;
-use crate::{
-    SliceInlet, read_bool, read_map_len, read_raw, read_uint, write_bool, write_map_len, write_raw,
-    write_uint,
-};
+use crate::tests::reading::{Kind, read};
+use crate::tests::{assert_answer, assert_bytes};
+use crate::{PackFault, SliceInlet, read_raw, write_bool, write_map_len, write_raw, write_uint};
 use std::alloc::{AllocError, Global};
 use std::process::Abort;
 use std::test::Fail;
@@ -53,35 +51,43 @@ fn assert_written(
     Ok(())
 }
 
+/// Values with their spellings, but for long bytes.
+const VALUES: &[(Value<'static>, &[u8])] = &[
+    (Value::Number(0), b"\x00"),
+    (Value::Number(127), b"\x7f"),
+    (Value::Number(128), b"\xcc\x80"),
+    (Value::Number(255), b"\xcc\xff"),
+    (Value::Number(256), b"\xcd\x01\x00"),
+    (Value::Number(7946), b"\xcd\x1f\x0a"),
+    (Value::Number(65535), b"\xcd\xff\xff"),
+    (Value::Number(131072), b"\xce\x00\x02\x00\x00"),
+    (Value::Number(4294967295), b"\xce\xff\xff\xff\xff"),
+    (
+        Value::Number(4294967296),
+        b"\xcf\x00\x00\x00\x01\x00\x00\x00\x00",
+    ),
+    (Value::Truth(false), b"\xc2"),
+    (Value::Truth(true), b"\xc3"),
+    (Value::Bytes(b""), b"\xa0"),
+    (Value::Bytes(b"Node"), b"\xa4Node"),
+    (Value::Pairs(6), b"\x86"),
+    (Value::Pairs(15), b"\x8f"),
+];
+
+const LONG: [u8; 65535] = [0x6e; 65535];
+
 #[test]
 fn each_value_has_its_canonical_spelling(rt: HostRuntime) -> Result<(), Fail> {
-    let long = [0x6e; 65535];
-    for (value, head, tail) in [
-        (Value::Number(0), b"\x00".as_slice(), b"".as_slice()),
-        (Value::Number(127), b"\x7f", b""),
-        (Value::Number(128), b"\xcc\x80", b""),
-        (Value::Number(255), b"\xcc\xff", b""),
-        (Value::Number(256), b"\xcd\x01\x00", b""),
-        (Value::Number(7946), b"\xcd\x1f\x0a", b""),
-        (Value::Number(65535), b"\xcd\xff\xff", b""),
-        (Value::Number(131072), b"\xce\x00\x02\x00\x00", b""),
-        (Value::Number(4294967295), b"\xce\xff\xff\xff\xff", b""),
-        (
-            Value::Number(4294967296),
-            b"\xcf\x00\x00\x00\x01",
-            b"\x00\x00\x00\x00",
-        ),
-        (Value::Truth(false), b"\xc2", b""),
-        (Value::Truth(true), b"\xc3", b""),
-        (Value::Bytes(b""), b"\xa0", b""),
-        (Value::Bytes(b"Node"), b"\xa4", b"Node"),
-        (Value::Bytes(&long[..31]), b"\xbf", &long[..31]),
-        (Value::Bytes(&long[..32]), b"\xda\x00\x20", &long[..32]),
-        (Value::Bytes(&long), b"\xda\xff\xff", &long),
-        (Value::Pairs(6), b"\x86", b""),
-        (Value::Pairs(15), b"\x8f", b""),
+    for (value, text) in VALUES {
+        assert_written(&rt, rt.alloc(), *value, text, b"")?;
+    }
+    for (len, head) in [
+        (31, b"\xbf".as_slice()),
+        (32, b"\xda\x00\x20"),
+        (65535, b"\xda\xff\xff"),
     ] {
-        assert_written(&rt, rt.alloc(), value, head, tail)?;
+        let bytes = &LONG[..len];
+        assert_written(&rt, rt.alloc(), Value::Bytes(bytes), head, bytes)?;
     }
     Ok(())
 }
@@ -100,14 +106,19 @@ fn four_values(alloc: Global) -> Result<Vec<u8>, AllocError> {
     Ok(out)
 }
 
+/// Reads bytes, and answers how many they are.
+fn raw_len(alloc: Global, inlet: &mut SliceInlet<'_>) -> Result<u64, PackFault> {
+    Ok(read_raw(alloc, inlet, 0)?.len() as u64)
+}
+
 /// That the four values are read back, and nothing is left behind them.
-fn assert_read_back(rt: &impl Abort, alloc: Global, bytes: &[u8]) -> Result<(), Fail> {
+fn assert_read_back(rt: &impl Abort, alloc: Global, bytes: &[u8]) -> Result<(), PackFault> {
     let mut inlet = SliceInlet::new(bytes);
-    assert_eq!(rt; read_uint(&mut inlet, 65535), Ok(7946));
-    assert_eq!(rt; read_raw(alloc, &mut inlet, 0)?.len(), 0);
-    assert_eq!(rt; read_map_len(&mut inlet, 6), Ok(6));
-    assert_eq!(rt; read_bool(&mut inlet), Ok(false));
-    assert!(rt; inlet.rest().is_empty());
+    assert_answer(rt, read(Kind::Number, &mut inlet, 65535), (0, 7946), bytes);
+    assert_answer(rt, (0, raw_len(alloc, &mut inlet)?), (0, 0), bytes);
+    assert_answer(rt, read(Kind::Pairs, &mut inlet, 6), (0, 6), bytes);
+    assert_answer(rt, read(Kind::Truth, &mut inlet, 0), (0, 0), bytes);
+    assert_bytes(rt, inlet.rest(), b"");
     Ok(())
 }
 
@@ -115,7 +126,8 @@ fn assert_read_back(rt: &impl Abort, alloc: Global, bytes: &[u8]) -> Result<(), 
 fn written_values_are_read_back(rt: HostRuntime) -> Result<(), Fail> {
     let out = four_values(rt.alloc())?;
     assert_bytes(&rt, &out, b"\xcd\x1f\x0a\xa0\x86\xc2");
-    assert_read_back(&rt, rt.alloc(), &out)
+    assert_read_back(&rt, rt.alloc(), &out)?;
+    Ok(())
 }
 
 #[test]
@@ -126,6 +138,6 @@ fn a_refused_tail_takes_its_head_back(rt: HostRuntime) -> Result<(), Fail> {
         Err(_) => return Ok(()),
     };
     written(Value::Bytes(&[7; 40]), &mut out)?;
-    assert_eq!(rt; out.len(), 43);
+    assert_answer(&rt, (0, out.len() as u64), (0, 43), b"");
     Ok(())
 }
