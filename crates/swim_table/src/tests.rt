@@ -1,10 +1,55 @@
 //! Tables of a few claims, by their listings.
 
+/// A claim that the member is alive, with these details.
+macro_rules! alive {
+    ($name:expr, $inc:expr, $addr:expr, $port:expr) => {
+        Saying {
+            kind: Kind::Alive,
+            name: $name,
+            inc: $inc,
+            addr: $addr,
+            port: $port,
+        }
+    };
+}
+
+/// A claim of this kind, which has no details.
+macro_rules! bare {
+    ($kind:expr, $name:expr, $inc:expr) => {
+        Saying {
+            kind: $kind,
+            name: $name,
+            inc: $inc,
+            addr: LOOPBACK,
+            port: 0,
+        }
+    };
+}
+
+macro_rules! suspect {
+    ($name:expr, $inc:expr) => {
+        bare!(Kind::Suspect, $name, $inc)
+    };
+}
+
+macro_rules! confirm {
+    ($name:expr, $inc:expr) => {
+        bare!(Kind::Confirm, $name, $inc)
+    };
+}
+
+macro_rules! leave {
+    ($name:expr, $inc:expr) => {
+        bare!(Kind::Leave, $name, $inc)
+    };
+}
+
 mod dumps;
 mod many;
 mod node;
 mod pieces;
 mod plain;
+mod steps;
 mod streams;
 mod tables;
 
@@ -25,59 +70,34 @@ struct Saying {
 
 const LOOPBACK: &[u8] = b"\x7f\x00\x00\x01";
 
-const fn alive(name: &'static [u8], inc: u32, addr: &'static [u8], port: u16) -> Saying {
-    Saying {
-        kind: Kind::Alive,
-        name,
-        inc,
-        addr,
-        port,
-    }
+fn name_of(rt: &impl Abort, alloc: Global, bytes: &[u8]) -> Result<Name, AllocError> {
+    Ok(Name::copied(alloc, bytes)?.expect(rt, "a legal name"))
 }
 
-const fn suspect(name: &'static [u8], inc: u32) -> Saying {
-    without_details(Kind::Suspect, name, inc)
+fn details_of(rt: &impl Abort, addr: &[u8], port: u16, meta: Vec<u8>, vsn: &[u8]) -> Details {
+    Details::of(addr, port, meta, vsn).expect(rt, "legal details")
 }
 
-const fn confirm(name: &'static [u8], inc: u32) -> Saying {
-    without_details(Kind::Confirm, name, inc)
+/// The claim itself.
+fn claim_of(rt: &impl Abort, alloc: Global, saying: Saying) -> Result<Claim, AllocError> {
+    let name = name_of(rt, alloc, saying.name)?;
+    let inc = saying.inc;
+    Ok(match saying.kind {
+        Kind::Alive => Claim::Alive {
+            name,
+            inc,
+            details: details_of(rt, saying.addr, saying.port, Vec::new(alloc), b""),
+        },
+        Kind::Suspect => Claim::Suspect { name, inc },
+        Kind::Confirm => Claim::Confirm { name, inc },
+        Kind::Leave => Claim::Leave { name, inc },
+    })
 }
 
-const fn leave(name: &'static [u8], inc: u32) -> Saying {
-    without_details(Kind::Leave, name, inc)
-}
-
-const fn without_details(kind: Kind, name: &'static [u8], inc: u32) -> Saying {
-    Saying {
-        kind,
-        name,
-        inc,
-        addr: LOOPBACK,
-        port: 0,
-    }
-}
-
-impl Saying {
-    fn claim(self, rt: &impl Abort, alloc: Global) -> Result<Claim, AllocError> {
-        let name = Name::new(self.name.to_vec(alloc)?).expect(rt, "a legal name");
-        let inc = self.inc;
-        Ok(match self.kind {
-            Kind::Alive => Claim::Alive {
-                name,
-                inc,
-                details: self.details(rt, alloc)?,
-            },
-            Kind::Suspect => Claim::Suspect { name, inc },
-            Kind::Confirm => Claim::Confirm { name, inc },
-            Kind::Leave => Claim::Leave { name, inc },
-        })
-    }
-
-    fn details(self, rt: &impl Abort, alloc: Global) -> Result<Details, AllocError> {
-        let addr = self.addr.to_vec(alloc)?;
-        let details = Details::new(addr, self.port, Vec::new(alloc), Vec::new(alloc));
-        Ok(details.expect(rt, "legal details"))
-    }
+/// A Suspect of the member whose name is the number.
+fn suspicion(rt: &impl Abort, alloc: Global, number: u32) -> Result<Claim, AllocError> {
+    let name = name_of(rt, alloc, &number.to_be_bytes())?;
+    Ok(Claim::Suspect { name, inc: 1 })
 }
 
 /// That the bytes are those that are wanted.
@@ -88,6 +108,11 @@ fn assert_bytes(rt: &impl Abort, found: &[u8], wanted: &[u8], about: &str) {
 /// That the count is the one that is wanted.
 fn assert_count(rt: &impl Abort, found: usize, wanted: usize, about: &str) {
     assert_eq!(rt; found, wanted, "{about}");
+}
+
+/// That this holds.
+fn assert_that(rt: &impl Abort, holds: bool, about: &str) {
+    assert!(rt; holds, "{about}");
 }
 
 /// Takes in, at the second try, the claim that was handed back. The table has to have stayed.
@@ -111,26 +136,37 @@ fn take(
     saying: Saying,
 ) -> Result<Taken, AllocError> {
     let before = list(alloc, table)?;
-    match table.take(saying.claim(rt, alloc)?) {
+    match table.take(claim_of(rt, alloc, saying)?) {
         Ok(taken) => Ok(taken),
         Err((claim, _)) => take_back(rt, alloc, table, claim, &before),
     }
 }
 
+/// Takes the claims in one by one.
+fn take_each(
+    rt: &impl Abort,
+    alloc: Global,
+    table: &mut Table,
+    sayings: &[Saying],
+) -> Result<(), AllocError> {
+    for saying in sayings {
+        take(rt, alloc, table, *saying)?;
+    }
+    Ok(())
+}
+
 /// The table of these claims.
 fn table_of(rt: &impl Abort, alloc: Global, sayings: &[Saying]) -> Result<Table, AllocError> {
     let mut table = Table::new(alloc);
-    for saying in sayings {
-        take(rt, alloc, &mut table, *saying)?;
-    }
+    take_each(rt, alloc, &mut table, sayings)?;
     Ok(table)
 }
 
 /// The claims themselves.
 fn claims_of(rt: &impl Abort, alloc: Global, sayings: &[Saying]) -> Result<Vec<Claim>, AllocError> {
-    let mut claims = Vec::with_capacity(alloc, sayings.len())?;
+    let mut claims = Vec::new(alloc);
     for saying in sayings {
-        claims.push(saying.claim(rt, alloc)?)?;
+        claims.push(claim_of(rt, alloc, *saying)?)?;
     }
     Ok(claims)
 }
@@ -164,104 +200,117 @@ const ORDERS: [[usize; 3]; 6] = [
     [2, 1, 0],
 ];
 
-/// The table of the claims, which arrive in this order.
-fn table_in_order(
+/// Takes up to three claims in, which arrive in this order.
+fn take_in_order(
     rt: &impl Abort,
     alloc: Global,
-    claims: &[Saying],
+    table: &mut Table,
+    sayings: &[Saying],
     order: &[usize],
-) -> Result<Table, AllocError> {
-    let mut table = Table::new(alloc);
+) -> Result<(), AllocError> {
     for place in order {
-        if let Some(saying) = claims.get(*place) {
-            take(rt, alloc, &mut table, *saying)?;
+        if let Some(saying) = sayings.get(*place) {
+            take(rt, alloc, table, *saying)?;
         }
     }
-    Ok(table)
+    Ok(())
 }
 
 /// Asserts that the claims have this listing, in whatever order they arrive.
 fn assert_listing(
     rt: &impl Abort,
     alloc: Global,
-    claims: &[Saying],
-    listing: &str,
+    sayings: &[Saying],
+    wanted: &str,
 ) -> Result<(), AllocError> {
     for order in &ORDERS {
-        let table = table_in_order(rt, alloc, claims, order)?;
-        assert_lists(rt, alloc, &table, listing)?;
+        let mut table = Table::new(alloc);
+        take_in_order(rt, alloc, &mut table, sayings, order)?;
+        assert_lists(rt, alloc, &table, wanted)?;
     }
     Ok(())
 }
 
-#[test]
-fn an_alive_is_listed_as_its_own_home(rt: HostRuntime) -> Result<(), AllocError> {
-    let alloc = rt.alloc();
-    assert_listing(&rt, alloc, &[], "")?;
-    let claims = [alive(b"a", 0, LOOPBACK, 7946)];
-    assert_listing(&rt, alloc, &claims, "a alive 0 0/7f000001/7946//\n")
-}
+/// Claims, in no order, and the listing of their table.
+const LISTINGS: &[(&[Saying], &str)] = &[
+    // an alive is its own home
+    (&[], ""),
+    (
+        &[alive!(b"a", 0, LOOPBACK, 7946)],
+        "a alive 0 0/7f000001/7946//\n",
+    ),
+    // a suspect keeps the home
+    (&[suspect!(b"b", 1)], "b suspect 1 -\n"),
+    (
+        &[
+            alive!(b"a", 3, LOOPBACK, 7946),
+            suspect!(b"a", 5),
+            alive!(b"a", 4, LOOPBACK, 7947),
+        ],
+        "a suspect 5 4/7f000001/7947//\n",
+    ),
+    (
+        &[suspect!(b"a", 5), alive!(b"a", 5, LOOPBACK, 7946)],
+        "a suspect 5 5/7f000001/7946//\n",
+    ),
+    // a confirm and a leave are final
+    (
+        &[
+            confirm!(b"a", 0),
+            alive!(b"a", 4_294_967_295, LOOPBACK, 7946),
+        ],
+        "a confirm 0 4294967295/7f000001/7946//\n",
+    ),
+    (
+        &[leave!(b"a", 2), alive!(b"a", 5, LOOPBACK, 7946)],
+        "a leave 2 5/7f000001/7946//\n",
+    ),
+    // a leave wins over a confirm at one incarnation
+    (&[leave!(b"a", 2), confirm!(b"a", 2)], "a leave 2 -\n"),
+    (
+        &[leave!(b"a", 2), confirm!(b"a", 2), confirm!(b"a", 3)],
+        "a confirm 3 -\n",
+    ),
+    (
+        &[leave!(b"a", 2), leave!(b"a", 3), confirm!(b"a", 3)],
+        "a leave 3 -\n",
+    ),
+    // of two alives the greater details stay
+    (
+        &[
+            alive!(b"a", 1, LOOPBACK, 255),
+            alive!(b"a", 1, LOOPBACK, 256),
+        ],
+        "a alive 1 1/7f000001/256//\n",
+    ),
+    (
+        &[
+            alive!(b"a", 1, LOOPBACK, 7946),
+            alive!(b"a", 1, b"\x7f\0\0\x01\0\0\0\0\0\0\0\0\0\0\0\0", 7946),
+        ],
+        "a alive 1 1/7f000001000000000000000000000000/7946//\n",
+    ),
+    (
+        &[
+            alive!(b"a", 1, b"\x0a\0\0\x01", 7946),
+            alive!(b"a", 1, b"\0\0\0\0\0\0\0\0\0\0\xff\xff\x0a\0\0\x01", 7946),
+        ],
+        "a alive 1 1/0a000001/7946//\n",
+    ),
+    // a name is listed with its escapes
+    (&[suspect!(b"a %\n", 0)], "a%20%25%0A suspect 0 -\n"),
+    (
+        &[suspect!(b"!~\x7f\x80\xff\0", 0)],
+        "!~%7F%80%FF%00 suspect 0 -\n",
+    ),
+];
 
 #[test]
-fn a_suspect_keeps_the_home(rt: HostRuntime) -> Result<(), AllocError> {
-    let alloc = rt.alloc();
-    let claims = [suspect(b"b", 1)];
-    assert_listing(&rt, alloc, &claims, "b suspect 1 -\n")?;
-    let claims = [
-        alive(b"a", 3, LOOPBACK, 7946),
-        suspect(b"a", 5),
-        alive(b"a", 4, LOOPBACK, 7947),
-    ];
-    let listing = "a suspect 5 4/7f000001/7947//\n";
-    assert_listing(&rt, alloc, &claims, listing)?;
-    let claims = [suspect(b"a", 5), alive(b"a", 5, LOOPBACK, 7946)];
-    assert_listing(&rt, alloc, &claims, "a suspect 5 5/7f000001/7946//\n")
-}
-
-#[test]
-fn a_confirm_and_a_leave_are_final(rt: HostRuntime) -> Result<(), AllocError> {
-    let alloc = rt.alloc();
-    let claims = [confirm(b"a", 0), alive(b"a", 4_294_967_295, LOOPBACK, 7946)];
-    let listing = "a confirm 0 4294967295/7f000001/7946//\n";
-    assert_listing(&rt, alloc, &claims, listing)?;
-    let claims = [leave(b"a", 2), alive(b"a", 5, LOOPBACK, 7946)];
-    assert_listing(&rt, alloc, &claims, "a leave 2 5/7f000001/7946//\n")
-}
-
-#[test]
-fn a_leave_wins_over_a_confirm_at_one_incarnation(rt: HostRuntime) -> Result<(), AllocError> {
-    let alloc = rt.alloc();
-    let left = leave(b"a", 2);
-    let confirmed = confirm(b"a", 2);
-    let later = confirm(b"a", 3);
-    assert_listing(&rt, alloc, &[left, confirmed], "a leave 2 -\n")?;
-    assert_listing(&rt, alloc, &[left, confirmed, later], "a confirm 3 -\n")?;
-    let claims = [left, leave(b"a", 3), later];
-    assert_listing(&rt, alloc, &claims, "a leave 3 -\n")
-}
-
-#[test]
-fn of_two_alives_the_greater_details_stay(rt: HostRuntime) -> Result<(), AllocError> {
-    let alloc = rt.alloc();
-    let claims = [alive(b"a", 1, LOOPBACK, 255), alive(b"a", 1, LOOPBACK, 256)];
-    assert_listing(&rt, alloc, &claims, "a alive 1 1/7f000001/256//\n")?;
-    let long = b"\x7f\0\0\x01\0\0\0\0\0\0\0\0\0\0\0\0";
-    let claims = [alive(b"a", 1, LOOPBACK, 7946), alive(b"a", 1, long, 7946)];
-    let listing = "a alive 1 1/7f000001000000000000000000000000/7946//\n";
-    assert_listing(&rt, alloc, &claims, listing)?;
-    let mapped = b"\0\0\0\0\0\0\0\0\0\0\xff\xff\x0a\0\0\x01";
-    let claims = [
-        alive(b"a", 1, b"\x0a\0\0\x01", 7946),
-        alive(b"a", 1, mapped, 7946),
-    ];
-    assert_listing(&rt, alloc, &claims, "a alive 1 1/0a000001/7946//\n")
-}
-
-#[test]
-fn a_name_is_listed_with_its_escapes(rt: HostRuntime) -> Result<(), AllocError> {
-    let alloc = rt.alloc();
-    let claims = [suspect(b"a %\n", 0)];
-    assert_listing(&rt, alloc, &claims, "a%20%25%0A suspect 0 -\n")?;
-    let claims = [suspect(b"!~\x7f\x80\xff\0", 0)];
-    assert_listing(&rt, alloc, &claims, "!~%7F%80%FF%00 suspect 0 -\n")
+fn claims_are_listed_alike_in_whatever_order_they_arrive(
+    rt: HostRuntime,
+) -> Result<(), AllocError> {
+    for (sayings, wanted) in LISTINGS {
+        assert_listing(&rt, rt.alloc(), sayings, wanted)?;
+    }
+    Ok(())
 }

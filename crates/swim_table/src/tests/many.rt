@@ -1,36 +1,28 @@
 //! Tables of many names, for which memory is there.
 
-use super::assert_count;
-use crate::{Room, Table, encode, list, read_dump};
+use super::dumps::dump;
+use super::{assert_count, suspicion};
+use crate::{Room, Table, list, read_dump};
 use std::alloc::{AllocError, Global};
 use std::process::Abort;
-use swim_claim::{Claim, Name};
+use swim_claim::Claim;
 
-/// Suspicions of as many names, from this number on.
-fn suspects(
-    rt: &impl Abort,
-    alloc: Global,
-    first: u32,
-    count: u32,
-) -> Result<Vec<Claim>, AllocError> {
+/// Suspicions of three hundred names, from this number on.
+fn suspicions(rt: &impl Abort, alloc: Global, first: u32) -> Result<Vec<Claim>, AllocError> {
     let mut claims = Vec::new(alloc);
-    for number in first..first.saturating_add(count) {
-        let bytes = number.to_be_bytes().to_vec(alloc)?;
-        let name = Name::new(bytes).expect(rt, "a legal name");
-        claims.push(Claim::Suspect { name, inc: 1 })?;
+    for number in 0..300 {
+        claims.push(suspicion(rt, alloc, first.saturating_add(number))?)?;
     }
     Ok(claims)
 }
 
 /// Takes the claims in at once. Where memory is refused the table stays, and the repeat takes them
 /// in.
-fn take(rt: &impl Abort, table: &mut Table, alloc: Global, first: u32) -> Result<(), AllocError> {
+fn take(rt: &impl Abort, alloc: Global, table: &mut Table, first: u32) -> Result<(), AllocError> {
     let before = table.len();
-    let claims = suspects(rt, alloc, first, 300)?;
-    let again = suspects(rt, alloc, first, 300)?;
-    if table.take_all(claims).is_err() {
-        assert_eq!(rt; table.len(), before);
-        table.take_all(again)?;
+    if table.take_all(suspicions(rt, alloc, first)?).is_err() {
+        assert_count(rt, table.len(), before, "names");
+        table.take_all(suspicions(rt, alloc, first)?)?;
     }
     Ok(())
 }
@@ -38,27 +30,8 @@ fn take(rt: &impl Abort, table: &mut Table, alloc: Global, first: u32) -> Result
 /// The table of three hundred names, from a first number on.
 fn table(rt: &impl Abort, alloc: Global, first: u32) -> Result<Table, AllocError> {
     let mut table = Table::new(alloc);
-    take(rt, &mut table, alloc, first)?;
+    take(rt, alloc, &mut table, first)?;
     Ok(table)
-}
-
-#[test]
-fn three_hundred_claims_are_taken_in_at_once(rt: HostRuntime) -> Result<(), AllocError> {
-    let mut table = table(&rt, rt.alloc(), 0)?;
-    assert_count(&rt, table.len(), 300, "names");
-    take(&rt, &mut table, rt.alloc(), 150)?;
-    assert_count(&rt, table.len(), 450, "names");
-    Ok(())
-}
-
-#[test]
-fn tables_of_three_hundred_names_are_joined_in_room(rt: HostRuntime) -> Result<(), AllocError> {
-    let mut first = table(&rt, rt.alloc(), 0)?;
-    let second = table(&rt, rt.alloc(), 200)?;
-    let room = Room::new(rt.alloc(), first.len() + second.len())?;
-    first.join_in(room, second);
-    assert_count(&rt, first.len(), 500, "names");
-    Ok(())
 }
 
 /// How many lines the listing of the table has.
@@ -68,25 +41,48 @@ fn lines(alloc: Global, table: &Table) -> Result<usize, AllocError> {
 }
 
 /// How many names the table has that is read from the dump of a table.
-fn names_dumped(alloc: Global, table: &Table) -> Result<usize, AllocError> {
-    let Ok(dump) = encode(alloc, table, false) else {
-        return Err(AllocError);
-    };
-    let Ok((back, _)) = read_dump(alloc, &dump) else {
-        return Err(AllocError);
-    };
-    Ok(back.len())
+fn names_dumped(rt: &impl Abort, alloc: Global, table: &Table) -> Result<usize, AllocError> {
+    match read_dump(alloc, &dump(rt, alloc, table, false)) {
+        Ok((back, _)) => Ok(back.len()),
+        Err(_) => Err(AllocError),
+    }
+}
+
+/// Asserts that the table has three hundred names, which are listed and dumped.
+fn assert_shown(rt: &impl Abort, alloc: Global, table: &Table) -> Result<(), AllocError> {
+    assert_count(rt, table.len(), 300, "names");
+    assert_count(rt, lines(alloc, table)?, 300, "lines");
+    assert_count(rt, names_dumped(rt, alloc, table)?, 300, "names read back");
+    Ok(())
 }
 
 #[test]
-fn a_table_of_three_hundred_names_is_listed_and_dumped(rt: HostRuntime) -> Result<(), AllocError> {
+fn three_hundred_claims_are_taken_in_at_once_listed_and_dumped(
+    rt: HostRuntime,
+) -> Result<(), AllocError> {
     let table = table(&rt, rt.alloc(), 0)?;
-    assert_count(&rt, lines(rt.alloc(), &table)?, 300, "lines");
-    assert_count(
-        &rt,
-        names_dumped(rt.alloc(), &table)?,
-        300,
-        "names read back",
-    );
+    assert_shown(&rt, rt.alloc(), &table)
+}
+
+#[test]
+fn of_claims_taken_in_at_once_half_may_be_known(rt: HostRuntime) -> Result<(), AllocError> {
+    let mut table = table(&rt, rt.alloc(), 0)?;
+    take(&rt, rt.alloc(), &mut table, 150)?;
+    assert_count(&rt, table.len(), 450, "names");
+    Ok(())
+}
+
+/// Joins the other table in, in room for both.
+fn join_in(alloc: Global, table: &mut Table, other: Table) -> Result<(), AllocError> {
+    let room = Room::new(alloc, table.len() + other.len())?;
+    table.join_in(room, other);
+    Ok(())
+}
+
+#[test]
+fn tables_of_three_hundred_names_are_joined_in_room(rt: HostRuntime) -> Result<(), AllocError> {
+    let mut first = table(&rt, rt.alloc(), 0)?;
+    join_in(rt.alloc(), &mut first, table(&rt, rt.alloc(), 200)?)?;
+    assert_count(&rt, first.len(), 500, "names");
     Ok(())
 }

@@ -1,13 +1,12 @@
 //! Streams whose inlet fails, or gives its bytes in pieces.
 
-use super::assert_lists;
 use super::streams::{SUSPECTED, SUSPECTED_LISTING};
+use super::{assert_lists, assert_that};
 use crate::{Table, read_stream};
 use std::alloc::{AllocError, Global};
 use std::io;
 use std::io::Read;
 use std::process::Abort;
-use std::test::Fail;
 use swim_pack::{FromRead, Inlet, StopInlet};
 use swim_wire::WireFault;
 
@@ -39,14 +38,14 @@ fn is_read(rt: &impl Abort, alloc: Global, calls: usize) -> Result<bool, AllocEr
             Ok(true)
         }
         Err(fault) => {
-            assert_eq!(rt; fault, WireFault::Fault, "at call {calls}");
+            assert_that(rt, fault == WireFault::Fault, "another fault");
             Ok(false)
         }
     }
 }
 
 #[test]
-fn an_inlet_that_fails_at_any_call_is_a_fault(rt: HostRuntime) -> Result<(), Fail> {
+fn an_inlet_that_fails_at_any_call_is_a_fault(rt: HostRuntime) -> Result<(), AllocError> {
     for calls in 1..200 {
         if is_read(&rt, rt.alloc(), calls)? {
             return Ok(());
@@ -85,14 +84,15 @@ fn read_in_pieces(alloc: Global, most: usize) -> Result<(Table, bool), WireFault
     read_either(alloc, &mut inlet, &mut other)
 }
 
-fn assert_read_in_pieces(rt: &impl Abort, alloc: Global, most: usize) -> Result<(), Fail> {
+fn assert_read_in_pieces(rt: &impl Abort, alloc: Global, most: usize) -> Result<(), WireFault> {
     let (table, join) = read_in_pieces(alloc, most)?;
-    assert!(rt; !join);
-    Ok(assert_lists(rt, alloc, &table, SUSPECTED_LISTING)?)
+    assert_that(rt, !join, "the flag");
+    assert_lists(rt, alloc, &table, SUSPECTED_LISTING)?;
+    Ok(())
 }
 
 #[test]
-fn a_stream_in_pieces_of_any_size_is_read(rt: HostRuntime) -> Result<(), Fail> {
+fn a_stream_in_pieces_of_any_size_is_read(rt: HostRuntime) -> Result<(), WireFault> {
     for most in 1..=SUSPECTED.len() {
         assert_read_in_pieces(&rt, rt.alloc(), most)?;
     }

@@ -1,5 +1,6 @@
 //! A table computed from its definition: slow, and over the list of all claims that were taken in.
-use super::{LOOPBACK, Saying, alive, assert_lists, claims_of, confirm, leave, suspect, table_of};
+
+use super::{LOOPBACK, Saying, assert_lists, assert_that, claims_of, table_of};
 use crate::{Relation, Table, relation};
 use std::alloc::{AllocError, Global};
 use std::process::Abort;
@@ -36,37 +37,31 @@ impl Saying {
     }
 }
 
-/// The first claim about the name that no other one overrides.
-fn top<'a>(sayings: &'a [Saying], name: &[u8]) -> Option<&'a Saying> {
+/// The first claim about the name that no other one overrides, among all or among the Alives.
+fn first<'a>(sayings: &'a [Saying], name: &[u8], alives: bool) -> Option<&'a Saying> {
     for saying in sayings {
-        let overridden = sayings
-            .iter()
-            .any(|other| other.name == name && other.overrides(saying));
-        if saying.name == name && !overridden {
+        let overridden = sayings.iter().any(|other| {
+            other.name == name && (!alives || other.is_alive()) && other.overrides(saying)
+        });
+        if saying.name == name && (!alives || saying.is_alive()) && !overridden {
             return Some(saying);
         }
     }
     None
 }
 
-/// The first Alive about the name that no other Alive overrides.
-fn home<'a>(sayings: &'a [Saying], name: &[u8]) -> Option<&'a Saying> {
-    for saying in sayings {
-        let overridden = sayings.iter().any(|other| other.name == name
-            && other.is_alive()
-            && other.overrides(saying));
-        if saying.name == name && saying.is_alive() && !overridden {
-            return Some(saying);
-        }
-    }
-    None
-}
-
-/// What a line says of the home of a member.
-fn home_word(alloc: Global, home: Option<&Saying>) -> Result<String, AllocError> {
+/// The line of a member of this top and this home.
+fn line(alloc: Global, top: &Saying, home: Option<&Saying>) -> Result<String, AllocError> {
+    let letter = char::from(top.name.first().copied().unwrap_or(b'?'));
+    let (word, inc) = (top.word(), top.inc);
     match home {
-        Some(home) => format!(in alloc; "{}/7f000001/{}//", home.inc, home.port),
-        None => String::from_str(alloc, "-"),
+        Some(home) => {
+            format!(in alloc;
+                "{letter} {word} {inc} {}/7f000001/{}//\n",
+                home.inc, home.port
+            )
+        }
+        None => format!(in alloc; "{letter} {word} {inc} -\n"),
     }
 }
 
@@ -74,11 +69,9 @@ fn home_word(alloc: Global, home: Option<&Saying>) -> Result<String, AllocError>
 fn listing(alloc: Global, sayings: &[Saying]) -> Result<String, AllocError> {
     let mut text = String::new(alloc);
     for name in NAMES {
-        if let Some(top) = top(sayings, name) {
-            let letter = char::from(top.name.first().copied().unwrap_or(b'?'));
-            let home = home_word(alloc, home(sayings, name))?;
-            let line = format!(in alloc; "{letter} {} {} {home}\n", top.word(), top.inc)?;
-            text.push_str(line.as_str())?;
+        if let Some(top) = first(sayings, name, false) {
+            let home = first(sayings, name, true);
+            text.push_str(line(alloc, top, home)?.as_str())?;
         }
     }
     Ok(text)
@@ -89,80 +82,74 @@ fn saying(number: u32) -> Saying {
     let name = NAMES[number as usize % 3];
     let inc = number / 3 % 3;
     match number / 9 % 5 {
-        0 => suspect(name, inc),
-        1 => confirm(name, inc),
-        2 => leave(name, inc),
-        _ => alive(name, inc, LOOPBACK, (number / 45 % 2) as u16),
+        0 => suspect!(name, inc),
+        1 => confirm!(name, inc),
+        2 => leave!(name, inc),
+        _ => alive!(name, inc, LOOPBACK, (number / 45 % 2) as u16),
     }
 }
 
-/// The table of the claims, the back half of which came one by one, and then the front half at
-/// once.
-fn table_of_several(
-    rt: &impl Abort,
-    alloc: Global,
-    sayings: &[Saying],
-) -> Result<Table, AllocError> {
-    let (front, back) = sayings.split_at(sayings.len() / 2);
-    let mut table = table_of(rt, alloc, back)?;
-    table.take_all(claims_of(rt, alloc, front)?)?;
-    Ok(table)
-}
-
-/// The join of the tables of both halves of the claims.
-fn table_of_halves(
-    rt: &impl Abort,
-    alloc: Global,
-    sayings: &[Saying],
-) -> Result<Table, AllocError> {
-    let (front, back) = sayings.split_at(sayings.len() / 2);
-    let mut table = table_of(rt, alloc, front)?;
-    match table.join(table_of(rt, alloc, back)?) {
-        Ok(()) => Ok(table),
-        Err(_) => Err(AllocError),
-    }
-}
-
+/// Asserts the listing of the table of the claims, the back half of which came one by one, and then
+/// the front half at once.
 fn assert_several(
     rt: &impl Abort,
     alloc: Global,
     sayings: &[Saying],
-    listing: &str,
+    wanted: &str,
 ) -> Result<(), AllocError> {
-    let several = table_of_several(rt, alloc, sayings)?;
-    assert_lists(rt, alloc, &several, listing)
+    let (front, back) = sayings.split_at(sayings.len() / 2);
+    let mut table = table_of(rt, alloc, back)?;
+    table.take_all(claims_of(rt, alloc, front)?)?;
+    assert_lists(rt, alloc, &table, wanted)
 }
 
-fn assert_joined(
+/// How the join of the tables of both halves of the claims relates to the table of all.
+fn joined(
     rt: &impl Abort,
     alloc: Global,
     sayings: &[Saying],
     table: &Table,
-) -> Result<(), AllocError> {
-    let joined = table_of_halves(rt, alloc, sayings)?;
-    assert_eq!(rt; relation(&joined, table), Relation::Equal);
-    Ok(())
+) -> Result<Relation, AllocError> {
+    let (front, back) = sayings.split_at(sayings.len() / 2);
+    let mut halves = table_of(rt, alloc, front)?;
+    match halves.join(table_of(rt, alloc, back)?) {
+        Ok(()) => Ok(relation(&halves, table)),
+        Err(_) => Err(AllocError),
+    }
 }
 
-fn assert_same(rt: &impl Abort, alloc: Global, sayings: &[Saying]) -> Result<(), AllocError> {
-    let listing = listing(alloc, sayings)?;
+/// Asserts that all ways to the table of the claims give the one of this listing.
+fn assert_same(
+    rt: &impl Abort,
+    alloc: Global,
+    sayings: &[Saying],
+    wanted: &str,
+) -> Result<(), AllocError> {
+    assert_several(rt, alloc, sayings, wanted)?;
     let table = table_of(rt, alloc, sayings)?;
-    assert_lists(rt, alloc, &table, listing.as_str())?;
-    assert_several(rt, alloc, sayings, listing.as_str())?;
-    assert_joined(rt, alloc, sayings, &table)
+    let joined = joined(rt, alloc, sayings, &table)?;
+    assert_that(rt, joined == Relation::Equal, wanted);
+    assert_lists(rt, alloc, &table, wanted)
+}
+
+/// Seven claims, and the state from which to choose the next ones.
+fn choose(mut state: u32) -> ([Saying; 7], u32) {
+    let mut sayings = [suspect!(b"a", 0); 7];
+    for place in 0..7 {
+        state = state.wrapping_mul(1_664_525).wrapping_add(1_013_904_223);
+        sayings[place] = saying(state >> 16);
+    }
+    (sayings, state)
 }
 
 #[test]
 fn a_table_is_as_its_definition_says(rt: HostRuntime) -> Result<(), AllocError> {
-    let alloc = rt.alloc();
     let mut state = 1u32;
     for _ in 0..300 {
-        let mut sayings = [suspect(b"a", 0); 7];
-        for place in 0..7 {
-            state = state.wrapping_mul(1_664_525).wrapping_add(1_013_904_223);
-            sayings[place] = saying(state >> 16);
-        }
-        assert_same(&rt, alloc, &sayings)?;
+        let (sayings, next) = choose(state);
+        state = next;
+        let wanted = listing(rt.alloc(), &sayings)?;
+        assert_same(&rt, rt.alloc(), &sayings, wanted.as_str())?;
     }
     Ok(())
 }

@@ -1,157 +1,103 @@
 //! What a table takes in, its entries, and joins.
 
 use super::{
-    LOOPBACK, Saying, alive, assert_bytes, assert_count, assert_lists, claims_of, confirm, suspect,
-    table_of, take,
+    LOOPBACK, Saying, assert_bytes, assert_count, assert_lists, assert_that, claims_of, details_of,
+    name_of, table_of, take,
 };
 use crate::{Entry, Relation, Room, Table, Taken, list, relation};
 use std::alloc::{AllocError, Global};
 use std::process::Abort;
-use swim_claim::{Claim, Details, Kind, Name};
+use swim_claim::{Claim, Kind};
 
-/// Takes the claims in one by one, each of which changes the table so.
-fn assert_taken(
-    rt: &impl Abort,
-    alloc: Global,
-    table: &mut Table,
-    rows: &[(Saying, Taken)],
-) -> Result<(), AllocError> {
-    for (saying, wanted) in rows {
+/// Claims of one table, taken in one by one, and what each changes.
+const TAKES: &[(Saying, Taken, &str)] = &[
+    (confirm!(b"a", 2), Taken::New, "a confirm 2 -\n"),
+    (confirm!(b"a", 7), Taken::Raised, "a confirm 7 -\n"),
+    (confirm!(b"a", 2), Taken::Stood, "a confirm 7 -\n"),
+    (
+        alive!(b"b", 3, LOOPBACK, 7946),
+        Taken::New,
+        "a confirm 7 -\nb alive 3 3/7f000001/7946//\n",
+    ),
+    (
+        suspect!(b"b", 5),
+        Taken::Raised,
+        "a confirm 7 -\nb suspect 5 3/7f000001/7946//\n",
+    ),
+    (
+        alive!(b"b", 4, LOOPBACK, 7947),
+        Taken::Raised,
+        "a confirm 7 -\nb suspect 5 4/7f000001/7947//\n",
+    ),
+];
+
+/// Asserts what each claim changes, and how many records the table has in the end.
+fn assert_takes(rt: &impl Abort, alloc: Global, table: &mut Table) -> Result<(), AllocError> {
+    for (saying, wanted, listing) in TAKES {
         let taken = take(rt, alloc, table, *saying)?;
-        assert_eq!(rt; taken, *wanted);
+        assert_that(rt, taken == *wanted, listing);
+        assert_lists(rt, alloc, table, listing)?;
     }
+    assert_that(rt, table.records() == 3, "the records");
     Ok(())
 }
 
 #[test]
 fn take_tells_what_changed(rt: HostRuntime) -> Result<(), AllocError> {
     let mut table = Table::new(rt.alloc());
-    let rows = [
-        (confirm(b"a", 2), Taken::New),
-        (confirm(b"a", 7), Taken::Raised),
-        (confirm(b"a", 2), Taken::Stood),
-    ];
-    assert_taken(&rt, rt.alloc(), &mut table, &rows)?;
-    assert_lists(&rt, rt.alloc(), &table, "a confirm 7 -\n")?;
-    let rows = [
-        (alive(b"b", 3, LOOPBACK, 7946), Taken::New),
-        (suspect(b"b", 5), Taken::Raised),
-        (alive(b"b", 4, LOOPBACK, 7947), Taken::Raised),
-    ];
-    assert_taken(&rt, rt.alloc(), &mut table, &rows)?;
-    assert_eq!(rt; table.records(), 3);
-    Ok(())
+    assert_takes(&rt, rt.alloc(), &mut table)
 }
 
-/// That the entry has this name, this kind, and a home of this incarnation and port, if any.
-fn assert_entry(
-    rt: &impl Abort,
-    entry: &Entry,
-    name: &[u8],
-    kind: Kind,
-    inc: u32,
-    home: Option<(u32, u16)>,
-) {
-    assert_bytes(rt, entry.name().bytes(), name, "a name");
-    assert_eq!(rt; entry.kind(), kind);
-    assert_eq!(rt; entry.inc(), inc);
-    assert_eq!(rt; entry.home_inc(), home.map(|(inc, _)| inc));
-    let port = entry.home_details().map(|details| details.port());
-    assert_eq!(rt; port, home.map(|(_, port)| port));
-}
-
-/// That a table of no claims has no entry.
-fn assert_empty(rt: &impl Abort, table: &Table) {
-    assert!(rt; table.is_empty());
-    assert!(rt; table.at(0).is_none());
-}
-
-/// That the table has the Alive of `a` and the Suspect of `b`, and nothing else.
-fn assert_both(rt: &impl Abort, table: &Table) {
-    assert_count(rt, table.len(), 2, "entries");
-    assert!(rt; !table.is_empty());
-    assert!(rt; table.at(2).is_none());
-    assert!(rt; table.get(b"c").is_none());
-    let first = table.at(0).expect(rt, "an entry");
-    assert_entry(rt, first, b"a", Kind::Alive, 0, Some((0, 7946)));
-    let second = table.at(1).expect(rt, "an entry");
-    assert_entry(rt, second, b"b", Kind::Suspect, 1, None);
-    let named = table.get(b"b").expect(rt, "an entry");
-    assert_entry(rt, named, b"b", Kind::Suspect, 1, None);
-}
-
-#[test]
-fn entries_are_read_by_name_and_by_place(rt: HostRuntime) -> Result<(), AllocError> {
-    assert_empty(&rt, &Table::new(rt.alloc()));
-    let sayings = [suspect(b"b", 1), alive(b"a", 0, LOOPBACK, 7946)];
-    let table = table_of(&rt, rt.alloc(), &sayings)?;
-    assert_both(&rt, &table);
-    Ok(())
-}
-
-/// Takes several claims in. Where memory is refused the table has to stay empty, and they have to
-/// be taken in at the second try.
-fn take_all(rt: &impl Abort, table: &mut Table, claims: Vec<Claim>, again: Vec<Claim>) {
-    if table.take_all(claims).is_err() {
-        assert!(rt; table.is_empty());
-        let repeated = table.take_all(again).is_ok();
-        assert!(rt; repeated);
+/// The incarnation and the port of the entry's home, if it has one.
+fn home_of(entry: &Entry) -> Option<(u32, u16)> {
+    match (entry.home_inc(), entry.home_details()) {
+        (Some(inc), Some(details)) => Some((inc, details.port())),
+        _ => None,
     }
 }
 
-#[test]
-fn several_claims_are_taken_in_or_none(rt: HostRuntime) -> Result<(), AllocError> {
-    let sayings = [alive(b"a", 0, LOOPBACK, 7946), suspect(b"b", 1)];
-    let claims = claims_of(&rt, rt.alloc(), &sayings)?;
-    let again = claims_of(&rt, rt.alloc(), &sayings)?;
-    let mut table = Table::new(rt.alloc());
-    take_all(&rt, &mut table, claims, again);
-    assert_count(&rt, table.len(), 2, "entries");
-    assert_lists(&rt, rt.alloc(), &table, BOTH)
+/// Asserts that this is an Alive of `a` at incarnation 0, which is its own home.
+fn assert_a(rt: &impl Abort, found: Option<&Entry>) {
+    let entry = found.expect(rt, "an entry");
+    assert_bytes(rt, entry.name().bytes(), b"a", "the name");
+    let same = entry.kind() == Kind::Alive && entry.inc() == 0 && home_of(entry) == Some((0, 7946));
+    assert_that(rt, same, "the claim");
 }
 
-/// The longest name, of which each byte is an `n`.
-fn long_name(rt: &impl Abort, alloc: Global) -> Result<Name, AllocError> {
-    let bytes = vec![in alloc; b'n'; 1024]?;
-    Ok(Name::new(bytes).expect(rt, "a legal name"))
+/// Asserts that this is a Suspect of `b` at incarnation 1, without a home.
+fn assert_b(rt: &impl Abort, found: Option<&Entry>) {
+    let entry = found.expect(rt, "an entry");
+    assert_bytes(rt, entry.name().bytes(), b"b", "the name");
+    let same = entry.kind() == Kind::Suspect
+        && entry.inc() == 1
+        && entry.home_inc().is_none()
+        && entry.home_details().is_none();
+    assert_that(rt, same, "the claim");
 }
 
-fn full_details(rt: &impl Abort, alloc: Global) -> Result<Details, AllocError> {
-    let addr = LOOPBACK.to_vec(alloc)?;
-    let meta = b"\xab\xcd".to_vec(alloc)?;
-    let vsn = b"\x01\x02\x03\x04\x05\xff".to_vec(alloc)?;
-    Ok(Details::new(addr, 65_535, meta, vsn).expect(rt, "legal details"))
+/// Asserts that the table has the Alive of `a` and the Suspect of `b`, and nothing else.
+fn assert_both(rt: &impl Abort, table: &Table) {
+    let none = table.at(2).is_none() && table.get(b"c").is_none();
+    assert_that(rt, none && !table.is_empty(), "two entries");
+    assert_count(rt, table.len(), 2, "entries");
+    assert_a(rt, table.at(0));
+    assert_b(rt, table.at(1));
+    assert_b(rt, table.get(b"b"));
 }
 
-/// The listing of one Alive at incarnation 2.
-fn listing_of_alive(alloc: Global, name: Name, details: Details) -> Result<Vec<u8>, AllocError> {
-    let claim = Claim::Alive {
-        name,
-        inc: 2,
-        details,
-    };
-    let mut claims = Vec::new(alloc);
-    claims.push(claim)?;
-    let mut table = Table::new(alloc);
-    table.take_all(claims)?;
-    list(alloc, &table)
+/// Asserts that a table of no claims has no entry.
+fn assert_empty(rt: &impl Abort, table: &Table) {
+    let none = table.is_empty() && table.at(0).is_none();
+    assert_that(rt, none, "no entries");
 }
 
-fn assert_full_line(rt: &impl Abort, listing: &[u8]) {
-    let (name, rest) = listing.split_at(listing.len().min(1024));
-    assert!(rt; name.iter().all(|byte| *byte == b'n'));
-    let line = b" alive 2 2/7f000001/65535/abcd/0102030405ff\n";
-    assert_bytes(rt, rest, line, "what is behind the name");
-}
+const OF_A: &[Saying] = &[alive!(b"a", 0, LOOPBACK, 7946)];
 
-#[test]
-fn details_are_listed_in_hexadecimal(rt: HostRuntime) -> Result<(), AllocError> {
-    let name = long_name(&rt, rt.alloc())?;
-    let details = full_details(&rt, rt.alloc())?;
-    let listing = listing_of_alive(rt.alloc(), name, details)?;
-    assert_full_line(&rt, &listing);
-    Ok(())
-}
+const OF_B: &[Saying] = &[suspect!(b"b", 1)];
+
+const OF_BOTH: &[Saying] = &[suspect!(b"b", 1), alive!(b"a", 0, LOOPBACK, 7946)];
+
+const SEVERAL: &[Saying] = &[alive!(b"a", 0, LOOPBACK, 7946), suspect!(b"b", 1)];
 
 const ALIVE_A: &str = "a alive 0 0/7f000001/7946//\n";
 
@@ -159,14 +105,74 @@ const SUSPECT_B: &str = "b suspect 1 -\n";
 
 const BOTH: &str = "a alive 0 0/7f000001/7946//\nb suspect 1 -\n";
 
-/// The table of an Alive of `a`.
-fn table_of_a(rt: &impl Abort, alloc: Global) -> Result<Table, AllocError> {
-    table_of(rt, alloc, &[alive(b"a", 0, LOOPBACK, 7946)])
+#[test]
+fn entries_are_read_by_name_and_by_place(rt: HostRuntime) -> Result<(), AllocError> {
+    assert_empty(&rt, &Table::new(rt.alloc()));
+    let table = table_of(&rt, rt.alloc(), OF_BOTH)?;
+    assert_both(&rt, &table);
+    Ok(())
 }
 
-/// The table of a Suspect of `b`.
-fn table_of_b(rt: &impl Abort, alloc: Global) -> Result<Table, AllocError> {
-    table_of(rt, alloc, &[suspect(b"b", 1)])
+/// Takes both claims in at once. Where memory is refused the table has to stay empty, and they have
+/// to be taken in at the second try.
+fn take_both(rt: &impl Abort, alloc: Global, table: &mut Table) -> Result<(), AllocError> {
+    if table.take_all(claims_of(rt, alloc, SEVERAL)?).is_err() {
+        assert_empty(rt, table);
+        let repeated = table.take_all(claims_of(rt, alloc, SEVERAL)?).is_ok();
+        assert_that(rt, repeated, "the second try");
+    }
+    assert_count(rt, table.len(), 2, "entries");
+    assert_lists(rt, alloc, table, BOTH)
+}
+
+#[test]
+fn several_claims_are_taken_in_or_none(rt: HostRuntime) -> Result<(), AllocError> {
+    let mut table = Table::new(rt.alloc());
+    take_both(&rt, rt.alloc(), &mut table)
+}
+
+/// An Alive at incarnation 2 with all details and the longest name, of which each byte is an `n`.
+fn full_claim(rt: &impl Abort, alloc: Global) -> Result<Claim, AllocError> {
+    let meta = b"\xab\xcd".to_vec(alloc)?;
+    let details = details_of(rt, LOOPBACK, 65_535, meta, b"\x01\x02\x03\x04\x05\xff");
+    Ok(Claim::Alive {
+        name: name_of(rt, alloc, &[b'n'; 1024])?,
+        inc: 2,
+        details,
+    })
+}
+
+/// The listing of that Alive, which is taken in as the only one of several.
+fn full_listing(rt: &impl Abort, alloc: Global, table: &mut Table) -> Result<Vec<u8>, AllocError> {
+    let mut claims = Vec::new(alloc);
+    claims.push(full_claim(rt, alloc)?)?;
+    table.take_all(claims)?;
+    list(alloc, table)
+}
+
+fn assert_full_line(rt: &impl Abort, listing: &[u8]) {
+    let (name, rest) = listing.split_at(listing.len().min(1024));
+    assert_bytes(rt, name, &[b'n'; 1024], "the name");
+    let line = b" alive 2 2/7f000001/65535/abcd/0102030405ff\n";
+    assert_bytes(rt, rest, line, "what is behind the name");
+}
+
+#[test]
+fn details_are_listed_in_hexadecimal(rt: HostRuntime) -> Result<(), AllocError> {
+    let mut table = Table::new(rt.alloc());
+    assert_full_line(&rt, &full_listing(&rt, rt.alloc(), &mut table)?);
+    Ok(())
+}
+
+/// Asserts that a join that was refused changed neither table.
+fn assert_stayed(
+    rt: &impl Abort,
+    alloc: Global,
+    table: &Table,
+    other: &Table,
+) -> Result<(), AllocError> {
+    assert_lists(rt, alloc, table, ALIVE_A)?;
+    assert_lists(rt, alloc, other, SUSPECT_B)
 }
 
 /// Joins the table of `b` in, at the second try, after it was handed back. Both have to have
@@ -177,67 +183,70 @@ fn join_back(
     table: &mut Table,
     other: Table,
 ) -> Result<(), AllocError> {
-    assert_lists(rt, alloc, table, ALIVE_A)?;
-    assert_lists(rt, alloc, &other, SUSPECT_B)?;
-    let repeated = table.join(other).is_ok();
-    assert!(rt; repeated);
+    assert_stayed(rt, alloc, table, &other)?;
+    assert_that(rt, table.join(other).is_ok(), "the second try");
+    Ok(())
+}
+
+/// Joins the table of `b` in.
+fn join(rt: &impl Abort, alloc: Global, table: &mut Table) -> Result<(), AllocError> {
+    match table.join(table_of(rt, alloc, OF_B)?) {
+        Ok(()) => Ok(()),
+        Err((other, _)) => join_back(rt, alloc, table, other),
+    }
+}
+
+/// Joins the table of `b` in, in room for both.
+fn join_in(rt: &impl Abort, alloc: Global, table: &mut Table) -> Result<(), AllocError> {
+    let other = table_of(rt, alloc, OF_B)?;
+    let room = Room::new(alloc, 2)?;
+    assert_count(rt, room.size(), 2, "the room");
+    if table.len() + other.len() <= room.size() {
+        table.join_in(room, other);
+    }
     Ok(())
 }
 
 #[test]
 fn a_join_has_the_claims_of_both_tables(rt: HostRuntime) -> Result<(), AllocError> {
-    let mut table = table_of_a(&rt, rt.alloc())?;
-    if let Err((other, _)) = table.join(table_of_b(&rt, rt.alloc())?) {
-        join_back(&rt, rt.alloc(), &mut table, other)?;
-    }
+    let mut table = table_of(&rt, rt.alloc(), OF_A)?;
+    join(&rt, rt.alloc(), &mut table)?;
     assert_lists(&rt, rt.alloc(), &table, BOTH)
-}
-
-/// Joins the other table in, in room for both.
-fn join_in(rt: &impl Abort, table: &mut Table, room: Room, other: Table) {
-    assert_eq!(rt; room.size(), 2);
-    if table.len() + other.len() <= room.size() {
-        table.join_in(room, other);
-    }
 }
 
 #[test]
 fn a_join_in_room_takes_no_memory(rt: HostRuntime) -> Result<(), AllocError> {
-    let other = table_of_b(&rt, rt.alloc())?;
-    let room = Room::new(rt.alloc(), 2)?;
-    let mut table = table_of_a(&rt, rt.alloc())?;
-    join_in(&rt, &mut table, room, other);
+    let mut table = table_of(&rt, rt.alloc(), OF_A)?;
+    join_in(&rt, rt.alloc(), &mut table)?;
     assert_lists(&rt, rt.alloc(), &table, BOTH)
 }
 
-/// Asserts how the tables of these claims relate.
-fn assert_related(
+/// How the tables of these claims relate.
+fn related(
     rt: &impl Abort,
     alloc: Global,
     first: &[Saying],
     second: &[Saying],
-    wanted: Relation,
-) -> Result<(), AllocError> {
+) -> Result<Relation, AllocError> {
     let first = table_of(rt, alloc, first)?;
     let second = table_of(rt, alloc, second)?;
-    assert_eq!(rt; relation(&first, &second), wanted);
-    Ok(())
+    Ok(relation(&first, &second))
 }
+
+/// The claims of two tables, and how these relate.
+const RELATED: &[(&[Saying], &[Saying], Relation)] = &[
+    (OF_A, OF_A, Relation::Equal),
+    (OF_A, OF_BOTH, Relation::Behind),
+    (OF_BOTH, OF_A, Relation::Ahead),
+    (OF_A, OF_B, Relation::Apart),
+    (OF_A, &[suspect!(b"a", 0)], Relation::Apart),
+];
 
 #[test]
 fn tables_are_related_by_their_join(rt: HostRuntime) -> Result<(), AllocError> {
-    let a = alive(b"a", 0, LOOPBACK, 7946);
-    let b = suspect(b"b", 1);
-    let suspected = suspect(b"a", 0);
-    let rows: [(&[Saying], &[Saying], Relation); 5] = [
-        (&[a], &[a], Relation::Equal),
-        (&[a], &[b, a], Relation::Behind),
-        (&[b, a], &[a], Relation::Ahead),
-        (&[a], &[b], Relation::Apart),
-        (&[a], &[suspected], Relation::Apart),
-    ];
-    for (first, second, wanted) in rows {
-        assert_related(&rt, rt.alloc(), first, second, wanted)?;
+    for (first, second, wanted) in RELATED {
+        let found = related(&rt, rt.alloc(), first, second)?;
+        assert_eq!(rt; found, *wanted);
     }
     Ok(())
 }
