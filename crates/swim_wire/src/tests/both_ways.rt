@@ -30,76 +30,118 @@ const MESSAGES: [&[u8]; 11] = [
 /// What the byte of each place is replaced by.
 const BYTES: [u8; 6] = [0, 0x01, 0xa0, 0xa2, 0xc0, 0xd0];
 
-/// The same claim, or the same refusal. Want of memory is no answer.
-fn same_claim(
-    one: Result<Claim, WireFault>,
-    other: Result<Claim, WireFault>,
-) -> Result<bool, WireFault> {
-    match (one, other) {
-        (Err(WireFault::Memory), _) | (_, Err(WireFault::Memory)) => Err(WireFault::Memory),
-        (Ok(one), Ok(other)) => Ok(
-            one.kind() == other.kind()
-                && one.name().bytes() == other.name().bytes()
-                && one.inc() == other.inc()
-                && one.details() == other.details(),
-        ),
-        (Err(one), Err(other)) => Ok(one == other),
-        _ => Ok(false),
+/// Both readings give the same.
+const READ: u8 = 0;
+
+/// Both are refused for the same fault.
+const REFUSED: u8 = 1;
+
+/// One of them was refused for want of memory, which is no answer.
+const NO_MEMORY: u8 = 2;
+
+/// They differ.
+const APART: u8 = 3;
+
+/// How two refusals compare.
+fn faults(one: WireFault, other: WireFault) -> u8 {
+    if one.number() == 10 || other.number() == 10 {
+        NO_MEMORY
+    } else if one == other {
+        REFUSED
+    } else {
+        APART
     }
 }
 
-/// That a header is read alike from both inlets.
-fn assert_same_header(
-    rt: &impl Abort,
-    slice: &mut SliceInlet<'_>,
-    unseen: &mut StopInlet<'_>,
-    bytes: &[u8],
-) {
-    let header = read_header(slice);
-    assert_eq!(rt; header, read_header(unseen), "{bytes:?}");
+/// How a refusal compares to what was read.
+fn lone_fault(fault: WireFault) -> u8 {
+    if fault.number() == 10 {
+        NO_MEMORY
+    } else {
+        APART
+    }
 }
 
-/// A slice is at hand whole, and of a `StopInlet` nothing is.
-fn read_both_ways(rt: &impl Abort, alloc: Global, bytes: &[u8]) -> Result<(), Fail> {
+/// Whether it is the same claim.
+fn same_claim(one: &Claim, other: &Claim) -> bool {
+    one.kind() == other.kind()
+        && one.name().bytes() == other.name().bytes()
+        && one.inc() == other.inc()
+        && one.details() == other.details()
+}
+
+/// How two things that were read compare.
+fn of_same(same: bool) -> u8 {
+    if same { READ } else { APART }
+}
+
+/// How two readings of a record compare.
+fn records(one: &Result<Claim, WireFault>, other: &Result<Claim, WireFault>) -> u8 {
+    match (one, other) {
+        (Ok(one), Ok(other)) => of_same(same_claim(one, other)),
+        (Err(one), Err(other)) => faults(*one, *other),
+        (Err(fault), Ok(_)) | (Ok(_), Err(fault)) => lone_fault(*fault),
+    }
+}
+
+/// How two readings of a packet compare.
+fn packets(one: &Result<Packet, WireFault>, other: &Result<Packet, WireFault>) -> u8 {
+    match (one, other) {
+        (Ok(one), Ok(other)) => of_same(
+            same_claim(one.claim(), other.claim()) && one.from_name() == other.from_name(),
+        ),
+        (Err(one), Err(other)) => faults(*one, *other),
+        (Err(fault), Ok(_)) | (Ok(_), Err(fault)) => lone_fault(*fault),
+    }
+}
+
+/// How the headers compare that both inlets give.
+fn header_both_ways(slice: &mut SliceInlet<'_>, unseen: &mut StopInlet<'_>) -> u8 {
+    of_same(read_header(slice) == read_header(unseen))
+}
+
+/// How the records compare that both inlets give.
+fn record_both_ways(alloc: Global, slice: &mut SliceInlet<'_>, unseen: &mut StopInlet<'_>) -> u8 {
+    let whole = read_state(alloc, slice);
+    let apart = read_state(alloc, unseen);
+    records(&whole, &apart)
+}
+
+/// How a record and, where it is read, the header behind it compare. A slice is at hand whole, and
+/// of a `StopInlet` nothing is.
+fn read_both_ways(alloc: Global, bytes: &[u8]) -> u8 {
     let mut slice = SliceInlet::new(bytes);
     let mut unseen = StopInlet::new(bytes, usize::MAX);
-    let whole = read_state(alloc, &mut slice);
-    let apart = read_state(alloc, &mut unseen);
-    let taken = whole.is_ok();
-    assert!(rt; same_claim(whole, apart)?, "{bytes:?}");
-    if taken {
-        assert_same_header(rt, &mut slice, &mut unseen, bytes);
-    }
-    let mut unseen = StopInlet::new(bytes, usize::MAX);
-    assert_same_header(rt, &mut SliceInlet::new(bytes), &mut unseen, bytes);
-    Ok(())
-}
-
-/// That two packets, where both are read, are made by the same.
-fn assert_same_maker(
-    rt: &impl Abort,
-    whole: &Result<Packet, WireFault>,
-    apart: &Result<Packet, WireFault>,
-    bytes: &[u8],
-) {
-    if let (Ok(whole), Ok(apart)) = (whole, apart) {
-        assert_eq!(rt; whole.from_name(), apart.from_name(), "{bytes:?}");
+    let record = record_both_ways(alloc, &mut slice, &mut unseen);
+    if record == READ {
+        header_both_ways(&mut slice, &mut unseen)
+    } else {
+        record
     }
 }
 
-fn decode_both_ways(rt: &impl Abort, alloc: Global, bytes: &[u8]) -> Result<(), Fail> {
+/// How the packets compare.
+fn decode_both_ways(alloc: Global, bytes: &[u8]) -> u8 {
     let whole = decode_packet(alloc, bytes);
     let apart = decode_any_packet(alloc, bytes);
-    assert_same_maker(rt, &whole, &apart, bytes);
-    let (whole, apart) = (whole.map(Packet::into_claim), apart.map(Packet::into_claim));
-    assert!(rt; same_claim(whole, apart)?, "{bytes:?}");
+    packets(&whole, &apart)
+}
+
+/// That the readings of the bytes do not differ. Want of memory is an error of the test.
+fn assert_alike(rt: &impl Abort, likeness: u8, bytes: &[u8]) -> Result<(), Fail> {
+    if likeness == NO_MEMORY {
+        return Err(Fail::from(WireFault::Memory));
+    }
+    assert!(rt; likeness != APART, "{bytes:?}");
     Ok(())
 }
 
 /// In both ways as a record, as a header and as a packet.
 fn is_read_alike(rt: &impl Abort, alloc: Global, bytes: &[u8]) -> Result<(), Fail> {
-    read_both_ways(rt, alloc, bytes)?;
-    decode_both_ways(rt, alloc, bytes)
+    let (mut slice, mut unseen) = (SliceInlet::new(bytes), StopInlet::new(bytes, usize::MAX));
+    assert_alike(rt, read_both_ways(alloc, bytes), bytes)?;
+    assert_alike(rt, header_both_ways(&mut slice, &mut unseen), bytes)?;
+    assert_alike(rt, decode_both_ways(alloc, bytes), bytes)
 }
 
 #[test]

@@ -1,8 +1,10 @@
 //! Messages by their canonical bytes.
 
-use super::{ALIVE, CONFIRM, LEAVE, SUSPECT, assert_bytes};
+use super::datagrams::{BOTH, greatest_compound};
+use super::{ALIVE, CONFIRM, LEAVE, SUSPECT, assert_written};
 use crate::{
-    Header, Packet, decode_packet, encode_compound, encode_packet, write_header, write_state,
+    Header, Packet, decode_datagram, decode_packet, encode_compound, encode_packet, write_header,
+    write_state,
 };
 use std::alloc::{AllocError, Global};
 use std::process::Abort;
@@ -24,16 +26,10 @@ fn encoded(alloc: Global, packet: &Packet) -> Result<Vec<u8>, AllocError> {
     }
 }
 
-/// That the packet is written as these bytes.
-fn assert_encoded(
-    rt: &impl Abort,
-    alloc: Global,
-    bytes: &[u8],
-    canonical: &[u8],
-) -> Result<(), Fail> {
+/// The packet of these bytes, as it is written.
+fn encoded_again(alloc: Global, bytes: &[u8]) -> Result<Vec<u8>, Fail> {
     let packet = decode_packet(alloc, bytes)?;
-    assert_bytes(rt, &encoded(alloc, &packet)?, canonical);
-    Ok(())
+    Ok(encoded(alloc, &packet)?)
 }
 
 #[test]
@@ -45,40 +41,38 @@ fn a_packet_is_written_in_its_canonical_bytes(rt: HostRuntime) -> Result<(), Fai
         (CONFIRM, CONFIRM),
         (LEAVE, LEAVE),
     ] {
-        assert_encoded(&rt, rt.alloc(), bytes, canonical)?;
+        assert_written(&rt, encoded_again(rt.alloc(), bytes)?, canonical);
     }
     Ok(())
 }
 
 /// Encodes them together. Where memory is refused the repeat encodes them.
-fn compound_of(alloc: Global, packets: &[Packet; 2]) -> Result<Vec<u8>, AllocError> {
+fn compound_of(alloc: Global, packets: &[Packet]) -> Result<Vec<u8>, AllocError> {
+    let packets = &packets[..packets.len().min(255)];
     match encode_compound(alloc, packets) {
         Err(AllocError) => encode_compound(alloc, packets),
         answer => answer,
     }
 }
 
-/// That the compound has the lengths of the Alive and the Suspect, and then both.
-fn assert_compound(rt: &impl Abort, compound: &[u8]) {
-    assert_eq!(rt; compound.len(), 86);
-    let (lengths, packets) = compound.split_at(6);
-    let (first, second) = packets.split_at(51);
-    assert_bytes(rt, lengths, b"\x07\x02\0\x33\0\x1d");
-    assert_bytes(rt, first, ALIVE);
-    assert_bytes(rt, second, SUSPECT);
+/// The packets of the compound packet, as they are written together.
+fn compound_again(alloc: Global, bytes: &[u8]) -> Result<Vec<u8>, Fail> {
+    let packets = decode_datagram(alloc, bytes)?;
+    Ok(compound_of(alloc, &packets)?)
 }
 
 #[test]
 fn a_compound_has_the_lengths_and_then_the_packets(rt: HostRuntime) -> Result<(), Fail> {
-    let alloc = rt.alloc();
-    let packets = [decode_packet(alloc, ALIVE)?, decode_packet(alloc, SUSPECT)?];
-    assert_compound(&rt, &compound_of(alloc, &packets)?);
+    for bytes in [BOTH, b"\x07\0"] {
+        assert_written(&rt, compound_again(rt.alloc(), bytes)?, bytes);
+    }
     Ok(())
 }
 
 #[test]
-fn a_compound_of_no_packets_is_its_type_and_a_zero(rt: HostRuntime) -> Result<(), Fail> {
-    assert_bytes(&rt, &encode_compound(rt.alloc(), &[])?, b"\x07\0");
+fn two_hundred_and_fifty_five_packets_are_one_compound(rt: HostRuntime) -> Result<(), Fail> {
+    let bytes = greatest_compound(rt.alloc())?;
+    assert_written(&rt, compound_again(rt.alloc(), &bytes)?, &bytes);
     Ok(())
 }
 
@@ -113,10 +107,9 @@ fn a_header_is_appended(rt: HostRuntime) -> Result<(), Fail> {
         user_len: 300,
         join: true,
     };
-    let out = headers(rt.alloc(), &[header, other])?;
     let both =
         b"\x06\x83\xa4Join\xc2\xa5Nodes\0\xacUserStateLen\0\x06\x83\xa4Join\xc3\xa5Nodes\xce\0\x02\0\0\xacUserStateLen\xcd\x01\x2c";
-    assert_bytes(&rt, &out, both);
+    assert_written(&rt, headers(rt.alloc(), &[header, other])?, both);
     Ok(())
 }
 
@@ -130,13 +123,17 @@ fn with_state(out: &mut Vec<u8>, claim: &Claim) -> Result<(), AllocError> {
     }
 }
 
-/// That the claim of the packet is written as this record.
-fn assert_record(rt: &impl Abort, alloc: Global, packet: &[u8], record: &[u8]) -> Result<(), Fail> {
-    let packet = decode_packet(alloc, packet)?;
+/// The record of the claim.
+fn record(alloc: Global, claim: &Claim) -> Result<Vec<u8>, AllocError> {
     let mut out = Vec::new(alloc);
-    with_state(&mut out, packet.claim())?;
-    assert_bytes(rt, &out, record);
-    Ok(())
+    with_state(&mut out, claim)?;
+    Ok(out)
+}
+
+/// The record of the packet's claim.
+fn record_of(alloc: Global, bytes: &[u8]) -> Result<Vec<u8>, Fail> {
+    let packet = decode_packet(alloc, bytes)?;
+    Ok(record(alloc, packet.claim())?)
 }
 
 #[test]
@@ -155,7 +152,7 @@ fn a_state_record_has_the_state_and_the_details_of_its_claim(rt: HostRuntime) ->
         (CONFIRM, confirm),
         (LEAVE_OF_C, leave),
     ] {
-        assert_record(&rt, rt.alloc(), packet, record)?;
+        assert_written(&rt, record_of(rt.alloc(), packet)?, record);
     }
     Ok(())
 }

@@ -1,5 +1,6 @@
 //! Messages that make no claim, as members of a running memberlist sent them, and what is none.
 
+use super::{assert_fault, assert_want_of_memory};
 use crate::{Claimless, WireFault, decode_claimless};
 use std::alloc::Global;
 use std::process::Abort;
@@ -19,6 +20,13 @@ const ACK: &[u8] = b"\x02\x82\xa7Payload\xc0\xa5SeqNo\x01";
 /// A nack.
 const NACK: &[u8] = b"\x0b\x81\xa5SeqNo\x0a";
 
+/// That the bytes are a message of this kind.
+fn assert_kind(rt: &impl Abort, alloc: Global, bytes: &[u8], kind: Claimless) -> Result<(), Fail> {
+    let found = decode_claimless(alloc, bytes)?;
+    assert!(rt; found == kind, "{bytes:?}");
+    Ok(())
+}
+
 #[test]
 fn each_message_is_told_by_its_kind(rt: HostRuntime) -> Result<(), Fail> {
     for (bytes, kind) in [
@@ -37,18 +45,19 @@ fn each_message_is_told_by_its_kind(rt: HostRuntime) -> Result<(), Fail> {
             Claimless::Ack,
         ),
     ] {
-        assert_eq!(rt; decode_claimless(rt.alloc(), bytes)?, kind);
+        assert_kind(&rt, rt.alloc(), bytes, kind)?;
     }
     Ok(())
 }
 
-/// Why the bytes are refused.
-fn refusal(rt: &impl Abort, alloc: Global, bytes: &[u8]) -> Result<WireFault, Fail> {
-    match decode_claimless(alloc, bytes) {
-        Ok(kind) => panic!(rt; "{bytes:?} is {kind:?}"),
-        Err(WireFault::Memory) => Err(Fail::from(WireFault::Memory)),
-        Err(fault) => Ok(fault),
-    }
+/// That the bytes are refused for this fault.
+fn assert_refused(
+    rt: &impl Abort,
+    alloc: Global,
+    bytes: &[u8],
+    fault: WireFault,
+) -> Result<(), Fail> {
+    assert_fault(rt, decode_claimless(alloc, bytes).err(), fault, bytes)
 }
 
 #[test]
@@ -80,7 +89,7 @@ fn what_is_no_such_message_is_refused_by_its_fault(rt: HostRuntime) -> Result<()
         (b"\0\x81\xaaSourceAddr\xb1", WireFault::TooLong),
         (b"\x0b\x81\xa5SeqNo\x0a\0", WireFault::Trailing),
     ] {
-        assert_eq!(rt; refusal(&rt, rt.alloc(), bytes)?, fault, "{bytes:?}");
+        assert_refused(&rt, rt.alloc(), bytes, fault)?;
     }
     Ok(())
 }
@@ -89,8 +98,7 @@ fn what_is_no_such_message_is_refused_by_its_fault(rt: HostRuntime) -> Result<()
 fn a_cut_message_is_refused_as_ended(rt: HostRuntime) -> Result<(), Fail> {
     for message in [PING, INDIRECT_PING, ACK, NACK] {
         for end in 0..message.len() {
-            let fault = refusal(&rt, rt.alloc(), &message[..end])?;
-            assert_eq!(rt; fault, WireFault::Ended, "at {end}");
+            assert_refused(&rt, rt.alloc(), &message[..end], WireFault::Ended)?;
         }
     }
     Ok(())
@@ -102,7 +110,7 @@ fn a_payload_that_claims_much_asks_for_little(rt: HostRuntime) -> Result<(), Fai
         b"\x02\x81\xa7Payload\xc6\xff\xff\xff\xff".as_slice(),
         b"\x0d\x81\xa5Error\xdb\x7f\xff\xff\xff",
     ] {
-        assert_eq!(rt; refusal(&rt, rt.alloc(), bytes)?, WireFault::TooLong);
+        assert_refused(&rt, rt.alloc(), bytes, WireFault::TooLong)?;
     }
     Ok(())
 }
@@ -110,8 +118,8 @@ fn a_payload_that_claims_much_asks_for_little(rt: HostRuntime) -> Result<(), Fai
 #[test]
 fn want_of_memory_is_answered_as_such_and_then_repeated(rt: HostRuntime) -> Result<(), Fail> {
     if let Err(fault) = decode_claimless(rt.alloc(), PING) {
-        assert_eq!(rt; fault, WireFault::Memory);
-        assert_eq!(rt; decode_claimless(rt.alloc(), PING)?, Claimless::Ping);
+        assert_want_of_memory(&rt, fault);
+        assert_kind(&rt, rt.alloc(), PING, Claimless::Ping)?;
     }
     Ok(())
 }

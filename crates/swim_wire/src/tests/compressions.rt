@@ -1,5 +1,6 @@
 //! The map of a compressed message.
 
+use super::{assert_count, assert_fault, assert_want_of_memory, assert_written};
 use crate::{WireFault, decode_compression};
 use std::alloc::Global;
 use std::process::Abort;
@@ -21,18 +22,19 @@ fn the_map_gives_its_compressed_bytes(rt: HostRuntime) -> Result<(), Fail> {
         (b"\x82\xa4Algo\xc0\xa3Buf\xc0", b""),
         (b"\x80", b""),
     ] {
-        assert_eq!(rt; decode_compression(rt.alloc(), map)?.as_slice(), packed);
+        assert_written(&rt, decode_compression(rt.alloc(), map)?, packed);
     }
     Ok(())
 }
 
-/// Why the bytes are refused.
-fn refusal(rt: &impl Abort, alloc: Global, bytes: &[u8]) -> Result<WireFault, Fail> {
-    match decode_compression(alloc, bytes) {
-        Ok(packed) => panic!(rt; "{bytes:?} has {packed:?}"),
-        Err(WireFault::Memory) => Err(Fail::from(WireFault::Memory)),
-        Err(fault) => Ok(fault),
-    }
+/// That the bytes are refused for this fault.
+fn assert_refused(
+    rt: &impl Abort,
+    alloc: Global,
+    bytes: &[u8],
+    fault: WireFault,
+) -> Result<(), Fail> {
+    assert_fault(rt, decode_compression(alloc, bytes).err(), fault, bytes)
 }
 
 #[test]
@@ -49,23 +51,22 @@ fn what_is_no_such_map_is_refused_by_its_fault(rt: HostRuntime) -> Result<(), Fa
         (b"\x81\xa3Buf\xa1x\0", WireFault::Trailing),
         (b"\x81\xa3Buf\xa5x", WireFault::Ended),
     ] {
-        assert_eq!(rt; refusal(&rt, rt.alloc(), bytes)?, fault, "{bytes:?}");
+        assert_refused(&rt, rt.alloc(), bytes, fault)?;
     }
     Ok(())
 }
 
 #[test]
 fn a_map_that_claims_much_asks_for_little(rt: HostRuntime) -> Result<(), Fail> {
-    let fault = refusal(&rt, rt.alloc(), b"\x81\xa3Buf\xc6\xff\xff\xff\xff")?;
-    assert_eq!(rt; fault, WireFault::TooLong);
-    Ok(())
+    let bytes = b"\x81\xa3Buf\xc6\xff\xff\xff\xff";
+    assert_refused(&rt, rt.alloc(), bytes, WireFault::TooLong)
 }
 
 #[test]
 fn want_of_memory_is_answered_as_such_and_then_repeated(rt: HostRuntime) -> Result<(), Fail> {
-    if let Err(fault) = decode_compression(rt.alloc(), BANANA) {
-        assert_eq!(rt; fault, WireFault::Memory);
-        assert_eq!(rt; decode_compression(rt.alloc(), BANANA)?.len(), 14);
+    if let Some(fault) = decode_compression(rt.alloc(), BANANA).err() {
+        assert_want_of_memory(&rt, fault);
+        assert_count(&rt, decode_compression(rt.alloc(), BANANA)?.len(), 14);
     }
     Ok(())
 }

@@ -1,7 +1,7 @@
 //! Datagrams and user state by their bytes.
 
-use super::{ALIVE, SUSPECT, assert_bytes, assert_count, assert_fault};
-use crate::{Datagram, Packet, WireFault, decode_datagram, encode_compound, skip_user};
+use super::{ALIVE, SUSPECT, assert_bytes, assert_count, assert_fault, assert_want_of_memory};
+use crate::{Datagram, Packet, WireFault, decode_datagram, skip_user};
 use std::alloc::Global;
 use std::process::Abort;
 use std::test::Fail;
@@ -9,7 +9,7 @@ use swim_claim::Kind;
 use swim_pack::SliceInlet;
 
 /// A compound packet of the Alive and the Suspect.
-const BOTH: &[u8] =
+pub(crate) const BOTH: &[u8] =
     b"\x07\x02\0\x33\0\x1d\x04\x86\xa4Addr\xa4\x7f\0\0\x01\xabIncarnation\0\xa4Meta\xa0\xa4Node\xa1a\xa4Port\xcd\x1f\x0a\xa3Vsn\xa0\x03\x83\xa4From\xa1x\xabIncarnation\x01\xa4Node\xa1b";
 
 /// A compound packet of one byte of another type and the Suspect.
@@ -28,6 +28,13 @@ fn assert_packets(rt: &impl Abort, packets: &[Packet], names: &[u8]) {
     }
 }
 
+/// That the bytes are a datagram of packets about these names.
+fn assert_read(rt: &impl Abort, alloc: Global, bytes: &[u8], names: &[u8]) -> Result<(), Fail> {
+    let packets = decode_datagram(alloc, bytes)?;
+    assert_packets(rt, &packets, names);
+    Ok(())
+}
+
 #[test]
 fn a_datagram_has_the_packets_of_its_parts(rt: HostRuntime) -> Result<(), Fail> {
     for (bytes, names) in [
@@ -38,13 +45,13 @@ fn a_datagram_has_the_packets_of_its_parts(rt: HostRuntime) -> Result<(), Fail> 
         (ALIVE, b"a"),
         (SUSPECT, b"b"),
     ] {
-        assert_packets(&rt, &decode_datagram(rt.alloc(), bytes)?, names);
+        assert_read(&rt, rt.alloc(), bytes, names)?;
     }
     Ok(())
 }
 
 /// A compound of 255 Suspects.
-fn greatest_compound(alloc: Global) -> Result<Vec<u8>, Fail> {
+pub(crate) fn greatest_compound(alloc: Global) -> Result<Vec<u8>, Fail> {
     let mut bytes = b"\x07\xff".to_vec(alloc)?;
     for _ in 0..255 {
         bytes.extend_from_slice(b"\0\x1d")?;
@@ -55,30 +62,20 @@ fn greatest_compound(alloc: Global) -> Result<Vec<u8>, Fail> {
     Ok(bytes)
 }
 
-/// That the 255 packets are encoded as these bytes.
-fn assert_encoded(
-    rt: &impl Abort,
-    alloc: Global,
-    packets: &[Packet],
-    bytes: &[u8],
-) -> Result<(), Fail> {
-    assert_count(rt, packets.len(), 255);
-    let count = packets.len().min(255);
-    assert_bytes(rt, &encode_compound(alloc, &packets[..count])?, bytes);
-    Ok(())
-}
-
-#[test]
-fn two_hundred_and_fifty_five_packets_are_one_compound(rt: HostRuntime) -> Result<(), Fail> {
-    let bytes = greatest_compound(rt.alloc())?;
-    let packets = decode_datagram(rt.alloc(), &bytes)?;
-    assert_encoded(&rt, rt.alloc(), &packets, &bytes)
+/// Whether it is a packet by itself.
+fn is_packet(datagram: &Datagram) -> bool {
+    matches!(datagram, Datagram::Packet(_))
 }
 
 /// Whether the bytes are a packet by itself.
-fn is_alone(alloc: Global, bytes: &[u8]) -> Result<bool, Fail> {
+fn is_alone(alloc: Global, bytes: &[u8]) -> Result<bool, WireFault> {
     let datagram = Datagram::decode(alloc, bytes)?;
-    Ok(matches!(datagram, Datagram::Packet(_)))
+    Ok(is_packet(&datagram))
+}
+
+/// That the two answers about the bytes are one.
+fn assert_alone(rt: &impl Abort, found: bool, wanted: bool, bytes: &[u8]) {
+    assert!(rt; found == wanted, "{bytes:?}");
 }
 
 #[test]
@@ -89,7 +86,7 @@ fn a_packet_by_itself_is_told_from_a_compound_packet(rt: HostRuntime) -> Result<
         (BOTH, false),
         (b"\x07\0", false),
     ] {
-        assert_eq!(rt; is_alone(rt.alloc(), bytes)?, alone, "{bytes:?}");
+        assert_alone(&rt, is_alone(rt.alloc(), bytes)?, alone, bytes);
     }
     Ok(())
 }
@@ -125,7 +122,7 @@ fn a_datagram_is_refused_at_its_first_fault(rt: HostRuntime) -> Result<(), Fail>
 fn a_datagram_that_claims_much_asks_for_little(rt: HostRuntime) -> Result<(), Fail> {
     // 255 parts of 1,028 bytes each, and none of them
     let mut parts = [4; 512];
-    (parts[0], parts[1]) = (7, 255);
+    parts[..2].copy_from_slice(b"\x07\xff");
     for (bytes, fault) in [
         (parts.as_slice(), WireFault::Ended),
         (b"\x07\xff", WireFault::Ended),
@@ -140,7 +137,7 @@ fn a_datagram_that_claims_much_asks_for_little(rt: HostRuntime) -> Result<(), Fa
 #[test]
 fn want_of_memory_is_answered_as_such_and_the_repeat_reads(rt: HostRuntime) -> Result<(), Fail> {
     if let Some(fault) = decode_datagram(rt.alloc(), BOTH).err() {
-        assert_eq!(rt; fault, WireFault::Memory);
+        assert_want_of_memory(&rt, fault);
         assert_count(&rt, decode_datagram(rt.alloc(), BOTH)?.len(), 2);
     }
     Ok(())

@@ -1,6 +1,6 @@
 //! Headers and state records of push/pull streams.
 
-use super::{assert_claim, assert_count};
+use super::{assert_claim, assert_count, assert_fault};
 use crate::{Header, WireFault, read_header, read_state};
 use std::alloc::Global;
 use std::process::Abort;
@@ -22,13 +22,16 @@ const DEAD: &[u8] =
 /// A record of `c` that left at incarnation 3.
 const LEFT: &[u8] = b"\x83\xa4Name\xa1c\xabIncarnation\x03\xa5State\x03";
 
-/// What reading a header has to answer.
-fn assert_header(rt: &impl Abort, bytes: &[u8], wanted: Result<Header, WireFault>) {
-    assert_eq!(rt;
-        read_header(&mut SliceInlet::new(bytes)),
-        wanted,
-        "{bytes:?}"
-    );
+/// That the bytes are this header.
+fn assert_header(rt: &impl Abort, bytes: &[u8], wanted: Header) -> Result<(), Fail> {
+    let header = read_header(&mut SliceInlet::new(bytes))?;
+    assert!(rt; header == wanted, "{bytes:?}");
+    Ok(())
+}
+
+/// Why the bytes are no header.
+fn header_fault(bytes: &[u8]) -> Option<WireFault> {
+    read_header(&mut SliceInlet::new(bytes)).err()
 }
 
 #[test]
@@ -43,13 +46,13 @@ fn a_header_is_read_with_its_parts(rt: HostRuntime) -> Result<(), Fail> {
             user_len,
             join,
         };
-        assert_header(&rt, bytes, Ok(wanted));
+        assert_header(&rt, bytes, wanted)?;
     }
     Ok(())
 }
 
 #[test]
-fn a_header_is_refused_by_its_first_fault(rt: HostRuntime) {
+fn a_header_is_refused_by_its_first_fault(rt: HostRuntime) -> Result<(), Fail> {
     for (bytes, fault) in [
         (b"".as_slice(), WireFault::Ended),
         (b"\x04", WireFault::WrongType { found: 4 }),
@@ -64,8 +67,9 @@ fn a_header_is_refused_by_its_first_fault(rt: HostRuntime) {
             WireFault::UserTooLong,
         ),
     ] {
-        assert_header(&rt, bytes, Err(fault));
+        assert_fault(&rt, header_fault(bytes), fault, bytes)?;
     }
+    Ok(())
 }
 
 /// That a record is read to its end as this claim.
@@ -96,16 +100,13 @@ fn a_state_record_is_read_by_its_state(rt: HostRuntime) -> Result<(), Fail> {
     Ok(())
 }
 
-/// That the bytes are no record, for this fault or for want of memory.
-fn assert_refused(rt: &impl Abort, alloc: Global, bytes: &[u8], fault: WireFault) {
-    let found = read_state(alloc, &mut SliceInlet::new(bytes)).err();
-    if found != Some(WireFault::Memory) {
-        assert_eq!(rt; found, Some(fault), "{bytes:?}");
-    }
+/// Why the bytes are no record.
+fn record_fault(alloc: Global, bytes: &[u8]) -> Option<WireFault> {
+    read_state(alloc, &mut SliceInlet::new(bytes)).err()
 }
 
 #[test]
-fn a_state_record_is_refused_by_its_first_fault(rt: HostRuntime) {
+fn a_state_record_is_refused_by_its_first_fault(rt: HostRuntime) -> Result<(), Fail> {
     for (bytes, fault) in [
         (
             b"\x82\xa4Name\xa1d\xa5State\x04".as_slice(),
@@ -119,23 +120,51 @@ fn a_state_record_is_refused_by_its_first_fault(rt: HostRuntime) {
         ),
         (b"\x88", WireFault::MapCount),
     ] {
-        assert_refused(&rt, rt.alloc(), bytes, fault);
+        assert_fault(&rt, record_fault(rt.alloc(), bytes), fault, bytes)?;
+    }
+    Ok(())
+}
+
+/// The fault of a record, of an inlet that fails at this call.
+fn stopped_record(alloc: Global, calls: usize) -> Option<WireFault> {
+    read_state(alloc, &mut StopInlet::new(LEFT, calls)).err()
+}
+
+/// The fault of a header, of an inlet that fails at this call.
+fn stopped_header(calls: usize) -> Option<WireFault> {
+    read_header(&mut StopInlet::new(HEADER, calls)).err()
+}
+
+/// The fault by its number, or 0.
+fn number_of(fault: Option<WireFault>) -> u32 {
+    match fault {
+        Some(fault) => fault.number(),
+        None => 0,
     }
 }
 
-/// That a record and a header are the fault of an inlet that fails at this call.
-fn assert_fails(rt: &impl Abort, alloc: Global, calls: usize) {
-    let refused = read_state(alloc, &mut StopInlet::new(LEFT, calls)).err();
-    let is_fault = matches!(refused, Some(WireFault::Fault | WireFault::Memory));
-    assert!(rt; is_fault, "at call {calls}");
-    let refused = read_header(&mut StopInlet::new(HEADER, calls)).err();
-    assert_eq!(rt; refused, Some(WireFault::Fault), "at call {calls}");
+/// Whether the fault of the record is that of its end or want of memory, and that of the header the
+/// former.
+fn is_that_of_the_end(record: u32, header: u32) -> bool {
+    (record == 9 || record == 10) && header == 9
+}
+
+/// That a record and a header are refused for the fault of their inlet.
+fn assert_fails(
+    rt: &impl Abort,
+    record: Option<WireFault>,
+    header: Option<WireFault>,
+    calls: usize,
+) {
+    let fails = is_that_of_the_end(number_of(record), number_of(header));
+    assert!(rt; fails, "at call {calls}");
 }
 
 #[test]
 fn a_failing_end_is_a_fault_at_each_call(rt: HostRuntime) {
     for calls in 1..12 {
-        assert_fails(&rt, rt.alloc(), calls);
+        let record = stopped_record(rt.alloc(), calls);
+        assert_fails(&rt, record, stopped_header(calls), calls);
     }
     assert!(rt; read_header(&mut StopInlet::new(HEADER, 12)).is_ok());
 }
