@@ -5,9 +5,8 @@ mod key_files;
 mod opening;
 mod packets;
 
-use crate::{KeyFileFault, Keyring};
+use crate::Keyring;
 use std::alloc::Global;
-use std::process::Abort;
 use std::test::Fail;
 
 /// A key of 16 bytes in base64.
@@ -27,15 +26,4 @@ fn keyring(alloc: Global, text: &str) -> Result<Keyring, Fail> {
     let mut keyring = Keyring::new(alloc);
     keyring.add_file(alloc, text.as_bytes())?;
     Ok(keyring)
-}
-
-/// Why a file is refused.
-fn refusal(rt: &impl Abort, alloc: Global, text: &[u8]) -> Result<KeyFileFault, Fail> {
-    let mut keyring = Keyring::new(alloc);
-    let answer = keyring.add_file(alloc, text);
-    match answer {
-        Ok(()) => panic!(rt; "{text:?} is a key file"),
-        Err(KeyFileFault::Memory) => Err(Fail::from(KeyFileFault::Memory)),
-        Err(fault) => Ok(fault),
-    }
 }

@@ -2,44 +2,64 @@
 
 use super::opening::assert_opens_all;
 use super::packets::PACKETS;
-use super::{KEY, KEY_24, KEY_32, OTHER, keyring, refusal};
+use super::{KEY, KEY_24, KEY_32, OTHER, keyring};
 use crate::{KeyFileFault, Keyring};
 use memberlist_cipher::CipherFault;
 use std::alloc::{AllocError, Global};
 use std::process::Abort;
 use std::test::Fail;
 
+/// Files of the keys of 16, 24 and 32 bytes.
+const FILES: [&str; 8] = [
+    // lines, where one may be empty and end in a carriage return
+    "EBceJSwzOkFIT1ZdZGtyeQ==\r\nGB8mLTQ7QklQV15lbHN6gYiPlp2kq7K5\r\nICcuNTxDSlFYX2ZtdHuCiZCXnqWss7rByM/W3eTr8vk=\r\n",
+    "\n\r\nEBceJSwzOkFIT1ZdZGtyeQ==\n\nGB8mLTQ7QklQV15lbHN6gYiPlp2kq7K5\r\n\r\nICcuNTxDSlFYX2ZtdHuCiZCXnqWss7rByM/W3eTr8vk=",
+    "ICcuNTxDSlFYX2ZtdHuCiZCXnqWss7rByM/W3eTr8vk=\nGB8mLTQ7QklQV15lbHN6gYiPlp2kq7K5\nEBceJSwzOkFIT1ZdZGtyeQ==\r",
+    "EBceJSwzOkFIT1ZdZGtyeQ==\nGB8mLTQ7QklQV15lbHN6gYiPlp2kq7K5\nICcuNTxDSlFYX2ZtdHuCiZCXnqWss7rByM/W3eTr8vk=\n",
+    // another key, and one twice
+    "AAAAAAAAAAAAAAAAAAAAAA==\nICcuNTxDSlFYX2ZtdHuCiZCXnqWss7rByM/W3eTr8vk=\nEBceJSwzOkFIT1ZdZGtyeQ==\nGB8mLTQ7QklQV15lbHN6gYiPlp2kq7K5\nEBceJSwzOkFIT1ZdZGtyeQ==",
+    // a list of texts in JSON, as serf writes it
+    "[\n  \"EBceJSwzOkFIT1ZdZGtyeQ==\",\n  \"GB8mLTQ7QklQV15lbHN6gYiPlp2kq7K5\",\n  \"ICcuNTxDSlFYX2ZtdHuCiZCXnqWss7rByM/W3eTr8vk=\"\n]",
+    " \t\r\n[\"ICcuNTxDSlFYX2ZtdHuCiZCXnqWss7rByM/W3eTr8vk=\",\"EBceJSwzOkFIT1ZdZGtyeQ==\",\"GB8mLTQ7QklQV15lbHN6gYiPlp2kq7K5\"]\n",
+    // a text in another spelling
+    "[\"EBceJSwzOkFIT1ZdZGtyeQ==\", \"\\u0047B8mLTQ7QklQV15lbHN6gYiPlp2kq7K5\", \"ICcuNTxDSlFYX2ZtdHuCiZCXnqWss7rByM/W3eTr8vk=\"]",
+];
+
+/// That the keys of the file open what was encrypted under each of the three.
+fn assert_opens_each(rt: &impl Abort, alloc: Global, text: &str) -> Result<(), Fail> {
+    let keyring = keyring(alloc, text)?;
+    assert_opens_all(rt, alloc, &keyring)
+}
+
 #[test]
-fn a_line_may_be_empty_and_end_in_a_carriage_return(rt: HostRuntime) -> Result<(), Fail> {
-    for text in [
-        format!(in rt.alloc(); "{KEY}\r\n{KEY_24}\r\n{KEY_32}\r\n")?,
-        format!(in rt.alloc(); "\n\r\n{KEY}\n\n{KEY_24}\r\n\r\n{KEY_32}")?,
-        format!(in rt.alloc(); "{KEY_32}\n{KEY_24}\n{KEY}\r")?,
-    ] {
-        assert_opens_all(&rt, rt.alloc(), &keyring(rt.alloc(), &text)?)?;
+fn lines_and_lists_of_keys_in_any_order_open_what_memberlist_encrypted(
+    rt: HostRuntime,
+) -> Result<(), Fail> {
+    for text in FILES {
+        assert_opens_each(&rt, rt.alloc(), text)?;
     }
     Ok(())
 }
 
-#[test]
-fn a_list_of_texts_in_json_is_read(rt: HostRuntime) -> Result<(), Fail> {
-    for text in [
-        // as serf writes it
-        format!(in rt.alloc(); "[\n  \"{KEY}\",\n  \"{KEY_24}\",\n  \"{KEY_32}\"\n]")?,
-        format!(in rt.alloc(); " \t\r\n[\"{KEY_32}\",\"{KEY}\",\"{KEY_24}\"]\n")?,
-        // a text in another spelling
-        format!(in rt.alloc(); "[\"{KEY}\", \"\\u0047{}\", \"{KEY_32}\"]", &KEY_24[1..])?,
-    ] {
-        assert_opens_all(&rt, rt.alloc(), &keyring(rt.alloc(), &text)?)?;
-    }
-    Ok(())
+/// Whether the file holds no key.
+fn is_empty(alloc: Global, text: &str) -> Result<bool, Fail> {
+    let keyring = keyring(alloc, text)?;
+    Ok(keyring.is_empty())
 }
 
 #[test]
 fn a_file_may_hold_no_keys(rt: HostRuntime) -> Result<(), Fail> {
     for text in ["", "\n", "\r\n\n", "[]", " [ ] "] {
-        let keyring = keyring(rt.alloc(), text)?;
-        assert!(rt; keyring.is_empty(), "{text:?}");
+        assert!(rt; is_empty(rt.alloc(), text)?, "{text:?}");
+    }
+    Ok(())
+}
+
+/// Adds the keys of several files: another one, and each of the three.
+fn add_several(rt: &impl Abort, alloc: Global, keyring: &mut Keyring) -> Result<(), KeyFileFault> {
+    for text in [OTHER, KEY_32, "", KEY, "[]", KEY_24] {
+        keyring.add_file(alloc, text.as_bytes())?;
+        assert!(rt; !keyring.is_empty());
     }
     Ok(())
 }
@@ -48,36 +68,44 @@ fn a_file_may_hold_no_keys(rt: HostRuntime) -> Result<(), Fail> {
 fn keys_of_several_files_stand_behind_each_other(rt: HostRuntime) -> Result<(), Fail> {
     let mut keyring = Keyring::new(rt.alloc());
     assert!(rt; keyring.is_empty());
-    for text in [OTHER, KEY_32, "", KEY, "[]", KEY_24] {
-        keyring.add_file(rt.alloc(), text.as_bytes())?;
-        assert!(rt; !keyring.is_empty());
-    }
+    add_several(&rt, rt.alloc(), &mut keyring)?;
     assert_opens_all(&rt, rt.alloc(), &keyring)
+}
+
+/// That a file whose second line is no key is refused.
+fn assert_second_refused(rt: &impl Abort, alloc: Global, keyring: &mut Keyring) {
+    let text = b"EBceJSwzOkFIT1ZdZGtyeQ==\nEBceJSwzOkFIT1ZdZGtyeQ==x";
+    let found = keyring.add_file(alloc, text);
+    assert!(rt; matches!(found, Err(KeyFileFault::Line(2) | KeyFileFault::Memory)));
 }
 
 #[test]
 fn a_refused_file_leaves_the_keyring_as_it_was(rt: HostRuntime) -> Result<(), Fail> {
     let mut keyring = keyring(rt.alloc(), OTHER)?;
-    let text = format!(in rt.alloc(); "{KEY}\n{KEY}x")?;
-    if let Err(fault) = keyring.add_file(rt.alloc(), text.as_bytes()) {
-        assert!(rt; matches!(fault, KeyFileFault::Line(2) | KeyFileFault::Memory));
-    }
-    if let Err(fault) = keyring.open(rt.alloc(), PACKETS[0]) {
-        assert!(rt; matches!(fault, CipherFault::WrongTag | CipherFault::Memory));
-    } else {
-        panic!(rt; "a key of a refused file was added");
-    }
+    assert_second_refused(&rt, rt.alloc(), &mut keyring);
+    let found = keyring.open(rt.alloc(), PACKETS[0]).err();
+    assert!(rt; matches!(found, Some(CipherFault::WrongTag | CipherFault::Memory)));
     Ok(())
 }
 
-/// That the file is refused with this fault.
+/// Why the file is refused, if it is.
+fn refusal(alloc: Global, text: &[u8]) -> Option<KeyFileFault> {
+    let mut keyring = Keyring::new(alloc);
+    keyring.add_file(alloc, text).err()
+}
+
+/// That the file is refused with this fault, or for want of memory, which is an error of the test.
 fn assert_refused(
     rt: &impl Abort,
     alloc: Global,
     text: &[u8],
     fault: KeyFileFault,
-) -> Result<(), Fail> {
-    assert_eq!(rt; refusal(rt, alloc, text)?, fault, "{text:?}");
+) -> Result<(), KeyFileFault> {
+    let found = refusal(alloc, text);
+    if found == Some(KeyFileFault::Memory) {
+        return Err(KeyFileFault::Memory);
+    }
+    assert_eq!(rt; found, Some(fault), "{text:?}");
     Ok(())
 }
 
@@ -114,32 +142,31 @@ fn the_first_line_that_is_no_key_is_named(rt: HostRuntime) -> Result<(), Fail> {
 }
 
 #[test]
-fn the_first_text_that_is_no_key_is_named(rt: HostRuntime) -> Result<(), Fail> {
-    for (text, item) in [
-        ("[\"\"]", 1),
-        ("[\"AAAAAAAAAAAAAAAAAAAAAA==\", \"x\", \"y\"]", 2),
-        ("[\"AAAAAAAAAAAAAAAAAAAAAA==\\n\"]", 1),
-        ("[\"AAAAAAAAAAAAAAAAAAAA\", 1]", 1),
+fn a_list_is_one_of_texts_and_its_first_that_is_no_key_is_named(
+    rt: HostRuntime,
+) -> Result<(), Fail> {
+    for (text, fault) in [
+        (b"[\"\"]".as_slice(), KeyFileFault::Item(1)),
+        (
+            b"[\"AAAAAAAAAAAAAAAAAAAAAA==\", \"x\", \"y\"]",
+            KeyFileFault::Item(2),
+        ),
+        (b"[\"AAAAAAAAAAAAAAAAAAAAAA==\\n\"]", KeyFileFault::Item(1)),
+        (b"[\"AAAAAAAAAAAAAAAAAAAA\", 1]", KeyFileFault::Item(1)),
+        (b"[", KeyFileFault::NotList),
+        (b"[1]", KeyFileFault::NotList),
+        (b"[1, \"x\"]", KeyFileFault::NotList),
+        (b"[[\"AAAAAAAAAAAAAAAAAAAAAA==\"]]", KeyFileFault::NotList),
+        (
+            b"[\"AAAAAAAAAAAAAAAAAAAAAA==\", null]",
+            KeyFileFault::NotList,
+        ),
+        (b"[\"AAAAAAAAAAAAAAAAAAAAAA==\",]", KeyFileFault::NotList),
+        (b"[\"AAAAAAAAAAAAAAAAAAAAAA==\"] x", KeyFileFault::NotList),
+        (b"[\"AAAAAAAAAAAAAAAAAAAAAA==\"", KeyFileFault::NotList),
+        (b"\n [\xff]", KeyFileFault::NotList),
     ] {
-        assert_refused(&rt, rt.alloc(), text.as_bytes(), KeyFileFault::Item(item))?;
-    }
-    Ok(())
-}
-
-#[test]
-fn what_begins_as_a_list_is_one_of_texts(rt: HostRuntime) -> Result<(), Fail> {
-    for text in [
-        b"[".as_slice(),
-        b"[1]",
-        b"[1, \"x\"]",
-        b"[[\"AAAAAAAAAAAAAAAAAAAAAA==\"]]",
-        b"[\"AAAAAAAAAAAAAAAAAAAAAA==\", null]",
-        b"[\"AAAAAAAAAAAAAAAAAAAAAA==\",]",
-        b"[\"AAAAAAAAAAAAAAAAAAAAAA==\"] x",
-        b"[\"AAAAAAAAAAAAAAAAAAAAAA==\"",
-        b"\n [\xff]",
-    ] {
-        assert_refused(&rt, rt.alloc(), text, KeyFileFault::NotList)?;
+        assert_refused(&rt, rt.alloc(), text, fault)?;
     }
     Ok(())
 }
@@ -182,16 +209,28 @@ fn each_fault_has_its_number_and_its_text(rt: HostRuntime) -> Result<(), Fail> {
     Ok(())
 }
 
+/// Adds the keys of a file. Where memory is refused the keyring stays empty, and the repeat adds
+/// them.
+fn add_again(
+    rt: &impl Abort,
+    alloc: Global,
+    keyring: &mut Keyring,
+    text: &[u8],
+) -> Result<(), KeyFileFault> {
+    if let Err(fault) = keyring.add_file(alloc, text) {
+        assert_eq!(rt; fault, KeyFileFault::Memory);
+        assert!(rt; keyring.is_empty());
+        keyring.add_file(alloc, text)?;
+    }
+    assert!(rt; !keyring.is_empty());
+    Ok(())
+}
+
 #[test]
 fn want_of_memory_leaves_the_keyring_as_it_was(rt: HostRuntime) -> Result<(), Fail> {
     for text in [KEY, "[\"EBceJSwzOkFIT1ZdZGtyeQ==\"]"] {
         let mut keyring = Keyring::new(rt.alloc());
-        if let Err(fault) = keyring.add_file(rt.alloc(), text.as_bytes()) {
-            assert_eq!(rt; fault, KeyFileFault::Memory);
-            assert!(rt; keyring.is_empty());
-            keyring.add_file(rt.alloc(), text.as_bytes())?;
-        }
-        assert!(rt; !keyring.is_empty());
+        add_again(&rt, rt.alloc(), &mut keyring, text.as_bytes())?;
     }
     Ok(())
 }

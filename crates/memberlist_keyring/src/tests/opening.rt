@@ -3,35 +3,43 @@
 use super::packets::{
     LABELLED, LABELLED_STREAMS, LONG, LONG_MESSAGE, MESSAGE, PACKETS, STREAMS, UNPADDED,
 };
-use super::{KEY, KEY_24, KEY_32, OTHER, keyring};
+use super::{KEY, OTHER, keyring};
 use crate::Keyring;
 use memberlist_cipher::CipherFault;
-use std::alloc::Global;
+use std::alloc::{AllocError, Global};
 use std::process::Abort;
 use std::test::Fail;
 
-/// That the keyring opens the packet to this message.
+/// `OTHER` and `KEY` in both orders.
+const OTHER_AND_KEY: &str = "AAAAAAAAAAAAAAAAAAAAAA==\nEBceJSwzOkFIT1ZdZGtyeQ==";
+
+const KEY_AND_OTHER: &str = "EBceJSwzOkFIT1ZdZGtyeQ==\nAAAAAAAAAAAAAAAAAAAAAA==";
+
+/// What is opened.
+#[derive(Clone, Copy)]
+enum Of {
+    Packet,
+    Stream,
+}
+
+/// Opens the packet or the stream.
+fn open(alloc: Global, keyring: &Keyring, of: Of, bytes: &[u8]) -> Result<Vec<u8>, CipherFault> {
+    match of {
+        Of::Packet => keyring.open(alloc, bytes),
+        Of::Stream => keyring.open_stream(alloc, bytes),
+    }
+}
+
+/// That the keyring opens it to this message.
 fn assert_opens(
     rt: &impl Abort,
     alloc: Global,
     keyring: &Keyring,
+    of: Of,
     bytes: &[u8],
     message: &[u8],
-) -> Result<(), Fail> {
-    let answer = keyring.open(alloc, bytes)?;
-    assert_eq!(rt; answer.as_slice(), message);
-    Ok(())
-}
-
-/// That the keyring opens the stream to this message.
-fn assert_opens_stream(
-    rt: &impl Abort,
-    alloc: Global,
-    keyring: &Keyring,
-    bytes: &[u8],
-    message: &[u8],
-) -> Result<(), Fail> {
-    let answer = keyring.open_stream(alloc, bytes)?;
+) -> Result<(), CipherFault> {
+    let answer = open(alloc, keyring, of, bytes)?;
     assert_eq!(rt; answer.as_slice(), message);
     Ok(())
 }
@@ -43,132 +51,141 @@ pub(super) fn assert_opens_all(
     keyring: &Keyring,
 ) -> Result<(), Fail> {
     for bytes in PACKETS {
-        assert_opens(rt, alloc, keyring, bytes, MESSAGE)?;
+        assert_opens(rt, alloc, keyring, Of::Packet, bytes, MESSAGE)?;
     }
     for bytes in STREAMS {
-        assert_opens_stream(rt, alloc, keyring, bytes, MESSAGE)?;
+        assert_opens(rt, alloc, keyring, Of::Stream, bytes, MESSAGE)?;
     }
     Ok(())
 }
 
-/// Why the packet is refused under the keys of this file.
-fn fault_of(rt: &impl Abort, alloc: Global, keys: &str, bytes: &[u8]) -> Result<CipherFault, Fail> {
-    let keyring = keyring(alloc, keys)?;
-    match keyring.open(alloc, bytes) {
-        Ok(message) => panic!(rt; "{bytes:?} holds {message:?}"),
-        Err(CipherFault::Memory) => Err(Fail::from(CipherFault::Memory)),
-        Err(fault) => Ok(fault),
-    }
-}
-
-/// Why the stream is refused under the keys of this file.
-fn stream_fault_of(
+/// That the key of 16 bytes opens it to this message.
+fn assert_key_opens(
     rt: &impl Abort,
     alloc: Global,
-    keys: &str,
+    of: Of,
     bytes: &[u8],
-) -> Result<CipherFault, Fail> {
-    let keyring = keyring(alloc, keys)?;
-    match keyring.open_stream(alloc, bytes) {
-        Ok(message) => panic!(rt; "{bytes:?} holds {message:?}"),
-        Err(CipherFault::Memory) => Err(Fail::from(CipherFault::Memory)),
-        Err(fault) => Ok(fault),
-    }
-}
-
-#[test]
-fn keys_of_each_length_open_what_memberlist_encrypted(rt: HostRuntime) -> Result<(), Fail> {
-    let text = format!(in rt.alloc(); "{KEY}\n{KEY_24}\n{KEY_32}\n")?;
-    assert_opens_all(&rt, rt.alloc(), &keyring(rt.alloc(), &text)?)
-}
-
-#[test]
-fn the_order_of_the_keys_does_not_matter(rt: HostRuntime) -> Result<(), Fail> {
-    let text = format!(in rt.alloc(); "{OTHER}\n{KEY_32}\n{KEY}\n{KEY_24}\n{KEY}")?;
-    assert_opens_all(&rt, rt.alloc(), &keyring(rt.alloc(), &text)?)
+    message: &[u8],
+) -> Result<(), Fail> {
+    let keyring = keyring(alloc, KEY)?;
+    assert_opens(rt, alloc, &keyring, of, bytes, message)?;
+    Ok(())
 }
 
 #[test]
 fn a_label_is_split_off_and_associated(rt: HostRuntime) -> Result<(), Fail> {
-    let keyring = keyring(rt.alloc(), KEY)?;
-    for bytes in LABELLED {
-        assert_opens(&rt, rt.alloc(), &keyring, bytes, b"labelled")?;
-    }
-    for bytes in LABELLED_STREAMS {
-        assert_opens_stream(&rt, rt.alloc(), &keyring, bytes, b"labelled")?;
+    for (of, bytes) in [
+        (Of::Packet, LABELLED[0]),
+        (Of::Packet, LABELLED[1]),
+        (Of::Stream, LABELLED_STREAMS[0]),
+        (Of::Stream, LABELLED_STREAMS[1]),
+    ] {
+        assert_key_opens(&rt, rt.alloc(), of, bytes, b"labelled")?;
     }
     Ok(())
 }
 
-#[test]
-fn the_longest_label_is_split_off(rt: HostRuntime) -> Result<(), Fail> {
-    let mut bytes = b"\xf4\xff".to_vec(rt.alloc())?;
+/// `LONG` behind the longest label.
+fn long(alloc: Global) -> Result<Vec<u8>, AllocError> {
+    let mut bytes = b"\xf4\xff".to_vec(alloc)?;
     let mut byte = 0u8;
     for _ in 0..255 {
         bytes.push(byte)?;
         byte = byte.wrapping_add(7);
     }
     bytes.extend_from_slice(LONG)?;
-    assert_opens(
-        &rt,
-        rt.alloc(),
-        &keyring(rt.alloc(), KEY)?,
-        &bytes,
-        LONG_MESSAGE,
-    )
+    Ok(bytes)
 }
 
 #[test]
-fn another_label_is_a_wrong_tag(rt: HostRuntime) -> Result<(), Fail> {
-    for bytes in LABELLED {
-        let mut changed = bytes.to_vec(rt.alloc())?;
-        changed[2] = b'w';
-        let fault = fault_of(&rt, rt.alloc(), KEY, &changed)?;
-        assert_eq!(rt; fault, CipherFault::WrongTag);
-        let fault = fault_of(&rt, rt.alloc(), KEY, &bytes[6..])?;
-        assert_eq!(rt; fault, CipherFault::WrongTag);
+fn the_longest_label_is_split_off(rt: HostRuntime) -> Result<(), Fail> {
+    let bytes = long(rt.alloc())?;
+    assert_key_opens(&rt, rt.alloc(), Of::Packet, &bytes, LONG_MESSAGE)
+}
+
+/// Why the keys of this file do not open it, if they do not.
+fn refusal(alloc: Global, keys: &str, of: Of, bytes: &[u8]) -> Result<Option<CipherFault>, Fail> {
+    let keyring = keyring(alloc, keys)?;
+    Ok(open(alloc, &keyring, of, bytes).err())
+}
+
+/// That the keys of this file are refused it for this fault, or for want of memory, which is an
+/// error of the test.
+fn assert_refused(
+    rt: &impl Abort,
+    alloc: Global,
+    keys: &str,
+    of: Of,
+    bytes: &[u8],
+    fault: CipherFault,
+) -> Result<(), Fail> {
+    let found = refusal(alloc, keys, of, bytes)?;
+    if found == Some(CipherFault::Memory) {
+        return Err(Fail::from(CipherFault::Memory));
     }
+    assert_eq!(rt; found, Some(fault), "{bytes:?}");
     Ok(())
 }
 
+/// That the key of 16 bytes is refused the bytes behind this label for this fault.
+fn assert_refused_behind(
+    rt: &impl Abort,
+    alloc: Global,
+    label: &[u8],
+    of: Of,
+    bytes: &[u8],
+    fault: CipherFault,
+) -> Result<(), Fail> {
+    let mut all = label.to_vec(alloc)?;
+    all.extend_from_slice(bytes)?;
+    assert_refused(rt, alloc, KEY, of, &all, fault)
+}
+
 #[test]
-fn no_key_opens_what_begins_with_no_whole_label(rt: HostRuntime) -> Result<(), Fail> {
-    for (label, fault) in [
-        // empty
-        (b"\xf4\x00".as_slice(), CipherFault::WrongVersion),
-        // cut short
-        (b"\xf4\xc8", CipherFault::WrongVersion),
-        // two labels
-        (b"\xf4\x01x\xf4\x01x", CipherFault::WrongVersion),
+fn no_key_opens_what_stands_behind_another_label_or_no_whole_one(
+    rt: HostRuntime,
+) -> Result<(), Fail> {
+    for (label, bytes, fault) in [
+        // another label, and none
+        (
+            b"\xf4\x04wast".as_slice(),
+            &LABELLED[0][6..],
+            CipherFault::WrongTag,
+        ),
+        (b"", &LABELLED[0][6..], CipherFault::WrongTag),
+        (b"\xf4\x04wast", &LABELLED[1][6..], CipherFault::WrongTag),
+        (b"", &LABELLED[1][6..], CipherFault::WrongTag),
+        // an empty one, one that is cut short, and two
+        (b"\xf4\x00", PACKETS[0], CipherFault::WrongVersion),
+        (b"\xf4\xc8", PACKETS[0], CipherFault::WrongVersion),
+        (b"\xf4\x01x\xf4\x01x", PACKETS[0], CipherFault::WrongVersion),
+        (b"", b"", CipherFault::TooShort),
+        (b"\xf4", b"", CipherFault::TooShort),
+        (b"\xf4\x01", b"", CipherFault::TooShort),
+        (b"\xf4\x01x", b"", CipherFault::TooShort),
+        (b"\xf4\x00x", b"", CipherFault::TooShort),
     ] {
-        let mut bytes = label.to_vec(rt.alloc())?;
-        bytes.extend_from_slice(PACKETS[0])?;
-        assert_eq!(rt; fault_of(&rt, rt.alloc(), KEY, &bytes)?, fault, "{label:?}");
-    }
-    for bytes in [
-        b"".as_slice(),
-        b"\xf4",
-        b"\xf4\x01",
-        b"\xf4\x01x",
-        b"\xf4\x00x",
-    ] {
-        let fault = fault_of(&rt, rt.alloc(), KEY, bytes)?;
-        assert_eq!(rt; fault, CipherFault::TooShort, "{bytes:?}");
+        assert_refused_behind(&rt, rt.alloc(), label, Of::Packet, bytes, fault)?;
     }
     Ok(())
 }
 
 #[test]
 fn no_key_opens_a_stream_that_begins_with_no_whole_label(rt: HostRuntime) -> Result<(), Fail> {
-    for label in [b"\xf4\x00".as_slice(), b"\xf4\xff", b"\xf4\x01x\xf4\x01x"] {
-        let mut bytes = label.to_vec(rt.alloc())?;
-        bytes.extend_from_slice(STREAMS[0])?;
-        let fault = stream_fault_of(&rt, rt.alloc(), KEY, &bytes)?;
-        assert_eq!(rt; fault, CipherFault::NotEncrypted, "{label:?}");
-    }
-    for bytes in [b"".as_slice(), b"\xf4", b"\xf4\x04east", b"\xf4\x00\x0a"] {
-        let fault = stream_fault_of(&rt, rt.alloc(), KEY, bytes)?;
-        assert_eq!(rt; fault, CipherFault::TooShort, "{bytes:?}");
+    for (label, bytes, fault) in [
+        (
+            b"\xf4\x00".as_slice(),
+            STREAMS[0],
+            CipherFault::NotEncrypted,
+        ),
+        (b"\xf4\xff", STREAMS[0], CipherFault::NotEncrypted),
+        (b"\xf4\x01x\xf4\x01x", STREAMS[0], CipherFault::NotEncrypted),
+        (b"", b"", CipherFault::TooShort),
+        (b"\xf4", b"", CipherFault::TooShort),
+        (b"\xf4\x04east", b"", CipherFault::TooShort),
+        (b"\xf4\x00\x0a", b"", CipherFault::TooShort),
+    ] {
+        assert_refused_behind(&rt, rt.alloc(), label, Of::Stream, bytes, fault)?;
     }
     Ok(())
 }
@@ -176,27 +193,52 @@ fn no_key_opens_a_stream_that_begins_with_no_whole_label(rt: HostRuntime) -> Res
 #[test]
 fn without_a_key_each_tag_is_wrong(rt: HostRuntime) -> Result<(), Fail> {
     for bytes in [b"".as_slice(), PACKETS[0], STREAMS[0], LABELLED[0]] {
-        let fault = fault_of(&rt, rt.alloc(), "", bytes)?;
-        assert_eq!(rt; fault, CipherFault::WrongTag, "{bytes:?}");
-        let fault = stream_fault_of(&rt, rt.alloc(), "", bytes)?;
-        assert_eq!(rt; fault, CipherFault::WrongTag, "{bytes:?}");
+        for of in [Of::Packet, Of::Stream] {
+            assert_refused(&rt, rt.alloc(), "", of, bytes, CipherFault::WrongTag)?;
+        }
     }
     Ok(())
 }
 
 #[test]
 fn the_fault_is_that_of_the_last_key(rt: HostRuntime) -> Result<(), Fail> {
-    let text = format!(in rt.alloc(); "{OTHER}\n{KEY}")?;
-    let fault = fault_of(&rt, rt.alloc(), &text, UNPADDED)?;
-    assert_eq!(rt; fault, CipherFault::BadPadding);
-    let text = format!(in rt.alloc(); "{KEY}\n{OTHER}")?;
-    let fault = fault_of(&rt, rt.alloc(), &text, UNPADDED)?;
-    assert_eq!(rt; fault, CipherFault::WrongTag);
+    for (keys, fault) in [
+        (OTHER_AND_KEY, CipherFault::BadPadding),
+        (KEY_AND_OTHER, CipherFault::WrongTag),
+    ] {
+        assert_refused(&rt, rt.alloc(), keys, Of::Packet, UNPADDED, fault)?;
+    }
+    Ok(())
+}
+
+#[test]
+fn another_key_or_the_last_byte_missing_refuses_a_stream(rt: HostRuntime) -> Result<(), Fail> {
     for bytes in STREAMS {
-        let fault = stream_fault_of(&rt, rt.alloc(), OTHER, bytes)?;
-        assert_eq!(rt; fault, CipherFault::WrongTag);
-        let fault = stream_fault_of(&rt, rt.alloc(), KEY, &bytes[..bytes.len() - 1])?;
-        assert_eq!(rt; fault, CipherFault::TooShort);
+        assert_refused(
+            &rt,
+            rt.alloc(),
+            OTHER,
+            Of::Stream,
+            bytes,
+            CipherFault::WrongTag,
+        )?;
+        let cut = &bytes[..bytes.len() - 1];
+        assert_refused(&rt, rt.alloc(), KEY, Of::Stream, cut, CipherFault::TooShort)?;
+    }
+    Ok(())
+}
+
+/// That it is opened, or want of memory is answered, and the repeat opens it.
+fn assert_opens_again(
+    rt: &impl Abort,
+    alloc: Global,
+    keyring: &Keyring,
+    of: Of,
+    bytes: &[u8],
+) -> Result<(), CipherFault> {
+    if let Some(fault) = open(alloc, keyring, of, bytes).err() {
+        assert_eq!(rt; fault, CipherFault::Memory);
+        assert_opens(rt, alloc, keyring, of, bytes, MESSAGE)?;
     }
     Ok(())
 }
@@ -204,13 +246,7 @@ fn the_fault_is_that_of_the_last_key(rt: HostRuntime) -> Result<(), Fail> {
 #[test]
 fn want_of_memory_is_answered_as_such_and_then_repeated(rt: HostRuntime) -> Result<(), Fail> {
     let keyring = keyring(rt.alloc(), KEY)?;
-    if let Err(fault) = keyring.open(rt.alloc(), PACKETS[0]) {
-        assert_eq!(rt; fault, CipherFault::Memory);
-        assert_opens(&rt, rt.alloc(), &keyring, PACKETS[0], MESSAGE)?;
-    }
-    if let Err(fault) = keyring.open_stream(rt.alloc(), STREAMS[0]) {
-        assert_eq!(rt; fault, CipherFault::Memory);
-        assert_opens_stream(&rt, rt.alloc(), &keyring, STREAMS[0], MESSAGE)?;
-    }
+    assert_opens_again(&rt, rt.alloc(), &keyring, Of::Packet, PACKETS[0])?;
+    assert_opens_again(&rt, rt.alloc(), &keyring, Of::Stream, STREAMS[0])?;
     Ok(())
 }
