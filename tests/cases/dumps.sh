@@ -1,4 +1,4 @@
-# list and merge: dumps in files.
+# list and merge: dumps in files that are made here. Others stand in tests/rows.
 # shellcheck shell=sh disable=SC2154
 
 # lists_files CASE FILE.. -- LINE..: the files list as these lines.
@@ -25,44 +25,6 @@ merges() {
     prints_file "$case_name" "$merged"
 }
 
-# refused FAULT HEX: a dump of these bytes is refused so by list and merge, and by relate and loop in each place.
-refused() {
-    bytes "$2" > bad.bin
-    text="swimtab: bad.bin: fault $1"
-    run list bad.bin
-    refuses "list $2" 3 "$text"
-    run merge bad.bin
-    refuses "merge $2" 3 "$text"
-    for verb in relate loop; do
-        run $verb bad.bin p.bin
-        refuses "$verb $2 p" 3 "$text"
-        run $verb p.bin bad.bin
-        refuses "$verb p $2" 3 "$text"
-    done
-}
-
-lists_files 'list p' p.bin -- "$line_a"
-lists_files 'list q' q.bin -- "$line_b"
-lists_files 'list p q' p.bin q.bin -- "$line_a" "$line_b"
-lists_files 'list q p' q.bin p.bin -- "$line_a" "$line_b"
-lists_files 'list c q p' c.bin q.bin p.bin -- "$line_a" "$line_b" "$line_c"
-lists_files 'list p p' p.bin p.bin -- "$line_a"
-lists_files 'list p t' p.bin t.bin -- 'a suspect 0 0/7f000001/7946//'
-lists_files 'list t p' t.bin p.bin -- 'a suspect 0 0/7f000001/7946//'
-lists_files 'list v' v.bin -- "$line_v"
-lists_files 'list v p' v.bin p.bin -- "$line_v"
-lists_files 'list none' none.bin --
-lists_files 'list none none p' none.bin none.bin p.bin -- "$line_a"
-
-merges 'merge p' p.bin p.bin
-merges 'merge q' q.bin q.bin
-merges 'merge r' r.bin r.bin
-merges 'merge v' v.bin v.bin
-merges 'merge none' none.bin none.bin
-merges 'merge p q' r.bin p.bin q.bin
-merges 'merge q p' r.bin q.bin p.bin
-merges 'merge q p p' r.bin q.bin p.bin p.bin
-merges 'merge r none' r.bin r.bin none.bin
 bytes "$(dump 02 "$(alive_record 61 00 7f000001 cd1f0a)" "$(top_record 61 00 01)")" > wanted_p_t.bin
 merges 'merge p t' wanted_p_t.bin p.bin t.bin
 merges 'merge t p' wanted_p_t.bin t.bin p.bin
@@ -94,42 +56,6 @@ prints 'the stream of a running cluster with user state' 0 \
     'u1 alive 1 1/7f000201/35069//010502000000' \
     'u2 alive 1 1/7f000202/40673//010502000000' \
     'u3 alive 1 1/7f000203/41113/7b22726f6c65223a22776562222c226463223a22646331227d/010502000000'
-
-# Refused dumps.
-while read -r hex fault; do
-    refused "$fault" "$hex"
-done <<END
-0683a44a6f696ec2a54e6f646573ce00020001ac5573657253746174654c656e00 20 TooManyNodes
-0683a44a6f696ec2a54e6f64657300ac5573657253746174654c656ece01400001 21 UserTooLong
-0683a44a6f696ec2a54e6f64657300ac5573657253746174654c656ece01400000 1 Ended
-0683a44a6f696ec2a54e6f646573ce00020000ac5573657253746174654c656e00 1 Ended
-0681a44a6f696e00 4 NotBool
-0681a54e6f646573a0 2 NotUnsigned
-0681a54e6f6465730181a4506f7274ce00010000 3 OutOfRange
-0681a54e6f6465730181a44e616d6501 5 NotRaw
-0681a54e6f6465730181a441646472b1 6 TooLong
-0690 7 NotMap
-0681a54e6f6465730101 7 NotMap
-0681a54e6f6465730180 11 NameEmpty
-0681a54e6f6465730181a44e616d65a161 13 BadAddress
-0681a54e6f6465730183a441646472a47f000001a44e616d65a161a356736ea101 15 BadVersions
-0681a14100 17 UnknownKey
-0681a54e6f6465730181a14100 17 UnknownKey
-0681a54e6f6465730181ad4141414141414141414141414100 17 UnknownKey
-0682a44a6f696ec2a44a6f696e 18 DuplicateKey
-0681a54e6f6465730182a44e616d65a161a44e616d65 18 DuplicateKey
-0681a54e6f6465730282a44e616d65a161a553746174650180 11 NameEmpty
-0681a54e6f6465730182a44e616d65a164a5537461746504 19 BadState 4
-0684 8 MapCount
-0681a54e6f6465730188 8 MapCount
-${dump_p}00 22 Trailing
-$alive_a 16 WrongType 4
-09 16 WrongType 9
-f4 16 WrongType 244
-END
-: > empty.bin
-run list empty.bin
-refuses 'an empty file' 3 'swimtab: empty.bin: fault 1 Ended'
 
 # Which file is reported.
 run list p.bin cut.bin

@@ -1,4 +1,4 @@
-# relate: how the tables of two dumps relate.
+# relate: how the tables of two dumps relate of which one is made here. Others stand in tests/rows.
 # shellcheck shell=sh disable=SC2154
 
 # relates FIRST SECOND RELATION
@@ -10,23 +10,6 @@ relates() {
         prints "relate $1 $2" 1 "$3"
     fi
 }
-
-relates p p equal
-relates p r behind
-relates r p ahead
-relates q r behind
-relates r q ahead
-relates p q apart
-relates q p apart
-relates p t apart
-relates t p apart
-relates p v behind
-relates v p ahead
-relates none none equal
-relates none p behind
-relates p none ahead
-relates c r apart
-relates r c apart
 
 # The join flag, user state, the order and the spelling of records do not count.
 relates joining p equal

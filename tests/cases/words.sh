@@ -1,14 +1,9 @@
-# The words after the program's name.
+# The words after the program's name. Words that are refused stand in tests/rows.
 # shellcheck shell=sh disable=SC2154
 
 commands='list merge relate loop run'
 
-# Help and the version are on standard error, with status 2.
-for words in --help -h --version -V 'list --help' 'list -h' 'merge --help' 'relate --help' 'loop --help' 'loop -h' 'run --help' 'list p.bin --help' '--help list'; do
-    # shellcheck disable=SC2086
-    feed "$alive_a" $words
-    explains "swimtab $words"
-done
+# Help is on standard error and names each command.
 run --help
 for command in $commands; do
     grep -q "$command" err
@@ -18,17 +13,7 @@ for command in $commands; do
     esac
 done
 
-# Words that ask for nothing.
-for words in swap help LIST lis 'help list' p.bin -x --foo '-- swap' 'swap p.bin' list merge relate loop 'list --' \
-    'relate p.bin' 'relate p.bin q.bin r.bin' 'loop p.bin' 'loop p.bin q.bin r.bin' 'list --foo p.bin' \
-    'list p.bin --foo' 'list -x.bin' 'merge -x p.bin' 'relate -x p.bin' 'loop -x p.bin' 'loop p.bin q.bin --foo' \
-    '--foo list p.bin' 'run p.bin' 'run --foo'; do
-    # shellcheck disable=SC2086
-    feed "$alive_a" $words
-    explains "swimtab $words"
-done
-feed "$alive_a" ''
-explains 'swimtab and an empty word'
+# Words that are not UTF-8.
 run list "$(printf '\377')"
 explains 'a word that is not UTF-8'
 run "$(printf 'list\377')" p.bin
