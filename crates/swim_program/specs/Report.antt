@@ -1,9 +1,10 @@
 -- Where a run was refused, and the exit status.
-use Rattle.std.specs.Prelude.{◌≡◌, ℕ, ◌<◌, Bool, false, ◌||◌, ◌==◌, Some, None}
+use Rattle.std.specs.Prelude.{◌≡◌, ℕ, ◌<◌, Bool, false, ◌||◌, ◌==◌, Some, None, List, Err}
 use Rattle.hex.specs.declared.error.FromHexError.{FromHexError}
 use Rattle.hex.specs.declared.error.FromHexError.TheVariants.{OutOfMemory}
 use Rattle.swim_wire.specs.declared.fault.WireFault.{WireFault}
 use Rattle.swim_wire.specs.declared.fault.WireFault.TheVariants as wire
+use Rattle.swim_wire.specs.Datagrams.{whole_datagram}
 use Rattle.swim_wire.specs.Fault.{wire_number}
 use Rattle.swim_sync.specs.declared.fault.SyncFault.{SyncFault}
 use Rattle.swim_sync.specs.declared.fault.SyncFault.TheVariants as sync
@@ -50,6 +51,11 @@ what_of wire.Fault = Device
 what_of (wire.WrongType found) = Refused 16 (Some found)
 what_of (wire.BadState found) = Refused 19 (Some found)
 what_of fault = Refused (wire_number fault) None
+
+-- what is said of bytes that are no datagram: the fault at which their reading stops
+abbrev pub TellsDatagram : List ℕ → What → Type 0
+TellsDatagram bytes what = (fault : WireFault) × (whole_datagram bytes ≡ Err fault)
+    × (what ≡ what_of fault)
 
 -- what is said of an exchange that is refused: an outlet that failed is a device
 abbrev pub what_of_sync : SyncFault → What

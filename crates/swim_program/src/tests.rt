@@ -1,5 +1,6 @@
-//! Claims of packets and ends of lines.
+//! Claims of packets and ends of lines; reports, failures, and streams that fail.
 
+mod failures;
 mod reports;
 mod streams;
 

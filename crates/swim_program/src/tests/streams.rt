@@ -3,8 +3,10 @@
 ghost use Rattle.std.specs.Prelude.{◌≤◌, IfOk};
 
 use crate::{BOUND, What, read_file, read_to_bound, write_out};
+use std::alloc::Global;
 use std::io;
 use std::io::{Error, ErrorKind, Read, Write};
+use std::process::Abort;
 use std::test::Fail;
 
 /// A stream that is interrupted so many times, and before each further piece so many times again,
@@ -16,6 +18,7 @@ struct Stream {
     left: usize,
     piece: usize,
     fails: bool,
+    kind: ErrorKind,
 }
 
 impl Stream {
@@ -26,7 +29,22 @@ impl Stream {
             left,
             piece,
             fails,
+            kind: ErrorKind::Other,
         }
+    }
+
+    /// Interrupted so often before its first piece, and so often before each further one.
+    fn interrupted(interruptions: u32, again: u32, left: usize) -> Stream {
+        let mut stream = Stream::new(interruptions, left, 1, false);
+        stream.again = again;
+        stream
+    }
+
+    /// Fails by this kind of error behind its bytes.
+    fn failing(left: usize, kind: ErrorKind) -> Stream {
+        let mut stream = Stream::new(0, left, 1, true);
+        stream.kind = kind;
+        stream
     }
 
     fn step(&mut self, room: usize) -> io::Result<usize>
@@ -38,7 +56,7 @@ impl Stream {
         }
         self.interruptions = self.again;
         if self.left == 0 && self.fails {
-            return Err(Error::from(ErrorKind::Other));
+            return Err(Error::from(self.kind));
         }
         let moved = room.min(self.left).min(self.piece);
         self.left -= moved;
@@ -84,8 +102,7 @@ fn an_input_is_read_to_its_end(rt: HostRuntime) -> Result<(), Fail> {
 #[test]
 fn interruptions_are_counted_over_a_whole_input(rt: HostRuntime) -> Result<(), Fail> {
     for (again, wanted) in [(499, Ok(1)), (501, Err(What::Device))] {
-        let mut reader = Stream::new(501, 1, 1, false);
-        reader.again = again;
+        let mut reader = Stream::interrupted(501, again, 1);
         match read_to_bound(rt.alloc(), &mut reader) {
             Ok(bytes) => assert_eq!(rt; Ok(bytes.len()), wanted),
             Err(What::Memory) => {}
@@ -105,6 +122,41 @@ fn an_output_is_written_to_its_end(rt: HostRuntime) {
         (Stream::new(0, 6, 1, true), Err(What::Device)),
     ] {
         assert_eq!(rt; write_out(&mut writer, b"0123456"), wanted);
+    }
+}
+
+#[test]
+fn interruptions_are_counted_over_a_whole_output(rt: HostRuntime) {
+    for (again, wanted) in [(499, Ok(())), (500, Err(What::Device))] {
+        let mut writer = Stream::interrupted(501, again, 2);
+        assert_eq!(rt; write_out(&mut writer, b"01"), wanted);
+    }
+}
+
+/// What a reader may answer other than that it was interrupted.
+const KINDS: [ErrorKind; 8] = [
+    ErrorKind::WouldBlock,
+    ErrorKind::TimedOut,
+    ErrorKind::NotFound,
+    ErrorKind::PermissionDenied,
+    ErrorKind::BrokenPipe,
+    ErrorKind::ConnectionReset,
+    ErrorKind::UnexpectedEof,
+    ErrorKind::Other,
+];
+
+/// That an input is refused which fails so behind three bytes, and is not asked again.
+fn assert_input_fails(rt: &impl Abort, alloc: Global, kind: ErrorKind) {
+    let what = read_to_bound(alloc, &mut Stream::failing(3, kind)).err();
+    assert!(rt; what == Some(What::Device) || what == Some(What::Memory));
+}
+
+#[test]
+fn an_error_of_any_kind_but_an_interruption_is_a_device_fault(rt: HostRuntime) {
+    for kind in KINDS {
+        assert_input_fails(&rt, rt.alloc(), kind);
+        let mut writer = Stream::failing(2, kind);
+        assert_eq!(rt; write_out(&mut writer, b"abc"), Err(What::Device));
     }
 }
 
