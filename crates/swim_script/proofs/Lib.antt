@@ -1,4 +1,5 @@
 mod Packets
+mod Refused
 mod ScriptLines
 pub mod ScriptNumbers
 pub mod ScriptOrder

@@ -117,11 +117,11 @@ differ : (a b : List ℕ) → bytes_eq a b ≡ false → a ≢ b
 differ a b apart same = false≢true (sym apart ∙ (bytes_eq-Decides a b).1 same)
 
 -- the first words of two lines that are the same
-first_word : (a b : List ℕ) (xs ys : List (List ℕ)) → a ∷ xs ≡ b ∷ ys → a ≡ b
+pub first_word : (a b : List ℕ) (xs ys : List (List ℕ)) → a ∷ xs ≡ b ∷ ys → a ≡ b
 first_word a b xs ys e = ap (λ l. get_or l 0 []) e
 
 -- lines whose first words are told apart are not the same
-other_line : (a b : List ℕ) (xs ys : List (List ℕ)) → bytes_eq a b ≡ false → a ∷ xs ≢ b ∷ ys
+pub other_line : (a b : List ℕ) (xs ys : List (List ℕ)) → bytes_eq a b ≡ false → a ∷ xs ≢ b ∷ ys
 other_line a b xs ys apart e = differ a b apart (first_word a b xs ys e)
 
 -- the words after them

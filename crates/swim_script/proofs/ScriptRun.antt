@@ -12,11 +12,13 @@ use Rattle.swim_sync.specs.Levels.{level_list}
 use Rattle.swim_table.specs.Node.{NodeValue}
 use Rattle.swim_script.specs.declared.script.Plan.{Plan}
 use Rattle.swim_script.specs.declared.script_line.Line.TheVariants as line
-use Rattle.swim_script.specs.Script.{Start, IsStarted, AreStarted, NodeWords, EventWords, LevelWords, NodeLines, EventLines, LastLine, ScriptOf, Script, IsFirstWrongLine, not_empty, script_lines, words}
+use Rattle.swim_script.specs.Script.{Start, IsStarted, AreStarted, NodeWords, EventWords, LevelWords, NodeLines, EventLines, LastLine, ScriptOf, Script, not_empty, script_lines, words}
+use Rattle.swim_script.specs.Refusals.{RefusesLine, IsFirstWrongLine}
 use Rattle.swim_program.specs.Lines.{input_lines}
+use Rattle.swim_program.specs.declared.report.What.{What}
 use Rattle.swim_program.specs.declared.report.Place.{Place}
 use Rattle.swim_program.specs.declared.report.Place.TheVariants as place
-use Rattle.swim_script.specs.ScriptReading.{Adds, SpellsLine, SpellsNothing, IsOutOfPlace, plan_events}
+use Rattle.swim_script.specs.ScriptReading.{Adds, SpellsLine, SpellsNothing, IsOutOfPlace, RefusesNext, plan_events}
 use Rattle.swim_script.proofs.ScriptOrder.{Follows, script_follows, after_node, after_event, after_level, nothing_follows}
 
 -- ---- what was read so far
@@ -235,6 +237,41 @@ was_read_whole lines starts plan was =
     spelled_whole lines was.node_lines was.event_lines was.last starts plan.events.items plan.level (length plan.nodes.items)
     was.whole was.nodes was.each was.ends (started_length plan.nodes.items starts was.started)
 
+-- its events before the levelling, and the line of that, are those that were read
+whole_parts : (lines node_lines event_lines last : List (List ℕ)) (starts : List Start) (events : List Event) (level : Option ℕ) (count : ℕ)
+    (parts : script_lines lines ≡ node_lines ++ event_lines ++ last) (nodes : NodeLines node_lines starts) (each : EventLines event_lines events)
+    (ends : EndsWith last level) (same : count ≡ length starts)
+    → let all : ScriptOf lines starts (plan_events events count level) =
+    spelled_whole lines node_lines event_lines last starts events level count parts nodes each ends same in
+    (all.told ≡ events) × (all.last ≡ last)
+unfolding spelled_whole
+whole_parts lines node_lines event_lines last starts events None count parts nodes each ends same = (refl, refl)
+whole_parts lines node_lines event_lines last starts events (Some number) count parts nodes each ends same = (refl, refl)
+
+read_parts : (lines : List (List ℕ)) (starts : List Start) (plan : Plan) (was : WasRead (script_lines lines) starts plan)
+    → ((was_read_whole lines starts plan was).told ≡ plan.events.items) × ((was_read_whole lines starts plan was).last ≡ was.last)
+unfolding was_read_whole
+read_parts lines starts plan was =
+    whole_parts lines was.node_lines was.event_lines was.last starts plan.events.items plan.level (length plan.nodes.items)
+    was.whole was.nodes was.each was.ends (started_length plan.nodes.items starts was.started)
+
+-- where the line of the levelling was read there is its number, and else there is none
+ended : (last : List (List ℕ)) (level : Option ℕ) → EndsWith last level → (last ≢ [] → level ≢ None) × (last ≡ [] → level ≡ None)
+ended last None ends = (λ some none. some ends, λ none. refl)
+ended last (Some number) ends = (λ some none. absurd cc, λ none. let bad : ends.0 ∷ [] ≡ [] = sym ends.1 ∙ none in absurd cc)
+
+-- what is said of the next line is said of it as one of the script
+refuses_line : (lines : List (List ℕ)) (starts : List Start) (plan : Plan) (was : WasRead (script_lines lines) starts plan) (line text : List ℕ) (what : What)
+    → text ≡ strip_carriage_return line → RefusesNext plan text what
+    → RefusesLine (was_read_whole lines starts plan was).told (was_read_whole lines starts plan was).last (strip_carriage_return line) what
+refuses_line lines starts plan was line text what strips told =
+    let parts = read_parts lines starts plan was in
+    let ends = ended was.last plan.level was.ends in
+    subst (λ (events : List Event). RefusesLine events (was_read_whole lines starts plan was).last (strip_carriage_return line) what) (sym parts.0)
+    (subst (λ (last : List (List ℕ)). RefusesLine plan.events.items last (strip_carriage_return line) what) (sym parts.1)
+    (subst (λ (t : List ℕ). RefusesLine plan.events.items was.last t what) strips
+    (record { ended = λ some. told.0 (ends.0 some); open_still = λ none. told.1 (ends.1 none) })))
+
 -- ---- a line that is out of place
 
 no_follow : (nodes : Bool) (level : Option ℕ) (text : List ℕ) (rest : List (List ℕ)) →
@@ -280,11 +317,11 @@ script_parts before line text after strips some =
     ∙ ap (λ l. script_lines before ++ l) (not_empty_first text (map strip_carriage_return after) some)
 
 -- the line that is out of place is the first that makes the input no script
-pub first_wrong_line : (input : List ℕ) (before : List (List ℕ)) (line text : List ℕ) (starts : List Start) (plan : Plan) (at : Place)
+pub first_wrong_line : (input : List ℕ) (before : List (List ℕ)) (line text : List ℕ) (starts : List Start) (plan : Plan) (at : Place) (what : What)
     → before ≡ take (length before) (input_lines input) → length before < length (input_lines input) → line ≡ get_or (input_lines input) (length before) line
     → text ≡ strip_carriage_return line → WasRead (script_lines before) starts plan → IsOutOfPlace text plan
-    → at ≡ place.Line (length before + 1) → IsFirstWrongLine input at
-first_wrong_line input before line text starts plan at first within here strips was wrong named =
+    → RefusesNext plan text what → at ≡ place.Line (length before + 1) → IsFirstWrongLine input at what
+first_wrong_line input before line text starts plan at what first within here strips was wrong told named =
     let after = drop (suc (length before)) (input_lines input) in
     record {
       before = before;
@@ -295,16 +332,17 @@ first_wrong_line input before line text starts plan at first within here strips 
       events = plan_events plan.events.items (length plan.nodes.items) plan.level;
       right = was_read_whole before starts plan was;
       wrong =
-          λ more nodes told.
+          λ more nodes events.
           no_script (before ++ line ∷ more) (script_lines before) text (script_lines more) starts plan
-          (script_parts before line text more strips wrong.0) was wrong nodes told;
+          (script_parts before line text more strips wrong.0) was wrong nodes events;
+      said = refuses_line before starts plan was line text what strips told;
       named = named;
     }
 
 -- an input with such a line is no script
-pub wrong_line_no_script : (input : List ℕ) (at : Place) → IsFirstWrongLine input at → (starts : List Start)
+pub wrong_line_no_script : (input : List ℕ) (at : Place) (what : What) → IsFirstWrongLine input at what → (starts : List Start)
     (events : List Event) → ¬ Script input starts events
-wrong_line_no_script input at own starts events script = own.wrong own.after starts events (subst (λ l. ScriptOf l starts events) own.parts script)
+wrong_line_no_script input at what own starts events script = own.wrong own.after starts events (subst (λ l. ScriptOf l starts events) own.parts script)
 
 -- one line more of those that are not empty
 pub one_more_line : (read : List (List ℕ)) (line text : List ℕ) → text ≡ strip_carriage_return line → script_lines

@@ -165,20 +165,6 @@ pub record ScriptOf (all : List (List ℕ)) (starts : List Start) (events : List
 abbrev pub Script : List ℕ → List Start → List Event → Type 0
 Script input starts events = ScriptOf (input_lines input) starts events
 
--- The place names the line, counted from 1, that makes the input no script: those before it are
--- one, and with it, whatever follows, they are none.
-pub record IsFirstWrongLine (input : List ℕ) (place : Place) : Type 0 where
-  pub before : List (List ℕ)
-  pub line : List ℕ
-  pub after : List (List ℕ)
-  pub parts : input_lines input ≡ before ++ line ∷ after
-  pub starts : List Start
-  pub events : List Event
-  pub right : ScriptOf before starts events
-  pub wrong : (more : List (List ℕ)) (nodes : List Start) (told : List Event)
-      → ¬ ScriptOf (before ++ line ∷ more) nodes told
-  pub named : place ≡ Line (length before + 1)
-
 -- Event k comes with the line, counted from 1, that the place names: the lines before it tell of
 -- earlier events alone, and with it also of that one.
 pub record ComesWith (lines : List (List ℕ)) (starts : List Start) (events : List Event) (k : ℕ)

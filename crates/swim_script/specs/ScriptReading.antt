@@ -8,6 +8,9 @@ use Rattle.swim_script.specs.declared.script_line.Line.{Line}
 use Rattle.swim_script.specs.declared.script_line.Line.TheVariants as line
 use Rattle.swim_script.specs.declared.script.Plan.{Plan}
 use Rattle.swim_program.specs.declared.report.Place.TheVariants as place
+use Rattle.swim_program.specs.declared.report.What.{What}
+use Rattle.swim_program.specs.declared.report.What.TheVariants.{Refused}
+use Rattle.swim_script.specs.Refusals.{RefusesWords}
 use Rattle.swim_script.specs.Script.{Start, IsStarted, NodeWords, EventWords, LevelWords, NodeNumber, ComesWith, words}
 
 -- the first word of a line of this kind
@@ -68,6 +71,11 @@ TakesLine text number old new =
 abbrev pub IsOutOfPlace : List ℕ → Plan → Type 0
 IsOutOfPlace text old = (text ≢ [])
     × (old.level ≡ None → SpellsNothing (length old.events.items == 0) (words text))
+
+-- what is said of a line that is not empty and may not stand behind those of the plan
+abbrev pub RefusesNext : Plan → List ℕ → What → Type 0
+RefusesNext old text what = (old.level ≢ None → what ≡ Refused 31 None)
+    × (old.level ≡ None → RefusesWords (length old.events.items == 0) (words text) what)
 
 -- the events of a plan: those of its lines, and then those that level its nodes, where `level` ends
 -- it

@@ -4,8 +4,9 @@ ghost use Rattle.std.specs.Prelude.{◌≡◌, ◌≢◌, ◌↔◌, ◌<◌, �
 ghost use Rattle.swim_program.specs.Limits.{most_bytes};
 ghost use Rattle.swim_program.specs.Lines.{input_lines};
 ghost use Rattle.swim_program.specs.Report.{IsAmong, IsOfReading};
-ghost use Rattle.swim_script.specs.Script.{Script, Start, AreStarted, IsFirstWrongLine};
-ghost use Rattle.swim_script.specs.ScriptReading.{Adds, AreNumbered, TakesLine, IsOutOfPlace, plan_events};
+ghost use Rattle.swim_script.specs.Refusals.{IsFirstWrongLine};
+ghost use Rattle.swim_script.specs.Script.{Script, Start, AreStarted};
+ghost use Rattle.swim_script.specs.ScriptReading.{Adds, AreNumbered, TakesLine, IsOutOfPlace, RefusesNext, plan_events};
 
 use crate::script_line::{Line, read_line};
 use std::alloc::{AllocError, Global};
@@ -46,6 +47,8 @@ impl Plan {
         ensures takes { OnOk result (TakesLine line.now number self.old self.new) }
         ensures refuses { IfErr result (λ what. what ≢ What.Memory
             → IsOutOfPlace line.now self.old) }
+        ensures tells { IfErr result (λ what. what ≢ What.Memory
+            → RefusesNext self.old line.now what) }
         ensures kind { IfErr result IsOfReading }
     {
         if line.is_empty() {
@@ -95,9 +98,9 @@ pub fn read_script(alloc: Global, input: &[u8]) -> Result<Plan, Report>
     ensures lines { IfOk result (λ plan. length plan.lines.items ≡ length plan.events.items) }
 
     // Refused for another cause than memory and its length, the report names the first line that
-    // makes the input no script.
+    // makes the input no script, and its fault.
     ensures line { IfErr result (λ report. report.what ≢ What.Memory → length input.now ≤ most_bytes
-        → IsFirstWrongLine input.now report.place) }
+        → IsFirstWrongLine input.now report.place report.what) }
     ensures long { (most_bytes < length input.now)
         ↔ (result ≡ Err (record { place = Place.Input; what = What.Refused 32 None })) }
     ensures kind { IfErr result (λ report. IsOfReading report.what) }

@@ -2,7 +2,8 @@
 
 ghost use Rattle.std.specs.Prelude.{◌≡◌, ◌≢◌, ◌∷◌, ℕ, List, map, codes, IfOk, IfErr};
 ghost use Rattle.swim_sync.specs.declared.event.Event.{Event};
-ghost use Rattle.swim_program.specs.Report.{IsOfReading};
+ghost use Rattle.swim_program.specs.Report.{IsOfReading, TellsDatagram};
+ghost use Rattle.swim_script.specs.Refusals.{RefusesNode, RefusesHear, RefusesEvent, RefusesWords};
 ghost use Rattle.swim_script.specs.Script.{Start, IsStarted, NodeWords, EventWords, HearsBytes, NodeNumber, words};
 ghost use Rattle.swim_script.specs.ScriptReading.{OneNumber, SpellsLine, SpellsNothing, TwoNumbers, word_of};
 
@@ -49,6 +50,8 @@ pub(crate) fn read_line(alloc: Global, line: &[u8], nodes_may_come: bool) -> Res
     ensures reads { IfOk result (SpellsLine nodes_may_come (words line.now)) }
     ensures refuses { IfErr result (λ what. what ≢ What.Memory
         → SpellsNothing nodes_may_come (words line.now)) }
+    ensures tells { IfErr result (λ what. what ≢ What.Memory
+        → RefusesWords nodes_may_come (words line.now) what) }
     ensures kind { IfErr result IsOfReading }
 {
     let words = split_words(alloc, line)?;
@@ -72,6 +75,8 @@ fn read_node(alloc: Global, fields: &[&[u8]]) -> Result<Node, What>
         × IsStarted node start) }
     ensures refuses { IfErr result (λ what. what ≢ What.Memory
         → (start : Start) → ¬ NodeWords (codes "node" ∷ map (λ word. word.now) fields.now) start) }
+    ensures tells { IfErr result (λ what. what ≢ What.Memory
+        → RefusesNode (map (λ word. word.now) fields.now) what) }
     ensures kind { IfErr result IsOfReading }
 {
     let [name, addr, port, meta, vsn, inc] = fields else {
@@ -93,6 +98,8 @@ fn read_event(alloc: Global, keyword: Keyword, fields: &[&[u8]]) -> Result<Event
     ensures reads { IfOk result (EventWords (word_of keyword ∷ map (λ word. word.now) fields.now)) }
     ensures refuses { IfErr result (λ what. what ≢ What.Memory → (event : Event)
         → ¬ EventWords (word_of keyword ∷ map (λ word. word.now) fields.now) event) }
+    ensures tells { IfErr result (λ what. what ≢ What.Memory
+        → RefusesEvent keyword (map (λ word. word.now) fields.now) what) }
     ensures kind { IfErr result IsOfReading }
 {
     match keyword {
@@ -115,6 +122,8 @@ fn read_hear(alloc: Global, fields: &[&[u8]]) -> Result<Event, What>
     ensures reads { IfOk result (EventWords (codes "hear" ∷ map (λ word. word.now) fields.now)) }
     ensures refuses { IfErr result (λ what. what ≢ What.Memory
         → (event : Event) → ¬ EventWords (codes "hear" ∷ map (λ word. word.now) fields.now) event) }
+    ensures tells { IfErr result (λ what. what ≢ What.Memory
+        → RefusesHear (map (λ word. word.now) fields.now) what) }
     ensures kind { IfErr result IsOfReading }
 {
     let [node, datagram] = fields else {
@@ -130,6 +139,8 @@ fn event_of_datagram(alloc: Global, node: usize, datagram: &[u8]) -> Result<Even
     ensures reads { IfOk result (HearsBytes node datagram.now) }
     ensures refuses { IfErr result (λ what. what ≢ What.Memory
         → (event : Event) → ¬ HearsBytes node datagram.now event) }
+    ensures tells { IfErr result (λ what. what ≢ What.Memory
+        → TellsDatagram datagram.now what) }
     ensures kind { IfErr result IsOfReading }
 {
     match Datagram::decode(alloc, datagram)? {

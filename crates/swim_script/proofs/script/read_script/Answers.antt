@@ -7,6 +7,7 @@ use Rattle.std.proofs.lemmas.List.FromFn.{length-enumerate_from, get_or-enumerat
 use Rattle.swim_program.specs.declared.report.Place.TheVariants as place
 use Rattle.swim_program.specs.Lines.{input_lines}
 use Rattle.swim_program.proofs.CountedLines.{counted_lines, first_counted, yielded_at}
+use Rattle.swim_script.specs.ScriptReading.{RefusesNext}
 use Rattle.swim_script.proofs.ScriptNumbers.{WereRead, none_read, read_more}
 use Rattle.swim_script.proofs.ScriptRun.{was_read_whole, first_wrong_line, number_of_line, few_nodes}
 use Rattle.swim_script.proofs.script.read_script.Goals as goal
@@ -39,13 +40,15 @@ returns-in-Err-clause-line c = λ seen within.
     let wrong = c.in-Err.ensures.refuses (λ e. seen (ap (λ r. r.what) c.at-in-Err.ensures ∙ e)) in
     let counted : c.in-Some.index + 1 ≡ length before + 1 = number_of_line c.loop-index.yielded lines c.in-Some.index c.in-Some.line.now (here.0, here.1) in
     first_wrong_line c.args.input.now before c.in-Some.line.now c.without_return.result.now c.loop-index.invariant.2.starts
-    c.loop-index.plan c.at-in-Err.result.place
+    c.loop-index.plan c.at-in-Err.result.place c.at-in-Err.result.what
     (first ∙ ap (λ k. take k lines) (sym number))
     (omega (arith, inside, number))
     (line ∙ ap (λ k. get_or lines k c.in-Some.line.now) (sym number))
     c.without_return.ensures
     c.loop-index.invariant.2.was
     wrong
+    (subst (RefusesNext c.loop-index.plan c.without_return.result.now) (sym (ap (λ r. r.what) c.at-in-Err.ensures))
+    (c.in-Err.ensures.tells (λ e. seen (ap (λ r. r.what) c.at-in-Err.ensures ∙ e))))
     (ap (λ r. r.place) c.at-in-Err.ensures ∙ ap place.Line counted)
 
 pub loop-index-preserved : goal.loop-index-preserved

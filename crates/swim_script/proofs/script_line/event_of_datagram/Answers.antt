@@ -35,3 +35,8 @@ returns-in_ok-claims-in-Compound-clause-reads c =
     let seven : IsCompound (Compound c.in-Compound.packets) ↔ BeginsWith 7 bytes = rw c.in-Compound.is at c.in_ok-packet.ensures.compound in
     let begins = seven.0 tt in
     compound begins.0 c.in-Compound.packets.items begins.1 text (ap (HearAll c.args.node) (c.new.ensures ∙ c.in_ok-claims-in-Compound.ensures))
+
+pub returns-in_err-packet-clause-tells : goal.returns-in_err-packet-clause-tells
+returns-in_err-packet-clause-tells c =
+    let p = err_from_is_err_and c.from_residual.result c.from_residual.ensures.1 in
+    rw p.1 (λ seen. (c.in_err-packet.field-0.0, c.in_err-packet.ensures.exact (λ m. seen (p.2 ∙ ap what_of m)), p.2))

@@ -4,6 +4,7 @@ use Rattle.std.proofs.lemmas.Result.{err_from_is_err_and}
 use Rattle.swim_sync.specs.declared.event.Event.{Event}
 use Rattle.swim_sync.specs.declared.event.Event.TheVariants.{Exchange, Half, Refute}
 use Rattle.swim_program.specs.declared.report.What.TheVariants.{Memory}
+use Rattle.swim_script.specs.Refusals.{RefusesEvent}
 use Rattle.swim_script.specs.Script.{EventWords}
 use Rattle.swim_script.specs.ScriptReading.{word_of}
 use Rattle.swim_script.proofs.ScriptLines.{exchange_told, half_told, refute_told, no_exchange, no_half, no_refute}
@@ -49,3 +50,23 @@ pub returns-in_ok-one_number-in-Refute-clause-reads : goal.returns-in_ok-one_num
 returns-in_ok-one_number-in-Refute-clause-reads c =
     subst (λ k. EventWords (word_of k ∷ map (λ w. w.now) c.args.fields.now) (Refute c.in_ok-one_number-in-Refute.field-0))
     (sym c.in-Refute.is) (refute_told _ _ c.in_ok-one_number-in-Refute.ensures.reads)
+
+pub returns-in_err-first-in-Exchange-clause-tells : goal.returns-in_err-first-in-Exchange-clause-tells
+returns-in_err-first-in-Exchange-clause-tells c =
+    let p = err_from_is_err_and c.from_residual.result c.from_residual.ensures.1 in
+    rw (p.1, p.2) (λ seen. subst (λ k. RefusesEvent k (map (λ w. w.now) c.args.fields.now) c.in_err-first-in-Exchange.field-0.0) (sym c.in-Exchange.is) c.in_err-first-in-Exchange.ensures.fault)
+
+pub returns-in_err-first-in-Half-clause-tells : goal.returns-in_err-first-in-Half-clause-tells
+returns-in_err-first-in-Half-clause-tells c =
+    let p = err_from_is_err_and c.from_residual-in_err-first-in-Half.result c.from_residual-in_err-first-in-Half.ensures.1 in
+    rw (p.1, p.2) (λ seen. subst (λ k. RefusesEvent k (map (λ w. w.now) c.args.fields.now) c.in_err-first-in-Half.field-0.0) (sym c.in-Half.is) c.in_err-first-in-Half.ensures.fault)
+
+pub returns-in_err-one_number-in-Refute-clause-tells : goal.returns-in_err-one_number-in-Refute-clause-tells
+returns-in_err-one_number-in-Refute-clause-tells c =
+    let p = err_from_is_err_and c.from_residual-in_err-one_number-in-Refute.result c.from_residual-in_err-one_number-in-Refute.ensures.1 in
+    rw (p.1, p.2) (λ seen. subst (λ k. RefusesEvent k (map (λ w. w.now) c.args.fields.now) c.in_err-one_number-in-Refute.field-0.0) (sym c.in-Refute.is) c.in_err-one_number-in-Refute.ensures.fault)
+
+pub returns-in-Hear-clause-tells : goal.returns-in-Hear-clause-tells
+returns-in-Hear-clause-tells c =
+    subst (λ k. IfErr c.read_hear.result (λ what. what ≢ Memory → RefusesEvent k (map (λ w. w.now) c.args.fields.now) what))
+    (sym c.in-Hear.is) c.read_hear.ensures.tells

@@ -1,0 +1,125 @@
+-- Why a line is refused, and what is said of it. Words are read from left to right, and the first
+-- that is wrong counts.
+use Rattle.std.specs.Prelude.{◌≡◌, ◌≢◌, ◌⊎◌, ℕ, ◌+◌, ◌<◌, ◌≤◌, Bool, true, List, [], ◌∷◌, ◌++◌, None, length, codes, ◌==◌}
+use Rattle.std.specs.Str.Lines.{strip_carriage_return}
+use Rattle.percent_encoding.specs.Percent.{percent_decode}
+use Rattle.swim_claim.specs.Details.{DetailsValue, IsAddress, IsVersions}
+use Rattle.swim_claim.specs.Limits.{longest_meta, longest_name}
+use Rattle.swim_claim.specs.Name.{IsLegalName}
+use Rattle.swim_sync.specs.declared.event.Event.{Event}
+use Rattle.swim_program.specs.declared.report.Place.{Place}
+use Rattle.swim_program.specs.declared.report.Place.TheVariants.{Line}
+use Rattle.swim_program.specs.declared.report.What.{What}
+use Rattle.swim_program.specs.declared.report.What.TheVariants.{Refused}
+use Rattle.swim_program.specs.Lines.{input_lines}
+use Rattle.swim_program.specs.Report.{TellsDatagram}
+use Rattle.swim_script.specs.declared.keyword.Keyword.{Keyword}
+use Rattle.swim_script.specs.declared.keyword.Keyword.TheVariants as key
+use Rattle.swim_script.specs.Script.{Start, Decimal, HexBytes, NodeNumber, ScriptOf, words}
+
+-- ---- one word
+
+-- it is no number of this place (31)
+abbrev pub NoNumber : ℕ → List ℕ → What → Type 0
+NoNumber most word what = ((n : ℕ) → ¬ Decimal most word n) × (what ≡ Refused 31 None)
+
+-- it is no hexadecimal (30)
+abbrev pub NoBytes : List ℕ → What → Type 0
+NoBytes word what = ((bytes : List ℕ) → ¬ HexBytes word bytes) × (what ≡ Refused 30 None)
+
+-- the name is empty (11) or too long (12)
+abbrev pub NoName : List ℕ → What → Type 0
+NoName name what = ((name ≡ []) × (what ≡ Refused 11 None))
+    ⊎ ((longest_name < length name) × (what ≡ Refused 12 None))
+
+-- the address is none (13), or else the metadata is too long (14), or else the versions are none
+-- (15)
+abbrev pub NoDetails : DetailsValue → What → Type 0
+NoDetails details what = ((¬ IsAddress details.addr) × (what ≡ Refused 13 None))
+    ⊎ (IsAddress details.addr × (longest_meta < length details.meta) × (what ≡ Refused 14 None))
+    ⊎ (IsAddress details.addr × (length details.meta ≤ longest_meta) × (¬ IsVersions details.vsn)
+    × (what ≡ Refused 15 None))
+
+-- ---- the words of a line
+
+-- Of the words after `node` one is wrong, and those before it are right; or all are right, and the
+-- name is none; or the name is right, and the details are none.
+pub data NoNode (name addr port meta vsn inc : List ℕ) (what : What) : Type 0 where
+  no_addr : NoBytes addr what → NoNode name addr port meta vsn inc what
+  no_port : (a : List ℕ) → HexBytes addr a → NoNumber 65535 port what
+      → NoNode name addr port meta vsn inc what
+  no_meta : (a : List ℕ) (p : ℕ) → HexBytes addr a → Decimal 65535 port p → NoBytes meta what
+      → NoNode name addr port meta vsn inc what
+  no_vsn : (a m : List ℕ) (p : ℕ) → HexBytes addr a → Decimal 65535 port p → HexBytes meta m
+      → NoBytes vsn what → NoNode name addr port meta vsn inc what
+  no_inc : (a m v : List ℕ) (p : ℕ) → HexBytes addr a → Decimal 65535 port p → HexBytes meta m
+      → HexBytes vsn v → NoNumber 4294967295 inc what → NoNode name addr port meta vsn inc what
+  no_name : (d : DetailsValue) (i : ℕ) → HexBytes addr d.addr → Decimal 65535 port d.port
+      → HexBytes meta d.meta → HexBytes vsn d.vsn → Decimal 4294967295 inc i
+      → NoName (percent_decode name) what → NoNode name addr port meta vsn inc what
+  no_details : (d : DetailsValue) (i : ℕ) → HexBytes addr d.addr → Decimal 65535 port d.port
+      → HexBytes meta d.meta → HexBytes vsn d.vsn → Decimal 4294967295 inc i
+      → IsLegalName (percent_decode name) → NoDetails d what
+      → NoNode name addr port meta vsn inc what
+
+-- the words after `node` are not six (31), or else are those of no node
+abbrev pub RefusesNode : List (List ℕ) → What → Type 0
+RefusesNode fields what = ((length fields ≢ 6) × (what ≡ Refused 31 None))
+    ⊎ ((name addr port meta vsn inc : List ℕ)
+    × (fields ≡ name ∷ addr ∷ port ∷ meta ∷ vsn ∷ inc ∷ [])
+    × NoNode name addr port meta vsn inc what)
+
+-- The words after `hear` are not two (31), or else the first is no node's number, or else the
+-- second is no hexadecimal, or else that of no datagram.
+pub data RefusesHear (fields : List (List ℕ)) (what : What) : Type 0 where
+  not_two : length fields ≢ 2 → what ≡ Refused 31 None → RefusesHear fields what
+  no_number : (node datagram : List ℕ) → fields ≡ node ∷ datagram ∷ []
+      → NoNumber 18446744073709551615 node what → RefusesHear fields what
+  no_hex : (node datagram : List ℕ) (k : ℕ) → fields ≡ node ∷ datagram ∷ [] → NodeNumber node k
+      → NoBytes datagram what → RefusesHear fields what
+  no_datagram : (node datagram bytes : List ℕ) (k : ℕ) → fields ≡ node ∷ datagram ∷ []
+      → NodeNumber node k → HexBytes datagram bytes → TellsDatagram bytes what
+      → RefusesHear fields what
+
+-- what is said of the words after the first one, where that tells of an event: all but `hear` take
+-- numbers alone
+abbrev pub RefusesEvent : Keyword → List (List ℕ) → What → Type 0
+RefusesEvent key.Hear fields what = RefusesHear fields what
+RefusesEvent keyword fields what = what ≡ Refused 31 None
+
+-- What is said of the words of a line, where lines of nodes may still come or not: they are more
+-- than seven (31); or they are those of a node or of what is heard, and wrong; or they begin
+-- otherwise (31).
+pub data RefusesWords (nodes : Bool) (line : List (List ℕ)) (what : What) : Type 0 where
+  many : 7 < length line → what ≡ Refused 31 None → RefusesWords nodes line what
+  node : (fields : List (List ℕ)) → nodes ≡ true → line ≡ codes "node" ∷ fields
+      → RefusesNode fields what → RefusesWords nodes line what
+  hear : (fields : List (List ℕ)) → line ≡ codes "hear" ∷ fields → RefusesHear fields what
+      → RefusesWords nodes line what
+  other : (nodes ≡ true → (fields : List (List ℕ)) → line ≢ codes "node" ∷ fields)
+      → ((fields : List (List ℕ)) → line ≢ codes "hear" ∷ fields) → what ≡ Refused 31 None
+      → RefusesWords nodes line what
+
+-- ---- the first wrong line
+
+-- what is said of a line after the events told so far and the line `level`, if it came: no line may
+-- follow that (31)
+pub record RefusesLine (told : List Event) (last : List (List ℕ)) (line : List ℕ) (what : What)
+    : Type 0 where
+  pub ended : last ≢ [] → what ≡ Refused 31 None
+  pub open_still : last ≡ [] → RefusesWords (length told == 0) (words line) what
+
+-- The place names the line, counted from 1, that makes the input no script: those before it are
+-- one, and with it, whatever follows, they are none. And this is said of it.
+pub record IsFirstWrongLine (input : List ℕ) (place : Place) (what : What) : Type 0 where
+  pub before : List (List ℕ)
+  pub line : List ℕ
+  pub after : List (List ℕ)
+  pub parts : input_lines input ≡ before ++ line ∷ after
+  pub starts : List Start
+  pub events : List Event
+  pub right : ScriptOf before starts events
+  pub wrong : (more : List (List ℕ)) (nodes : List Start) (told : List Event)
+      → ¬ ScriptOf (before ++ line ∷ more) nodes told
+  pub said : RefusesLine right.told right.last (strip_carriage_return line) what
+  pub named : place ≡ Line (length before + 1)
