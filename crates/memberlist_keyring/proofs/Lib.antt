@@ -1,6 +1,7 @@
 pub mod Labels
 pub mod Trying
 pub mod Holding
+pub mod Lines
 pub mod Files
 pub mod Openings
 pub mod Once

@@ -47,21 +47,13 @@ fn keys_of_lines(alloc: Global, text: &[u8]) -> Result<Vec<Key>, KeyFileFault>
     ensures ok { IfOk result (λ keys. HoldInOrder LineHolds (lines_of text.now) keys.items) }
     ensures err { IfErr result (λ fault. KeyFileCause fault text.now) }
 {
-    let lines = lines_of(alloc, text)?;
     let mut keys = Vec::new(alloc);
-    for (i, line) in lines.iter().enumerate() {
+    for (i, line) in text.split(|byte| *byte == b'\n').enumerate() {
         if !add_line(alloc, &mut keys, line)? {
             return Err(KeyFileFault::Line(i as u64 + 1));
         }
     }
     Ok(keys)
-}
-
-/// What stands between line feeds.
-fn lines_of(alloc: Global, text: &[u8]) -> Result<Vec<&[u8]>, AllocError>
-    ensures { IfOk result (λ lines. map (λ line. line.now) lines.items ≡ lines_of text.now) }
-{
-    text.split(|byte| *byte == b'\n').collect(alloc)
 }
 
 /// Adds the key of a line, if it has one. Says whether the line may stand in a file.
