@@ -100,6 +100,44 @@ count() {
     fi
 }
 
+# can_refuse: whether growths of memory can be refused here; it makes the library that refuses them.
+can_refuse() {
+    if ! command -v cc > /dev/null; then
+        echo 'skipped: refused memory: there is no cc'
+        return 1
+    fi
+    cc -shared -fPIC -O2 -o watch_memory.so "$here/../.ci/watch_memory.c" -ldl
+}
+
+# each_refused CASE INPUT WORD..: whichever growth of memory is refused, of the first 60 each and then every seventh,
+# the run with INPUT ends as it does with none refused, or prints nothing and says that there was no memory.
+each_refused() {
+    case_name=$1
+    given=$2
+    shift 2
+    timeout 120 "$program" "$@" < "$given" > whole_out 2> whole_err
+    whole_status=$?
+    echo "$(basename "$program"): out of memory" > refused_err
+    growth=0
+    ended_early=0
+    wrong=
+    : > refused
+    while [ -e refused ]; do
+        growth=$((growth + (growth < 60 ? 1 : 7)))
+        rm refused
+        timeout 120 env REFUSE=$growth REFUSED=refused LD_PRELOAD="$PWD/watch_memory.so" \
+            "$program" "$@" < "$given" > out 2> err
+        status=$?
+        if [ -e refused ] && [ "$status" -eq 5 ] && [ ! -s out ] && cmp -s refused_err err; then
+            ended_early=$((ended_early + 1))
+        elif [ "$status" -ne "$whole_status" ] || ! cmp -s whole_out out || ! cmp -s whole_err err; then
+            wrong="$wrong; growth $growth: status $status, output $(start_of out), text $(start_of err)"
+        fi
+    done
+    [ "$ended_early" -gt 0 ] || wrong="$wrong; no growth was refused"
+    count "$case_name with each growth of memory refused" "$wrong"
+}
+
 # start_of FILE: its first bytes, on one line.
 start_of() {
     head -c 60 "$1" | tr '\n' '|' | tr -c '[:print:]' '?'

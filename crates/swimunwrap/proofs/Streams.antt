@@ -3,6 +3,8 @@ use Rattle.std.proofs.Common.{◌≡◌, ◌⊎◌, ◌∙◌, inl, inr, ℕ, Li
 use Rattle.std.specs.Prelude.{◌≢◌}
 use Rattle.memberlist_cipher.specs.declared.fault.CipherFault.{CipherFault}
 use Rattle.memberlist_cipher.specs.declared.fault.CipherFault.TheVariants as cipher
+use Rattle.memberlist_cipher.specs.Refusal.{StreamCause}
+use Rattle.memberlist_keyring.specs.Cutting.{IsRefused}
 use Rattle.memberlist_keyring.specs.Opening.{OpensStream, OpensStreamFirst}
 use Rattle.memberlist_keyring.proofs.OneOpened.{one_opened_stream, opens_stream}
 use Rattle.memberlist_wrap.specs.declared.fault.WrapFault.{WrapFault}
@@ -37,8 +39,8 @@ no_keys keys bytes inner none opens =
 pub no_stream : (keys : List (List ℕ)) (bytes : List ℕ) (what : What) → Explains keys bytes what → (stream : List ℕ) → ¬ IsStreamIn keys bytes stream
 no_stream keys bytes what (why.clear explains none) stream (streams.clear is) = no_clear bytes what explains stream is
 no_stream keys bytes what (why.clear explains none) stream (streams.opened inner sealed opens is) = no_keys keys bytes inner (none sealed) opens
-no_stream keys bytes what (why.closed fault sealed none same) stream (streams.clear is) = no_sealed_clear bytes sealed stream is
-no_stream keys bytes what (why.closed fault sealed none same) stream (streams.opened inner also opens is) = none inner (opens_stream keys bytes inner opens)
+no_stream keys bytes what (why.closed fault sealed none refused same) stream (streams.clear is) = no_sealed_clear bytes sealed stream is
+no_stream keys bytes what (why.closed fault sealed none refused same) stream (streams.opened inner also opens is) = none inner (opens_stream keys bytes inner opens)
 no_stream keys bytes what (why.opened inner sealed opens explains) stream (streams.clear is) = no_sealed_clear bytes sealed stream is
 no_stream keys bytes what (why.opened inner sealed opens explains) stream (streams.opened other also opened is) =
     no_clear inner what explains stream (subst (λ m. IsClearStream m stream) (one_opened_stream keys bytes other inner opened opens) is)
@@ -89,7 +91,7 @@ clear_own bytes what (plainly.other message wraps begins same) = rw same (start_
 -- what explains a refusal is
 pub own : (keys : List (List ℕ)) (bytes : List ℕ) (what : What) → Explains keys bytes what → IsOwn what
 own keys bytes what (why.clear explains none) = clear_own bytes what explains
-own keys bytes what (why.closed fault sealed none same) = rw same (cipher_own fault)
+own keys bytes what (why.closed fault sealed none refused same) = rw same (cipher_own fault)
 own keys bytes what (why.opened inner sealed opens explains) = clear_own inner what explains
 
 -- and so is every refusal that is explained but for want of memory
@@ -120,11 +122,12 @@ untried keys bytes message (Err what) wraps (inr clear) other = λ seen.
 
 -- where a key is tried
 pub tried : {X : Type 0} (keys : List (List ℕ)) (bytes : List ℕ) (result : Result X What) → IsSealed bytes
-    → IfErr result (λ what. what ≢ Memory → ((fault : CipherFault) × ((inner : List ℕ) → ¬ OpensStream keys bytes inner) × (what ≡ what_of_cipher fault))
+    → IfErr result (λ what. what ≢ Memory → ((fault : CipherFault) × ((inner : List ℕ) → ¬ OpensStream keys bytes inner)
+    × IsRefused StreamCause keys bytes fault × (what ≡ what_of_cipher fault))
     ⊎ ((inner : List ℕ) × OpensStreamFirst keys bytes inner × ExplainsClear inner what))
     → IfErr result (λ what. what ≢ Memory → Explains keys bytes what)
 tried keys bytes (Ok stream) sealed refusal = tt
 tried keys bytes (Err what) sealed refusal = λ seen. elim (refusal seen) [
-  | inl closed ↦ why.closed closed.0 sealed closed.1 closed.2
+  | inl closed ↦ why.closed closed.0 sealed closed.1 closed.2 closed.3
   | inr opened ↦ why.opened opened.0 sealed opened.1 opened.2
 ]

@@ -3,6 +3,8 @@ use Rattle.std.specs.Prelude.{◌≡◌, ℕ, List, [], ◌∷◌, Some, None}
 use Rattle.memberlist_cipher.specs.declared.fault.CipherFault.{CipherFault}
 use Rattle.memberlist_cipher.specs.declared.fault.CipherFault.TheVariants as cipher
 use Rattle.memberlist_cipher.specs.Fault.{cipher_number}
+use Rattle.memberlist_cipher.specs.Refusal.{StreamCause}
+use Rattle.memberlist_keyring.specs.Cutting.{IsRefused}
 use Rattle.memberlist_keyring.specs.Opening.{OpensStream, OpensStreamFirst}
 use Rattle.memberlist_wrap.specs.declared.fault.WrapFault.{WrapFault}
 use Rattle.memberlist_wrap.specs.declared.fault.WrapFault.TheVariants as wrap
@@ -63,11 +65,11 @@ pub data ExplainsClear (bytes : List ℕ) (what : What) : Type 0 where
       → what ≡ what_of_start message → ExplainsClear bytes what
 
 -- What a refusal says of bytes: what it says of them in the clear, where no key is tried; that no
--- key opens them; or what it says of what a key opens.
+-- key opens them, and the keyring's fault; or what it says of what a key opens.
 pub data Explains (keys : List (List ℕ)) (bytes : List ℕ) (what : What) : Type 0 where
   clear : ExplainsClear bytes what → (IsSealed bytes → keys ≡ []) → Explains keys bytes what
   closed : (fault : CipherFault) → IsSealed bytes
-      → ((inner : List ℕ) → ¬ OpensStream keys bytes inner) → what ≡ what_of_cipher fault
-      → Explains keys bytes what
+      → ((inner : List ℕ) → ¬ OpensStream keys bytes inner) → IsRefused StreamCause keys bytes fault
+      → what ≡ what_of_cipher fault → Explains keys bytes what
   opened : (inner : List ℕ) → IsSealed bytes → OpensStreamFirst keys bytes inner
       → ExplainsClear inner what → Explains keys bytes what

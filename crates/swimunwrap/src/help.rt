@@ -35,6 +35,7 @@ pub(crate) static STREAM: &str = "\
 One that is no push/pull stream inside is refused: a ping, a user message, an error, or
 one that is encrypted and that none of the keys opens.
 
-Example:
+Examples:
   $ swimunwrap stream flow > dump.bin
-  $ swimtab list dump.bin";
+  $ swimtab list dump.bin
+  $ swimunwrap stream --key-file keys flow > dump.bin";

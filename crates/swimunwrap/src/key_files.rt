@@ -1,15 +1,18 @@
 //! The keys of a cluster, from files.
 
+ghost use Rattle.std.specs.Prelude.{◌≤◌, length, IfOk};
+ghost use Rattle.swim_program.specs.Limits.{most_bytes};
+
 use crate::NAME;
 use memberlist_keyring::{KeyFileFault, Keyring};
 use std::alloc::{AllocError, Global};
-use swim_program::{Failure, Place, read_file};
+use swim_program::{BOUND, Failure, Place, What, read_file};
 
 /// The keys in the files that these words name, in the order of the words.
 pub(crate) fn keyring_of(rt: &HostRuntime, files: &[String]) -> Result<Keyring, Failure> {
     let mut keys = Keyring::new(rt.alloc());
     for (index, file) in files.iter().enumerate() {
-        match read_file(rt, file) {
+        match text_of(rt, file) {
             Ok(text) => if let Err(fault) = keys.add_file(rt.alloc(), &text) {
                 return Err(refused(rt.alloc(), file, fault));
             },
@@ -20,6 +23,18 @@ pub(crate) fn keyring_of(rt: &HostRuntime, files: &[String]) -> Result<Keyring, 
         }
     }
     Ok(keys)
+}
+
+/// The bytes of a file of keys. One that cannot be read is a device fault, and one of more than
+/// 268,435,456 bytes is too long.
+fn text_of(rt: &HostRuntime, file: &str) -> Result<Vec<u8>, What>
+    ensures { IfOk result (λ text. length text.items ≤ most_bytes) }
+{
+    let text = read_file(rt, file)?;
+    if text.len() > BOUND {
+        return Err(What::input_too_long());
+    }
+    Ok(text)
 }
 
 /// That the file holds something else than keys.

@@ -71,22 +71,32 @@ fn run_chosen(rt: &HostRuntime, keys: &Keyring, chosen: &Chosen) -> Result<(), R
     }
 }
 
-/// Unwraps the packets on standard input, and says how many lines were left out, where some were.
+/// Unwraps the packets on standard input, and then says how many lines were left out, if any were.
+/// What is said is made before anything is printed.
 fn print_lines(rt: &HostRuntime, keys: &Keyring, skip: bool) -> Result<(), Report>
     ensures { IfErr result (λ report. IsAmong report.place 0) }
 {
     let input = read_input(rt, NAME, "packets")?;
     let unwrapped = unwrap_lines(rt.alloc(), keys, &input, skip)?;
-    print(rt, unwrapped.text())?;
     if unwrapped.left_out().is_empty() {
-        return Ok(());
+        return print(rt, unwrapped.text());
     }
     match left_out_text(rt.alloc(), unwrapped.left_out(), &input) {
-        Ok(text) => {
-            let _ = rt.eprintln(&text);
-            Ok(())
+        Ok(said) => {
+            print(rt, unwrapped.text())?;
+            tell(rt, &said)
         }
         Err(AllocError) => Err(What::Memory.at(Place::Output)),
+    }
+}
+
+/// Says a line on standard error. If that fails it is a device fault at the output.
+fn tell(rt: &HostRuntime, line: &String) -> Result<(), Report>
+    ensures { IfErr result (λ report. IsAmong report.place 0) }
+{
+    match rt.eprintln(line) {
+        Ok(()) => Ok(()),
+        Err(_) => Err(What::Device.at(Place::Output)),
     }
 }
 

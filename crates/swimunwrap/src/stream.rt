@@ -2,6 +2,8 @@
 
 ghost use Rattle.std.specs.Prelude.{◌≡◌, ◌≢◌, ◌↔◌, ◌⊎◌, ◌<◌, ◌≤◌, List, ℕ, None, length, IfOk, IfErr, MatchBool};
 ghost use Rattle.memberlist_cipher.specs.declared.fault.CipherFault.{CipherFault};
+ghost use Rattle.memberlist_cipher.specs.Refusal.{StreamCause};
+ghost use Rattle.memberlist_keyring.specs.Cutting.{IsRefused};
 ghost use Rattle.memberlist_keyring.specs.Opening.{OpensStream, OpensStreamFirst};
 ghost use Rattle.memberlist_wrap.specs.Wrapping.{Unwraps};
 ghost use Rattle.swim_program.specs.Limits.{most_bytes};
@@ -93,7 +95,7 @@ fn opened_stream(alloc: Global, keys: &Keyring, bytes: &[u8]) -> Result<Vec<u8>,
         × IsClearStream inner stream.items) }
     ensures err { IfErr result (λ what. what ≢ What.Memory
         → ((fault : CipherFault) × ((inner : List ℕ) → ¬ OpensStream keys.now bytes.now inner)
-        × (what ≡ what_of_cipher fault))
+        × IsRefused StreamCause keys.now bytes.now fault × (what ≡ what_of_cipher fault))
         ⊎ ((inner : List ℕ) × OpensStreamFirst keys.now bytes.now inner
         × ExplainsClear inner what)) }
 {

@@ -6,11 +6,13 @@ mod texts;
 mod words;
 
 use crate::cause::Cause;
-use crate::lines::unwrap_lines;
+use crate::lines::{Unwrapped, unwrap_lines};
 use memberlist_keyring::Keyring;
 use memberlist_wrap::WrapFault;
+use std::alloc::Global;
+use std::process::Abort;
 use std::test::Fail;
-use swim_program::{What, status};
+use swim_program::{Report, What, status};
 
 /// An alive packet of `a`, and what Go's hash/crc32 and compress/lzw make of it as memberlist does:
 /// a checksum, a compression, and a checksum round a compression.
@@ -34,17 +36,47 @@ const CLAIMLESS: [&str; 4] = [
     "0b81a55365714e6f0a",
 ];
 
+/// That the bytes are those that are wanted.
+fn assert_bytes(rt: &impl Abort, found: &[u8], wanted: &[u8], about: &str) {
+    assert_eq!(rt; found, wanted, "{about}");
+}
+
+/// That lines were left out for these causes.
+fn assert_causes(rt: &impl Abort, found: &[Cause], wanted: &[Cause], about: &str) {
+    assert_eq!(rt; found, wanted, "{about}");
+}
+
+/// The keys of a file of these lines.
+fn keyring(alloc: Global, text: &str) -> Result<Keyring, Fail> {
+    let mut keys = Keyring::new(alloc);
+    keys.add_file(alloc, text.as_bytes())?;
+    Ok(keys)
+}
+
+/// What becomes of an input under these keys.
+fn unwrapped(alloc: Global, keys: &str, input: &str, skip: bool) -> Result<Unwrapped, Fail> {
+    let keys = keyring(alloc, keys)?;
+    Ok(unwrap_lines(alloc, &keys, input.as_bytes(), skip)?)
+}
+
+/// That the input becomes this text under these keys, and nothing is left out of it.
+fn assert_becomes(
+    rt: &impl Abort,
+    alloc: Global,
+    keys: &str,
+    input: &str,
+    wanted: &str,
+) -> Result<(), Fail> {
+    let unwrapped = unwrapped(alloc, keys, input, true)?;
+    assert_bytes(rt, unwrapped.text(), wanted.as_bytes(), input);
+    assert_causes(rt, unwrapped.left_out(), &[], input);
+    Ok(())
+}
+
 #[test]
 fn what_makes_claims_is_unwrapped(rt: HostRuntime) -> Result<(), Fail> {
     for line in [ALIVE, CHECKED, COMPRESSED, BOTH] {
-        let unwrapped = unwrap_lines(
-            rt.alloc(),
-            &Keyring::new(rt.alloc()),
-            line.as_bytes(),
-            false,
-        )?;
-        assert_eq!(rt; unwrapped.text(), ALIVE.as_bytes(), "{line}");
-        assert!(rt; unwrapped.left_out().is_empty());
+        assert_becomes(&rt, rt.alloc(), "", line, ALIVE)?;
     }
     Ok(())
 }
@@ -52,10 +84,21 @@ fn what_makes_claims_is_unwrapped(rt: HostRuntime) -> Result<(), Fail> {
 #[test]
 fn what_makes_none_is_an_empty_line(rt: HostRuntime) -> Result<(), Fail> {
     for line in CLAIMLESS {
-        let unwrapped = unwrap_lines(rt.alloc(), &Keyring::new(rt.alloc()), line.as_bytes(), true)?;
-        assert_eq!(rt; unwrapped.text().len(), 0, "{line}");
-        assert!(rt; unwrapped.left_out().is_empty());
+        assert_becomes(&rt, rt.alloc(), "", line, "")?;
     }
+    Ok(())
+}
+
+/// That the input becomes this text without keys.
+fn assert_text(
+    rt: &impl Abort,
+    alloc: Global,
+    input: &str,
+    skip: bool,
+    wanted: &str,
+) -> Result<(), Fail> {
+    let unwrapped = unwrapped(alloc, "", input, skip)?;
+    assert_bytes(rt, unwrapped.text(), wanted.as_bytes(), input);
     Ok(())
 }
 
@@ -69,21 +112,23 @@ fn each_line_becomes_a_line(rt: HostRuntime) -> Result<(), Fail> {
         ("0x\r", "0x\r", ""),
         ("0c00000000\n0c00000001\n", "\n0c00000001\n", "\n\n"),
     ] {
-        let unwrapped = unwrap_lines(
-            rt.alloc(),
-            &Keyring::new(rt.alloc()),
-            input.as_bytes(),
-            false,
-        )?;
-        assert_eq!(rt; unwrapped.text(), kept.as_bytes(), "{input:?}");
-        let unwrapped = unwrap_lines(
-            rt.alloc(),
-            &Keyring::new(rt.alloc()),
-            input.as_bytes(),
-            true,
-        )?;
-        assert_eq!(rt; unwrapped.text(), skipped.as_bytes(), "{input:?}");
+        assert_text(&rt, rt.alloc(), input, false, kept)?;
+        assert_text(&rt, rt.alloc(), input, true, skipped)?;
     }
+    Ok(())
+}
+
+/// That the line is left out under these keys, for this cause.
+fn assert_left_out(
+    rt: &impl Abort,
+    alloc: Global,
+    keys: &str,
+    line: &str,
+    cause: Cause,
+) -> Result<(), Fail> {
+    let unwrapped = unwrapped(alloc, keys, line, true)?;
+    assert_causes(rt, unwrapped.left_out(), &[cause], line);
+    assert_bytes(rt, unwrapped.text(), b"", line);
     Ok(())
 }
 
@@ -105,37 +150,23 @@ fn what_cannot_be_read_is_left_out_with_its_cause(rt: HostRuntime) -> Result<(),
         ("0a", Cause::NoMessage(10)),
         ("06", Cause::NoMessage(6)),
     ] {
-        let unwrapped = unwrap_lines(rt.alloc(), &Keyring::new(rt.alloc()), line.as_bytes(), true)?;
-        assert_eq!(rt; unwrapped.left_out(), [cause].as_slice(), "{line}");
-        assert!(rt; unwrapped.text().is_empty());
-        let unwrapped = unwrap_lines(
-            rt.alloc(),
-            &Keyring::new(rt.alloc()),
-            line.as_bytes(),
-            false,
-        )?;
-        assert_eq!(rt; unwrapped.text(), line.as_bytes());
+        assert_left_out(&rt, rt.alloc(), "", line, cause)?;
+        assert_text(&rt, rt.alloc(), line, false, line)?;
     }
     Ok(())
 }
 
+/// Why the lines are refused, if they are.
+fn refusal(alloc: Global, input: &str) -> Option<Report> {
+    unwrap_lines(alloc, &Keyring::new(alloc), input.as_bytes(), false).err()
+}
+
 #[test]
 fn want_of_memory_is_answered_as_such_and_then_repeated(rt: HostRuntime) -> Result<(), Fail> {
-    if let Err(report) = unwrap_lines(
-        rt.alloc(),
-        &Keyring::new(rt.alloc()),
-        BOTH.as_bytes(),
-        false,
-    ) {
+    if let Some(report) = refusal(rt.alloc(), BOTH) {
         assert_eq!(rt; report.what, What::Memory);
         assert_eq!(rt; status(&report), 5);
-        let unwrapped = unwrap_lines(
-            rt.alloc(),
-            &Keyring::new(rt.alloc()),
-            BOTH.as_bytes(),
-            false,
-        )?;
-        assert_eq!(rt; unwrapped.text(), ALIVE.as_bytes());
+        assert_text(&rt, rt.alloc(), BOTH, false, ALIVE)?;
     }
     Ok(())
 }

@@ -1,20 +1,20 @@
 //! Lines and streams that are encrypted, as Go's crypto/aes and crypto/cipher make them.
 
-use super::ALIVE;
+use super::{ALIVE, assert_becomes, assert_bytes, assert_left_out, keyring};
 use crate::cause::Cause;
-use crate::lines::{Unwrapped, unwrap_lines};
 use crate::stream::unwrap_stream;
-use memberlist_keyring::Keyring;
 use std::alloc::Global;
+use std::process::Abort;
 use std::test::Fail;
 use swim_program::What;
 
-/// Keys of 32 and of 16 bytes, and one of 24 that encrypted nothing here.
+/// A key of 32 bytes, one of 24 that encrypted nothing here, and that, one of 16 bytes and the first.
 const KEY: &str = "AAECAwQFBgcICQoLDA0ODxAREhMUFRYXGBkaGxwdHh8=";
 
-const SHORT_KEY: &str = "AAECAwQFBgcICQoLDA0ODw==";
-
 const OTHER_KEY: &str = "AAAAAAAAAAAAAAAAAAAAAAAAAAAAAAAA";
+
+const THREE_KEYS: &str =
+    "AAAAAAAAAAAAAAAAAAAAAAAAAAAAAAAA\nAAECAwQFBgcICQoLDA0ODw==\nAAECAwQFBgcICQoLDA0ODxAREhMUFRYXGBkaGxwdHh8=\n";
 
 /// The alive packet of `a`, of version 1, and of version 0 with a checksum.
 const SEALED: &str =
@@ -47,34 +47,29 @@ const LABELLED_STREAM: &str =
 const ACK_STREAM: &str =
     "0a0000002f016e6f6e63652d6e756d6265723f24a82c73fb6e8007e572601a4dee56ab8f2b2c23af1a5a34fd34c8c1ce29aa11ed";
 
-/// The keys of a file of these lines.
-fn keyring(alloc: Global, text: &str) -> Result<Keyring, Fail> {
-    let mut keys = Keyring::new(alloc);
-    keys.add_file(alloc, text.as_bytes())?;
-    Ok(keys)
-}
+/// A stream of version 0 whose deciphered bytes, 16 zeros, end in no padding.
+const UNPADDED_STREAM: &str =
+    "0a0000002d006e6f6e63652d6e756d6265723da60f7c128202ef6681b2c549289f18599d13c1b4a6f475711651e8bfee697f";
 
-/// What becomes of a line, where what cannot be read is left out.
-fn unwrapped(alloc: Global, keys: &str, line: &str) -> Result<Unwrapped, Fail> {
-    let keys = keyring(alloc, keys)?;
-    Ok(unwrap_lines(alloc, &keys, line.as_bytes(), true)?)
-}
+/// The key that the stream is encrypted under and another one, in both orders.
+const LAST_OTHER: &str =
+    "AAECAwQFBgcICQoLDA0ODxAREhMUFRYXGBkaGxwdHh8=\nAAAAAAAAAAAAAAAAAAAAAAAAAAAAAAAA";
+
+const LAST_OWN: &str =
+    "AAAAAAAAAAAAAAAAAAAAAAAAAAAAAAAA\nAAECAwQFBgcICQoLDA0ODxAREhMUFRYXGBkaGxwdHh8=";
 
 #[test]
 fn what_a_key_opens_is_unwrapped(rt: HostRuntime) -> Result<(), Fail> {
     for line in [SEALED, CHECKED, LABELLED, ALIVE] {
-        let unwrapped = unwrapped(rt.alloc(), KEY, line)?;
-        assert_eq!(rt; unwrapped.text(), ALIVE.as_bytes(), "{line}");
+        assert_becomes(&rt, rt.alloc(), KEY, line, ALIVE)?;
     }
     Ok(())
 }
 
 #[test]
 fn keys_are_tried_in_order(rt: HostRuntime) -> Result<(), Fail> {
-    let keys = format!(in rt.alloc(); "{OTHER_KEY}\n{SHORT_KEY}\n{KEY}\n")?;
     for line in [SEALED, UNDER_SHORT] {
-        let unwrapped = unwrapped(rt.alloc(), &keys, line)?;
-        assert_eq!(rt; unwrapped.text(), ALIVE.as_bytes(), "{line}");
+        assert_becomes(&rt, rt.alloc(), THREE_KEYS, line, ALIVE)?;
     }
     Ok(())
 }
@@ -83,10 +78,7 @@ fn keys_are_tried_in_order(rt: HostRuntime) -> Result<(), Fail> {
 fn a_message_without_claims_is_an_empty_line_behind_its_key_too(
     rt: HostRuntime,
 ) -> Result<(), Fail> {
-    let unwrapped = unwrapped(rt.alloc(), KEY, ACK)?;
-    assert!(rt; unwrapped.text().is_empty());
-    assert!(rt; unwrapped.left_out().is_empty());
-    Ok(())
+    assert_becomes(&rt, rt.alloc(), KEY, ACK, "")
 }
 
 #[test]
@@ -100,17 +92,37 @@ fn what_no_key_opens_is_left_out_by_its_cause(rt: HostRuntime) -> Result<(), Fai
         ("", SEALED, Cause::NoMessage(1)),
         ("", CHECKED, Cause::NoMessage(0)),
     ] {
-        let unwrapped = unwrapped(rt.alloc(), keys, line)?;
-        assert_eq!(rt; unwrapped.left_out(), [cause].as_slice(), "{line}");
+        assert_left_out(&rt, rt.alloc(), keys, line, cause)?;
     }
     Ok(())
 }
 
+/// What the bytes hold under these keys, as a stream.
+fn stream_in(alloc: Global, keys: &str, bytes: &[u8]) -> Result<Result<Vec<u8>, What>, Fail> {
+    let keys = keyring(alloc, keys)?;
+    Ok(unwrap_stream(alloc, &keys, bytes))
+}
+
 /// The stream that this is under these keys.
 fn stream(alloc: Global, keys: &str, text: &str) -> Result<Result<Vec<u8>, What>, Fail> {
-    let keys = keyring(alloc, keys)?;
     let bytes = hex::decode(alloc, text)?;
-    Ok(unwrap_stream(alloc, &keys, &bytes))
+    stream_in(alloc, keys, &bytes)
+}
+
+/// That it is this stream under the key.
+fn assert_stream(rt: &impl Abort, alloc: Global, text: &str, wanted: &str) -> Result<(), Fail> {
+    let stream = stream(alloc, KEY, text)??;
+    let digits = hex::encode(alloc, &stream)?;
+    assert_bytes(rt, digits.as_bytes(), wanted.as_bytes(), text);
+    Ok(())
+}
+
+/// Why it is no stream under these keys.
+fn refusal(rt: &impl Abort, alloc: Global, keys: &str, text: &str) -> Result<What, Fail> {
+    match stream(alloc, keys, text)?.err().expect(rt, "a refusal") {
+        What::Memory => Err(Fail::from(What::Memory)),
+        what => Ok(what),
+    }
 }
 
 #[test]
@@ -118,8 +130,7 @@ fn a_stream_that_a_key_opens_is_unwrapped(rt: HostRuntime) -> Result<(), Fail> {
     let wanted =
         "0683a44a6f696ec2a54e6f64657301ac5573657253746174654c656e0087a441646472a47f000001ab496e6361726e6174696f6e00a44d657461a0a44e616d65a161a4506f7274cd1f0aa5537461746500a356736ea0";
     for text in [STREAM, LABELLED_STREAM] {
-        let stream = stream(rt.alloc(), KEY, text)??;
-        assert_eq!(rt; hex::encode(rt.alloc(), &stream)?.as_str(), wanted);
+        assert_stream(&rt, rt.alloc(), text, wanted)?;
     }
     Ok(())
 }
@@ -132,12 +143,12 @@ fn a_stream_that_no_key_opens_is_refused(rt: HostRuntime) -> Result<(), Fail> {
         (KEY, "0a000000", 52, None),
         (KEY, "0a0000000000", 57, None),
         (KEY, ACK_STREAM, 16, Some(2)),
+        // the last key's fault
+        (LAST_OTHER, UNPADDED_STREAM, 54, None),
+        (LAST_OWN, UNPADDED_STREAM, 55, None),
     ] {
-        match stream(rt.alloc(), keys, text)? {
-            Ok(_) => panic!(rt; "{text} is taken"),
-            Err(What::Memory) => return Err(Fail::from(What::Memory)),
-            Err(what) => assert_eq!(rt; what, What::Refused { number, found }, "{text}"),
-        }
+        let what = refusal(&rt, rt.alloc(), keys, text)?;
+        assert_eq!(rt; what, What::Refused { number, found }, "{text}");
     }
     Ok(())
 }

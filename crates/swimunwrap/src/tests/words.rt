@@ -1,8 +1,9 @@
 //! The words of the command line.
 
 use crate::command_line::chosen;
-use crate::verb::Verb;
-use std::alloc::Global;
+use crate::verb::{Chosen, Verb};
+use std::alloc::{AllocError, Global};
+use std::process::Abort;
 use std::test::Fail;
 use swim_program::WordFault;
 
@@ -50,7 +51,7 @@ const REFUSED: [&[&str]; 11] = [
     &["stream", "--help"],
 ];
 
-fn texts(alloc: Global, words: &[&str]) -> Result<Vec<String>, Fail> {
+fn texts(alloc: Global, words: &[&str]) -> Result<Vec<String>, AllocError> {
     let mut texts = Vec::new(alloc);
     for word in words {
         texts.push(String::from_str(alloc, word)?)?;
@@ -58,44 +59,70 @@ fn texts(alloc: Global, words: &[&str]) -> Result<Vec<String>, Fail> {
     Ok(texts)
 }
 
+/// What words ask for.
+fn choice(alloc: Global, words: &[&str]) -> Result<Chosen, WordFault> {
+    let words = texts(alloc, words)?;
+    chosen(alloc, words.as_slice())
+}
+
+fn assert_files(rt: &impl Abort, files: &[String], wanted: &[&str]) {
+    assert_eq!(rt; files.len(), wanted.len());
+    for (file, word) in files.iter().zip(wanted) {
+        assert_eq!(rt; file.as_str(), *word);
+    }
+}
+
+/// That the words ask for this, with these files and files of keys.
+fn assert_taken(
+    rt: &impl Abort,
+    alloc: Global,
+    words: &[&str],
+    verb: Verb,
+    (files, key_files): (&[&str], &[&str]),
+) -> Result<(), Fail> {
+    let chosen = choice(alloc, words)?;
+    assert_eq!(rt; chosen.verb(), verb, "{words:?}");
+    assert_files(rt, chosen.files(), files);
+    assert_files(rt, chosen.key_files(), key_files);
+    Ok(())
+}
+
 #[test]
 fn words_ask_for_a_verb_and_its_file(rt: HostRuntime) -> Result<(), Fail> {
-    let alloc = rt.alloc();
     for (words, verb, files, key_files) in TAKEN {
-        let words = texts(alloc, words)?;
-        match chosen(alloc, words.as_slice()) {
-            Ok(chosen) => {
-                assert_eq!(rt; chosen.verb(), verb);
-                assert_eq!(rt; chosen.files().len(), files.len());
-                for (file, wanted) in chosen.files().iter().zip(files) {
-                    assert_eq!(rt; file.as_str(), *wanted);
-                }
-                assert_eq!(rt; chosen.key_files().len(), key_files.len());
-                for (file, wanted) in chosen.key_files().iter().zip(key_files) {
-                    assert_eq!(rt; file.as_str(), *wanted);
-                }
-            }
-            Err(fault) => return Err(Fail::from(fault)),
-        }
+        assert_taken(&rt, rt.alloc(), words, verb, (files, key_files))?;
     }
     Ok(())
 }
 
-/// The text with which words are refused, or none where they are taken.
-fn refusal(alloc: Global, words: &[&str]) -> Result<Option<String>, Fail> {
-    let words = texts(alloc, words)?;
-    match chosen(alloc, words.as_slice()) {
-        Ok(_chosen) => Ok(None),
-        Err(WordFault::Words(error)) => Ok(Some(format!(in alloc; "{error}")?)),
+/// The text with which words are refused.
+fn refusal(rt: &impl Abort, alloc: Global, words: &[&str]) -> Result<String, Fail> {
+    match choice(alloc, words) {
+        Ok(_chosen) => panic!(rt; "{words:?} are taken"),
+        Err(WordFault::Words(error)) => Ok(format!(in alloc; "{error}")?),
         Err(WordFault::Memory) => Err(Fail::from(WordFault::Memory)),
     }
+}
+
+/// That words are refused with a text that has each of these parts.
+fn assert_refused(
+    rt: &impl Abort,
+    alloc: Global,
+    words: &[&str],
+    parts: &[&str],
+) -> Result<(), Fail> {
+    let text = refusal(rt, alloc, words)?;
+    assert!(rt; !text.is_empty(), "{words:?}");
+    for part in parts {
+        assert!(rt; text.contains(part), "{part:?} in {text}");
+    }
+    Ok(())
 }
 
 #[test]
 fn other_words_are_refused_with_a_text(rt: HostRuntime) -> Result<(), Fail> {
     for words in REFUSED {
-        let text = refusal(rt.alloc(), words)?.expect(&rt, "a refusal");
-        assert!(rt; !text.is_empty(), "{words:?}");
+        assert_refused(&rt, rt.alloc(), words, &[])?;
     }
     Ok(())
 }
@@ -105,19 +132,20 @@ fn help_and_version_tell_what_there_is(rt: HostRuntime) -> Result<(), Fail> {
     let asked: [(&[&str], &[&str]); 3] = [
         (
             &["--help"],
-            &["stream", "--skip", "hexadecimal", "encrypted"],
+            &["stream", "--skip", "--key-file", "hexadecimal", "encrypted"],
         ),
         (&["--version"], &["swimunwrap 0.1.0", "rattle-kit-13f"]),
         (
             &["stream", "--help"],
-            &["swimunwrap stream [OPTIONS] [FILE]", "Example"],
+            &[
+                "swimunwrap stream [OPTIONS] [FILE]",
+                "--key-file",
+                "Example",
+            ],
         ),
     ];
-    for (words, wanted) in asked {
-        let text = refusal(rt.alloc(), words)?.expect(&rt, "a text");
-        for part in wanted {
-            assert!(rt; text.contains(part), "{part:?} in {text}");
-        }
+    for (words, parts) in asked {
+        assert_refused(&rt, rt.alloc(), words, parts)?;
     }
     Ok(())
 }

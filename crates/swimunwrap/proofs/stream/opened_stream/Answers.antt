@@ -1,5 +1,7 @@
 use Rattle.std.proofs.Common.{◌∙◌, inl, inr, ap, rules}
 use Rattle.std.proofs.lemmas.Result.{IfOk-weaker, IfErr-weaker}
+use Rattle.std.specs.Prelude.{◌≢◌}
+use Rattle.memberlist_cipher.specs.declared.fault.CipherFault.TheVariants.{Memory}
 use Rattle.memberlist_keyring.specs.Opening.{OpensStreamFirst}
 use Rattle.swimunwrap.specs.Stream.{what_of_cipher}
 use Rattle.swimunwrap.proofs.stream.opened_stream.Goals as goal
@@ -16,4 +18,6 @@ returns-in-Ok-clause-err c =
 
 pub returns-in-Err-clause-err : goal.returns-in-Err-clause-err
 returns-in-Err-clause-err c =
-    λ seen. inl (c.in-Err.fault, c.in-Err.ensures.lacks (λ memory. seen (c.what_of_cipher.ensures ∙ ap what_of_cipher memory)), c.what_of_cipher.ensures)
+    λ seen.
+    let other : c.in-Err.fault ≢ Memory = λ memory. seen (c.what_of_cipher.ensures ∙ ap what_of_cipher memory) in
+    inl (c.in-Err.fault, c.in-Err.ensures.lacks other, c.in-Err.ensures.explains other, c.what_of_cipher.ensures)
