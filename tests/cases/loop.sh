@@ -119,3 +119,18 @@ run loop over.bin cut.bin
 refuses 'loop: the first file is too long' 3 'swimtab: over.bin: fault 32 InputTooLong'
 run loop p.bin over.bin
 refuses 'loop: the second file is too long' 3 'swimtab: over.bin: fault 32 InputTooLong'
+
+# The exchange as a whole has 10 seconds, also if each of its reads brings a byte after a second.
+if command -v cc > /dev/null; then
+    cc -shared -fPIC -O2 -o slow_reads.so "$here/c/slow_reads.c" -ldl
+    begun=$(date +%s)
+    LD_PRELOAD=$PWD/slow_reads.so timeout 120 "$program" loop p.bin q.bin > out 2> err
+    status=$?
+    waited=$(($(date +%s) - begun))
+    refuses 'loop: a peer that sends little by little is given up' 4 'swimtab: loop: device fault'
+    fault=
+    [ "$waited" -ge 9 ] && [ "$waited" -le 30 ] || fault="; it took $waited seconds"
+    count 'loop: the peer is given up after 10 seconds' "$fault"
+else
+    echo 'skipped: a peer of loop that sends little by little, since there is no cc'
+fi

@@ -1,8 +1,11 @@
 -- The claims of the lines, one line after the other.
-use Rattle.std.proofs.Common.{◌≡◌, ℕ, ◌+◌, ◌<◌, List, [], ◌∷◌, ◌++◌, length, map, get_or, Result, Ok, Err, OnOk, IfErr, ◌≢◌, refl, sym, ap, ap₂, subst, ◌∙◌, take, length-take-le, append_assoc, append-nil, zero, suc, drop, arith}
+use Rattle.std.proofs.Common.{◌≡◌, ◌⊎◌, inl, inr, ℕ, ◌+◌, ◌<◌, List, [], ◌∷◌, ◌++◌, length, map, get_or, Result, Ok, Err, OnOk, IfErr, ◌≢◌, refl, sym, ap, ap₂, subst, ◌∙◌, take, length-take-le, append_assoc, append-nil, zero, suc, drop, arith}
 use Rattle.std.specs.List.{enumerate_from}
+use Rattle.std.specs.Str.Lines.{strip_carriage_return}
 use Rattle.std.proofs.lemmas.List.FromFn.{length-enumerate_from, get_or-enumerate_from}
 use Rattle.hex.specs.Hex.{decode_of}
+use Rattle.hex.specs.declared.error.FromHexError.{FromHexError}
+use Rattle.hex.specs.declared.error.FromHexError.TheVariants.{OutOfMemory}
 use Rattle.swim_claim.specs.declared.claim.Claim.{Claim}
 use Rattle.swim_wire.specs.Packet.{PacketValue}
 use Rattle.swim_wire.specs.Texts.{DatagramText}
@@ -13,7 +16,9 @@ use Rattle.swim_program.specs.declared.report.What.{What}
 use Rattle.swim_program.specs.declared.report.What.TheVariants.{Memory}
 use Rattle.swim_program.specs.declared.report.Place.TheVariants.{Line}
 use Rattle.swim_program.specs.Lines.{input_lines}
-use Rattle.swimtab.specs.Lines.{TextClaims, LineClaims, EachLine, IsFirstWrong}
+use Rattle.swim_program.specs.Report.{TellsDatagram, what_of_hex}
+use Rattle.swimtab.specs.Lines.TellsText.{no_hex, no_datagram}
+use Rattle.swimtab.specs.Lines.{TextClaims, LineClaims, EachLine, TellsText, IsFirstWrong}
 
 -- the packets of the bytes of a text make its claims
 pub text_claims : (text bytes : List ℕ) (packets : List PacketValue) (claims : List Claim) → 0 < length text → decode_of text ≡ Ok bytes
@@ -46,6 +51,19 @@ pub text_refused : {X : Type 0} (text bytes : List ℕ) (result : Result X What)
 text_refused text bytes (Ok done) some e none = tt
 text_refused text bytes (Err what) some e none = λ seen claims. no_text_claims text bytes claims some e (none seen)
 
+-- what is said of a text that is no hexadecimal
+pub text_no_hex : (text : List ℕ) (error : FromHexError) (what : What) → (error ≡ OutOfMemory) ⊎ (decode_of text ≡ Err error)
+    → what ≡ what_of_hex error → what ≢ Memory → TellsText text what
+text_no_hex text OutOfMemory what why is seen = absurd (seen is)
+text_no_hex text error what (inl same) is seen = absurd cc
+text_no_hex text error what (inr none) is seen = no_hex error none is
+
+-- what is said of the bytes of a text is said of the text
+pub text_told : {X : Type 0} (text bytes : List ℕ) (result : Result X What) → decode_of text ≡ Ok bytes
+    → IfErr result (λ what. what ≢ Memory → TellsDatagram bytes what) → IfErr result (λ what. what ≢ Memory → TellsText text what)
+text_told text bytes (Ok done) e told = tt
+text_told text bytes (Err what) e told = λ seen. no_datagram bytes e (told seen)
+
 -- one more line
 pub EachLine-push : (lines : List (List ℕ)) (line : List ℕ) (claims own : List Claim) → EachLine lines claims
     → LineClaims line own → EachLine (lines ++ line ∷ []) (claims ++ own)
@@ -71,11 +89,12 @@ no_claims_at lines n index line claims here none each =
     none own.0 (subst (λ l. LineClaims l own.0) (sym same) own.1)
 
 -- a line that makes no claims, after lines that make some
-pub first_wrong : (input : List ℕ) (before : List (List ℕ)) (n index : ℕ) (line : List ℕ) (claims : List Claim) (place : Place)
+pub first_wrong : (input : List ℕ) (before : List (List ℕ)) (n index : ℕ) (line : List ℕ) (claims : List Claim) (place : Place) (what : What)
     → before ≡ take n (input_lines input)
     → (n < length (enumerate_from 0 (input_lines input))) × ((index, line) ≡ get_or (enumerate_from 0 (input_lines input)) n (index, line))
-    → EachLine before claims → ((own : List Claim) → ¬ LineClaims line own) → place ≡ Line (index + 1) → IsFirstWrong input place
-first_wrong input before n index line claims place front here each none named =
+    → EachLine before claims → ((own : List Claim) → ¬ LineClaims line own) → TellsText (strip_carriage_return line) what
+    → place ≡ Line (index + 1) → IsFirstWrong input place what
+first_wrong input before n index line claims place what front here each none told named =
     let lines = input_lines input in
     let within : n < length lines = omega (arith, here.0, length-enumerate_from 0 lines) in
     let at : (index, line) ≡ (0 + n, get_or lines n line) = here.1 ∙ get_or-enumerate_from 0 lines n (index, line) within in
@@ -89,5 +108,6 @@ first_wrong input before n index line claims place front here each none named =
       claims = claims;
       right = each;
       wrong = none;
+      told = told;
       named = named ∙ ap Line (omega (arith, counted, many));
     }

@@ -148,6 +148,13 @@ tables_after nodes new starts events are r =
     subst (λ (members : List Member). TablesOf new (heard members (map start_claims starts) events))
     (started_members nodes starts are) (r.tables (map start_claims starts) (started_tables nodes starts are))
 
+-- each of the events could happen
+could_happen : (nodes new : List NodeValue) (starts : List Start) (events : List Event) → AreStarted nodes starts
+    → Ran nodes new events → EachCanHappen (map started_member starts) (map start_claims starts) events
+could_happen nodes new starts events are r =
+    subst (λ (members : List Member). EachCanHappen members (map start_claims starts) events) (started_members nodes starts are)
+    (r.could (map start_claims starts) (started_tables nodes starts are))
+
 pub replayed : (input text : List ℕ) (nodes new : List NodeValue) (starts : List Start) (events : List Event)
     → AreStarted nodes starts → Script input starts events → Ran nodes new events
     → text ≡ shown_from 0 (map (λ n. n.table) new) → Replays input text
@@ -155,8 +162,7 @@ replayed input text nodes new starts events are script r shown = record {
   starts = starts;
   events = events;
   script = script;
-  could = subst (λ (members : List Member). EachCanHappen members (map start_claims starts) events) (started_members nodes starts are)
-      (r.could (map start_claims starts) (started_tables nodes starts are));
+  could = could_happen nodes new starts events are r;
   tables = map (λ n. n.table) new;
   each = each_table new (heard_after starts events) (tables_after nodes new starts events are r);
   shown = shown;
@@ -202,6 +208,7 @@ refused_event input nodes starts events numbers level report are script each (ne
   events = events;
   script = script;
   done = stop.done;
+  could = could_happen nodes new starts (take stop.done events) are stopped.ran;
   event = stopped.why.0;
   at = stopped.why.1;
   refuses = subst (Refuses (heard_after starts (take stop.done events)) stopped.why.0) (sym is)

@@ -1,13 +1,17 @@
 -- The claims that the lines of an input make.
-use Rattle.std.specs.Prelude.{◌≡◌, ℕ, ◌+◌, List, [], ◌∷◌, ◌++◌, length, map, Ok}
+use Rattle.std.specs.Prelude.{◌≡◌, ℕ, ◌+◌, List, [], ◌∷◌, ◌++◌, length, map, Ok, Err, None}
 use Rattle.std.specs.Str.Lines.{strip_carriage_return}
 use Rattle.hex.specs.Hex.{decode_of}
+use Rattle.hex.specs.declared.error.FromHexError.{FromHexError}
 use Rattle.swim_claim.specs.declared.claim.Claim.{Claim}
 use Rattle.swim_wire.specs.Packet.{PacketValue}
 use Rattle.swim_wire.specs.Texts.{DatagramText}
 use Rattle.swim_program.specs.declared.report.Place.{Place}
 use Rattle.swim_program.specs.declared.report.Place.TheVariants.{Line}
+use Rattle.swim_program.specs.declared.report.What.{What}
+use Rattle.swim_program.specs.declared.report.What.TheVariants.{Refused}
 use Rattle.swim_program.specs.Lines.{input_lines}
+use Rattle.swim_program.specs.Report.{TellsDatagram}
 
 -- a text that is not empty is the hexadecimal of a datagram whose packets make these claims; an
 -- empty one makes none
@@ -32,8 +36,16 @@ EachLine (line ∷ lines) claims =
 abbrev pub PacketLines : List ℕ → List Claim → Type 0
 PacketLines input claims = EachLine (input_lines input) claims
 
--- The place is the first line that makes no claims, counted from 1.
-pub record IsFirstWrong (input : List ℕ) (place : Place) : Type 0 where
+-- What is said of a text that makes no claims: that it is no hexadecimal, or the fault at which the
+-- reading of its bytes stops.
+pub data TellsText (text : List ℕ) (what : What) : Type 0 where
+  no_hex : (error : FromHexError) → decode_of text ≡ Err error → what ≡ Refused 30 None
+      → TellsText text what
+  no_datagram : (bytes : List ℕ) → decode_of text ≡ Ok bytes → TellsDatagram bytes what
+      → TellsText text what
+
+-- The place is the first line that makes no claims, counted from 1, and this is said of it.
+pub record IsFirstWrong (input : List ℕ) (place : Place) (what : What) : Type 0 where
   pub before : List (List ℕ)
   pub line : List ℕ
   pub after : List (List ℕ)
@@ -41,4 +53,5 @@ pub record IsFirstWrong (input : List ℕ) (place : Place) : Type 0 where
   pub claims : List Claim
   pub right : EachLine before claims
   pub wrong : (own : List Claim) → ¬ LineClaims line own
+  pub told : TellsText (strip_carriage_return line) what
   pub named : place ≡ Line (length before + 1)

@@ -61,13 +61,15 @@ Refuses lists event (Refused number found) =
 Refuses lists event Device = ⊥
 Refuses lists event Memory = Unit {0}
 
--- The input is a script with an event that does not happen after those before it, and the place
--- names the line that it comes with.
+-- The input is a script whose first event that does not happen is this one, and the place names the
+-- line that it comes with.
 pub record RefusedEvent (input : List ℕ) (report : Report) : Type 0 where
   pub starts : List Start
   pub events : List Event
   pub script : Script input starts events
   pub done : ℕ
+  pub could : EachCanHappen (map started_member starts) (map start_claims starts)
+      (take done events)
   pub event : Event
   pub at : slice_get events done ≡ Some event
   pub refuses : Refuses (heard_after starts (take done events)) event report.what

@@ -8,10 +8,12 @@ ghost use Rattle.swimtab.specs.Looping.{FitsLoop, IsLoopTable, IsLoopRefused, Ta
 ghost use Rattle.swim_program.specs.Report.{IsAmong, what_of};
 
 use crate::dumps::{check_length, table_of_file};
+use crate::patience::Until;
 use std::alloc::{AllocError, Global};
 use std::io;
+use std::io::{Error, ErrorKind};
 use std::net::{Ipv4Addr, TcpListener, TcpStream};
-use std::time::Duration;
+use std::time::{Clock, Duration, Instant};
 use swim_pack::{FromRead, ToWrite};
 use swim_program::{Place, Report, What};
 use swim_sync::{answer, finish, offer};
@@ -20,7 +22,7 @@ use swim_table::{EncodeFault, Relation, Table, encode, list, relation};
 /// The most bytes of a canonical dump that is sent over a connection to this process itself.
 const MOST_BYTES: usize = 16_384;
 
-/// How many seconds one read or write over the connection waits.
+/// How many seconds the reads and writes of one exchange wait in all.
 const PATIENCE: u64 = 10;
 
 /// The table of a dump for [`looped`]: a file that is one push/pull stream, and whose table has a
@@ -74,9 +76,11 @@ pub fn local_listener(rt: &HostRuntime) -> Result<TcpListener, Report>
 /// table answers on the connection that the listener gives next: where another one was made before,
 /// that one.
 ///
-/// A report says, at the loop, that there was no connection, that it failed or kept silent for 10
-/// seconds (both a device fault), with which fault no stream came over it, or that memory was
-/// refused; and at the output that there was no memory for the listing. TooManyRecords never comes.
+/// The exchange may take 10 seconds in all (own), however many reads and writes that is.
+///
+/// A report says, at the loop, that there was no connection, that it failed or was not done in time
+/// (both a device fault), with which fault no stream came over it, or that memory was refused; and
+/// at the output that there was no memory for the listing. TooManyRecords never comes.
 pub fn looped(
     rt: &HostRuntime,
     listener: TcpListener,
@@ -92,12 +96,14 @@ pub fn looped(
     ensures stops { IfErr result IsLoopStopped }
     ensures place { IfErr result (λ report. IsAmong report.place 0) }
 {
-    looped_within(rt, listener, first, second, Duration::from_secs(PATIENCE))
+    let patience = Duration::from_secs(PATIENCE);
+    looped_within(rt, rt, listener, first, second, patience)
 }
 
-/// The same, where a connection that keeps silent is given up after this time.
-pub(crate) fn looped_within(
+/// The same, where the exchange is given up after this time by the clock.
+pub(crate) fn looped_within<C: Clock>(
     rt: &HostRuntime,
+    clock: &C,
     listener: TcpListener,
     first: Table,
     second: Table,
@@ -111,7 +117,14 @@ pub(crate) fn looped_within(
 {
     let mut first = first;
     let mut second = second;
-    if let Err(what) = exchange_over_socket(rt, &listener, &mut first, &mut second, patience) {
+    if let Err(what) = exchange_over_socket(
+        rt,
+        clock,
+        &listener,
+        &mut first,
+        &mut second,
+        patience,
+    ) {
         return Err(what.at(Place::Loop));
     }
     match list(rt.alloc(), &first) {
@@ -124,9 +137,10 @@ pub(crate) fn looped_within(
 ///
 /// Each side writes its whole dump before the other side reads it. Nobody waits, since a dump of at
 /// most 16,384 bytes fits the buffers of the sockets; but where the listener gives the connection
-/// of a stranger, it may keep silent.
-fn exchange_over_socket(
+/// of a stranger, it may keep silent, or send little by little.
+fn exchange_over_socket<C: Clock>(
     rt: &HostRuntime,
+    clock: &C,
     listener: &TcpListener,
     first: &mut Table,
     second: &mut Table,
@@ -139,33 +153,35 @@ fn exchange_over_socket(
     ensures stops { IfErr result (λ what. (fault : WireFault) × (what ≡ what_of fault)) }
 {
     let alloc = rt.alloc();
-    let (near, far) = match connect(rt, listener, patience) {
-        Ok(ends) => ends,
+    let (near, far, end) = match connect(rt, clock, listener, patience) {
+        Ok(connected) => connected,
         Err(_) => return Err(What::Device),
     };
-    offer(alloc, &mut ToWrite::new(&near), first, false)?;
+    let near = Until::new(&near, clock, end);
+    let far = Until::new(&far, clock, end);
+    offer(alloc, &mut ToWrite::new(near.again()), first, false)?;
     answer(
         alloc,
-        &mut FromRead::new(&far),
-        &mut ToWrite::new(&far),
+        &mut FromRead::new(far.again()),
+        &mut ToWrite::new(far),
         second,
     )?;
-    finish(alloc, &mut FromRead::new(&near), first)?;
+    finish(alloc, &mut FromRead::new(near), first)?;
     Ok(())
 }
 
-/// Both ends of a connection to the listener: the one that connects, and the one that the listener
-/// gives next. A read or write over them waits as long at most.
-fn connect(
+/// Both ends of a connection to the listener, the one that connects and the one that the listener
+/// gives next, and when the patience ends.
+fn connect<C: Clock>(
     rt: &HostRuntime,
+    clock: &C,
     listener: &TcpListener,
     patience: Duration,
-) -> io::Result<(TcpStream, TcpStream)> {
+) -> io::Result<(TcpStream, TcpStream, Instant)> {
+    let Some(end) = Instant::now(clock)?.checked_add(patience) else {
+        return Err(Error::from(ErrorKind::TimedOut));
+    };
     let near = TcpStream::connect(rt, listener.local_addr()?)?;
     let (far, _) = listener.accept()?;
-    for end in [&near, &far] {
-        end.set_read_timeout(Some(patience))?;
-        end.set_write_timeout(Some(patience))?;
-    }
-    Ok((near, far))
+    Ok((near, far, end))
 }

@@ -1,14 +1,15 @@
 //! A table from packets, and its listing.
 
 ghost use Rattle.std.specs.Prelude.{◌≡◌, ◌≢◌, ◌↔◌, ◌<◌, ◌≤◌, ◌++◌, ◌∷◌, [], List, map, length, IfOk, IfErr, OnOk};
+ghost use Rattle.std.specs.Str.Lines.{strip_carriage_return};
 ghost use Rattle.swim_claim.specs.declared.claim.Claim.{Claim};
 ghost use Rattle.swim_program.specs.Limits.{most_bytes};
 ghost use Rattle.swim_table.specs.Listing.{listing};
 ghost use Rattle.swim_table.specs.Table.{Entries, TableOf};
 ghost use Rattle.swim_wire.specs.Packet.{PacketValue};
 ghost use Rattle.swim_wire.specs.Texts.{DatagramText};
-ghost use Rattle.swimtab.specs.Lines.{TextClaims, LineClaims, PacketLines, IsFirstWrong};
-ghost use Rattle.swim_program.specs.Report.{IsAmong};
+ghost use Rattle.swimtab.specs.Lines.{TextClaims, LineClaims, PacketLines, TellsText, IsFirstWrong};
+ghost use Rattle.swim_program.specs.Report.{IsAmong, TellsDatagram};
 
 use std::alloc::{AllocError, Global};
 use swim_claim::Claim;
@@ -31,9 +32,9 @@ pub fn packets(alloc: Global, input: &[u8]) -> Result<Vec<u8>, Report>
     // Refused for another cause than memory and its length, the lines make no claims.
     ensures refuses { IfErr result (λ report. report.what ≢ What.Memory
         → length input.now ≤ most_bytes → (claims : List Claim) → ¬ PacketLines input.now claims) }
-    // And the report names the first line that makes none.
+    // And the report names the first line that makes none, and its fault.
     ensures line { IfErr result (λ report. report.what ≢ What.Memory → length input.now ≤ most_bytes
-        → IsFirstWrong input.now report.place) }
+        → IsFirstWrong input.now report.place report.what) }
     ensures long { (most_bytes < length input.now)
         ↔ (result ≡ Err (record { place = Place.Input; what = What.Refused 32 None })) }
     ensures no_device { IfErr result (λ report. report.what ≢ What.Device) }
@@ -60,6 +61,8 @@ fn take_line(alloc: Global, table: &mut Table, line: &[u8]) -> Result<(), What>
         × ((taken : List Claim) → TableOf table.old taken → TableOf table.new (taken ++ claims))) }
     ensures refuses { IfErr result (λ what. what ≢ What.Memory
         → (claims : List Claim) → ¬ LineClaims line.now claims) }
+    ensures tells { IfErr result (λ what. what ≢ What.Memory
+        → TellsText (strip_carriage_return line.now) what) }
     ensures no_device { IfErr result (λ what. what ≢ What.Device) }
 {
     take_text(alloc, table, without_return(line))
@@ -70,6 +73,7 @@ fn take_text(alloc: Global, table: &mut Table, text: &[u8]) -> Result<(), What>
         × ((taken : List Claim) → TableOf table.old taken → TableOf table.new (taken ++ claims))) }
     ensures refuses { IfErr result (λ what. what ≢ What.Memory
         → (claims : List Claim) → ¬ TextClaims text.now claims) }
+    ensures tells { IfErr result (λ what. what ≢ What.Memory → TellsText text.now what) }
     ensures no_device { IfErr result (λ what. what ≢ What.Device) }
 {
     if text.is_empty() {
@@ -86,6 +90,7 @@ fn take_datagram(alloc: Global, table: &mut Table, bytes: &[u8]) -> Result<(), W
         → TableOf table.new (taken ++ map (λ p. p.claim) packets))) }
     ensures refuses { IfErr result (λ what. what ≢ What.Memory
         → (packets : List PacketValue) → ¬ DatagramText bytes.now packets) }
+    ensures tells { IfErr result (λ what. what ≢ What.Memory → TellsDatagram bytes.now what) }
     ensures no_device { IfErr result (λ what. what ≢ What.Device) }
 {
     match Datagram::decode(alloc, bytes)? {

@@ -7,7 +7,8 @@ ghost use Rattle.swim_sync.specs.Cluster.{Ran};
 ghost use Rattle.swim_sync.specs.Levels.{level_list};
 ghost use Rattle.swimtab.specs.Replay.{IsOfEvent, RefusedEvent, Replays, StopsSo, node_line, shown_from};
 ghost use Rattle.swim_program.specs.Report.{IsAmong};
-ghost use Rattle.swim_script.specs.Script.{Script, Start, IsFirstWrongLine};
+ghost use Rattle.swim_script.specs.Refusals.{IsFirstWrongLine};
+ghost use Rattle.swim_script.specs.Script.{Script, Start};
 ghost use Rattle.swim_script.specs.ScriptReading.{plan_events};
 
 use itoa::Buffer;
@@ -29,15 +30,15 @@ pub fn script(alloc: Global, input: &[u8]) -> Result<Vec<u8>, Report>
     // The input is a script, and the text shows what its nodes have heard.
     ensures replays { IfOk result (λ text. Replays input.now text.items) }
 
-    // Refused for the fault of an event, it is a script with such an event, on the line that the
-    // report names; else it is none, from the line on that the report names.
+    // Refused for the fault of an event, it is a script whose first such event is on the line that
+    // the report names; else it is none, from the line on that the report names, for its fault.
     ensures events { IfErr result (λ report. IsOfEvent report.what
         → RefusedEvent input.now report) }
     ensures refuses { IfErr result (λ report. report.what ≢ What.Memory
         → length input.now ≤ most_bytes → ¬ IsOfEvent report.what
         → (starts : List Start) → (events : List Event) → ¬ Script input.now starts events) }
     ensures line { IfErr result (λ report. report.what ≢ What.Memory → length input.now ≤ most_bytes
-        → ¬ IsOfEvent report.what → IsFirstWrongLine input.now report.place) }
+        → ¬ IsOfEvent report.what → IsFirstWrongLine input.now report.place report.what) }
     ensures long { (most_bytes < length input.now)
         ↔ (result ≡ Err (record { place = Place.Input; what = What.Refused 32 None })) }
     ensures no_device { IfErr result (λ report. report.what ≢ What.Device) }

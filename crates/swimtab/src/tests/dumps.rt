@@ -21,74 +21,19 @@ pub(crate) const Q: &str =
 const R: &str =
     "0683a44a6f696ec2a54e6f64657302ac5573657253746174654c656e0087a441646472a47f000001ab496e6361726e6174696f6e00a44d657461a0a44e616d65a161a4506f7274cd1f0aa5537461746500a356736ea087a441646472a0ab496e6361726e6174696f6e01a44d657461a0a44e616d65a162a4506f727400a5537461746501a356736ea0";
 
-/// A Suspect of `a`.
-const T: &str =
-    "0683a44a6f696ec2a54e6f64657301ac5573657253746174654c656e0087a441646472a0ab496e6361726e6174696f6e00a44d657461a0a44e616d65a161a4506f727400a5537461746501a356736ea0";
-
-/// An Alive of `a` under a Suspect.
-const BOTH_OF_A: &str =
-    "0683a44a6f696ec2a54e6f64657302ac5573657253746174654c656e0087a441646472a47f000001ab496e6361726e6174696f6e04a44d657461a0a44e616d65a161a4506f7274cd1f0ba5537461746500a356736ea087a441646472a0ab496e6361726e6174696f6e05a44d657461a0a44e616d65a161a4506f727400a5537461746501a356736ea0";
-
-/// A dead and a left record with addresses that are passed over.
-const GONE: &str =
-    "0681a54e6f6465730285a44e616d65a162a441646472a47f000001a44d657461a2abcdab496e6361726e6174696f6e02a553746174650283a44e616d65a163ab496e6361726e6174696f6e03a5537461746503";
-
-/// No member, and five bytes of user state.
-const USER_STATE: &str = "0682a54e6f64657300ac5573657253746174654c656e050102030405";
-
-/// The files, and the listing of all claims in them.
-const LISTINGS: [(&[&str], &str); 6] = [
-    (&[P], "a alive 0 0/7f000001/7946//\n"),
-    (&[P, Q], "a alive 0 0/7f000001/7946//\nb suspect 1 -\n"),
-    (&[Q, P, P], "a alive 0 0/7f000001/7946//\nb suspect 1 -\n"),
-    (&[BOTH_OF_A], "a suspect 5 4/7f000001/7947//\n"),
-    (&[GONE], "b confirm 2 -\nc leave 3 -\n"),
-    (&[USER_STATE], ""),
-];
-
-/// Two dumps, and how their tables relate.
-const RELATIONS: [(&str, &str, Relation); 5] = [
-    (P, P, Relation::Equal),
-    (P, R, Relation::Behind),
-    (R, P, Relation::Ahead),
-    (P, Q, Relation::Apart),
-    (P, T, Relation::Apart),
-];
-
-/// The second of two files, which is no dump, and what is said of it.
-const REFUSED: [(&str, &str); 6] = [
-    ("", "swimtab: no dump: fault 1 Ended"),
-    ("03", "swimtab: no dump: fault 16 WrongType 3"),
-    ("0684", "swimtab: no dump: fault 8 MapCount"),
-    (
-        "0681a54e6f6465730182a44e616d65a164a5537461746504",
-        "swimtab: no dump: fault 19 BadState 4",
-    ),
-    (
-        "0683a44a6f696ec2a54e6f646573ce00020001ac5573657253746174654c656e00",
-        "swimtab: no dump: fault 20 TooManyNodes",
-    ),
-    (
-        "0683a44a6f696ec2a54e6f64657300ac5573657253746174654c656e0000",
-        "swimtab: no dump: fault 22 Trailing",
-    ),
-];
-
 /// What the digits of a file spell.
 pub(crate) fn dump(alloc: Global, digits: &str) -> Result<Vec<u8>, Fail> {
     Ok(hex::decode(alloc, digits)?)
 }
 
-/// What the files hold.
-fn files(alloc: Global, dumps: &[&str]) -> Result<Vec<Vec<u8>>, Fail> {
-    let mut files = Vec::new(alloc);
-    for digits in dumps {
-        files.push(dump(alloc, digits)?)?;
-    }
-    Ok(files)
+/// What two files hold.
+fn pair(alloc: Global, first: &str, second: &str) -> Result<[Vec<u8>; 2], Fail> {
+    let first = dump(alloc, first)?;
+    let second = dump(alloc, second)?;
+    Ok([first, second])
 }
 
-/// The listing of files; where it is refused memory, what its repeat gives.
+/// The listing of files; if memory is refused, what its repeat gives.
 fn listing(rt: &impl Abort, alloc: Global, files: &[Vec<u8>]) -> Result<Vec<u8>, Report> {
     match listed(alloc, files) {
         Ok(text) => Ok(text),
@@ -99,7 +44,7 @@ fn listing(rt: &impl Abort, alloc: Global, files: &[Vec<u8>]) -> Result<Vec<u8>,
     }
 }
 
-/// The join of files; where it is refused memory, what its repeat gives.
+/// The join of files; if memory is refused, what its repeat gives.
 fn join(rt: &impl Abort, alloc: Global, files: &[Vec<u8>]) -> Result<Vec<u8>, Report> {
     match merged(alloc, files) {
         Ok(dump) => Ok(dump),
@@ -110,7 +55,7 @@ fn join(rt: &impl Abort, alloc: Global, files: &[Vec<u8>]) -> Result<Vec<u8>, Re
     }
 }
 
-/// How two files relate; where it is refused memory, what its repeat gives.
+/// How two files relate; if memory is refused, what its repeat gives.
 fn comparison(
     rt: &impl Abort,
     alloc: Global,
@@ -126,32 +71,9 @@ fn comparison(
     }
 }
 
-fn assert_listed(rt: &impl Abort, alloc: Global, dumps: &[&str], wanted: &str) -> Result<(), Fail> {
-    let files = files(alloc, dumps)?;
-    let text = listing(rt, alloc, &files)?;
-    assert_bytes(rt, &text, wanted.as_bytes(), wanted);
-    Ok(())
-}
-
-fn assert_merged(rt: &impl Abort, alloc: Global, dumps: &[&str], wanted: &str) -> Result<(), Fail> {
-    let files = files(alloc, dumps)?;
-    let joined = join(rt, alloc, &files)?;
-    assert_bytes(rt, &joined, &dump(alloc, wanted)?, wanted);
-    Ok(())
-}
-
-/// How the tables of two dumps relate.
-fn assert_related(
-    rt: &impl Abort,
-    alloc: Global,
-    first: &str,
-    second: &str,
-    wanted: Relation,
-) -> Result<(), Fail> {
-    let first = dump(alloc, first)?;
-    let second = dump(alloc, second)?;
-    let relation = comparison(rt, alloc, &first, &second)?;
-    assert_eq!(rt; relation, wanted);
+/// That the bytes are those which these digits spell.
+fn assert_dump(rt: &impl Abort, alloc: Global, found: &[u8], wanted: &str) -> Result<(), Fail> {
+    assert_bytes(rt, found, &dump(alloc, wanted)?, wanted);
     Ok(())
 }
 
@@ -191,12 +113,6 @@ fn assert_all_refused(
     Ok(())
 }
 
-/// That a file behind a dump is refused everywhere.
-fn assert_no_dump(rt: &impl Abort, alloc: Global, bad: &str, wanted: &str) -> Result<(), Fail> {
-    let files = [dump(alloc, P)?, dump(alloc, bad)?];
-    assert_all_refused(rt, alloc, &files, wanted)
-}
-
 /// Takes in a Suspect of this name.
 pub(crate) fn suspect(rt: &impl Abort, table: &mut Table, name: Vec<u8>) -> Result<(), Fail> {
     let name = Name::new(name).expect(rt, "a legal name");
@@ -216,44 +132,42 @@ fn suspects(rt: &impl Abort, alloc: Global, from: u32, count: u32) -> Result<Vec
 }
 
 #[test]
-fn dumps_are_listed_as_their_join(rt: HostRuntime) -> Result<(), Fail> {
-    for (dumps, wanted) in LISTINGS {
-        assert_listed(&rt, rt.alloc(), dumps, wanted)?;
-    }
+fn dumps_are_listed_also_after_want_of_memory(rt: HostRuntime) -> Result<(), Fail> {
+    let files = pair(rt.alloc(), Q, P)?;
+    let text = listing(&rt, rt.alloc(), &files)?;
+    let wanted = b"a alive 0 0/7f000001/7946//\nb suspect 1 -\n";
+    assert_bytes(&rt, &text, wanted, "both dumps");
     Ok(())
 }
 
 #[test]
-fn dumps_are_merged_in_any_order(rt: HostRuntime) -> Result<(), Fail> {
-    let orders: [&[&str]; 4] = [&[P, Q], &[R], &[Q, P, P], &[USER_STATE, Q, P]];
-    for dumps in orders {
-        assert_merged(&rt, rt.alloc(), dumps, R)?;
-    }
-    Ok(())
+fn dumps_are_merged_also_after_want_of_memory(rt: HostRuntime) -> Result<(), Fail> {
+    let files = pair(rt.alloc(), Q, P)?;
+    assert_dump(&rt, rt.alloc(), &join(&rt, rt.alloc(), &files)?, R)
 }
 
 #[test]
-fn dumps_relate_as_their_tables_do(rt: HostRuntime) -> Result<(), Fail> {
-    for (first, second, wanted) in RELATIONS {
-        assert_related(&rt, rt.alloc(), first, second, wanted)?;
-    }
-    for (relation, line) in [
-        (Relation::Equal, "equal\n"),
-        (Relation::Behind, "behind\n"),
-        (Relation::Ahead, "ahead\n"),
-        (Relation::Apart, "apart\n"),
-    ] {
-        assert_text(&rt, relation_line(relation), line, "the line of a relation");
-    }
+fn dumps_are_related_also_after_want_of_memory(rt: HostRuntime) -> Result<(), Fail> {
+    let [first, second] = &pair(rt.alloc(), P, R)?;
+    let relation = comparison(&rt, rt.alloc(), first, second)?;
+    assert_text(
+        &rt,
+        relation_line(relation),
+        "behind\n",
+        "one dump and both",
+    );
     Ok(())
 }
 
 #[test]
 fn a_file_that_is_no_dump_is_named(rt: HostRuntime) -> Result<(), Fail> {
-    for (bad, wanted) in REFUSED {
-        assert_no_dump(&rt, rt.alloc(), bad, wanted)?;
-    }
-    Ok(())
+    let files = pair(rt.alloc(), P, "0684")?;
+    assert_all_refused(
+        &rt,
+        rt.alloc(),
+        &files,
+        "swimtab: no dump: fault 8 MapCount",
+    )
 }
 
 /// Zeros, of which there are 65,536 more than the bound of an input.
@@ -296,20 +210,4 @@ fn a_join_of_too_many_records_is_listed_and_not_dumped(rt: HostRuntime) -> Resul
     let text = listing(&rt, alloc, &files)?;
     assert!(rt; !text.is_empty());
     Ok(())
-}
-
-#[test]
-fn want_of_memory_for_a_listing_of_dumps_is_answered_as_such(rt: HostRuntime) -> Result<(), Fail> {
-    let wanted = "a alive 0 0/7f000001/7946//\nb suspect 1 -\n";
-    assert_listed(&rt, rt.alloc(), &[P, Q], wanted)
-}
-
-#[test]
-fn want_of_memory_for_a_merge_is_answered_as_such(rt: HostRuntime) -> Result<(), Fail> {
-    assert_merged(&rt, rt.alloc(), &[P, Q], R)
-}
-
-#[test]
-fn want_of_memory_for_a_relation_is_answered_as_such(rt: HostRuntime) -> Result<(), Fail> {
-    assert_related(&rt, rt.alloc(), P, Q, Relation::Apart)
 }

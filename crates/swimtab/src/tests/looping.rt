@@ -4,11 +4,13 @@ use crate::looped::{local_listener, loop_table, looped, looped_within};
 use crate::tests::dumps::{P, Q, dump, suspect};
 use crate::tests::{assert_bytes, assert_memory, assert_report};
 use std::alloc::Global;
+use std::cell::Cell;
+use std::io;
 use std::io::Write;
 use std::net::{IpAddr, Ipv4Addr, TcpListener, TcpStream};
 use std::process::Abort;
 use std::test::Fail;
-use std::time::Duration;
+use std::time::{Clock, Duration};
 use swim_pack::FromRead;
 use swim_program::{Place, Report, What};
 use swim_table::{Table, encode, list, read_stream};
@@ -90,19 +92,61 @@ fn ended(rt: &HostRuntime, first: &[u8], second: &[u8]) -> Result<(Vec<u8>, bool
     looped(rt, local_listener(rt)?, first, second)
 }
 
-/// Why the loop of two tables over the listener stops, where it stops. It waits as long as it does,
-/// or no longer than this.
-fn stopped(
+/// Why the loop of two tables over the listener stops, if it does. It waits as long as it does, or
+/// no longer than this by the clock.
+fn stopped<C: Clock>(
     rt: &HostRuntime,
     listener: TcpListener,
-    patience: Option<Duration>,
+    patience: Option<(&C, Duration)>,
 ) -> Result<Option<Report>, Fail> {
     let first = loop_table(rt.alloc(), &dump(rt.alloc(), P)?, 0)?;
     let second = loop_table(rt.alloc(), &dump(rt.alloc(), Q)?, 1)?;
     Ok(match patience {
-        Some(patience) => looped_within(rt, listener, first, second, patience).err(),
+        Some((clock, patience)) => {
+            looped_within(rt, clock, listener, first, second, patience).err()
+        }
         None => looped(rt, listener, first, second).err(),
     })
+}
+
+/// A clock by which each look at it takes a second.
+#[derive(Drop)]
+struct Hasty {
+    looks: Cell<u64>,
+}
+
+impl Clock for Hasty {
+    fn monotonic(&self) -> io::Result<Duration> {
+        let looks = self.looks.get();
+        self.looks.set(looks.saturating_add(1));
+        Ok(Duration::from_secs(looks))
+    }
+
+    fn since_1970(&self) -> io::Result<Duration> {
+        self.monotonic()
+    }
+}
+
+/// Why a loop of two tables stops that may take so many seconds, of which each look at the clock
+/// takes one.
+fn stopped_in_haste(rt: &HostRuntime, seconds: u64) -> Result<Option<Report>, Fail> {
+    let clock = Hasty {
+        looks: Cell::new(0),
+    };
+    let patience = Duration::from_secs(seconds);
+    stopped(rt, local_listener(rt)?, Some((&clock, patience)))
+}
+
+#[test]
+fn an_exchange_is_given_up_after_one_time_for_all_its_parts(rt: HostRuntime) -> Result<(), Fail> {
+    // the looks: at the start, and before each of two writes and two reads
+    for seconds in 0..5 {
+        assert_device(&rt, stopped_in_haste(&rt, seconds)?)?;
+    }
+    match stopped_in_haste(&rt, 5)? {
+        None => Ok(()),
+        Some(report) => Err(Fail::from(report)),
+    }
 }
 
 #[test]
@@ -121,7 +165,7 @@ fn stopped_by_a_closed_one(rt: &HostRuntime) -> Result<Option<Report>, Fail> {
     let listener = local_listener(rt)?;
     let stranger = TcpStream::connect(rt, listener.local_addr()?)?;
     drop(stranger);
-    stopped(rt, listener, None)
+    stopped::<HostRuntime>(rt, listener, None)
 }
 
 #[test]
@@ -140,7 +184,7 @@ fn stranger(rt: &HostRuntime, bytes: &[u8]) -> Result<(Option<Report>, TcpStream
     let listener = local_listener(rt)?;
     let mut stranger = TcpStream::connect(rt, listener.local_addr()?)?;
     stranger.write_all(bytes)?;
-    let report = stopped(rt, listener, Some(Duration::from_millis(100)))?;
+    let report = stopped(rt, listener, Some((rt, Duration::from_millis(100))))?;
     Ok((report, stranger))
 }
 

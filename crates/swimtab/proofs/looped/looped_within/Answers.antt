@@ -5,7 +5,7 @@ use Rattle.swimtab.proofs.Looping.{equal_told}
 use Rattle.swimtab.proofs.looped.looped_within.Goals as goal
 
 pub returns-in-Ok-clause-loops : goal.returns-in-Ok-clause-loops
-returns-in-Ok-clause-loops c =
+returns-in-Ok-clause-loops g c =
     let first = c.in_default.ensures.first in
     let second = c.in_default.ensures.second in
     record {
@@ -22,7 +22,7 @@ returns-in-Ok-clause-loops c =
     }
 
 pub returns-clause-stops : goal.returns-clause-stops
-returns-clause-stops c = record {
+returns-clause-stops g c = record {
   fault = wire.Memory;
   what = ap (λ (r : Report). r.what) c.at-in-Err-list.ensures;
   place = inr (ap (λ (r : Report). r.place) c.at-in-Err-list.ensures, ap (λ (r : Report). r.what) c.at-in-Err-list.ensures);

@@ -3,7 +3,8 @@ use Rattle.std.proofs.lemmas.Iterator.Consumers.{YieldsList-at, YieldsList-from_
 use Rattle.std.proofs.lemmas.Iterator.Splits.{YieldsList-from_slice_split}
 use Rattle.std.proofs.lemmas.List.{map_push}
 use Rattle.swim_program.specs.Lines.{input_lines}
-use Rattle.swimtab.specs.Lines.{EachLine}
+use Rattle.std.specs.Str.Lines.{strip_carriage_return}
+use Rattle.swimtab.specs.Lines.{EachLine, TellsText}
 use Rattle.swimtab.proofs.LineByLine.{EachLine-push, first_wrong, no_claims_at}
 use Rattle.swim_program.proofs.CountedLines.{counted_lines, first_counted, yielded_at}
 use Rattle.swimtab.proofs.packets.packets.Goals as goal
@@ -37,8 +38,11 @@ returns-in-Err-clause-line c = λ seen within.
     c.loop-index.yielded _ c.loop-index.yielded_by _ _ (c.in-Some.index, c.in-Some.line) c.in-Some.is c.next.ensures.steps in
     let before = first_counted c.loop-index.yielded 0 (length c.loop-index.yielded) (input_lines c.args.input.now) here.2 in
     first_wrong c.args.input.now _ (length c.loop-index.yielded) c.in-Some.index c.in-Some.line.now c.loop-index.invariant.2.0
-    c.at-in-Err.result.place before (here.0, here.1) c.loop-index.invariant.2.2
-    (c.in-Err.ensures.refuses (λ e. seen (ap (λ r. r.what) c.at-in-Err.ensures ∙ e))) (ap (λ r. r.place) c.at-in-Err.ensures)
+    c.at-in-Err.result.place c.at-in-Err.result.what before (here.0, here.1) c.loop-index.invariant.2.2
+    (c.in-Err.ensures.refuses (λ e. seen (ap (λ r. r.what) c.at-in-Err.ensures ∙ e)))
+    (subst (TellsText (strip_carriage_return c.in-Some.line.now)) (sym (ap (λ r. r.what) c.at-in-Err.ensures))
+    (c.in-Err.ensures.tells (λ e. seen (ap (λ r. r.what) c.at-in-Err.ensures ∙ e))))
+    (ap (λ r. r.place) c.at-in-Err.ensures)
 
 pub loop-index-preserved : goal.loop-index-preserved
 loop-index-preserved c =

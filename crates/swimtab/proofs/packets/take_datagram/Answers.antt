@@ -10,6 +10,11 @@ returns-in_err-packet-clause-refuses c =
     let p = err_from_is_err_and c.from_residual.result c.from_residual.ensures.1 in
     rw p.1 (λ seen. c.in_err-packet.ensures.refuses (λ m. seen (p.2 ∙ ap what_of m)))
 
+pub returns-in_err-packet-clause-tells : goal.returns-in_err-packet-clause-tells
+returns-in_err-packet-clause-tells c =
+    let p = err_from_is_err_and c.from_residual.result c.from_residual.ensures.1 in
+    rw p.1 (λ seen. (c.in_err-packet.field-0.0, c.in_err-packet.ensures.exact (λ m. seen (p.2 ∙ ap what_of m)), p.2))
+
 pub returns-in_ok-take_claim-in-Packet-clause-takes : goal.returns-in_ok-take_claim-in-Packet-clause-takes
 returns-in_ok-take_claim-in-Packet-clause-takes c =
     let packets = c.in-Packet.packet ∷ [] in
@@ -31,5 +36,10 @@ returns-in_ok-take_all-in-Compound-clause-takes c =
 
 pub returns-in_err-take_claim-in-Packet-clause-refuses : goal.returns-in_err-take_claim-in-Packet-clause-refuses
 returns-in_err-take_claim-in-Packet-clause-refuses c =
+    let p = err_from_is_err_and c.from_residual-in_err-take_claim-in-Packet.result c.from_residual-in_err-take_claim-in-Packet.ensures.1 in
+    rw p.1 (λ seen. absurd (seen p.2))
+
+pub returns-in_err-take_claim-in-Packet-clause-tells : goal.returns-in_err-take_claim-in-Packet-clause-tells
+returns-in_err-take_claim-in-Packet-clause-tells c =
     let p = err_from_is_err_and c.from_residual-in_err-take_claim-in-Packet.result c.from_residual-in_err-take_claim-in-Packet.ensures.1 in
     rw p.1 (λ seen. absurd (seen p.2))
