@@ -3,6 +3,51 @@
 use std::io;
 use std::io::{Error, ErrorKind, Read, Write};
 
+/// Every kind of error but an interruption, which alone is tried again.
+pub const BROKEN: [ErrorKind; 41] = [
+    ErrorKind::NotFound,
+    ErrorKind::PermissionDenied,
+    ErrorKind::ConnectionRefused,
+    ErrorKind::ConnectionReset,
+    ErrorKind::HostUnreachable,
+    ErrorKind::NetworkUnreachable,
+    ErrorKind::ConnectionAborted,
+    ErrorKind::NotConnected,
+    ErrorKind::AddrInUse,
+    ErrorKind::AddrNotAvailable,
+    ErrorKind::NetworkDown,
+    ErrorKind::BrokenPipe,
+    ErrorKind::AlreadyExists,
+    ErrorKind::WouldBlock,
+    ErrorKind::NotADirectory,
+    ErrorKind::IsADirectory,
+    ErrorKind::DirectoryNotEmpty,
+    ErrorKind::ReadOnlyFilesystem,
+    ErrorKind::FilesystemLoop,
+    ErrorKind::StaleNetworkFileHandle,
+    ErrorKind::InvalidInput,
+    ErrorKind::InvalidData,
+    ErrorKind::TimedOut,
+    ErrorKind::WriteZero,
+    ErrorKind::StorageFull,
+    ErrorKind::NotSeekable,
+    ErrorKind::QuotaExceeded,
+    ErrorKind::FileTooLarge,
+    ErrorKind::ResourceBusy,
+    ErrorKind::ExecutableFileBusy,
+    ErrorKind::Deadlock,
+    ErrorKind::CrossesDevices,
+    ErrorKind::TooManyLinks,
+    ErrorKind::InvalidFilename,
+    ErrorKind::ArgumentListTooLong,
+    ErrorKind::Unsupported,
+    ErrorKind::UnexpectedEof,
+    ErrorKind::OutOfMemory,
+    ErrorKind::InProgress,
+    ErrorKind::Other,
+    ErrorKind::Uncategorized,
+];
+
 /// Gives its bytes, at most so many a read, after it was interrupted so many times, and before each
 /// further read so many times again.
 #[derive(Drop)]
@@ -69,13 +114,15 @@ pub enum Refusal {
     Error(ErrorKind),
 }
 
-/// Takes up to 8 bytes, at most so many a write, after it was interrupted so many times.
+/// Takes up to 8 bytes, at most so many a write, after it was interrupted so many times, and before
+/// each further write so many times again.
 #[derive(Drop)]
 pub struct Taker {
     pub taken: [u8; 8],
     pub len: usize,
     pub most: usize,
     pub interruptions: u32,
+    pub again: u32,
     /// It refuses the write of this number, counted from 1, and takes those behind it.
     pub refuses_at: u32,
     pub refusal: Refusal,
@@ -88,6 +135,7 @@ impl Taker {
             len: 0,
             most,
             interruptions: 0,
+            again: 0,
             refuses_at: u32::MAX,
             refusal: Refusal::Error(ErrorKind::ConnectionReset),
         }
@@ -101,10 +149,10 @@ impl Taker {
         taker
     }
 
-    /// One byte a write, after it was interrupted so many times.
-    pub fn interrupted(interruptions: u32) -> Taker {
+    /// One byte a write, after it was interrupted so many times, and before each further one again.
+    pub fn interrupted(interruptions: u32, again: u32) -> Taker {
         let mut taker = Taker::new(1);
-        taker.interruptions = interruptions;
+        (taker.interruptions, taker.again) = (interruptions, again);
         taker
     }
 }
@@ -115,6 +163,7 @@ impl Write for Taker {
             self.interruptions -= 1;
             return Err(Error::from(ErrorKind::Interrupted));
         }
+        self.interruptions = self.again;
         self.refuses_at = self.refuses_at.saturating_sub(1);
         if self.refuses_at == 0 {
             self.refuses_at = u32::MAX;

@@ -3,7 +3,7 @@
 //! A pull stands as the bytes that it has to give and 0, or as so many bytes and its fault's number:
 //! 1 at an end, 9 at a failure.
 
-use crate::tests::fakes::Pieces;
+use crate::tests::fakes::{BROKEN, Pieces};
 use crate::tests::{assert_answer, assert_bytes, assert_pull, assert_pulls, pull_number};
 use crate::{FromRead, Inlet, SliceInlet, StopInlet};
 use std::io::ErrorKind;
@@ -77,13 +77,15 @@ fn a_reader_is_asked_only_where_the_buffer_is_empty(rt: HostRuntime) {
 
 #[test]
 fn a_reader_may_be_interrupted_a_thousand_times_a_pull(rt: HostRuntime) {
-    for (interruptions, fault, unbroken) in [
-        (0, 0, true),
-        (1, 0, false),
-        (1000, 0, false),
-        (1001, 9, false),
+    for (first, second, fault, unbroken) in [
+        (0, 0, 0, true),
+        (1, 0, 0, false),
+        (1000, 0, 0, false),
+        (501, 499, 0, false),
+        (1001, 0, 9, false),
+        (501, 500, 9, false),
     ] {
-        let reader = Pieces::interrupted(b"ab", interruptions, 0);
+        let reader = Pieces::interrupted(b"ab", first, second);
         let _ = asked(&rt, reader, &[], &[(b"ab", fault)], unbroken);
     }
 }
@@ -100,7 +102,7 @@ fn interruptions_are_counted_for_each_pull(rt: HostRuntime) {
 
 #[test]
 fn each_other_error_of_a_reader_is_a_fault_at_once(rt: HostRuntime) {
-    for kind in [ErrorKind::WouldBlock, ErrorKind::TimedOut, ErrorKind::Other] {
+    for kind in BROKEN {
         let reader = Pieces::failing(b"", 1, kind);
         assert_asked(&rt, asked(&rt, reader, &[], &[(b".", 9)], false), 1);
     }

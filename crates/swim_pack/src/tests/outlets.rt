@@ -2,11 +2,10 @@
 //!
 //! What a push answers stands as its fault's number: 10 without memory, 29 at a failure.
 
-use crate::tests::fakes::{Refusal, Taker};
+use crate::tests::fakes::{BROKEN, Refusal, Taker};
 use crate::tests::{assert_answer, assert_bytes};
 use crate::{Outlet, PushFault, StopOutlet, ToWrite, VecOutlet, write_whole};
 use std::alloc::Global;
-use std::io::ErrorKind;
 use std::process::Abort;
 
 fn push_number(pushed: Result<(), PushFault>) -> u32 {
@@ -102,23 +101,58 @@ fn taken(rt: &impl Abort, mut writer: Taker, bytes: &[u8], fault: u32) -> u64 {
     writer.len as u64
 }
 
+/// That a push to a writer with this refusal takes so many bytes before and is then a fault, and so
+/// is a write of all the bytes at once.
+fn assert_refused(rt: &impl Abort, refusal: Refusal, good: u32) {
+    let len = taken(rt, Taker::refusing(refusal, good), b"abcde", 29);
+    assert_answer(rt, (0, len), (0, u64::from(good)), b"pushed");
+    let mut writer = Taker::refusing(refusal, good);
+    let fault = push_number(write_whole(&mut writer, b"abcde"));
+    assert_answer(
+        rt,
+        (fault, writer.len as u64),
+        (29, u64::from(good)),
+        b"written",
+    );
+}
+
 #[test]
-fn a_writer_that_takes_nothing_or_fails_is_a_fault(rt: HostRuntime) {
-    for refusal in [
-        Refusal::Nothing,
-        Refusal::Error(ErrorKind::WouldBlock),
-        Refusal::Error(ErrorKind::TimedOut),
-        Refusal::Error(ErrorKind::ConnectionReset),
-    ] {
-        for good in 0..5 {
-            let len = taken(&rt, Taker::refusing(refusal, good), b"abcde", 29);
-            assert_answer(&rt, (0, len), (0, u64::from(good)), b"abcde");
-        }
+fn a_writer_that_takes_nothing_is_a_fault(rt: HostRuntime) {
+    for good in 0..5 {
+        assert_refused(&rt, Refusal::Nothing, good);
+    }
+}
+
+#[test]
+fn each_error_of_a_writer_but_an_interruption_is_a_fault_at_once(rt: HostRuntime) {
+    for kind in BROKEN {
+        assert_refused(&rt, Refusal::Error(kind), 2);
     }
 }
 
 #[test]
 fn a_writer_may_be_interrupted_a_thousand_times_a_push(rt: HostRuntime) {
-    let _ = taken(&rt, Taker::interrupted(1000), b"ab", 0);
-    let _ = taken(&rt, Taker::interrupted(1001), b"ab", 29);
+    for (first, second, fault, len) in [
+        (1000, 0, 0, 2),
+        (0, 1000, 0, 2),
+        (501, 499, 0, 2),
+        (1001, 0, 29, 0),
+        (0, 1001, 29, 1),
+        (501, 500, 29, 1),
+        (501, 501, 29, 1),
+    ] {
+        let got = taken(&rt, Taker::interrupted(first, second), b"ab", fault);
+        assert_answer(&rt, (0, got), (0, len), b"taken");
+    }
+}
+
+#[test]
+fn interruptions_are_counted_anew_for_each_push(rt: HostRuntime) {
+    let mut writer = Taker::interrupted(1000, 1000);
+    let mut outlet = ToWrite::new(&mut writer);
+    for byte in [b"a", b"b", b"c"] {
+        assert_pushes(&rt, &mut outlet, byte, 0);
+    }
+    assert_pushes(&rt, &mut outlet, b"de", 29);
+    assert_bytes(&rt, &writer.taken, b"abcd\0\0\0\0");
 }
