@@ -178,4 +178,4 @@ list_cause NotList text d items list json is c = (
   list,
   λ texts j. c texts (same_items items (map string texts) (json.1 ∙ ap (λ (v : Data). Some v) (array_from_as_array d (items_of items) (sym is))) j.1),
 )
-list_cause Memory text d items list json is c = tt
+list_cause Memory text d items list json is c = inl list

@@ -1,3 +1,4 @@
+pub mod Keys
 pub mod Labels
 pub mod Trying
 pub mod Holding

@@ -2,17 +2,12 @@
 use Rattle.std.proofs.Common.{◌≡◌, inl, inr, ℕ, List, [], ◌∷◌, ◌++◌, length, Ok, refl, sym, ap, ap₂, subst, ◌∙◌, arith}
 use Rattle.std.specs.Str.Lines.{strip_carriage_return}
 use Rattle.base64.specs.Engines.{standard}
-use Rattle.base64.specs.GeneralPurpose.{IsBytes, IsConsistent, decode_of, encode_of}
+use Rattle.base64.specs.GeneralPurpose.{IsBytes, decode_of, encode_of}
 use Rattle.base64.proofs.EngineFacts.{decode_of-encode_of, encode-nil}
 use Rattle.serde_json.specs.Data.{Data, string}
 use Rattle.memberlist_keyring.specs.KeyFile.{IsKeyText, HoldInOrder, LineHolds, ItemHolds, lines_of, IsKeyFile}
 use Rattle.memberlist_keyring.proofs.Files.{same_items}
-
-consistent : IsConsistent standard
-consistent = refl
-
-decoded : (text key : List ℕ) → IsKeyText text key → decode_of standard text ≡ Ok key
-decoded text key k = ap (decode_of standard) k.written ∙ decode_of-encode_of standard key consistent k.bytes
+use Rattle.memberlist_keyring.proofs.Keys.{decoded}
 
 pub one_key : (text x y : List ℕ) → IsKeyText text x → IsKeyText text y → x ≡ y
 one_key text x y a b =
@@ -25,7 +20,7 @@ no_bytes i = omega arith
 nothing_decoded : decode_of standard [] ≡ Ok []
 nothing_decoded =
     let empty : encode_of standard [] ≡ [] = encode-nil standard.encode_table standard.padding.value standard.config.encode_padding in
-    ap (decode_of standard) (sym empty) ∙ decode_of-encode_of standard [] consistent no_bytes
+    ap (decode_of standard) (sym empty) ∙ decode_of-encode_of standard [] refl no_bytes
 
 -- nothing is no key's text
 no_key : (text key : List ℕ) → text ≡ [] → ¬ IsKeyText text key

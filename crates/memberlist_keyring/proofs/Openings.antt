@@ -6,7 +6,7 @@ use Rattle.memberlist_cipher.specs.declared.fault.CipherFault.{CipherFault}
 use Rattle.memberlist_cipher.specs.declared.fault.CipherFault.TheVariants.{Memory}
 use Rattle.memberlist_cipher.specs.Encryption.{Encryption, StreamEncryption}
 use Rattle.memberlist_keyring.specs.Opening.{Opens, OpensStream, IsFirst, OpensFirst, OpensStreamFirst}
-use Rattle.memberlist_keyring.specs.Cutting.{IsCut, IsFaultOfKeys, IsRefused}
+use Rattle.memberlist_keyring.specs.Cutting.{IsCut, IsFaultOfKeys, IsRefused, AsksMemory}
 use Rattle.memberlist_keyring.proofs.Labels.{one_label, encrypted_is_bare, stream_is_bare}
 
 in_the_middle : (before : List (List ℕ)) (key : List ℕ) (after keys : List (List ℕ)) → keys ≡ before ++ key ∷ after → Contains keys key
@@ -90,3 +90,11 @@ refused Cause (Ok x) keys ours bytes label rest same cut h = h
 refused Cause (Err fault) keys ours bytes label rest same cut h = λ other.
     let P : List (List ℕ) → Type 0 = λ ks. IsFaultOfKeys (λ f key. Cause f key label rest) ks fault in
     record { label = label; rest = rest; cut = cut; is = subst P same (h other) }
+
+pub asks : {A : Type 0} (Cause : CipherFault → List ℕ → List ℕ → List ℕ → Type 0) (r : Result A CipherFault)
+    (keys ours : List (List ℕ)) (bytes label rest : List ℕ) → ours ≡ keys → IsCut bytes label rest
+    → (r ≡ Err Memory → (key : List ℕ) × Contains ours key × Cause Memory key label rest)
+    → r ≡ Err Memory → AsksMemory Cause keys bytes
+asks Cause r keys ours bytes label rest same cut h memory =
+    let here = h memory in
+    record { label = label; rest = rest; cut = cut; key = here.0; ours = subst (λ (ks : List (List ℕ)). Contains ks here.0) same here.1; cause = here.2 }

@@ -1,7 +1,8 @@
 -- How bytes are cut for the cipher, and why a keyring refuses them.
 use Rattle.std.specs.Prelude.{◌≡◌, ◌⊎◌, ℕ, List, [], ◌∷◌, ◌++◌}
+use Rattle.std.specs.List.{Contains}
 use Rattle.memberlist_cipher.specs.declared.fault.CipherFault.{CipherFault}
-use Rattle.memberlist_cipher.specs.declared.fault.CipherFault.TheVariants.{WrongTag}
+use Rattle.memberlist_cipher.specs.declared.fault.CipherFault.TheVariants.{WrongTag, Memory}
 use Rattle.memberlist_keyring.specs.Opening.{IsLabelled}
 
 -- A label and what it labels. Bytes that begin as a label and are none are left whole, with no
@@ -30,3 +31,13 @@ pub record IsRefused (Cause : CipherFault → List ℕ → List ℕ → List ℕ
   pub rest : List ℕ
   pub cut : IsCut bytes label rest
   pub is : IsFaultOfKeys (λ f key. Cause f key label rest) keys fault
+
+-- with one of the keys the cipher asks for memory, all that it looks at before being right
+pub record AsksMemory (Cause : CipherFault → List ℕ → List ℕ → List ℕ → Type 0)
+    (keys : List (List ℕ)) (bytes : List ℕ) : Type 0 where
+  pub label : List ℕ
+  pub rest : List ℕ
+  pub cut : IsCut bytes label rest
+  pub key : List ℕ
+  pub ours : Contains keys key
+  pub cause : Cause Memory key label rest

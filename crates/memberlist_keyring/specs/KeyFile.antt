@@ -17,6 +17,10 @@ pub record IsKeyText (text key : List ℕ) : Type 0 where
   pub bytes : IsBytes key
   pub written : text ≡ encode_of standard key
 
+-- as many characters as the base64 of a key has
+abbrev pub HasKeySize : List ℕ → Type 0
+HasKeySize text = (length text ≡ 24) ⊎ (length text ≡ 32) ⊎ (length text ≡ 44)
+
 -- what these hold, one after another
 abbrev pub HoldInOrder : {X : Type 0} → (X → List (List ℕ) → Type 0) → List X → List (List ℕ)
     → Type 0
@@ -73,6 +77,16 @@ pub record IsFirstKeyless {X : Type 0} (Holds : X → List (List ℕ) → Type 0
   pub right : HoldInOrder Holds before keys
   pub nothing : (held : List (List ℕ)) → ¬ Holds wrong held
 
+-- A line has as many characters as a key's, and those before it are right.
+pub record IsKeySized (lines : List (List ℕ)) : Type 0 where
+  pub before : List (List ℕ)
+  pub line : List ℕ
+  pub after : List (List ℕ)
+  pub keys : List (List ℕ)
+  pub parts : lines ≡ before ++ line ∷ after
+  pub right : HoldInOrder LineHolds before keys
+  pub sized : HasKeySize (strip_carriage_return line)
+
 -- a wrong item that is a text
 pub record IsWrongText (items : List Data) (number : ℕ) : Type 0 where
   pub first : IsFirstKeyless ItemHolds items number
@@ -86,7 +100,7 @@ ItemsCause (Item number) items = IsWrongText items number
 ItemsCause NotList items = (texts : List (List ℕ)) → items ≢ map string texts
 ItemsCause Memory items = Unit {0}
 
--- why a file is refused
+-- why a file is refused; of lines, memory is asked for where one may be a key's
 abbrev pub KeyFileCause : KeyFileFault → List ℕ → Type 0
 KeyFileCause (Line number) text =
     ¬ IsListText text × IsFirstKeyless LineHolds (lines_of text) number
@@ -94,4 +108,4 @@ KeyFileCause (Item number) text =
     IsListText text × (items : List Data) × IsJsonList text items × IsWrongText items number
 KeyFileCause NotList text =
     IsListText text × ((texts : List (List ℕ)) → ¬ IsJsonList text (map string texts))
-KeyFileCause Memory text = Unit {0}
+KeyFileCause Memory text = IsListText text ⊎ IsKeySized (lines_of text)

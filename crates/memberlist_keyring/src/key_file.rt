@@ -1,10 +1,10 @@
 //! The keys of a file.
 
-ghost use Rattle.std.specs.Prelude.{◌≡◌, ◌⊎◌, ◌∷◌, ◌++◌, [], ℕ, List, length, map, MatchBool, IfOk, IfErr, OnOk};
+ghost use Rattle.std.specs.Prelude.{◌≡◌, ◌⊎◌, ◌∷◌, ◌++◌, [], ℕ, List, length, map, MatchBool, IfOk, IfErr, OnOk, OnErr};
 ghost use Rattle.std.specs.Str.Lines.{strip_carriage_return};
 ghost use Rattle.serde_json.specs.Data.{Data};
 ghost use Rattle.serde_json.specs.View.{view};
-ghost use Rattle.memberlist_keyring.specs.KeyFile.{IsKeyText, LineHolds, lines_of, ItemHolds, HoldInOrder, IsBlank, IsListText, IsKeyFile, IsJsonList, ItemsCause, KeyFileCause};
+ghost use Rattle.memberlist_keyring.specs.KeyFile.{IsKeyText, HasKeySize, LineHolds, lines_of, ItemHolds, HoldInOrder, IsBlank, IsListText, IsKeyFile, IsJsonList, ItemsCause, KeyFileCause};
 
 use crate::KeyFileFault;
 use crate::key::{Key, key_of};
@@ -58,10 +58,11 @@ fn keys_of_lines(alloc: Global, text: &[u8]) -> Result<Vec<Key>, KeyFileFault>
 
 /// Adds the key of a line, if it has one. Says whether the line may stand in a file.
 fn add_line(alloc: Global, keys: &mut Vec<Key>, line: &[u8]) -> Result<bool, AllocError>
-    ensures { IfOk result (λ good. MatchBool good
+    ensures adds { IfOk result (λ good. MatchBool good
         ((held : List (List ℕ)) × LineHolds line.now held
         × (keys.new.items ≡ keys.old.items ++ held))
         ((held : List (List ℕ)) → ¬ LineHolds line.now held)) }
+    ensures memory { OnErr result (HasKeySize (strip_carriage_return line.now)) }
 {
     let content = content_of(line);
     if content.is_empty() {
@@ -83,10 +84,12 @@ fn content_of(line: &[u8]) -> &[u8]
 }
 
 /// Adds the key whose base64 the text is. Says whether it is that of a key.
+#[tactic(auto, using(crate::proofs::Keys::key_size))]
 fn add_text(alloc: Global, keys: &mut Vec<Key>, text: &[u8]) -> Result<bool, AllocError>
-    ensures { IfOk result (λ good. MatchBool good
+    ensures adds { IfOk result (λ good. MatchBool good
         ((key : List ℕ) × IsKeyText text.now key × (keys.new.items ≡ keys.old.items ++ key ∷ []))
         ((key : List ℕ) → ¬ IsKeyText text.now key)) }
+    ensures memory { OnErr result (HasKeySize text.now) }
 {
     let Some(key) = key_of(alloc, text)? else {
         return Ok(false);

@@ -1,9 +1,9 @@
 //! A cluster's keys.
 
-ghost use Rattle.std.specs.Prelude.{◌≡◌, ◌≢◌, ◌++◌, ℕ, List, [], MatchBool, IfOk, IfErr, OnOk, OnErr};
+ghost use Rattle.std.specs.Prelude.{◌≡◌, ◌≢◌, ◌++◌, ℕ, List, [], MatchBool, IfOk, IfErr, IsErrOf, OnOk, OnErr};
 ghost use Rattle.memberlist_cipher.specs.declared.fault.CipherFault.TheVariants.{Memory as CipherMemory};
 ghost use Rattle.memberlist_cipher.specs.Refusal.{PacketCause, StreamCause};
-ghost use Rattle.memberlist_keyring.specs.Cutting.{IsRefused};
+ghost use Rattle.memberlist_keyring.specs.Cutting.{IsRefused, AsksMemory};
 ghost use Rattle.memberlist_keyring.specs.KeyFile.{IsKeyFile, KeyFileCause};
 ghost use Rattle.memberlist_keyring.specs.Opening.{Opens, OpensStream, OpensFirst, OpensStreamFirst};
 
@@ -58,7 +58,8 @@ impl Keyring {
     /// `Line` with the first line that is no key. `NotList` where what begins as a list is no list
     /// in JSON; of a list, by its first item that is no key: `Item` where it is a text, and else
     /// `NotList`.
-    /// `Memory` where a growth of memory is refused. The keyring is then as it was.
+    /// `Memory` where a growth of memory is refused, of lines only behind right ones and at one that
+    /// has as many characters as a key's. The keyring is then as it was.
     ///
     /// Source: what `consul keygen` and `serf keygen` print, and serf's keyring files; what may
     /// stand around a key is own.
@@ -82,7 +83,8 @@ impl Keyring {
     ///
     /// # Errors
     ///
-    /// `WrongTag` where there is no key, `Memory` where a growth of memory is refused, and else
+    /// `WrongTag` where there is no key; `Memory` where a growth of memory is refused, which is asked
+    /// for once the bytes behind the label have their parts; and else
     /// what [`memberlist_cipher::decrypt`] answers to the last key.
     ///
     /// Source: memberlist's net.go, label.go and security.go; which fault is answered is own.
@@ -93,6 +95,8 @@ impl Keyring {
             → (message : List ℕ) → ¬ Opens self.now bytes.now message) }
         ensures explains { IfErr result (λ fault. fault ≢ CipherMemory
             → IsRefused PacketCause self.now bytes.now fault) }
+        ensures memory { IsErrOf result CipherMemory
+            → AsksMemory PacketCause self.now bytes.now }
     {
         let (label, rest) = cut_label(bytes);
         try_keys(alloc, &self.keys, label, rest)
@@ -103,7 +107,8 @@ impl Keyring {
     ///
     /// # Errors
     ///
-    /// `WrongTag` where there is no key, `Memory` where a growth of memory is refused, and else
+    /// `WrongTag` where there is no key; `Memory` where a growth of memory is refused, which is asked
+    /// for once the bytes behind the label have their parts; and else
     /// what [`memberlist_cipher::decrypt_stream`] answers to the last key.
     ///
     /// Source: memberlist's net.go, label.go and security.go; which fault is answered is own.
@@ -114,6 +119,8 @@ impl Keyring {
             → (message : List ℕ) → ¬ OpensStream self.now bytes.now message) }
         ensures explains { IfErr result (λ fault. fault ≢ CipherMemory
             → IsRefused StreamCause self.now bytes.now fault) }
+        ensures memory { IsErrOf result CipherMemory
+            → AsksMemory StreamCause self.now bytes.now }
     {
         let (label, rest) = cut_label(bytes);
         try_keys_of_stream(alloc, &self.keys, label, rest)

@@ -1,6 +1,6 @@
 //! Keys tried in order.
 
-ghost use Rattle.std.specs.Prelude.{◌≡◌, ◌≢◌, ℕ, List, IfOk, IfErr};
+ghost use Rattle.std.specs.Prelude.{◌≡◌, ◌≢◌, ℕ, List, IfOk, IfErr, IsErrOf};
 ghost use Rattle.std.specs.List.{Contains};
 ghost use Rattle.memberlist_cipher.specs.declared.fault.CipherFault.TheVariants.{Memory};
 ghost use Rattle.memberlist_cipher.specs.Encryption.{Encryption, StreamEncryption};
@@ -25,6 +25,8 @@ pub(crate) fn try_keys(
         → (message : List ℕ) → ¬ Encryption key label.now rest.now message) }
     ensures explains { IfErr result (λ fault. fault ≢ Memory
         → IsFaultOfKeys (λ f key. PacketCause f key label.now rest.now) keys.now fault) }
+    ensures memory { IsErrOf result Memory → (key : List ℕ) × Contains keys.now key
+        × PacketCause Memory key label.now rest.now }
 {
     let mut last = CipherFault::WrongTag;
     for key in keys {
@@ -52,6 +54,8 @@ pub(crate) fn try_keys_of_stream(
         → (message : List ℕ) → ¬ StreamEncryption key label.now rest.now message) }
     ensures explains { IfErr result (λ fault. fault ≢ Memory
         → IsFaultOfKeys (λ f key. StreamCause f key label.now rest.now) keys.now fault) }
+    ensures memory { IsErrOf result Memory → (key : List ℕ) × Contains keys.now key
+        × StreamCause Memory key label.now rest.now }
 {
     let mut last = CipherFault::WrongTag;
     for key in keys {

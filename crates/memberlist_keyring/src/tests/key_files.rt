@@ -115,6 +115,16 @@ fn the_first_line_that_is_no_key_is_named(rt: HostRuntime) -> Result<(), Fail> {
         // one byte too few and too many
         ("AAAAAAAAAAAAAAAAAAAA", 1),
         ("AAAAAAAAAAAAAAAAAAAAAAA=", 1),
+        // the bytes of keys, and of each length too many or too few
+        ("EBceJSwzOkFIT1ZdZGty", 1),
+        ("GB8mLTQ7QklQV15lbHN6gYg=", 1),
+        ("GB8mLTQ7QklQV15lbHN6gYiP", 1),
+        ("GB8mLTQ7QklQV15lbHN6gYiPlp2kqw==", 1),
+        ("GB8mLTQ7QklQV15lbHN6gYiPlp2kq7I=", 1),
+        ("ICcuNTxDSlFYX2ZtdHuCiZCXnqWss7rByM/W3eTr8g==", 1),
+        ("ICcuNTxDSlFYX2ZtdHuCiZCXnqWss7rByM/W3eTr8vkA", 1),
+        // one that ends in what is no base64
+        ("EBceJSwzOkFIT1ZdZGtyeQ=!", 1),
         // no padding, too much, and bits behind the last byte
         ("AAAAAAAAAAAAAAAAAAAAAA", 1),
         ("AAAAAAAAAAAAAAAAAAAAAA===", 1),
@@ -232,5 +242,15 @@ fn want_of_memory_leaves_the_keyring_as_it_was(rt: HostRuntime) -> Result<(), Fa
         let mut keyring = Keyring::new(rt.alloc());
         add_again(&rt, rt.alloc(), &mut keyring, text.as_bytes())?;
     }
+    Ok(())
+}
+
+/// A file of line feeds alone, of which none takes memory.
+#[test]
+fn a_file_of_empty_lines_asks_for_little(rt: HostRuntime) -> Result<(), Fail> {
+    let text = [b'\n'; 60_000];
+    let mut keyring = Keyring::new(rt.alloc());
+    keyring.add_file(rt.alloc(), &text)?;
+    assert!(rt; keyring.is_empty());
     Ok(())
 }

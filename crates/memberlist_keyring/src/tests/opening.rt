@@ -91,7 +91,7 @@ fn long(alloc: Global) -> Result<Vec<u8>, AllocError> {
     let mut byte = 0u8;
     for _ in 0..255 {
         bytes.push(byte)?;
-        byte = byte.wrapping_add(7);
+        byte = byte.wrapping_add(11);
     }
     bytes.extend_from_slice(LONG)?;
     Ok(bytes)

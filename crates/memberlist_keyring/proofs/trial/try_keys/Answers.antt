@@ -1,4 +1,5 @@
-use Rattle.std.proofs.Common.{arith}
+use Rattle.std.proofs.Common.{◌≡◌, arith}
+use Rattle.memberlist_cipher.specs.declared.fault.CipherFault.TheVariants.{Memory}
 use Rattle.memberlist_keyring.proofs.Trying.{IsFirst-at, Tried-more, Tried-all}
 use Rattle.memberlist_keyring.proofs.trial.try_keys.Goals as goal
 
@@ -11,8 +12,11 @@ returns-in-Ok-clause-opens c =
 pub loop-key-preserved : goal.loop-key-preserved
 loop-key-preserved c =
     Tried-more _ _ c.args.keys.now c.loop-key.key-index c.loop-key.last _ c.bytes.result.now (omega arith)
-    (rw c.bytes.ensures c.key-item.is) c.loop-key.invariant c.in-Err.ensures.refuses
+    (rw c.bytes.ensures c.key-item.is) c.loop-key.invariant c.in-Err.ensures.refuses c.in_default.not-Memory
     (c.in-Err.ensures.lacks c.in_default.not-Memory)
 
 pub returns-clause-lacks : goal.returns-clause-lacks
 returns-clause-lacks c other = Tried-all _ _ c.args.keys.now c.loop-key.key-index c.loop-key.last (omega arith) c.loop-key.invariant
+
+pub returns-clause-memory : goal.returns-clause-memory
+returns-clause-memory c = λ is. absurd (c.loop-key.invariant.other (let e : c.loop-key.last ≡ Memory = cc in e))

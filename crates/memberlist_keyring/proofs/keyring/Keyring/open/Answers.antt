@@ -1,7 +1,7 @@
 use Rattle.std.proofs.Common.{◌∙◌}
 use Rattle.std.proofs.lemmas.Result.{IfOk-weaker}
 use Rattle.memberlist_cipher.specs.Refusal.{PacketCause}
-use Rattle.memberlist_keyring.proofs.Openings.{packet_opens, packet_first, packet_lacks, refused}
+use Rattle.memberlist_keyring.proofs.Openings.{packet_opens, packet_first, packet_lacks, refused, asks}
 use Rattle.memberlist_keyring.proofs.keyring.Keyring.open.Goals as goal
 
 pub returns-clause-opens : goal.returns-clause-opens
@@ -27,3 +27,8 @@ pub returns-clause-explains : goal.returns-clause-explains
 returns-clause-explains c =
     refused PacketCause c.try_keys.result c.args.self.now c.deref.result.now c.args.bytes.now _ _ (c.deref.ensures.value ∙ c.self.view_is) c.cut_label.ensures
     c.try_keys.ensures.explains
+
+pub returns-clause-memory : goal.returns-clause-memory
+returns-clause-memory c =
+    asks PacketCause c.try_keys.result c.args.self.now c.deref.result.now c.args.bytes.now _ _ (c.deref.ensures.value ∙ c.self.view_is) c.cut_label.ensures
+    c.try_keys.ensures.memory

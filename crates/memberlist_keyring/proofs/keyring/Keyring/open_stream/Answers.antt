@@ -1,7 +1,7 @@
 use Rattle.std.proofs.Common.{◌∙◌}
 use Rattle.std.proofs.lemmas.Result.{IfOk-weaker}
 use Rattle.memberlist_cipher.specs.Refusal.{StreamCause}
-use Rattle.memberlist_keyring.proofs.Openings.{stream_opens, stream_first, stream_lacks, refused}
+use Rattle.memberlist_keyring.proofs.Openings.{stream_opens, stream_first, stream_lacks, refused, asks}
 use Rattle.memberlist_keyring.proofs.keyring.Keyring.open_stream.Goals as goal
 
 pub returns-clause-opens : goal.returns-clause-opens
@@ -29,3 +29,8 @@ returns-clause-explains c =
     refused StreamCause c.try_keys_of_stream.result c.args.self.now c.deref.result.now c.args.bytes.now _ _
     (c.deref.ensures.value ∙ c.self.view_is) c.cut_label.ensures
     c.try_keys_of_stream.ensures.explains
+
+pub returns-clause-memory : goal.returns-clause-memory
+returns-clause-memory c =
+    asks StreamCause c.try_keys_of_stream.result c.args.self.now c.deref.result.now c.args.bytes.now _ _ (c.deref.ensures.value ∙ c.self.view_is) c.cut_label.ensures
+    c.try_keys_of_stream.ensures.memory
