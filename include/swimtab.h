@@ -139,7 +139,8 @@ typedef struct swimtab_member_data {
     uint32_t state;    /* SWIMTAB_ALIVE, .._SUSPECT, .._CONFIRM or .._LEAVE */
     uint32_t inc;      /* the incarnation of the claim that stands */
     bool has_home;     /* whether an Alive was ever seen: if not, what follows is 0, but for the name */
-    uint32_t home_inc; /* the newest Alive: its incarnation, and from here its address and the rest */
+    /* the greatest Alive, by incarnation and then by what follows; it need not be the latest one */
+    uint32_t home_inc; /* its incarnation, and from here its address and the rest */
     uint16_t port;
     uint16_t name_len; /* 1 to 1,024 */
     uint16_t meta_len; /* 0 to 512 */
@@ -211,8 +212,8 @@ static inline uint32_t swimtab_close(swimtab_node *node) {
 /* ------------------------------------------------------------------ gossip */
 
 /* Takes in the claim of a packet, or all claims of a compound packet: one UDP payload, without
- * label, checksum, encryption or compression. A packet about a name that is known takes memory only
- * for its metadata, its `From`, and a name of more than 30 bytes.
+ * label, checksum, encryption or compression. The texts and bytes of a packet may take memory while
+ * it is read. Of a packet about a name that is known, only newer metadata stays.
  *
  * SWIMTAB_DONE, also where it says nothing new; SWIMTAB_NO_NODE_HERE, .._MEMORY, and for what is no
  * packet or compound packet the fault at which its reading stops: .._ENDED to .._MAP_COUNT,
@@ -309,9 +310,10 @@ static inline swimtab_written swimtab_compound(const void *packets, size_t len,
 /* ------------------------------------------------------------------ exchanges */
 
 /* Writes the node's canonical dump, with which an exchange begins: the push/pull stream that a member
- * sends over TCP, without label, encryption or compression. memberlist sets `join` where it joins.
+ * sends over TCP, without label, encryption or compression. memberlist sets `join` where it joins. It
+ * takes no memory, and a call without a buffer adds lengths up and encodes nothing.
  *
- * SWIMTAB_DONE; SWIMTAB_TOO_SMALL; SWIMTAB_NO_NODE_HERE; SWIMTAB_TOO_MANY_RECORDS; SWIMTAB_MEMORY. */
+ * SWIMTAB_DONE; SWIMTAB_TOO_SMALL; SWIMTAB_NO_NODE_HERE; SWIMTAB_TOO_MANY_RECORDS. */
 static inline swimtab_written swimtab_offer(swimtab_node *node, bool join, void *out,
                                             size_t out_len) {
     const swimtab_written refused = {SWIMTAB_NO_NODE_HERE, 0};
@@ -325,8 +327,9 @@ static inline swimtab_written swimtab_dump(swimtab_node *node, void *out, size_t
 }
 
 /* Answers an offer: reads the stream, writes the node's dump of before, with the same join flag, and
- * takes the stream in. All memory is there before the reply is written. Bytes behind the stream are
- * not looked at; `used` says where it ends.
+ * takes the stream in. All memory is there before the reply is written, and none is taken for the
+ * reply itself: a call without a buffer reads the stream and adds lengths up. Bytes behind the stream
+ * are not looked at; `used` says where it ends.
  *
  * SWIMTAB_DONE; SWIMTAB_TOO_SMALL: nothing was written or taken in, and `join`, `used` and `len` say
  * what they would; SWIMTAB_NO_NODE_HERE; SWIMTAB_TOO_MANY_RECORDS; SWIMTAB_MEMORY; and for what is no

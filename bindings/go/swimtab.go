@@ -62,7 +62,8 @@ func (r Relation) String() string {
 	return "unknown"
 }
 
-// Home is the newest Alive of a member.
+// Home is the greatest Alive of a member, by incarnation and then by address, port, metadata and
+// versions. It need not be the latest one.
 type Home struct {
 	Incarnation uint32
 	Details

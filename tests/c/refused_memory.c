@@ -195,10 +195,28 @@ static void an_alive_of_a_known_name_takes_no_memory(void) {
     WANT(swimtab_close(&first) == 0 && swimtab_close(&second) == 0 && held == 0);
 }
 
+static void an_offer_takes_no_memory(void) {
+    WANT(open_first() == 0 && take_alive() == 0 && take_compound() == 0);
+    until_refused = 0;
+    watching = true;
+    swimtab_written asked = swimtab_offer(&first, true, NULL, 0);
+    WANT(asked.status == SWIMTAB_TOO_SMALL);
+    swimtab_written short_by_one = swimtab_offer(&first, true, out, asked.len - 1);
+    WANT(short_by_one.status == SWIMTAB_TOO_SMALL && short_by_one.len == asked.len);
+    swimtab_written made = swimtab_offer(&first, true, out, asked.len);
+    WANT(made.status == SWIMTAB_DONE && made.len == asked.len);
+    watching = false;
+    WANT(until_refused == 0);
+    until_refused = -1;
+    WANT(swimtab_finish(&first, out, made.len).used == made.len);
+    WANT(swimtab_close(&first) == 0 && held == 0);
+}
+
 int main(void) {
     static const struct test tests[] = {
         {"each allocation may be refused", each_allocation_may_be_refused},
         {"an Alive of a known name takes no memory", an_alive_of_a_known_name_takes_no_memory},
+        {"an offer takes no memory", an_offer_takes_no_memory},
     };
     /* the first print takes a block for its buffer */
     printf("refused memory:\n");

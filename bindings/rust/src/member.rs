@@ -26,7 +26,8 @@ pub enum State {
     Leave,
 }
 
-/// The newest Alive of a member.
+/// The greatest Alive of a member, by incarnation and then by address, port, metadata and versions.
+/// It need not be the latest one.
 #[derive(Clone, Debug, PartialEq, Eq)]
 pub struct Home {
     pub incarnation: u32,

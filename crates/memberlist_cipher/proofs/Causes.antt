@@ -1,14 +1,17 @@
 -- A cause of a refusal other than want of memory leaves no message.
-use Rattle.std.proofs.Common.{◌≡◌, ◌≢◌, ℕ, ◌+◌, ◌<◌, ◌≤◌, inl, inr, List, [], ◌∷◌, ◌++◌, length, slice_index, refl, sym, ap, subst, ◌∙◌, arith, length-append}
+use Rattle.std.proofs.Common.{IfErr, Result, Ok, Err, ◌≡◌, ◌≢◌, ℕ, ◌+◌, ◌<◌, ◌≤◌, inl, inr, List, [], ◌∷◌, ◌++◌, length, slice_index, refl, sym, ap, subst, ◌∙◌, arith, length-append}
 use Rattle.std.proofs.lemmas.Nat.{from_be_bytes-to_be_bytes_4}
 use Rattle.memberlist_cipher.specs.declared.fault.CipherFault.{CipherFault}
 use Rattle.memberlist_cipher.specs.declared.fault.CipherFault.TheVariants.{BadKey, TooLong, TooShort, WrongVersion, WrongTag, BadPadding, NotEncrypted, Trailing, Memory}
 use Rattle.memberlist_cipher.specs.Block.{aes}
 use Rattle.memberlist_cipher.specs.Gcm.{tag}
 use Rattle.memberlist_cipher.specs.Encryption.{IsKey, IsWithin, Encryption, head, IsStream, StreamEncryption}
-use Rattle.memberlist_cipher.specs.Refusal.{FormCause, PacketCause, announced, HeadCause, StreamCause}
+use Rattle.memberlist_cipher.specs.Refusal.{PacketParts, FormCause, PacketCause, announced, HeadCause, StreamCause}
 use Rattle.memberlist_cipher.proofs.Sealing.{good_sizes}
 use Rattle.memberlist_cipher.proofs.Refusing.{length-tag, Made, made, bad_tag, bad_padding}
+
+abbrev pub layout : (bytes : List ℕ) (v : ℕ) (n i m : List ℕ) → v < 2 → length n ≡ 12 → length m ≡ 16 → bytes ≡ v ∷ (n ++ (i ++ m)) → PacketParts bytes
+layout bytes v n i m known a b e = record { version = v; nonce = n; inner = i; mark = m; known = known; nonce_size = a; mark_size = b; text = e }
 
 pub form_cause : (fault : CipherFault) (key associated bytes : List ℕ) → IsKey key → IsWithin associated bytes
     → FormCause fault bytes → PacketCause fault key associated bytes
@@ -60,6 +63,11 @@ no_message BadPadding key associated bytes message other c e =
 no_message Memory key associated bytes message other c e = other refl
 no_message NotEncrypted key associated bytes message other c e = c
 no_message Trailing key associated bytes message other c e = c
+
+pub lacking : {A : Type 0} (r : Result A CipherFault) (key associated bytes : List ℕ) → IfErr r (λ fault. PacketCause fault key associated bytes)
+    → IfErr r (λ fault. fault ≢ Memory → (message : List ℕ) → ¬ Encryption key associated bytes message)
+lacking (Ok x) key associated bytes h = h
+lacking (Err fault) key associated bytes h = λ other message. no_message fault key associated bytes message other h
 
 pub length-head : (n : ℕ) → length (head n) ≡ 5
 unfolding head
@@ -114,3 +122,8 @@ no_stream_message fault key label bytes message other (inr h) s =
       | inl memory ↦ other memory
       | inr c ↦ no_message fault key (head (length h.0) ++ label) h.0 message other c e
     ]
+
+pub lacking_stream : {A : Type 0} (r : Result A CipherFault) (key label bytes : List ℕ) → IfErr r (λ fault. StreamCause fault key label bytes)
+    → IfErr r (λ fault. fault ≢ Memory → (message : List ℕ) → ¬ StreamEncryption key label bytes message)
+lacking_stream (Ok x) key label bytes h = h
+lacking_stream (Err fault) key label bytes h = λ other message. no_stream_message fault key label bytes message other h

@@ -11,3 +11,4 @@ pub mod Causes
 pub mod Once
 pub mod Streams
 pub mod Mixing
+pub mod Prepared

@@ -1,13 +1,13 @@
 -- What the tables of columns hold, and the sum of one entry of each.
-use Rattle.std.proofs.Common.{◌≡◌, ℕ, ◌+◌, ◌*◌, ◌^◌, ◌<◌, Bool, true, false, ◌&&◌, eqb, nat_lt, List, [], ◌∷◌, length, get_or, refl, ap, ◌∙◌, subst, arith, bit_xor, zero, suc}
-use Rattle.std.specs.Int.{w32, to_be_bytes, from_be_bytes}
+use Rattle.std.proofs.Common.{◌≡◌, ℕ, ◌+◌, ◌*◌, ◌^◌, ◌<◌, Bool, true, false, ◌&&◌, eqb, nat_lt, List, [], ◌∷◌, length, get_or, ◌/◌, ◌%◌, refl, ap, ap₂, ◌∙◌, subst, arith, bit_xor, bit_or, zero, suc}
+use Rattle.std.specs.Int.{w32, to_be_bytes, from_be_bytes, rotate_right}
 use Rattle.std.specs.Int.Bits.{xor_assoc}
 use Rattle.std.proofs.lemmas.Bool.{eqb-true, ltb-true}
-use Rattle.std.proofs.lemmas.Nat.{xor_block, xor_comm, xor_of_8, be_bytes_4}
+use Rattle.std.proofs.lemmas.Nat.{xor_block, xor_comm, xor_of_8, or_comm, or_shifted, be_bytes_4}
 use Rattle.memberlist_cipher.specs.Field.{carryless, modulo, product, sub}
 use Rattle.memberlist_cipher.specs.Block.{mix, mix_columns}
 use Rattle.memberlist_cipher.specs.declared.field.TheConstants.{SBOX}
-use Rattle.memberlist_cipher.specs.declared.columns.TheConstants.{FIRST, SECOND, THIRD, FOURTH}
+use Rattle.memberlist_cipher.specs.declared.columns.TheConstants.{FIRST}
 use Rattle.memberlist_cipher.proofs.Tables.{both, SBOX_at}
 use Rattle.memberlist_cipher.proofs.Sixteen.{cons}
 use Rattle.memberlist_cipher.proofs.Streams.{four_fit}
@@ -46,18 +46,6 @@ all_first : agree_with first SBOX FIRST ≡ true
 unfolding agree_with first product carryless modulo
 all_first = refl
 
-all_second : agree_with second SBOX SECOND ≡ true
-unfolding agree_with second product carryless modulo
-all_second = refl
-
-all_third : agree_with third SBOX THIRD ≡ true
-unfolding agree_with third product carryless modulo
-all_third = refl
-
-all_fourth : agree_with fourth SBOX FOURTH ≡ true
-unfolding agree_with fourth product carryless modulo
-all_fourth = refl
-
 -- ---- bytes
 
 -- the byte, and its products, are bytes
@@ -90,6 +78,56 @@ all_bytes = refl
 
 small_sub : (k : ℕ) → k < 256 → Small (sub k)
 small_sub k below = let P : ℕ → Type 0 = λ s. Small s in subst P (SBOX_at k below) (small_at SBOX k all_bytes below)
+
+-- ---- words turned
+
+turned_8 : (x t : ℕ) → x < 2 ^ 24 → t < 2 ^ 8 → rotate_right w32 (x * 2 ^ 8 + t) 8 ≡ t * 2 ^ 24 + x
+turned_8 x t hx ht =
+    let a : (x * 2 ^ 8 + t) / 2 ^ 8 ≡ x = omega arith in
+    let b : ((x * 2 ^ 8 + t) * 2 ^ 24) % 2 ^ 32 ≡ t * 2 ^ 24 = omega arith in
+    ap₂ bit_or a b ∙ or_comm x (t * 2 ^ 24) ∙ or_shifted t 24 x hx
+
+turned_16 : (x t : ℕ) → x < 2 ^ 16 → t < 2 ^ 16 → rotate_right w32 (x * 2 ^ 16 + t) 16 ≡ t * 2 ^ 16 + x
+turned_16 x t hx ht =
+    let a : (x * 2 ^ 16 + t) / 2 ^ 16 ≡ x = omega arith in
+    let b : ((x * 2 ^ 16 + t) * 2 ^ 16) % 2 ^ 32 ≡ t * 2 ^ 16 = omega arith in
+    ap₂ bit_or a b ∙ or_comm x (t * 2 ^ 16) ∙ or_shifted t 16 x hx
+
+turned_24 : (x t : ℕ) → x < 2 ^ 8 → t < 2 ^ 24 → rotate_right w32 (x * 2 ^ 24 + t) 24 ≡ t * 2 ^ 8 + x
+turned_24 x t hx ht =
+    let a : (x * 2 ^ 24 + t) / 2 ^ 24 ≡ x = omega arith in
+    let b : ((x * 2 ^ 24 + t) * 2 ^ 8) % 2 ^ 32 ≡ t * 2 ^ 8 = omega arith in
+    ap₂ bit_or a b ∙ or_comm x (t * 2 ^ 8) ∙ or_shifted t 8 x hx
+
+second_turned : (s : ℕ) → Small s → rotate_right w32 (first s) 8 ≡ second s
+unfolding first second
+second_turned s h =
+    let one = h.one in
+    let two = h.two in
+    let three = h.three in
+    turned_8 ((product 2 s * 2 ^ 8 + s) * 2 ^ 8 + s) (product 3 s) (omega arith) three ∙ omega arith
+
+third_turned : (s : ℕ) → Small s → rotate_right w32 (first s) 16 ≡ third s
+unfolding first third
+third_turned s h =
+    let one = h.one in
+    let two = h.two in
+    let three = h.three in
+    let e : first s ≡ (product 2 s * 2 ^ 8 + s) * 2 ^ 16 + (s * 2 ^ 8 + product 3 s) = omega arith in
+    ap (λ (n : ℕ). rotate_right w32 n 16) e
+    ∙ turned_16 (product 2 s * 2 ^ 8 + s) (s * 2 ^ 8 + product 3 s) (omega arith) (omega arith)
+    ∙ omega arith
+
+fourth_turned : (s : ℕ) → Small s → rotate_right w32 (first s) 24 ≡ fourth s
+unfolding first fourth
+fourth_turned s h =
+    let one = h.one in
+    let two = h.two in
+    let three = h.three in
+    let e : first s ≡ product 2 s * 2 ^ 24 + ((s * 2 ^ 8 + s) * 2 ^ 8 + product 3 s) = omega arith in
+    ap (λ (n : ℕ). rotate_right w32 n 24) e
+    ∙ turned_24 (product 2 s) ((s * 2 ^ 8 + s) * 2 ^ 8 + product 3 s) two (omega arith)
+    ∙ omega arith
 
 -- ---- sums
 
@@ -147,11 +185,16 @@ mixed a b c d =
     (cons (turn a b (product 2 c) (product 3 d) ∙ turn b (product 2 c) (product 3 d) a)
     (cons (turn (product 3 a) b c (product 2 d) ∙ turn b c (product 2 d) (product 3 a) ∙ turn c (product 2 d) (product 3 a) b) refl)))
 
-pub column_is : (a b c d n : ℕ) → a < 256 → b < 256 → c < 256 → d < 256
-    → n ≡ bit_xor (bit_xor (bit_xor (get_or FIRST a 0) (get_or SECOND b 0)) (get_or THIRD c 0)) (get_or FOURTH d 0)
+-- the entry of a byte in the table
+entry : (k : ℕ) → k < 256 → get_or FIRST k 0 ≡ first (sub k)
+entry k below = agree_with_at first SBOX FIRST k all_first below ∙ ap first (SBOX_at k below)
+
+pub column_is : (a b c d m2 m3 m4 n : ℕ) → a < 256 → b < 256 → c < 256 → d < 256
+    → m2 ≡ rotate_right w32 (get_or FIRST b 0) 8 → m3 ≡ rotate_right w32 (get_or FIRST c 0) 16 → m4 ≡ rotate_right w32 (get_or FIRST d 0) 24
+    → n ≡ bit_xor (bit_xor (bit_xor (get_or FIRST a 0) m2) m3) m4
     → to_be_bytes w32 n ≡ mix_columns (sub a ∷ sub b ∷ sub c ∷ sub d ∷ [])
 unfolding four_xor
-column_is a b c d n ha hb hc hd is =
+column_is a b c d m2 m3 m4 n ha hb hc hd e2 e3 e4 is =
     let s = sub a in
     let t = sub b in
     let u = sub c in
@@ -160,11 +203,11 @@ column_is a b c d n ha hb hc hd is =
     let kt = small_sub b hb in
     let ku = small_sub c hc in
     let kv = small_sub d hd in
-    let p : get_or FIRST a 0 ≡ first s = agree_with_at first SBOX FIRST a all_first ha ∙ ap first (SBOX_at a ha) in
-    let q : get_or SECOND b 0 ≡ second t = agree_with_at second SBOX SECOND b all_second hb ∙ ap second (SBOX_at b hb) in
-    let r : get_or THIRD c 0 ≡ third u = agree_with_at third SBOX THIRD c all_third hc ∙ ap third (SBOX_at c hc) in
-    let w : get_or FOURTH d 0 ≡ fourth v = agree_with_at fourth SBOX FOURTH d all_fourth hd ∙ ap fourth (SBOX_at d hd) in
-    let whole : n ≡ four_xor (first s) (second t) (third u) (fourth v) = is ∙ rw (p, q, r, w) refl in
+    let p : get_or FIRST a 0 ≡ first s = entry a ha in
+    let q : m2 ≡ second t = e2 ∙ ap (λ (w : ℕ). rotate_right w32 w 8) (entry b hb) ∙ second_turned t kt in
+    let r : m3 ≡ third u = e3 ∙ ap (λ (w : ℕ). rotate_right w32 w 16) (entry c hc) ∙ third_turned u ku in
+    let x : m4 ≡ fourth v = e4 ∙ ap (λ (w : ℕ). rotate_right w32 w 24) (entry d hd) ∙ fourth_turned v kv in
+    let whole : n ≡ four_xor (first s) (second t) (third u) (fourth v) = is ∙ rw (p, q, r, x) refl in
     ap (to_be_bytes w32) (whole ∙ sum s t u v ks kt ku kv)
     ∙ bytes_of_pack _ _ _ _
     (four_small (product 2 s) (product 3 t) u v ks.two kt.three ku.one kv.one)

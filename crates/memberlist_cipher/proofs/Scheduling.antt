@@ -1,11 +1,13 @@
 -- The words of a key, one by one.
-use Rattle.std.proofs.Common.{◌≡◌, ◌≢◌, ℕ, zero, suc, ◌+◌, ◌-◌, ◌*◌, ◌/◌, ◌%◌, ◌<◌, ◌≤◌, ◌==◌, nat_lt, if◌then◌else◌, Bool, true, false, bit_xor, inl, inr, List, [], ◌∷◌, ◌++◌, length, map, refl, ap, ◌∙◌, arith, length-append}
+use Rattle.std.proofs.Common.{◌≡◌, ◌≢◌, ℕ, zero, suc, ◌+◌, ◌-◌, ◌*◌, ◌/◌, ◌%◌, ◌<◌, ◌≤◌, ◌==◌, nat_lt, if◌then◌else◌, Bool, true, false, bit_xor, inl, inr, List, [], ◌∷◌, ◌++◌, length, map, take, refl, sym, ap, ◌∙◌, arith, length-append, append_assoc, append-nil}
 use Rattle.std.specs.Int.Bits.{xor_zero_r}
+use Rattle.std.proofs.Math.Seq.{take-append_seam}
 use Rattle.std.proofs.lemmas.Bool.{lt-ltb}
 use Rattle.std.proofs.lemmas.Bool.Decides.{nat_tests}
 use Rattle.memberlist_cipher.specs.Field.{sub, x_to}
 use Rattle.memberlist_cipher.specs.Block.{plus_bytes, word, turned, added, next_word, expanded, schedule}
 use Rattle.memberlist_cipher.specs.Encryption.{IsKey}
+use Rattle.memberlist_cipher.specs.Prepared.{scheduled_key}
 use Rattle.memberlist_cipher.proofs.Sixteen.{four}
 
 pub added_first : (nk i a b c d : ℕ) → i % nk ≡ 0 → added nk i (a ∷ b ∷ c ∷ d ∷ []) ≡ bit_xor (sub b) (x_to (i / nk - 1)) ∷ sub c ∷ sub d ∷ sub a ∷ []
@@ -64,3 +66,26 @@ unfolding schedule
 length-schedule key (inl e) = length-expanded (length key / 4) (28 + 3 * (length key / 4)) key ∙ omega arith
 length-schedule key (inr (inl e)) = length-expanded (length key / 4) (28 + 3 * (length key / 4)) key ∙ omega arith
 length-schedule key (inr (inr e)) = length-expanded (length key / 4) (28 + 3 * (length key / 4)) key ∙ omega arith
+
+-- a schedule begins with the key
+expanded_front : (nk n : ℕ) (w : List ℕ) → (more : List ℕ) × (expanded nk n w ≡ w ++ more)
+unfolding expanded
+expanded_front nk zero w = ([], sym (append-nil w))
+expanded_front nk (suc n) w =
+    let rest = expanded_front nk n (w ++ next_word nk w) in
+    (next_word nk w ++ rest.0, rest.1 ∙ append_assoc w (next_word nk w) rest.0)
+
+key_size : (key : List ℕ) → IsKey key → length (schedule key) / 4 - 28 ≡ length key
+key_size key (inl e) = omega (arith, length-schedule key (inl e))
+key_size key (inr (inl e)) = omega (arith, length-schedule key (inr (inl e)))
+key_size key (inr (inr e)) = omega (arith, length-schedule key (inr (inr e)))
+
+pub scheduled_is : (key words : List ℕ) → IsKey key → words ≡ schedule key → scheduled_key words ≡ key
+unfolding scheduled_key schedule
+scheduled_is key words good is =
+    let nk = length key / 4 in
+    let front = expanded_front nk (28 + 3 * nk) key in
+    ap (λ (w : List ℕ). take (length w / 4 - 28) w) is
+    ∙ ap (λ (n : ℕ). take n (schedule key)) (key_size key good)
+    ∙ ap (take (length key)) front.1
+    ∙ take-append_seam key front.0

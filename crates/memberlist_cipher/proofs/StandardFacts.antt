@@ -2,7 +2,7 @@
 use Rattle.std.proofs.Common.{◌≡◌, [], ◌∷◌, replicate, refl}
 use Rattle.memberlist_cipher.specs.Field.{carryless, modulo, product, inverse_up_to, inverse, affine_bit, affine, sub, x_to}
 use Rattle.memberlist_cipher.specs.Block.{plus_bytes, shift_rows, mix, mix_columns, round_key, scrambled, rounds, cipher, word, turned, added, next_word, expanded, schedule, aes}
-use Rattle.memberlist_cipher.specs.Gcm.{times_x, steps, block_product, block, blocks, hashed, hash, counter_block, lengths, tag}
+use Rattle.memberlist_cipher.specs.Gcm.{times_x, steps, block_product, block, blocks, hashed, hash, counter_block, lengths, hash_key, tag}
 
 -- FIPS-197, 4.2
 pub product_vector : product 0x57 0x83 ≡ 0xc1
@@ -43,5 +43,5 @@ pub gcm_2 : tag (aes (replicate 16 0)) (replicate 12 0) []
     ≡ 0xab ∷ 0x6e ∷ 0x47 ∷ 0xd4 ∷ 0x2c ∷ 0xec ∷ 0x13 ∷ 0xbd ∷ 0xf5 ∷ 0x3a ∷ 0x67 ∷ 0xb2 ∷ 0x12 ∷ 0x57 ∷ 0xbd ∷ 0xdf ∷ []
 unfolding carryless modulo product inverse_up_to inverse affine_bit affine sub x_to plus_bytes shift_rows
     mix mix_columns round_key scrambled rounds cipher word turned added next_word expanded schedule aes
-    times_x steps block_product block blocks hashed hash counter_block lengths tag
+    times_x steps block_product block blocks hashed hash counter_block lengths hash_key tag
 gcm_2 = refl

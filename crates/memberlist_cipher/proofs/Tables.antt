@@ -1,8 +1,11 @@
--- The tables of the S-box and of powers have what their definitions say.
+-- The tables of the S-box, of powers and of reductions have what their definitions say.
 use Rattle.std.proofs.Common.{◌≡◌, ℕ, zero, suc, ◌+◌, ◌<◌, Bool, true, false, ◌&&◌, eqb, List, [], ◌∷◌, length, get_or, refl, ap, ◌∙◌, arith}
 use Rattle.std.proofs.lemmas.Bool.{eqb-true}
 use Rattle.memberlist_cipher.specs.Field.{carryless, modulo, product, inverse_up_to, inverse, affine_bit, affine, sub, x_to}
+use Rattle.memberlist_cipher.specs.Gcm.{times_x}
+use Rattle.memberlist_cipher.specs.Products.{shifted}
 use Rattle.memberlist_cipher.specs.declared.field.TheConstants.{SBOX, POWERS}
+use Rattle.memberlist_cipher.specs.declared.hashing.TheConstants.{REDUCE}
 
 agree : (ℕ → ℕ) → ℕ → List ℕ → Bool
 agree f i [] = true
@@ -32,3 +35,10 @@ all_subs = refl
 
 pub SBOX_at : (k : ℕ) → k < 256 → get_or SBOX k 0 ≡ sub k
 SBOX_at k below = agree_at sub 0 SBOX k all_subs below ∙ ap sub (omega arith)
+
+all_reductions : agree (shifted 4) 0 REDUCE ≡ true
+unfolding agree shifted times_x
+all_reductions = refl
+
+pub REDUCE_at : (k : ℕ) → k < 16 → get_or REDUCE k 0 ≡ shifted 4 k
+REDUCE_at k below = agree_at (shifted 4) 0 REDUCE k all_reductions below ∙ ap (shifted 4) (omega arith)

@@ -59,9 +59,13 @@ ctr f nonce bytes = counted_all f nonce 2 bytes
 unfoldable pub lengths : List ℕ → List ℕ → ℕ
 lengths extra sealed = length extra * 8 * 2 ^ 64 + length sealed * 8
 
+-- the block by which the hash multiplies: zeros, enciphered (7.1, step 1)
+unfoldable pub hash_key : (List ℕ → List ℕ) → ℕ
+hash_key f = from_be_bytes w128 (f (replicate 16 0))
+
 -- the tag of enciphered bytes (7.1)
 unfoldable pub tag : (List ℕ → List ℕ) → List ℕ → List ℕ → List ℕ → List ℕ
 tag f nonce extra sealed =
-    let h = from_be_bytes w128 (f (replicate 16 0)) in
+    let h = hash_key f in
     let s = block_product (bit_xor (hash h (hash h 0 extra) sealed) (lengths extra sealed)) h in
     plus_bytes (to_be_bytes w128 s) (f (counter_block nonce 1))

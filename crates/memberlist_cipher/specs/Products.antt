@@ -1,5 +1,5 @@
--- What the code keeps of a block to multiply others by it: products with four bits.
-use Rattle.std.specs.Prelude.{ℕ, zero, suc, List, [], ◌∷◌, ◌++◌}
+-- What the code keeps of a block to multiply others by it: its products with four bits.
+use Rattle.std.specs.Prelude.{ℕ, zero, suc, List, [], ◌∷◌}
 use Rattle.memberlist_cipher.specs.Gcm.{times_x, steps}
 
 -- v times x, n times
@@ -11,8 +11,3 @@ shifted (suc n) v = shifted n (times_x v)
 unfoldable pub row : ℕ → ℕ → ℕ → List ℕ
 row zero digit v = []
 row (suc n) digit v = steps 4 digit 0 v ∷ row n (suc digit) v
-
--- the products with all 16 of them of v, of v times x ^ 4, and so on: n rows
-unfoldable pub rows : ℕ → ℕ → List ℕ
-rows zero v = []
-rows (suc n) v = row 16 0 v ++ rows n (shifted 4 v)

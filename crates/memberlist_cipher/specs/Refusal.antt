@@ -40,6 +40,18 @@ FormCause NotEncrypted bytes = ⊥
 FormCause Trailing bytes = ⊥
 FormCause Memory bytes = ⊥
 
+-- the causes by which a key is not prepared
+abbrev pub KeyCause : CipherFault → List ℕ → Type 0
+KeyCause BadKey key = ¬ IsKey key
+KeyCause Memory key = IsKey key
+KeyCause TooLong key = ⊥
+KeyCause TooShort key = ⊥
+KeyCause WrongVersion key = ⊥
+KeyCause WrongTag key = ⊥
+KeyCause BadPadding key = ⊥
+KeyCause NotEncrypted key = ⊥
+KeyCause Trailing key = ⊥
+
 -- the causes of a refusal by decrypt
 abbrev pub PacketCause : CipherFault → List ℕ → List ℕ → List ℕ → Type 0
 PacketCause BadKey key associated bytes = ¬ IsKey key

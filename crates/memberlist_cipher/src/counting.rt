@@ -1,6 +1,6 @@
 //! Counter mode, SP 800-38D, 6.5.
 
-ghost use Rattle.std.specs.Prelude.{◌≡◌, ◌+◌, ◌*◌, ◌<◌, ◌≤◌, ◌++◌, length, IfOk, OnOk};
+ghost use Rattle.std.specs.Prelude.{◌≡◌, ◌+◌, ◌*◌, ◌<◌, ◌≤◌, ◌++◌, length, vec_len, vec_capacity, IfOk};
 ghost use Rattle.memberlist_cipher.specs.Block.{plus_bytes, cipher};
 ghost use Rattle.memberlist_cipher.specs.Gcm.{counter_block, ctr};
 
@@ -20,15 +20,17 @@ pub(crate) fn counter_block(nonce: &[u8], counter: u32) -> [u8; 16]
     ]
 }
 
-/// Adds the sum of up to 16 bytes and a block at the end.
-fn append_sum(out: &mut Vec<u8>, front: &[u8], mask: [u8; 16]) -> Result<(), AllocError>
-    requires { length front.now ≤ 16 }
-    ensures { OnOk result (out.new.items ≡ out.old.items ++ plus_bytes front.now mask) }
+/// Adds the sum of up to 16 bytes and a block at the end. There is room for it.
+fn append_sum(out: &mut Vec<u8>, front: &[u8], mask: [u8; 16])
+    requires few { length front.now ≤ 16 }
+    requires room { vec_len out.old + length front.now ≤ vec_capacity out.old }
+    ensures items { out.new.items ≡ out.old.items ++ plus_bytes front.now mask }
+    ensures len { vec_len out.new ≡ vec_len out.old + length front.now }
+    ensures in_place { vec_capacity out.new ≡ vec_capacity out.old }
 {
     for (i, b) in front.iter().enumerate() {
-        out.push(*b ^ mask[i])?;
+        out.push_reserved(*b ^ mask[i]);
     }
-    Ok(())
 }
 
 /// The bytes, enciphered or deciphered.
@@ -42,7 +44,9 @@ pub(crate) fn ctr(
     requires few { count < 14 }
     requires words { 16 * count + 32 ≤ length words.now }
     requires nonce { length nonce.now ≡ 12 }
-    ensures { IfOk result (λ out. out.items ≡ ctr (cipher words.now count) nonce.now bytes.now) }
+    ensures bytes { IfOk result (λ out.
+        out.items ≡ ctr (cipher words.now count) nonce.now bytes.now) }
+    ensures size { IfOk result (λ out. vec_capacity out ≡ length bytes.now) }
 {
     let mut out = Vec::with_capacity(alloc, bytes.len())?;
     let mut counter: u32 = 2;
@@ -50,7 +54,7 @@ pub(crate) fn ctr(
     while 0 < rest.len() {
         let (front, back) = split_block(rest);
         let mask = cipher(words, count, counter_block(nonce, counter));
-        append_sum(&mut out, front, mask)?;
+        append_sum(&mut out, front, mask);
         counter = counter.wrapping_add(1);
         rest = back;
     }

@@ -1,11 +1,12 @@
 //! The product and the hash of blocks, SP 800-38D, 6.3 and 6.4.
 
-ghost use Rattle.std.specs.Prelude.{◌≡◌, ◌+◌, ◌*◌, ◌<◌, ◌≤◌, ◌^◌, ◌==◌, ◌++◌, if◌then◌else◌, bit_xor, length, replicate, slice_index, take, drop, IfOk, OnOk};
+ghost use Rattle.std.specs.Prelude.{◌≡◌, ℕ, ◌+◌, ◌*◌, ◌<◌, ◌≤◌, ◌^◌, ◌==◌, ◌++◌, if◌then◌else◌, bit_xor, length, replicate, slice_index, take, drop, vec_len, vec_capacity, IfOk};
 ghost use Rattle.std.specs.Int.{bit_at};
 ghost use Rattle.memberlist_cipher.specs.Gcm.{times_x, steps, block_product, block, hash};
-ghost use Rattle.memberlist_cipher.specs.Products.{row, rows};
+ghost use Rattle.memberlist_cipher.specs.Products.{shifted, row};
 
 use std::alloc::{AllocError, Global};
+use std::marker::Model;
 
 /// The block times x.
 fn times_x(v: u128) -> u128
@@ -39,35 +40,64 @@ fn times_digit(digit: u128, v: u128) -> u128
     plus_at(digit, 0, three, fourth)
 }
 
-/// A block by which others are multiplied: its products with each four bits at each of their 32
-/// places in a block. They are overwritten before their memory is given back.
+/// What four bits that fall off at the right add at the left.
+const REDUCE: [u128; 16] = [
+    0x0000_0000_0000_0000_0000_0000_0000_0000,
+    0x1c20_0000_0000_0000_0000_0000_0000_0000,
+    0x3840_0000_0000_0000_0000_0000_0000_0000,
+    0x2460_0000_0000_0000_0000_0000_0000_0000,
+    0x7080_0000_0000_0000_0000_0000_0000_0000,
+    0x6ca0_0000_0000_0000_0000_0000_0000_0000,
+    0x48c0_0000_0000_0000_0000_0000_0000_0000,
+    0x54e0_0000_0000_0000_0000_0000_0000_0000,
+    0xe100_0000_0000_0000_0000_0000_0000_0000,
+    0xfd20_0000_0000_0000_0000_0000_0000_0000,
+    0xd940_0000_0000_0000_0000_0000_0000_0000,
+    0xc560_0000_0000_0000_0000_0000_0000_0000,
+    0x9180_0000_0000_0000_0000_0000_0000_0000,
+    0x8da0_0000_0000_0000_0000_0000_0000_0000,
+    0xa9c0_0000_0000_0000_0000_0000_0000_0000,
+    0xb5e0_0000_0000_0000_0000_0000_0000_0000,
+];
+
+/// The block times x to the 4.
+fn times_x_4(z: u128) -> u128
+    ensures { result ≡ shifted 4 z }
+{
+    (z >> 4) ^ REDUCE[(z % 16) as usize]
+}
+
+/// A block by which others are multiplied, as its products with each four bits. They are
+/// overwritten before their memory is given back, and never move. Contracts see the block.
 pub(crate) struct Factor {
-    pub(crate) block: u128,
     products: Vec<u128>,
-    ghost has_rows: { products.items ≡ rows 32 block },
+}
+
+impl Model for Factor {
+    ghost Value = { ℕ };
+
+    // the four bits that stand for 1
+    ghost view = { λ factor. slice_index factor.products.items 8 };
+
+    ghost invariant = { λ factor.
+        (factor.products.items ≡ row 16 0 (slice_index factor.products.items 8))
+        × (vec_capacity factor.products ≡ 16) };
 }
 
 impl Factor {
     /// A block, made ready to multiply others.
     pub(crate) fn new(alloc: Global, block: u128) -> Result<Factor, AllocError>
-        ensures { IfOk result (λ made. made.block ≡ block) }
+        ensures { IfOk result (λ made. made ≡ block) }
     {
-        let mut products = Vec::with_capacity(alloc, 512)?;
-        let mut v = block;
-        for _ in 0..32usize {
-            append_row(&mut products, v)?;
-            v = times_x(times_x(times_x(times_x(v))));
-        }
-        Ok(Factor { block, products })
+        let mut products = Vec::with_capacity(alloc, 16)?;
+        append_row(&mut products, block);
+        Ok(Factor { products })
     }
 }
 
 impl Drop for Factor {
     fn drop(self) {
-        let Factor {
-            block: _,
-            mut products,
-        } = self;
+        let Factor { mut products } = self;
         overwrite(&mut products);
     }
 }
@@ -79,24 +109,27 @@ fn overwrite(blocks: &mut [u128])
     blocks.fill(0);
 }
 
-/// Adds the products of each four bits and a block at the end.
-fn append_row(products: &mut Vec<u128>, v: u128) -> Result<(), AllocError>
-    ensures { OnOk result (products.new.items ≡ products.old.items ++ row 16 0 v) }
+/// Adds the products of each four bits and a block at the end. There is room for them.
+fn append_row(products: &mut Vec<u128>, v: u128)
+    requires { vec_len products.old + 16 ≤ vec_capacity products.old }
+    ensures items { products.new.items ≡ products.old.items ++ row 16 0 v }
+    ensures len { vec_len products.new ≡ vec_len products.old + 16 }
+    ensures in_place { vec_capacity products.new ≡ vec_capacity products.old }
 {
     for digit in 0..16u8 {
-        products.push(times_digit(digit as u128, v))?;
+        products.push_reserved(times_digit(digit as u128, v));
     }
-    Ok(())
 }
 
 /// The product of two blocks.
 pub(crate) fn times(x: u128, factor: &Factor) -> u128
-    ensures { result ≡ block_product x factor.now.block }
+    ensures { result ≡ block_product x factor.now }
 {
     let mut z: u128 = 0;
-    for place in 0..32 {
-        let digit = (x >> (124 - 4 * place)) % 16;
-        z ^= factor.products[16 * place + digit as usize];
+    let mut rest = x;
+    for _ in 0..32usize {
+        z = times_x_4(z) ^ factor.products[(rest % 16) as usize];
+        rest >>= 4;
     }
     z
 }
@@ -136,6 +169,7 @@ fn block(bytes: &[u8]) -> u128
 pub(crate) fn split_block(bytes: &[u8]) -> (&[u8], &[u8])
     ensures front { result.0.now ≡ take 16 bytes.now }
     ensures back { result.1.now ≡ drop 16 bytes.now }
+    ensures len { length result.0.now + length result.1.now ≡ length bytes.now }
 {
     if bytes.len() < 16 {
         bytes.split_at(bytes.len())
@@ -146,7 +180,7 @@ pub(crate) fn split_block(bytes: &[u8]) -> (&[u8], &[u8])
 
 /// The hash after these bytes.
 pub(crate) fn hash(factor: &Factor, start: u128, bytes: &[u8]) -> u128
-    ensures { result ≡ hash factor.now.block start bytes.now }
+    ensures { result ≡ hash factor.now start bytes.now }
 {
     let mut y = start;
     let mut rest = bytes;

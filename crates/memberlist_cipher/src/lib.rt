@@ -6,23 +6,27 @@
 //! | `field` | bytes as polynomials, and the S-box |
 //! | `columns` | columns of a state, through the S-box and mixed |
 //! | `block` | AES on one block |
+//! | `appending` | bytes added to a vector that has room |
 //! | `schedule` | the words of a key |
 //! | `hashing` | the product and the hash of blocks |
 //! | `counting` | counter mode |
 //! | `tagging` | the tag |
 //! | `unpadding` | padding taken off |
+//! | `key` | a key, made ready to decrypt |
 //! | `layout` | encrypted bytes taken apart |
 //! | `opening` | the message of a packet |
 //! | `stream` | the message of a stream |
 //! | `laws` | what holds of the definitions, apart from any code |
 #![tactic(auto)]
 
+mod appending;
 mod block;
 mod columns;
 mod counting;
 mod fault;
 mod field;
 mod hashing;
+mod key;
 pub mod laws;
 mod layout;
 mod opening;
@@ -32,7 +36,8 @@ mod tagging;
 mod unpadding;
 
 pub use fault::CipherFault;
-pub use opening::{decrypt, is_key};
+pub use key::{Key, is_key};
+pub use opening::decrypt;
 pub use stream::decrypt_stream;
 
 #[cfg(test)]

@@ -1,14 +1,14 @@
 //! The message of a packet.
 
-ghost use Rattle.std.specs.Prelude.{◌≡◌, ◌≢◌, ℕ, List, MatchBool, IfOk, IfErr};
+ghost use Rattle.std.specs.Prelude.{◌≢◌, ℕ, List, MatchBool, IfOk, IfErr, IsErrOf};
 ghost use Rattle.memberlist_cipher.specs.declared.fault.CipherFault.TheVariants.{Memory};
-ghost use Rattle.memberlist_cipher.specs.Encryption.{IsKey, IsWithin, Encryption};
-ghost use Rattle.memberlist_cipher.specs.Refusal.{PacketCause};
+ghost use Rattle.memberlist_cipher.specs.Encryption.{IsWithin, Encryption};
+ghost use Rattle.memberlist_cipher.specs.Refusal.{PacketParts, IsTagged, PacketCause};
 
 use crate::CipherFault;
 use crate::counting::ctr;
+use crate::key::{Key, is_key, prepared};
 use crate::layout::parts_of;
-use crate::schedule::round_keys;
 use crate::tagging::{is_same, tag};
 use crate::unpadding::unpadded;
 use std::alloc::Global;
@@ -60,37 +60,76 @@ fn opened(
     if !is_key(key) {
         return Err(CipherFault::BadKey);
     }
+    // memory is asked for only for bytes that may be a packet
+    if !is_within(associated, bytes) {
+        return Err(CipherFault::TooLong);
+    }
+    let _parts = parts_of(bytes)?;
+    let key = prepared(alloc, key)?;
+    opened_under(alloc, &key, associated, bytes)
+}
+
+impl Key {
+    /// The message that encrypted bytes hold under this key. Memory is asked for the message alone,
+    /// and only if the tag is right.
+    ///
+    /// # Errors
+    ///
+    /// As those of [`decrypt`], without `BadKey`. `Memory` comes after `WrongTag`.
+    pub fn decrypt(
+        &self,
+        alloc: Global,
+        associated: &[u8],
+        bytes: &[u8],
+    ) -> Result<Vec<u8>, CipherFault>
+        ensures opens { IfOk result (λ message.
+            Encryption self.now associated.now bytes.now message.items) }
+        ensures refuses { IfErr result (λ fault.
+            PacketCause fault self.now associated.now bytes.now) }
+        ensures lacks { IfErr result (λ fault. fault ≢ Memory → (message : List ℕ)
+            → ¬ Encryption self.now associated.now bytes.now message) }
+        ensures memory { IsErrOf result Memory → (l : PacketParts bytes.now)
+            × IsTagged self.now associated.now bytes.now l }
+    {
+        opened_under(alloc, self, associated, bytes)
+    }
+}
+
+fn opened_under(
+    alloc: Global,
+    key: &Key,
+    associated: &[u8],
+    bytes: &[u8],
+) -> Result<Vec<u8>, CipherFault>
+    ensures opens { IfOk result (λ message.
+        Encryption key.now associated.now bytes.now message.items) }
+    ensures refuses { IfErr result (λ fault. PacketCause fault key.now associated.now bytes.now) }
+    ensures memory { IsErrOf result Memory → (l : PacketParts bytes.now)
+        × IsTagged key.now associated.now bytes.now l }
+{
+    let words = key.round_keys.words.as_slice();
     if !is_within(associated, bytes) {
         return Err(CipherFault::TooLong);
     }
     let parts = parts_of(bytes)?;
-    let keys = round_keys(alloc, key)?;
-    let count = key.len() / 4 + 5;
+    let count = words.len() / 16 - 2;
     let expected = tag(
-        alloc,
-        &keys.words,
+        words,
         count,
+        &key.factor,
         associated,
         parts.nonce,
         parts.inner,
-    )?;
+    );
     if !is_same(parts.mark, &expected) {
         return Err(CipherFault::WrongTag);
     }
-    let text = ctr(alloc, &keys.words, count, parts.nonce, parts.inner)?;
+    let text = ctr(alloc, words, count, parts.nonce, parts.inner)?;
     if parts.version == 1 {
         return Ok(text);
     }
     let message = unpadded(text)?;
     Ok(message)
-}
-
-/// Whether bytes may be a key, that is, are 16, 24 or 32 (FIPS 197; memberlist's security.go).
-pub fn is_key(key: &[u8]) -> bool
-    ensures { MatchBool result (IsKey key.now) (¬ IsKey key.now) }
-{
-    let len = key.len();
-    len == 16 || len == 24 || len == 32
 }
 
 /// Whether the standard allows so many bytes.

@@ -1,9 +1,10 @@
 //! The words that a key is expanded to, FIPS-197, 5.2.
 
-ghost use Rattle.std.specs.Prelude.{◌≡◌, ◌+◌, ◌*◌, ◌/◌, ◌%◌, ◌<◌, ◌≤◌, ◌⊎◌, length, replicate, IfOk};
+ghost use Rattle.std.specs.Prelude.{◌≡◌, ◌+◌, ◌*◌, ◌/◌, ◌%◌, ◌<◌, ◌≤◌, ◌⊎◌, length, replicate, vec_capacity, IfOk};
 ghost use Rattle.memberlist_cipher.specs.Block.{word, added, next_word, schedule};
 ghost use Rattle.memberlist_cipher.specs.Encryption.{IsKey};
 
+use crate::appending::append;
 use crate::field::{sub, x_to};
 use std::alloc::{AllocError, Global};
 
@@ -49,7 +50,7 @@ fn next_word(key_words: usize, words: &[u8]) -> [u8; 4]
     ]
 }
 
-/// The words of a key. They are overwritten before their memory is given back.
+/// The words of a key. They are overwritten before their memory is given back, and never move.
 pub(crate) struct RoundKeys {
     pub(crate) words: Vec<u8>,
 }
@@ -74,15 +75,17 @@ pub(crate) fn round_keys(alloc: Global, key: &[u8]) -> Result<RoundKeys, AllocEr
     ensures words { IfOk result (λ keys. keys.words.items ≡ schedule key.now) }
     ensures size { IfOk result (λ keys.
         length keys.words.items ≡ 112 + 16 * (length key.now / 4)) }
+    ensures in_place { IfOk result (λ keys.
+        vec_capacity keys.words ≡ 112 + 16 * (length key.now / 4)) }
 {
     let key_words = key.len() / 4;
     let mut keys = RoundKeys {
-        words: Vec::with_capacity(alloc, 240)?,
+        words: Vec::with_capacity(alloc, 112 + 16 * key_words)?,
     };
-    keys.words.extend_from_slice(key)?;
+    append(&mut keys.words, key);
     for _ in 0..28 + 3 * key_words {
         let next = next_word(key_words, &keys.words);
-        keys.words.extend_from_slice(&next)?;
+        append(&mut keys.words, &next);
     }
     Ok(keys)
 }

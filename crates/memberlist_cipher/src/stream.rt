@@ -1,13 +1,15 @@
 //! The message of a stream.
 
-ghost use Rattle.std.specs.Prelude.{◌≡◌, ◌≢◌, ◌++◌, ◌≤◌, ◌*◌, ◌^◌, ℕ, List, length, IfOk, IfErr};
+ghost use Rattle.std.specs.Prelude.{◌≡◌, ◌≢◌, ◌++◌, ◌+◌, ◌≤◌, ◌*◌, ◌^◌, ℕ, List, length, vec_capacity, IfOk, IfErr};
 ghost use Rattle.memberlist_cipher.specs.declared.fault.CipherFault.TheVariants.{Memory};
 ghost use Rattle.memberlist_cipher.specs.Encryption.{head, IsStream, StreamEncryption};
 ghost use Rattle.memberlist_cipher.specs.Refusal.{HeadCause, StreamCause};
 
 use crate::CipherFault;
+use crate::appending::append;
+use crate::key::Key;
 use crate::opening::decrypt;
-use std::alloc::Global;
+use std::alloc::{AllocError, Global};
 
 /// The greatest length that a stream may announce (own).
 const MOST_BYTES: usize = 268_435_456;
@@ -52,17 +54,67 @@ fn opened_stream(
     ensures refuses { IfErr result (λ fault. StreamCause fault key.now label.now bytes.now) }
 {
     let (head, inner) = stream_parts(bytes)?;
-    let mut associated = Vec::with_capacity(alloc, 5)?;
-    associated.extend_from_slice(head)?;
-    associated.extend_from_slice(label)?;
+    let associated = associated_bytes(alloc, head, label)?;
     let message = decrypt(alloc, key, &associated, inner)?;
     Ok(message)
+}
+
+impl Key {
+    /// The message that an encrypted stream holds under this key. Memory is asked for the message
+    /// and for what is associated.
+    ///
+    /// # Errors
+    ///
+    /// As those of [`decrypt_stream`], without `BadKey`.
+    pub fn decrypt_stream(
+        &self,
+        alloc: Global,
+        label: &[u8],
+        bytes: &[u8],
+    ) -> Result<Vec<u8>, CipherFault>
+        ensures opens { IfOk result (λ message.
+            StreamEncryption self.now label.now bytes.now message.items) }
+        ensures refuses { IfErr result (λ fault. StreamCause fault self.now label.now bytes.now) }
+        ensures lacks { IfErr result (λ fault. fault ≢ Memory → (message : List ℕ)
+            → ¬ StreamEncryption self.now label.now bytes.now message) }
+    {
+        opened_stream_under(alloc, self, label, bytes)
+    }
+}
+
+fn opened_stream_under(
+    alloc: Global,
+    key: &Key,
+    label: &[u8],
+    bytes: &[u8],
+) -> Result<Vec<u8>, CipherFault>
+    ensures opens { IfOk result (λ message.
+        StreamEncryption key.now label.now bytes.now message.items) }
+    ensures refuses { IfErr result (λ fault. StreamCause fault key.now label.now bytes.now) }
+{
+    let (head, inner) = stream_parts(bytes)?;
+    let associated = associated_bytes(alloc, head, label)?;
+    let message = key.decrypt(alloc, &associated, inner)?;
+    Ok(message)
+}
+
+/// What is associated: a stream's head, and the label.
+fn associated_bytes(alloc: Global, head: &[u8], label: &[u8]) -> Result<Vec<u8>, AllocError>
+    requires { length head.now ≡ 5 }
+    ensures bytes { IfOk result (λ all. all.items ≡ head.now ++ label.now) }
+    ensures size { IfOk result (λ all. vec_capacity all ≡ 5 + length label.now) }
+{
+    let mut all = Vec::with_capacity(alloc, head.len() + label.len())?;
+    append(&mut all, head);
+    append(&mut all, label);
+    Ok(all)
 }
 
 /// A stream's head, and what follows it.
 fn stream_parts(bytes: &[u8]) -> Result<(&[u8], &[u8]), CipherFault>
     ensures stream { IfOk result (λ parts. IsStream bytes.now parts.1.now) }
     ensures head { IfOk result (λ parts. parts.0.now ≡ head (length parts.1.now)) }
+    ensures size { IfOk result (λ parts. length parts.0.now ≡ 5) }
     ensures refuses { IfErr result (λ fault. HeadCause fault bytes.now) }
 {
     if bytes.len() < 5 {

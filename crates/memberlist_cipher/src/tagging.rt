@@ -1,37 +1,35 @@
 //! The tag of enciphered bytes, SP 800-38D, 7.1.
 
-ghost use Rattle.std.specs.Prelude.{◌≡◌, ◌≢◌, ◌+◌, ◌*◌, ◌<◌, ◌≤◌, ◌^◌, length, MatchBool, IfOk};
+ghost use Rattle.std.specs.Prelude.{◌≡◌, ◌≢◌, ◌+◌, ◌*◌, ◌<◌, ◌≤◌, ◌^◌, length, MatchBool};
 ghost use Rattle.memberlist_cipher.specs.Block.{cipher};
-ghost use Rattle.memberlist_cipher.specs.Gcm.{tag};
+ghost use Rattle.memberlist_cipher.specs.Gcm.{hash_key, tag};
 
 use crate::block::{cipher, plus_key};
 use crate::counting::counter_block;
 use crate::hashing::{Factor, hash, times};
-use std::alloc::{AllocError, Global};
 
-/// The tag of enciphered bytes and associated ones.
+/// The tag of enciphered bytes and associated ones; the hash multiplies by `h`.
 pub(crate) fn tag(
-    alloc: Global,
     words: &[u8],
     count: usize,
+    h: &Factor,
     associated: &[u8],
     nonce: &[u8],
     inner: &[u8],
-) -> Result<[u8; 16], AllocError>
+) -> [u8; 16]
     requires few { count < 14 }
     requires words { 16 * count + 32 ≤ length words.now }
+    requires block { h.now ≡ hash_key (cipher words.now count) }
     requires nonce { length nonce.now ≡ 12 }
     requires associated { length associated.now < 2 ^ 61 }
     requires inner { length inner.now < 2 ^ 36 }
-    ensures { IfOk result (λ mark.
-        mark ≡ tag (cipher words.now count) nonce.now associated.now inner.now) }
+    ensures { result ≡ tag (cipher words.now count) nonce.now associated.now inner.now }
 {
-    let h = Factor::new(alloc, u128::from_be_bytes(cipher(words, count, [0u8; 16])))?;
     let high = associated.len() as u128 * 8 * 0x1_0000_0000_0000_0000;
     let lengths = high + inner.len() as u128 * 8;
-    let s = times(hash(&h, hash(&h, 0, associated), inner) ^ lengths, &h);
+    let s = times(hash(h, hash(h, 0, associated), inner) ^ lengths, h);
     let mask = cipher(words, count, counter_block(nonce, 1));
-    Ok(plus_key(s.to_be_bytes(), &mask))
+    plus_key(s.to_be_bytes(), &mask)
 }
 
 /// Whether the bytes are the same.

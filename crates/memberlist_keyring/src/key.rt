@@ -4,24 +4,18 @@ ghost use Rattle.std.specs.Prelude.{◌≡◌, ℕ, List, length, replicate, vec
 ghost use Rattle.memberlist_keyring.specs.KeyFile.{IsKeyText, HasKeySize};
 
 use base64::engine::general_purpose::STANDARD;
-use memberlist_cipher::is_key;
+use memberlist_cipher::{Key, is_key};
 use std::alloc::{AllocError, Global};
-use std::marker::Model;
 
-/// The bytes of a key. They are overwritten before their memory is given back.
-pub(crate) struct Key {
+/// The bytes of a key, as its text is decoded. They are overwritten before their memory is given
+/// back.
+struct Decoded {
     bytes: Vec<u8>,
 }
 
-impl Model for Key {
-    ghost Value = { List ℕ };
-
-    ghost view = { λ key. key.bytes.items };
-}
-
-impl Drop for Key {
+impl Drop for Decoded {
     fn drop(self) {
-        let Key { mut bytes } = self;
+        let Decoded { mut bytes } = self;
         overwrite(&mut bytes);
     }
 }
@@ -33,19 +27,10 @@ fn overwrite(bytes: &mut [u8])
     bytes.fill(0);
 }
 
-impl Key {
-    /// Its bytes.
-    pub(crate) fn bytes(&self) -> &[u8]
-        ensures { result.now ≡ self.now }
-    {
-        &self.bytes
-    }
-}
-
 /// The most bytes that so many characters of base64 stand for as a key's text has.
 const MOST_BYTES: usize = 33;
 
-/// The key whose base64 the text is, if it is that of a key.
+/// The key whose base64 the text is, made ready, if it is that of a key.
 pub(crate) fn key_of(alloc: Global, text: &[u8]) -> Result<Option<Key>, AllocError>
     ensures key { IfOk result (λ found. MatchOption found
         ((key : List ℕ) → ¬ IsKeyText text.now key) (λ key. IsKeyText text.now key)) }
@@ -54,13 +39,15 @@ pub(crate) fn key_of(alloc: Global, text: &[u8]) -> Result<Option<Key>, AllocErr
     if !has_key_size(text) {
         return Ok(None);
     }
-    let mut key = Key {
+    let mut decoded = Decoded {
         bytes: vec![in alloc; 0u8; MOST_BYTES]?,
     };
-    if decode_over(text, &mut key.bytes) {
-        Ok(Some(key))
-    } else {
-        Ok(None)
+    if !decode_over(text, &mut decoded.bytes) {
+        return Ok(None);
+    }
+    match Key::new(alloc, &decoded.bytes) {
+        Ok(key) => Ok(Some(key)),
+        Err(_) => Err(AllocError),
     }
 }
 

@@ -7,7 +7,8 @@ ghost use Rattle.serde_json.specs.View.{view};
 ghost use Rattle.memberlist_keyring.specs.KeyFile.{IsKeyText, HasKeySize, LineHolds, lines_of, ItemHolds, HoldInOrder, IsBlank, IsListText, IsKeyFile, IsJsonList, ItemsCause, KeyFileCause};
 
 use crate::KeyFileFault;
-use crate::key::{Key, key_of};
+use crate::key::key_of;
+use memberlist_cipher::Key;
 use serde_json::Value;
 use std::alloc::{AllocError, Global};
 

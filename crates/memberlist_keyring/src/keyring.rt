@@ -8,11 +8,10 @@ ghost use Rattle.memberlist_keyring.specs.KeyFile.{IsKeyFile, KeyFileCause};
 ghost use Rattle.memberlist_keyring.specs.Opening.{Opens, OpensStream, OpensFirst, OpensStreamFirst};
 
 use crate::KeyFileFault;
-use crate::key::Key;
 use crate::key_file::keys_of;
 use crate::label::cut_label;
 use crate::trial::{try_keys, try_keys_of_stream};
-use memberlist_cipher::CipherFault;
+use memberlist_cipher::{CipherFault, Key};
 use std::alloc::Global;
 use std::marker::Model;
 

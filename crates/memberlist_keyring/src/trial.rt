@@ -8,8 +8,7 @@ ghost use Rattle.memberlist_cipher.specs.Refusal.{PacketCause, StreamCause};
 ghost use Rattle.memberlist_keyring.specs.Cutting.{IsFaultOfKeys};
 ghost use Rattle.memberlist_keyring.specs.Opening.{IsFirst};
 
-use crate::key::Key;
-use memberlist_cipher::{CipherFault, decrypt, decrypt_stream};
+use memberlist_cipher::{CipherFault, Key};
 use std::alloc::Global;
 
 /// The message that is encrypted under one of the keys, the first that opens it.
@@ -30,7 +29,7 @@ pub(crate) fn try_keys(
 {
     let mut last = CipherFault::WrongTag;
     for key in keys {
-        match decrypt(alloc, key.bytes(), label, rest) {
+        match key.decrypt(alloc, label, rest) {
             Ok(message) => return Ok(message),
             Err(fault) => match fault {
                 CipherFault::Memory => return Err(fault),
@@ -59,7 +58,7 @@ pub(crate) fn try_keys_of_stream(
 {
     let mut last = CipherFault::WrongTag;
     for key in keys {
-        match decrypt_stream(alloc, key.bytes(), label, rest) {
+        match key.decrypt_stream(alloc, label, rest) {
             Ok(message) => return Ok(message),
             Err(fault) => match fault {
                 CipherFault::Memory => return Err(fault),

@@ -7,7 +7,7 @@ use Rattle.memberlist_wrap.specs.declared.fault.WrapFault.{WrapFault}
 use Rattle.memberlist_wrap.specs.declared.fault.WrapFault.TheVariants.{TooLarge}
 use Rattle.memberlist_wrap.specs.declared.wrappers.Core.{Core}
 use Rattle.memberlist_wrap.specs.declared.wrappers.Core.TheVariants as cores
-use Rattle.memberlist_wrap.specs.Explaining.{fault_of_map, FailsHere, ExplainsIn}
+use Rattle.memberlist_wrap.specs.Explaining.{fault_of_map, FailsHere, ExplainsIn, AsksMemory}
 use Rattle.memberlist_wrap.specs.Explaining.FailsHere.{broken, large}
 use Rattle.memberlist_wrap.specs.Peeling.{EndsWith, Holds, PackedUnwraps, PackedFails}
 use Rattle.memberlist_wrap.specs.Peeling.PackedFails.{here, inside}
@@ -115,3 +115,16 @@ packed_fails depth limit left bytes map ws count wrapped packed fault text (insi
           (map, inner, refl, record { packed = packed; map = text; lzw = lzw; within = within }, why.wrapped);
       fails = subst P same why.fails;
     }
+
+-- ---- memory
+
+pub message_asks : (depth limit : ℕ) (bytes message : List ℕ) (ws : List Wrapper) → length ws ≤ depth
+    → Wrapped limit ws bytes message → IsBare message → length message ≤ limit
+    → AsksMemory depth limit bytes
+message_asks depth limit bytes message ws few wrapped bare within =
+    record { wrappers = ws; inner = message; few = few; wrapped = wrapped; asks = inl (bare, within) }
+
+pub compression_asks : (depth limit left : ℕ) (bytes map : List ℕ) (ws : List Wrapper) → length ws + (left + 1) ≡ depth
+    → Wrapped limit ws bytes (9 ∷ map) → AsksMemory depth limit bytes
+compression_asks depth limit left bytes map ws count wrapped =
+    record { wrappers = ws; inner = 9 ∷ map; few = omega arith; wrapped = wrapped; asks = inr (omega arith, map, refl) }

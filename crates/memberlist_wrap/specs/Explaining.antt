@@ -64,3 +64,13 @@ pub record ExplainsIn (depth limit : ℕ) (fault : WrapFault) (bytes : List ℕ)
   pub few : length wrappers ≤ depth
   pub wrapped : Wrapped limit wrappers bytes inner
   pub fails : FailsHere (depth - length wrappers) limit fault inner
+
+-- Where memory is asked for: behind wrappers, at most depth, stands a message within the limit, or
+-- a compression that may be taken off.
+pub record AsksMemory (depth limit : ℕ) (bytes : List ℕ) : Type 0 where
+  pub wrappers : List Wrapper
+  pub inner : List ℕ
+  pub few : length wrappers ≤ depth
+  pub wrapped : Wrapped limit wrappers bytes inner
+  pub asks : (IsBare inner × (length inner ≤ limit))
+      ⊎ ((length wrappers < depth) × (map : List ℕ) × (inner ≡ 9 ∷ map))

@@ -1,6 +1,6 @@
 //! The outer wrapper of bytes.
 
-ghost use Rattle.std.specs.Prelude.{◌≡◌, ◌↔◌, ◌⊎◌, ℕ, IsTrue, IfOk, IfErr};
+ghost use Rattle.std.specs.Prelude.{◌≡◌, ◌↔◌, ◌⊎◌, ℕ, IsTrue, IfOk, IfErr, IsErrOf};
 ghost use Rattle.memberlist_wrap.specs.Explaining.{ChecksumFails, LabelFails, FailsHere};
 ghost use Rattle.memberlist_wrap.specs.Peeling.{Shows};
 ghost use Rattle.memberlist_wrap.specs.Wrapping.{CheckedText, LabelledText};
@@ -32,6 +32,7 @@ pub(crate) enum Outer<'a> {
 pub(crate) fn take_off(bytes: &[u8], depth: u8) -> Result<Outer, WrapFault>
     ensures ok { IfOk result (Shows depth bytes.now) }
     ensures err { IfErr result (λ fault. (limit : ℕ) → FailsHere depth limit fault bytes.now) }
+    ensures no_memory { ¬ IsErrOf result WrapFault.Memory }
 {
     let Some((first, rest)) = bytes.split_first() else {
         return Ok(Outer::Nothing);
@@ -61,6 +62,7 @@ fn is_kind(first: u8) -> bool
 fn checked(bytes: &[u8]) -> Result<&[u8], WrapFault>
     ensures ok { IfOk result (λ inner. CheckedText bytes.now inner.now) }
     ensures err { IfErr result (λ fault. ChecksumFails fault bytes.now) }
+    ensures no_memory { ¬ IsErrOf result WrapFault.Memory }
 {
     if bytes.len() < 4 {
         return Err(WrapFault::Ended);
@@ -76,6 +78,7 @@ fn checked(bytes: &[u8]) -> Result<&[u8], WrapFault>
 fn after_label(bytes: &[u8]) -> Result<&[u8], WrapFault>
     ensures ok { IfOk result (λ inner. LabelledText bytes.now inner.now) }
     ensures err { IfErr result (λ fault. LabelFails fault bytes.now) }
+    ensures no_memory { ¬ IsErrOf result WrapFault.Memory }
 {
     let Some((first, rest)) = bytes.split_first() else {
         return Err(WrapFault::Ended);

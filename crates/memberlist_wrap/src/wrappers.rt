@@ -1,7 +1,7 @@
 //! Wrappers around each other, taken off.
 
-ghost use Rattle.std.specs.Prelude.{◌≡◌, ◌≢◌, ◌≤◌, ℕ, List, length, drop, IfOk, IfErr};
-ghost use Rattle.memberlist_wrap.specs.Explaining.{ExplainsIn};
+ghost use Rattle.std.specs.Prelude.{◌≡◌, ◌≢◌, ◌≤◌, ℕ, List, length, drop, IfOk, IfErr, IsErrOf};
+ghost use Rattle.memberlist_wrap.specs.Explaining.{ExplainsIn, AsksMemory};
 ghost use Rattle.memberlist_wrap.specs.Peeling.{Holds, PackedUnwraps, PackedFails};
 ghost use Rattle.memberlist_wrap.specs.Wrapping.{Wrapper, Wraps, Unwraps, UnwrapsIn};
 
@@ -37,7 +37,8 @@ enum Core<'a> {
 /// `BadLabel` where a label is empty, `BadMap`, `BadAlgo` and `Trailing` where the map of a
 /// compression is none, is of an unknown one or is followed by bytes, and those of `lzw_decode`.
 /// `TooLarge` where what is compressed, or the message, has more than `limit` bytes. `Memory` where
-/// a growth was refused.
+/// a growth was refused: memory is asked for once the wrappers up to a compression, or to the
+/// message, are taken off.
 pub fn unwrap(alloc: Global, bytes: &[u8], limit: usize) -> Result<Vec<u8>, WrapFault>
     ensures unwraps { IfOk result (λ message. Unwraps limit bytes.now message.items) }
 
@@ -51,6 +52,8 @@ pub fn unwrap(alloc: Global, bytes: &[u8], limit: usize) -> Result<Vec<u8>, Wrap
     ensures refuses { IfErr result (λ fault. fault ≢ WrapFault.Memory → fault ≢ WrapFault.TooLarge
         → fault ≢ WrapFault.TooDeep
         → (any : ℕ) (ws : List Wrapper) (message : List ℕ) → ¬ Wraps any ws bytes.now message) }
+    // Memory is asked for once the wrappers up to a compression, or to the message, are taken off.
+    ensures memory { IsErrOf result WrapFault.Memory → AsksMemory 4 limit bytes.now }
 {
     unwrap_slice(alloc, bytes, limit)
 }
@@ -59,6 +62,7 @@ fn unwrap_slice(alloc: Global, bytes: &[u8], limit: usize) -> Result<Vec<u8>, Wr
     ensures ok { IfOk result (λ message. UnwrapsIn 4 limit bytes.now message.items) }
     ensures err { IfErr result (λ fault. fault ≢ WrapFault.Memory
         → ExplainsIn 4 limit fault bytes.now) }
+    ensures memory { IsErrOf result WrapFault.Memory → AsksMemory 4 limit bytes.now }
 {
     match peel(bytes, MAX_DEPTH)? {
         Core::Message(message) => if message.len() > limit {
@@ -105,6 +109,7 @@ fn unwrap_packed(
 fn peel(bytes: &[u8], depth: u8) -> Result<Core, WrapFault>
     ensures ok { IfOk result (Holds depth bytes.now) }
     ensures err { IfErr result (λ fault. (limit : ℕ) → ExplainsIn depth limit fault bytes.now) }
+    ensures no_memory { ¬ IsErrOf result WrapFault.Memory }
 {
     match take_off(bytes, depth)? {
         Outer::Nothing => Ok(Core::Message(bytes)),

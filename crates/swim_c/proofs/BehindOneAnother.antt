@@ -4,11 +4,12 @@ use Rattle.std.proofs.lemmas.List.{append_assoc, take_all, take_more, take-appen
 use Rattle.std.proofs.Math.Seq.{split_at}
 use Rattle.swim_wire.specs.declared.fault.WireFault.{WireFault}
 use Rattle.swim_wire.specs.declared.fault.WireFault.TheVariants.{Ended, Fault, Trailing}
+use Rattle.swim_wire.specs.Asking.{PacketAsks}
 use Rattle.swim_wire.specs.Checks.{ExplainsWhole}
 use Rattle.swim_wire.specs.Packet.{PacketValue}
 use Rattle.swim_wire.specs.Reading.{whole_packet}
 use Rattle.swim_wire.specs.Texts.{PacketText}
-use Rattle.swim_c.specs.Packing.{PacketTexts, LacksPackets}
+use Rattle.swim_c.specs.Packing.{PacketTexts, LacksPackets, PackingAsks}
 use Rattle.swim_c.specs.Packing.PacketTexts.{none, one}
 
 -- the first packets stand at the front of the bytes, and the rest is still to come
@@ -59,6 +60,13 @@ pub no_packet : (lens bytes : List ℕ) (i len d : ℕ) (packets : List PacketVa
 no_packet lens bytes i len d packets rest text behind error in_range is read parts size stops explains no_end =
     LacksPackets.wrong read.front text behind (take i lens) (drop (suc i) lens) packets read.texts (around lens i len d (length text) in_range is size)
     (read.parts ∙ ap (λ (r : List ℕ). read.front ++ r) parts) stops explains no_end
+
+-- the next one asks for memory
+pub next_asks : (lens bytes : List ℕ) (i len d : ℕ) (packets : List PacketValue) (rest text behind : List ℕ) → i < length lens → len ≡ get_or lens i d
+    → ReadTo lens bytes i packets rest → rest ≡ text ++ behind → length text ≡ len → PacketAsks text → PackingAsks lens bytes
+next_asks lens bytes i len d packets rest text behind in_range is read parts size asks =
+    PackingAsks.next read.front text behind (take i lens) (drop (suc i) lens) packets read.texts (around lens i len d (length text) in_range is size)
+    (read.parts ∙ ap (λ (r : List ℕ). read.front ++ r) parts) asks
 
 -- all packets are read
 all_texts : (lens bytes : List ℕ) (i : ℕ) (packets : List PacketValue) (rest : List ℕ) → length lens ≤ i → (read : ReadTo lens bytes i packets rest)

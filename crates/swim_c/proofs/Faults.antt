@@ -1,10 +1,13 @@
 -- What the status of a refused call says.
-use Rattle.std.proofs.Common.{◌≡◌, ◌≢◌, inl, inr, ◌∙◌, ap, subst, ℕ, ◌-◌, List, length, ◌≤◌, false, refl, Some, arith}
-use Rattle.std.proofs.lemmas.Bool.Decides.{eqb_tells}
+use Rattle.std.proofs.Common.{◌≡◌, ◌≢◌, inl, inr, ◌∙◌, ap, subst, ℕ, ◌-◌, List, length, ◌≤◌, false, refl, Some, Result, Err, arith}
 use Rattle.swim_pack.specs.Ends.{Source}
 use Rattle.swim_wire.specs.declared.fault.WireFault.{WireFault}
 use Rattle.swim_wire.specs.declared.fault.WireFault.TheVariants as wire
+use Rattle.swim_wire.specs.Asking.{PacketAsks, DatagramAsks}
+use Rattle.swim_wire.specs.Checks.{ExplainsWhole}
+use Rattle.swim_wire.specs.Datagrams.{ExplainsDatagram}
 use Rattle.swim_wire.specs.Fault.{wire_number}
+use Rattle.swim_wire.proofs.Explaining.{memory_or}
 use Rattle.swim_table.proofs.WholeStreams.{refused_front}
 use Rattle.swim_table.specs.declared.fault.RefuteFault.{RefuteFault}
 use Rattle.swim_table.specs.declared.fault.RefuteFault.TheVariants as refute
@@ -16,9 +19,12 @@ use Rattle.swim_sync.specs.declared.fault.SyncFault.{SyncFault}
 use Rattle.swim_sync.specs.declared.fault.SyncFault.TheVariants as sync
 use Rattle.swim_sync.specs.Exchanging as exchanging
 use Rattle.swim_c.specs.Exchanges.{HoldsNoStream, FinishCause, AnswerCause}
-use Rattle.swim_c.specs.Taking.{IsNoDatagram, TakeDone, RefuteDone}
-use Rattle.swim_c.specs.Packing.{LacksPackets, CompoundDone}
+use Rattle.swim_c.specs.Taking.{IsNoDatagram, HearingAsks, TakeDone, RefuteDone}
+use Rattle.swim_c.specs.Packing.{LacksPackets, PackingAsks, CompoundDone}
 use Rattle.swim_c.proofs.WholeStreams.{begins}
+
+abbrev pub refused : (X : Type 0) → WireFault → Result X WireFault
+refused X fault = Err fault
 
 -- bytes in memory, as an inlet
 abbrev pub memory : List ℕ → Source
@@ -34,20 +40,30 @@ lacks bytes rest fault why =
       explains = why.explains;
     }
 
+-- want of memory says that the datagram asked for some
+pub explained_memory : {X : Type 0} (bytes : List ℕ) (fault : WireFault) → refused X fault ≡ refused X wire.Memory → ExplainsDatagram fault bytes
+    → DatagramAsks bytes
+explained_memory bytes fault e why = let is : fault ≡ wire.Memory = cc in subst (λ (f : WireFault). ExplainsDatagram f bytes) is why
+
+-- so of a packet
+pub packet_memory : {X : Type 0} (text : List ℕ) (fault : WireFault) → refused X fault ≡ refused X wire.Memory → ExplainsWhole fault text → PacketAsks text
+packet_memory text fault e why = let is : fault ≡ wire.Memory = cc in subst (λ (f : WireFault). ExplainsWhole f text) is why
+
 -- a datagram was refused, for want of memory or since it is none
-pub take_done : (bytes : List ℕ) (status : ℕ) (before after : NodeValue) (fault : WireFault) → status ≡ wire_number fault → after ≡ before
-    → (fault ≢ wire.Memory → IsNoDatagram bytes fault) → TakeDone bytes status before after
-take_done bytes status before after fault is same why = elim (eqb_tells (wire_number fault) 10) [
-  | inl memory ↦ TakeDone.memory (is ∙ memory.1) same
-  | inr other ↦ let no_memory : fault ≢ wire.Memory = λ e. other.1 (ap wire_number e) in TakeDone.refused fault is no_memory (why no_memory) same
+pub take_done : {X : Type 0} (bytes : List ℕ) (status : ℕ) (before after : NodeValue) (fault : WireFault) → status ≡ wire_number fault → after ≡ before
+    → (fault ≢ wire.Memory → IsNoDatagram bytes fault) → (refused X fault ≡ refused X wire.Memory → HearingAsks bytes) → TakeDone bytes status before after
+take_done {X} bytes status before after fault is same why memory = elim (memory_or fault) [
+  | inl wants ↦ TakeDone.memory (is ∙ ap wire_number wants) (memory (ap (refused X) wants)) same
+  | inr other ↦ TakeDone.refused fault is other (why other) same
 ]
 
 -- packets were refused, for want of memory or since they are none
-pub compound_refused : (bytes lens old new : List ℕ) (status len : ℕ) (fault : WireFault) → length lens ≤ 255 → status ≡ wire_number fault → len ≡ 0 → new ≡ old
-    → (fault ≢ wire.Memory → LacksPackets lens bytes fault) → CompoundDone bytes lens old new status len
-compound_refused bytes lens old new status len fault few is no_len same why = elim (eqb_tells (wire_number fault) 10) [
-  | inl memory ↦ CompoundDone.memory few (is ∙ memory.1) no_len same
-  | inr other ↦ let no_memory : fault ≢ wire.Memory = λ e. other.1 (ap wire_number e) in CompoundDone.refused few fault is no_memory (why no_memory) no_len same
+pub compound_refused : {X : Type 0} (bytes lens old new : List ℕ) (status len : ℕ) (fault : WireFault) → length lens ≤ 255
+    → status ≡ wire_number fault → len ≡ 0 → new ≡ old → (fault ≢ wire.Memory → LacksPackets lens bytes fault)
+    → (refused X fault ≡ refused X wire.Memory → PackingAsks lens bytes) → CompoundDone bytes lens old new status len
+compound_refused {X} bytes lens old new status len fault few is no_len same why memory = elim (memory_or fault) [
+  | inl wants ↦ CompoundDone.memory few (is ∙ ap wire_number wants) (memory (ap (refused X) wants)) no_len same
+  | inr other ↦ CompoundDone.refused few fault is other (why other) no_len same
 ]
 
 pub finish_refused : (bytes rest : List ℕ) (fault : SyncFault) → exchanging.IsFinishRefused (memory bytes) (memory rest) fault → FinishCause bytes fault

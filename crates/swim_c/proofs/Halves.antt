@@ -1,5 +1,5 @@
 -- Halves of an exchange over bytes in memory.
-use Rattle.std.proofs.Common.{◌≡◌, ◌≢◌, ℕ, ◌-◌, List, ◌++◌, length, Bool, false, refl, sym, ◌∙◌, subst}
+use Rattle.std.proofs.Common.{◌≡◌, ℕ, ◌-◌, List, ◌++◌, length, Bool, false, refl, sym, ◌∙◌, subst}
 use Rattle.swim_claim.specs.declared.claim.Claim.{Claim}
 use Rattle.swim_table.specs.Dump.{dump_bytes}
 use Rattle.swim_table.specs.Lending.{with_table}
@@ -9,7 +9,7 @@ use Rattle.swim_sync.specs.declared.fault.SyncFault.{SyncFault}
 use Rattle.swim_sync.specs.Exchanging as exchanging
 use Rattle.swim_sync.specs.Fault.{sync_number}
 use Rattle.swim_c.specs.Buffers.{Copied}
-use Rattle.swim_c.specs.Exchanges.{BeginsStream, ReadsStream, AnswersOffer, FinishDone}
+use Rattle.swim_c.specs.Exchanges.{BeginsStream, AnswersOffer, FinishDone}
 use Rattle.swim_c.proofs.Faults.{memory, finish_refused}
 use Rattle.swim_c.proofs.WholeStreams.{begins, taken_in}
 
@@ -32,21 +32,6 @@ answered bytes inlet rest old new dump offered join status used len before after
     let offer = offer_read bytes inlet rest offered join used is gone read in
     AnswersOffer.answered done (taken_in bytes offered offer.0 join used before after offer.2 offer.1 legal all member)
     (subst (λ (b : List ℕ). Copied b old new status len) of copied)
-
--- bytes that do not fit are copied nowhere
-not_fit : (bytes dump old new : List ℕ) (join : Bool) (status used len : ℕ) (before : NodeValue) → ReadsStream bytes join used → status ≢ 0
-    → dump ≡ dump_bytes before.table join → Copied dump old new status len → AnswersOffer bytes old new status join used len before before
-not_fit bytes dump old new join status used len before reads other of (Copied.done is is_len fits put) = absurd (other is)
-not_fit bytes dump old new join status used len before reads other of (Copied.too_small is is_len short kept) =
-    AnswersOffer.too_small is reads (subst (λ (b : List ℕ). Copied b old new status len) of (Copied.too_small is is_len short kept)) refl
-
--- the reply did not fit, and nothing has changed
-pub unanswered : (bytes inlet rest old new dump : List ℕ) (offered : Entries) (join : Bool) (status used len : ℕ) (before : NodeValue)
-    → inlet ≡ bytes → used ≡ length bytes - length rest → exchanging.ReadsOffer (memory inlet) (memory rest) offered join
-    → status ≢ 0 → dump ≡ dump_bytes before.table join → Copied dump old new status len → AnswersOffer bytes old new status join used len before before
-unanswered bytes inlet rest old new dump offered join status used len before is gone read other of copied =
-    let offer = offer_read bytes inlet rest offered join used is gone read in
-    not_fit bytes dump old new join status used len before (offer.0, offer.2) other of copied
 
 -- a reply was taken in by the node's table
 pub finished : (bytes inlet rest : List ℕ) (join : Bool) (used : ℕ) (before : NodeValue) (table after : Entries)

@@ -1,5 +1,5 @@
 -- The halves of an exchange over memory: streams that a node reads, takes in and answers.
-use Rattle.std.specs.Prelude.{◌≡◌, ◌≢◌, ◌⊎◌, ℕ, List, ◌++◌, length, Bool, false}
+use Rattle.std.specs.Prelude.{◌≡◌, ◌≢◌, ℕ, List, ◌++◌, length, Bool, false}
 use Rattle.swim_claim.specs.declared.claim.Claim.{Claim}
 use Rattle.swim_wire.specs.declared.fault.WireFault.{WireFault}
 use Rattle.swim_wire.specs.declared.fault.WireFault.TheVariants as wire
@@ -44,9 +44,9 @@ pub record HoldsNoStream (bytes : List ℕ) (fault : WireFault) : Type 0 where
       → bytes ≢ text ++ rest
   pub explains : ExplainsStream fault bytes
 
--- why a table has no dump: too many records (23), or no memory (10)
+-- why a table has no dump: too many records (23)
 abbrev pub LacksDump : Entries → ℕ → Type 0
-LacksDump table status = ((status ≡ 23) × HasTooMany table) ⊎ (status ≡ 10)
+LacksDump table status = (status ≡ 23) × HasTooMany table
 
 -- why a reply is not taken in
 abbrev pub FinishCause : List ℕ → SyncFault → Type 0

@@ -2,6 +2,7 @@
 use Rattle.std.specs.Prelude.{◌≡◌, ◌≢◌, ℕ, ◌<◌, ◌≤◌, List, [], ◌∷◌, ◌++◌, length, Err}
 use Rattle.swim_wire.specs.declared.fault.WireFault.{WireFault}
 use Rattle.swim_wire.specs.declared.fault.WireFault.TheVariants.{Ended, Fault, Memory, Trailing}
+use Rattle.swim_wire.specs.Asking.{PacketAsks}
 use Rattle.swim_wire.specs.Canonical.{packets_bytes}
 use Rattle.swim_wire.specs.Checks.{ExplainsWhole}
 use Rattle.swim_wire.specs.Fault.{wire_number}
@@ -31,6 +32,14 @@ pub data LacksPackets (lens bytes : List ℕ) (fault : WireFault) : Type 0 where
       → bytes ≡ front ++ rest → rest ≢ []
       → fault ≡ Trailing → LacksPackets lens bytes fault
 
+-- Memory is asked for as the next packet behind some others is read, or once all of them are read.
+pub data PackingAsks (lens bytes : List ℕ) : Type 0 where
+  next : (front text rest before later : List ℕ) (packets : List PacketValue)
+      → PacketTexts before front packets
+      → lens ≡ before ++ length text ∷ later → bytes ≡ front ++ (text ++ rest) → PacketAsks text
+      → PackingAsks lens bytes
+  all : (packets : List PacketValue) → PacketTexts lens bytes packets → PackingAsks lens bytes
+
 -- the bytes are the canonical compound packet of these packets
 pub record IsPacked (lens bytes compound : List ℕ) : Type 0 where
   pub packets : List PacketValue
@@ -39,8 +48,8 @@ pub record IsPacked (lens bytes compound : List ℕ) : Type 0 where
   pub canonical : compound ≡ packets_bytes packets
 
 -- The canonical compound packet of the packets was written or did not fit; or the buffer is as it
--- was: they are more than 255 (69), or no packets, and the status is that of the fault, or there is
--- no memory (10).
+-- was: they are more than 255 (69), or no packets, and the status is that of the fault, or memory
+-- was asked for and refused (10).
 pub data CompoundDone (bytes lens old new : List ℕ) (status len : ℕ) : Type 0 where
   packed : (compound : List ℕ) → IsPacked lens bytes compound → Copied compound old new status len
       → CompoundDone bytes lens old new status len
@@ -49,5 +58,5 @@ pub data CompoundDone (bytes lens old new : List ℕ) (status len : ℕ) : Type 
   refused : length lens ≤ 255 → (fault : WireFault) → status ≡ wire_number fault → fault ≢ Memory
       → LacksPackets lens bytes fault
       → len ≡ 0 → new ≡ old → CompoundDone bytes lens old new status len
-  memory : length lens ≤ 255 → status ≡ 10 → len ≡ 0 → new ≡ old
+  memory : length lens ≤ 255 → status ≡ 10 → PackingAsks lens bytes → len ≡ 0 → new ≡ old
       → CompoundDone bytes lens old new status len

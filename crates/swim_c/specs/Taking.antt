@@ -1,8 +1,9 @@
 -- Nodes that take claims in, and that refute.
-use Rattle.std.specs.Prelude.{◌≡◌, ◌≢◌, ℕ, List, ◌++◌, map, Bool, true, false, Err}
+use Rattle.std.specs.Prelude.{◌≡◌, ◌≢◌, ◌⊎◌, ℕ, List, ◌++◌, map, Bool, true, false, Err}
 use Rattle.swim_claim.specs.declared.claim.Claim.{Claim}
 use Rattle.swim_wire.specs.declared.fault.WireFault.{WireFault}
 use Rattle.swim_wire.specs.declared.fault.WireFault.TheVariants.{Memory, Fault}
+use Rattle.swim_wire.specs.Asking.{DatagramAsks}
 use Rattle.swim_wire.specs.Datagrams.{whole_datagram, ExplainsDatagram}
 use Rattle.swim_wire.specs.Fault.{wire_number}
 use Rattle.swim_wire.specs.Packet.{PacketValue}
@@ -30,14 +31,19 @@ pub record IsNoDatagram (bytes : List ℕ) (fault : WireFault) : Type 0 where
   pub exact : whole_datagram bytes ≡ Err fault
   pub no_end : fault ≢ Fault
 
+-- Memory is asked for as the datagram is read, or once it is read, for what it claims.
+abbrev pub HearingAsks : List ℕ → Type 0
+HearingAsks bytes = DatagramAsks bytes
+    ⊎ ((packets : List PacketValue) × DatagramText bytes packets)
+
 -- The claims of a datagram were taken in (0), or the node is as it was, and the status is that of
--- the bytes' fault, or 10.
+-- the bytes' fault, or 10, where memory was asked for.
 pub data TakeDone (bytes : List ℕ) (status : ℕ) (before after : NodeValue) : Type 0 where
   taken : status ≡ 0 → TakesDatagram bytes before after → TakeDone bytes status before after
   refused : (fault : WireFault) → status ≡ wire_number fault → fault ≢ Memory
       → IsNoDatagram bytes fault → after ≡ before
       → TakeDone bytes status before after
-  memory : status ≡ 10 → after ≡ before → TakeDone bytes status before after
+  memory : status ≡ 10 → HearingAsks bytes → after ≡ before → TakeDone bytes status before after
 
 -- A refutation was made at this incarnation, or none is due; or one is due, and there is no
 -- incarnation for it (24), or no memory (10); or the member is gone (25).

@@ -1,16 +1,18 @@
 //! The halves of an exchange, over the caller's memory.
 
-ghost use Rattle.std.specs.Prelude.{◌≡◌, false, IfOk, IfErr, OnErr};
+ghost use Rattle.std.specs.Prelude.{◌≡◌, ◌≤◌, ◌++◌, false, drop, length, IfOk, IfErr, OnErr};
+ghost use Rattle.swim_wire.specs.Limits.{most_nodes};
 ghost use Rattle.swim_table.specs.Dump.{dump_bytes};
+ghost use Rattle.swim_table.specs.Table.{Reduced};
 ghost use Rattle.swim_c.specs.Buffers.{WrittenOr};
 ghost use Rattle.swim_c.specs.Exchanges.{AnswersOffer, LacksDump, AnswerCause, FinishDone, AnswerDone};
 
-use crate::copy::{Written, copy_out};
-use crate::status::DONE;
+use crate::copy::Written;
+use crate::status::{DONE, TOO_SMALL};
 use std::alloc::Global;
 use swim_pack::SliceInlet;
-use swim_sync::{PreparedAnswer, SyncFault, finish, prepare_answer};
-use swim_table::{Node, encode};
+use swim_sync::{ReadOffer, SyncFault, finish, read_offer, room_for_both};
+use swim_table::{Node, Table, dump_len, encode_into};
 
 /// What came of a stream.
 #[repr(C)]
@@ -38,19 +40,39 @@ impl Exchanged {
     }
 }
 
-/// Writes the node's dump to the buffer, where it is long enough.
-pub fn offer_out(alloc: Global, node: &Node, join: bool, out: &mut [u8]) -> Written
+/// Writes the node's dump to the buffer, where it is long enough. No memory is asked for.
+pub fn offer_out(node: &Node, join: bool, out: &mut [u8]) -> Written
     ensures { WrittenOr (dump_bytes node.now.table join)
         out.old out.new result.status result.len (LacksDump node.now.table) }
 {
-    match encode(alloc, node.table(), join) {
-        Ok(bytes) => copy_out(&bytes, out),
-        Err(fault) => Written::refused(fault.number()),
+    let len = match dump_len(node.table(), join) {
+        Ok(len) => len,
+        Err(fault) => return Written::refused(fault.number()),
+    };
+    if len > out.len() {
+        return Written {
+            status: TOO_SMALL,
+            len,
+        };
     }
+    dump_front(node.table(), join, len, out);
+    Written { status: DONE, len }
+}
+
+/// Writes the dump of a table, which is so long, to the front of the buffer.
+fn dump_front(table: &Table, join: bool, len: usize, out: &mut [u8])
+    requires few { length (Reduced table.now) ≤ most_nodes }
+    requires len { len ≡ length (dump_bytes table.now join) }
+    requires room { len ≤ length out.old }
+    ensures { out.new ≡ dump_bytes table.now join ++ drop len out.old }
+{
+    let (front, _) = out.split_at_mut(len);
+    encode_into(table, join, front);
 }
 
 /// Reads a stream, writes the node's dump of before to the buffer, and takes the stream in. Where
-/// the buffer is too small, nothing is taken in, and the length that the dump needs is told.
+/// the buffer is too small, nothing is taken in, and the length that the dump needs is told. No
+/// memory is asked for the dump.
 pub fn answer_stream(alloc: Global, node: &mut Node, stream: &[u8], out: &mut [u8]) -> Exchanged
     ensures { AnswerDone stream.now
         out.old out.new result.status result.join result.used result.len node.old node.new }
@@ -73,25 +95,29 @@ fn try_answer(
     ensures refused { IfErr result (AnswerCause stream.now node.old.table) }
 {
     let mut inlet = SliceInlet::new(stream);
-    let PreparedAnswer {
-        reply,
+    let ReadOffer {
         join,
-        offered,
-        room,
-    } = prepare_answer(alloc, &mut inlet, node.table())?;
+        table: offered,
+        reply_len,
+    } = read_offer(alloc, &mut inlet, node.table())?;
     let used = stream.len() - inlet.rest().len();
-    let Written { status, len } = copy_out(&reply, out);
-    let exchanged = Exchanged {
-        status,
+    if reply_len > out.len() {
+        return Ok(Exchanged {
+            status: TOO_SMALL,
+            join,
+            used,
+            len: reply_len,
+        });
+    }
+    let room = room_for_both(alloc, node.table(), &offered)?;
+    dump_front(node.table(), join, reply_len, out);
+    node.join_in(room, offered);
+    Ok(Exchanged {
+        status: DONE,
         join,
         used,
-        len,
-    };
-    if status != DONE {
-        return Ok(exchanged);
-    }
-    node.join_in(room, offered);
-    Ok(exchanged)
+        len: reply_len,
+    })
 }
 
 /// Reads a stream, and takes it in.

@@ -1,10 +1,10 @@
 //! A node that takes in a packet or a compound packet.
 
-ghost use Rattle.std.specs.Prelude.{◌≡◌, ◌≢◌, ◌∷◌, [], ◌++◌, List, map, IfErr, OnOk, OnErr};
+ghost use Rattle.std.specs.Prelude.{◌≡◌, ◌≢◌, ◌∷◌, [], ◌++◌, List, map, IfErr, OnOk, OnErr, IsErrOf};
 ghost use Rattle.swim_claim.specs.declared.claim.Claim.{Claim};
 ghost use Rattle.swim_wire.specs.declared.fault.WireFault.TheVariants.{Memory};
 ghost use Rattle.swim_table.specs.Node.{SameMember};
-ghost use Rattle.swim_c.specs.Taking.{TakesClaims, TakesDatagram, IsNoDatagram, TakeDone};
+ghost use Rattle.swim_c.specs.Taking.{TakesClaims, TakesDatagram, IsNoDatagram, HearingAsks, TakeDone};
 
 use crate::status::DONE;
 use std::alloc::{AllocError, Global};
@@ -25,6 +25,7 @@ pub fn hear(alloc: Global, node: &mut Node, bytes: &[u8]) -> u32
 fn take_datagram(alloc: Global, node: &mut Node, bytes: &[u8]) -> Result<(), WireFault>
     ensures takes { OnOk result (TakesDatagram bytes.now node.old node.new) }
     ensures refused { IfErr result (λ fault. fault ≢ Memory → IsNoDatagram bytes.now fault) }
+    ensures memory { IsErrOf result Memory → HearingAsks bytes.now }
     ensures unchanged { OnErr result (node.new ≡ node.old) }
 {
     match Datagram::decode(alloc, bytes)? {

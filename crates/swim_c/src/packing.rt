@@ -1,7 +1,7 @@
 //! Several packets as one compound packet.
 
-ghost use Rattle.std.specs.Prelude.{◌≡◌, ◌≢◌, ◌≤◌, length, IfOk, IfErr};
-ghost use Rattle.swim_c.specs.Packing.{PacketTexts, LacksPackets, IsPacked, CompoundDone};
+ghost use Rattle.std.specs.Prelude.{◌≡◌, ◌≢◌, ◌≤◌, length, IfOk, IfErr, IsErrOf};
+ghost use Rattle.swim_c.specs.Packing.{PacketTexts, LacksPackets, PackingAsks, IsPacked, CompoundDone};
 ghost use Rattle.swim_wire.specs.declared.fault.WireFault.TheVariants.{Memory};
 
 use crate::copy::{Written, copy_out};
@@ -29,6 +29,7 @@ fn pack(alloc: Global, bytes: &[u8], lens: &[usize]) -> Result<Vec<u8>, WireFaul
     ensures packs { IfOk result (λ compound. IsPacked lens.now bytes.now compound.items) }
     ensures refused { IfErr result (λ fault.
         fault ≢ Memory → LacksPackets lens.now bytes.now fault) }
+    ensures memory { IsErrOf result Memory → PackingAsks lens.now bytes.now }
 {
     let packets = read_packets(alloc, bytes, lens)?;
     let compound = encode_compound(alloc, &packets)?;
@@ -40,6 +41,7 @@ fn read_packets(alloc: Global, bytes: &[u8], lens: &[usize]) -> Result<Vec<Packe
     ensures reads { IfOk result (λ packets. PacketTexts lens.now bytes.now packets.items) }
     ensures refused { IfErr result (λ fault.
         fault ≢ Memory → LacksPackets lens.now bytes.now fault) }
+    ensures memory { IsErrOf result Memory → PackingAsks lens.now bytes.now }
 {
     let mut packets = Vec::new(alloc);
     let mut rest = bytes;

@@ -48,6 +48,7 @@ impl Held {
     }
 
     /// These bytes, copied.
+    #[inline(always)]
     pub(crate) fn copied(alloc: Global, bytes: &[u8]) -> Result<Held, AllocError>
         ensures { IfOk result (λ held. held ≡ bytes.now) }
     {

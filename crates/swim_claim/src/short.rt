@@ -21,6 +21,7 @@ impl<const N: usize> Model for Short<N> {
 }
 
 impl<const N: usize> Short<N> {
+    #[inline(always)]
     pub(crate) fn new(bytes: &[u8]) -> Short<N>
         requires fits { length bytes.now ≤ N }
         requires small { length bytes.now ≤ 255 }

@@ -1,7 +1,7 @@
 //! Values at the front of bytes that are at hand.
 //!
-//! A value is found where all of it is at hand, and its number or length is no signed one. It is
-//! then what a read of the same bytes gives, and a read also tells why there is none.
+//! A value that is found is what a read of the same bytes gives. If none is found, a read may still
+//! give one, or it tells why there is none.
 
 ghost use Rattle.std.specs.Prelude.{◌≡◌, ◌≤◌, length, IfSome, Ok};
 ghost use Rattle.swim_pack.specs.Reading.{FormFits, big_at, after_form, uint_at, raw_len_at, raw_at, flag_at};
@@ -11,6 +11,7 @@ use crate::read::flag_of;
 use byteorder::{BigEndian, ByteOrder};
 
 #[tactic(auto, unfolding(crate::specs::Reading::big_at))]
+#[inline(always)]
 fn big_at_hand(bytes: &[u8], size: usize) -> Option<(u64, &[u8])>
     requires low { 1 ≤ size }
     requires high { size ≤ 8 }
@@ -21,6 +22,7 @@ fn big_at_hand(bytes: &[u8], size: usize) -> Option<(u64, &[u8])>
 }
 
 #[tactic(auto, unfolding(crate::specs::Reading::after_form))]
+#[inline(always)]
 fn number_behind_form(bytes: &[u8], form: Form) -> Option<(u64, &[u8])>
     requires { FormFits form }
     ensures { IfSome result (λ found. after_form form bytes.now ≡ Ok (found.0, found.1.now)) }
@@ -32,9 +34,10 @@ fn number_behind_form(bytes: &[u8], form: Form) -> Option<(u64, &[u8])>
     }
 }
 
-/// The number of at most `max` at the front of the bytes, and the bytes behind it. There may be
-/// none where `read_uint` reads one.
+/// The number of at most `max` at the front of the bytes, and the bytes behind it, as `read_uint`
+/// reads them of bytes in memory. A number that is spelled as a signed one is not looked for.
 #[tactic(auto, unfolding(crate::specs::Reading::uint_at))]
+#[inline(always)]
 pub fn uint_at_hand(bytes: &[u8], max: u64) -> Option<(u64, &[u8])>
     ensures reads { IfSome result (λ found. uint_at max bytes.now ≡ Ok (found.0, found.1.now)) }
     ensures within { IfSome result (λ found. found.0 ≤ max) }
@@ -48,6 +51,7 @@ pub fn uint_at_hand(bytes: &[u8], max: u64) -> Option<(u64, &[u8])>
 }
 
 #[tactic(auto, unfolding(crate::specs::Reading::raw_len_at))]
+#[inline(always)]
 fn len_at_hand(bytes: &[u8], limit: usize) -> Option<(usize, &[u8])>
     ensures reads { IfSome result (λ found.
         raw_len_at limit bytes.now ≡ Ok (found.0, found.1.now)) }
@@ -61,9 +65,10 @@ fn len_at_hand(bytes: &[u8], limit: usize) -> Option<(usize, &[u8])>
     Some((len as usize, rest))
 }
 
-/// The bytes or text of at most `limit` bytes at the front of the bytes, and the bytes behind them.
-/// There are some just where `read_raw` reads them of bytes in memory.
+/// The bytes or text of at most `limit` bytes at the front of the bytes, and the bytes behind them,
+/// as `read_raw` reads them of bytes in memory.
 #[tactic(auto, unfolding(crate::specs::Reading::raw_at))]
+#[inline(always)]
 pub fn raw_at_hand(bytes: &[u8], limit: usize) -> Option<(&[u8], &[u8])>
     ensures reads { IfSome result (λ found.
         raw_at limit bytes.now ≡ Ok (found.0.now, found.1.now)) }
@@ -73,8 +78,8 @@ pub fn raw_at_hand(bytes: &[u8], limit: usize) -> Option<(&[u8], &[u8])>
     rest.split_at_checked(len)
 }
 
-/// The truth value at the front of the bytes, and the bytes behind it. There is one just where
-/// `read_bool` reads it of bytes in memory.
+/// The truth value at the front of the bytes, and the bytes behind it, as `read_bool` reads them of
+/// bytes in memory.
 #[tactic(auto, unfolding(crate::specs::Reading::flag_at))]
 pub fn bool_at_hand(bytes: &[u8]) -> Option<(bool, &[u8])>
     ensures { IfSome result (λ found. flag_at bytes.now ≡ Ok (found.0, found.1.now)) }

@@ -1,9 +1,12 @@
 -- Lines by their places, where they are counted as they are read.
 use Rattle.std.proofs.Common.{◌≡◌, ℕ, zero, suc, ◌+◌, ◌<◌, ◌∙◌, List, [], ◌∷◌, Option, Some, length, map, take, drop, get_or, Bor, refl, ap, ap₂, arith}
 use Rattle.std.proofs.lemmas.Iterator.{YieldsList}
-use Rattle.std.proofs.lemmas.Iterator.Consumers.{YieldsList-so_far, YieldsList-turn}
-use Rattle.std.specs.Iterator.{Yields}
+use Rattle.std.proofs.lemmas.Iterator.Consumers.{YieldsList-from_enumerate, YieldsList-from_first, YieldsList-so_far, YieldsList-turn}
+use Rattle.std.specs.Iterator.{Yields, YieldsFirstRef}
+use Rattle.std.specs.Iterator.Adapters.{enumerate_count, enumerate_source, enumerate_steps}
 use Rattle.std.specs.List.{enumerate_from}
+use Rattle.std.specs.declared.iter.Enumerate.{Enumerate}
+use Rattle.swim_program.specs.Lines.{input_lines}
 
 -- what is known of an item that is yielded, and of those before it
 pub yielded_at : {S A B : Type 0} {steps : S → Option A → S → Type 0} {v : A → B} {s : S} {all : List B}
@@ -35,3 +38,9 @@ counted_lines (x ∷ xs) n (line ∷ lines) e =
     let here = ap (λ l. get_or l 0 (n, line)) e in
     let rest = counted_lines xs (n + 1) lines (ap (drop 1) e) in
     ap (λ p. p.1 ∷ map (λ p. p.1.now) xs) here ∙ ap (λ t. line ∷ t) rest
+
+-- the lines of an input are counted from 0
+pub lines_counted : {s : Enumerate (List (List ℕ))} (input : List ℕ) → enumerate_source s ≡ input_lines input → enumerate_count s ≡ 0
+    → YieldsList {B = ℕ × List ℕ} (enumerate_steps (YieldsFirstRef {S = List (List ℕ)} (λ rest. rest)))
+    (λ p. (p.0, p.1.now)) s (enumerate_from 0 (input_lines input))
+lines_counted input source count = YieldsList-from_enumerate (YieldsList-from_first (λ x. x.now) (λ rest. rest) (input_lines input) source) count

@@ -1,3 +1,4 @@
 pub mod CountedLines
 pub mod Commands
 pub mod Copies
+pub mod LineFeeds

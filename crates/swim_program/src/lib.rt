@@ -23,6 +23,6 @@ mod words;
 pub use claims::into_claims;
 pub use device::{BOUND, read_file, read_input, read_to_bound, write_out};
 pub use failure::Failure;
-pub use lines::without_return;
+pub use lines::{Lines, lines_of, without_return};
 pub use report::{Place, Report, What, report_text, status};
 pub use words::{WordFault, texts_of, words_of};

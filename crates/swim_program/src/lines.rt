@@ -1,7 +1,60 @@
 //! Lines of input.
 
-ghost use Rattle.std.specs.Prelude.{◌≡◌};
+ghost use Rattle.std.specs.Prelude.{◌≡◌, ◌≤◌, ◌+◌, length};
+ghost use Rattle.std.specs.Iterator.{YieldsFirstRef, item_count};
 ghost use Rattle.std.specs.Str.Lines.{strip_carriage_return};
+ghost use Rattle.swim_program.specs.Lines.{input_lines};
+
+use memchr::memchr;
+use std::marker::Model;
+
+/// The lines of an input that are still to be read. Contracts see it as their list.
+#[derive(Drop)]
+pub struct Lines<'a> {
+    // the bytes after the last line feed that was read; none after the last line
+    rest: Option<&'a [u8]>,
+}
+
+impl<'a> Model for Lines<'a> {
+    ghost use Rattle.std.specs.Prelude.{ℕ, List};
+    ghost use Rattle.swim_program.specs.Lines.{lines_left};
+
+    ghost Value = { List (List ℕ) };
+
+    ghost view = { λ lines. lines_left lines.rest };
+}
+
+/// The lines of an input. A line feed ends one and begins the next, so that there is one line more
+/// than line feeds; the last is empty where the input ends with a line feed, or has no bytes.
+pub fn lines_of(input: &[u8]) -> Lines<'_>
+    ensures value { result ≡ input_lines input.now }
+    ensures len { length result ≤ length input.now + 1 }
+{
+    Lines { rest: Some(input) }
+}
+
+impl<'a> Iterator for Lines<'a> {
+    type Item = &'a [u8];
+
+    ghost next_gives = { YieldsFirstRef (λ rest. rest) };
+
+    ghost remaining = { item_count (λ rest. rest) };
+
+    #[inline]
+    fn next(&mut self) -> Option<&'a [u8]> {
+        let rest = self.rest?;
+        match memchr(b'\n', rest) {
+            Some(end) => {
+                self.rest = Some(&rest[end + 1..]);
+                Some(&rest[..end])
+            }
+            None => {
+                self.rest = None;
+                Some(rest)
+            }
+        }
+    }
+}
 
 /// A line less the one carriage return at its end, if it has one.
 pub fn without_return(line: &[u8]) -> &[u8]

@@ -4,7 +4,7 @@ mod failures;
 mod reports;
 mod streams;
 
-use crate::{into_claims, without_return};
+use crate::{into_claims, lines_of, without_return};
 use std::test::Fail;
 use swim_wire::decode_packet;
 
@@ -25,6 +25,16 @@ fn packets_become_their_claims(rt: HostRuntime) -> Result<(), Fail> {
         claims => panic!(rt; "{} claims", claims.len()),
     }
     Ok(())
+}
+
+#[test]
+fn lines_end_at_line_feeds(rt: HostRuntime) {
+    let mut lines = lines_of(b"a\n\nb\n");
+    assert!(rt; lines.next() == Some(b"a"));
+    assert!(rt; lines.next() == Some(b""));
+    assert!(rt; lines.next() == Some(b"b"));
+    assert!(rt; lines.next() == Some(b""));
+    assert!(rt; lines.next().is_none());
 }
 
 #[test]

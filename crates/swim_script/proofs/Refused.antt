@@ -1,5 +1,5 @@
 -- What is said of lines that are refused.
-use Rattle.std.proofs.Common.{◌≡◌, ◌≢◌, ◌⊎◌, ◌↔◌, inl, inr, ℕ, ◌<◌, ◌≤◌, Bool, true, List, [], ◌∷◌, None, Some, Option, Result, Ok, Err, length, map, get_or, codes, Bor, refl, sym, ap, subst, ◌∙◌, arith}
+use Rattle.std.proofs.Common.{◌≡◌, ◌≢◌, ◌⊎◌, ◌↔◌, inl, inr, ℕ, ◌<◌, ◌≤◌, Bool, true, List, [], ◌∷◌, None, Result, Err, length, map, get_or, codes, Bor, refl, sym, ap, ◌∙◌}
 use Rattle.std.proofs.lemmas.List.{length-map}
 use Rattle.swim_claim.specs.declared.fault.ClaimFault.{ClaimFault}
 use Rattle.swim_claim.specs.declared.fault.ClaimFault.TheVariants as claim
@@ -13,7 +13,7 @@ use Rattle.swim_script.specs.declared.keyword.Keyword.{Keyword}
 use Rattle.swim_script.specs.declared.keyword.Keyword.TheVariants as key
 use Rattle.swim_script.specs.Refusals.{NoNumber, NoBytes, NoName, NoDetails, NoNode, RefusesNode, RefusesHear, RefusesEvent, RefusesWords}
 use Rattle.swim_script.specs.Refusals.RefusesHear.{not_two, no_number, no_hex, no_datagram}
-use Rattle.swim_script.specs.Refusals.RefusesWords.{node, hear, other}
+use Rattle.swim_script.specs.Refusals.RefusesWords.{hear, other}
 use Rattle.swim_script.specs.Script.{HexBytes, NodeNumber}
 use Rattle.swim_script.specs.ScriptReading.{word_of}
 use Rattle.swim_script.proofs.ScriptLines.{two_words, six_words, other_line, first_word}

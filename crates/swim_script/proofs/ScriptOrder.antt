@@ -1,5 +1,5 @@
 -- Which lines of a script may still follow, apart from what they say.
-use Rattle.std.proofs.Common.{◌≡◌, ℕ, ◌+◌, ◌⊎◌, inl, inr, Bool, true, false, List, [], ◌∷◌, ◌++◌, length, refl, sym, subst, ◌∙◌, append_assoc}
+use Rattle.std.proofs.Common.{◌≡◌, ℕ, ◌⊎◌, inl, inr, Bool, true, false, List, [], ◌∷◌, ◌++◌, length, refl, sym, subst, ◌∙◌, append_assoc}
 use Rattle.swim_sync.specs.declared.event.Event.{Event}
 use Rattle.swim_script.specs.Script.{Start, NodeWords, EventWords, LevelWords, NodeLines, EventLines, LastLine, ScriptOf, script_lines, words}
 use Rattle.swim_script.specs.ScriptReading.{SpellsNothing}

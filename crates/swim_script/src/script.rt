@@ -10,7 +10,7 @@ ghost use Rattle.swim_script.specs.ScriptReading.{Adds, AreNumbered, TakesLine, 
 
 use crate::script_line::{Line, read_line};
 use std::alloc::{AllocError, Global};
-use swim_program::{BOUND, Place, Report, What, without_return};
+use swim_program::{BOUND, Place, Report, What, lines_of, without_return};
 use swim_sync::Event;
 use swim_table::Node;
 
@@ -110,7 +110,7 @@ pub fn read_script(alloc: Global, input: &[u8]) -> Result<Plan, Report>
         return Err(What::input_too_long().at(Place::Input));
     }
     let mut plan = Plan::new(alloc);
-    for (index, line) in input.split(|byte| *byte == b'\n').enumerate() {
+    for (index, line) in lines_of(input).enumerate() {
         let number = index as u64 + 1;
         if let Err(what) = plan.take_line(alloc, without_return(line), number) {
             return Err(what.at(Place::Line(number)));

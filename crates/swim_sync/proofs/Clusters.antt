@@ -332,14 +332,14 @@ pub stops_exchange : (nodes : List NodeValue) (j k : ℕ) → AreTwoNodes (lengt
 stops_exchange nodes j k two why.NoSuchNode hinders = absurd hinders
 stops_exchange nodes j k two why.SameNode hinders = absurd hinders
 stops_exchange nodes j k two why.TooManyRecords hinders = ((two.0, two.1), two.2, hinders)
-stops_exchange nodes j k two why.Memory hinders = ((two.0, two.1), two.2)
+stops_exchange nodes j k two why.Memory hinders = ((two.0, two.1), two.2, tt)
 
 pub stops_half : (nodes : List NodeValue) (j k x : ℕ) (node : NodeValue) → AreTwoNodes (length nodes) j k → slice_get nodes x ≡ Some node → Dumps (Half j k) x
     → (why : Why) → Hinders (HasTooMany node.table) why → StopsBy nodes (Half j k) why
 stops_half nodes j k x node two at dumps why.NoSuchNode hinders = absurd hinders
 stops_half nodes j k x node two at dumps why.SameNode hinders = absurd hinders
 stops_half nodes j k x node two at dumps why.TooManyRecords hinders = ((two.0, two.1), two.2, (x, node, dumps, at, hinders))
-stops_half nodes j k x node two at dumps why.Memory hinders = ((two.0, two.1), two.2)
+stops_half nodes j k x node two at dumps why.Memory hinders = ((two.0, two.1), two.2, tt)
 
 -- an exchange of two tables in the list, named in either order
 pub turned_too_many : (nodes : List NodeValue) (j k : ℕ) → DumpsTooMany nodes (Exchange k j) → DumpsTooMany nodes (Exchange j k)

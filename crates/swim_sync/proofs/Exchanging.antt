@@ -1,17 +1,20 @@
 -- Tables that take a stream's claims in, and tables that come back from their dumps.
-use Rattle.std.proofs.Common.{◌≡◌, ◌↔◌, ℕ, ◌≤◌, Bool, false, List, ◌++◌, length, Ok, Err, refl, sym, ap, subst, ◌∙◌, arith}
+use Rattle.std.proofs.Common.{◌≡◌, ◌↔◌, ℕ, ◌≤◌, ◌*◌, Bool, false, Option, Some, None, List, [], ◌∷◌, ◌++◌, length, Ok, Err, refl, sym, ap, subst, ◌∙◌, arith}
 use Rattle.swim_claim.specs.declared.claim.Claim.{Claim}
+use Rattle.swim_claim.specs.declared.claim.Claim.TheVariants.{Alive, Suspect, Confirm, Leave}
 use Rattle.std.specs.Io.KnownBytes.{Keeps}
+use Rattle.std.specs.Option.{option_to_list}
+use Rattle.std.proofs.lemmas.List.{length-append}
 use Rattle.swim_pack.specs.declared.fault.PushFault.{PushFault}
 use Rattle.swim_pack.specs.declared.fault.PushFault.TheVariants as push
 use Rattle.swim_pack.specs.Ends.{Source, Sink, Takes, Rises, AppendsFront}
 use Rattle.swim_wire.specs.Streams.{StreamText}
 use Rattle.swim_table.specs.declared.fault.EncodeFault.TheVariants.{TooManyRecords}
 use Rattle.swim_table.specs.Dump.{dump_bytes}
-use Rattle.swim_table.specs.Join.{Join}
-use Rattle.swim_table.specs.Table.{Entries, Reduced, TableOf, IsLegalTable}
+use Rattle.swim_table.specs.Join.{Join, Below}
+use Rattle.swim_table.specs.Table.{Entries, Reduced, TableOf, IsLegalTable, kept, beside_home}
 use Rattle.swim_table.proofs.Showing.{TableOf-sent}
-use Rattle.swim_table.proofs.Tables.{TableOf-table_of, TableOf-Reduced, TableOf-Join, Join-comm}
+use Rattle.swim_table.proofs.Tables.{TableOf-table_of, TableOf-unique, TableOf-Reduced, TableOf-Join, Join-comm}
 use Rattle.swim_sync.specs.Exchanging.{TakesStream, HasTooMany, IsPrepareRefused, IsAnswerRefused}
 use Rattle.swim_sync.specs.Fault.{fault_of_push}
 use Rattle.swim_sync.specs.declared.fault.SyncFault.{SyncFault}
@@ -58,6 +61,33 @@ pub both_take : (first second a b : Entries) → (a ≡ Join first second) × (b
 both_take first second a b same claims others h g =
     let joined = TableOf-Join first second claims others h g in
     (subst (λ t. TableOf t (claims ++ others)) (sym same.0) joined, subst (λ t. TableOf t (claims ++ others)) (sym same.1) joined)
+
+-- tables of which neither changes the other are their join
+pub equal_are_join : (first second : Entries) → Below first second × Below second first → (first ≡ Join first second) × (second ≡ Join first second)
+equal_are_join first second both =
+    let all = Reduced first ++ Reduced second in
+    let other = Reduced second ++ Reduced first in (
+      TableOf-unique first (Join first second) all all both.1 (TableOf-table_of all) (λ c. (λ m. m, λ m. m)),
+      TableOf-unique second (Join second first) other other both.0 (TableOf-table_of other) (λ c. (λ m. m, λ m. m)) ∙ Join-comm second first,
+    )
+
+-- an entry keeps two records at most
+few_beside : (top : Claim) → length (beside_home top) ≤ 1
+few_beside (Alive name inc details) = omega arith
+few_beside (Suspect name inc) = omega arith
+few_beside (Confirm name inc) = omega arith
+few_beside (Leave name inc) = omega arith
+
+few_kept : (home : Option Claim) (top : Claim) → length (option_to_list home ++ beside_home top) ≤ 2
+few_kept None top = omega (arith, few_beside top)
+few_kept (Some home) top = omega (arith, few_beside top)
+
+pub few_records : (table : Entries) → length (Reduced table) ≤ 2 * length table
+few_records [] = omega arith
+few_records (entry ∷ rest) =
+    let parts = length-append (kept entry) (Reduced rest) in
+    let few = few_kept entry.home entry.top in
+    omega (arith, parts, few, few_records rest)
 
 -- a dump was not pushed
 pub push_refused : (old new : Source) (out_old out_new : Sink) (table theirs : Entries) (join : Bool) (bytes : List ℕ) → bytes ≡ dump_bytes table join

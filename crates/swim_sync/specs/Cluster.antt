@@ -3,6 +3,7 @@ use Rattle.std.specs.Prelude.{◌≡◌, ◌⊎◌, ℕ, ◌-◌, ◌*◌, ◌<�
 use Rattle.swim_claim.specs.declared.claim.Claim.{Claim}
 use Rattle.swim_table.specs.Lending.{with_table}
 use Rattle.swim_table.specs.Node.{NodeValue}
+use Rattle.swim_table.specs.Refuting.{IsDueInRange}
 use Rattle.swim_table.specs.Table.{Entries, TableOf}
 use Rattle.swim_sync.specs.declared.event.Event.{Event}
 use Rattle.swim_sync.specs.declared.event.Event.TheVariants.{Hear, HearAll, Exchange, Half, Refute}
@@ -93,6 +94,16 @@ pub record BothExchange (old new : List NodeValue) (j k : ℕ) : Type 0 where
       → TableOf second.table others
       → TableOf one (claims ++ others) × TableOf other (claims ++ others)
 
+-- the event asks for memory: a refutation only where one is due, and its incarnation is at most
+-- 4,294,967,295
+abbrev pub AsksForMemory : List NodeValue → Event → Type 0
+AsksForMemory nodes (Hear k claim) = Unit {0}
+AsksForMemory nodes (HearAll k claims) = Unit {0}
+AsksForMemory nodes (Exchange j k) = Unit {0}
+AsksForMemory nodes (Half j k) = Unit {0}
+AsksForMemory nodes (Refute k) =
+    (node : NodeValue) × (slice_get nodes k ≡ Some node) × IsDueInRange node
+
 -- why the event does not happen to these nodes
 abbrev pub StopsBy : List NodeValue → Event → Why → Type 0
 StopsBy nodes event NoSuchNode = ¬ NamesNodes (length nodes) event
@@ -100,6 +111,7 @@ StopsBy nodes event SameNode = NamesNodes (length nodes) event × NamesOneTwice 
 StopsBy nodes event TooManyRecords = NamesNodes (length nodes) event × (¬ NamesOneTwice event)
     × DumpsTooMany nodes event
 StopsBy nodes event Memory = NamesNodes (length nodes) event × (¬ NamesOneTwice event)
+    × AsksForMemory nodes event
 
 -- the event at the place of the list does not happen to these nodes
 abbrev pub StopsAt : List NodeValue → List Event → ℕ → Why → Type 0

@@ -85,4 +85,4 @@ abbrev pub IsExchangeRefused : Entries → Entries → SyncFault → Type 0
 IsExchangeRefused first second (Wire error) = ⊥
 IsExchangeRefused first second TooManyRecords = HasTooMany first ⊎ HasTooMany second
 IsExchangeRefused first second Push = ⊥
-IsExchangeRefused first second Memory = Unit {0}
+IsExchangeRefused first second Memory = (¬ HasTooMany first) × (¬ HasTooMany second)

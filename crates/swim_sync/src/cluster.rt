@@ -65,7 +65,7 @@ impl Cluster {
     /// - `SameNode` where it is an exchange, whole or half, of a node with itself.
     /// - `TooManyRecords` where it is an exchange, whole or half, and one of the two tables keeps
     ///   more than 131,072 records.
-    /// - `Memory` where memory is refused.
+    /// - `Memory` if memory is refused. A refutation asks for memory only if one is due.
     pub fn run(&mut self, events: &[Event]) -> Result<(), Stop>
         ensures ok { OnOk result (Ran self.old self.new events.now) }
         ensures stopped { IfErr result (Stopped self.old self.new events.now) }

@@ -7,11 +7,11 @@ ghost use Rattle.swim_sync.specs.Exchanging.{HasTooMany};
 ghost use Rattle.swim_sync.specs.OverMemory.{IsOffer, TakesTable, Hinders};
 
 use crate::fault::SyncFault;
-use crate::push_pull::{answer, exchange, offer};
+use crate::push_pull::{answer, exchange_few, has_too_many, offer};
 use crate::stop::Why;
 use std::alloc::Global;
 use swim_pack::{SliceInlet, VecOutlet};
-use swim_table::Table;
+use swim_table::{Relation, Table, relation};
 
 /// The offer of a table.
 pub(crate) fn offered(alloc: Global, table: &Table) -> Result<VecOutlet, Why>
@@ -48,7 +48,8 @@ pub(crate) fn answered(alloc: Global, offer: &[u8], table: &mut Table) -> Result
     }
 }
 
-/// Exchanges two tables. Where it is refused, both are as they were.
+/// Exchanges two tables. If they are equal already, this costs a comparison. If it is refused, both
+/// are as they were.
 pub(crate) fn exchanged(alloc: Global, first: &mut Table, second: &mut Table) -> Result<(), Why>
     ensures all { OnOk result ((claims others : List Claim) → TableOf first.old claims
         → TableOf second.old others
@@ -57,10 +58,16 @@ pub(crate) fn exchanged(alloc: Global, first: &mut Table, second: &mut Table) ->
     ensures unchanged { OnErr result ((first.new ≡ first.old) × (second.new ≡ second.old)) }
     ensures refused { IfErr result (Hinders (HasTooMany first.old ⊎ HasTooMany second.old)) }
 {
-    match exchange(alloc, first, second) {
-        Ok(()) => Ok(()),
-        Err(SyncFault::TooManyRecords) => Err(Why::TooManyRecords),
-        Err(SyncFault::Memory) => Err(Why::Memory),
-        Err(SyncFault::Wire(_) | SyncFault::Push) => unreachable!(),
+    if has_too_many(first) || has_too_many(second) {
+        return Err(Why::TooManyRecords);
+    }
+    match relation(first, second) {
+        Relation::Equal => Ok(()),
+        Relation::Behind | Relation::Ahead | Relation::Apart => {
+            match exchange_few(alloc, first, second) {
+                Ok(()) => Ok(()),
+                Err(_) => Err(Why::Memory),
+            }
+        }
     }
 }

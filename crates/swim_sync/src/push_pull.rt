@@ -4,7 +4,7 @@
 //! stream, writes its own table as a stream, and then takes in what it read. The first one
 //! finishes: it reads that reply and takes it in. The order is memberlist's (`net.go`, `state.go`).
 
-ghost use Rattle.std.specs.Prelude.{◌≡◌, ◌↔◌, ◌⊎◌, ◌+◌, ◌≤◌, ◌++◌, List, length, IsErr, IfOk, IfErr, OnOk, OnErr};
+ghost use Rattle.std.specs.Prelude.{◌≡◌, ◌↔◌, ◌⊎◌, ◌+◌, ◌≤◌, ◌++◌, List, length, IsErr, IfOk, IfErr, MatchBool, OnOk, OnErr};
 ghost use Rattle.std.specs.Io.KnownBytes.{Appends};
 ghost use Rattle.swim_claim.specs.declared.claim.Claim.{Claim};
 ghost use Rattle.swim_pack.specs.Ends.{Skips};
@@ -16,7 +16,7 @@ ghost use Rattle.swim_sync.specs.Exchanging.{HasTooMany, TakesStream, ReadsOffer
 use crate::fault::SyncFault;
 use std::alloc::Global;
 use swim_pack::{Inlet, Outlet};
-use swim_table::{Room, Table, encode, read_dump, read_stream};
+use swim_table::{MOST_RECORDS, Room, Table, dump_len, encode, read_dump, read_stream};
 
 /// Offers a table: writes its canonical dump, with this join flag, by one push. With this a member
 /// begins an exchange (memberlist's `net.go`).
@@ -146,6 +146,49 @@ pub fn prepare_answer<I: Inlet>(
     })
 }
 
+/// An offer that was read.
+#[derive(Drop, Debug)]
+pub struct ReadOffer {
+    /// The join flag of the offer, and of the reply.
+    pub join: bool,
+    /// The table of the offer's claims.
+    pub table: Table,
+    /// How many bytes the reply has.
+    pub reply_len: usize,
+}
+
+/// Reads an offer, one stream, and tells how long the reply of the member with this table is, for
+/// one that writes it itself. No memory is asked for the reply. Bytes after the stream stay in the
+/// inlet.
+///
+/// # Errors
+///
+/// Those of [`prepare_answer`].
+pub fn read_offer<I: Inlet>(
+    alloc: Global,
+    inlet: &mut I,
+    table: &Table,
+) -> Result<ReadOffer, SyncFault>
+    ensures reads { IfOk result (λ offer.
+        ReadsOffer (I.seen inlet.old) (I.seen inlet.new) offer.table offer.join) }
+    ensures len { IfOk result (λ offer.
+        offer.reply_len ≡ length (dump_bytes table.now offer.join)) }
+    ensures too_many { HasTooMany table.now → IsErr result }
+
+    // What a refusal leaves, and why it came.
+    ensures rest { Skips (I.seen inlet.old).coming (I.seen inlet.new).coming }
+    ensures refused { IfErr result
+        (IsPrepareRefused (I.seen inlet.old) (I.seen inlet.new) table.now) }
+{
+    let (offered, join) = read_stream(alloc, inlet)?;
+    let reply_len = dump_len(table, join)?;
+    Ok(ReadOffer {
+        join,
+        table: offered,
+        reply_len,
+    })
+}
+
 /// Finishes an exchange: reads the reply, one stream, and takes its claims in (memberlist's
 /// `net.go`). Answers the stream's join flag. Bytes after the stream stay in the inlet.
 ///
@@ -178,8 +221,8 @@ pub fn finish<I: Inlet>(alloc: Global, inlet: &mut I, table: &mut Table) -> Resu
 ///
 /// Both tables are then as they were.
 ///
-/// - `TooManyRecords` where one of the tables keeps more than 131,072 records. They are then never
-///   exchanged.
+/// - `TooManyRecords` exactly if one of the tables keeps more than 131,072 records. This is
+///   checked first.
 /// - `Memory` where memory is refused.
 pub fn exchange(alloc: Global, first: &mut Table, second: &mut Table) -> Result<(), SyncFault>
     // Both are the join, and the table of all claims of which the two were tables.
@@ -188,11 +231,42 @@ pub fn exchange(alloc: Global, first: &mut Table, second: &mut Table) -> Result<
     ensures all { OnOk result ((claims others : List Claim) → TableOf first.old claims
         → TableOf second.old others
         → TableOf first.new (claims ++ others) × TableOf second.new (claims ++ others)) }
-    ensures too_many { HasTooMany first.old ⊎ HasTooMany second.old → IsErr result }
+    ensures too_many { (result ≡ Err SyncFault.TooManyRecords)
+        ↔ (HasTooMany first.old ⊎ HasTooMany second.old) }
 
     // What a refusal leaves, and why it came.
     ensures unchanged { OnErr result ((first.new ≡ first.old) × (second.new ≡ second.old)) }
     ensures refused { IfErr result (IsExchangeRefused first.old second.old) }
+{
+    if has_too_many(first) || has_too_many(second) {
+        return Err(SyncFault::TooManyRecords);
+    }
+    exchange_few(alloc, first, second)
+}
+
+/// Whether the table keeps more records than a stream has.
+pub(crate) fn has_too_many(table: &Table) -> bool
+    ensures { MatchBool result (HasTooMany table.now) (¬ HasTooMany table.now) }
+{
+    // an entry keeps two records at most, so that most tables need no count
+    if table.len() <= MOST_RECORDS as usize / 2 {
+        return false;
+    }
+    table.records() > MOST_RECORDS
+}
+
+/// Exchanges two tables, neither of which has too many records.
+pub(crate) fn exchange_few(
+    alloc: Global,
+    first: &mut Table,
+    second: &mut Table,
+) -> Result<(), SyncFault>
+    requires first { ¬ HasTooMany first.old }
+    requires second { ¬ HasTooMany second.old }
+    ensures joins { OnOk result ((first.new ≡ Join first.old second.old)
+        × (second.new ≡ Join first.old second.old)) }
+    ensures unchanged { OnErr result ((first.new ≡ first.old) × (second.new ≡ second.old)) }
+    ensures memory { IfErr result (λ fault. fault ≡ SyncFault.Memory) }
 {
     let size = first.len() + second.len();
     let offered = encode(alloc, first, false)?;
@@ -207,7 +281,11 @@ pub fn exchange(alloc: Global, first: &mut Table, second: &mut Table) -> Result<
 }
 
 /// Room for the entries of both tables.
-fn room_for_both(alloc: Global, table: &Table, other: &Table) -> Result<Room, SyncFault>
+///
+/// # Errors
+///
+/// `Memory` where memory is refused.
+pub fn room_for_both(alloc: Global, table: &Table, other: &Table) -> Result<Room, SyncFault>
     ensures room { IfOk result (λ room. length table.now + length other.now ≤ room) }
     ensures memory { IfErr result (λ fault. fault ≡ SyncFault.Memory) }
 {

@@ -36,8 +36,8 @@ pub enum Why {
 
 impl Why {
     /// The number by which reports name the fault: 26, 27, 23, or 10 for want of memory (own).
-    pub fn number(self) -> u32
-        ensures { result ≡ why_number self }
+    pub fn number(&self) -> u32
+        ensures { result ≡ why_number self.now }
     {
         match self {
             Why::NoSuchNode => 26,

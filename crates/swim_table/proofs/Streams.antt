@@ -1,5 +1,5 @@
 -- A push/pull stream of which a part is read.
-use Rattle.std.proofs.Common.{◌≡◌, ℕ, ◌+◌, ◌≤◌, ◌<◌, ◌⊎◌, inl, inr, Bool, List, [], ◌∷◌, ◌++◌, length, take, drop, Option, Some, None, refl, sym, ap, subst, ◌∙◌, append_assoc, append-nil, length-append, arith}
+use Rattle.std.proofs.Common.{◌≡◌, ◌≢◌, ℕ, ◌+◌, ◌≤◌, ◌<◌, ◌⊎◌, inl, inr, Bool, List, [], ◌∷◌, ◌++◌, length, take, drop, Option, Some, None, refl, sym, ap, subst, ◌∙◌, append_assoc, append-nil, length-append, arith}
 use Rattle.std.proofs.Math.Nat.{lt_of_not-le}
 use Rattle.std.specs.Prelude.{IfSome}
 use Rattle.std.proofs.lemmas.List.{append_cancel_left, length-take-le, take-append-drop}
@@ -7,12 +7,15 @@ use Rattle.swim_claim.specs.declared.claim.Claim.{Claim}
 use Rattle.swim_pack.specs.Composing.{UnlessFailed}
 use Rattle.swim_pack.specs.Ends.{Source, Takes, TakesKnown, Lacks}
 use Rattle.swim_wire.specs.declared.fault.WireFault.{WireFault}
-use Rattle.swim_wire.specs.declared.fault.WireFault.TheVariants.{Ended, Fault}
+use Rattle.swim_wire.specs.declared.fault.WireFault.TheVariants.{Ended, Fault, Memory}
 use Rattle.swim_wire.specs.declared.stream.Header.{Header}
+use Rattle.swim_wire.specs.Asking.{MapAsks}
+use Rattle.swim_wire.specs.Layout.{state_layout}
 use Rattle.swim_wire.specs.Reading.{wire_cause}
 use Rattle.swim_wire.specs.Streams.{StateTexts, StreamText}
 use Rattle.swim_wire.specs.Streams.StateTexts.{none, one}
 use Rattle.swim_wire.specs.Texts.{HeaderText, StateText}
+use Rattle.swim_wire.proofs.Asking.{StateText-asks}
 use Rattle.swim_wire.proofs.OneMessage.{header_one, state_one}
 use Rattle.swim_table.specs.declared.stream_reader.Step.TheVariants.{More, End}
 use Rattle.swim_table.specs.Steps.{Steps, IsWanted, BeginText, ExplainsStep, ExplainsStream}
@@ -209,6 +212,18 @@ step_explains fault old mid reader some says = known old.coming mid.coming some.
     known (Some bytes) (Some now) taken says = because bytes taken.0 now taken.1 taken.2 says
 
 -- ---- which refusal
+
+-- a record that was read had asked for memory
+pub record_asks : (reader inside : Streaming) (old new : Source) (c : Claim) → inside ≡ reader → inside.left ≢ 0 → Takes old new (λ b. StateText b c)
+    → IfSome old.coming (ExplainsStep reader Memory)
+record_asks reader inside old new c same some taken =
+    subst (λ (r : Streaming). IfSome old.coming (ExplainsStep r Memory)) same (known old.coming new.coming taken)
+  where
+    known : (old new : Option (List ℕ)) → TakesKnown old new (λ b. StateText b c) → IfSome old (ExplainsStep inside Memory)
+    known None new taken = tt
+    known (Some bytes) None taken = absurd taken
+    known (Some bytes) (Some rest) taken =
+        why_step.record_of (omega (arith, some)) (subst (MapAsks state_layout) (sym taken.2) (StateText-asks taken.0 rest c taken.1), tt)
 
 -- fewer bytes than n where no n of them stand at the front
 fewer : (bytes : List ℕ) (n : ℕ) → ((text rest : List ℕ) → length text ≡ n → bytes ≡ text ++ rest → ⊥) → length bytes < n

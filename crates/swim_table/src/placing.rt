@@ -4,16 +4,18 @@ ghost use Rattle.swim_claim.specs.Claim.{name_of};
 ghost use Rattle.std.specs.List.Sorted.{IsPermutation};
 ghost use Rattle.swim_table.specs.Table.{Entries, name_cmp, IsAscending};
 ghost use Rattle.swim_table.specs.Place.{IsAt, IsGapFor};
+ghost use Rattle.swim_table.specs.Prefix.{IsPrefixOf};
 ghost use Rattle.tiered_vec.specs.Tiers.{items, index_of, room, IsPlace, IsGap};
 ghost use Rattle.swim_table.specs.Join.{put, put_each};
 
 use crate::entry::Entry;
+use crate::prefix::Prefix;
 use std::alloc::AllocError;
 use std::cmp::Ordering;
 use tiered_vec::{Place, TieredVec};
 
-/// Where the name is, or else where it would go. A name above the last one, as each is where names
-/// come in ascending order, costs one comparison.
+/// Where the name is, or else where it would go. A name above the last one costs one comparison, and
+/// one below the first a second one, as each does if names come in order.
 // Inlined, LLVM makes a search without branches, which waits for each entry in turn.
 #[inline(never)]
 pub(crate) fn find_place(entries: &TieredVec<Entry>, name: &[u8]) -> Result<Place, Place>
@@ -24,17 +26,24 @@ pub(crate) fn find_place(entries: &TieredVec<Entry>, name: &[u8]) -> Result<Plac
     ensures absent { IfErr result (λ p.
         IsGapFor (items entries.now) name.now (index_of entries.now.blocks p)) }
 {
+    let prefix = Prefix::new(name);
     if let Some(last) = entries.last() {
-        if last.name().bytes().cmp(name).is_lt() {
+        if last.order(&prefix, name).is_lt() {
             return Err(entries.end());
         }
     }
-    search_place(entries, name)
+    if let Some(first) = entries.get(0) {
+        if first.order(&prefix, name).is_gt() {
+            return Err(entries.place(0));
+        }
+    }
+    search_place(entries, &prefix, name)
 }
 
 /// Where the name is, or else where it would go, by a binary search.
-fn search_place(entries: &TieredVec<Entry>, name: &[u8]) -> Result<Place, Place>
-    requires { IsAscending (items entries.now) }
+fn search_place(entries: &TieredVec<Entry>, prefix: &Prefix, name: &[u8]) -> Result<Place, Place>
+    requires ascending { IsAscending (items entries.now) }
+    requires prefix { IsPrefixOf prefix.now name.now }
     ensures range { MatchResult result (IsPlace entries.now.blocks) (IsGap entries.now.blocks) }
     ensures found { IfOk result (λ p.
         IsAt (items entries.now) name.now (index_of entries.now.blocks p)) }
@@ -43,8 +52,9 @@ fn search_place(entries: &TieredVec<Entry>, name: &[u8]) -> Result<Place, Place>
 {
     entries.find_by(
         |entry: &Entry| -> Ordering
+            requires { IsPrefixOf prefix.now name.now }
             ensures { result ≡ name_cmp (name_of entry.now.top) name.entry.now }
-        { entry.name().bytes().cmp(name) },
+        { entry.order(prefix, name) },
     )
 }
 
@@ -60,9 +70,7 @@ pub(crate) fn put_sorted(
     ensures err { OnErr result (items entries.new ≡ items entries.old) }
 {
     let mut others = others;
-    others.sort_by(|one: &Entry, other: &Entry| -> Ordering {
-        one.name().bytes().cmp(other.name().bytes())
-    })?;
+    others.sort_by(|one: &Entry, other: &Entry| -> Ordering { one.order_to(other) })?;
     entries.reserve(others.len())?;
     put_all(entries, others);
     Ok(())
@@ -75,6 +83,18 @@ fn put_all(entries: &mut TieredVec<Entry>, others: Vec<Entry>)
     ensures { items entries.new ≡ put_each (items entries.old) others.items }
 {
     for other in others {
+        put_in_room(entries, other);
+    }
+}
+
+/// Puts each entry of a table at its place, or combines it with the one that is there. There is room
+/// for all.
+pub(crate) fn put_entries(entries: &mut TieredVec<Entry>, others: TieredVec<Entry>)
+    requires ascending { IsAscending (items entries.old) }
+    requires room { length (items others) ≤ room entries.old }
+    ensures { items entries.new ≡ put_each (items entries.old) (items others) }
+{
+    for other in others.into_iter() {
         put_in_room(entries, other);
     }
 }

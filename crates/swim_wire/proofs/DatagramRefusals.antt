@@ -1,12 +1,12 @@
 -- Why bytes are no datagram.
-use Rattle.std.proofs.Common.{◌≡◌, ◌⊎◌, inl, inr, ⊎_elim, ℕ, zero, suc, false, eqb, List, [], ◌∷◌, ◌++◌, length, map, flat_map, Result, Ok, Err, refl, sym, ap, subst, ◌∙◌, eqb-true, arith}
+use Rattle.std.proofs.Common.{◌≡◌, ◌≢◌, ◌⊎◌, inl, inr, ⊎_elim, ℕ, zero, suc, false, eqb, List, [], ◌∷◌, ◌++◌, length, map, flat_map, Result, Ok, Err, refl, sym, ap, subst, ◌∙◌, eqb-true, arith}
 use Rattle.std.proofs.lemmas.Bool.Decides.{nat_tests}
 use Rattle.std.specs.Int.{w16, to_be_bytes, from_be_bytes}
 use Rattle.swim_claim.specs.Bytes.{AreBytes}
 use Rattle.swim_pack.specs.Composing.{◌>>=◌, gives, lift}
 use Rattle.swim_pack.specs.Reading.{next_bytes}
 use Rattle.swim_wire.specs.declared.fault.WireFault.{WireFault}
-use Rattle.swim_wire.specs.declared.fault.WireFault.TheVariants.{Ended, NameEmpty, BadAddress, BadVersions, WrongType, BadState, TooManyNodes, UserTooLong, Trailing}
+use Rattle.swim_wire.specs.declared.fault.WireFault.TheVariants.{Ended, Memory, NameEmpty, BadAddress, BadVersions, WrongType, BadState, TooManyNodes, UserTooLong, Trailing}
 use Rattle.swim_wire.specs.Checks.{ExplainsWhole}
 use Rattle.swim_wire.specs.Datagrams.{length_at, lengths_at, alone, is_packet_type, packets_of, parts_at, compound_at, whole_datagram, HasBadPart, ExplainsDatagram}
 use Rattle.swim_wire.specs.Fault.{fault_of_pack}
@@ -26,13 +26,13 @@ alone_err : (r : Result PacketValue WireFault) (error : WireFault) → alone r �
 alone_err (Ok p) error e = absurd cc
 alone_err (Err other) error e = cc
 
-part_refusal : (part : List ℕ) (error : WireFault) → packets_of part ≡ failed (List PacketValue) error → IsPacketPart part × ExplainsWhole error part
-part_refusal [] error e = absurd cc
-part_refusal (first ∷ rest) error e =
+part_refusal : (part : List ℕ) (error : WireFault) → error ≢ Memory → packets_of part ≡ failed (List PacketValue) error → IsPacketPart part × ExplainsWhole error part
+part_refusal [] error other e = absurd cc
+part_refusal (first ∷ rest) error other e =
     split (is_packet_type first)
     (λ r. r ≡ failed (List PacketValue) error → IsPacketPart (first ∷ rest) × ExplainsWhole error (first ∷ rest))
     (alone (whole_packet (first ∷ rest))) (Ok [])
-    (λ t own. (type_is first t, whole_refusal (first ∷ rest) error (alone_err (whole_packet (first ∷ rest)) error own))) (λ t none. absurd cc) e
+    (λ t own. (type_is first t, whole_refusal (first ∷ rest) error other (alone_err (whole_packet (first ∷ rest)) error own))) (λ t none. absurd cc) e
 
 -- ---- the parts
 
@@ -63,22 +63,22 @@ one_more len lens bytes mid part own error long parts text r = record {
   wrong = r.wrong;
 }
 
-parts_refusal : (lens : List ℕ) (packets : List PacketValue) (bytes : List ℕ) (error : WireFault)
+parts_refusal : (lens : List ℕ) (packets : List PacketValue) (bytes : List ℕ) (error : WireFault) → error ≢ Memory
     → parts_at lens packets bytes ≡ refused (List PacketValue) error
     → IsMapFault error ⊎ PartRefused lens bytes error
 unfolding parts_at
-parts_refusal [] packets bytes error e = absurd cc
-parts_refusal (len ∷ lens) packets bytes error e =
+parts_refusal [] packets bytes error other e = absurd cc
+parts_refusal (len ∷ lens) packets bytes error other e =
     then_err (lift fault_of_pack (next_bytes len) bytes) (λ part. checked (packets_of part) >>= (λ more. parts_at lens (packets ++ more))) error e Q
     (λ short. inl (lift_fault fault_of_pack (next_bytes len bytes) error pack_fault short))
     (λ part mid ok next. let one = bytes_takes len bytes part mid ok in
     then_err (checked (packets_of part) mid) (λ more. parts_at lens (packets ++ more)) error next Q
-    (λ wrong. inr (first part mid one.0 one.1 (part_refusal part error (checked_err (packets_of part) mid error wrong))))
+    (λ wrong. inr (first part mid one.0 one.1 (part_refusal part error other (checked_err (packets_of part) mid error wrong))))
     (λ own behind passes later. let own_is = checked_ok (packets_of part) mid own behind passes in
     ⊎_elim (λ (m : IsMapFault error). inl m)
     (λ (r : PartRefused lens behind error). inr
     (one_more len lens bytes behind part own error one.0 (one.1 ∙ ap (λ (bs : List ℕ). part ++ bs) own_is.1) (part_takes part own own_is.0) r))
-    (parts_refusal lens (packets ++ own) behind error later)))
+    (parts_refusal lens (packets ++ own) behind error other later)))
   where
     Q : Type 0
     Q = IsMapFault error ⊎ PartRefused (len ∷ lens) bytes error
@@ -111,15 +111,15 @@ lengths_fault (suc n) bytes error e = then_err (length_at bytes) (λ len. length
     (λ len mid ok next. then_err (lengths_at n mid) (λ lens. gives (len ∷ lens)) error next (IsMapFault error)
     (λ short. lengths_fault n mid error short) (λ lens rest ok other. absurd cc))
 
-compound_refusal : (bytes : List ℕ) (error : WireFault) → AreBytes bytes → compound_at bytes ≡ refused
+compound_refusal : (bytes : List ℕ) (error : WireFault) → error ≢ Memory → AreBytes bytes → compound_at bytes ≡ refused
     (List PacketValue) error → IsMapFault error ⊎ HasBadPart error (7 ∷ bytes)
 unfolding compound_at
-compound_refusal [] error are e = let is : Ended ≡ error = cc in inl (subst IsMapFault is tt)
-compound_refusal (count ∷ bytes) error are e =
+compound_refusal [] error other are e = let is : Ended ≡ error = cc in inl (subst IsMapFault is tt)
+compound_refusal (count ∷ bytes) error other are e =
     then_err (lengths_at count bytes) (λ lens. parts_at lens []) error e Q
     (λ short. inl (lengths_fault count bytes error short))
     (λ lens mid ok parts. let l = lengths_takes count bytes lens mid (λ k d lt. are (suc k) d (omega arith)) ok in
-    ⊎_elim (λ (m : IsMapFault error). inl m) (λ (r : PartRefused lens mid error). inr (bad lens mid l.0 l.1 r)) (parts_refusal lens [] mid error parts))
+    ⊎_elim (λ (m : IsMapFault error). inl m) (λ (r : PartRefused lens mid error). inr (bad lens mid l.0 l.1 r)) (parts_refusal lens [] mid error other parts))
   where
     Q : Type 0
     Q = IsMapFault error ⊎ HasBadPart error (7 ∷ count ∷ bytes)
@@ -144,16 +144,17 @@ compound_refusal (count ∷ bytes) error are e =
 
 -- ---- datagrams
 
-by_reading : (error : WireFault) (bytes : List ℕ) → IsMapFault error → ExplainsDatagram error bytes
-by_reading NameEmpty bytes h = absurd h
-by_reading BadAddress bytes h = absurd h
-by_reading BadVersions bytes h = absurd h
-by_reading (WrongType found) bytes h = absurd h
-by_reading (BadState found) bytes h = absurd h
-by_reading TooManyNodes bytes h = absurd h
-by_reading UserTooLong bytes h = absurd h
-by_reading Trailing bytes h = absurd h
-by_reading error bytes h = tt
+by_reading : (error : WireFault) (bytes : List ℕ) → error ≢ Memory → IsMapFault error → ExplainsDatagram error bytes
+by_reading NameEmpty bytes other h = absurd h
+by_reading BadAddress bytes other h = absurd h
+by_reading BadVersions bytes other h = absurd h
+by_reading (WrongType found) bytes other h = absurd h
+by_reading (BadState found) bytes other h = absurd h
+by_reading TooManyNodes bytes other h = absurd h
+by_reading UserTooLong bytes other h = absurd h
+by_reading Trailing bytes other h = absurd h
+by_reading Memory bytes other h = absurd (other refl)
+by_reading error bytes other h = tt
 
 -- a part that is a packet by its first byte is of no wrong type
 no_wrong_type : (found : ℕ) (part : List ℕ) → IsPacketPart part → ¬ ExplainsWhole (WrongType found) part
@@ -163,36 +164,38 @@ no_wrong_type found (first ∷ rest) type h =
     let other = h.1 in
     grind arith
 
-by_part : (error : WireFault) (bytes : List ℕ) → HasBadPart error bytes → ExplainsDatagram error bytes
-by_part NameEmpty bytes h = inr h
-by_part BadAddress bytes h = inr h
-by_part BadVersions bytes h = inr h
-by_part (WrongType found) bytes h = absurd (no_wrong_type found h.part h.is_packet h.wrong)
-by_part (BadState found) bytes h = absurd h.wrong
-by_part TooManyNodes bytes h = absurd h.wrong
-by_part UserTooLong bytes h = absurd h.wrong
-by_part Trailing bytes h = inr h
-by_part error bytes h = tt
+by_part : (error : WireFault) (bytes : List ℕ) → error ≢ Memory → HasBadPart error bytes → ExplainsDatagram error bytes
+by_part NameEmpty bytes other h = inr h
+by_part BadAddress bytes other h = inr h
+by_part BadVersions bytes other h = inr h
+by_part (WrongType found) bytes other h = absurd (no_wrong_type found h.part h.is_packet h.wrong)
+by_part (BadState found) bytes other h = absurd h.wrong
+by_part TooManyNodes bytes other h = absurd h.wrong
+by_part UserTooLong bytes other h = absurd h.wrong
+by_part Trailing bytes other h = inr h
+by_part Memory bytes other h = absurd (other refl)
+by_part error bytes other h = tt
 
-by_packet : (error : WireFault) (first : ℕ) (bytes : List ℕ) → eqb first 7 ≡ false → ExplainsWhole error (first ∷ bytes)
+by_packet : (error : WireFault) (first : ℕ) (bytes : List ℕ) → error ≢ Memory → eqb first 7 ≡ false → ExplainsWhole error (first ∷ bytes)
     → ExplainsDatagram error (first ∷ bytes)
-by_packet NameEmpty first bytes t h = inl h
-by_packet BadAddress first bytes t h = inl h
-by_packet BadVersions first bytes t h = inl h
-by_packet (WrongType found) first bytes t h =
+by_packet NameEmpty first bytes other t h = inl h
+by_packet BadAddress first bytes other t h = inl h
+by_packet BadVersions first bytes other t h = inl h
+by_packet (WrongType found) first bytes other t h =
     let first_is : first ≡ found = cc (h.0.1) in
     (h.0, h.1, λ seven. grind (arith, nat_tests))
-by_packet (BadState found) first bytes t h = absurd h
-by_packet TooManyNodes first bytes t h = absurd h
-by_packet UserTooLong first bytes t h = absurd h
-by_packet Trailing first bytes t h = inl (h.0, h.1 ∷ [], h.2, h.3, packet h.1 h.4 refl, h.5)
-by_packet error first bytes t h = tt
+by_packet (BadState found) first bytes other t h = absurd h
+by_packet TooManyNodes first bytes other t h = absurd h
+by_packet UserTooLong first bytes other t h = absurd h
+by_packet Trailing first bytes other t h = inl (h.0, h.1 ∷ [], h.2, h.3, packet h.1 h.4 refl, h.5)
+by_packet Memory first bytes other t h = absurd (other refl)
+by_packet error first bytes other t h = tt
 
-pub datagram_refusal : (b : List ℕ) (error : WireFault) → AreBytes b → whole_datagram b ≡ failed (List PacketValue) error → ExplainsDatagram error b
-datagram_refusal [] error are e = let is : Ended ≡ error = cc in subst (λ f. ExplainsDatagram f []) is tt
-datagram_refusal (first ∷ bytes) error are e =
+pub datagram_refusal : (b : List ℕ) (error : WireFault) → error ≢ Memory → AreBytes b → whole_datagram b ≡ failed (List PacketValue) error → ExplainsDatagram error b
+datagram_refusal [] error memory are e = let is : Ended ≡ error = cc in subst (λ f. ExplainsDatagram f []) is tt
+datagram_refusal (first ∷ bytes) error memory are e =
     split (eqb first 7) P _ _ (λ t. explained (eqb-true _ _ t) (compound_at bytes) refl)
-    (λ t own. by_packet error first bytes t (whole_refusal (first ∷ bytes) error (alone_err (whole_packet (first ∷ bytes)) error own))) e
+    (λ t own. by_packet error first bytes memory t (whole_refusal (first ∷ bytes) error memory (alone_err (whole_packet (first ∷ bytes)) error own))) e
   where
     P : Result (List PacketValue) WireFault → Type 0
     P r = r ≡ failed (List PacketValue) error → ExplainsDatagram error (first ∷ bytes)
@@ -209,6 +212,6 @@ datagram_refusal (first ∷ bytes) error are e =
         (inl (compound_bytes c.parts, ps, byte, rest, compound c.parts c.few c.short refl c.texts, ap (λ (n : ℕ). n ∷ bytes) seven ∙ c.text))
     explained seven (Err other) at fails =
         let is : other ≡ error = cc in
-        ⊎_elim (λ (m : IsMapFault error). by_reading error (first ∷ bytes) m)
-        (λ (h : HasBadPart error (7 ∷ bytes)). by_part error (first ∷ bytes) (subst (λ n. HasBadPart error (n ∷ bytes)) (sym seven) h))
-        (compound_refusal bytes error tail (at ∙ ap (refused (List PacketValue)) is))
+        ⊎_elim (λ (m : IsMapFault error). by_reading error (first ∷ bytes) memory m)
+        (λ (h : HasBadPart error (7 ∷ bytes)). by_part error (first ∷ bytes) memory (subst (λ n. HasBadPart error (n ∷ bytes)) (sym seven) h))
+        (compound_refusal bytes error memory tail (at ∙ ap (refused (List PacketValue)) is))

@@ -1,5 +1,5 @@
 -- What a read of a message took from an inlet, what the inlet lacks where it was refused, and why.
-use Rattle.std.proofs.Common.{◌≡◌, ℕ, List, Option, Some, None, Result, Ok, Err}
+use Rattle.std.proofs.Common.{◌≡◌, ◌≢◌, ◌⊎◌, inl, inr, ℕ, List, Option, Some, None, Result, Ok, Err, refl, sym, ap, subst}
 use Rattle.std.specs.Prelude.{IfOk, IfErr, IfSome}
 use Rattle.swim_claim.specs.declared.claim.Claim.{Claim}
 use Rattle.swim_pack.specs.Ends.{Source, Takes, Lacks}
@@ -8,44 +8,34 @@ use Rattle.swim_pack.proofs.Composing.{Reads-takes, Reads-lacks, UnlessFailed-we
 use Rattle.swim_wire.specs.declared.fault.WireFault.{WireFault}
 use Rattle.swim_wire.specs.declared.fault.WireFault.TheVariants.{Fault, Memory}
 use Rattle.swim_wire.specs.declared.stream.Header.{Header}
-use Rattle.swim_wire.specs.Checks.{ExplainsPacket, ExplainsHeader, ExplainsState}
-use Rattle.swim_wire.specs.Packet.{PacketValue}
-use Rattle.swim_wire.specs.Reading.{Reading, wire_cause, packet_at, header_at, state_at}
-use Rattle.swim_wire.specs.Texts.{PacketText, HeaderText, StateText}
+use Rattle.swim_wire.specs.Asking.{MapAsks}
+use Rattle.swim_wire.specs.Checks.{ExplainsHeader, ExplainsState}
+use Rattle.swim_wire.specs.Layout.{state_layout}
+use Rattle.swim_wire.specs.Reading.{Reading, wire_cause, header_at, state_at}
+use Rattle.swim_wire.specs.Texts.{HeaderText, StateText}
 use Rattle.swim_wire.proofs.Readings.{refused}
-use Rattle.swim_wire.proofs.PacketTexts.{packet_takes, packet_again, packet_refusal}
 use Rattle.swim_wire.proofs.StreamTexts.{header_takes, header_again, header_refusal, state_takes, state_again, state_refusal}
 
--- where the refusal of the reading says something of the bytes, so does that of the read
+-- a fault is want of memory, or another one
+pub memory_or : (error : WireFault) → (error ≡ Memory) ⊎ (error ≢ Memory)
+memory_or Memory = inl refl
+memory_or error = inr (λ e. absurd cc)
+
+-- where the refusal of the reading says something of the bytes, and so does want of memory, so does the refusal of the read
 pub Reads-explains : {X V : Type 0} {view : X → V} {reading : Reading V} {a b : Source} (r : Result X WireFault) (P : WireFault → List ℕ → Type 0)
-    → ((error : WireFault) (bytes : List ℕ) → UnlessFailed (wire_cause error) (P error bytes) → P error bytes)
-    → ((bytes : List ℕ) (error : WireFault) → reading bytes ≡ refused V error → P error bytes)
-    → ReadsAs wire_cause view reading a b r → IfErr r (λ error. IfSome a.coming (P error))
-Reads-explains (Ok x) P unless says h = tt
-Reads-explains {X} {V} {view} {reading} {a} {b} (Err error) P unless says h = explained a.coming h.answer
+    → ((error : WireFault) (bytes : List ℕ) → error ≢ Memory → UnlessFailed (wire_cause error) (P error bytes) → P error bytes)
+    → ((bytes : List ℕ) (error : WireFault) → error ≢ Memory → reading bytes ≡ refused V error → P error bytes)
+    → (r ≡ Err Memory → IfSome a.coming (P Memory)) → ReadsAs wire_cause view reading a b r → IfErr r (λ error. IfSome a.coming (P error))
+Reads-explains (Ok x) P unless says memory h = tt
+Reads-explains {X} {V} {view} {reading} {a} {b} (Err error) P unless says memory h = by (memory_or error)
   where
-    explained : (known : Option (List ℕ)) → Answers {X = X} wire_cause view reading known b.coming (Err error) → IfSome known (P error)
-    explained None e = tt
-    explained (Some bytes) e = unless error bytes (UnlessFailed-weaker (wire_cause error) (says bytes error) e)
+    explained : (known : Option (List ℕ)) → error ≢ Memory → Answers {X = X} wire_cause view reading known b.coming (Err error) → IfSome known (P error)
+    explained None other e = tt
+    explained (Some bytes) other e = unless error bytes other (UnlessFailed-weaker (wire_cause error) (says bytes error other) e)
 
--- ---- packets
-
-pub Packet-takes : {X : Type 0} {view : X → PacketValue} {a b : Source} (r : Result X WireFault) → ReadsAs wire_cause view packet_at a b r
-    → IfOk r (λ x. Takes a b (λ text. PacketText text (view x)))
-Packet-takes r h = Reads-takes r (λ p text. PacketText text p) packet_takes h
-
-pub Packet-lacks : {X : Type 0} {view : X → PacketValue} {a b : Source} (r : Result X WireFault) → ReadsAs wire_cause view packet_at a b r
-    → IfErr r (λ error. UnlessFailed (wire_cause error) (Lacks a (λ text. (p : PacketValue) × PacketText text p)))
-Packet-lacks r h = Reads-lacks r (λ text. (p : PacketValue) × PacketText text p) (λ text rest is. (is.0, packet_again text rest is.0 is.1)) h
-
-packet_unless : (error : WireFault) (bytes : List ℕ) → UnlessFailed (wire_cause error) (ExplainsPacket error bytes) → ExplainsPacket error bytes
-packet_unless Fault bytes h = tt
-packet_unless Memory bytes h = tt
-packet_unless error bytes h = h
-
-pub Packet-explains : {X : Type 0} {view : X → PacketValue} {a b : Source} (r : Result X WireFault) → ReadsAs wire_cause view packet_at a b r
-    → IfErr r (λ error. IfSome a.coming (ExplainsPacket error))
-Packet-explains r h = Reads-explains r ExplainsPacket packet_unless packet_refusal h
+    by : (error ≡ Memory) ⊎ (error ≢ Memory) → IfSome a.coming (P error)
+    by (inl is) = subst (λ (f : WireFault). IfSome a.coming (P f)) (sym is) (memory (ap Err is))
+    by (inr other) = explained a.coming other h.answer
 
 -- ---- headers
 
@@ -57,14 +47,14 @@ pub Header-lacks : {X : Type 0} {view : X → Header} {a b : Source} (r : Result
     → IfErr r (λ error. UnlessFailed (wire_cause error) (Lacks a (λ text. (value : Header) × HeaderText text value)))
 Header-lacks r h = Reads-lacks r (λ text. (value : Header) × HeaderText text value) (λ text rest is. (is.0, header_again text rest is.0 is.1)) h
 
-header_unless : (error : WireFault) (bytes : List ℕ) → UnlessFailed (wire_cause error) (ExplainsHeader error bytes) → ExplainsHeader error bytes
-header_unless Fault bytes h = tt
-header_unless Memory bytes h = tt
-header_unless error bytes h = h
+header_unless : (error : WireFault) (bytes : List ℕ) → error ≢ Memory → UnlessFailed (wire_cause error) (ExplainsHeader error bytes) → ExplainsHeader error bytes
+header_unless Fault bytes other h = tt
+header_unless Memory bytes other h = absurd (other refl)
+header_unless error bytes other h = h
 
-pub Header-explains : {X : Type 0} {view : X → Header} {a b : Source} (r : Result X WireFault) → ReadsAs wire_cause view header_at a b r
+pub Header-explains : {X : Type 0} {view : X → Header} {a b : Source} (r : Result X WireFault) → ¬ (r ≡ Err Memory) → ReadsAs wire_cause view header_at a b r
     → IfErr r (λ error. IfSome a.coming (ExplainsHeader error))
-Header-explains r h = Reads-explains r ExplainsHeader header_unless header_refusal h
+Header-explains r none h = Reads-explains r ExplainsHeader header_unless header_refusal (λ is. absurd (none is)) h
 
 -- ---- state records
 
@@ -76,11 +66,12 @@ pub State-lacks : {X : Type 0} {view : X → Claim} {a b : Source} (r : Result X
     → IfErr r (λ error. UnlessFailed (wire_cause error) (Lacks a (λ text. (claim : Claim) × StateText text claim)))
 State-lacks r h = Reads-lacks r (λ text. (claim : Claim) × StateText text claim) (λ text rest is. (is.0, state_again text rest is.0 is.1)) h
 
-state_unless : (error : WireFault) (bytes : List ℕ) → UnlessFailed (wire_cause error) (ExplainsState error bytes) → ExplainsState error bytes
-state_unless Fault bytes h = tt
-state_unless Memory bytes h = tt
-state_unless error bytes h = h
+state_unless : (error : WireFault) (bytes : List ℕ) → error ≢ Memory → UnlessFailed (wire_cause error) (ExplainsState error bytes) → ExplainsState error bytes
+state_unless Fault bytes other h = tt
+state_unless Memory bytes other h = absurd (other refl)
+state_unless error bytes other h = h
 
-pub State-explains : {X : Type 0} {view : X → Claim} {a b : Source} (r : Result X WireFault) → ReadsAs wire_cause view state_at a b r
+pub State-explains : {X : Type 0} {view : X → Claim} {a b : Source} (r : Result X WireFault)
+    → (r ≡ Err Memory → IfSome a.coming (MapAsks state_layout)) → ReadsAs wire_cause view state_at a b r
     → IfErr r (λ error. IfSome a.coming (ExplainsState error))
-State-explains r h = Reads-explains r ExplainsState state_unless state_refusal h
+State-explains r memory h = Reads-explains r ExplainsState state_unless state_refusal memory h

@@ -32,3 +32,5 @@ pub mod Prompt
 pub mod AtHand
 pub mod Compressions
 pub mod Claimlesses
+pub mod Asking
+pub mod DatagramAsking

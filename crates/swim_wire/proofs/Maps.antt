@@ -60,15 +60,15 @@ value_again limits.Flag b rest (raw s) is = absurd is
 value_again limits.Flag b rest (flag f) is = rw (flag_again b rest f is) refl
 
 -- a pair was read into its slot
-record PairTaken (layout : Layout) (slots : Slots) (bytes : List ℕ) (out : Slots) (rest : List ℕ) : Type 0 where
-  text : List ℕ
-  pair : List ℕ × Spelled
-  place : ℕ
-  is : PairText layout text pair
-  parts : bytes ≡ text ++ rest
-  at : place_of layout pair.0 ≡ Some place
-  vacant : slot slots place ≡ None
-  filled : out ≡ slice_set slots place (Some pair.1)
+pub record PairTaken (layout : Layout) (slots : Slots) (bytes : List ℕ) (out : Slots) (rest : List ℕ) : Type 0 where
+  pub text : List ℕ
+  pub pair : List ℕ × Spelled
+  pub place : ℕ
+  pub is : PairText layout text pair
+  pub parts : bytes ≡ text ++ rest
+  pub at : place_of layout pair.0 ≡ Some place
+  pub vacant : slot slots place ≡ None
+  pub filled : out ≡ slice_set slots place (Some pair.1)
 
 vacant_ok : (o : Option Spelled) (reading : Reading Spelled) (mid : List ℕ) (x : Spelled) (rest : List ℕ)
     → if_vacant o reading mid ≡ read x rest → (o ≡ None) × (reading mid ≡ read x rest)
@@ -99,7 +99,7 @@ pair_made layout slots bytes k mid behind v end rest key value place out key_is 
   filled = filled;
 }
 
-pair_takes : (layout : Layout) (slots : Slots) (bytes : List ℕ) (out : Slots) (rest : List ℕ)
+pub pair_takes : (layout : Layout) (slots : Slots) (bytes : List ℕ) (out : Slots) (rest : List ℕ)
     → pair_at layout slots bytes ≡ read out rest → PairTaken layout slots bytes out rest
 unfolding pair_at key_at
 pair_takes layout slots bytes out rest e =
@@ -208,15 +208,20 @@ known_key layout b (pair ∷ pairs) texts q e = by (bytes_eq q pair.0) refl e (k
         rw is refl
     by false t e later = later e
 
+-- a map has no more pairs than the layout has keys
+pub pairs_few : (layout : Layout) (b : List ℕ) (pairs : Pairs) → MapText layout b pairs → length pairs ≤ length layout
+pairs_few layout b pairs text =
+    let few = length-le_from_keys nat_list_eq_equiv (keys_of pairs) layout text.distinct (known_key layout text.pairs_text pairs text.each) in
+    let keys = length-keys_of pairs in
+    omega arith
+
 -- the text of a map is read, whatever follows it
 pub map_again : (layout : Layout) (b : List ℕ) (pairs : Pairs) (rest : List ℕ) → IsLegalLayout layout → MapText layout b pairs
     → (slots : Slots) × (map_at layout (b ++ rest) ≡ read slots rest) × HoldsSlots layout pairs slots
 unfolding map_at
 map_again layout b pairs rest legal text =
     let fills = fills_from layout no_slots text.pairs_text pairs text.each text.distinct (all_vacant layout (keys_of pairs)) in
-    let few = length-le_from_keys nat_list_eq_equiv (keys_of pairs) layout text.distinct (known_key layout text.pairs_text pairs text.each) in
-    let keys = length-keys_of pairs in
-    let count = count_again (length layout) text.count_text (text.pairs_text ++ rest) (length pairs) (omega arith) text.count in
+    let count = count_again (length layout) text.count_text (text.pairs_text ++ rest) (length pairs) (pairs_few layout b pairs text) text.count in
     let more = pairs_again layout no_slots text.pairs_text rest pairs fills.0 legal text.each fills.1 in (
       fills.0,
       rw (text.text, append_assoc text.count_text text.pairs_text rest, count) more,

@@ -7,7 +7,7 @@ use Rattle.swim_claim.specs.Details.{DetailsValue}
 use Rattle.swim_pack.proofs.Composing.{TakesText}
 use Rattle.swim_pack.specs.Composing.{◌>>=◌, refuses}
 use Rattle.swim_wire.specs.declared.fault.WireFault.{WireFault}
-use Rattle.swim_wire.specs.declared.fault.WireFault.TheVariants.{Ended, NameEmpty, BadAddress, BadVersions, WrongType, BadState, TooManyNodes, UserTooLong, Trailing}
+use Rattle.swim_wire.specs.declared.fault.WireFault.TheVariants.{Ended, Memory, NameEmpty, BadAddress, BadVersions, WrongType, BadState, TooManyNodes, UserTooLong, Trailing}
 use Rattle.swim_wire.specs.Checks.{AliveFails, BeginsFailing, ExplainsPacket, ExplainsWhole}
 use Rattle.swim_wire.specs.Layout.{Pairs, MapText, of_key, number_of, raw_of, alive_layout, accusation_layout}
 use Rattle.swim_wire.specs.Packet.{PacketValue}
@@ -158,22 +158,24 @@ packet_again b rest p (confirm m pairs type text named other is) =
 
 -- ---- a refusal
 
-explained_by_map : (error : WireFault) (bytes : List ℕ) → IsMapFault error → ExplainsPacket error bytes
-explained_by_map NameEmpty bytes h = absurd h
-explained_by_map BadAddress bytes h = absurd h
-explained_by_map BadVersions bytes h = absurd h
-explained_by_map (WrongType found) bytes h = absurd h
-explained_by_map (BadState found) bytes h = absurd h
-explained_by_map TooManyNodes bytes h = absurd h
-explained_by_map UserTooLong bytes h = absurd h
-explained_by_map Trailing bytes h = absurd h
-explained_by_map error bytes h = tt
+explained_by_map : (error : WireFault) (bytes : List ℕ) → error ≢ Memory → IsMapFault error → ExplainsPacket error bytes
+explained_by_map NameEmpty bytes other h = absurd h
+explained_by_map BadAddress bytes other h = absurd h
+explained_by_map BadVersions bytes other h = absurd h
+explained_by_map (WrongType found) bytes other h = absurd h
+explained_by_map (BadState found) bytes other h = absurd h
+explained_by_map TooManyNodes bytes other h = absurd h
+explained_by_map UserTooLong bytes other h = absurd h
+explained_by_map Trailing bytes other h = absurd h
+explained_by_map Memory bytes other h = absurd (other refl)
+explained_by_map error bytes other h = tt
 
-alive_refusal : (first : ℕ) (bytes : List ℕ) (error : WireFault) → first ≡ 4 → alive_at bytes ≡ refused PacketValue error → ExplainsPacket error (first ∷ bytes)
+alive_refusal : (first : ℕ) (bytes : List ℕ) (error : WireFault) → error ≢ Memory → first ≡ 4 → alive_at bytes ≡ refused PacketValue error
+    → ExplainsPacket error (first ∷ bytes)
 unfolding alive_at
-alive_refusal first bytes error type e =
+alive_refusal first bytes error other type e =
     then_err (map_at alive_layout bytes) (λ slots. checked (alive_of slots)) error e (ExplainsPacket error (first ∷ bytes))
-    (λ map. explained_by_map error (first ∷ bytes) (map_refusal alive_layout bytes error map))
+    (λ map. explained_by_map error (first ∷ bytes) other (map_refusal alive_layout bytes error map))
     (λ slots mid ok check. failing slots mid (map_takes alive_layout bytes slots mid alive_legal ok) (checked_err (alive_of slots) mid error check))
   where
     failing : (slots : Slots) (mid : List ℕ) → (m : List ℕ) × (pairs : Pairs) × MapText alive_layout m pairs ×
@@ -192,12 +194,12 @@ alive_refusal first bytes error type e =
 -- a suspect or dead message, whose value is checked for its name alone
 accusation_refusal : (value : Pairs → PacketValue) (of_slots : Slots → Result PacketValue WireFault)
     → ((pairs : Pairs) (slots : Slots) → HoldsSlots accusation_layout pairs slots → of_slots slots ≡ with_name (raw_of (codes "Node") pairs) (Ok (value pairs)))
-    → (first : ℕ) (bytes : List ℕ) (error : WireFault) → (first ≡ 3) ⊎ (first ≡ 5)
+    → (first : ℕ) (bytes : List ℕ) (error : WireFault) → error ≢ Memory → (first ≡ 3) ⊎ (first ≡ 5)
     → (map_at accusation_layout >>= (λ slots. checked (of_slots slots))) bytes ≡ refused PacketValue error
     → ExplainsPacket error (first ∷ bytes)
-accusation_refusal value of_slots same first bytes error type e =
+accusation_refusal value of_slots same first bytes error other type e =
     then_err (map_at accusation_layout bytes) (λ slots. checked (of_slots slots)) error e (ExplainsPacket error (first ∷ bytes))
-    (λ map. explained_by_map error (first ∷ bytes) (map_refusal accusation_layout bytes error map))
+    (λ map. explained_by_map error (first ∷ bytes) other (map_refusal accusation_layout bytes error map))
     (λ slots mid ok check. failing slots mid (map_takes accusation_layout bytes slots mid accusation_legal ok) (checked_err (of_slots slots) mid error check))
   where
     failing : (slots : Slots) (mid : List ℕ) → (m : List ℕ) × (pairs : Pairs) × MapText accusation_layout m pairs ×
@@ -222,11 +224,11 @@ wrong_type first bytes error four three five e =
     differs : (n : ℕ) → eqb first n ≡ false → first ≢ n
     differs n no_match same = grind (arith, nat_tests)
 
-pub packet_refusal : (bytes : List ℕ) (error : WireFault) → packet_at bytes ≡ refused PacketValue error → ExplainsPacket error bytes
+pub packet_refusal : (bytes : List ℕ) (error : WireFault) → error ≢ Memory → packet_at bytes ≡ refused PacketValue error → ExplainsPacket error bytes
 unfolding packet_at suspect_at dead_at
-packet_refusal [] error e = ended error cc
-packet_refusal (first ∷ bytes) error e =
-    split (eqb first 4) P alive_at _ (λ t. alive_refusal first bytes error (eqb-true _ _ t))
+packet_refusal [] error other e = ended error cc
+packet_refusal (first ∷ bytes) error other e =
+    split (eqb first 4) P alive_at _ (λ t. alive_refusal first bytes error other (eqb-true _ _ t))
     (λ four. split (eqb first 3) P suspect_at _ (λ t. suspects (inl (eqb-true _ _ t)))
     (λ three. split (eqb first 5) P dead_at _ (λ t. deads (inr (eqb-true _ _ t))) (λ five. wrong_type first bytes error four three five))) e
   where
@@ -234,12 +236,12 @@ packet_refusal (first ∷ bytes) error e =
     P reading = reading bytes ≡ refused PacketValue error → ExplainsPacket error (first ∷ bytes)
 
     suspects : (first ≡ 3) ⊎ (first ≡ 5) → P suspect_at
-    suspects type = accusation_refusal suspect_packet suspect_of suspect_same first bytes error type
+    suspects type = accusation_refusal suspect_packet suspect_of suspect_same first bytes error other type
 
     deads : (first ≡ 3) ⊎ (first ≡ 5) → P dead_at
     deads type =
         accusation_refusal (λ pairs. dead_packet (bytes_eq (raw_of (codes "From") pairs) (raw_of (codes "Node") pairs)) pairs)
-        dead_of dead_same first bytes error type
+        dead_of dead_same first bytes error other type
 
 -- ---- packets with nothing after them
 
@@ -259,8 +261,8 @@ whole_again b p text = ap nothing_after (ap packet_at (sym (append-nil b)) ∙ p
 pub whole_lacks : (b : List ℕ) (error : WireFault) → whole_packet b ≡ failed PacketValue error → (p : PacketValue) → PacketText b p → ⊥
 whole_lacks b error e p text = let read_again = whole_again b p text in cc
 
-pub whole_refusal : (b : List ℕ) (error : WireFault) → whole_packet b ≡ failed PacketValue error → ExplainsWhole error b
-whole_refusal b error e = explained (packet_at b) refl e
+pub whole_refusal : (b : List ℕ) (error : WireFault) → error ≢ Memory → whole_packet b ≡ failed PacketValue error → ExplainsWhole error b
+whole_refusal b error memory e = explained (packet_at b) refl e
   where
     as_whole : (f : WireFault) → ExplainsPacket f b → ExplainsWhole f b
     as_whole Trailing h = absurd h
@@ -272,4 +274,4 @@ whole_refusal b error e = explained (packet_at b) refl e
         let t = packet_takes b q (byte ∷ rest) at in
         let is : Trailing ≡ error = cc in
         subst (λ f. ExplainsWhole f b) is (t.text, q, byte, rest, t.is, t.parts)
-    explained (Err other) at e = let is : other ≡ error = cc in as_whole error (packet_refusal b error (at ∙ ap (refused PacketValue) is))
+    explained (Err other) at e = let is : other ≡ error = cc in as_whole error (packet_refusal b error memory (at ∙ ap (refused PacketValue) is))

@@ -26,7 +26,7 @@ slot_is : (values : List (Option Value)) (place : ℕ) (d : Option Value) → pl
     (slots_of values) place ≡ option_map spelled (slice_index_or values place d)
 slot_is values place d within = get_or-map (λ value. option_map spelled value) values place d None within
 
-limit_is : (fields : List Field) (place : ℕ) (d : Field) → place < length fields → limit_at (layout_of fields) place ≡
+pub limit_is : (fields : List Field) (place : ℕ) (d : Field) → place < length fields → limit_at (layout_of fields) place ≡
     (let field = slice_index_or fields place d in field.limit)
 limit_is fields place d within =
     ap (λ (entry : List ℕ × Limit). entry.1) (get_or-map (λ (field : Field). (key_text field.key, field.limit)) fields place d ([], limits.Flag) within)

@@ -104,7 +104,7 @@ pub no_part : (packets : List PacketValue) (rest : List ℕ) → parts_at [] pac
 unfolding parts_at
 no_part packets rest = refl
 
-as_length : (bytes two : List ℕ) (len : ℕ) → 2 ≤ length bytes → two ≡ take 2 bytes → len ≡ from_be_bytes w16 two
+pub as_length : (bytes two : List ℕ) (len : ℕ) → 2 ≤ length bytes → two ≡ take 2 bytes → len ≡ from_be_bytes w16 two
     → lengths_in bytes ≡ len ∷ lengths_in (drop 2 bytes)
 as_length bytes two len le is e = first_length bytes le ∙ ap (λ (n : ℕ). n ∷ lengths_in (drop 2 bytes)) (ap (from_be_bytes w16) (sym is) ∙ sym e)
 

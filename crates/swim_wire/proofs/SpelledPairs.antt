@@ -1,14 +1,11 @@
 -- The canonical bytes of each message are those of a map of its pairs.
-use Rattle.std.proofs.Common.{◌≡◌, ℕ, List, [], ◌∷◌, codes, refl, ◌∙◌, append_assoc, append-nil}
-use Rattle.swim_claim.specs.declared.claim.Claim.{Claim}
-use Rattle.swim_claim.specs.declared.claim.Claim.TheVariants.{Alive, Suspect, Confirm, Leave}
-use Rattle.swim_claim.specs.Claim.{name_of, inc_of, kind_of, details_of}
+use Rattle.std.proofs.Common.{◌≡◌, ℕ, List, [], ◌∷◌, codes, append_assoc, append-nil}
 use Rattle.swim_claim.specs.Details.{DetailsValue}
 use Rattle.swim_wire.specs.declared.stream.Header.{Header}
-use Rattle.swim_wire.specs.Canonical.{alive_bytes, accusation_bytes, header_bytes, record_bytes, state_bytes}
+use Rattle.swim_wire.specs.Canonical.{alive_bytes, accusation_bytes, header_bytes, record_bytes}
 use Rattle.swim_wire.specs.Layout.{Pairs}
 use Rattle.swim_wire.specs.Layout.Spelled.{number, raw, flag}
-use Rattle.swim_wire.specs.Pairs.{map_text, state_number, details_or_none}
+use Rattle.swim_wire.specs.Pairs.{map_text}
 
 abbrev pub alive_pairs : List ℕ → ℕ → DetailsValue → Pairs
 alive_pairs name inc details =
@@ -39,17 +36,3 @@ header_bytes-pairs h = simp (append_assoc, append-nil)
 pub record_bytes-pairs : (name : List ℕ) (inc state : ℕ) (details : DetailsValue)
     → record_bytes name inc state details ≡ map_text (record_pairs name inc state details)
 record_bytes-pairs name inc state details = simp (append_assoc, append-nil)
-
--- the claim by its parts
-state_bytes-parts : (c : Claim) → state_bytes c ≡ record_bytes (name_of c) (inc_of c) (state_number (kind_of c)) (details_or_none (details_of c))
-state_bytes-parts (Alive name inc details) = refl
-state_bytes-parts (Suspect name inc) = refl
-state_bytes-parts (Confirm name inc) = refl
-state_bytes-parts (Leave name inc) = refl
-
-pub state_bytes-pairs : (c : Claim) (name : List ℕ) (inc state : ℕ) (details : DetailsValue) → name_of c ≡ name
-    → inc_of c ≡ inc → state_number (kind_of c) ≡ state
-    → details_or_none (details_of c) ≡ details → state_bytes c ≡ map_text (record_pairs name inc state details)
-state_bytes-pairs c name inc state details named at_inc at_state with_details =
-    rw (← named, ← at_inc, ← at_state, ← with_details)
-    (state_bytes-parts c ∙ record_bytes-pairs (name_of c) (inc_of c) (state_number (kind_of c)) (details_or_none (details_of c)))

@@ -1,8 +1,7 @@
--- Steps of the writers: one more pair, and what a refused write leaves.
-use Rattle.std.proofs.Common.{◌≡◌, ℕ, ◌+◌, ◌<◌, List, [], ◌∷◌, ◌++◌, length, map, take, get_or, sym, ap, ◌∙◌, append_assoc}
+-- A step of the writers: one more pair.
+use Rattle.std.proofs.Common.{◌≡◌, ℕ, ◌+◌, ◌<◌, List, [], ◌∷◌, ◌++◌, length, map, take, get_or, sym, ap, ◌∙◌}
 use Rattle.std.proofs.lemmas.List.{take_more, map-append, flat_map_more}
 use Rattle.std.specs.List.{flat_map}
-use Rattle.swim_wire.specs.Pairs.{Extends}
 
 -- one more piece
 pub flat_map-one_more : {X Y : Type 0} (f : Y → List ℕ) (v : X → Y) (xs : List X) (i : ℕ) (d : X) (start out new : List ℕ) → i < length xs
@@ -12,8 +11,3 @@ flat_map-one_more f v xs i d start out new in_range before here =
     ∙ flat_map_more f start (map v (take i xs)) (v (get_or xs i d))
     ∙ ap (λ z. start ++ flat_map f z) (sym (map-append v (take i xs) (get_or xs i d ∷ [])))
     ∙ ap (λ z. start ++ flat_map f (map v z)) (sym (take_more xs i d in_range))
-
--- what a later write leaves
-pub Extends-later : (old middle out new a b : List ℕ) → middle ≡ old ++ a → out ≡ middle ++ b → Extends out new → Extends old new
-Extends-later old middle out new a b first then left =
-    (a ++ (b ++ left.0), left.1 ∙ ap (λ z. z ++ left.0) (then ∙ ap (λ z. z ++ b) first) ∙ simp append_assoc)

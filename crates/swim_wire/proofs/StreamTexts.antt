@@ -7,7 +7,7 @@ use Rattle.swim_claim.specs.Details.{DetailsValue}
 use Rattle.swim_pack.proofs.Composing.{TakesText}
 use Rattle.swim_pack.specs.Composing.{◌>>=◌, then_read, refuses}
 use Rattle.swim_wire.specs.declared.fault.WireFault.{WireFault}
-use Rattle.swim_wire.specs.declared.fault.WireFault.TheVariants.{Ended, NameEmpty, BadAddress, BadVersions, WrongType, BadState, TooManyNodes, UserTooLong, Trailing}
+use Rattle.swim_wire.specs.declared.fault.WireFault.TheVariants.{Ended, Memory, NameEmpty, BadAddress, BadVersions, WrongType, BadState, TooManyNodes, UserTooLong, Trailing}
 use Rattle.swim_wire.specs.declared.stream.Header.{Header}
 use Rattle.swim_wire.specs.Checks.{HeaderFails, StateFails, BeginsFailing, ExplainsHeader, ExplainsState}
 use Rattle.swim_wire.specs.Layout.{Pairs, MapText, of_key, number_of, raw_of, flag_of, header_layout, state_layout}
@@ -103,22 +103,23 @@ header_again b rest h text =
     let value : header_of a.0 ≡ passed h = header_same text.pairs a.0 a.2 ∙ passes ∙ ap passed (sym text.header) in
     rw (text.bytes, a.1) (ap (λ (r : Result Header WireFault). checked r rest) value)
 
-header_by_map : (error : WireFault) (bytes : List ℕ) → IsMapFault error → ExplainsHeader error bytes
-header_by_map NameEmpty bytes h = absurd h
-header_by_map BadAddress bytes h = absurd h
-header_by_map BadVersions bytes h = absurd h
-header_by_map (WrongType found) bytes h = absurd h
-header_by_map (BadState found) bytes h = absurd h
-header_by_map TooManyNodes bytes h = absurd h
-header_by_map UserTooLong bytes h = absurd h
-header_by_map Trailing bytes h = absurd h
-header_by_map error bytes h = tt
+header_by_map : (error : WireFault) (bytes : List ℕ) → error ≢ Memory → IsMapFault error → ExplainsHeader error bytes
+header_by_map NameEmpty bytes other h = absurd h
+header_by_map BadAddress bytes other h = absurd h
+header_by_map BadVersions bytes other h = absurd h
+header_by_map (WrongType found) bytes other h = absurd h
+header_by_map (BadState found) bytes other h = absurd h
+header_by_map TooManyNodes bytes other h = absurd h
+header_by_map UserTooLong bytes other h = absurd h
+header_by_map Trailing bytes other h = absurd h
+header_by_map Memory bytes other h = absurd (other refl)
+header_by_map error bytes other h = tt
 
-header_after_refusal : (first : ℕ) (bytes : List ℕ) (error : WireFault) → first ≡ 6
+header_after_refusal : (first : ℕ) (bytes : List ℕ) (error : WireFault) → error ≢ Memory → first ≡ 6
     → header_after bytes ≡ refused Header error → ExplainsHeader error (first ∷ bytes)
-header_after_refusal first bytes error type e =
+header_after_refusal first bytes error other type e =
     then_err (map_at header_layout bytes) (λ slots. checked (header_of slots)) error e (ExplainsHeader error (first ∷ bytes))
-    (λ map. header_by_map error (first ∷ bytes) (map_refusal header_layout bytes error map))
+    (λ map. header_by_map error (first ∷ bytes) other (map_refusal header_layout bytes error map))
     (λ slots mid ok check. failing slots mid (map_takes header_layout bytes slots mid header_legal ok) (checked_err (header_of slots) mid error check))
   where
     failing : (slots : Slots) (mid : List ℕ) → (m : List ℕ) × (pairs : Pairs) × MapText header_layout m pairs ×
@@ -132,12 +133,12 @@ header_after_refusal first bytes error type e =
         (λ many is. subst (λ f. ExplainsHeader f (first ∷ bytes)) is (bytes, six, begins (HeaderFails TooManyNodes) many))
         (λ long is. subst (λ f. ExplainsHeader f (first ∷ bytes)) is (bytes, six, begins (HeaderFails UserTooLong) long))
 
-pub header_refusal : (bytes : List ℕ) (error : WireFault) → header_at bytes ≡ refused Header error → ExplainsHeader error bytes
+pub header_refusal : (bytes : List ℕ) (error : WireFault) → error ≢ Memory → header_at bytes ≡ refused Header error → ExplainsHeader error bytes
 unfolding header_at
-header_refusal [] error e = let is : Ended ≡ error = cc in subst (λ f. ExplainsHeader f []) is tt
-header_refusal (first ∷ bytes) error e =
+header_refusal [] error memory e = let is : Ended ≡ error = cc in subst (λ f. ExplainsHeader f []) is tt
+header_refusal (first ∷ bytes) error memory e =
     by_type (eqb first 6) first bytes (λ r. r ≡ refused Header error → ExplainsHeader error (first ∷ bytes)) refl
-    (λ six. header_after_refusal first bytes error six)
+    (λ six. header_after_refusal first bytes error memory six)
     (λ other wrong. let is : WrongType first ≡ error = cc in subst (λ f. ExplainsHeader f (first ∷ bytes)) is ((bytes, refl), other)) e
 
 -- ---- the claim that the pairs of a map tell, or the first check that they fail
@@ -242,22 +243,23 @@ state_again b rest c text =
     let value : state_of a.0 ≡ passed c = state_same text.pairs a.0 a.2 ∙ with_name_again _ _ text.name ∙ claim_again text.pairs c text.state in
     rw a.1 (ap (λ (r : Result Claim WireFault). checked r rest) value)
 
-state_by_map : (error : WireFault) (bytes : List ℕ) → IsMapFault error → ExplainsState error bytes
-state_by_map NameEmpty bytes h = absurd h
-state_by_map BadAddress bytes h = absurd h
-state_by_map BadVersions bytes h = absurd h
-state_by_map (WrongType found) bytes h = absurd h
-state_by_map (BadState found) bytes h = absurd h
-state_by_map TooManyNodes bytes h = absurd h
-state_by_map UserTooLong bytes h = absurd h
-state_by_map Trailing bytes h = absurd h
-state_by_map error bytes h = tt
+state_by_map : (error : WireFault) (bytes : List ℕ) → error ≢ Memory → IsMapFault error → ExplainsState error bytes
+state_by_map NameEmpty bytes other h = absurd h
+state_by_map BadAddress bytes other h = absurd h
+state_by_map BadVersions bytes other h = absurd h
+state_by_map (WrongType found) bytes other h = absurd h
+state_by_map (BadState found) bytes other h = absurd h
+state_by_map TooManyNodes bytes other h = absurd h
+state_by_map UserTooLong bytes other h = absurd h
+state_by_map Trailing bytes other h = absurd h
+state_by_map Memory bytes other h = absurd (other refl)
+state_by_map error bytes other h = tt
 
-pub state_refusal : (bytes : List ℕ) (error : WireFault) → state_at bytes ≡ refused Claim error → ExplainsState error bytes
+pub state_refusal : (bytes : List ℕ) (error : WireFault) → error ≢ Memory → state_at bytes ≡ refused Claim error → ExplainsState error bytes
 unfolding state_at
-state_refusal bytes error e =
+state_refusal bytes error other e =
     then_err (map_at state_layout bytes) (λ slots. checked (state_of slots)) error e (ExplainsState error bytes)
-    (λ map. state_by_map error bytes (map_refusal state_layout bytes error map))
+    (λ map. state_by_map error bytes other (map_refusal state_layout bytes error map))
     (λ slots mid ok check. failing slots mid (map_takes state_layout bytes slots mid state_legal ok) (checked_err (state_of slots) mid error check))
   where
     failing : (slots : Slots) (mid : List ℕ) → (m : List ℕ) × (pairs : Pairs) × MapText state_layout m pairs ×

@@ -4,7 +4,8 @@ use Rattle.std.specs.Prelude.{◌≡◌, ◌≢◌, ℕ, ◌≤◌, ◌<◌, ◌
 use Rattle.swim_pack.specs.Ends.{Source}
 use Rattle.swim_claim.specs.Details.{IsAddress, IsVersions}
 use Rattle.swim_wire.specs.declared.fault.WireFault.{WireFault}
-use Rattle.swim_wire.specs.declared.fault.WireFault.TheVariants.{NameEmpty, BadAddress, BadVersions, WrongType, BadState, TooManyNodes, UserTooLong, Trailing}
+use Rattle.swim_wire.specs.declared.fault.WireFault.TheVariants.{Memory, NameEmpty, BadAddress, BadVersions, WrongType, BadState, TooManyNodes, UserTooLong, Trailing}
+use Rattle.swim_wire.specs.Asking.{MapAsks, PacketAsks}
 use Rattle.swim_wire.specs.Layout.{Layout, Pairs, MapText, number_of, raw_of, alive_layout, accusation_layout, header_layout, state_layout}
 use Rattle.swim_wire.specs.Limits.{most_nodes, most_user_state}
 use Rattle.swim_wire.specs.Packet.{PacketValue}
@@ -70,8 +71,8 @@ IsNoPacketType first = (first ≢ 3) × (first ≢ 4) × (first ≢ 5)
 abbrev pub BeginsWith : ℕ → List ℕ → Type 0
 BeginsWith found bytes = (rest : List ℕ) × (bytes ≡ found ∷ rest)
 
--- What a refusal says of bytes that begin with no packet. Of the others it says where the reading
--- of a map stopped.
+-- What a refusal says of bytes that begin with no packet, and want of memory of those that asked
+-- for some. Of the others it says where the reading of a map stopped.
 abbrev pub ExplainsPacket : WireFault → List ℕ → Type 0
 ExplainsPacket (WrongType found) bytes = BeginsWith found bytes × IsNoPacketType found
 ExplainsPacket NameEmpty bytes = PacketFails NameEmpty bytes
@@ -81,6 +82,7 @@ ExplainsPacket (BadState found) bytes = ⊥
 ExplainsPacket TooManyNodes bytes = ⊥
 ExplainsPacket UserTooLong bytes = ⊥
 ExplainsPacket Trailing bytes = ⊥
+ExplainsPacket Memory bytes = PacketAsks bytes
 ExplainsPacket error bytes = ⊤
 
 -- a packet, and at least one byte after it
@@ -93,7 +95,7 @@ abbrev pub ExplainsWhole : WireFault → List ℕ → Type 0
 ExplainsWhole Trailing bytes = HasTrailing bytes
 ExplainsWhole error bytes = ExplainsPacket error bytes
 
--- what a refusal says of bytes that begin with no header
+-- What a refusal says of bytes that begin with no header. None is for want of memory.
 abbrev pub ExplainsHeader : WireFault → List ℕ → Type 0
 ExplainsHeader (WrongType found) bytes = BeginsWith found bytes × (found ≢ 6)
 ExplainsHeader TooManyNodes bytes = (rest : List ℕ) × (bytes ≡ 6 ∷ rest)
@@ -105,9 +107,11 @@ ExplainsHeader BadAddress bytes = ⊥
 ExplainsHeader BadVersions bytes = ⊥
 ExplainsHeader (BadState found) bytes = ⊥
 ExplainsHeader Trailing bytes = ⊥
+ExplainsHeader Memory bytes = ⊥
 ExplainsHeader error bytes = ⊤
 
--- what a refusal says of bytes that begin with no state record
+-- What a refusal says of bytes that begin with no state record, and want of memory of those that
+-- asked for some.
 abbrev pub ExplainsState : WireFault → List ℕ → Type 0
 ExplainsState NameEmpty bytes = BeginsFailing state_layout (StateFails NameEmpty) bytes
 ExplainsState BadAddress bytes = BeginsFailing state_layout (StateFails BadAddress) bytes
@@ -118,6 +122,7 @@ ExplainsState (WrongType found) bytes = ⊥
 ExplainsState TooManyNodes bytes = ⊥
 ExplainsState UserTooLong bytes = ⊥
 ExplainsState Trailing bytes = ⊥
+ExplainsState Memory bytes = MapAsks state_layout bytes
 ExplainsState error bytes = ⊤
 
 -- it says so of the bytes that were to come, where the inlet tells them

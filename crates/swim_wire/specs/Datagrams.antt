@@ -5,7 +5,8 @@ use Rattle.std.specs.List.{flat_map}
 use Rattle.swim_pack.specs.Composing.{◌>>=◌, gives, lift}
 use Rattle.swim_pack.specs.Reading.{next_byte, next_bytes}
 use Rattle.swim_wire.specs.declared.fault.WireFault.{WireFault}
-use Rattle.swim_wire.specs.declared.fault.WireFault.TheVariants.{Ended, NameEmpty, BadAddress, BadVersions, WrongType, BadState, TooManyNodes, UserTooLong, Trailing}
+use Rattle.swim_wire.specs.declared.fault.WireFault.TheVariants.{Ended, Memory, NameEmpty, BadAddress, BadVersions, WrongType, BadState, TooManyNodes, UserTooLong, Trailing}
+use Rattle.swim_wire.specs.Asking.{DatagramAsks}
 use Rattle.swim_wire.specs.Checks.{BeginsWith, IsNoPacketType, ExplainsWhole}
 use Rattle.swim_wire.specs.Fault.{fault_of_pack}
 use Rattle.swim_wire.specs.Packet.{PacketValue}
@@ -91,7 +92,8 @@ HasTrailingDatagram bytes =
 abbrev pub PacketOrPart : WireFault → List ℕ → Type 0
 PacketOrPart error bytes = ExplainsWhole error bytes ⊎ HasBadPart error bytes
 
--- what a refusal says of bytes that are no datagram
+-- What a refusal says of bytes that are no datagram, and want of memory of those that asked for
+-- some.
 abbrev pub ExplainsDatagram : WireFault → List ℕ → Type 0
 ExplainsDatagram (WrongType found) bytes = BeginsWith found bytes × IsNoPacketType found
     × (found ≢ 7)
@@ -102,4 +104,5 @@ ExplainsDatagram BadVersions bytes = PacketOrPart BadVersions bytes
 ExplainsDatagram (BadState found) bytes = ⊥
 ExplainsDatagram TooManyNodes bytes = ⊥
 ExplainsDatagram UserTooLong bytes = ⊥
+ExplainsDatagram Memory bytes = DatagramAsks bytes
 ExplainsDatagram error bytes = ⊤

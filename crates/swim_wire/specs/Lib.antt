@@ -17,3 +17,5 @@ pub mod Streams
 pub mod InOrder
 pub mod Compression
 pub mod Claimless
+pub mod Asking
+pub mod Records

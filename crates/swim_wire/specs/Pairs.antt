@@ -1,5 +1,5 @@
 -- Maps as they are written: pairs of keys and values, each in its canonical spelling.
-use Rattle.std.specs.Prelude.{◌≡◌, ℕ, ◌<◌, ◌^◌, List, ◌++◌, length, map, Option, Some, None}
+use Rattle.std.specs.Prelude.{ℕ, ◌<◌, ◌^◌, List, ◌++◌, length, map, Option, Some, None}
 use Rattle.std.specs.List.{flat_map}
 use Rattle.swim_claim.specs.declared.claim.Kind.{Kind}
 use Rattle.swim_claim.specs.declared.claim.Kind.TheVariants as kind
@@ -31,7 +31,6 @@ map_text pairs = count_text (length pairs) ++ flat_map pair_text pairs
 abbrev pub written_value : Written → Spelled
 written_value (written.Number v) = number v
 written_value (written.Raw bytes) = raw bytes.now
-written_value (written.Flag f) = flag f
 
 -- a pair that the code writes
 abbrev pub pair_of : Key × Written → List ℕ × Spelled
@@ -45,12 +44,6 @@ pairs_of pairs = map pair_of pairs
 abbrev pub IsShort : Written → Type 0
 IsShort (written.Number v) = Unit {0}
 IsShort (written.Raw bytes) = length bytes.now < 2 ^ 16
-IsShort (written.Flag f) = Unit {0}
-
--- parts of details are
-abbrev pub AreShortParts : List ℕ → List ℕ → List ℕ → Type 0
-AreShortParts addr meta vsn =
-    (length addr < 2 ^ 16) × (length meta < 2 ^ 16) × (length vsn < 2 ^ 16)
 
 -- memberlist's numbers of the states of members
 abbrev pub state_number : Kind → ℕ
@@ -63,7 +56,3 @@ state_number kind.Leave = 3
 abbrev pub details_or_none : Option DetailsValue → DetailsValue
 details_or_none None = no_details
 details_or_none (Some details) = details
-
--- what was there is still there, and there may be more behind it
-abbrev pub Extends : List ℕ → List ℕ → Type 0
-Extends old new = (more : List ℕ) × (new ≡ old ++ more)

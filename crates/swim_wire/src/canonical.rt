@@ -2,28 +2,25 @@
 //! its canonical spelling (own).
 
 mod pairs;
+mod records;
 
-ghost use Rattle.std.specs.Prelude.{◌≡◌, ◌≤◌, ◌++◌, length, IfOk, IfSome, OnOk, OnErr};
-ghost use Rattle.std.specs.Option.{option_copied};
+ghost use Rattle.std.specs.Prelude.{◌≡◌, ◌≤◌, ◌++◌, length, IfOk, OnOk, OnErr};
 ghost use Rattle.swim_claim.specs.declared.claim.Claim.{Claim};
 ghost use Rattle.swim_claim.specs.Claim.{name_of, HasFacts, IsLegalClaim, IsLegalFacts};
-ghost use Rattle.swim_claim.specs.Details.{IsLegalDetails};
 ghost use Rattle.swim_claim.specs.Limits.{longest_name};
 ghost use Rattle.swim_wire.specs.Canonical.{packet_bytes, packets_bytes, header_bytes, state_bytes, alive_bytes, accusation_bytes};
 ghost use Rattle.swim_wire.specs.Limits.{most_nodes, most_user_state};
 ghost use Rattle.swim_wire.specs.Packet.{IsLegalPacket};
-ghost use Rattle.swim_wire.specs.Pairs.{details_or_none, state_number, AreShortParts};
 ghost use Rattle.swim_wire.specs.Texts.{PacketText, HeaderText, StateText, DatagramText};
 
-use crate::canonical::pairs::{Written, write_map, write_message};
+use crate::canonical::pairs::{Written, write_message};
+pub use crate::canonical::records::{header_len, put_header, put_state, state_len};
 use crate::layout::Key;
-use crate::message::{
-    ALIVE_MESSAGE, COMPOUND_MESSAGE, DEAD_MESSAGE, PUSH_PULL_MESSAGE, SUSPECT_MESSAGE,
-};
+use crate::message::{ALIVE_MESSAGE, COMPOUND_MESSAGE, DEAD_MESSAGE, SUSPECT_MESSAGE};
 use crate::packet::Packet;
 use crate::stream::Header;
 use std::alloc::{AllocError, Global};
-use swim_claim::{Claim, Details, Facts, Kind, Name};
+use swim_claim::{Claim, Details, Facts, Name};
 
 /// Appends the header of a push/pull stream: its type byte, and its map (memberlist's
 /// `pushPullHeader`). One above the limits of [`Header`] is written too, and no reader takes it.
@@ -38,18 +35,10 @@ pub fn write_header(out: &mut Vec<u8>, header: &Header) -> Result<(), AllocError
         → HeaderText (header_bytes header.now) header.now }
     ensures refused { OnErr result (out.new.items ≡ out.old.items) }
 {
-    write_message(
-        out,
-        PUSH_PULL_MESSAGE,
-        &[
-            (Key::Join, Written::Flag(header.join)),
-            (Key::Nodes, Written::Number(u64::from(header.nodes))),
-            (
-                Key::UserStateLen,
-                Written::Number(u64::from(header.user_len)),
-            ),
-        ],
-    )
+    let start = out.len();
+    out.resize(start + header_len(header), 0)?;
+    put_header(out, start, header);
+    Ok(())
 }
 
 /// Appends the state record of the claim that the facts make about a member (memberlist's
@@ -72,68 +61,10 @@ pub fn write_state<'a>(
         → StateText (state_bytes c) c }
     ensures refused { OnErr result (out.new.items ≡ out.old.items) }
 {
-    let details = RecordDetails::of(facts.details);
-    write_map(
-        out,
-        &[
-            (Key::Addr, Written::Raw(details.addr)),
-            (Key::Incarnation, Written::Number(u64::from(facts.inc))),
-            (Key::Meta, Written::Raw(details.meta)),
-            (Key::Name, Written::Raw(name.bytes())),
-            (Key::Port, Written::Number(u64::from(details.port))),
-            (Key::State, Written::Number(state_of(facts.kind))),
-            (Key::Vsn, Written::Raw(details.vsn)),
-        ],
-    )
-}
-
-/// The state by which a record names a kind of claim, as in memberlist's `state.go`.
-fn state_of(kind: Kind) -> u64
-    ensures { result ≡ state_number kind }
-{
-    match kind {
-        Kind::Alive => 0,
-        Kind::Suspect => 1,
-        Kind::Confirm => 2,
-        Kind::Leave => 3,
-    }
-}
-
-/// Details as a state record has them: all empty where there are none.
-#[derive(Drop)]
-struct RecordDetails<'a> {
-    addr: &'a [u8],
-    port: u16,
-    meta: &'a [u8],
-    vsn: &'a [u8],
-}
-
-impl<'a> RecordDetails<'a> {
-    fn of(details: Option<&'a Details>) -> RecordDetails<'a>
-        ensures same { details_or_none (option_copied details.entry) ≡ record {
-          addr = result.addr.now;
-          port = result.port;
-          meta = result.meta.now;
-          vsn = result.vsn.now;
-        } }
-        ensures short { AreShortParts result.addr.now result.meta.now result.vsn.now }
-        ensures legal { IfSome (option_copied details.entry) IsLegalDetails }
-    {
-        match details {
-            Some(details) => RecordDetails {
-                addr: details.addr(),
-                port: details.port(),
-                meta: details.meta(),
-                vsn: details.vsn(),
-            },
-            None => RecordDetails {
-                addr: &[],
-                port: 0,
-                meta: &[],
-                vsn: &[],
-            },
-        }
-    }
+    let start = out.len();
+    out.resize(start + state_len(name, facts), 0)?;
+    put_state(out, start, name, facts);
+    Ok(())
 }
 
 /// The canonical bytes of a packet: its type byte, and its map.

@@ -1,6 +1,7 @@
 //! Datagrams: one packet each, or a compound packet of several.
 
-ghost use Rattle.std.specs.Prelude.{◌≡◌, ◌≢◌, ◌↔◌, [], List, Err, IfOk, IfErr, IsErrOf};
+ghost use Rattle.std.specs.Prelude.{◌≡◌, ◌≢◌, ◌↔◌, [], List, Err, IfOk, IfErr, OnErr, IsErrOf};
+ghost use Rattle.swim_wire.specs.Asking.{PacketAsks, PartsAsk, CompoundAsks, DatagramAsks};
 ghost use Rattle.swim_wire.specs.Checks.{BeginsWith};
 ghost use Rattle.swim_wire.specs.Datagrams.{alone, packets_of, parts_at, compound_at, whole_datagram, ExplainsDatagram};
 ghost use Rattle.swim_wire.specs.PacketList.{packets_in, IsCompound};
@@ -36,10 +37,10 @@ impl Datagram {
         ensures compound { IfOk result (λ datagram. IsCompound datagram ↔ BeginsWith 7 bytes.now) }
 
         // Refused for another cause than memory they are no datagram, and the refusal says why.
+        // Memory is asked for once a text or bytes have told a length within their limit.
         ensures refuses { IfErr result (λ fault. fault ≢ WireFault.Memory
             → (packets : List PacketValue) → ¬ DatagramText bytes.now packets) }
-        ensures explains { IfErr result (λ fault. fault ≢ WireFault.Memory
-            → ExplainsDatagram fault bytes.now) }
+        ensures explains { IfErr result (λ fault. ExplainsDatagram fault bytes.now) }
 
         // It is the one at which the reading stops. A slice never fails.
         ensures exact { IfErr result (λ fault. fault ≢ WireFault.Memory
@@ -55,7 +56,8 @@ impl Datagram {
     ///
     /// Memory for the list of a packet by itself is refused.
     pub fn into_packets(self, alloc: Global) -> Result<Vec<Packet>, AllocError>
-        ensures { IfOk result (λ packets. packets.items ≡ packets_in self) }
+        ensures ok { IfOk result (λ packets. packets.items ≡ packets_in self) }
+        ensures refused { OnErr result (¬ IsCompound self) }
     {
         match self {
             Datagram::Packet(packet) => {
@@ -79,17 +81,17 @@ impl Datagram {
 /// none of 3, 4, 5 and 7; for one packet what `decode_packet` says; in a compound packet `Ended`
 /// where its count or one of its lengths is cut; then, part by part, `Ended` where the part is cut
 /// and what `decode_packet` says of it; `Trailing` where bytes follow. `Memory` comes where a
-/// growth was refused: of one packet, or of at most the limit of a value. A refusal answers no
-/// packet.
+/// growth was refused: of one packet, or of at most the limit of a value, and never before the
+/// length of a text or bytes is read. A refusal answers no packet.
 pub fn decode_datagram(alloc: Global, bytes: &[u8]) -> Result<Vec<Packet>, WireFault>
     // The bytes are a datagram of the packets.
     ensures reads { IfOk result (λ packets. DatagramText bytes.now packets.items) }
 
-    // Refused for another cause than memory they are no datagram, and the refusal says why.
+    // Refused for another cause than memory they are no datagram, and the refusal says why. Memory
+    // is asked for once a text or bytes have told a length within their limit.
     ensures refuses { IfErr result (λ fault. fault ≢ WireFault.Memory
         → (packets : List PacketValue) → ¬ DatagramText bytes.now packets) }
-    ensures explains { IfErr result (λ fault. fault ≢ WireFault.Memory
-        → ExplainsDatagram fault bytes.now) }
+    ensures explains { IfErr result (λ fault. ExplainsDatagram fault bytes.now) }
 
     // It is the one at which the reading stops. A slice never fails.
     ensures exact { IfErr result (λ fault. fault ≢ WireFault.Memory
@@ -102,6 +104,7 @@ pub fn decode_datagram(alloc: Global, bytes: &[u8]) -> Result<Vec<Packet>, WireF
 fn decode_whole_datagram(alloc: Global, bytes: &[u8]) -> Result<Vec<Packet>, WireFault>
     ensures lists { ListsUnlessMemory (λ packets. packets.items) (whole_datagram bytes.now) result }
     ensures no_fault { ¬ IsErrOf result WireFault.Fault }
+    ensures memory { IsErrOf result WireFault.Memory → DatagramAsks bytes.now }
 {
     let packets = decode_any_datagram(alloc, bytes)?.into_packets(alloc)?;
     Ok(packets)
@@ -110,6 +113,7 @@ fn decode_whole_datagram(alloc: Global, bytes: &[u8]) -> Result<Vec<Packet>, Wir
 fn decode_any_datagram(alloc: Global, bytes: &[u8]) -> Result<Datagram, WireFault>
     ensures lists { ListsUnlessMemory packets_in (whole_datagram bytes.now) result }
     ensures no_fault { ¬ IsErrOf result WireFault.Fault }
+    ensures memory { IsErrOf result WireFault.Memory → DatagramAsks bytes.now }
     ensures compound { IfOk result (λ datagram. IsCompound datagram ↔ BeginsWith 7 bytes.now) }
 {
     match bytes.split_first() {
@@ -125,6 +129,7 @@ fn decode_any_datagram(alloc: Global, bytes: &[u8]) -> Result<Datagram, WireFaul
 fn decode_alone(alloc: Global, bytes: &[u8]) -> Result<Datagram, WireFault>
     ensures lists { ListsUnlessMemory packets_in (alone (whole_packet bytes.now)) result }
     ensures no_fault { ¬ IsErrOf result WireFault.Fault }
+    ensures memory { IsErrOf result WireFault.Memory → PacketAsks bytes.now }
     ensures alone { IfOk result (λ datagram. ¬ IsCompound datagram) }
 {
     let packet = decode_whole_packet(alloc, bytes)?;
@@ -136,6 +141,7 @@ fn decode_compound(alloc: Global, body: &[u8]) -> Result<Vec<Packet>, WireFault>
     ensures lists { ListsUnlessMemory (λ packets. packets.items)
         (nothing_after (compound_at body.now)) result }
     ensures no_fault { ¬ IsErrOf result WireFault.Fault }
+    ensures memory { IsErrOf result WireFault.Memory → CompoundAsks body.now }
 {
     let Some((count, rest)) = body.split_first() else {
         return Err(WireFault::Ended);
@@ -152,6 +158,7 @@ fn decode_parts(alloc: Global, lengths: &[u8], parts: &[u8]) -> Result<Vec<Packe
     ensures lists { ListsUnlessMemory (λ packets. packets.items)
         (nothing_after (parts_at (lengths_in lengths.now) [] parts.now)) result }
     ensures no_fault { ¬ IsErrOf result WireFault.Fault }
+    ensures memory { IsErrOf result WireFault.Memory → PartsAsk (lengths_in lengths.now) parts.now }
 {
     let mut packets = Vec::new(alloc);
     let mut lengths = lengths;
@@ -176,6 +183,7 @@ fn decode_parts(alloc: Global, lengths: &[u8], parts: &[u8]) -> Result<Vec<Packe
 fn take_part(alloc: Global, part: &[u8], packets: &mut Vec<Packet>) -> Result<(), WireFault>
     ensures grows { GrowsBy (packets_of part.now) packets.old.items packets.new.items result }
     ensures no_fault { ¬ IsErrOf result WireFault.Fault }
+    ensures memory { IsErrOf result WireFault.Memory → PacketAsks part.now }
 {
     if let Some(&SUSPECT_MESSAGE | &ALIVE_MESSAGE | &DEAD_MESSAGE) = part.first() {
         let packet = decode_whole_packet(alloc, part)?;

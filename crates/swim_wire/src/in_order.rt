@@ -4,10 +4,12 @@
 //! Here only success is answered, or want of memory. Every other message, and each that is refused,
 //! is left to be read as `map` reads it, which also tells its first fault.
 
-ghost use Rattle.std.specs.Prelude.{◌≡◌, ◌≤◌, ◌++◌, ◌∷◌, [], List, ℕ, length, IfSome, IfOk, IsNone, Ok};
+ghost use Rattle.std.specs.Prelude.{◌≡◌, ◌≤◌, ◌++◌, ◌∷◌, [], List, ℕ, length, IfSome, IfOk, OnErr, IsErrOf, IsNone, Ok};
 ghost use Rattle.swim_claim.specs.Limits.{longest_name};
 ghost use Rattle.swim_pack.specs.Composing.{ReadsAs, same};
 ghost use Rattle.swim_wire.specs.declared.layout.Limit.TheVariants as limits;
+ghost use Rattle.swim_wire.specs.Asking.{MapAsks, PacketAsks};
+ghost use Rattle.swim_wire.specs.Checks.{ExplainsStart};
 ghost use Rattle.swim_wire.specs.InOrder.{state_slots, alive_slots, accusation_slots, header_slots};
 ghost use Rattle.swim_wire.specs.Layout.{alive_layout, state_layout, accusation_layout, header_layout};
 ghost use Rattle.swim_wire.specs.Layout.Spelled.{number, raw, flag};
@@ -55,6 +57,7 @@ struct BorrowedHeader<'a> {
 }
 
 /// The bytes behind this text, if they begin with it.
+#[inline(always)]
 fn behind<'a, const N: usize>(bytes: &'a [u8], text: &[u8; N]) -> Option<&'a [u8]>
     ensures { IfSome result (λ rest. bytes.now ≡ text.now ++ rest.now) }
 {
@@ -64,6 +67,7 @@ fn behind<'a, const N: usize>(bytes: &'a [u8], text: &[u8; N]) -> Option<&'a [u8
 
 /// The number behind this key, and the bytes behind it.
 #[tactic(auto, unfolding(crate::specs::Reading::value_at))]
+#[inline(always)]
 fn number_behind<'a, const N: usize>(
     bytes: &'a [u8],
     key: &[u8; N],
@@ -78,6 +82,7 @@ fn number_behind<'a, const N: usize>(
 
 /// The text or bytes behind this key, and the bytes behind them.
 #[tactic(auto, unfolding(crate::specs::Reading::value_at))]
+#[inline(always)]
 fn raw_behind<'a, const N: usize>(
     bytes: &'a [u8],
     key: &[u8; N],
@@ -100,6 +105,7 @@ fn flag_behind<'a, const N: usize>(bytes: &'a [u8], key: &[u8; N]) -> Option<(bo
 }
 
 /// A state record of all its keys at the front of the bytes.
+#[inline(always)]
 fn state_in_order(bytes: &[u8]) -> Option<BorrowedState>
     ensures reads { IfSome result (λ found. map_at state_layout bytes.now
         ≡ Ok (
@@ -130,6 +136,7 @@ fn state_in_order(bytes: &[u8]) -> Option<BorrowedState>
 
 /// The map of an alive message of all its keys at the front of the bytes. It says what a record of
 /// state 0 does.
+#[inline(always)]
 fn alive_in_order(bytes: &[u8]) -> Option<BorrowedState>
     ensures reads { IfSome result (λ found. map_at alive_layout bytes.now
         ≡ Ok (
@@ -193,6 +200,7 @@ fn header_in_order(bytes: &[u8]) -> Option<BorrowedHeader>
 }
 
 /// The claim of a state record, or none where a check of the whole fails.
+#[inline(always)]
 fn claim_of_record(alloc: Global, state: BorrowedState) -> Result<Option<Claim>, AllocError>
     ensures { IfOk result (λ made. IfSome made (λ claim.
         state_of (state_slots state.entry.addr.now state.entry.incarnation state.entry.meta.now
@@ -257,7 +265,9 @@ fn packet_of_dead(alloc: Global, dead: BorrowedAccusation) -> Result<Option<Pack
 
 /// The packet of an alive message whose map the bytes are.
 fn alive_packet(alloc: Global, body: &[u8]) -> Result<Option<Packet>, AllocError>
-    ensures { IfOk result (λ made. IfSome made (λ packet. alive_at body.now ≡ Ok (packet, []))) }
+    ensures made { IfOk result (λ made. IfSome made (λ packet.
+        alive_at body.now ≡ Ok (packet, []))) }
+    ensures memory { OnErr result (MapAsks alive_layout body.now) }
 {
     match alive_in_order(body) {
         Some(alive) if alive.rest.is_empty() => match claim_of_record(alloc, alive)? {
@@ -270,7 +280,9 @@ fn alive_packet(alloc: Global, body: &[u8]) -> Result<Option<Packet>, AllocError
 
 /// The packet of a suspect message whose map the bytes are.
 fn suspect_packet(alloc: Global, body: &[u8]) -> Result<Option<Packet>, AllocError>
-    ensures { IfOk result (λ made. IfSome made (λ packet. suspect_at body.now ≡ Ok (packet, []))) }
+    ensures made { IfOk result (λ made. IfSome made (λ packet.
+        suspect_at body.now ≡ Ok (packet, []))) }
+    ensures memory { OnErr result (MapAsks accusation_layout body.now) }
 {
     match accusation_in_order(body) {
         Some(suspect) if suspect.rest.is_empty() => packet_of_suspect(alloc, suspect),
@@ -280,7 +292,9 @@ fn suspect_packet(alloc: Global, body: &[u8]) -> Result<Option<Packet>, AllocErr
 
 /// The packet of a dead message whose map the bytes are.
 fn dead_packet(alloc: Global, body: &[u8]) -> Result<Option<Packet>, AllocError>
-    ensures { IfOk result (λ made. IfSome made (λ packet. dead_at body.now ≡ Ok (packet, []))) }
+    ensures made { IfOk result (λ made. IfSome made (λ packet.
+        dead_at body.now ≡ Ok (packet, []))) }
+    ensures memory { OnErr result (MapAsks accusation_layout body.now) }
 {
     match accusation_in_order(body) {
         Some(dead) if dead.rest.is_empty() => packet_of_dead(alloc, dead),
@@ -291,7 +305,9 @@ fn dead_packet(alloc: Global, body: &[u8]) -> Result<Option<Packet>, AllocError>
 /// The packet that the bytes are, where all its keys stand in alphabetical order. Another one, and
 /// one that is refused for another cause than memory, is left to be read.
 pub(crate) fn packet_in_order(alloc: Global, bytes: &[u8]) -> Result<Option<Packet>, AllocError>
-    ensures { IfOk result (λ made. IfSome made (λ packet. whole_packet bytes.now ≡ Ok packet)) }
+    ensures made { IfOk result (λ made. IfSome made (λ packet.
+        whole_packet bytes.now ≡ Ok packet)) }
+    ensures memory { OnErr result (PacketAsks bytes.now) }
 {
     match bytes.split_first() {
         Some((&ALIVE_MESSAGE, body)) => alive_packet(alloc, body),
@@ -309,6 +325,8 @@ pub(crate) fn read_state_in_order<I: Inlet>(
 ) -> Option<Result<Claim, WireFault>>
     ensures read { IfSome result (λ read.
         ReadsAs wire_cause same state_at (I.seen inlet.old) (I.seen inlet.new) read) }
+    ensures memory { IfSome result (λ read. IsErrOf read WireFault.Memory
+        → ExplainsStart (MapAsks state_layout) (I.seen inlet.old)) }
     ensures left { IsNone result → I.seen inlet.new ≡ I.seen inlet.old }
 {
     let hand = inlet.at_hand();

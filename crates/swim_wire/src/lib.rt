@@ -32,7 +32,10 @@ mod stream;
 mod stream_law;
 mod user_state;
 
-pub use canonical::{encode_compound, encode_packet, write_header, write_state};
+pub use canonical::{
+    encode_compound, encode_packet, header_len, put_header, put_state, state_len, write_header,
+    write_state,
+};
 pub use claimless::{Claimless, decode_claimless};
 pub use compression::decode_compression;
 pub use datagram::{Datagram, decode_datagram};

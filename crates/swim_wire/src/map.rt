@@ -4,6 +4,8 @@ ghost use Rattle.std.specs.Prelude.{◌≡◌, ◌<◌, ◌≤◌, length, take,
 ghost use Rattle.std.specs.Str.{bytes_eq};
 ghost use Rattle.swim_pack.specs.Composing.{ReadsAs, same, lift};
 ghost use Rattle.swim_pack.specs.Reading.{raw_at};
+ghost use Rattle.swim_wire.specs.Asking.{ValueAsks, PairAsks, MapAsks};
+ghost use Rattle.swim_wire.specs.Checks.{ExplainsStart};
 ghost use Rattle.swim_wire.specs.Fault.{fault_of_key};
 ghost use Rattle.swim_wire.specs.Reading.{wire_cause, value_at, key_at, pair_at, map_at};
 ghost use Rattle.swim_wire.specs.Slots.{Fits, FitsEach, CanRead, CanReadEach, key_text, spelled, slots_of, layout_of};
@@ -41,6 +43,8 @@ pub(crate) fn read_map<I: Inlet>(
     ensures exact { ReadsAs wire_cause slots_of (map_at (layout_of layout.now))
         (I.seen inlet.old) (I.seen inlet.new) result }
     ensures within { IfOk result (FitsEach layout.now) }
+    ensures memory { IsErrOf result WireFault.Memory
+        → ExplainsStart (MapAsks (layout_of layout.now)) (I.seen inlet.old) }
     ensures no_memory { IsNone alloc → ¬ IsErrOf result WireFault.Memory }
 {
     let count = read_map_len(inlet, layout.len() as u32)?;
@@ -64,6 +68,8 @@ fn read_pair<I: Inlet>(
         (pair_at (layout_of layout.now) (slots_of values.old))
         (I.seen inlet.old) (I.seen inlet.new) result }
     ensures within { FitsEach layout.now values.new }
+    ensures memory { IsErrOf result WireFault.Memory
+        → ExplainsStart (PairAsks (layout_of layout.now)) (I.seen inlet.old) }
     ensures no_memory { IsNone alloc → ¬ IsErrOf result WireFault.Memory }
 {
     let place = read_place(inlet, layout)?;
@@ -126,6 +132,8 @@ fn read_value<I: Inlet>(
     ensures exact { ReadsAs wire_cause spelled (value_at limit)
         (I.seen inlet.old) (I.seen inlet.new) result }
     ensures within { IfOk result (Fits limit) }
+    ensures memory { IsErrOf result WireFault.Memory
+        → ExplainsStart (ValueAsks limit) (I.seen inlet.old) }
     ensures no_memory { IsNone alloc → ¬ IsErrOf result WireFault.Memory }
 {
     match limit {

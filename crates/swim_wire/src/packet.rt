@@ -3,8 +3,10 @@
 ghost use Rattle.std.specs.Prelude.{◌≡◌, ◌≢◌, Err, IfOk, IfErr, IsErrOf};
 ghost use Rattle.swim_pack.specs.Composing.{ReadsAs, same, lift};
 ghost use Rattle.swim_pack.specs.Reading.{next_byte};
-ghost use Rattle.swim_wire.specs.Checks.{ExplainsWhole};
+ghost use Rattle.swim_wire.specs.Asking.{MapAsks, PacketAsks};
+ghost use Rattle.swim_wire.specs.Checks.{ExplainsStart, ExplainsWhole};
 ghost use Rattle.swim_wire.specs.Fault.{fault_of_pack};
+ghost use Rattle.swim_wire.specs.Layout.{alive_layout, accusation_layout};
 ghost use Rattle.swim_wire.specs.Packet.{PacketValue, IsLegalPacket};
 ghost use Rattle.swim_wire.specs.Reading.{wire_cause, packet_at, alive_at, suspect_at, dead_at, whole_packet, AnswersUnlessMemory};
 ghost use Rattle.swim_wire.specs.Texts.{PacketText};
@@ -75,16 +77,17 @@ impl Packet {
 /// The first of these that holds: `Ended` where the bytes are none; `WrongType` where the first is
 /// none of 3, 4 and 5; the faults of the map, as its count, its keys and values are read; of the
 /// whole, `NameEmpty`, then `BadAddress` and `BadVersions` in an alive packet; `Trailing` where
-/// bytes follow. `Memory` comes where a growth was refused, of at most the limit of a value.
+/// bytes follow. `Memory` comes if a growth was refused, of at most the limit of a value, and
+/// never before the length of a text or bytes is read.
 pub fn decode_packet(alloc: Global, bytes: &[u8]) -> Result<Packet, WireFault>
     // The bytes are the packet.
     ensures reads { IfOk result (λ packet. PacketText bytes.now packet) }
 
-    // Refused for another cause than memory they are no packet, and the refusal says why.
+    // Refused for another cause than memory they are no packet, and the refusal says why. Memory is
+    // asked for once a text or bytes have told a length within their limit.
     ensures refuses { IfErr result (λ fault. fault ≢ WireFault.Memory
         → (p : PacketValue) → ¬ PacketText bytes.now p) }
-    ensures explains { IfErr result (λ fault. fault ≢ WireFault.Memory
-        → ExplainsWhole fault bytes.now) }
+    ensures explains { IfErr result (λ fault. ExplainsWhole fault bytes.now) }
 
     // It is the one at which the reading stops. A slice never fails.
     ensures exact { IfErr result (λ fault. fault ≢ WireFault.Memory
@@ -97,6 +100,7 @@ pub fn decode_packet(alloc: Global, bytes: &[u8]) -> Result<Packet, WireFault>
 pub(crate) fn decode_whole_packet(alloc: Global, bytes: &[u8]) -> Result<Packet, WireFault>
     ensures answers { AnswersUnlessMemory (whole_packet bytes.now) result }
     ensures no_fault { ¬ IsErrOf result WireFault.Fault }
+    ensures memory { IsErrOf result WireFault.Memory → PacketAsks bytes.now }
 {
     match packet_in_order(alloc, bytes)? {
         Some(packet) => Ok(packet),
@@ -108,6 +112,7 @@ pub(crate) fn decode_whole_packet(alloc: Global, bytes: &[u8]) -> Result<Packet,
 pub(crate) fn decode_any_packet(alloc: Global, bytes: &[u8]) -> Result<Packet, WireFault>
     ensures answers { AnswersUnlessMemory (whole_packet bytes.now) result }
     ensures no_fault { ¬ IsErrOf result WireFault.Fault }
+    ensures memory { IsErrOf result WireFault.Memory → PacketAsks bytes.now }
 {
     let mut inlet = SliceInlet::new(bytes);
     let packet = read_packet(alloc, &mut inlet)?;
@@ -119,7 +124,10 @@ pub(crate) fn decode_any_packet(alloc: Global, bytes: &[u8]) -> Result<Packet, W
 }
 
 fn read_packet<I: Inlet>(alloc: Global, inlet: &mut I) -> Result<Packet, WireFault>
-    ensures { ReadsAs wire_cause same packet_at (I.seen inlet.old) (I.seen inlet.new) result }
+    ensures exact { ReadsAs wire_cause same packet_at
+        (I.seen inlet.old) (I.seen inlet.new) result }
+    ensures memory { IsErrOf result WireFault.Memory
+        → ExplainsStart PacketAsks (I.seen inlet.old) }
 {
     let found = read_type(inlet)?;
     match found {
@@ -142,7 +150,9 @@ pub(crate) fn read_type<I: Inlet>(inlet: &mut I) -> Result<u8, WireFault>
 }
 
 fn read_alive<I: Inlet>(alloc: Global, inlet: &mut I) -> Result<Packet, WireFault>
-    ensures { ReadsAs wire_cause same alive_at (I.seen inlet.old) (I.seen inlet.new) result }
+    ensures exact { ReadsAs wire_cause same alive_at (I.seen inlet.old) (I.seen inlet.new) result }
+    ensures memory { IsErrOf result WireFault.Memory
+        → ExplainsStart (MapAsks alive_layout) (I.seen inlet.old) }
 {
     let alive = Alive::new(alloc, read_map(Some(alloc), inlet, &ALIVE)?);
     let name = Name::new(alive.node)?;
@@ -152,7 +162,10 @@ fn read_alive<I: Inlet>(alloc: Global, inlet: &mut I) -> Result<Packet, WireFaul
 }
 
 fn read_suspect<I: Inlet>(alloc: Global, inlet: &mut I) -> Result<Packet, WireFault>
-    ensures { ReadsAs wire_cause same suspect_at (I.seen inlet.old) (I.seen inlet.new) result }
+    ensures exact { ReadsAs wire_cause same suspect_at
+        (I.seen inlet.old) (I.seen inlet.new) result }
+    ensures memory { IsErrOf result WireFault.Memory
+        → ExplainsStart (MapAsks accusation_layout) (I.seen inlet.old) }
 {
     let suspect = Accusation::new(alloc, read_map(Some(alloc), inlet, &ACCUSATION)?);
     let name = Name::new(suspect.node)?;
@@ -162,7 +175,9 @@ fn read_suspect<I: Inlet>(alloc: Global, inlet: &mut I) -> Result<Packet, WireFa
 
 /// A member that is dead by its own word has left.
 fn read_dead<I: Inlet>(alloc: Global, inlet: &mut I) -> Result<Packet, WireFault>
-    ensures { ReadsAs wire_cause same dead_at (I.seen inlet.old) (I.seen inlet.new) result }
+    ensures exact { ReadsAs wire_cause same dead_at (I.seen inlet.old) (I.seen inlet.new) result }
+    ensures memory { IsErrOf result WireFault.Memory
+        → ExplainsStart (MapAsks accusation_layout) (I.seen inlet.old) }
 {
     let dead = Accusation::new(alloc, read_map(Some(alloc), inlet, &ACCUSATION)?);
     let name = Name::new(dead.node)?;

@@ -5,8 +5,9 @@ ghost use Rattle.swim_claim.specs.declared.claim.Claim.{Claim};
 ghost use Rattle.swim_pack.specs.Ends.{Takes, Lacks};
 ghost use Rattle.swim_pack.specs.Composing.{ReadsAs, UnlessFailed, same, refuses};
 ghost use Rattle.swim_wire.specs.declared.stream.Header.{Header};
+ghost use Rattle.swim_wire.specs.Asking.{MapAsks};
 ghost use Rattle.swim_wire.specs.Checks.{ExplainsHeader, ExplainsState, ExplainsStart};
-ghost use Rattle.swim_wire.specs.Layout.{header_layout};
+ghost use Rattle.swim_wire.specs.Layout.{header_layout, state_layout};
 ghost use Rattle.swim_wire.specs.Limits.{most_nodes, most_user_state};
 ghost use Rattle.swim_wire.specs.Reading.{wire_cause, map_at, header_at, state_at};
 ghost use Rattle.swim_wire.specs.Slots.{FitsEach, slots_of};
@@ -124,14 +125,16 @@ fn read_header_map<I: Inlet>(inlet: &mut I, found: u8) -> Result<Values, WireFau
 ///
 /// The first of these that holds: the faults of the map, as its count, its keys and values are
 /// read; of the whole, `NameEmpty`; `BadState` above 3; for state 0 `BadAddress` and then
-/// `BadVersions`. `Memory` comes where a growth was refused, of at most the limit of a value. What
-/// is left are bytes from the end of those before.
+/// `BadVersions`. `Memory` comes if a growth was refused, of at most the limit of a value, and
+/// never before the length of a text or bytes is read. What is left are bytes from the end of those
+/// before.
 pub fn read_state<I: Inlet>(alloc: Global, inlet: &mut I) -> Result<Claim, WireFault>
     // The bytes taken are the record.
     ensures takes { IfOk result (λ claim.
         Takes (I.seen inlet.old) (I.seen inlet.new) (λ b. StateText b claim)) }
     // Refused for another cause than a failing end or memory no record stands at the front, and the
-    // refusal says why.
+    // refusal says why. Memory is asked for once a text or bytes have told a length within their
+    // limit.
     ensures lacks { IfErr result (λ fault. UnlessFailed (wire_cause fault)
         (Lacks (I.seen inlet.old) (λ b. (claim : Claim) × StateText b claim))) }
     ensures explains { IfErr result (λ fault.
@@ -143,7 +146,9 @@ pub fn read_state<I: Inlet>(alloc: Global, inlet: &mut I) -> Result<Claim, WireF
 }
 
 fn read_whole_state<I: Inlet>(alloc: Global, inlet: &mut I) -> Result<Claim, WireFault>
-    ensures { ReadsAs wire_cause same state_at (I.seen inlet.old) (I.seen inlet.new) result }
+    ensures exact { ReadsAs wire_cause same state_at (I.seen inlet.old) (I.seen inlet.new) result }
+    ensures memory { IsErrOf result WireFault.Memory
+        → ExplainsStart (MapAsks state_layout) (I.seen inlet.old) }
 {
     match read_state_in_order(alloc, inlet) {
         Some(read) => read,
@@ -153,7 +158,9 @@ fn read_whole_state<I: Inlet>(alloc: Global, inlet: &mut I) -> Result<Claim, Wir
 
 /// Reads a state record, however its map is written.
 fn read_any_state<I: Inlet>(alloc: Global, inlet: &mut I) -> Result<Claim, WireFault>
-    ensures { ReadsAs wire_cause same state_at (I.seen inlet.old) (I.seen inlet.new) result }
+    ensures exact { ReadsAs wire_cause same state_at (I.seen inlet.old) (I.seen inlet.new) result }
+    ensures memory { IsErrOf result WireFault.Memory
+        → ExplainsStart (MapAsks state_layout) (I.seen inlet.old) }
 {
     let state = PushNodeState::new(alloc, read_map(Some(alloc), inlet, &STATE)?);
     let name = Name::new(state.name)?;

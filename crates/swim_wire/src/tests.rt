@@ -1,5 +1,6 @@
 //! Packets by their bytes.
 
+mod at_hand;
 mod both_ways;
 mod canonical;
 mod claimless;
@@ -200,4 +201,34 @@ fn want_of_memory_is_answered_as_such_and_then_repeated(rt: HostRuntime) -> Resu
         assert_packet(&rt, rt.alloc(), ALIVE, Kind::Alive, b"a", 0, "")?;
     }
     Ok(())
+}
+
+/// An Alive whose name is announced with 1,024 bytes, of which three are there.
+const CUT_NAME: &[u8] = b"\x04\x81\xa4Node\xda\x04\0aaa";
+
+/// The number of the fault of bytes that are no packet, or 0.
+fn refusal(alloc: Global, bytes: &[u8]) -> usize {
+    match decode_packet(alloc, bytes) {
+        Ok(_) => 0,
+        Err(fault) => fault.number() as usize,
+    }
+}
+
+/// Memory for a name is asked for before its bytes are read. Where it is refused, so is the packet,
+/// and the repeat finds the name cut.
+#[test]
+fn a_cut_name_ends_too_early_where_there_is_memory_for_it(rt: HostRuntime) {
+    let first = refusal(rt.alloc(), CUT_NAME);
+    if first != 1 {
+        assert_count(&rt, first, 10);
+        assert_count(&rt, refusal(rt.alloc(), CUT_NAME), 1);
+    }
+}
+
+/// Nothing up to the length of a text or bytes asks for memory, so no refused growth shows.
+#[test]
+fn bytes_before_the_first_length_are_refused_without_memory(rt: HostRuntime) {
+    for end in 0..CUT_NAME.len() - 3 {
+        assert_count(&rt, refusal(rt.alloc(), &CUT_NAME[..end]), 1);
+    }
 }

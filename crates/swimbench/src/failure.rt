@@ -3,7 +3,7 @@
 use std::alloc::AllocError;
 use std::io;
 use swim_claim::ClaimFault;
-use swim_sync::SyncFault;
+use swim_sync::{Stop, SyncFault};
 use swim_table::EncodeFault;
 use swim_wire::WireFault;
 use thiserror::Error;
@@ -35,4 +35,7 @@ pub(crate) enum Failure {
     /// An exchange was refused.
     #[error("swimbench: {0}")]
     Sync(#[from] SyncFault),
+    /// A run stopped.
+    #[error("swimbench: {0}")]
+    Stopped(#[from] Stop),
 }

@@ -4,7 +4,8 @@ use crate::failure::Failure;
 use crate::workload::Workload;
 use std::alloc::{AllocError, Global};
 use swim_claim::Claim;
-use swim_table::Table;
+use swim_sync::{Claims, Cluster, Event};
+use swim_table::{Table, read_dump};
 
 /// The table of the claims, each taken in by itself.
 pub(crate) fn table_of(alloc: Global, workload: Workload) -> Result<Table, Failure> {
@@ -51,4 +52,29 @@ pub(crate) fn compounds_of(
     }
     compounds.push(open)?;
     Ok(compounds)
+}
+
+/// The table of the streams, each read by itself and joined in.
+pub(crate) fn join_each(alloc: Global, streams: &[Vec<u8>]) -> Result<Table, Failure> {
+    let mut table = Table::new(alloc);
+    for stream in streams {
+        let (other, _) = read_dump(alloc, stream)?;
+        if let Err((_, error)) = table.join(other) {
+            return Err(Failure::Memory(error));
+        }
+    }
+    Ok(table)
+}
+
+/// Two nodes, of which each knows all the claims and the other one.
+pub(crate) fn equal_nodes(alloc: Global, workload: Workload) -> Result<Cluster, Failure> {
+    let mut nodes = Vec::new(alloc);
+    for number in [workload.count, workload.count.wrapping_add(1)] {
+        let node = workload.node(alloc, number)?;
+        nodes.push(node).map_err(AllocError::from)?;
+    }
+    let mut cluster = Cluster::new(alloc, nodes);
+    let claims = Claims::new(workload.claims(alloc)?);
+    cluster.run(&[Event::HearAll(0, claims), Event::Exchange(0, 1)])?;
+    Ok(cluster)
 }

@@ -3,11 +3,11 @@
 use crate::failure::Failure;
 use crate::order::Order;
 use crate::reading::Watch;
-use crate::tables::{compounds_of, table_of, take_compounds, take_each};
+use crate::tables::{compounds_of, equal_nodes, join_each, table_of, take_compounds, take_each};
 use crate::work::Work;
 use crate::workload::Workload;
-use swim_pack::{FromRead, SliceInlet};
-use swim_sync::exchange;
+use swim_pack::{FromRead, SliceInlet, VecOutlet};
+use swim_sync::{Event, exchange, offer};
 use swim_table::{Table, encode, list, read_stream, relation};
 use swim_wire::decode_packet;
 
@@ -31,10 +31,14 @@ pub(crate) fn run_once(
         ),
         Work::TakeAll(at_once) => take_all(rt, workload, at_once),
         Work::Join => join(rt, workload),
+        Work::JoinEach => joining_each(rt, workload),
         Work::Relation => relate(rt, workload),
         Work::Encode => encoding(rt, workload),
+        Work::Offer => offering(rt, workload),
+        Work::Merge => merging(rt, workload),
         Work::List => listing(rt, workload),
         Work::Exchange => exchanging(rt, workload),
+        Work::ExchangeEqual => exchanging_equal(rt, workload),
         Work::DecodeAlive => decode(rt, &workload.packets(rt.alloc())?),
         Work::DecodeSuspect => decode(rt, &workload.suspicions(rt.alloc())?),
     }
@@ -82,6 +86,13 @@ fn join(rt: &HostRuntime, workload: Workload) -> Result<u128, Failure> {
     }
 }
 
+fn joining_each(rt: &HostRuntime, workload: Workload) -> Result<u128, Failure> {
+    let streams = workload.streams_of_one(rt.alloc())?;
+    let watch = Watch::start(rt)?;
+    let _table = join_each(rt.alloc(), &streams)?;
+    watch.nanoseconds(rt)
+}
+
 fn relate(rt: &HostRuntime, workload: Workload) -> Result<u128, Failure> {
     let first = table_of(rt.alloc(), workload)?;
     let second = table_of(rt.alloc(), workload)?;
@@ -97,6 +108,23 @@ fn encoding(rt: &HostRuntime, workload: Workload) -> Result<u128, Failure> {
     watch.nanoseconds(rt)
 }
 
+fn offering(rt: &HostRuntime, workload: Workload) -> Result<u128, Failure> {
+    let table = table_of(rt.alloc(), workload)?;
+    let mut outlet = VecOutlet::new(rt.alloc());
+    let watch = Watch::start(rt)?;
+    offer(rt.alloc(), &mut outlet, &table, false)?;
+    watch.nanoseconds(rt)
+}
+
+fn merging(rt: &HostRuntime, workload: Workload) -> Result<u128, Failure> {
+    let bytes = workload.stream(rt.alloc())?;
+    let mut inlet = SliceInlet::new(&bytes);
+    let watch = Watch::start(rt)?;
+    let (table, join) = read_stream(rt.alloc(), &mut inlet)?;
+    let _bytes = encode(rt.alloc(), &table, join)?;
+    watch.nanoseconds(rt)
+}
+
 fn listing(rt: &HostRuntime, workload: Workload) -> Result<u128, Failure> {
     let table = table_of(rt.alloc(), workload)?;
     let watch = Watch::start(rt)?;
@@ -109,6 +137,13 @@ fn exchanging(rt: &HostRuntime, workload: Workload) -> Result<u128, Failure> {
     let mut second = table_of(rt.alloc(), workload.half(1))?;
     let watch = Watch::start(rt)?;
     exchange(rt.alloc(), &mut first, &mut second)?;
+    watch.nanoseconds(rt)
+}
+
+fn exchanging_equal(rt: &HostRuntime, workload: Workload) -> Result<u128, Failure> {
+    let mut cluster = equal_nodes(rt.alloc(), workload)?;
+    let watch = Watch::start(rt)?;
+    cluster.run(&[Event::Exchange(0, 1)])?;
     watch.nanoseconds(rt)
 }
 

@@ -20,14 +20,22 @@ pub(crate) enum Work {
     TakeEach,
     /// `join` of two tables of half of the names each.
     Join,
+    /// `read_dump` and `join` of as many streams of one record as there are names.
+    JoinEach,
     /// `relation` of two equal tables.
     Relation,
     /// `encode`.
     Encode,
+    /// `offer` into memory.
+    Offer,
+    /// `read_stream` over a slice, and then `encode`, as `swimtab merge` does with one stream.
+    Merge,
     /// `list`.
     List,
     /// `exchange` of two tables of half of the names each.
     Exchange,
+    /// An exchange in a run, of two nodes whose tables are equal already.
+    ExchangeEqual,
     /// `decode_packet` of an Alive.
     DecodeAlive,
     /// `decode_packet` of a Suspect.
@@ -36,7 +44,7 @@ pub(crate) enum Work {
 
 impl Work {
     /// All that is timed, as the table has it.
-    pub(crate) const ALL: [Work; 15] = [
+    pub(crate) const ALL: [Work; 19] = [
         Work::ReadSlice,
         Work::ReadReader,
         Work::DecodeAlive,
@@ -48,10 +56,14 @@ impl Work {
         Work::TakeAll(8),
         Work::TakeAll(60),
         Work::Join,
+        Work::JoinEach,
         Work::Relation,
         Work::Encode,
+        Work::Offer,
+        Work::Merge,
         Work::List,
         Work::Exchange,
+        Work::ExchangeEqual,
     ];
 
     /// How many records one run has, at a table of `size` names.
@@ -75,10 +87,14 @@ impl fmt::Display for Work {
             Work::TakeAll(_) => "take_all, 60 at a time",
             Work::TakeEach => "take, the same claims",
             Work::Join => "join",
+            Work::JoinEach => "join, one at a time",
             Work::Relation => "relation",
             Work::Encode => "encode",
+            Work::Offer => "offer",
+            Work::Merge => "merge of one stream",
             Work::List => "list",
             Work::Exchange => "exchange",
+            Work::ExchangeEqual => "exchange, equal tables",
             Work::DecodeAlive => "decode_packet, alive",
             Work::DecodeSuspect => "decode_packet, suspect",
         })

@@ -7,6 +7,7 @@ use crate::failure::Failure;
 use crate::order::Order;
 use std::alloc::{AllocError, Global};
 use swim_claim::{Claim, Details, Name};
+use swim_table::Node;
 use swim_wire::{Header, Packet, encode_packet, write_header, write_state};
 
 /// The port of every member: memberlist's own.
@@ -146,6 +147,31 @@ impl Workload {
             write_state(&mut bytes, claim.name(), claim.facts())?;
         }
         Ok(bytes)
+    }
+
+    /// For each of these claims a stream of its own.
+    pub(crate) fn streams_of_one(&self, alloc: Global) -> Result<Vec<Vec<u8>>, Failure> {
+        let mut streams = Vec::with_capacity(alloc, self.count as usize)?;
+        for place in self.order.numbers(alloc, self.count)? {
+            let claim = self.claim(alloc, place)?;
+            let mut bytes = Vec::with_capacity(alloc, 2 * RECORD)?;
+            let header = Header {
+                join: false,
+                nodes: 1,
+                user_len: 0,
+            };
+            write_header(&mut bytes, &header)?;
+            write_state(&mut bytes, claim.name(), claim.facts())?;
+            streams.push(bytes).map_err(AllocError::from)?;
+        }
+        Ok(streams)
+    }
+
+    /// The member whose name has this place in ascending order.
+    pub(crate) fn node(&self, alloc: Global, place: u32) -> Result<Node, Failure> {
+        let name = self.name(alloc, place)?;
+        let details = self.details(alloc, place)?;
+        Ok(Node::new(alloc, name, details, self.inc)?)
     }
 
     fn name(&self, alloc: Global, place: u32) -> Result<Name, Failure> {

@@ -13,7 +13,7 @@ ghost use Rattle.swim_program.specs.Report.{IsAmong, TellsDatagram};
 
 use std::alloc::{AllocError, Global};
 use swim_claim::Claim;
-use swim_program::{BOUND, Place, Report, What, into_claims, without_return};
+use swim_program::{BOUND, Place, Report, What, into_claims, lines_of, without_return};
 use swim_table::{Table, list};
 use swim_wire::Datagram;
 
@@ -44,7 +44,7 @@ pub fn packets(alloc: Global, input: &[u8]) -> Result<Vec<u8>, Report>
         return Err(What::input_too_long().at(Place::Input));
     }
     let mut table = Table::new(alloc);
-    for (index, line) in input.split(|byte| *byte == b'\n').enumerate() {
+    for (index, line) in lines_of(input).enumerate() {
         if let Err(what) = take_line(alloc, &mut table, line) {
             return Err(what.at(Place::Line(index as u64 + 1)));
         }

@@ -14,7 +14,7 @@ use memberlist_keyring::Keyring;
 use memberlist_wrap::WrapFault;
 use std::alloc::{AllocError, Global};
 use std::marker::Model;
-use swim_program::{BOUND, Place, Report, What};
+use swim_program::{BOUND, Place, Report, What, lines_of};
 
 /// What became of lines: their text, and why each was left out that was. Contracts see it as these
 /// two.
@@ -125,7 +125,7 @@ pub fn unwrap_lines(
         return Err(What::input_too_long().at(Place::Input));
     }
     let mut unwrapped = Unwrapped::new(alloc);
-    for (index, line) in input.split(|byte| *byte == b'\n').enumerate() {
+    for (index, line) in lines_of(input).enumerate() {
         if let Err(AllocError) = add_line(alloc, keys, &mut unwrapped, index, line, skip) {
             return Err(What::Memory.at(Place::Line(index as u64 + 1)));
         }

@@ -1,5 +1,5 @@
 //! What is done to the vectors of a vector in blocks.
-ghost use Rattle.std.specs.Prelude.{◌≡◌, ◌+◌, ◌<◌, ◌≤◌, ◌++◌, ◌∷◌, [], All, length, take, drop, vec_capacity, OnOk, OnErr, IfOk, IsOk, MatchResult};
+ghost use Rattle.std.specs.Prelude.{◌≡◌, ◌+◌, ◌<◌, ◌≤◌, ◌++◌, ◌∷◌, [], All, max, length, take, drop, vec_capacity, OnOk, OnErr, IfOk, IsOk, MatchResult};
 ghost use Rattle.std.specs.Fn.{ComputesKey};
 ghost use Rattle.std.specs.List.Sorted.{IsBinarySearchResult};
 ghost use Rattle.tiered_vec.specs.Sound.{shape, HasRoom, HasRooms};
@@ -36,6 +36,7 @@ pub(crate) fn make_spares<T>(
     ensures items { blocks.new.items ≡ blocks.old.items }
     ensures ok { OnOk result (n ≤ length spares.new.items) }
     ensures more { length spares.old.items ≤ length spares.new.items }
+    ensures few { length spares.new.items ≤ max (length spares.old.items) n }
     ensures succeeds { n ≤ length spares.old.items → IsOk result }
 {
     if n <= spares.len() {

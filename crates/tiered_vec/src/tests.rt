@@ -200,3 +200,32 @@ fn places_are_read_written_and_stepped(rt: HostRuntime) -> Result<(), Fail> {
     assert_same(&rt, &other, &[7, 9]);
     Ok(())
 }
+
+/// Elements of 32 bytes, so that a block of 128 of them is the most that may be asked for.
+#[test]
+fn one_pushed_element_asks_for_little(rt: HostRuntime) -> Result<(), Fail> {
+    let mut list = TieredVec::new(rt.alloc());
+    list.push([7u64; 4])?;
+    assert_eq!(rt; list.len(), 1);
+    Ok(())
+}
+
+#[test]
+fn one_inserted_element_asks_for_little(rt: HostRuntime) -> Result<(), Fail> {
+    let mut list = TieredVec::new(rt.alloc());
+    let end = list.end();
+    list.insert_at(end, [7u64; 4])?;
+    assert_eq!(rt; list.len(), 1);
+    Ok(())
+}
+
+/// Room for 1,000 insertions of 4 bytes: blocks of 512 bytes for each 64 of them and three more,
+/// and 32 bytes for each block twice.
+#[test]
+fn room_for_a_thousand_insertions_holds_at_most_12_kib(rt: HostRuntime) -> Result<(), Fail> {
+    let mut list = TieredVec::new(rt.alloc());
+    list.push(7u32)?;
+    list.reserve(1000)?;
+    assert_eq!(rt; list.len(), 1);
+    Ok(())
+}

@@ -1,11 +1,11 @@
 //! A vector in blocks: what its callers see.
 ghost use Rattle.std.specs.declared.alloc.Global.{Global};
-ghost use Rattle.std.specs.Prelude.{◌≡◌, ◌+◌, ◌-◌, ◌<◌, ◌≤◌, ◌^◌, ◌↔◌, ◌++◌, ◌∷◌, [], IsTrue, IsOk, IfOk, IfErr, OnOk, OnErr, MatchResult, slice_get, slice_set, length, slice_index_or};
+ghost use Rattle.std.specs.Prelude.{◌≡◌, ◌+◌, ◌-◌, ◌/◌, ◌<◌, ◌≤◌, ◌^◌, ◌↔◌, ◌++◌, ◌∷◌, [], IsTrue, IsOk, IfOk, IfErr, OnOk, OnErr, MatchResult, slice_get, slice_set, length, min, max, slice_index_or};
 ghost use Rattle.std.specs.List.{insert};
 ghost use Rattle.std.specs.Option.{option_copied};
 ghost use Rattle.std.specs.List.Sorted.{IsBinarySearchResult};
 ghost use Rattle.std.specs.Fn.{ComputesKey};
-ghost use Rattle.tiered_vec.specs.Tiers.{items, room, tail_room, IsPlace, IsGap, IsPlaceOf, index_of, index_result, with_item_at};
+ghost use Rattle.tiered_vec.specs.Tiers.{block_size, half_size, items, room, tail_room, IsPlace, IsGap, IsPlaceOf, index_of, index_result, with_item_at};
 
 use crate::blocks::{
     BLOCK, HALF, end_of, find_among, make_spares, open, open_end, place_after, place_of, put,
@@ -53,7 +53,8 @@ impl<T> TieredVec<T> {
     /// The list of no elements, which takes memory from the allocator as it grows. It takes none
     /// now.
     pub fn new(alloc: Global) -> TieredVec<T>
-        ensures { items result ≡ [] }
+        ensures items { items result ≡ [] }
+        ensures spares { result.spares ≡ 0 }
     {
         TieredVec {
             alloc,
@@ -148,6 +149,7 @@ impl<T> TieredVec<T> {
         T: Drop,
         ensures items { IfOk result (λ v. items v ≡ []) }
         ensures tail_room { IfOk result (λ v. n ≤ tail_room v) }
+        ensures few { IfOk result (λ v. v.spares ≤ n / block_size + 1) }
     {
         let mut made = TieredVec::new(alloc);
         make_spares(alloc, &mut made.blocks, &mut made.spares, n / BLOCK + 1)?;
@@ -166,6 +168,8 @@ impl<T> TieredVec<T> {
         ensures blocks { self.new.blocks ≡ self.old.blocks }
         ensures spares { self.old.spares ≤ self.new.spares }
         ensures room { OnOk result (n ≤ room self.new) }
+        ensures few { self.new.spares ≤ max self.old.spares
+            (min n (length self.old.blocks + n / half_size + 2)) }
         ensures succeeds { n ≤ self.old.spares → IsOk result }
     {
         let most = self.blocks.len() + n / HALF + 2;

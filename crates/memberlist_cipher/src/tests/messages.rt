@@ -2,7 +2,7 @@
 //! version 0.2.2.
 
 use super::{assert_opens, assert_opens_stream, open};
-use crate::{CipherFault, decrypt, decrypt_stream};
+use crate::{CipherFault, Key, decrypt, decrypt_stream};
 use std::alloc::Global;
 use std::process::Abort;
 use std::test::Fail;
@@ -133,6 +133,24 @@ fn assert_opens_to(
     Ok(())
 }
 
+/// That a key, once made ready, decrypts each packet and stream that is under it.
+fn assert_is_ready(rt: &impl Abort, alloc: Global, bytes: &[u8]) -> Result<(), CipherFault> {
+    let key = Key::new(alloc, bytes)?;
+    for (under, packet) in PACKETS {
+        if under == bytes {
+            let message = key.decrypt(alloc, b"", packet)?;
+            assert_eq!(rt; message.as_slice(), MESSAGE);
+        }
+    }
+    for (under, stream) in STREAMS {
+        if under == bytes {
+            let message = key.decrypt_stream(alloc, b"", stream)?;
+            assert_eq!(rt; message.as_slice(), MESSAGE);
+        }
+    }
+    Ok(())
+}
+
 #[test]
 fn packets_are_decrypted(rt: HostRuntime) -> Result<(), Fail> {
     for (key, bytes) in PACKETS {
@@ -157,6 +175,14 @@ fn streams_are_decrypted(rt: HostRuntime) -> Result<(), Fail> {
     }
     for bytes in EMPTY_STREAMS {
         assert_opens_stream(&rt, rt.alloc(), KEY, b"", bytes, b"")?;
+    }
+    Ok(())
+}
+
+#[test]
+fn a_key_is_made_ready_once(rt: HostRuntime) -> Result<(), Fail> {
+    for bytes in [KEY, KEY_24, KEY_32] {
+        assert_is_ready(&rt, rt.alloc(), bytes)?;
     }
     Ok(())
 }

@@ -1,6 +1,7 @@
 //! Checksums and compressed bytes, as Go's hash/crc32 and compress/lzw have them.
 
-use crate::{WrapFault, crc32, lzw_decode};
+use super::BANANA;
+use crate::{WrapFault, crc32, lzw_decode, unwrap};
 use std::alloc::{AllocError, Global};
 use std::test::Fail;
 
@@ -63,7 +64,11 @@ impl Codes {
         };
         self.held |= code.wrapping_shl(self.count);
         self.count = self.count.wrapping_add(width);
-        self.codes = self.codes.wrapping_add(1);
+        self.codes = if code == 256 {
+            0
+        } else {
+            self.codes.wrapping_add(1)
+        };
         for _ in 0..self.count / 8 {
             self.bytes.push((self.held & 0xff) as u8)?;
             self.held >>= 8;
@@ -106,5 +111,64 @@ fn a_bomb_is_refused_at_the_limit(rt: HostRuntime) -> Result<(), Fail> {
             Err(fault) => assert_eq!(rt; fault, WrapFault::TooLarge, "at {limit}"),
         }
     }
+    Ok(())
+}
+
+#[test]
+fn a_great_limit_asks_for_little(rt: HostRuntime) -> Result<(), Fail> {
+    let message = unwrap(rt.alloc(), BANANA, 268_435_456)?;
+    assert_eq!(rt; message.as_slice(), b"banana bandana".as_slice());
+    Ok(())
+}
+
+/// Codes that begin with 52,000 clear codes: 58,500 bytes that stand for nothing.
+fn clear_codes(alloc: Global) -> Result<Codes, AllocError> {
+    let mut codes = Codes::new(alloc);
+    for _ in 0..52_000u32 {
+        codes.put(256)?;
+    }
+    Ok(codes)
+}
+
+/// A compression of these codes, the last of which is 257.
+fn compression(alloc: Global, codes: Codes) -> Result<Vec<u8>, AllocError> {
+    let mut codes = codes;
+    codes.put(257)?;
+    codes.bytes.push((codes.held & 0xff) as u8)?;
+    let front = b"\x09\x82\xa4Algo\0\xa3Buf\xdb";
+    let mut bytes = Vec::with_capacity(alloc, codes.bytes.len().saturating_add(17))?;
+    bytes.extend_from_slice(front)?;
+    bytes.extend_from_slice(&codes.bytes.len().to_be_bytes()[4..])?;
+    bytes.extend_from_slice(&codes.bytes)?;
+    Ok(bytes)
+}
+
+/// The letter `a` 131,328 times, as the words of 1 to 512 letters.
+fn letters(alloc: Global) -> Result<Vec<u8>, AllocError> {
+    let mut codes = clear_codes(alloc)?;
+    codes.put(97)?;
+    for code in 258..769 {
+        codes.put(code)?;
+    }
+    compression(alloc, codes)
+}
+
+/// `letters` compressed once more, byte by byte.
+fn nested(alloc: Global) -> Result<Vec<u8>, AllocError> {
+    let inner = letters(alloc)?;
+    let mut codes = clear_codes(alloc)?;
+    for byte in &inner {
+        codes.put(*byte as u64)?;
+    }
+    compression(alloc, codes)
+}
+
+/// While the letters come out, 262,144 bytes are held for them at most, 30,720 for the places of
+/// words, the second compression's 59,300 and the input's 147,000, and nothing else of the first.
+#[test]
+fn a_compression_in_a_compression_holds_at_most_490_kib(rt: HostRuntime) -> Result<(), Fail> {
+    let bytes = nested(rt.alloc())?;
+    let message = unwrap(rt.alloc(), &bytes, 131_328)?;
+    assert_eq!(rt; message.len(), 131_328);
     Ok(())
 }

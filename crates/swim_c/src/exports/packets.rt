@@ -17,8 +17,9 @@ use crate::status::NO_NODE;
 use crate::telling::{Refuted, refute};
 use std::alloc::Global;
 
-/// Takes in the claims of a packet or compound packet, or none. A packet by itself takes no memory
-/// for a table that knows its name.
+/// Takes in the claims of a packet or compound packet, or none. The texts and bytes of a packet may
+/// take memory while it is read. Of a packet by itself about a name that the table knows, only
+/// newer metadata stays.
 ///
 /// # Statuses
 ///
@@ -27,7 +28,7 @@ use std::alloc::Global;
 /// - 64 where the handle has no node.
 /// - 1 to 22 where the bytes are neither: the fault at which their reading stops
 ///   (docs/PROTOCOL.md).
-/// - 10 where memory is refused.
+/// - 10 if memory is refused, never before the length of a text or bytes is read.
 #[unsafe(no_mangle)]
 pub extern "C" fn swimtab_raw_take(alloc: Global, node: &mut Handle, bytes: &[u8]) -> u32
     ensures { OnNode node.old.node node.new.node

@@ -22,7 +22,8 @@ use std::alloc::Global;
 /// - 64 where the handle has no node.
 /// - 23 where the table keeps more than 131,072 records.
 /// - 66 where the buffer is too small. The length is then that of the dump.
-/// - 10 where memory is refused.
+///
+/// No memory is asked for.
 #[unsafe(no_mangle)]
 pub extern "C" fn swimtab_raw_offer(
     alloc: Global,
@@ -38,7 +39,7 @@ pub extern "C" fn swimtab_raw_offer(
     let Some(held) = node.take(alloc) else {
         return Written::refused(NO_NODE);
     };
-    let written = offer_out(alloc, &held, join, out);
+    let written = offer_out(&held, join, out);
     node.put(held);
     written
 }
@@ -55,7 +56,8 @@ pub extern "C" fn swimtab_raw_offer(
 /// - 1 to 21 where no stream stands at the front: the fault at which its reading stops.
 /// - 23 where the node's table keeps more than 131,072 records.
 /// - 66 where the buffer is too small. The length is then that of the reply.
-/// - 10 where memory is refused.
+/// - 10 where memory is refused, for the stream's claims or for the join. None is asked for the
+///   reply.
 #[unsafe(no_mangle)]
 pub extern "C" fn swimtab_raw_answer(
     alloc: Global,

@@ -2,7 +2,10 @@
 
 use crate::tests::reading::{Kind, read};
 use crate::tests::{assert_answer, assert_bytes};
-use crate::{PackFault, SliceInlet, read_raw, write_bool, write_map_len, write_raw, write_uint};
+use crate::{
+    PackFault, SliceInlet, put_bool, put_map_len, put_raw, put_uint, raw_len, read_raw, uint_len,
+    write_bool, write_map_len, write_raw, write_uint,
+};
 use std::alloc::{AllocError, Global};
 use std::process::Abort;
 use std::test::Fail;
@@ -24,6 +27,29 @@ impl Value<'_> {
             Value::Pairs(pairs) => write_map_len(out, pairs.min(15)),
         }
     }
+}
+
+/// Puts it behind the first byte of the buffer, where there is room. Answers the place behind it.
+fn put(value: Value<'_>, out: &mut [u8]) -> usize {
+    match value {
+        Value::Number(number) if uint_len(number) < out.len() => put_uint(out, 1, number),
+        Value::Truth(truth) if 1 < out.len() => put_bool(out, 1, truth),
+        Value::Bytes(bytes) if bytes.len() < 40 && raw_len(bytes) < out.len() => put_raw(
+            out, 1, bytes,
+        ),
+        Value::Pairs(pairs) if pairs < 16 && 1 < out.len() => put_map_len(out, 1, pairs),
+        _ => 0,
+    }
+}
+
+/// That the value is put behind a byte, and nothing behind it is touched.
+fn assert_put(rt: &impl Abort, value: Value<'_>, text: &[u8]) {
+    let mut out = [9; 48];
+    let end = put(value, &mut out);
+    assert_eq!(rt; end, 1 + text.len().min(47));
+    let (front, back) = out.split_at(end);
+    assert_bytes(rt, front.get(1..).unwrap_or(&[]), text);
+    assert!(rt; back.iter().all(|byte| *byte == 9));
 }
 
 /// Writes it. Where memory is refused the vector stays as it was, and the repeat writes it.
@@ -80,6 +106,7 @@ const LONG: [u8; 65535] = [0x6e; 65535];
 fn each_value_has_its_canonical_spelling(rt: HostRuntime) -> Result<(), Fail> {
     for (value, text) in VALUES {
         assert_written(&rt, rt.alloc(), *value, text, b"")?;
+        assert_put(&rt, *value, text);
     }
     for (len, head) in [
         (31, b"\xbf".as_slice()),
@@ -107,7 +134,7 @@ fn four_values(alloc: Global) -> Result<Vec<u8>, AllocError> {
 }
 
 /// Reads bytes, and answers how many they are.
-fn raw_len(alloc: Global, inlet: &mut SliceInlet<'_>) -> Result<u64, PackFault> {
+fn raw_read(alloc: Global, inlet: &mut SliceInlet<'_>) -> Result<u64, PackFault> {
     Ok(read_raw(alloc, inlet, 0)?.len() as u64)
 }
 
@@ -115,7 +142,7 @@ fn raw_len(alloc: Global, inlet: &mut SliceInlet<'_>) -> Result<u64, PackFault> 
 fn assert_read_back(rt: &impl Abort, alloc: Global, bytes: &[u8]) -> Result<(), PackFault> {
     let mut inlet = SliceInlet::new(bytes);
     assert_answer(rt, read(Kind::Number, &mut inlet, 65535), (0, 7946), bytes);
-    assert_answer(rt, (0, raw_len(alloc, &mut inlet)?), (0, 0), bytes);
+    assert_answer(rt, (0, raw_read(alloc, &mut inlet)?), (0, 0), bytes);
     assert_answer(rt, read(Kind::Pairs, &mut inlet, 6), (0, 6), bytes);
     assert_answer(rt, read(Kind::Truth, &mut inlet, 0), (0, 0), bytes);
     assert_bytes(rt, inlet.rest(), b"");

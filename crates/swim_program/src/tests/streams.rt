@@ -10,7 +10,7 @@ use std::process::Abort;
 use std::test::Fail;
 
 /// A stream that is interrupted so many times, and before each further piece so many times again,
-/// moves up to `left` bytes in pieces, and then ends or fails.
+/// moves up to `left` bytes in pieces, and then ends, or fails once and then ends.
 #[derive(Drop)]
 struct Stream {
     interruptions: u32,
@@ -56,6 +56,7 @@ impl Stream {
         }
         self.interruptions = self.again;
         if self.left == 0 && self.fails {
+            self.fails = false;
             return Err(Error::from(self.kind));
         }
         let moved = room.min(self.left).min(self.piece);

@@ -6,6 +6,7 @@ use crate::tests::{
 use crate::{Claims, Cluster, Event, Stop, Why};
 use std::alloc::{AllocError, Global};
 use std::process::Abort;
+use swim_claim::Claim;
 use swim_table::Node;
 
 pub(super) const A_LISTING: &str = "a alive 0 0/7f000001/7946//\n";
@@ -329,14 +330,47 @@ fn a_crowded_table_stops_exchanges_alone(rt: HostRuntime) -> Result<(), AllocErr
     Ok(())
 }
 
+/// The first node hears that it is dead.
+fn hear_own_death(rt: &impl Abort, alloc: Global) -> Result<Event, AllocError> {
+    let name = name_of(rt, alloc, b"a")?;
+    Ok(Event::Hear(0, Claim::Confirm { name, inc: 0 }))
+}
+
 #[test]
 fn refutations_that_nothing_or_nobody_wants_stop_no_run(rt: HostRuntime) -> Result<(), AllocError> {
-    let last = hear(&rt, rt.alloc(), 0, b"a", u32::MAX)?;
+    let alloc = rt.alloc();
+    let last = hear(&rt, alloc, 0, b"a", u32::MAX)?;
     let events = [Event::Refute(0), last, Event::Refute(0)];
-    let mut cluster = cluster(&rt, rt.alloc(), 1)?;
+    let mut cluster = cluster(&rt, alloc, 1)?;
     assert_runs(&rt, &mut cluster, &events);
     let exhausted = "a suspect 4294967295 0/7f000001/7946//\n";
-    assert_nodes(&rt, rt.alloc(), &cluster, &[exhausted])
+    assert_nodes(&rt, alloc, &cluster, &[exhausted])?;
+    let events = [hear_own_death(&rt, alloc)?, Event::Refute(0)];
+    assert_runs(&rt, &mut cluster, &events);
+    let gone = "a confirm 0 0/7f000001/7946//\n";
+    assert_nodes(&rt, alloc, &cluster, &[gone])
+}
+
+/// Suspects of 40 members, whose names are bytes from `A` on.
+fn forty_suspects(rt: &impl Abort, alloc: Global) -> Result<Claims, AllocError> {
+    let mut claims = Vec::new(alloc);
+    for byte in 0x41..0x69u8 {
+        let name = name_of(rt, alloc, &[byte])?;
+        claims.push(Claim::Suspect { name, inc: 1 })?;
+    }
+    Ok(Claims::new(claims))
+}
+
+#[test]
+fn many_claims_are_heard_together(rt: HostRuntime) -> Result<(), AllocError> {
+    let event = Event::HearAll(0, forty_suspects(&rt, rt.alloc())?);
+    let mut cluster = cluster(&rt, rt.alloc(), 1)?;
+    assert_runs(&rt, &mut cluster, &[event]);
+    let node = cluster.node(0).expect(&rt, "a node");
+    // 0x61 is `a`, which the node knew
+    assert_eq!(rt; node.table().len(), 40);
+    assert!(rt; node.table().get(b"h").is_some());
+    Ok(())
 }
 
 /// Asserts that the events leave both nodes with the same listing.

@@ -94,70 +94,86 @@ fn a_writer_that_fails_at_any_byte_leaves_the_table(rt: HostRuntime) -> Result<(
     Ok(())
 }
 
-/// A reader of the stream of `a`, which gives at most so many bytes a read.
-fn pieces(most: usize) -> FromRead<Pieces<'static>> {
-    FromRead::new(Pieces {
-        bytes: SUSPECTED_OFFER,
-        most,
-    })
+/// A reader of the bytes, which gives at most so many a read.
+fn pieces(bytes: &'static [u8], most: usize) -> FromRead<Pieces<'static>> {
+    FromRead::new(Pieces { bytes, most })
 }
 
-/// Answers the stream of `a` in such pieces.
+/// Answers the offer in such pieces.
 fn answer_pieces(
     alloc: Global,
+    offer: &'static [u8],
     most: usize,
     outlet: &mut VecOutlet,
     table: &mut Table,
 ) -> Result<bool, SyncFault> {
-    answer(alloc, &mut pieces(most), outlet, table)
+    answer(alloc, &mut pieces(offer, most), outlet, table)
 }
 
-/// Asserts that the stream of `a` in such pieces is answered, at the second try where memory is
-/// refused.
-fn assert_pieces_answered(rt: &impl Abort, alloc: Global, most: usize) -> Result<(), AllocError> {
+/// Asserts that the offer in such pieces is answered with its flag, at the second try where memory
+/// is refused.
+fn assert_pieces_answered(
+    rt: &impl Abort,
+    alloc: Global,
+    (offer, flag, listing): (&'static [u8], bool, &str),
+    most: usize,
+) -> Result<(), AllocError> {
     let mut outlet = VecOutlet::new(alloc);
     let mut table = suspect_table(rt, alloc)?;
-    let mut answered = answer_pieces(alloc, most, &mut outlet, &mut table);
+    let mut answered = answer_pieces(alloc, offer, most, &mut outlet, &mut table);
     if answered == Err(SyncFault::Memory) {
         assert!(rt; outlet.bytes().is_empty());
-        answered = answer_pieces(alloc, most, &mut outlet, &mut table);
+        answered = answer_pieces(alloc, offer, most, &mut outlet, &mut table);
     }
-    assert_eq!(rt; answered, Ok(false), "{most}");
+    assert_eq!(rt; answered, Ok(flag), "{most}");
     assert_eq!(rt; outlet.bytes().len(), 80);
-    let listing = "a suspect 5 4/7f000001/7947//\nb suspect 1 -\n";
     assert_lists(rt, alloc, &table, listing)
 }
 
 #[test]
 fn a_stream_in_pieces_of_any_size_is_answered(rt: HostRuntime) -> Result<(), AllocError> {
+    let suspected = "a suspect 5 4/7f000001/7947//\nb suspect 1 -\n";
     for most in 1..=SUSPECTED_OFFER.len() {
-        assert_pieces_answered(&rt, rt.alloc(), most)?;
+        assert_pieces_answered(&rt, rt.alloc(), (SUSPECTED_OFFER, false, suspected), most)?;
+        assert_pieces_answered(&rt, rt.alloc(), (ALIVE_OFFER, true, JOINED_LISTING), most)?;
     }
     Ok(())
 }
 
-/// Finishes by the stream of `a` in such pieces.
-fn finish_pieces(alloc: Global, most: usize, table: &mut Table) -> Result<bool, SyncFault> {
-    finish(alloc, &mut pieces(most), table)
+/// Finishes by the reply in such pieces.
+fn finish_pieces(
+    alloc: Global,
+    reply: &'static [u8],
+    most: usize,
+    table: &mut Table,
+) -> Result<bool, SyncFault> {
+    finish(alloc, &mut pieces(reply, most), table)
 }
 
-/// Asserts that the stream of `a` in such pieces finishes, at the second try where memory is
+/// Asserts that the reply in such pieces finishes with its flag, at the second try where memory is
 /// refused.
-fn assert_pieces_finish(rt: &impl Abort, alloc: Global, most: usize) -> Result<(), AllocError> {
+fn assert_pieces_finish(
+    rt: &impl Abort,
+    alloc: Global,
+    (reply, flag, listing): (&'static [u8], bool, &str),
+    most: usize,
+) -> Result<(), AllocError> {
     let mut table = alive_table(rt, alloc)?;
-    let mut finished = finish_pieces(alloc, most, &mut table);
+    let mut finished = finish_pieces(alloc, reply, most, &mut table);
     if finished == Err(SyncFault::Memory) {
         assert_lists(rt, alloc, &table, ALIVE_LISTING)?;
-        finished = finish_pieces(alloc, most, &mut table);
+        finished = finish_pieces(alloc, reply, most, &mut table);
     }
-    assert_eq!(rt; finished, Ok(false), "{most}");
-    assert_lists(rt, alloc, &table, "a suspect 5 4/7f000001/7947//\n")
+    assert_eq!(rt; finished, Ok(flag), "{most}");
+    assert_lists(rt, alloc, &table, listing)
 }
 
 #[test]
 fn a_reply_in_pieces_of_any_size_finishes(rt: HostRuntime) -> Result<(), AllocError> {
+    let suspected = "a suspect 5 4/7f000001/7947//\n";
     for most in 1..=SUSPECTED_OFFER.len() {
-        assert_pieces_finish(&rt, rt.alloc(), most)?;
+        assert_pieces_finish(&rt, rt.alloc(), (SUSPECTED_OFFER, false, suspected), most)?;
+        assert_pieces_finish(&rt, rt.alloc(), (SUSPECT_OFFER, true, JOINED_LISTING), most)?;
     }
     Ok(())
 }

@@ -45,7 +45,9 @@ fn reply_to_alive(rt: &impl Abort, alloc: Global) -> Result<VecOutlet, AllocErro
 }
 
 #[test]
-fn an_offer_is_answered_and_finished(rt: HostRuntime) -> Result<(), AllocError> {
+fn an_offer_is_answered_and_finished_and_holds_at_most_32_kib(
+    rt: HostRuntime,
+) -> Result<(), AllocError> {
     let reply = reply_to_alive(&rt, rt.alloc())?;
     let mut table = alive_table(&rt, rt.alloc())?;
     assert_finishes(&rt, rt.alloc(), reply.bytes(), &mut table, Ok(true))?;
@@ -98,7 +100,9 @@ fn a_reply_has_the_flag_of_its_offer(rt: HostRuntime) -> Result<(), AllocError> 
 }
 
 #[test]
-fn an_exchange_over_memory_joins_both(rt: HostRuntime) -> Result<(), AllocError> {
+fn an_exchange_over_memory_joins_both_and_holds_at_most_32_kib(
+    rt: HostRuntime,
+) -> Result<(), AllocError> {
     let alloc = rt.alloc();
     let mut first = alive_table(&rt, alloc)?;
     let mut second = suspect_table(&rt, alloc)?;

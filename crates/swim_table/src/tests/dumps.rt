@@ -2,7 +2,7 @@
 
 use super::streams::{ALIVE, SUSPECT, SUSPECTED, reads_back};
 use super::{LOOPBACK, Saying, assert_bytes, assert_that, suspicion, table_of};
-use crate::{EncodeFault, Relation, Table, encode, list};
+use crate::{EncodeFault, Relation, Table, dump_len, encode, encode_into, list};
 use std::alloc::{AllocError, Global};
 use std::process::Abort;
 use swim_claim::Kind;
@@ -82,6 +82,8 @@ fn assert_dumped(
 ) -> Result<(), WireFault> {
     let table = table_of(rt, alloc, sayings)?;
     assert_bytes(rt, &dump(rt, alloc, &table, join), wanted, "the dump");
+    let len = dump_len(&table, join).ok();
+    assert_that(rt, len == Some(wanted.len()), "its length");
     assert_read_back(rt, alloc, wanted, &table, join)
 }
 
@@ -90,6 +92,31 @@ fn a_table_has_its_dump_or_wants_memory_and_is_read_back(rt: HostRuntime) -> Res
     for (sayings, join, bytes) in DUMPS {
         assert_dumped(&rt, rt.alloc(), sayings, *join, bytes)?;
     }
+    Ok(())
+}
+
+/// Writes the dump to the front of the buffer, where it fits. Answers its length.
+fn put_in_front(table: &Table, out: &mut [u8]) -> usize {
+    match dump_len(table, true) {
+        Ok(len) if len <= out.len() => {
+            let (front, _) = out.split_at_mut(len);
+            encode_into(table, true, front);
+            len
+        }
+        _ => 0,
+    }
+}
+
+#[test]
+fn a_dump_goes_into_a_buffer_and_leaves_what_is_behind_it(
+    rt: HostRuntime,
+) -> Result<(), WireFault> {
+    let table = table_of(&rt, rt.alloc(), &[alive!(b"a", 0, LOOPBACK, 7946)])?;
+    let mut out = [9; 128];
+    let len = put_in_front(&table, &mut out);
+    let (front, back) = out.split_at(len.min(out.len()));
+    assert_bytes(&rt, front, ALIVE_JOINING, "the dump");
+    assert_that(&rt, back.iter().all(|byte| *byte == 9), "what is behind it");
     Ok(())
 }
 
@@ -123,6 +150,12 @@ fn take_suspicions(
 fn assert_too_many(rt: &impl Abort, alloc: Global, table: &Table) {
     let refused = encode(alloc, table, false).err();
     assert_that(rt, refused == Some(EncodeFault::TooManyRecords), "too many");
+    let unmeasured = dump_len(table, false).err();
+    assert_that(
+        rt,
+        unmeasured == Some(EncodeFault::TooManyRecords),
+        "no length",
+    );
     assert_that(rt, list(alloc, table).is_ok(), "a listing");
 }
 

@@ -86,3 +86,47 @@ fn tables_of_three_hundred_names_are_joined_in_room(rt: HostRuntime) -> Result<(
     assert_count(&rt, first.len(), 500, "names");
     Ok(())
 }
+
+/// The table of one name, that of the number.
+fn table_of_one(rt: &impl Abort, alloc: Global, number: u32) -> Result<Table, AllocError> {
+    let mut table = Table::new(alloc);
+    match table.take(suspicion(rt, alloc, number)?) {
+        Ok(_) => Ok(table),
+        Err((_, error)) => Err(error),
+    }
+}
+
+/// Joins the other table in. Where memory is refused both stay, and the repeat joins it in.
+fn join(rt: &impl Abort, table: &mut Table, other: Table) -> Result<(), AllocError> {
+    let before = table.len();
+    let Err((other, _)) = table.join(other) else {
+        return Ok(());
+    };
+    assert_count(rt, table.len(), before, "names");
+    match table.join(other) {
+        Ok(()) => Ok(()),
+        Err((_, error)) => Err(error),
+    }
+}
+
+#[test]
+fn a_table_of_one_name_is_joined_into_one_of_many(rt: HostRuntime) -> Result<(), AllocError> {
+    let mut table = table(&rt, rt.alloc(), 0)?;
+    for number in [300, 7] {
+        let other = table_of_one(&rt, rt.alloc(), number)?;
+        join(&rt, &mut table, other)?;
+    }
+    assert_count(&rt, table.len(), 301, "names");
+    Ok(())
+}
+
+/// What the table holds is sized by the claims, and so is the room that is asked for them.
+#[test]
+fn a_table_of_three_hundred_claims_taken_at_once_holds_at_most_256_kib(
+    rt: HostRuntime,
+) -> Result<(), AllocError> {
+    let mut table = Table::new(rt.alloc());
+    table.take_all(suspicions(&rt, rt.alloc(), 0)?)?;
+    assert_count(&rt, table.len(), 300, "names");
+    Ok(())
+}

@@ -358,3 +358,24 @@ fn a_dump_with_any_other_byte_is_refused_or_read_as_a_table(
     }
     Ok(())
 }
+
+/// A header that promises 131,072 records.
+const MOST_RECORDS: &[u8] = b"\x06\x83\xa4Join\xc2\xa5Nodes\xce\0\x02\0\0\xacUserStateLen\0";
+
+/// A header that promises no record, and 20,971,520 bytes of user state.
+const MOST_USER_STATE: &[u8] = b"\x06\x83\xa4Join\xc2\xa5Nodes\0\xacUserStateLen\xce\x01\x40\0\0";
+
+/// Neither promise asks for memory, so no refused growth shows.
+#[test]
+fn a_header_with_nothing_behind_it_ends_too_early_and_asks_for_little(rt: HostRuntime) {
+    for bytes in [MOST_RECORDS, MOST_USER_STATE] {
+        let found = read_stream(rt.alloc(), &mut SliceInlet::new(bytes)).err();
+        assert_cause(&rt, found, WireFault::Ended, bytes);
+        assert_cause(
+            &rt,
+            read_dump(rt.alloc(), bytes).err(),
+            WireFault::Ended,
+            bytes,
+        );
+    }
+}

@@ -1,23 +1,22 @@
 //! Maps at the end of a vector: a count, and then each key and its value.
 
-ghost use Rattle.std.specs.Prelude.{◌≡◌, ◌<◌, ◌++◌, ◌∷◌, length, OnOk, OnErr};
+ghost use Rattle.std.specs.Prelude.{◌≡◌, ◌<◌, ◌++◌, ◌∷◌, length, OnOk};
 ghost use Rattle.std.specs.List.{AllByRecursion};
-ghost use Rattle.swim_wire.specs.Pairs.{map_text, pair_text, pair_of, pairs_of, IsShort, Extends};
+ghost use Rattle.swim_wire.specs.Pairs.{map_text, pair_text, pair_of, pairs_of, IsShort};
 
 use crate::layout::Key;
 use std::alloc::AllocError;
-use swim_pack::{write_bool, write_map_len, write_raw, write_uint};
+use swim_pack::{write_map_len, write_raw, write_uint};
 
 /// A value to be written.
 #[derive(Clone, Copy)]
 pub(crate) enum Written<'a> {
     Number(u64),
     Raw(&'a [u8]),
-    Flag(bool),
 }
 
-/// Appends a type byte, and behind it a map of these pairs. A refused call leaves the contents as
-/// they were.
+/// Appends a type byte, and behind it a map of these pairs. A refused call may leave a part
+/// of it.
 pub(crate) fn write_message(
     out: &mut Vec<u8>,
     first: u8,
@@ -25,40 +24,19 @@ pub(crate) fn write_message(
 ) -> Result<(), AllocError>
     requires few { length pairs.now < 16 }
     requires short { AllByRecursion (λ pair. IsShort pair.1) pairs.now }
-    ensures ok { OnOk result
+    ensures { OnOk result
         (out.new.items ≡ out.old.items ++ first ∷ map_text (pairs_of pairs.now)) }
-    ensures refused { OnErr result (out.new.items ≡ out.old.items) }
 {
-    let before = out.len();
     out.extend_from_slice(&[first])?;
-    if append_map(out, pairs).is_err() {
-        out.truncate(before);
-        return Err(AllocError);
-    }
-    Ok(())
-}
-
-/// Appends a map of these pairs. A refused call leaves the contents as they were.
-pub(crate) fn write_map(out: &mut Vec<u8>, pairs: &[(Key, Written)]) -> Result<(), AllocError>
-    requires few { length pairs.now < 16 }
-    requires short { AllByRecursion (λ pair. IsShort pair.1) pairs.now }
-    ensures ok { OnOk result (out.new.items ≡ out.old.items ++ map_text (pairs_of pairs.now)) }
-    ensures refused { OnErr result (out.new.items ≡ out.old.items) }
-{
-    let start = out.len();
-    if append_map(out, pairs).is_err() {
-        out.truncate(start);
-        return Err(AllocError);
-    }
-    Ok(())
+    append_map(out, pairs)
 }
 
 /// Appends a map of these pairs. A refused call may leave a part of it.
+#[inline(always)]
 fn append_map(out: &mut Vec<u8>, pairs: &[(Key, Written)]) -> Result<(), AllocError>
     requires few { length pairs.now < 16 }
     requires short { AllByRecursion (λ pair. IsShort pair.1) pairs.now }
-    ensures ok { OnOk result (out.new.items ≡ out.old.items ++ map_text (pairs_of pairs.now)) }
-    ensures refused { OnErr result (Extends out.old.items out.new.items) }
+    ensures { OnOk result (out.new.items ≡ out.old.items ++ map_text (pairs_of pairs.now)) }
 {
     write_map_len(out, pairs.len() as u32)?;
     for (key, value) in pairs {
@@ -68,16 +46,15 @@ fn append_map(out: &mut Vec<u8>, pairs: &[(Key, Written)]) -> Result<(), AllocEr
 }
 
 /// Appends a key and its value. A refused call may leave the key.
+#[inline(always)]
 fn append_pair(out: &mut Vec<u8>, key: Key, value: Written) -> Result<(), AllocError>
     requires { IsShort value }
-    ensures ok { OnOk result
+    ensures { OnOk result
         (out.new.items ≡ out.old.items ++ pair_text (pair_of (key, value.entry))) }
-    ensures refused { OnErr result (Extends out.old.items out.new.items) }
 {
     write_raw(out, key.text())?;
     match value {
         Written::Number(number) => write_uint(out, number),
         Written::Raw(bytes) => write_raw(out, bytes),
-        Written::Flag(flag) => write_bool(out, flag),
     }
 }

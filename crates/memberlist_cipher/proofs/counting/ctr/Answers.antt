@@ -8,7 +8,11 @@ pub loop-rest-init : goal.loop-rest-init
 unfolding ctr
 loop-rest-init c =
     let f = cipher c.args.words.now c.args.count in
-    ap (λ (o : List ℕ). o ++ counted_all f c.args.nonce.now 2 c.args.bytes.now) c.in_ok-out.ensures.items
+    record {
+      bytes = ap (λ (o : List ℕ). o ++ counted_all f c.args.nonce.now 2 c.args.bytes.now) c.in_ok-out.ensures.items;
+      len = omega (arith, c.in_ok-out.ensures.len);
+      capacity = c.in_ok-out.ensures.exact;
+    }
 
 pub loop-rest-preserved : goal.loop-rest-preserved
 loop-rest-preserved c =
@@ -18,15 +22,20 @@ loop-rest-preserved c =
     let old = c.loop-rest.out.items in
     let rest = c.loop-rest.rest.now in
     let more = counted_all f nonce ((n + 1) % 2 ^ 32) (drop 16 rest) in
-    ap₂ (λ (o r : List ℕ). o ++ counted_all f nonce ((n + 1) % 2 ^ 32) r) c.in_ok-append_sum.ensures c.split_block.ensures.back
-    ∙ append_assoc old _ more
-    ∙ ap (λ (p : List ℕ). old ++ (p ++ more)) (ap₂ plus_bytes c.split_block.ensures.front (c.cipher-mask.ensures ∙ ap f c.counter_block.ensures))
-    ∙ ap (λ (p : List ℕ). old ++ p) (sym (counted_step f nonce n rest c.loop-rest-test.true))
-    ∙ c.loop-rest.invariant
+    record {
+      bytes =
+          ap₂ (λ (o r : List ℕ). o ++ counted_all f nonce ((n + 1) % 2 ^ 32) r) c.append_sum.ensures.items c.split_block.ensures.back
+          ∙ append_assoc old _ more
+          ∙ ap (λ (p : List ℕ). old ++ (p ++ more)) (ap₂ plus_bytes c.split_block.ensures.front (c.cipher-mask.ensures ∙ ap f c.counter_block.ensures))
+          ∙ ap (λ (p : List ℕ). old ++ p) (sym (counted_step f nonce n rest c.loop-rest-test.true))
+          ∙ c.loop-rest.invariant.bytes;
+      len = omega (arith, c.append_sum.ensures.len, c.split_block.ensures.len, c.loop-rest.invariant.len);
+      capacity = c.append_sum.ensures.in_place ∙ c.loop-rest.invariant.capacity;
+    }
 
-pub returns : goal.returns
-returns c =
+pub returns-clause-bytes : goal.returns-clause-bytes
+returns-clause-bytes c =
     let f = cipher c.args.words.now c.args.count in
     sym (append-nil c.loop-rest.out.items)
     ∙ ap (λ (o : List ℕ). c.loop-rest.out.items ++ o) (sym (counted_end f c.args.nonce.now c.loop-rest.counter c.loop-rest.rest.now (omega arith)))
-    ∙ c.loop-rest.invariant
+    ∙ c.loop-rest.invariant.bytes

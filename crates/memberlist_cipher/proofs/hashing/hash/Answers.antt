@@ -5,11 +5,11 @@ use Rattle.memberlist_cipher.proofs.hashing.hash.Goals as goal
 
 pub loop-rest-preserved : goal.loop-rest-preserved
 loop-rest-preserved c =
-    ap₂ (hash c.args.factor.now.block)
-    (c.times-y.ensures ∙ ap (λ b. block_product (bit_xor c.loop-rest.y b) c.args.factor.now.block) c.block.ensures)
+    ap₂ (hash c.args.factor.now)
+    (c.times-y.ensures ∙ ap (λ b. block_product (bit_xor c.loop-rest.y b) c.args.factor.now) c.block.ensures)
     c.split_block.ensures.back
-    ∙ sym (hash_step c.args.factor.now.block c.loop-rest.y c.loop-rest.rest.now (omega arith))
+    ∙ sym (hash_step c.args.factor.now c.loop-rest.y c.loop-rest.rest.now (omega arith))
     ∙ c.loop-rest.invariant
 
 pub returns : goal.returns
-returns c = sym (hash_end c.args.factor.now.block c.loop-rest.y c.loop-rest.rest.now (omega arith)) ∙ c.loop-rest.invariant
+returns c = sym (hash_end c.args.factor.now c.loop-rest.y c.loop-rest.rest.now (omega arith)) ∙ c.loop-rest.invariant

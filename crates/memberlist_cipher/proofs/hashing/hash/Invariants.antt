@@ -3,7 +3,7 @@ use Rattle.memberlist_cipher.specs.Gcm.{hash}
 use Rattle.memberlist_cipher.proofs.hashing.hash.Given as goal
 
 abbrev pub invariant-loop-rest : goal.invariant-loop-rest
-invariant-loop-rest l = hash l.factor.block l.y l.rest ≡ hash l.factor.block l.start l.bytes
+invariant-loop-rest l = hash l.factor l.y l.rest ≡ hash l.factor l.start l.bytes
 
 abbrev pub decreases-loop-rest : goal.decreases-loop-rest
 decreases-loop-rest l = length l.rest

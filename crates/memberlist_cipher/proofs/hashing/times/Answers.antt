@@ -1,32 +1,44 @@
-use Rattle.std.proofs.Common.{◌≡◌, ℕ, ◌+◌, ◌-◌, ◌*◌, ◌/◌, ◌%◌, ◌^◌, ◌<◌, bit_xor, ap, ◌∙◌, arith, length, refl}
+use Rattle.std.proofs.Common.{◌≡◌, ℕ, ◌+◌, ◌*◌, ◌/◌, ◌%◌, ◌^◌, ◌<◌, List, length, get_or, slice_index, refl, sym, ap, ap₂, ◌∙◌, arith, bit_xor}
 use Rattle.std.proofs.lemmas.Grind.{get_or_default_zero}
+use Rattle.std.proofs.lemmas.Nat.{shr-shr}
 use Rattle.memberlist_cipher.specs.Gcm.{steps, block_product}
 use Rattle.memberlist_cipher.specs.Products.{shifted}
-use Rattle.memberlist_cipher.proofs.Products.{length-rows, place_step}
+use Rattle.memberlist_cipher.proofs.Products.{length-row, row_at, four_more}
 use Rattle.memberlist_cipher.proofs.hashing.times.Goals as goal
 
-pub loop-place-init : goal.loop-place-init
-unfolding shifted
-loop-place-init c = refl
+pub loop-init : goal.loop-init
+unfolding steps
+loop-init c = record { sum = refl; rest = omega arith }
 
 pub index-requires : goal.index-requires
-index-requires c = omega (arith, ap length c.args.factor.now.has_rows, length-rows 32 c.args.factor.now.block)
+index-requires c = omega (arith, ap length c.factor.invariant.0, length-row 16 0 (slice_index c.factor.inside.products.items 8))
 
-pub loop-place-preserved : goal.loop-place-preserved
-loop-place-preserved c =
-    let f = c.args.factor.now in
-    let p = c.loop-place.place in
-    let at = 16 * p + c.args.x / 2 ^ (124 - 4 * p) % 16 in
-    let within : at < length f.products.items = omega (arith, ap length f.has_rows, length-rows 32 f.block) in
-    ap (λ (y : ℕ). steps (128 - 4 * (p + 1)) c.args.x (bit_xor c.loop-place.z y) (shifted (4 * (p + 1)) f.block))
-    (c.index.ensures ∙ get_or_default_zero f.products.items at c.index.result.now within)
-    ∙ place_step f.block c.args.x c.loop-place.z p f.products.items f.has_rows c.loop-place-test.true
-    ∙ c.loop-place.invariant
+pub loop-preserved : goal.loop-preserved
+loop-preserved c =
+    let x = c.args.x in
+    let h = c.args.factor.now in
+    let m = 4 * c.loop.counter in
+    let items = c.factor.inside.products.items in
+    let first = slice_index items 8 in
+    let digit = c.loop.rest % 16 in
+    let within : digit < length items = omega (arith, ap length c.factor.invariant.0, length-row 16 0 first) in
+    let product : c.index.result.now ≡ steps 4 (x / 2 ^ m % 16) 0 h =
+    c.index.ensures
+    ∙ get_or_default_zero items digit c.index.result.now within
+    ∙ ap (λ (l : List ℕ). get_or l digit 0) c.factor.invariant.0
+    ∙ row_at digit first (omega arith)
+    ∙ ap₂ (λ (r v : ℕ). steps 4 (r % 16) 0 v) c.loop.invariant.rest c.factor.view_is in
+    let next : m + 4 ≡ 4 * (c.loop.counter + 1) = omega arith in
+    record {
+      sum =
+          ap₂ bit_xor (c.times_x_4.ensures ∙ ap (shifted 4) c.loop.invariant.sum) product
+          ∙ sym (four_more m x h)
+          ∙ ap (λ (n : ℕ). steps n x 0 h) next;
+      rest = ap (λ (r : ℕ). r / 2 ^ 4) c.loop.invariant.rest ∙ shr-shr x m 4 ∙ ap (λ (n : ℕ). x / 2 ^ n) next;
+    }
 
 pub returns : goal.returns
-unfolding block_product steps
+unfolding block_product
 returns c =
-    let f = c.args.factor.now in
-    let p = c.loop-place.place in
-    let none : 0 ≡ 128 - 4 * p = omega arith in
-    ap (λ (n : ℕ). steps n c.args.x c.loop-place.z (shifted (4 * p) f.block)) none ∙ c.loop-place.invariant
+    let all : 4 * c.loop.counter ≡ 128 = omega arith in
+    c.loop.invariant.sum ∙ ap (λ (n : ℕ). steps n c.args.x 0 c.args.factor.now) all

@@ -1,7 +1,9 @@
-use Rattle.std.proofs.Common.{◌≡◌, ◌-◌, ◌*◌}
+use Rattle.std.proofs.Common.{◌≡◌, ◌*◌, ◌/◌, ◌^◌}
 use Rattle.memberlist_cipher.specs.Gcm.{steps}
-use Rattle.memberlist_cipher.specs.Products.{shifted}
 use Rattle.memberlist_cipher.proofs.hashing.times.Given as goal
 
-abbrev pub invariant-loop-place : goal.invariant-loop-place
-invariant-loop-place l = steps (128 - 4 * l.place) l.x l.z (shifted (4 * l.place) l.factor.block) ≡ steps 128 l.x 0 l.factor.block
+abbrev pub invariant-loop : goal.invariant-loop
+invariant-loop l = record {
+  sum : l.z ≡ steps (4 * l.counter) l.x 0 l.factor;
+  rest : l.rest ≡ l.x / 2 ^ (4 * l.counter);
+}

@@ -14,11 +14,13 @@ unfolding schedule
 loop-init c =
     let key = c.args.key.now in
     let nk = length key / 4 in
-    let items : c.extend_from_slice.new.self.items ≡ key =
-    c.in_ok-extend_from_slice.ensures.items ∙ ap (λ (o : List ℕ). o ++ key) c.in_ok-with_capacity.ensures.items in
+    let items : c.append.new.to.items ≡ key =
+    c.append.ensures.items ∙ ap (λ (o : List ℕ). o ++ key) c.in_ok-with_capacity.ensures.items in
     let first : 28 + 3 * nk - 0 ≡ 28 + 3 * nk = omega arith in
     record {
       size = omega (arith, ap length items, four_times key c.requires);
+      len = omega (arith, c.append.ensures.len, c.in_ok-with_capacity.ensures.len, four_times key c.requires);
+      capacity = c.append.ensures.in_place ∙ c.in_ok-with_capacity.ensures.exact;
       same = ap₂ (expanded nk) first items;
     }
 
@@ -28,12 +30,14 @@ loop-preserved c =
     let n = 28 + 3 * nk - c.loop.counter in
     let old = c.loop.keys.words.items in
     let next = c.next_word-next.result in
-    let items : c.extend_from_slice-in-loop.new.self.items ≡ old ++ next = c.in_ok-extend_from_slice-2.ensures.items in
+    let items : c.append-in-loop.new.to.items ≡ old ++ next = c.append-in-loop.ensures.items in
     let size : length next ≡ 4 = omega arith in
     let before = c.loop.invariant.size in
     let one : 28 + 3 * nk - (c.loop.counter + 1) ≡ n - 1 = omega arith in
     record {
       size = omega (arith, ap length items, length-append old next);
+      len = omega (arith, size, c.append-in-loop.ensures.len, c.loop.invariant.len);
+      capacity = c.append-in-loop.ensures.in_place ∙ c.loop.invariant.capacity;
       same =
           ap₂ (expanded nk) one (items ∙ ap (λ (o : List ℕ). old ++ o) (c.next_word-next.ensures ∙ ap (next_word nk) c.deref.ensures.value))
           ∙ sym (expanded_step nk n old (omega arith))

@@ -5,14 +5,14 @@ use Rattle.memberlist_keyring.proofs.trial.try_keys_of_stream.Goals as goal
 
 pub returns-in-Ok-clause-opens : goal.returns-in-Ok-clause-opens
 returns-in-Ok-clause-opens c =
-    IsFirst-at _ _ c.args.keys.now c.loop-key.key-index c.loop-key.last c.bytes.result.now c.in-Ok.message.items (omega arith)
-    (rw c.bytes.ensures c.key-item.is) c.loop-key.invariant
+    IsFirst-at _ _ c.args.keys.now c.loop-key.key-index c.loop-key.last c.key-item.result c.in-Ok.message.items (omega arith)
+    c.key-item.is c.loop-key.invariant
     c.in-Ok.ensures.opens
 
 pub loop-key-preserved : goal.loop-key-preserved
 loop-key-preserved c =
-    Tried-more _ _ c.args.keys.now c.loop-key.key-index c.loop-key.last _ c.bytes.result.now (omega arith)
-    (rw c.bytes.ensures c.key-item.is) c.loop-key.invariant c.in-Err.ensures.refuses c.in_default.not-Memory
+    Tried-more _ _ c.args.keys.now c.loop-key.key-index c.loop-key.last _ c.key-item.result (omega arith)
+    c.key-item.is c.loop-key.invariant c.in-Err.ensures.refuses c.in_default.not-Memory
     (c.in-Err.ensures.lacks c.in_default.not-Memory)
 
 pub returns-clause-lacks : goal.returns-clause-lacks

@@ -11,4 +11,4 @@ returns-in-Ok c =
 pub returns-in-Err : goal.returns-in-Err
 returns-in-Err c =
     compound_refused c.args.bytes.now c.args.lens.now c.args.out.now c.args.out.now _ _ c.in-Err.fault (search rules)
-    (search rules) (search rules) refl c.in-Err.ensures.refused
+    (search rules) (search rules) refl c.in-Err.ensures.refused c.in-Err.ensures.memory

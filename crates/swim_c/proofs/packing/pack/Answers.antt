@@ -3,6 +3,8 @@ use Rattle.swim_wire.specs.Canonical.{packets_bytes}
 use Rattle.swim_wire.specs.Packet.{PacketValue}
 use Rattle.swim_wire.specs.Texts.{DatagramText}
 use Rattle.std.proofs.lemmas.Result.{err_from_is_err_and}
+use Rattle.swim_wire.proofs.Asking.{same_fault}
+use Rattle.swim_c.specs.Packing.{PackingAsks}
 use Rattle.swim_c.proofs.BehindOneAnother.{length-packets}
 use Rattle.swim_c.proofs.packing.pack.Goals as goal
 
@@ -31,3 +33,11 @@ returns-clause-packs c =
       text = subst (λ (ps : List PacketValue). DatagramText c.in_ok-compound.compound.items ps) c.deref.ensures.value made.text;
       canonical = made.canonical ∙ ap packets_bytes c.deref.ensures.value;
     }
+
+pub returns-in_err-packets-clause-memory : goal.returns-in_err-packets-clause-memory
+returns-in_err-packets-clause-memory c =
+    let p = err_from_is_err_and c.from_residual.result c.from_residual.ensures.1 in
+    rw (p.1, p.2) (λ is. c.in_err-packets.ensures.memory (same_fault _ _ is))
+
+pub returns-in_err-compound-clause-memory : goal.returns-in_err-compound-clause-memory
+returns-in_err-compound-clause-memory c = λ _. PackingAsks.all c.in_ok-packets.packets.items c.in_ok-packets.ensures.reads

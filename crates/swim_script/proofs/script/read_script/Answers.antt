@@ -1,12 +1,11 @@
-use Rattle.std.proofs.Common.{◌≡◌, ◌∙◌, ◌+◌, ◌<◌, ℕ, List, map, take, length, get_or, sym, ap, subst, eqb, rules, tests, arith}
-use Rattle.std.proofs.lemmas.Iterator.Consumers.{YieldsList-at, YieldsList-turn, YieldsList-from_enumerate, YieldsList-end}
+use Rattle.std.proofs.Common.{◌≡◌, ◌∙◌, ◌+◌, ◌<◌, ℕ, List, map, take, length, get_or, sym, ap, subst, rules, arith}
+use Rattle.std.proofs.lemmas.Iterator.Consumers.{YieldsList-at, YieldsList-turn, YieldsList-end}
 use Rattle.std.proofs.iter.Serving.{serving}
-use Rattle.std.proofs.lemmas.Iterator.Splits.{YieldsList-from_slice_split}
 use Rattle.std.proofs.lemmas.List.{length-map, map_push}
 use Rattle.std.proofs.lemmas.List.FromFn.{length-enumerate_from, get_or-enumerate_from}
 use Rattle.swim_program.specs.declared.report.Place.TheVariants as place
 use Rattle.swim_program.specs.Lines.{input_lines}
-use Rattle.swim_program.proofs.CountedLines.{counted_lines, first_counted, yielded_at}
+use Rattle.swim_program.proofs.CountedLines.{counted_lines, first_counted, lines_counted, yielded_at}
 use Rattle.swim_script.specs.ScriptReading.{RefusesNext}
 use Rattle.swim_script.proofs.ScriptNumbers.{WereRead, none_read, read_more}
 use Rattle.swim_script.proofs.ScriptRun.{was_read_whole, first_wrong_line, number_of_line, few_nodes}
@@ -23,10 +22,7 @@ returns-in-Err-clause-line c = λ seen within.
     let here =
     yielded_at
     (YieldsList-at start
-    (YieldsList-from_enumerate
-    (YieldsList-at c.enumerate-index-items.ensures.source
-    (YieldsList-from_slice_split _ (λ b. eqb b 10) c.args.input.now c.split.ensures.rest c.split.ensures.done
-    c.split.ensures.closure (λ x r q k. search (rules, tests))))
+    (lines_counted c.args.input.now (c.enumerate-index-items.ensures.source ∙ c.lines_of.ensures.value)
     c.enumerate-index-items.ensures.count))
     c.loop-index.yielded _ c.loop-index.yielded_by _ _ (c.in-Some.index, c.in-Some.line) c.in-Some.is c.next.ensures.steps in
     let lines = input_lines c.args.input.now in
@@ -57,10 +53,7 @@ loop-index-preserved c =
     let here =
     YieldsList-turn
     (YieldsList-at start
-    (YieldsList-from_enumerate
-    (YieldsList-at c.enumerate-index-items.ensures.source
-    (YieldsList-from_slice_split _ (λ b. eqb b 10) c.args.input.now c.split.ensures.rest c.split.ensures.done
-    c.split.ensures.closure (λ x r q k. search (rules, tests))))
+    (lines_counted c.args.input.now (c.enumerate-index-items.ensures.source ∙ c.lines_of.ensures.value)
     c.enumerate-index-items.ensures.count))
     c.loop-index.yielded _ c.loop-index.yielded_by _ _ (c.in-Some.index, c.in-Some.line) c.in-Some.is c.next.ensures.steps in
     let read : List (List ℕ) = map (λ p. p.1.now) c.loop-index.yielded in
@@ -80,10 +73,7 @@ returns-clause-reads c =
     let all =
     YieldsList-end
     (YieldsList-at start
-    (YieldsList-from_enumerate
-    (YieldsList-at c.enumerate-index-items.ensures.source
-    (YieldsList-from_slice_split _ (λ b. eqb b 10) c.args.input.now c.split.ensures.rest c.split.ensures.done
-    c.split.ensures.closure (λ x r q k. search (rules, tests))))
+    (lines_counted c.args.input.now (c.enumerate-index-items.ensures.source ∙ c.lines_of.ensures.value)
     c.enumerate-index-items.ensures.count))
     c.loop-index.yielded _ c.loop-index.yielded_by _ _ c.in-None.is c.next.ensures.steps in
     let were = subst (λ lines. WereRead lines c.loop-index.plan) (counted_lines c.loop-index.yielded 0 _ all.0) c.loop-index.invariant.2 in
@@ -95,10 +85,7 @@ returns-clause-few c =
     let all =
     YieldsList-end
     (YieldsList-at start
-    (YieldsList-from_enumerate
-    (YieldsList-at c.enumerate-index-items.ensures.source
-    (YieldsList-from_slice_split _ (λ b. eqb b 10) c.args.input.now c.split.ensures.rest c.split.ensures.done
-    c.split.ensures.closure (λ x r q k. search (rules, tests))))
+    (lines_counted c.args.input.now (c.enumerate-index-items.ensures.source ∙ c.lines_of.ensures.value)
     c.enumerate-index-items.ensures.count))
     c.loop-index.yielded _ c.loop-index.yielded_by _ _ c.in-None.is c.next.ensures.steps in
     let were = subst (λ lines. WereRead lines c.loop-index.plan) (counted_lines c.loop-index.yielded 0 _ all.0) c.loop-index.invariant.2 in

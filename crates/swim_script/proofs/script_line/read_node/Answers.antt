@@ -2,7 +2,6 @@ use Rattle.std.proofs.Common.{◌≡◌, ◌∙◌, ℕ, List, true, false, refl
 use Rattle.std.proofs.lemmas.Result.{err_from_is_err_and}
 use Rattle.swim_claim.specs.Details.{DetailsValue, IsLegalDetails}
 use Rattle.swim_claim.specs.Name.{IsLegalName}
-use Rattle.percent_encoding.specs.Percent.{percent_decode}
 use Rattle.swim_script.specs.Refusals.{NoName}
 use Rattle.swim_script.specs.Refusals.NoNode.{no_addr, no_port, no_meta, no_vsn, no_inc, no_name, no_details}
 use Rattle.swim_script.specs.Script.{Start, HexBytes, Decimal}

@@ -11,4 +11,4 @@ pub returns : goal.returns
 returns c =
     let facts = c.find_by.ensures in
     let by_name = facts.position (λ (s : Standing). name_cmp (name_of s.top) c.args.name.now) (always_returns_same _ _ _ (λ a r f called. search rules)) in
-    searched_place c.args.entries.now.blocks c.requires c.args.name.now _ facts.range by_name
+    searched_place c.args.entries.now.blocks c.requires.ascending c.args.name.now _ facts.range by_name

@@ -1,4 +1,4 @@
-use Rattle.std.proofs.Common.{◌≡◌, eqb, false, length, rules}
+use Rattle.std.proofs.Common.{◌≡◌, eqb, false, inl, length, rules}
 use Rattle.swim_wire.proofs.Parts.{no_bytes, no_compound}
 use Rattle.swim_wire.proofs.datagram.decode_any_datagram.Goals.{in_default-via-in-Some+else-first-eq-COMPOUND_MESSAGE, in_default-via-in_default}
 use Rattle.swim_wire.proofs.datagram.decode_any_datagram.Goals as goal
@@ -12,3 +12,6 @@ returns-in_default-clause-lists c = elim c.in_default.branch [
       let none : length c.args.bytes.now ≡ 0 = search rules in
       rw (no_bytes _ none) c.decode_alone.ensures.lists
 ]
+
+pub returns-in_default-clause-memory : goal.returns-in_default-clause-memory
+returns-in_default-clause-memory c = λ is. inl (c.decode_alone.ensures.memory is)

@@ -1,4 +1,5 @@
 use Rattle.std.proofs.Common.{◌≡◌, ◌<◌, ◌*◌, length, inl, rules}
+use Rattle.swim_wire.proofs.DatagramAsking.{compound_asks}
 use Rattle.swim_wire.proofs.Parts.{compound_none, lengths_cut, compound_parts}
 use Rattle.swim_wire.proofs.datagram.decode_compound.Goals as goal
 
@@ -16,3 +17,8 @@ pub returns-clause-lists : goal.returns-clause-lists
 returns-clause-lists c =
     let parts = c.in-Some-split_at_checked.ensures.cases in
     rw (compound_parts _ _ _ _ _ _ c.in-Some.ensures.cases.0 c.from-lengths_len.ensures parts.0 parts.1 parts.2) c.decode_parts.ensures.lists
+
+pub returns-clause-memory : goal.returns-clause-memory
+returns-clause-memory c = λ is.
+    let parts = c.in-Some-split_at_checked.ensures.cases in
+    compound_asks _ _ _ _ _ _ c.in-Some.ensures.cases.0 c.from-lengths_len.ensures parts.0 parts.1 parts.2 (c.decode_parts.ensures.memory is)

@@ -15,7 +15,7 @@ returns-clause-refuses c = datagram_refuses (λ packets. packets.items) _ _ c.de
 pub returns-clause-explains : goal.returns-clause-explains
 returns-clause-explains c =
     let are : AreBytes c.args.bytes.now = All-from_get_or (λ b. b < 256) c.args.bytes.now 0 (λ i lt. let fits = c.type_inv.bytes i in omega arith) in
-    datagram_explains (λ packets. packets.items) _ _ are c.decode_whole_datagram.ensures.lists
+    datagram_explains (λ packets. packets.items) _ _ are c.decode_whole_datagram.ensures.lists c.decode_whole_datagram.ensures.memory
 
 pub returns-clause-exact : goal.returns-clause-exact
 returns-clause-exact c = datagram_exact (λ packets. packets.items) c.args.bytes.now _ c.decode_whole_datagram.ensures.lists

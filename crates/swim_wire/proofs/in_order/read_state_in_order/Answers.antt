@@ -1,9 +1,12 @@
 use Rattle.std.proofs.Common.{refl, arith}
 use Rattle.swim_pack.proofs.Composing.{Reads-memory-first}
 use Rattle.swim_wire.specs.declared.fault.WireFault.TheVariants.{Memory}
+use Rattle.swim_wire.specs.Layout.{state_layout}
 use Rattle.swim_wire.specs.Reading.{state_at}
+use Rattle.swim_wire.proofs.Asking.{hand_asks}
 use Rattle.swim_wire.proofs.AtHand.{state_passed}
 use Rattle.swim_wire.proofs.InOrder.{state_told}
+use Rattle.swim_wire.proofs.Keys.{state_legal}
 use Rattle.swim_wire.proofs.in_order.read_state_in_order.Goals as goal
 
 pub returns-then-pass-clause-read : goal.returns-then-pass-clause-read
@@ -15,3 +18,8 @@ returns-then-pass-clause-read g c =
 
 pub returns-in-Err-clause-read : goal.returns-in-Err-clause-read
 returns-in-Err-clause-read g c = Reads-memory-first state_at Memory refl
+
+pub returns-in-Err-clause-memory : goal.returns-in-Err-clause-memory
+returns-in-Err-clause-memory g c = λ is.
+    hand_asks state_layout c.at_hand-hand.result.now c.in_ok-state.state.rest.now c.in_ok-state.state.addr.now _ _ state_legal (omega arith)
+    c.in_ok-state.ensures.reads refl c.at_hand-hand.ensures.front

@@ -8,7 +8,7 @@ pub returns-clause-refuses : goal.returns-clause-refuses
 returns-clause-refuses c = packet_refuses _ _ c.decode_whole_packet.ensures.answers
 
 pub returns-clause-explains : goal.returns-clause-explains
-returns-clause-explains c = packet_explains _ _ c.decode_whole_packet.ensures.answers
+returns-clause-explains c = packet_explains _ _ c.decode_whole_packet.ensures.answers c.decode_whole_packet.ensures.memory
 
 pub returns-clause-exact : goal.returns-clause-exact
 returns-clause-exact c = packet_exact _ _ c.decode_whole_packet.ensures.answers

@@ -8,19 +8,20 @@ use Rattle.swim_wire.specs.Layout.{alive_layout}
 use Rattle.swim_wire.specs.Packet.{PacketValue}
 use Rattle.swim_wire.specs.Reading.{map_at, alive_at, alive_of, raw_in, number_in}
 use Rattle.swim_wire.specs.Slots.{slots_of}
+use Rattle.swim_wire.proofs.Asking.{same_fault, refused_claim}
 use Rattle.swim_wire.proofs.Checking.{with_name_again, with_details_again}
 use Rattle.swim_wire.proofs.WholeReads.{Reads-passed, Reads-failed, name_refused, nameless, named_cause, name_made, details_refused}
 use Rattle.swim_wire.proofs.packet.read_alive.Goals as goal
 
-pub returns-in_err-read_map : goal.returns-in_err-read_map
+pub returns-in_err-read_map-clause-exact : goal.returns-in_err-read_map-clause-exact
 unfolding alive_at
-returns-in_err-read_map g c =
+returns-in_err-read_map-clause-exact g c =
     let p = err_from_is_err_and c.from_residual.result c.from_residual.ensures.1 in
     rw (p.1, p.2) (Reads-exit _ c.in_err-read_map.ensures.exact)
 
-pub returns-in_err-name : goal.returns-in_err-name
+pub returns-in_err-name-clause-exact : goal.returns-in_err-name-clause-exact
 unfolding alive_at
-returns-in_err-name g c =
+returns-in_err-name-clause-exact g c =
     let p = err_from_is_err_and c.from_residual-in_err-name.result c.from_residual-in_err-name.ensures.1 in
     let why = c.in_err-name.ensures in
     let refused =
@@ -31,9 +32,9 @@ returns-in_err-name g c =
     (Reads-failed (map_at alive_layout) alive_of _ (named_cause c.in_err-name.field-0.0)
     (nameless _ _ empty ∙ ap (λ fault. Err (fault_of_claim fault)) (sym refused.1)) c.in_ok-read_map.ensures.exact)
 
-pub returns-in_err-details : goal.returns-in_err-details
+pub returns-in_err-details-clause-exact : goal.returns-in_err-details-clause-exact
 unfolding alive_at
-returns-in_err-details g c =
+returns-in_err-details-clause-exact g c =
     let p = err_from_is_err_and c.from_residual-in_err-details.result c.from_residual-in_err-details.ensures.1 in
     let says = c.new-alive.ensures.says in
     let why = c.in_err-details.ensures in
@@ -49,9 +50,9 @@ returns-in_err-details g c =
     (Reads-failed (map_at alive_layout) alive_of _ (named_cause c.in_err-details.field-0.0)
     (with_name_again _ _ named ∙ rw (sym says.addr, sym says.port, sym says.meta, sym says.vsn) refused) c.in_ok-read_map.ensures.exact)
 
-pub returns : goal.returns
+pub returns-clause-exact : goal.returns-clause-exact
 unfolding alive_at
-returns g c =
+returns-clause-exact g c =
     let says = c.new-alive.ensures.says in
     let name_is = c.in_ok-name.ensures.same ∙ says.node in
     let slots = slots_of c.in_ok-read_map.field-0 in
@@ -69,3 +70,18 @@ returns g c =
     Reads-passed (map_at alive_layout) alive_of _
     (with_name_again _ _ named ∙ rw (sym says.addr, sym says.port, sym says.meta, sym says.vsn) made ∙ ap Ok same)
     c.in_ok-read_map.ensures.exact
+
+pub returns-in_err-read_map-clause-memory : goal.returns-in_err-read_map-clause-memory
+returns-in_err-read_map-clause-memory g c =
+    let p = err_from_is_err_and c.from_residual.result c.from_residual.ensures.1 in
+    rw (p.1, p.2) (λ is. c.in_err-read_map.ensures.memory (same_fault _ _ is))
+
+pub returns-in_err-name-clause-memory : goal.returns-in_err-name-clause-memory
+returns-in_err-name-clause-memory g c =
+    let p = err_from_is_err_and c.from_residual-in_err-name.result c.from_residual-in_err-name.ensures.1 in
+    rw (p.1, p.2) (refused_claim c.in_err-name.field-0.0 _)
+
+pub returns-in_err-details-clause-memory : goal.returns-in_err-details-clause-memory
+returns-in_err-details-clause-memory g c =
+    let p = err_from_is_err_and c.from_residual-in_err-details.result c.from_residual-in_err-details.ensures.1 in
+    rw (p.1, p.2) (refused_claim c.in_err-details.field-0.0 _)

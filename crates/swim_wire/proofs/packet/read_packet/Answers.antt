@@ -1,31 +1,51 @@
-use Rattle.std.proofs.Common.{◌≡◌, refl, rules}
+use Rattle.std.proofs.Common.{◌≡◌, inl, inr, refl, rules}
 use Rattle.std.proofs.lemmas.Result.{err_from_is_err_and}
 use Rattle.swim_pack.proofs.Composing.{Reads-then, Reads-exit, Reads-refuses}
 use Rattle.swim_pack.specs.Composing.{refuses}
+use Rattle.swim_wire.specs.Asking.{MapAsks}
+use Rattle.swim_wire.specs.Layout.{alive_layout, accusation_layout}
 use Rattle.swim_wire.specs.Reading.{packet_at, packet_after}
 use Rattle.swim_wire.specs.declared.fault.WireFault.TheVariants.{WrongType}
+use Rattle.swim_wire.proofs.Asking.{same_fault, type_asks}
 use Rattle.swim_wire.proofs.packet.read_packet.Goals as goal
 
-pub returns-in_err-found : goal.returns-in_err-found
+pub returns-in_err-found-clause-exact : goal.returns-in_err-found-clause-exact
 unfolding packet_at
-returns-in_err-found g c =
+returns-in_err-found-clause-exact g c =
     let p = err_from_is_err_and c.from_residual.result c.from_residual.ensures.1 in
     rw (p.1, p.2) (Reads-exit _ c.in_err-found.ensures.exact)
 
-pub returns-in-4 : goal.returns-in-4
+pub returns-in-4-clause-exact : goal.returns-in-4-clause-exact
 unfolding packet_at
-returns-in-4 g c = Reads-then packet_after c.in_ok-found.ensures.exact (rw c.in-4.is c.read_alive.ensures)
+returns-in-4-clause-exact g c = Reads-then packet_after c.in_ok-found.ensures.exact (rw c.in-4.is c.read_alive.ensures.exact)
 
-pub returns-in_default : goal.returns-in_default
+pub returns-in_default-clause-exact : goal.returns-in_default-clause-exact
 unfolding packet_at
-returns-in_default g c =
+returns-in_default-clause-exact g c =
     let none : packet_after c.in_ok-found.found ≡ refuses (WrongType c.in_ok-found.found) = search rules in
     Reads-then packet_after c.in_ok-found.ensures.exact (rw none (Reads-refuses (WrongType c.in_ok-found.found) refl))
 
-pub returns-in-3 : goal.returns-in-3
+pub returns-in-3-clause-exact : goal.returns-in-3-clause-exact
 unfolding packet_at
-returns-in-3 g c = Reads-then packet_after c.in_ok-found.ensures.exact (rw c.in-3.is c.read_suspect.ensures)
+returns-in-3-clause-exact g c = Reads-then packet_after c.in_ok-found.ensures.exact (rw c.in-3.is c.read_suspect.ensures.exact)
 
-pub returns-in-5 : goal.returns-in-5
+pub returns-in-5-clause-exact : goal.returns-in-5-clause-exact
 unfolding packet_at
-returns-in-5 g c = Reads-then packet_after c.in_ok-found.ensures.exact (rw c.in-5.is c.read_dead.ensures)
+returns-in-5-clause-exact g c = Reads-then packet_after c.in_ok-found.ensures.exact (rw c.in-5.is c.read_dead.ensures.exact)
+
+pub returns-in_err-found-clause-memory : goal.returns-in_err-found-clause-memory
+returns-in_err-found-clause-memory g c =
+    let p = err_from_is_err_and c.from_residual.result c.from_residual.ensures.1 in
+    rw (p.1, p.2) (λ is. absurd (c.in_err-found.ensures.no_memory (same_fault _ _ is)))
+
+pub returns-in-4-clause-memory : goal.returns-in-4-clause-memory
+returns-in-4-clause-memory g c = λ is.
+    type_asks c.in_ok-found.found (MapAsks alive_layout) (λ rest asks. inl (c.in-4.is, asks)) c.in_ok-found.ensures.exact (c.read_alive.ensures.memory is)
+
+pub returns-in-3-clause-memory : goal.returns-in-3-clause-memory
+returns-in-3-clause-memory g c = λ is.
+    type_asks c.in_ok-found.found (MapAsks accusation_layout) (λ rest asks. inr (inl c.in-3.is, asks)) c.in_ok-found.ensures.exact (c.read_suspect.ensures.memory is)
+
+pub returns-in-5-clause-memory : goal.returns-in-5-clause-memory
+returns-in-5-clause-memory g c = λ is.
+    type_asks c.in_ok-found.found (MapAsks accusation_layout) (λ rest asks. inr (inr c.in-5.is, asks)) c.in_ok-found.ensures.exact (c.read_dead.ensures.memory is)

@@ -9,19 +9,20 @@ use Rattle.swim_wire.specs.Fault.{fault_of_claim}
 use Rattle.swim_wire.specs.Layout.{state_layout}
 use Rattle.swim_wire.specs.Reading.{map_at, state_at, state_of, claim_of_state, raw_in, number_in}
 use Rattle.swim_wire.specs.Slots.{slots_of}
+use Rattle.swim_wire.proofs.Asking.{same_fault, refused_claim}
 use Rattle.swim_wire.proofs.Checking.{with_name_again, with_details_again}
 use Rattle.swim_wire.proofs.WholeReads.{Reads-passed, Reads-failed, name_refused, nameless, named_cause, name_made, details_refused}
 use Rattle.swim_wire.proofs.stream.read_any_state.Goals as goal
 
-pub returns-in_err-read_map : goal.returns-in_err-read_map
+pub returns-in_err-read_map-clause-exact : goal.returns-in_err-read_map-clause-exact
 unfolding state_at
-returns-in_err-read_map g c =
+returns-in_err-read_map-clause-exact g c =
     let p = err_from_is_err_and c.from_residual.result c.from_residual.ensures.1 in
     rw (p.1, p.2) (Reads-exit _ c.in_err-read_map.ensures.exact)
 
-pub returns-in_err-name : goal.returns-in_err-name
+pub returns-in_err-name-clause-exact : goal.returns-in_err-name-clause-exact
 unfolding state_at
-returns-in_err-name g c =
+returns-in_err-name-clause-exact g c =
     let p = err_from_is_err_and c.from_residual-in_err-name.result c.from_residual-in_err-name.ensures.1 in
     let why = c.in_err-name.ensures in
     let refused =
@@ -32,9 +33,9 @@ returns-in_err-name g c =
     (Reads-failed (map_at state_layout) state_of _ (named_cause c.in_err-name.field-0.0)
     (nameless _ _ empty ∙ ap (λ fault. Err (fault_of_claim fault)) (sym refused.1)) c.in_ok-read_map.ensures.exact)
 
-pub returns-in_err-details-in-0 : goal.returns-in_err-details-in-0
+pub returns-in_err-details-in-0-clause-exact : goal.returns-in_err-details-in-0-clause-exact
 unfolding state_at
-returns-in_err-details-in-0 g c =
+returns-in_err-details-in-0-clause-exact g c =
     let p = err_from_is_err_and c.from_residual-in_err-details-in-0.result c.from_residual-in_err-details-in-0.ensures.1 in
     let says = c.new-state.ensures.says in
     let why = c.in_err-details-in-0.ensures in
@@ -51,9 +52,9 @@ returns-in_err-details-in-0 g c =
     ∙ rw (sym says.addr, sym says.port, sym says.meta, sym says.vsn) refused)
     c.in_ok-read_map.ensures.exact)
 
-pub returns-in_ok-details-in-0 : goal.returns-in_ok-details-in-0
+pub returns-in_ok-details-in-0-clause-exact : goal.returns-in_ok-details-in-0-clause-exact
 unfolding state_at
-returns-in_ok-details-in-0 g c =
+returns-in_ok-details-in-0-clause-exact g c =
     let says = c.new-state.ensures.says in
     let name_is = c.in_ok-name.ensures.same ∙ says.name in
     let slots = slots_of c.in_ok-read_map.field-0 in
@@ -71,9 +72,9 @@ returns-in_ok-details-in-0 g c =
     ∙ rw (sym says.addr, sym says.port, sym says.meta, sym says.vsn) made ∙ ap Ok same)
     c.in_ok-read_map.ensures.exact
 
-pub returns-in-1 : goal.returns-in-1
+pub returns-in-1-clause-exact : goal.returns-in-1-clause-exact
 unfolding state_at
-returns-in-1 g c =
+returns-in-1-clause-exact g c =
     let says = c.new-state.ensures.says in
     let name_is = c.in_ok-name.ensures.same ∙ says.name in
     let slots = slots_of c.in_ok-read_map.field-0 in
@@ -85,9 +86,9 @@ returns-in-1 g c =
     (with_name_again _ _ named ∙ ap (claim_of_state slots) (sym says.number ∙ c.in-1.is) ∙ ap Ok same)
     c.in_ok-read_map.ensures.exact
 
-pub returns-in-2 : goal.returns-in-2
+pub returns-in-2-clause-exact : goal.returns-in-2-clause-exact
 unfolding state_at
-returns-in-2 g c =
+returns-in-2-clause-exact g c =
     let says = c.new-state.ensures.says in
     let name_is = c.in_ok-name.ensures.same ∙ says.name in
     let slots = slots_of c.in_ok-read_map.field-0 in
@@ -99,9 +100,9 @@ returns-in-2 g c =
     (with_name_again _ _ named ∙ ap (claim_of_state slots) (sym says.number ∙ c.in-2.is) ∙ ap Ok same)
     c.in_ok-read_map.ensures.exact
 
-pub returns-in-3 : goal.returns-in-3
+pub returns-in-3-clause-exact : goal.returns-in-3-clause-exact
 unfolding state_at
-returns-in-3 g c =
+returns-in-3-clause-exact g c =
     let says = c.new-state.ensures.says in
     let name_is = c.in_ok-name.ensures.same ∙ says.name in
     let slots = slots_of c.in_ok-read_map.field-0 in
@@ -113,12 +114,27 @@ returns-in-3 g c =
     (with_name_again _ _ named ∙ ap (claim_of_state slots) (sym says.number ∙ c.in-3.is) ∙ ap Ok same)
     c.in_ok-read_map.ensures.exact
 
-pub returns-in_default : goal.returns-in_default
+pub returns-in_default-clause-exact : goal.returns-in_default-clause-exact
 unfolding state_at
-returns-in_default g c =
+returns-in_default-clause-exact g c =
     let says = c.new-state.ensures.says in
     let slots = slots_of c.in_ok-read_map.field-0 in
     let named : raw_in slots 3 ≢ [] = λ none. name_made _ (Ok c.in_ok-name.name) _ refl c.in_ok-name.ensures.empty (says.name ∙ none) in
     let none : claim_of_state slots c.new-state.result.state ≡ Err (BadState c.new-state.result.state) = search rules in
     Reads-failed (map_at state_layout) state_of (BadState c.new-state.result.state) refl
     (with_name_again _ _ named ∙ ap (claim_of_state slots) (sym says.number) ∙ none) c.in_ok-read_map.ensures.exact
+
+pub returns-in_err-read_map-clause-memory : goal.returns-in_err-read_map-clause-memory
+returns-in_err-read_map-clause-memory g c =
+    let p = err_from_is_err_and c.from_residual.result c.from_residual.ensures.1 in
+    rw (p.1, p.2) (λ is. c.in_err-read_map.ensures.memory (same_fault _ _ is))
+
+pub returns-in_err-name-clause-memory : goal.returns-in_err-name-clause-memory
+returns-in_err-name-clause-memory g c =
+    let p = err_from_is_err_and c.from_residual-in_err-name.result c.from_residual-in_err-name.ensures.1 in
+    rw (p.1, p.2) (refused_claim c.in_err-name.field-0.0 _)
+
+pub returns-in_err-details-in-0-clause-memory : goal.returns-in_err-details-in-0-clause-memory
+returns-in_err-details-in-0-clause-memory g c =
+    let p = err_from_is_err_and c.from_residual-in_err-details-in-0.result c.from_residual-in_err-details-in-0.ensures.1 in
+    rw (p.1, p.2) (refused_claim c.in_err-details-in-0.field-0.0 _)

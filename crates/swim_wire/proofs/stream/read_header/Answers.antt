@@ -8,4 +8,4 @@ pub returns-clause-lacks : goal.returns-clause-lacks
 returns-clause-lacks g c = Header-lacks c.read_whole_header.result c.read_whole_header.ensures.exact
 
 pub returns-clause-explains : goal.returns-clause-explains
-returns-clause-explains g c = Header-explains c.read_whole_header.result c.read_whole_header.ensures.exact
+returns-clause-explains g c = Header-explains c.read_whole_header.result c.read_whole_header.ensures.no_memory c.read_whole_header.ensures.exact

@@ -1,12 +1,11 @@
-use Rattle.std.proofs.Common.{◌≡◌, ◌++◌, ◌∙◌, length, sym, ap, subst, eqb, rules, tests}
-use Rattle.std.proofs.lemmas.Iterator.Consumers.{YieldsList-at, YieldsList-from_enumerate, YieldsList-turn, YieldsList-end}
-use Rattle.std.proofs.lemmas.Iterator.Splits.{YieldsList-from_slice_split}
+use Rattle.std.proofs.Common.{◌≡◌, ◌++◌, ◌∙◌, length, sym, ap, subst, rules}
+use Rattle.std.proofs.lemmas.Iterator.Consumers.{YieldsList-at, YieldsList-turn, YieldsList-end}
 use Rattle.std.proofs.lemmas.List.{map_push}
 use Rattle.swim_program.specs.Lines.{input_lines}
 use Rattle.std.specs.Str.Lines.{strip_carriage_return}
 use Rattle.swimtab.specs.Lines.{EachLine, TellsText}
 use Rattle.swimtab.proofs.LineByLine.{EachLine-push, first_wrong, no_claims_at}
-use Rattle.swim_program.proofs.CountedLines.{counted_lines, first_counted, yielded_at}
+use Rattle.swim_program.proofs.CountedLines.{counted_lines, first_counted, lines_counted, yielded_at}
 use Rattle.swimtab.proofs.packets.packets.Goals as goal
 
 pub returns-in-Err-clause-refuses : goal.returns-in-Err-clause-refuses
@@ -15,10 +14,7 @@ returns-in-Err-clause-refuses c = λ seen within claims each.
     let here =
     YieldsList-turn
     (YieldsList-at start
-    (YieldsList-from_enumerate
-    (YieldsList-at c.enumerate-index-items.ensures.source
-    (YieldsList-from_slice_split _ (λ b. eqb b 10) c.args.input.now c.split.ensures.rest c.split.ensures.done
-    c.split.ensures.closure (λ x r q k. search (rules, tests))))
+    (lines_counted c.args.input.now (c.enumerate-index-items.ensures.source ∙ c.lines_of.ensures.value)
     c.enumerate-index-items.ensures.count))
     c.loop-index.yielded _ c.loop-index.yielded_by _ _ (c.in-Some.index, c.in-Some.line) c.in-Some.is c.next.ensures.steps in
     no_claims_at (input_lines c.args.input.now) _ c.in-Some.index c.in-Some.line.now claims here
@@ -30,10 +26,7 @@ returns-in-Err-clause-line c = λ seen within.
     let here =
     yielded_at
     (YieldsList-at start
-    (YieldsList-from_enumerate
-    (YieldsList-at c.enumerate-index-items.ensures.source
-    (YieldsList-from_slice_split _ (λ b. eqb b 10) c.args.input.now c.split.ensures.rest c.split.ensures.done
-    c.split.ensures.closure (λ x r q k. search (rules, tests))))
+    (lines_counted c.args.input.now (c.enumerate-index-items.ensures.source ∙ c.lines_of.ensures.value)
     c.enumerate-index-items.ensures.count))
     c.loop-index.yielded _ c.loop-index.yielded_by _ _ (c.in-Some.index, c.in-Some.line) c.in-Some.is c.next.ensures.steps in
     let before = first_counted c.loop-index.yielded 0 (length c.loop-index.yielded) (input_lines c.args.input.now) here.2 in
@@ -65,10 +58,7 @@ returns-in-Ok-clause-lists c =
     let all =
     YieldsList-end
     (YieldsList-at start
-    (YieldsList-from_enumerate
-    (YieldsList-at c.enumerate-index-items.ensures.source
-    (YieldsList-from_slice_split _ (λ b. eqb b 10) c.args.input.now c.split.ensures.rest c.split.ensures.done
-    c.split.ensures.closure (λ x r q k. search (rules, tests))))
+    (lines_counted c.args.input.now (c.enumerate-index-items.ensures.source ∙ c.lines_of.ensures.value)
     c.enumerate-index-items.ensures.count))
     c.loop-index.yielded _ c.loop-index.yielded_by _ _ c.in-None.is c.next.ensures.steps in
     let before = c.loop-index.invariant in (

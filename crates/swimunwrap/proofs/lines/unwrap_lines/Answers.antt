@@ -1,9 +1,8 @@
-use Rattle.std.proofs.Common.{◌≡◌, ◌<◌, ◌++◌, ◌∷◌, [], map, length, sym, subst, eqb, rules, tests}
-use Rattle.std.proofs.lemmas.Iterator.Consumers.{YieldsList-at, YieldsList-from_enumerate, YieldsList-end}
-use Rattle.std.proofs.lemmas.Iterator.Splits.{YieldsList-from_slice_split}
+use Rattle.std.proofs.Common.{◌≡◌, ◌∙◌, ◌<◌, ◌++◌, ◌∷◌, [], map, length, sym, subst, rules}
+use Rattle.std.proofs.lemmas.Iterator.Consumers.{YieldsList-at, YieldsList-end}
 use Rattle.std.proofs.lemmas.List.{map_push}
 use Rattle.swim_program.specs.Lines.{input_lines}
-use Rattle.swim_program.proofs.CountedLines.{counted_lines, first_counted, yielded_at}
+use Rattle.swim_program.proofs.CountedLines.{counted_lines, first_counted, lines_counted, yielded_at}
 use Rattle.swimunwrap.specs.Lines.{AllBecome}
 use Rattle.swimunwrap.specs.Unwrapped.{Shown}
 use Rattle.swimunwrap.proofs.LineByLine.{AllBecome-next, too_long}
@@ -15,10 +14,7 @@ returns-then-len-gt-BOUND-clause-large c = λ seen within.
     let here =
     yielded_at
     (YieldsList-at start
-    (YieldsList-from_enumerate
-    (YieldsList-at c.enumerate-index-items.ensures.source
-    (YieldsList-from_slice_split _ (λ b. eqb b 10) c.args.input.now c.split.ensures.rest c.split.ensures.done
-    c.split.ensures.closure (λ x r q k. search (rules, tests))))
+    (lines_counted c.args.input.now (c.enumerate-index-items.ensures.source ∙ c.lines_of.ensures.value)
     c.enumerate-index-items.ensures.count))
     c.loop-index.yielded _ c.loop-index.yielded_by _ _ (c.in-Some.index, c.in-Some.line) c.in-Some.is c.next.ensures.steps in
     let lines = input_lines c.args.input.now in
@@ -40,10 +36,7 @@ loop-index-preserved c =
     let here =
     yielded_at
     (YieldsList-at start
-    (YieldsList-from_enumerate
-    (YieldsList-at c.enumerate-index-items.ensures.source
-    (YieldsList-from_slice_split _ (λ b. eqb b 10) c.args.input.now c.split.ensures.rest c.split.ensures.done
-    c.split.ensures.closure (λ x r q k. search (rules, tests))))
+    (lines_counted c.args.input.now (c.enumerate-index-items.ensures.source ∙ c.lines_of.ensures.value)
     c.enumerate-index-items.ensures.count))
     c.loop-index.yielded _ c.loop-index.yielded_by _ _ (c.in-Some.index, c.in-Some.line) c.in-Some.is c.next.ensures.steps in
     let lines = input_lines c.args.input.now in
@@ -70,10 +63,7 @@ returns-clause-each c =
     let all =
     YieldsList-end
     (YieldsList-at start
-    (YieldsList-from_enumerate
-    (YieldsList-at c.enumerate-index-items.ensures.source
-    (YieldsList-from_slice_split _ (λ b. eqb b 10) c.args.input.now c.split.ensures.rest c.split.ensures.done
-    c.split.ensures.closure (λ x r q k. search (rules, tests))))
+    (lines_counted c.args.input.now (c.enumerate-index-items.ensures.source ∙ c.lines_of.ensures.value)
     c.enumerate-index-items.ensures.count))
     c.loop-index.yielded _ c.loop-index.yielded_by _ _ c.in-None.is c.next.ensures.steps in
     subst (λ lines. AllBecome c.args.keys.now c.args.skip lines c.loop-index.unwrapped.text c.loop-index.unwrapped.causes)

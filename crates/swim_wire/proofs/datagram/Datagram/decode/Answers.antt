@@ -16,7 +16,7 @@ returns-clause-refuses c = datagram_refuses packets_in _ _ c.decode_any_datagram
 pub returns-clause-explains : goal.returns-clause-explains
 returns-clause-explains c =
     let are : AreBytes c.args.bytes.now = All-from_get_or (λ b. b < 256) c.args.bytes.now 0 (λ i lt. let fits = c.type_inv.bytes i in omega arith) in
-    datagram_explains packets_in _ _ are c.decode_any_datagram.ensures.lists
+    datagram_explains packets_in _ _ are c.decode_any_datagram.ensures.lists c.decode_any_datagram.ensures.memory
 
 pub returns-clause-exact : goal.returns-clause-exact
 returns-clause-exact c = datagram_exact packets_in c.args.bytes.now _ c.decode_any_datagram.ensures.lists

@@ -1,0 +1,73 @@
+//! A key, made ready to decrypt.
+
+ghost use Rattle.std.specs.Prelude.{◌≡◌, ℕ, List, MatchBool, IfOk, IfErr, OnOk};
+ghost use Rattle.memberlist_cipher.specs.Encryption.{IsKey};
+ghost use Rattle.memberlist_cipher.specs.Prepared.{scheduled_key, IsPrepared};
+ghost use Rattle.memberlist_cipher.specs.Refusal.{KeyCause};
+
+use crate::CipherFault;
+use crate::block::cipher;
+use crate::hashing::Factor;
+use crate::schedule::{RoundKeys, round_keys};
+use std::alloc::{AllocError, Global};
+use std::marker::Model;
+
+/// A key, made ready to decrypt as many messages as are tried. Contracts see its bytes.
+///
+/// Of the key it keeps the round keys, and products of the block by which the hash multiplies. They
+/// are overwritten before their memory is given back, and stay where they are if the `Key` moves.
+#[derive(Drop)]
+pub struct Key {
+    pub(crate) round_keys: RoundKeys,
+    pub(crate) factor: Factor,
+}
+
+impl Model for Key {
+    ghost Value = { List ℕ };
+
+    ghost view = { λ key. scheduled_key key.round_keys.words.items };
+
+    ghost invariant = { λ key. IsPrepared (scheduled_key key.round_keys.words.items)
+        key.round_keys.words.items key.factor };
+}
+
+impl Key {
+    /// Makes a key ready, of 16, 24 or 32 bytes.
+    ///
+    /// # Errors
+    ///
+    /// `BadKey` if the bytes are more or fewer, and else `Memory` if a growth of memory is refused.
+    ///
+    /// Source: FIPS 197, SP 800-38D.
+    pub fn new(alloc: Global, bytes: &[u8]) -> Result<Key, CipherFault>
+        ensures bytes { IfOk result (λ key. key ≡ bytes.now) }
+        ensures good { OnOk result (IsKey bytes.now) }
+        ensures refuses { IfErr result (λ fault. KeyCause fault bytes.now) }
+    {
+        if !is_key(bytes) {
+            return Err(CipherFault::BadKey);
+        }
+        let key = prepared(alloc, bytes)?;
+        Ok(key)
+    }
+}
+
+/// A key, made ready.
+pub(crate) fn prepared(alloc: Global, bytes: &[u8]) -> Result<Key, AllocError>
+    requires { IsKey bytes.now }
+    ensures { IfOk result (λ key. key ≡ bytes.now) }
+{
+    let round_keys = round_keys(alloc, bytes)?;
+    let count = bytes.len() / 4 + 5;
+    let h = u128::from_be_bytes(cipher(&round_keys.words, count, [0u8; 16]));
+    let factor = Factor::new(alloc, h)?;
+    Ok(Key { round_keys, factor })
+}
+
+/// Whether bytes may be a key, that is, are 16, 24 or 32 (FIPS 197; memberlist's security.go).
+pub fn is_key(key: &[u8]) -> bool
+    ensures { MatchBool result (IsKey key.now) (¬ IsKey key.now) }
+{
+    let len = key.len();
+    len == 16 || len == 24 || len == 32
+}

@@ -1,0 +1,15 @@
+-- The front of a name as a number.
+use Rattle.std.specs.Prelude.{◌≡◌, ℕ, ◌<◌, List, drop, slice_index}
+use Rattle.byteorder.specs.Endian.{big_number}
+use Rattle.swim_table.specs.declared.prefix.Prefix.{Prefix}
+
+-- the number that the first eight bytes spell, the greatest first, with a zero for each that is not
+-- there
+unfoldable pub eight_bytes : List ℕ → ℕ
+eight_bytes name = big_number 8 name
+
+-- the first eight bytes of the name, and the next eight
+pub record IsPrefixOf (prefix : Prefix) (name : List ℕ) : Type 0 where
+  pub bytes : (i : ℕ) → slice_index name i < 256
+  pub high : prefix.high ≡ eight_bytes name
+  pub low : prefix.low ≡ eight_bytes (drop 8 name)

@@ -1,0 +1,99 @@
+//! Messages that are at hand whole, with their keys in order: they are read where they stand.
+
+ghost use Rattle.std.specs.Prelude.{Some};
+
+use super::{ALIVE, CONFIRM, LEAVE, SUSPECT};
+use crate::in_order::packet_in_order;
+use crate::{read_header, read_state};
+use std::alloc::{AllocError, Global};
+use std::process::Abort;
+use swim_pack::{Inlet, PullFault, SliceInlet};
+
+/// A header of two members and 300 bytes of user state.
+const HEADER: &[u8] = b"\x06\x83\xa4Join\xc3\xa5Nodes\x02\xacUserStateLen\xcd\x01\x2c";
+
+/// Records of `a`, alive at 127.0.0.1 and port 7946, of suspect `b`, and of `d`, which left.
+const RECORDS: [&[u8]; 3] = [
+    b"\x87\xa4Addr\xa4\x7f\0\0\x01\xabIncarnation\0\xa4Meta\xa1m\xa4Name\xa1a\xa4Port\xcd\x1f\x0a\xa5State\0\xa3Vsn\xa6\x01\x05\x02\0\0\0",
+    b"\x87\xa4Addr\xa0\xabIncarnation\x01\xa4Meta\xa0\xa4Name\xa1b\xa4Port\0\xa5State\x01\xa3Vsn\xa0",
+    b"\x87\xa4Addr\xa0\xabIncarnation\x03\xa4Meta\xa0\xa4Name\xa1d\xa4Port\0\xa5State\x03\xa3Vsn\xa0",
+];
+
+/// Bytes in memory, and how often they were pulled.
+#[derive(Drop)]
+struct Counted<'a> {
+    inlet: SliceInlet<'a>,
+    pulls: u64,
+}
+
+impl<'a> Counted<'a> {
+    fn new(bytes: &'a [u8]) -> Counted<'a> {
+        Counted {
+            inlet: SliceInlet::new(bytes),
+            pulls: 0,
+        }
+    }
+}
+
+impl Inlet for Counted<'_> {
+    ghost seen = { λ counted. record { coming = Some counted.inlet; faults = 0 } };
+
+    fn pull(&mut self, buf: &mut [u8]) -> Result<(), PullFault> {
+        self.pulls = self.pulls.saturating_add(1);
+        self.inlet.pull(buf)
+    }
+
+    fn at_hand(&self) -> &[u8] {
+        self.inlet.at_hand()
+    }
+
+    fn pass(&mut self, count: usize) -> bool {
+        self.inlet.pass(count)
+    }
+}
+
+/// That the bytes were all taken, and none of them was pulled.
+fn assert_passed(rt: &impl Abort, counted: &Counted<'_>) {
+    assert!(rt; counted.inlet.rest().is_empty());
+    assert_eq!(rt; counted.pulls, 0);
+}
+
+#[test]
+fn a_header_in_order_is_read_where_it_stands(rt: HostRuntime) {
+    let mut counted = Counted::new(HEADER);
+    assert!(rt; read_header(&mut counted).is_ok());
+    assert_passed(&rt, &counted);
+}
+
+/// Reads the record, and says whether there was memory for it.
+fn is_read(rt: &impl Abort, alloc: Global, bytes: &[u8]) -> bool {
+    let mut counted = Counted::new(bytes);
+    let is_read = read_state(alloc, &mut counted).is_ok();
+    if is_read {
+        assert_passed(rt, &counted);
+    }
+    is_read
+}
+
+#[test]
+fn a_record_in_order_is_read_where_it_stands(rt: HostRuntime) -> Result<(), AllocError> {
+    for bytes in RECORDS {
+        if !is_read(&rt, rt.alloc(), bytes) {
+            return Err(AllocError);
+        }
+    }
+    Ok(())
+}
+
+/// Whether the reading in order finds a packet.
+fn is_in_order(alloc: Global, packet: &[u8]) -> Result<bool, AllocError> {
+    Ok(packet_in_order(alloc, packet)?.is_some())
+}
+
+#[test]
+fn a_packet_in_order_is_found_so(rt: HostRuntime) -> Result<(), AllocError> {
+    for packet in [ALIVE, SUSPECT, CONFIRM, LEAVE] {
+        assert!(rt; is_in_order(rt.alloc(), packet)?);
+    }
+    Ok(())
+}
