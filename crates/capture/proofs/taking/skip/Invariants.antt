@@ -1,0 +1,12 @@
+use Rattle.std.proofs.Common.{◌≡◌, ◌≤◌, ◌+◌, ℕ, List, length}
+use Rattle.std.specs.Io.KnownBytes.{Consumes}
+use Rattle.capture.proofs.taking.skip.Given as goal
+
+abbrev pub invariant-loop-left : goal.invariant-loop-left
+invariant-loop-left g l = record {
+  dropped : (bytes : List ℕ) × Consumes (g.I.Inlet.seen l.fn.inlet).coming (g.I.Inlet.seen l.inlet).coming bytes × (length bytes + l.left ≡ l.len);
+  faults : (g.I.Inlet.seen l.fn.inlet).faults ≤ (g.I.Inlet.seen l.inlet).faults;
+}
+
+abbrev pub decreases-loop-left : goal.decreases-loop-left
+decreases-loop-left g l = l.left

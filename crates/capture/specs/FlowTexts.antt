@@ -1,0 +1,47 @@
+-- Flows as their clauses see them, and what taking a segment answers.
+use Rattle.std.specs.Prelude.{ℕ, ◌-◌, ◌^◌, ◌<◌, ◌⊎◌, ◌||◌, Bool, true, false, nat_le, if◌then◌else◌, length, Option, Some, None}
+use Rattle.std.specs.Option.{option_or}
+use Rattle.capture.specs.declared.flow.Flow.{Flow}
+use Rattle.capture.specs.declared.open.Open.{Open}
+use Rattle.capture.specs.declared.taken.Taken.{Taken}
+use Rattle.capture.specs.declared.taken.Taken.TheVariants.{Known, Joined, Waits, Beyond, Crowded}
+use Rattle.capture.specs.Flows.{Placed, FlowText, end_of}
+
+-- what clauses see of a flow
+abbrev pub flow_text : Flow → FlowText
+flow_text f = record { start = f.start; text = f.text.items; waiting = f.waiting.items }
+
+-- whether the segment counts
+abbrev pub counts : Taken → Bool
+counts Known = true
+counts Joined = true
+counts Waits = true
+counts Beyond = false
+counts Crowded = false
+
+-- the segment has bytes behind those that are there, and ends more than 2^24 bytes behind them, or
+-- the flow would have more than 2^25
+abbrev pub IsBeyond : FlowText → Placed → Type 0
+IsBeyond f s = (0 < length s.bytes) × (length f.text < end_of s)
+    × ((2 ^ 24 < end_of s - length f.text) ⊎ (2 ^ 25 < end_of s))
+
+-- a flow that is not complete: how many bytes it has, if that is known, and whether it was broken off
+pub record OpenText : Type 0 where
+  pub flow : FlowText
+  pub end : Option ℕ
+  pub reset : Bool
+
+abbrev pub open_text : Open → OpenText
+open_text o = record { flow = flow_text o.flow; end = o.end; reset = o.reset }
+
+-- how many bytes it has after a segment: the first FIN counts, and stands behind the payload
+abbrev pub end_after : Option ℕ → Bool → Placed → Option ℕ
+end_after end fin s = if fin then option_or end (Some (end_of s)) else end
+
+-- a flow is over when it was broken off, or all bytes before its FIN are there
+abbrev pub is_there : Option ℕ → ℕ → Bool
+is_there None count = false
+is_there (Some end) count = nat_le end count
+
+abbrev pub is_over : OpenText → Bool
+is_over o = o.reset || is_there o.end (length o.flow.text)

@@ -1,0 +1,77 @@
+-- What the segments of a flow say, in the order in which they were captured.
+use Rattle.std.specs.Prelude.{◌≡◌, ℕ, ◌+◌, ◌-◌, ◌%◌, ◌^◌, ◌<◌, ◌≤◌, Bool, false, nat_lt, min, if◌then◌else◌, List, length, drop, slice_index, find, Option, Some, None}
+
+-- the bytes of a segment, and the place of the first of them in the flow
+pub record Placed : Type 0 where
+  pub at : ℕ
+  pub bytes : List ℕ
+
+abbrev pub placed : ℕ → List ℕ → Placed
+placed at bytes = record { at = at; bytes = bytes }
+
+-- RFC 9293, 3.4: a byte stands at its sequence number, modulo 2^32. Less than half of them lie ahead
+-- of the flow's first byte; what a segment has before it is no part of the flow.
+abbrev pub placed_at : ℕ → ℕ → List ℕ → Placed
+placed_at start seq payload =
+    if nat_lt ((seq + 2 ^ 32 - start) % 2 ^ 32) (2 ^ 31)
+    then placed ((seq + 2 ^ 32 - start) % 2 ^ 32) payload
+    else placed 0 (drop (2 ^ 32 - (seq + 2 ^ 32 - start) % 2 ^ 32) payload)
+
+-- the place behind a segment
+abbrev pub end_of : Placed → ℕ
+end_of s = s.at + length s.bytes
+
+-- whether a segment covers a place
+abbrev pub covers : ℕ → Placed → Bool
+covers place s = if nat_lt place s.at then false else nat_lt place (end_of s)
+
+-- the byte of a segment at a place
+abbrev pub byte_in : ℕ → Option Placed → Option ℕ
+byte_in place None = None
+byte_in place (Some s) = Some (slice_index s.bytes (place - s.at))
+
+-- the byte at a place: that of the first captured segment that covers it
+abbrev pub byte_at : ℕ → List Placed → Option ℕ
+byte_at place segments = byte_in place (find (covers place) segments)
+
+-- these are the first bytes
+abbrev pub SaysFirst : List Placed → List ℕ → Type 0
+SaysFirst segments text =
+    (k : ℕ) → k < length text → byte_at k segments ≡ Some (slice_index text k)
+
+-- these are the bytes from a place on
+abbrev pub SaysFrom : List Placed → ℕ → List ℕ → Type 0
+SaysFrom segments place text =
+    (k : ℕ) → k < length text → byte_at (place + k) segments ≡ Some (slice_index text k)
+
+-- the bytes of a flow of these segments: all that are covered without a gap
+pub record Assembled (segments : List Placed) (text : List ℕ) : Type 0 where
+  pub covered : SaysFirst segments text
+  pub longest : byte_at (length text) segments ≡ None
+
+-- a flow that is put together: the sequence number of its first byte, its bytes up to the first gap,
+-- and the segments that wait behind it
+pub record FlowText : Type 0 where
+  pub start : ℕ
+  pub text : List ℕ
+  pub waiting : List Placed
+
+-- the flow says at each place what the segments say
+pub record Says (segments : List Placed) (flow : FlowText) : Type 0 where
+  pub front : SaysFirst segments flow.text
+  pub behind : (place : ℕ) → length flow.text ≤ place
+      → byte_at place segments ≡ byte_at place flow.waiting
+
+-- the lesser of a place and where a segment begins, if it begins above another place
+abbrev pub closer : ℕ → ℕ → Placed → ℕ
+closer place stop s = if nat_lt place s.at then min s.at stop else stop
+
+-- the end of a segment that covers a place, else that place
+abbrev pub reached : ℕ → Placed → ℕ
+reached place s = if covers place s then end_of s else place
+
+-- the next bytes from a place on, and some
+pub record IsNext (segments : List Placed) (place : ℕ) (part : List ℕ) : Type 0 where
+  pub some : 0 < length part
+  pub near : place + length part ≤ 2 ^ 25
+  pub says : SaysFrom segments place part

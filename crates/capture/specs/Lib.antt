@@ -1,0 +1,10 @@
+pub mod Blocks
+pub mod Captures
+pub mod Clock
+pub mod FlowTexts
+pub mod Flows
+pub mod Packets
+pub mod Pcap
+pub mod Pcapng
+pub mod Taking
+pub mod Written

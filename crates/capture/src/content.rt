@@ -1,0 +1,23 @@
+//! What a frame carries.
+
+use crate::transport::{Datagram, Segment};
+
+/// What a packet carries.
+#[derive(Clone, Copy)]
+pub enum Transport<'a> {
+    /// A datagram.
+    Udp(Datagram<'a>),
+    /// A segment.
+    Tcp(Segment<'a>),
+}
+
+/// What a frame carries, and between which addresses, as parts of the frame's bytes.
+#[derive(Clone, Copy)]
+pub struct Carried<'a> {
+    /// The address that it comes from, of 4 or 16 bytes.
+    pub source: &'a [u8],
+    /// The address that it goes to.
+    pub destination: &'a [u8],
+    /// What it carries.
+    pub transport: Transport<'a>,
+}

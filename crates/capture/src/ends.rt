@@ -1,0 +1,37 @@
+//! Both ends of a flow.
+
+ghost use Rattle.std.specs.Prelude.{◌≡◌, ◌⊎◌, ◌↔◌, length, IsSome};
+
+use crate::Segment;
+use byteorder::{BigEndian, ByteOrder};
+use std::net::{IpAddr, Ipv4Addr, Ipv6Addr, SocketAddr};
+
+/// Both ends of one direction of a TCP connection.
+#[derive(Clone, Copy, PartialEq, Eq, PartialOrd, Ord)]
+pub struct Ends {
+    /// Where it comes from.
+    pub source: SocketAddr,
+    /// Where it goes to.
+    pub destination: SocketAddr,
+}
+
+/// The address with these bytes, 4 or 16 of them.
+fn address(bytes: &[u8]) -> Option<IpAddr>
+    ensures { IsSome result ↔ ((length bytes.now ≡ 4) ⊎ (length bytes.now ≡ 16)) }
+{
+    match bytes.len() {
+        4 => Some(IpAddr::from(Ipv4Addr::from_bits(BigEndian::read_u32(bytes)))),
+        16 => Some(IpAddr::from(Ipv6Addr::from_bits(BigEndian::read_u128(bytes)))),
+        _ => None,
+    }
+}
+
+impl Ends {
+    /// The ends of a segment between these addresses. `None` where one has neither 4 nor 16 bytes.
+    pub fn of(source: &[u8], destination: &[u8], segment: &Segment) -> Option<Ends> {
+        Some(Ends {
+            source: SocketAddr::new(address(source)?, segment.source),
+            destination: SocketAddr::new(address(destination)?, segment.destination),
+        })
+    }
+}

@@ -1,0 +1,158 @@
+//! One direction of a TCP connection, put together.
+
+ghost use Rattle.std.specs.Prelude.{◌≡◌, ◌+◌, ◌-◌, ◌<◌, ◌≤◌, ◌^◌, ◌⊎◌, ◌++◌, ◌∷◌, [], List, length, true, false, None, Ok, OnOk, OnErr, IfOk, MatchBool};
+ghost use Rattle.capture.specs.Flows.{Placed, placed, placed_at, byte_at, Assembled, Says};
+
+use crate::Taken;
+use crate::piece::{Piece, gathered, place, reach};
+use std::alloc::{AllocError, Global};
+
+/// How far behind the first gap a segment may end, in bytes.
+const WINDOW: usize = 16_777_216;
+
+/// The most bytes of a flow.
+const MOST_BYTES: usize = 33_554_432;
+
+/// The most segments that wait.
+const MOST_WAITING: usize = 4096;
+
+/// Whether a segment that ends behind these bytes ends too far behind them.
+fn is_beyond(len: usize, end: usize) -> bool
+    requires { len < end }
+    ensures { MatchBool result ((2 ^ 24 < end - len) ⊎ (2 ^ 25 < end))
+        ((end - len ≤ 2 ^ 24) × (end ≤ 2 ^ 25)) }
+{
+    WINDOW < end - len || MOST_BYTES < end
+}
+
+/// One direction of a TCP connection: the bytes from a sequence number on.
+///
+/// A byte stands at its sequence number, modulo 2^32 (RFC 9293, 3.4). Of two segments that cover
+/// one byte the first that was given counts. Bytes behind a gap are no part of the flow until it closes.
+/// Memory is held for the bytes and for the segments that wait behind the gap, at most 4,096.
+#[derive(Drop)]
+pub struct Flow {
+    start: u32,
+    text: Vec<u8>,
+    waiting: Vec<Piece>,
+    ghost tight: { byte_at (length text.items) waiting.items ≡ None },
+    ghost short: { length text.items ≤ 2 ^ 25 },
+    ghost few: { length waiting.items ≤ 4096 },
+}
+
+impl Flow {
+    ghost use Rattle.capture.specs.FlowTexts.{flow_text, counts, IsBeyond};
+
+    /// A flow whose first byte has this sequence number.
+    pub fn new(alloc: Global, start: u32) -> Flow
+        ensures starts { (flow_text result).start ≡ start }
+        ensures empty { Says [] (flow_text result) }
+    {
+        Flow {
+            start,
+            text: Vec::new(alloc),
+            waiting: Vec::new(alloc),
+        }
+    }
+
+    /// The sequence number of the first byte.
+    pub fn start(&self) -> u32
+        ensures { result ≡ (flow_text self.now).start }
+    {
+        self.start
+    }
+
+    /// The bytes up to the first gap.
+    pub fn bytes(&self) -> &[u8]
+        ensures is { result.now ≡ (flow_text self.now).text }
+        ensures assembled { (segments : List Placed) → Says segments (flow_text self.now)
+            → Assembled segments result.now }
+        ensures most { length result.now ≤ 2 ^ 25 }
+    {
+        &self.text
+    }
+
+    /// Takes a segment, or leaves it out and says why.
+    ///
+    /// `seq` is the sequence number of the first byte of the payload. A segment whose bytes are there
+    /// takes no memory; one whose bytes wait, and came from the last to the first, may wait again.
+    ///
+    /// # Errors
+    ///
+    /// `AllocError` where memory is refused: the flow is as it was.
+    pub fn take(&mut self, alloc: Global, seq: u32, payload: &[u8]) -> Result<Taken, AllocError>
+        ensures counts { IfOk result (λ taken. counts taken ≡ true
+            → (segments : List Placed) → Says segments (flow_text self.old)
+            → Says (segments ++ placed_at (flow_text self.old).start seq payload.now ∷ [])
+            (flow_text self.new)) }
+        ensures starts { (flow_text self.new).start ≡ (flow_text self.old).start }
+        ensures left_out { IfOk result (λ taken. counts taken ≡ false
+            → flow_text self.new ≡ flow_text self.old) }
+
+        ensures beyond { (result ≡ Ok Taken.Beyond)
+            → IsBeyond (flow_text self.old)
+            (placed_at (flow_text self.old).start seq payload.now) }
+        ensures near { IsBeyond (flow_text self.old)
+            (placed_at (flow_text self.old).start seq payload.now)
+            → result ≡ Ok Taken.Beyond }
+        ensures crowded { (result ≡ Ok Taken.Crowded)
+            → 4096 ≤ length (flow_text self.old).waiting }
+        ensures few { length (flow_text self.new).waiting ≤ 4096 }
+        ensures refused { OnErr result (flow_text self.new ≡ flow_text self.old) }
+    {
+        let (at, bytes) = place(self.start, seq, payload);
+        let end = at + bytes.len();
+        if bytes.is_empty() {
+            return Ok(Taken::Known);
+        }
+        if end <= self.text.len() {
+            return Ok(Taken::Known);
+        }
+        if is_beyond(self.text.len(), end) {
+            return Ok(Taken::Beyond);
+        }
+        if at <= self.text.len() {
+            self.join(alloc, at, bytes)?;
+            return Ok(Taken::Joined);
+        }
+        if end <= reach(&self.waiting, at) {
+            return Ok(Taken::Known);
+        }
+        if MOST_WAITING <= self.waiting.len() {
+            return Ok(Taken::Crowded);
+        }
+        self.hold(alloc, at, bytes)?;
+        Ok(Taken::Waits)
+    }
+
+    /// Takes bytes that begin where the flow has its gap, or before.
+    fn join(&mut self, alloc: Global, at: usize, bytes: &[u8]) -> Result<(), AllocError>
+        requires touches { at ≤ length self.old.text.items }
+        requires behind { length self.old.text.items < at + length bytes.now }
+        requires small { at + length bytes.now ≤ 2 ^ 25 }
+        ensures ok { OnOk result ((segments : List Placed) → Says segments (flow_text self.old)
+            → Says (segments ++ placed at bytes.now ∷ []) (flow_text self.new)) }
+        ensures starts { self.new.start ≡ self.old.start }
+        ensures refused { OnErr result (flow_text self.new ≡ flow_text self.old) }
+    {
+        let more = gathered(alloc, &self.waiting, at, bytes, self.text.len())?;
+        self.text.extend_from_slice(&more)?;
+        let gap = self.text.len();
+        self.waiting.retain(|piece| gap < piece.at());
+        Ok(())
+    }
+
+    /// Holds bytes that begin behind the gap.
+    fn hold(&mut self, alloc: Global, at: usize, bytes: &[u8]) -> Result<(), AllocError>
+        requires apart { length self.old.text.items < at }
+        requires room { length self.old.waiting.items < 4096 }
+        requires small { at + length bytes.now ≤ 2 ^ 25 }
+        ensures ok { OnOk result ((segments : List Placed) → Says segments (flow_text self.old)
+            → Says (segments ++ placed at bytes.now ∷ []) (flow_text self.new)) }
+        ensures starts { self.new.start ≡ self.old.start }
+        ensures refused { OnErr result (flow_text self.new ≡ flow_text self.old) }
+    {
+        self.waiting.push(Piece::new(alloc, at, bytes)?)?;
+        Ok(())
+    }
+}

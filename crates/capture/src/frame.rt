@@ -1,0 +1,160 @@
+//! Frames, and what they carry.
+
+ghost use Rattle.std.specs.Prelude.{◌≡◌, IfOk, IfErr, Ok, Err};
+ghost use Rattle.capture.specs.Packets.{version_of, is_tag, family_of, behind_type, packet_in, transport_of, transport_text, carried_of, carried_text};
+
+use crate::network::{Version, read_ip};
+use crate::transport::{read_tcp, read_udp};
+use crate::{Carried, Link, NotCarried, Transport};
+use byteorder::{BigEndian, ByteOrder, LittleEndian};
+
+/// The version of IP that a type stands for.
+fn version(kind: u16) -> Option<Version>
+    ensures { result ≡ version_of kind }
+{
+    match kind {
+        0x800 => Some(Version::Ip4),
+        0x86dd => Some(Version::Ip6),
+        _ => None,
+    }
+}
+
+/// Whether a type is that of a tag.
+fn is_type_of_tag(kind: u16) -> bool
+    ensures { result ≡ is_tag kind }
+{
+    kind == 0x8100 || kind == 0x88a8 || kind == 0x9100
+}
+
+/// The version of IP that an address family stands for.
+fn family(number: u32) -> Option<Version>
+    ensures { result ≡ family_of number }
+{
+    match number {
+        2 => Some(Version::Ip4),
+        10 | 24 | 28 | 30 => Some(Version::Ip6),
+        _ => None,
+    }
+}
+
+/// The packet behind a type, or behind any number of tags.
+fn read_type(bytes: &[u8]) -> Result<(Version, &[u8]), NotCarried>
+    ensures ok { IfOk result (λ packet. behind_type bytes.now
+        ≡ Ok (packet.0, packet.1.now)) }
+    ensures err { IfErr result (λ fault. behind_type bytes.now ≡ Err fault) }
+{
+    let mut rest = bytes;
+    loop {
+        if rest.len() < 2 {
+            return Err(NotCarried::Cut);
+        }
+        let kind = BigEndian::read_u16(rest);
+        if let Some(version) = version(kind) {
+            return Ok((version, &rest[2..]));
+        }
+        if !is_type_of_tag(kind) {
+            return Err(NotCarried::NotIp);
+        }
+        if rest.len() < 4 {
+            return Err(NotCarried::Cut);
+        }
+        rest = &rest[4..];
+    }
+}
+
+/// The packet behind an address family, in either order of bytes.
+#[tactic(auto, unfolding(crate::specs::Packets::packet_in))]
+fn read_family(bytes: &[u8]) -> Result<(Version, &[u8]), NotCarried>
+    ensures ok { IfOk result (λ packet. packet_in Link.Loopback bytes.now
+        ≡ Ok (packet.0, packet.1.now)) }
+    ensures err { IfErr result (λ fault. packet_in Link.Loopback bytes.now ≡ Err fault) }
+{
+    if bytes.len() < 4 {
+        return Err(NotCarried::Cut);
+    }
+    if let Some(version) = family(BigEndian::read_u32(bytes)) {
+        return Ok((version, &bytes[4..]));
+    }
+    match family(LittleEndian::read_u32(bytes)) {
+        Some(version) => Ok((version, &bytes[4..])),
+        None => Err(NotCarried::NotIp),
+    }
+}
+
+/// The packet in a frame of this link.
+#[tactic(auto, unfolding(crate::specs::Packets::packet_in))]
+fn read_frame(link: Link, bytes: &[u8]) -> Result<(Version, &[u8]), NotCarried>
+    ensures ok { IfOk result (λ packet. packet_in link bytes.now
+        ≡ Ok (packet.0, packet.1.now)) }
+    ensures err { IfErr result (λ fault. packet_in link bytes.now ≡ Err fault) }
+{
+    match link {
+        Link::Raw => Ok((Version::Either, bytes)),
+        Link::Loopback => read_family(bytes),
+        Link::Ethernet => {
+            if bytes.len() < 12 {
+                return Err(NotCarried::Cut);
+            }
+            read_type(&bytes[12..])
+        }
+        Link::Cooked => {
+            if bytes.len() < 14 {
+                return Err(NotCarried::Cut);
+            }
+            read_type(&bytes[14..])
+        }
+        Link::Cooked2 => {
+            if bytes.len() < 20 {
+                return Err(NotCarried::Cut);
+            }
+            match version(BigEndian::read_u16(bytes)) {
+                Some(version) => Ok((version, &bytes[20..])),
+                None => Err(NotCarried::NotIp),
+            }
+        }
+    }
+}
+
+/// What the body of a packet of this protocol is.
+#[tactic(auto, unfolding(crate::specs::Packets::transport_of))]
+fn read_transport(protocol: u8, body: &[u8]) -> Result<Transport, NotCarried>
+    ensures ok { IfOk result (λ t. transport_of protocol body.now ≡ Ok (transport_text t)) }
+    ensures err { IfErr result (λ fault. transport_of protocol body.now ≡ Err fault) }
+{
+    match protocol {
+        17 => Ok(Transport::Udp(read_udp(body)?)),
+        6 => Ok(Transport::Tcp(read_tcp(body)?)),
+        _ => Err(NotCarried::OtherProtocol),
+    }
+}
+
+/// What a frame of this link carries, and between which addresses. No memory is taken, and no
+/// checksum is looked at.
+///
+/// Ethernet has any number of tags (IEEE 802.1Q), IPv4 any options and its total length, or 0 for all
+/// of the frame (RFC 791, 3.1), IPv6 any number of extension headers (RFC 8200, 4), and UDP its own
+/// length within IP's (RFC 768).
+///
+/// # Errors
+///
+/// - `Cut` where the bytes end before the link's header, IP's header or the length that IP says.
+/// - `NotIp` where the link says something else than IP, or nothing and the version is not 4 or 6.
+/// - `Fragment` where the packet is not whole: more fragments follow or its offset is not 0
+///   (RFC 791, 3.1; RFC 8200, 4.5). A fragment header of a whole packet is passed over (RFC 6946).
+/// - `OtherProtocol` where IP carries neither UDP nor TCP.
+/// - `Malformed` where the version is not the one that the link says, or a header is longer than
+///   what it stands in or shorter than it can be.
+#[tactic(auto, unfolding(crate::specs::Packets::carried_of))]
+pub fn carried(link: Link, bytes: &[u8]) -> Result<Carried, NotCarried>
+    ensures ok { IfOk result (λ c. carried_of link bytes.now ≡ Ok (carried_text c)) }
+    ensures err { IfErr result (λ fault. carried_of link bytes.now ≡ Err fault) }
+{
+    let (version, packet) = read_frame(link, bytes)?;
+    let packet = read_ip(version, packet)?;
+    let transport = read_transport(packet.protocol, packet.body)?;
+    Ok(Carried {
+        source: packet.source,
+        destination: packet.destination,
+        transport,
+    })
+}

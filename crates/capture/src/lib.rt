@@ -1,0 +1,70 @@
+//! Captures of a network, record by record, and what their frames carry.
+//!
+//! | module | subject |
+//! |---|---|
+//! | `capture_fault` | why a capture was not read on |
+//! | `stop` | why a reader gives no record: the capture's end, or a fault |
+//! | `order` | the two orders of a number's bytes |
+//! | `taking` | the next bytes of a record, in bounded memory |
+//! | `record` | a record of a capture |
+//! | `checks` | what is checked of a capture's numbers |
+//! | `pcap` | the header and the records of a pcap file |
+//! | `section`, `interface`, `clock` | what a section of a pcapng capture has said so far |
+//! | `blocks` | the blocks of a pcapng capture |
+//! | `reader` | the reader of both formats |
+//! | `fault` | why a frame carries nothing that is used |
+//! | `link` | the kinds of link that frames come from |
+//! | `transport` | datagrams of UDP and segments of TCP |
+//! | `network` | packets of IP |
+//! | `content` | what a frame carries |
+//! | `frame` | frames, and what they carry |
+//! | `laws` | what holds of the definitions |
+//! | `taken` | what became of a segment |
+//! | `piece` | segments at their places in a flow |
+//! | `flow` | one direction of a TCP connection, put together |
+//! | `ends` | both ends of a flow |
+//! | `open` | a flow that is not complete |
+//! | `flows` | the flows of a capture |
+#![tactic(auto)]
+
+mod blocks;
+mod capture_fault;
+mod checks;
+mod clock;
+mod content;
+mod ends;
+mod fault;
+mod flow;
+mod flows;
+mod frame;
+mod interface;
+pub mod laws;
+mod link;
+mod network;
+mod open;
+mod order;
+mod pcap;
+mod piece;
+mod reader;
+mod record;
+mod section;
+mod stop;
+mod taken;
+mod taking;
+mod transport;
+
+pub use capture_fault::CaptureFault;
+pub use content::{Carried, Transport};
+pub use ends::Ends;
+pub use fault::NotCarried;
+pub use flow::Flow;
+pub use flows::{Flows, Heard};
+pub use frame::carried;
+pub use link::Link;
+pub use reader::CaptureReader;
+pub use record::Record;
+pub use taken::Taken;
+pub use transport::{Datagram, Segment};
+
+#[cfg(test)]
+mod tests;

@@ -1,0 +1,144 @@
+//! Segments in every order.
+
+use crate::{Ends, Flow, Flows, Segment, Taken};
+use std::alloc::Global;
+use std::process::Abort;
+use std::test::Fail;
+
+/// That a flow from this sequence number on that is given these segments has these bytes.
+fn assert_bytes(
+    rt: &impl Abort,
+    alloc: Global,
+    start: u32,
+    segments: &[(u32, &[u8])],
+    bytes: &[u8],
+) -> Result<(), Fail> {
+    let mut flow = Flow::new(alloc, start);
+    for (seq, payload) in segments {
+        let _taken = flow.take(alloc, *seq, payload)?;
+    }
+    assert_eq!(rt; flow.bytes(), bytes);
+    Ok(())
+}
+
+#[test]
+fn segments_come_in_any_order(rt: HostRuntime) -> Result<(), Fail> {
+    let alloc = rt.alloc();
+    // out of order, and twice
+    assert_bytes(
+        &rt,
+        alloc,
+        9,
+        &[(13, b"ef"), (11, b"cd"), (11, b"cd"), (9, b"ab")],
+        b"abcdef",
+    )?;
+    // of two that cover a byte the first counts
+    assert_bytes(
+        &rt,
+        alloc,
+        9,
+        &[(11, b"CDE"), (9, b"abcdefg"), (9, b"xyz")],
+        b"abCDEfg",
+    )?;
+    assert_bytes(
+        &rt,
+        alloc,
+        9,
+        &[(12, b"DE"), (11, b"cdef"), (9, b"ab")],
+        b"abcDEf",
+    )?;
+    // behind a gap, and before the first byte
+    assert_bytes(&rt, alloc, 9, &[(7, b"yzab"), (12, b"d")], b"ab")?;
+    // sequence numbers go on at 0
+    assert_bytes(
+        &rt,
+        alloc,
+        0xffff_fffe,
+        &[(1, b"d"), (0xffff_fffe, b"abc")],
+        b"abcd",
+    )?;
+    Ok(())
+}
+
+#[test]
+fn what_became_of_a_segment_is_told(rt: HostRuntime) -> Result<(), Fail> {
+    let alloc = rt.alloc();
+    let mut flow = Flow::new(alloc, 0);
+    assert_eq!(rt; flow.take(alloc, 2, b"cd")?, Taken::Waits);
+    assert_eq!(rt; flow.take(alloc, 3, b"d")?, Taken::Known);
+    assert_eq!(rt; flow.take(alloc, 16_777_216, b"x")?, Taken::Beyond);
+    assert_eq!(rt; flow.take(alloc, 0, b"ab")?, Taken::Joined);
+    assert_eq!(rt; flow.take(alloc, 0, b"abcd")?, Taken::Known);
+    Ok(())
+}
+
+/// A segment with these flags.
+fn segment<'a>(seq: u32, flags: &str, payload: &'a [u8]) -> Segment<'a> {
+    Segment {
+        source: 1,
+        destination: 2,
+        seq,
+        syn: flags == "SYN",
+        fin: flags == "FIN",
+        psh: false,
+        rst: flags == "RST",
+        payload,
+    }
+}
+
+/// That of these segments the last one, and no other, completes a flow with these bytes.
+fn assert_completes(
+    rt: &impl Abort,
+    alloc: Global,
+    segments: &[Segment],
+    bytes: &[u8],
+) -> Result<(), Fail> {
+    let mut flows = Flows::new(alloc);
+    let mut complete = None;
+    for segment in segments {
+        assert!(rt; complete.is_none(), "before {}", segment.seq);
+        let ends = Ends::of(&[10, 0, 0, 1], &[10, 0, 0, 2], segment).ok_or("no addresses")?;
+        complete = flows.take(alloc, ends, segment)?.complete;
+    }
+    assert_eq!(rt; complete.ok_or("no flow")?.bytes(), bytes);
+    Ok(())
+}
+
+#[test]
+fn flows_begin_and_end(rt: HostRuntime) -> Result<(), Fail> {
+    let alloc = rt.alloc();
+    let syn = segment(99, "SYN", b"");
+    // the FIN comes before what stands before it
+    let early = segment(102, "FIN", b"cd");
+    assert_completes(&rt, alloc, &[syn, early, segment(100, "", b"ab")], b"abcd")?;
+    // the same SYN again changes nothing, another one begins another flow
+    let other = segment(7, "SYN", b"");
+    assert_completes(
+        &rt,
+        alloc,
+        &[syn, segment(100, "", b"ab"), syn, other],
+        b"ab",
+    )?;
+    // without a SYN, and broken off
+    assert_completes(
+        &rt,
+        alloc,
+        &[segment(5, "", b"xy"), segment(7, "RST", b"")],
+        b"xy",
+    )?;
+    Ok(())
+}
+
+#[test]
+fn what_is_left_is_given_at_the_end(rt: HostRuntime) -> Result<(), Fail> {
+    let alloc = rt.alloc();
+    let mut flows = Flows::new(alloc);
+    let data = segment(5, "", b"xy");
+    let ends = Ends::of(&[10, 0, 0, 1], &[10, 0, 0, 2], &data).ok_or("no addresses")?;
+    let _first = flows.take(alloc, ends, &data)?;
+    let _gap = flows.take(alloc, ends, &segment(8, "", b"z"))?;
+    let (_, left) = flows.finish().ok_or("no flow is left")?;
+    assert_eq!(rt; left.bytes(), b"xy".as_slice());
+    assert!(rt; flows.finish().is_none());
+    Ok(())
+}
