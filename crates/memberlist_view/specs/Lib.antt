@@ -1,0 +1,6 @@
+pub mod Heard
+pub mod Lasting
+pub mod Rules
+pub mod Shown
+pub mod Sources
+pub mod Told

@@ -1,0 +1,81 @@
+//! What was heard, and when.
+
+ghost use Rattle.std.specs.Prelude.{◌≡◌};
+ghost use Rattle.memberlist_view.specs.Heard.{about, said_in_record};
+
+use crate::member_name::MemberName;
+use swim_claim::{Claim, Details};
+
+/// What was said of a member.
+#[derive(Drop, Debug)]
+pub enum Said {
+    /// memberlist's alive: the member is alive at these details.
+    Alive {
+        name: MemberName,
+        inc: u32,
+        details: Details,
+    },
+    /// memberlist's suspect, from the member that says so. A record of a stream names none.
+    Suspect {
+        name: MemberName,
+        inc: u32,
+        from: Option<MemberName>,
+    },
+    /// memberlist's dead, from the member that says so: where that is the member itself, it left.
+    Dead {
+        name: MemberName,
+        inc: u32,
+        from: MemberName,
+    },
+    /// A record of a stream that says left.
+    Left {
+        name: MemberName,
+        inc: u32,
+    },
+}
+
+/// What was heard, and when.
+#[derive(Drop, Debug)]
+pub struct Heard {
+    /// When, in microseconds since the start of 1970.
+    pub time: u64,
+    /// What.
+    pub said: Said,
+}
+
+impl Said {
+    /// What a record of a push/pull stream says (memberlist's `mergeState`): one that is suspect or
+    /// dead there is suspected, and nobody is named.
+    pub fn of_record(claim: Claim) -> Said
+        ensures { result ≡ said_in_record claim }
+    {
+        match claim {
+            Claim::Alive { name, inc, details } => Said::Alive {
+                name: MemberName::new(name),
+                inc,
+                details,
+            },
+            Claim::Suspect { name, inc } | Claim::Confirm { name, inc } => Said::Suspect {
+                name: MemberName::new(name),
+                inc,
+                from: None,
+            },
+            Claim::Leave { name, inc } => Said::Left {
+                name: MemberName::new(name),
+                inc,
+            },
+        }
+    }
+
+    /// The member of whom it was said.
+    pub fn name(&self) -> &MemberName
+        ensures { result.now ≡ about self.now }
+    {
+        match self {
+            Said::Alive { name, .. } => name,
+            Said::Suspect { name, .. } => name,
+            Said::Dead { name, .. } => name,
+            Said::Left { name, .. } => name,
+        }
+    }
+}

@@ -1,0 +1,92 @@
+//! The name of a member, by which a view finds what it shows.
+
+ghost use Rattle.std.specs.Prelude.{◌≡◌, IfOk, refl};
+ghost use Rattle.std.specs.Ordering.{eq_by_cmp, as_partial_cmp, nat_cmp};
+ghost use Rattle.std.specs.Cmp.{partial_equiv_from_equiv, partial_order_from_agreeing_total};
+ghost use Rattle.std.specs.Cmp.Lexicographic.{slice_cmp};
+ghost use Rattle.std.proofs.lemmas.Cmp.{eq_by_cmp_equiv, nat_list_cmp_total};
+
+use std::alloc::{AllocError, Global};
+use std::cmp::Ordering;
+use std::marker::Model;
+use swim_claim::Name;
+
+/// The name of a member, by which a view finds what it shows.
+///
+/// Names are ordered byte by byte, and a proper prefix is less.
+#[derive(Drop, Debug)]
+pub struct MemberName {
+    name: Name,
+}
+
+impl Model for MemberName {
+    ghost use Rattle.std.specs.Prelude.{ℕ, List};
+
+    ghost Value = { List ℕ };
+
+    ghost view = { λ m. m.name };
+}
+
+impl MemberName {
+    /// This name. It takes no memory.
+    pub fn new(name: Name) -> MemberName
+        ensures { result ≡ name }
+    {
+        MemberName { name }
+    }
+
+    /// The name, 1 to 1,024 bytes.
+    pub fn name(&self) -> &Name
+        ensures { result.now ≡ self.now }
+    {
+        &self.name
+    }
+
+    /// The same again.
+    pub(crate) fn try_clone(&self, alloc: Global) -> Result<MemberName, AllocError>
+        ensures { IfOk result (λ copy. copy ≡ self.now) }
+    {
+        Ok(MemberName {
+            name: self.name.try_clone(alloc)?,
+        })
+    }
+}
+
+impl PartialEq for MemberName {
+    ghost eq = { eq_by_cmp (slice_cmp nat_cmp) };
+
+    ghost laws = { partial_equiv_from_equiv (eq_by_cmp_equiv nat_list_cmp_total) };
+
+    fn eq(&self, other: &MemberName) -> bool {
+        self.cmp(other).is_eq()
+    }
+}
+
+impl Eq for MemberName {
+    ghost laws = { eq_by_cmp_equiv nat_list_cmp_total };
+}
+
+impl PartialOrd for MemberName {
+    ghost partial_cmp = { as_partial_cmp (slice_cmp nat_cmp) };
+
+    ghost laws = { partial_order_from_agreeing_total (slice_cmp nat_cmp) nat_list_cmp_total
+        (λ _ _. refl) (λ _ _. refl) };
+
+    fn partial_cmp(&self, other: &MemberName) -> Option<Ordering> {
+        Some(self.cmp(other))
+    }
+}
+
+impl Ord for MemberName {
+    ghost cmp = { slice_cmp nat_cmp };
+
+    ghost total = { nat_list_cmp_total };
+
+    ghost matches_partial_cmp = { λ _ _. refl };
+
+    ghost matches_eq = { λ _ _. refl };
+
+    fn cmp(&self, other: &MemberName) -> Ordering {
+        self.name.bytes().cmp(other.name.bytes())
+    }
+}

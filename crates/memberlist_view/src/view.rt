@@ -1,0 +1,119 @@
+//! The view of all names.
+
+ghost use Rattle.std.specs.Prelude.{◌≡◌, ◌↔◌, ◌<◌, ◌^◌, ◌++◌, ◌∷◌, [], List, length, IsSome, IfOk, OnOk, OnErr, IsTrue};
+ghost use Rattle.std.specs.Option.{option_copied};
+ghost use Rattle.memberlist_view.specs.declared.heard.Heard.{Heard};
+ghost use Rattle.memberlist_view.specs.Told.{entry_of, change_of, event_of, view_after, IsViewOf};
+
+use crate::change::change;
+use crate::entry::Entry;
+use crate::event::Event;
+use crate::heard::Heard;
+use crate::member_name::MemberName;
+use std::alloc::{AllocError, Global};
+use std::collections::{BTreeMap, btree_map};
+use std::marker::Model;
+
+/// What a member of a cluster that heard these messages at these times would show, as memberlist's
+/// `state.go` has it, of one who listens and says nothing.
+#[derive(Drop, Debug)]
+pub struct View {
+    alloc: Global,
+    wait: u64,
+    entries: BTreeMap<MemberName, Entry>,
+}
+
+impl Model for View {
+    ghost use Rattle.memberlist_view.specs.Told.{ViewValue};
+
+    ghost Value = { ViewValue };
+
+    ghost view = { λ v. record { wait = v.wait; entries = v.entries.entries } };
+}
+
+impl View {
+    /// The view of one who heard nothing, and who forgets a dead member after a wait of so many
+    /// microseconds (memberlist's `GossipToTheDeadTime`: 30 seconds in a local network, 60 in a
+    /// wide one). What grows later takes memory from the allocator.
+    pub fn new(alloc: Global, wait: u64) -> View
+        ensures wait { result.wait ≡ wait }
+        ensures empty { result.entries ≡ [] }
+        ensures view { IsViewOf result [] }
+    {
+        View {
+            alloc,
+            wait,
+            entries: BTreeMap::new(alloc),
+        }
+    }
+
+    /// Takes in what was heard, and tells what changed. None where nothing did, and then it takes
+    /// no memory.
+    ///
+    /// # Errors
+    ///
+    /// `AllocError` where memory for what changes is refused. The view is as it was.
+    pub fn hear(&mut self, heard: &Heard) -> Result<Option<Event>, AllocError>
+        ensures event { IfOk result (λ event. event ≡ event_of self.old heard.now) }
+        ensures step { OnOk result (self.new ≡ view_after self.old heard.now) }
+        ensures view { OnOk result ((past : List Heard) → IsViewOf self.old past
+            → IsViewOf self.new (past ++ heard.now ∷ [])) }
+
+        ensures err { OnErr result (self.new ≡ self.old) }
+        ensures asks { OnErr result (IsSome (event_of self.old heard.now)) }
+    {
+        self.take(heard)
+    }
+
+    fn take(&mut self, heard: &Heard) -> Result<Option<Event>, AllocError>
+        ensures event { IfOk result (λ event. event ≡ event_of self.old heard.now) }
+        ensures step { OnOk result (self.new ≡ view_after self.old heard.now) }
+        ensures err { OnErr result (self.new ≡ self.old) }
+        ensures asks { OnErr result (IsSome (change_of self.old heard.now)) }
+    {
+        let name = heard.said.name();
+        let Some((entry, event)) = change(self.alloc, self.wait, self.entries.get(name), heard)?
+        else {
+            return Ok(None);
+        };
+        let name = name.try_clone(self.alloc)?;
+        self.entries.insert(name, entry)?;
+        Ok(Some(event))
+    }
+
+    /// After how many microseconds a dead member is forgotten.
+    pub fn wait(&self) -> u64
+        ensures { result ≡ self.now.wait }
+    {
+        self.wait
+    }
+
+    /// What the view shows of a name, or none where it shows nothing.
+    pub fn get(&self, name: &MemberName) -> Option<&Entry>
+        ensures { option_copied result ≡ entry_of self.now name.now }
+    {
+        self.entries.get(name)
+    }
+
+    /// Each name that the view shows with what it shows, in ascending byte order of the names.
+    pub fn iter(&self) -> btree_map::Iter<'_, MemberName, Entry>
+        ensures { result ≡ self.now.entries }
+    {
+        self.entries.iter()
+    }
+
+    /// How many names the view shows.
+    pub fn len(&self) -> usize
+        ensures len { result ≡ length self.now.entries }
+        ensures small { result < 2 ^ 63 }
+    {
+        self.entries.len()
+    }
+
+    /// Whether the view shows no name.
+    pub fn is_empty(&self) -> bool
+        ensures { IsTrue result ↔ (self.now.entries ≡ []) }
+    {
+        self.entries.is_empty()
+    }
+}
