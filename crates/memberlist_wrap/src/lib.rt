@@ -24,7 +24,7 @@ mod wrappers;
 pub use crc::crc32;
 pub use fault::WrapFault;
 pub use lzw::lzw_decode;
-pub use wrappers::{MAX_DEPTH, unwrap};
+pub use wrappers::{MAX_DEPTH, unwrap, unwrap_in_place};
 
 #[cfg(test)]
 mod tests;

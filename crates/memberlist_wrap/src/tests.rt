@@ -3,7 +3,7 @@
 mod compressions;
 mod faults;
 
-use crate::{WrapFault, unwrap};
+use crate::{WrapFault, unwrap, unwrap_in_place};
 use std::alloc::Global;
 use std::process::Abort;
 use std::test::Fail;
@@ -42,6 +42,23 @@ fn real_messages_are_taken_out(rt: HostRuntime) -> Result<(), Fail> {
     ] {
         let taken = unwrap(rt.alloc(), bytes, 1000)?;
         assert_eq!(rt; taken.as_slice(), message);
+    }
+    Ok(())
+}
+
+#[test]
+fn a_message_stands_in_its_bytes_unless_it_is_compressed(rt: HostRuntime) -> Result<(), Fail> {
+    for (bytes, limit, found) in [
+        (DEAD, DEAD.len() - 5, Ok(Some(&DEAD[5..]))),
+        (DEAD, DEAD.len() - 6, Err(WrapFault::TooLarge)),
+        (COMPOUND, 1000, Ok(Some(COMPOUND))),
+        (GOSSIP, 1, Ok(None)),
+        (BANANA, 1, Ok(None)),
+        (b"\xf4\x03dc1\x02\x80", 2, Ok(Some(b"\x02\x80"))),
+        (b"", 0, Ok(Some(b""))),
+        (b"\x0c\0", 1000, Err(WrapFault::Ended)),
+    ] {
+        assert_eq!(rt; unwrap_in_place(bytes, limit), found, "{bytes:?}");
     }
     Ok(())
 }

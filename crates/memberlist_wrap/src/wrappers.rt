@@ -1,6 +1,6 @@
 //! Wrappers around each other, taken off.
 
-ghost use Rattle.std.specs.Prelude.{◌≡◌, ◌≢◌, ◌≤◌, ℕ, List, length, drop, IfOk, IfErr, IsErrOf};
+ghost use Rattle.std.specs.Prelude.{◌≡◌, ◌≢◌, ◌≤◌, ℕ, List, length, drop, IfSome, IfOk, IfErr, IsErrOf};
 ghost use Rattle.memberlist_wrap.specs.Explaining.{ExplainsIn, AsksMemory};
 ghost use Rattle.memberlist_wrap.specs.Peeling.{Holds, PackedUnwraps, PackedFails};
 ghost use Rattle.memberlist_wrap.specs.Wrapping.{Wrapper, Wraps, Unwraps, UnwrapsIn};
@@ -56,6 +56,26 @@ pub fn unwrap(alloc: Global, bytes: &[u8], limit: usize) -> Result<Vec<u8>, Wrap
     ensures memory { IsErrOf result WrapFault.Memory → AsksMemory 4 limit bytes.now }
 {
     unwrap_slice(alloc, bytes, limit)
+}
+
+/// The message that the bytes wrap, where it stands in them: their checksums and labels taken off.
+/// None where a compression stands among these. It takes no memory.
+///
+/// # Errors
+///
+/// The first of these that holds, from the outer wrapper on: those of [`unwrap`] up to the first
+/// compression, and `TooLarge` where the message has more than `limit` bytes.
+pub fn unwrap_in_place(bytes: &[u8], limit: usize) -> Result<Option<&[u8]>, WrapFault>
+    ensures unwraps { IfOk result (λ found. IfSome found (λ message.
+        Unwraps limit bytes.now message.now)) }
+    ensures explains { IfErr result (λ fault. ExplainsIn 4 limit fault bytes.now) }
+    ensures no_memory { ¬ IsErrOf result WrapFault.Memory }
+{
+    match peel(bytes, MAX_DEPTH)? {
+        Core::Message(message) if message.len() <= limit => Ok(Some(message)),
+        Core::Message(_) => Err(WrapFault::TooLarge),
+        Core::Compression(_, _) => Ok(None),
+    }
 }
 
 fn unwrap_slice(alloc: Global, bytes: &[u8], limit: usize) -> Result<Vec<u8>, WrapFault>
