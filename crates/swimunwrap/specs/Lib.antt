@@ -1,4 +1,3 @@
-pub mod Limits
 pub mod Cause
 pub mod Chosen
 pub mod Lines

@@ -8,7 +8,7 @@
 //! | `help` | what help and the version show |
 //! | `key_files` | the keys of a cluster, from files |
 //! | `lines` | packets in hexadecimal, one a line |
-//! | `packet` | the packet on a line, and the message in it |
+//! | `packet` | the packet on a line |
 //! | `cause` | why a line can be read as no message |
 //! | `left_out` | what is said of lines that were left out |
 //! | `stream` | a push/pull stream |

@@ -1,24 +1,19 @@
-use Rattle.std.proofs.Common.{◌≡◌, [], rules}
+use Rattle.std.proofs.Common.{◌≡◌, ◌∙◌, sym, subst, rules}
 use Rattle.std.specs.Prelude.{◌≢◌}
-use Rattle.swimunwrap.specs.Outcome.{IsClearOutcome, IsUnclearOutcome, IsOutcomeOf as outcomes}
-use Rattle.swimunwrap.proofs.Outcomes.{clear_bytes, unclear_bytes, of_opened}
-use Rattle.swimunwrap.proofs.packet.outcome_of_bytes.Goals.{then-is_empty-via-then-is_empty, then-is_empty-via-else-is_empty+then-not-is_unclear}
+use Rattle.memberlist_transport.specs.Packet.{Fails}
+use Rattle.memberlist_transport.specs.declared.fault.PacketFault.TheVariants.{Wrapped, NoMessage, Memory}
 use Rattle.swimunwrap.proofs.packet.outcome_of_bytes.Goals as goal
 
-pub returns-then-is_empty : goal.returns-then-is_empty
-returns-then-is_empty c =
-    let is : IsClearOutcome c.args.bytes.now c.in_ok-outcome.outcome = search rules in
-    elim c.then-is_empty.branch [
-      | then-is_empty-via-then-is_empty w ↦
-          let none : c.args.keys.now ≡ [] = search rules in outcomes.clear is (λ unclear. none)
-      | then-is_empty-via-else-is_empty+then-not-is_unclear w ↦
-          let clear : ¬ IsUnclearOutcome c.in_ok-outcome.outcome = search rules in
-          outcomes.clear is (λ unclear. absurd (clear_bytes c.args.bytes.now c.in_ok-outcome.outcome is clear unclear))
-    ]
+pub returns-in-Err-Wrapped : goal.returns-in-Err-Wrapped
+returns-in-Err-Wrapped c =
+    let is : c.in-Err-Wrapped.field-0 ≡ Wrapped c.in-Err-Wrapped.fault = search rules in
+    let other : c.in-Err-Wrapped.field-0 ≢ Memory = λ memory. let bad : Wrapped c.in-Err-Wrapped.fault ≡ Memory = sym is ∙ memory in absurd cc in
+    subst (λ f. Fails c.args.keys.now c.args.bytes.now (Wrapped f)) (sym c.in-Err-Wrapped.fault-is)
+    (subst (Fails c.args.keys.now c.args.bytes.now) is (c.in-Err-Wrapped.ensures.explains other))
 
-pub returns : goal.returns
-returns c =
-    let is : IsClearOutcome c.args.bytes.now c.in_ok-outcome.outcome = search rules in
-    let unclear : IsUnclearOutcome c.in_ok-outcome.outcome = search rules in
-    let some : c.args.keys.now ≢ [] = search rules in
-    of_opened c.args.keys.now c.args.bytes.now c.opened_outcome.result (unclear_bytes c.args.bytes.now c.in_ok-outcome.outcome is unclear) some (search rules)
+pub returns-in-Err-NoMessage : goal.returns-in-Err-NoMessage
+returns-in-Err-NoMessage c =
+    let is : c.in-Err-NoMessage.field-0 ≡ NoMessage c.in-Err-NoMessage.first = search rules in
+    let other : c.in-Err-NoMessage.field-0 ≢ Memory = λ memory. let bad : NoMessage c.in-Err-NoMessage.first ≡ Memory = sym is ∙ memory in absurd cc in
+    subst (λ f. Fails c.args.keys.now c.args.bytes.now (NoMessage f)) (sym c.in-Err-NoMessage.first-is)
+    (subst (Fails c.args.keys.now c.args.bytes.now) is (c.in-Err-NoMessage.ensures.explains other))

@@ -1,14 +1,20 @@
-use Rattle.std.proofs.lemmas.Result.{IfErr-weaker}
-use Rattle.swimunwrap.proofs.Streams.{no_stream, own_unless_memory}
+use Rattle.std.proofs.Common.{◌∙◌, ap}
+use Rattle.std.specs.Prelude.{◌≢◌}
+use Rattle.memberlist_transport.specs.declared.fault.StreamFault.TheVariants.{Memory}
+use Rattle.swimunwrap.specs.Stream.{what_of_stream}
+use Rattle.swimunwrap.proofs.Streams.{IsOwn, own}
 use Rattle.swimunwrap.proofs.stream.unwrap_stream.Goals as goal
 
-pub returns-clause-refuses : goal.returns-clause-refuses
-returns-clause-refuses c =
-    IfErr-weaker c.stream_within.result _ _ (λ what h seen within. no_stream c.args.keys.now c.args.bytes.now what (h seen)) c.stream_within.ensures.explains
+pub returns-in-Err-clause-refuses : goal.returns-in-Err-clause-refuses
+returns-in-Err-clause-refuses c = λ seen within.
+    c.in-Err.ensures.refuses (λ memory. seen (c.what_of_stream.ensures ∙ ap what_of_stream memory))
 
-pub returns-clause-explains : goal.returns-clause-explains
-returns-clause-explains c = IfErr-weaker c.stream_within.result _ _ (λ what h seen within. h seen) c.stream_within.ensures.explains
+pub returns-in-Err-clause-explains : goal.returns-in-Err-clause-explains
+returns-in-Err-clause-explains c = λ seen within. (
+  c.in-Err.fault,
+  c.in-Err.ensures.explains (λ memory. seen (c.what_of_stream.ensures ∙ ap what_of_stream memory)),
+  c.what_of_stream.ensures,
+)
 
-pub returns-clause-no_device : goal.returns-clause-no_device
-returns-clause-no_device c =
-    IfErr-weaker c.stream_within.result _ _ (λ what h. (own_unless_memory c.args.keys.now c.args.bytes.now what h).0) c.stream_within.ensures.explains
+pub returns-in-Err-clause-no_device : goal.returns-in-Err-clause-no_device
+returns-in-Err-clause-no_device c = let is : IsOwn c.what_of_stream.result = rw c.what_of_stream.ensures (own c.in-Err.fault) in is.0

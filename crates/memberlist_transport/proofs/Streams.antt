@@ -1,0 +1,87 @@
+-- The one message that bytes wrap, and whether it is a push/pull stream, in the clear or behind a key.
+use Rattle.std.proofs.Common.{◌≡◌, ◌⊎◌, ◌∙◌, inl, inr, ℕ, List, [], ◌∷◌, length, Result, Ok, Err, IfErr, get_or, ap, subst, sym, length-append, arith}
+use Rattle.std.specs.Prelude.{◌≢◌}
+use Rattle.memberlist_cipher.specs.declared.fault.CipherFault.{CipherFault}
+use Rattle.memberlist_cipher.specs.Refusal.{StreamCause}
+use Rattle.memberlist_keyring.specs.Cutting.{IsRefused}
+use Rattle.memberlist_keyring.specs.Opening.{OpensStream, OpensStreamFirst}
+use Rattle.memberlist_keyring.proofs.OneOpened.{one_opened_stream, opens_stream}
+use Rattle.memberlist_wrap.specs.Wrapping.{Unwraps}
+use Rattle.memberlist_wrap.proofs.Unwrapping.{one_message, no_message}
+use Rattle.memberlist_transport.specs.declared.fault.StreamFault.{StreamFault}
+use Rattle.memberlist_transport.specs.declared.fault.StreamFault.TheVariants.{Closed, Memory}
+use Rattle.memberlist_transport.specs.Stream.{BeginsAsStream, BeginsAsSealed, IsStreamIn, IsStreamIn as streams, IsClearStream, IsSealed, Explains, Explains as why, ExplainsClear, ExplainsClear as plainly, fault_of_start}
+
+same_message : (m n : ℕ) (bytes a b : List ℕ) → Unwraps m bytes a → Unwraps n bytes b → a ≡ b
+same_message m n bytes a b one other = (one_message m n bytes one.wrappers other.wrappers a b one.wraps other.wraps).1
+
+-- no message begins as both
+not_both : (message : List ℕ) → BeginsAsStream message → ¬ BeginsAsSealed message
+not_both message stream sealed = let six : 6 ≡ 10 = ap (λ l. get_or l 0 0) (sym stream.1 ∙ sealed.1) in absurd (omega (arith, six))
+
+no_sealed_clear : (m n : ℕ) (bytes : List ℕ) → IsSealed m bytes → (stream : List ℕ) → ¬ IsClearStream n bytes stream
+no_sealed_clear m n bytes sealed stream is = not_both stream is.1 (subst BeginsAsSealed (same_message m n bytes sealed.0 stream sealed.1 is.0) sealed.2)
+
+-- ---- one stream
+
+pub one_stream : (m n : ℕ) (keys : List (List ℕ)) (bytes a b : List ℕ) → IsStreamIn m keys bytes a → IsStreamIn n keys bytes b → a ≡ b
+one_stream m n keys bytes a b (streams.clear is) (streams.clear other) = same_message m n bytes a b is.0 other.0
+one_stream m n keys bytes a b (streams.clear is) (streams.opened inner sealed opens other) = absurd (no_sealed_clear n m bytes sealed a is)
+one_stream m n keys bytes a b (streams.opened inner sealed opens is) (streams.clear other) = absurd (no_sealed_clear m n bytes sealed b other)
+one_stream m n keys bytes a b (streams.opened inner sealed opens is) (streams.opened second also opened other) =
+    same_message m n second a b (subst (λ x. Unwraps m x a) (one_opened_stream keys bytes inner second opens opened) is.0) other.0
+
+module _ (limit : ℕ) where
+  -- ---- refused bytes are no stream
+
+  -- bytes of which a refusal says that they are no stream in the clear are none
+  no_clear : (bytes : List ℕ) (fault : StreamFault) → ExplainsClear limit bytes fault → (stream : List ℕ) → ¬ IsClearStream limit bytes stream
+  no_clear bytes fault (plainly.broken cause explains same) stream is = no_message 4 limit cause bytes explains stream is.0
+  no_clear bytes fault (plainly.other message wraps begins same) stream is =
+      begins (subst BeginsAsStream (same_message limit limit bytes stream message is.0 wraps) is.1)
+
+  -- a keyring without keys opens nothing
+  no_keys : (keys : List (List ℕ)) (bytes inner : List ℕ) → keys ≡ [] → ¬ OpensStreamFirst keys bytes inner
+  no_keys keys bytes inner none opens =
+      absurd (omega (arith, ap length (sym opens.first.parts ∙ none), length-append opens.first.before (opens.first.key ∷ opens.first.after)))
+
+  -- bytes of which a refusal says that they are no stream are none
+  pub no_stream : (keys : List (List ℕ)) (bytes : List ℕ) (fault : StreamFault) → Explains limit keys bytes fault → (stream : List ℕ) → ¬ IsStreamIn limit keys bytes stream
+  no_stream keys bytes fault (why.clear explains none) stream (streams.clear is) = no_clear bytes fault explains stream is
+  no_stream keys bytes fault (why.clear explains none) stream (streams.opened inner sealed opens is) = no_keys keys bytes inner (none sealed) opens
+  no_stream keys bytes fault (why.closed cause sealed none refused same) stream (streams.clear is) = no_sealed_clear limit limit bytes sealed stream is
+  no_stream keys bytes fault (why.closed cause sealed none refused same) stream (streams.opened inner also opens is) = none inner (opens_stream keys bytes inner opens)
+  no_stream keys bytes fault (why.opened inner sealed opens explains) stream (streams.clear is) = no_sealed_clear limit limit bytes sealed stream is
+  no_stream keys bytes fault (why.opened inner sealed opens explains) stream (streams.opened other also opened is) =
+      no_clear inner fault explains stream (subst (λ m. IsClearStream limit m stream) (one_opened_stream keys bytes other inner opened opens) is)
+
+  -- ---- refusals of a message
+
+  pub clear_refused : {X : Type 0} (bytes message : List ℕ) (result : Result X StreamFault) → Unwraps limit bytes message
+      → IfErr result (λ fault. (¬ BeginsAsStream message) × (fault ≡ fault_of_start message))
+      → IfErr result (λ fault. fault ≢ Memory → ExplainsClear limit bytes fault)
+  clear_refused bytes message (Ok stream) wraps other = tt
+  clear_refused bytes message (Err fault) wraps other = λ seen. plainly.other message wraps other.0 other.1
+
+  -- where there is no key, or the message is not encrypted
+  pub untried : {X : Type 0} (keys : List (List ℕ)) (bytes message : List ℕ) (result : Result X StreamFault) → Unwraps limit bytes message
+      → (keys ≡ []) ⊎ (¬ BeginsAsSealed message)
+      → IfErr result (λ fault. (¬ BeginsAsStream message) × (fault ≡ fault_of_start message))
+      → IfErr result (λ fault. fault ≢ Memory → Explains limit keys bytes fault)
+  untried keys bytes message (Ok stream) wraps unclosed other = tt
+  untried keys bytes message (Err fault) wraps (inl none) other = λ seen. why.clear (plainly.other message wraps other.0 other.1) (λ sealed. none)
+  untried keys bytes message (Err fault) wraps (inr clear) other = λ seen.
+      why.clear (plainly.other message wraps other.0 other.1)
+      (λ sealed. absurd (clear (subst BeginsAsSealed (same_message limit limit bytes sealed.0 message sealed.1 wraps) sealed.2)))
+
+  -- where a key is tried
+  pub tried : {X : Type 0} (keys : List (List ℕ)) (bytes : List ℕ) (result : Result X StreamFault) → IsSealed limit bytes
+      → IfErr result (λ fault. fault ≢ Memory → ((cause : CipherFault) × ((inner : List ℕ) → ¬ OpensStream keys bytes inner)
+      × IsRefused StreamCause keys bytes cause × (fault ≡ Closed cause))
+      ⊎ ((inner : List ℕ) × OpensStreamFirst keys bytes inner × ExplainsClear limit inner fault))
+      → IfErr result (λ fault. fault ≢ Memory → Explains limit keys bytes fault)
+  tried keys bytes (Ok stream) sealed refusal = tt
+  tried keys bytes (Err fault) sealed refusal = λ seen. elim (refusal seen) [
+    | inl closed ↦ why.closed closed.0 sealed closed.1 closed.2 closed.3
+    | inr opened ↦ why.opened opened.0 sealed opened.1 opened.2
+  ]

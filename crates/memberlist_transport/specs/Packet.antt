@@ -1,0 +1,67 @@
+-- The message of a packet: in the clear, or behind a key.
+use Rattle.std.specs.Prelude.{◌≡◌, ◌≢◌, ◌⊎◌, ◌<◌, ℕ, List, [], Result, Err}
+use Rattle.memberlist_keyring.specs.Opening.{Opens, OpensFirst}
+use Rattle.memberlist_wrap.specs.Explaining.{ExplainsIn}
+use Rattle.memberlist_wrap.specs.Wrapping.{Unwraps}
+use Rattle.memberlist_transport.specs.declared.fault.PacketFault.{PacketFault}
+use Rattle.memberlist_transport.specs.declared.fault.PacketFault.TheVariants.{Wrapped, NoMessage, NoKeyFits}
+use Rattle.memberlist_transport.specs.declared.message.Message.{Message}
+use Rattle.memberlist_transport.specs.Message.{IsMessage, IsNoMessage}
+
+-- how many bytes a packet's message may have
+abbrev pub most_message : ℕ
+most_message = 1048576
+
+-- ---- in the clear
+
+-- the bytes wrap the message
+abbrev pub HoldsClear : List ℕ → Message → Type 0
+HoldsClear bytes message =
+    (inner : List ℕ) × Unwraps most_message bytes inner × IsMessage inner message
+
+-- why the bytes hold no message: they wrap nothing, or what they wrap is none
+abbrev pub FailsClear : List ℕ → PacketFault → Type 0
+FailsClear bytes (Wrapped fault) = ExplainsIn 4 most_message fault bytes
+    × ((message : List ℕ) → ¬ Unwraps most_message bytes message)
+FailsClear bytes (NoMessage first) =
+    (message : List ℕ) × Unwraps most_message bytes message × IsNoMessage message first
+FailsClear bytes fault = ⊥
+
+-- ---- with keys
+
+-- the bytes hold no message, and what they wrap begins with a version of encryption
+abbrev pub IsUnclear : List ℕ → Type 0
+IsUnclear bytes = (first : ℕ) × (first < 2) × FailsClear bytes (NoMessage first)
+
+-- The packet has the message: in the clear, or under the first key that opens it.
+pub data Holds (keys : List (List ℕ)) (bytes : List ℕ) (message : Message) : Type 0 where
+  clear : HoldsClear bytes message → Holds keys bytes message
+  opened : (inner : List ℕ) → IsUnclear bytes → OpensFirst keys bytes inner
+      → HoldsClear inner message → Holds keys bytes message
+
+-- Why the packet has none: in the clear, where no key is tried; because no key opens it; or behind
+-- the key that opens it.
+pub data Fails (keys : List (List ℕ)) (bytes : List ℕ) (fault : PacketFault) : Type 0 where
+  clear : FailsClear bytes fault → (IsUnclear bytes → keys ≡ []) → Fails keys bytes fault
+  closed : IsUnclear bytes → keys ≢ [] → ((inner : List ℕ) → ¬ Opens keys bytes inner)
+      → fault ≡ NoKeyFits → Fails keys bytes fault
+  opened : (inner : List ℕ) → IsUnclear bytes → OpensFirst keys bytes inner
+      → FailsClear inner fault → Fails keys bytes fault
+
+-- ---- on the way
+
+-- it says that a version of encryption is no message
+abbrev pub IsUnclearResult : Result Message PacketFault → Type 0
+IsUnclearResult (Err (NoMessage first)) = first < 2
+IsUnclearResult result = ⊥
+
+-- the message in what a key opens
+abbrev pub HoldsOpened : List (List ℕ) → List ℕ → Message → Type 0
+HoldsOpened keys bytes message =
+    (inner : List ℕ) × OpensFirst keys bytes inner × HoldsClear inner message
+
+-- why there is none in what a key may open
+abbrev pub FailsOpened : List (List ℕ) → List ℕ → PacketFault → Type 0
+FailsOpened keys bytes fault =
+    (((inner : List ℕ) → ¬ Opens keys bytes inner) × (fault ≡ NoKeyFits))
+    ⊎ ((inner : List ℕ) × OpensFirst keys bytes inner × FailsClear inner fault)

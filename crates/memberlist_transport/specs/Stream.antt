@@ -1,0 +1,62 @@
+-- The push/pull stream that one direction of a connection holds.
+use Rattle.std.specs.Prelude.{◌≡◌, ℕ, List, [], ◌∷◌}
+use Rattle.memberlist_cipher.specs.declared.fault.CipherFault.{CipherFault}
+use Rattle.memberlist_cipher.specs.Refusal.{StreamCause}
+use Rattle.memberlist_keyring.specs.Cutting.{IsRefused}
+use Rattle.memberlist_keyring.specs.Opening.{OpensStream, OpensStreamFirst}
+use Rattle.memberlist_wrap.specs.declared.fault.WrapFault.{WrapFault}
+use Rattle.memberlist_wrap.specs.Explaining.{ExplainsIn}
+use Rattle.memberlist_wrap.specs.Wrapping.{Unwraps}
+use Rattle.memberlist_transport.specs.declared.fault.StreamFault.{StreamFault}
+use Rattle.memberlist_transport.specs.declared.fault.StreamFault.TheVariants.{Wrapped, Closed, NoStream, Empty}
+
+-- the byte that push/pull streams begin with
+abbrev pub BeginsAsStream : List ℕ → Type 0
+BeginsAsStream bytes = (rest : List ℕ) × (bytes ≡ 6 ∷ rest)
+
+-- the byte that encrypted streams begin with
+abbrev pub BeginsAsSealed : List ℕ → Type 0
+BeginsAsSealed bytes = (rest : List ℕ) × (bytes ≡ 10 ∷ rest)
+
+-- the bytes wrap this message in the clear, and it begins as a push/pull stream does
+abbrev pub IsClearStream : ℕ → List ℕ → List ℕ → Type 0
+IsClearStream limit bytes stream = Unwraps limit bytes stream × BeginsAsStream stream
+
+-- what the bytes wrap begins as an encrypted stream does
+abbrev pub IsSealed : ℕ → List ℕ → Type 0
+IsSealed limit bytes = (message : List ℕ) × Unwraps limit bytes message × BeginsAsSealed message
+
+-- The bytes are the stream, in wrappers, or encrypted under the first key that opens them, and in
+-- wrappers in there. Nothing has more bytes than the limit.
+pub data IsStreamIn (limit : ℕ) (keys : List (List ℕ)) (bytes stream : List ℕ) : Type 0 where
+  clear : IsClearStream limit bytes stream → IsStreamIn limit keys bytes stream
+  opened : (inner : List ℕ) → IsSealed limit bytes → OpensStreamFirst keys bytes inner
+      → IsClearStream limit inner stream → IsStreamIn limit keys bytes stream
+
+-- ---- refusals
+
+-- what is said of a message that begins as no push/pull stream does: that it has no byte, or its
+-- first
+abbrev pub fault_of_start : List ℕ → StreamFault
+fault_of_start [] = Empty
+fault_of_start (first ∷ rest) = NoStream first
+
+-- What a refusal says of bytes in the clear: why they wrap no message, or how the message in them
+-- begins.
+pub data ExplainsClear (limit : ℕ) (bytes : List ℕ) (fault : StreamFault) : Type 0 where
+  broken : (cause : WrapFault) → ExplainsIn 4 limit cause bytes → fault ≡ Wrapped cause
+      → ExplainsClear limit bytes fault
+  other : (message : List ℕ) → Unwraps limit bytes message → ¬ BeginsAsStream message
+      → fault ≡ fault_of_start message → ExplainsClear limit bytes fault
+
+-- What a refusal says of bytes: what it says of them in the clear, where no key is tried; that no
+-- key opens them, and the keyring's fault; or what it says of what a key opens.
+pub data Explains (limit : ℕ) (keys : List (List ℕ)) (bytes : List ℕ) (fault : StreamFault) : Type 0
+  where
+    clear : ExplainsClear limit bytes fault → (IsSealed limit bytes → keys ≡ [])
+        → Explains limit keys bytes fault
+    closed : (cause : CipherFault) → IsSealed limit bytes
+        → ((inner : List ℕ) → ¬ OpensStream keys bytes inner) → IsRefused StreamCause keys bytes cause
+        → fault ≡ Closed cause → Explains limit keys bytes fault
+    opened : (inner : List ℕ) → IsSealed limit bytes → OpensStreamFirst keys bytes inner
+        → ExplainsClear limit inner fault → Explains limit keys bytes fault

@@ -1,0 +1,55 @@
+//! Why a packet or a stream is refused.
+
+ghost use Rattle.std.specs.Prelude.{◌≡◌};
+ghost use Rattle.memberlist_transport.specs.declared.fault.PacketFault.TheVariants.{Memory};
+
+use memberlist_cipher::CipherFault;
+use memberlist_wrap::WrapFault;
+use std::alloc::AllocError;
+use thiserror::Error;
+
+/// Why a packet is refused (own).
+#[derive(Clone, Copy, Debug, PartialEq, Eq, Error)]
+pub enum PacketFault {
+    /// It wraps nothing.
+    #[error("{0}")]
+    Wrapped(WrapFault),
+    /// What it wraps begins with this byte, and is no message that packets have: it is encrypted,
+    /// or broken, or of another kind.
+    #[error("no message (first byte {0:02x})")]
+    NoMessage(u8),
+    /// It is encrypted, and none of the keys opens it.
+    #[error("encrypted, no key fits")]
+    NoKeyFits,
+    /// A growth of memory was refused.
+    #[error("out of memory")]
+    Memory,
+}
+
+impl From<AllocError> for PacketFault {
+    ghost from_gives = { λ _ fault. fault ≡ Memory };
+
+    fn from(_error: AllocError) -> PacketFault {
+        PacketFault::Memory
+    }
+}
+
+/// Why a stream is refused (own).
+#[derive(Clone, Copy, Debug, PartialEq, Eq, Error)]
+pub enum StreamFault {
+    /// It wraps nothing.
+    #[error("{0}")]
+    Wrapped(WrapFault),
+    /// It is encrypted, and none of the keys opens it: this is the fault of the last one.
+    #[error("{0}")]
+    Closed(CipherFault),
+    /// What it wraps begins with this byte, and is no push/pull stream.
+    #[error("no push/pull stream (first byte {0:02x})")]
+    NoStream(u8),
+    /// It wraps no byte.
+    #[error("the stream is empty")]
+    Empty,
+    /// A growth of memory was refused.
+    #[error("out of memory")]
+    Memory,
+}

@@ -1,0 +1,24 @@
+//! What memberlist's transport sends, opened and unwrapped: one packet, or one stream.
+//!
+//! | module | subject |
+//! |---|---|
+//! | `packet` | the message of a packet |
+//! | `message` | what a message is |
+//! | `stream` | the push/pull stream of a connection |
+//! | `fault` | why a packet or a stream is refused |
+//! | `laws` | what holds of the definitions, apart from any code |
+#![tactic(auto)]
+
+mod fault;
+pub mod laws;
+mod message;
+mod packet;
+mod stream;
+
+pub use fault::{PacketFault, StreamFault};
+pub use message::{Claiming, Message};
+pub use packet::{MESSAGE_LIMIT, open_packet};
+pub use stream::open_stream;
+
+#[cfg(test)]
+mod tests;

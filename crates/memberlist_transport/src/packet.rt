@@ -1,0 +1,123 @@
+//! The message of a packet.
+
+ghost use Rattle.std.specs.Prelude.{◌≡◌, ◌≢◌, ◌<◌, ℕ, MatchBool, IfOk, IfErr};
+ghost use Rattle.memberlist_transport.specs.declared.message.Message.{Message};
+ghost use Rattle.memberlist_transport.specs.Message.{IsMessage, IsNoMessage};
+ghost use Rattle.memberlist_transport.specs.Packet.{Holds, HoldsClear, Fails, FailsClear, IsUnclearResult, HoldsOpened, FailsOpened};
+
+use crate::fault::PacketFault;
+use crate::message::{Message, kind_that_claims};
+use memberlist_cipher::CipherFault;
+use memberlist_keyring::Keyring;
+use memberlist_wrap::{WrapFault, unwrap, unwrap_in_place};
+use std::alloc::Global;
+use swim_wire::{WireFault, decode_claimless};
+
+/// The most bytes of a packet's message (own).
+pub const MESSAGE_LIMIT: usize = 1_048_576;
+
+/// The message of a packet: its checksums, compressions and labels taken off, as in memberlist's
+/// `net.go` (`handleCommand`), `util.go` and `label.go`. What is no message in the clear and begins
+/// as an encrypted packet is first opened with the keys, where there are some. Neither a message
+/// nor anything compressed or encrypted has more than 1,048,576 bytes.
+///
+/// # Errors
+///
+/// `Wrapped` where the bytes wrap nothing, with the cause. `NoMessage`, with its first byte, where
+/// what they wrap is neither empty, nor begins as a suspect, alive or dead message or a compound
+/// packet, nor is a whole message of a kind that makes no claims. Where that byte is below 2, a
+/// version of encryption, and there are keys: `NoKeyFits` where none opens the bytes, and else
+/// these of what was encrypted. `Memory` where a growth was refused.
+pub fn open_packet(alloc: Global, keys: &Keyring, bytes: &[u8]) -> Result<Message, PacketFault>
+    // It is the message that the packet has.
+    ensures holds { IfOk result (Holds keys.now bytes.now) }
+
+    // Refused for another cause than memory, it has none, and the refusal says why.
+    ensures refuses { IfErr result (λ fault. fault ≢ PacketFault.Memory
+        → (message : Message) → ¬ Holds keys.now bytes.now message) }
+    ensures explains { IfErr result (λ fault. fault ≢ PacketFault.Memory
+        → Fails keys.now bytes.now fault) }
+{
+    message_of_packet(alloc, keys, bytes)
+}
+
+fn message_of_packet(alloc: Global, keys: &Keyring, bytes: &[u8]) -> Result<Message, PacketFault>
+    ensures holds { IfOk result (Holds keys.now bytes.now) }
+    ensures explains { IfErr result (λ fault. fault ≢ PacketFault.Memory
+        → Fails keys.now bytes.now fault) }
+{
+    let clear = clear_message(alloc, bytes);
+    if keys.is_empty() || !is_unclear(&clear) {
+        return clear;
+    }
+    opened_message(alloc, keys, bytes)
+}
+
+/// Whether a version of encryption stands where a message should (memberlist's `security.go`).
+fn is_unclear(clear: &Result<Message, PacketFault>) -> bool
+    ensures { MatchBool result (IsUnclearResult clear.now) (¬ IsUnclearResult clear.now) }
+{
+    match clear {
+        Err(PacketFault::NoMessage(first)) => *first < 2,
+        _ => false,
+    }
+}
+
+/// The message in bytes that a key may open.
+fn opened_message(alloc: Global, keys: &Keyring, bytes: &[u8]) -> Result<Message, PacketFault>
+    ensures holds { IfOk result (HoldsOpened keys.now bytes.now) }
+    ensures explains { IfErr result (λ fault. fault ≢ PacketFault.Memory
+        → FailsOpened keys.now bytes.now fault) }
+{
+    match keys.open(alloc, bytes) {
+        Ok(inner) => clear_message(alloc, &inner),
+        Err(CipherFault::Memory) => Err(PacketFault::Memory),
+        Err(_) => Err(PacketFault::NoKeyFits),
+    }
+}
+
+/// The message in bytes without keys.
+fn clear_message(alloc: Global, bytes: &[u8]) -> Result<Message, PacketFault>
+    ensures holds { IfOk result (HoldsClear bytes.now) }
+    ensures explains { IfErr result (λ fault. fault ≢ PacketFault.Memory
+        → FailsClear bytes.now fault) }
+{
+    match unwrap_in_place(bytes, MESSAGE_LIMIT) {
+        Ok(Some(inner)) => message_of(alloc, inner),
+        Ok(None) => decompressed_message(alloc, bytes),
+        Err(fault) => Err(PacketFault::Wrapped(fault)),
+    }
+}
+
+/// The same where a compression is to be taken off.
+fn decompressed_message(alloc: Global, bytes: &[u8]) -> Result<Message, PacketFault>
+    ensures holds { IfOk result (HoldsClear bytes.now) }
+    ensures explains { IfErr result (λ fault. fault ≢ PacketFault.Memory
+        → FailsClear bytes.now fault) }
+{
+    match unwrap(alloc, bytes, MESSAGE_LIMIT) {
+        Ok(inner) => message_of(alloc, &inner),
+        Err(WrapFault::Memory) => Err(PacketFault::Memory),
+        Err(fault) => Err(PacketFault::Wrapped(fault)),
+    }
+}
+
+/// What the bytes in a packet's wrappers are.
+fn message_of(alloc: Global, bytes: &[u8]) -> Result<Message, PacketFault>
+    ensures holds { IfOk result (IsMessage bytes.now) }
+    ensures explains { IfErr result (λ fault. fault ≢ PacketFault.Memory
+        → (first : ℕ) × (fault ≡ PacketFault.NoMessage first) × IsNoMessage bytes.now first) }
+{
+    let Some((first, _)) = bytes.split_first() else {
+        return Ok(Message::Empty);
+    };
+    let first = *first;
+    if let Some(kind) = kind_that_claims(first) {
+        return Ok(Message::Claims(kind, bytes.to_vec(alloc)?));
+    }
+    match decode_claimless(alloc, bytes) {
+        Ok(kind) => Ok(Message::Claimless(kind)),
+        Err(WireFault::Memory) => Err(PacketFault::Memory),
+        Err(_) => Err(PacketFault::NoMessage(first)),
+    }
+}

@@ -1,0 +1,149 @@
+//! The push/pull stream of a connection.
+
+ghost use Rattle.std.specs.Prelude.{◌≡◌, ◌≢◌, ◌⊎◌, List, ℕ, IfOk, IfErr, MatchBool};
+ghost use Rattle.memberlist_cipher.specs.declared.fault.CipherFault.{CipherFault};
+ghost use Rattle.memberlist_cipher.specs.Refusal.{StreamCause};
+ghost use Rattle.memberlist_keyring.specs.Cutting.{IsRefused};
+ghost use Rattle.memberlist_keyring.specs.Opening.{OpensStream, OpensStreamFirst};
+ghost use Rattle.memberlist_wrap.specs.Wrapping.{Unwraps};
+ghost use Rattle.memberlist_transport.specs.Stream.{BeginsAsStream, BeginsAsSealed, IsStreamIn, IsClearStream, Explains, ExplainsClear, fault_of_start};
+
+use crate::fault::StreamFault;
+use memberlist_cipher::CipherFault;
+use memberlist_keyring::Keyring;
+use memberlist_wrap::{WrapFault, unwrap};
+use std::alloc::Global;
+use swim_wire::PUSH_PULL_MESSAGE;
+
+/// The first byte of an encrypted stream, as in memberlist's `net.go`.
+const ENCRYPTED: u8 = 10;
+
+/// The push/pull stream that one direction of a TCP connection is, without its wrappers, and opened
+/// with the keys where it is encrypted and there are some, as in memberlist's `net.go`
+/// (`readStream`). That its first byte is that of such a stream is all that is looked at. Neither
+/// it nor anything compressed or encrypted has more than `limit` bytes.
+///
+/// # Errors
+///
+/// `Wrapped`, with the fault of [`memberlist_wrap::unwrap`], where the bytes wrap nothing within
+/// the limit; `NoStream`, with its first byte, where what they wrap is no push/pull stream, and
+/// `Empty` where it has no byte. Where it is encrypted and there are keys: `Closed` with the fault
+/// by which the last of them is refused, and else these of what was encrypted. `Memory` where a
+/// growth was refused.
+pub fn open_stream(
+    alloc: Global,
+    keys: &Keyring,
+    bytes: &[u8],
+    limit: usize,
+) -> Result<Vec<u8>, StreamFault>
+    // It is the stream that the bytes hold.
+    ensures unwraps { IfOk result (λ stream. IsStreamIn limit keys.now bytes.now stream.items) }
+
+    // Refused for another cause than memory, they hold none, and the refusal says why.
+    ensures refuses { IfErr result (λ fault. fault ≢ StreamFault.Memory
+        → (stream : List ℕ) → ¬ IsStreamIn limit keys.now bytes.now stream) }
+    ensures explains { IfErr result (λ fault. fault ≢ StreamFault.Memory
+        → Explains limit keys.now bytes.now fault) }
+{
+    stream_in(alloc, keys, bytes, limit)
+}
+
+fn stream_in(
+    alloc: Global,
+    keys: &Keyring,
+    bytes: &[u8],
+    limit: usize,
+) -> Result<Vec<u8>, StreamFault>
+    ensures unwraps { IfOk result (λ stream. IsStreamIn limit keys.now bytes.now stream.items) }
+    ensures explains { IfErr result (λ fault. fault ≢ StreamFault.Memory
+        → Explains limit keys.now bytes.now fault) }
+{
+    match unwrap(alloc, bytes, limit) {
+        Ok(message) => stream_behind(alloc, keys, bytes, message, limit),
+        Err(WrapFault::Memory) => Err(StreamFault::Memory),
+        Err(cause) => Err(StreamFault::Wrapped(cause)),
+    }
+}
+
+/// The same of bytes that wrap this message.
+fn stream_behind(
+    alloc: Global,
+    keys: &Keyring,
+    bytes: &[u8],
+    message: Vec<u8>,
+    limit: usize,
+) -> Result<Vec<u8>, StreamFault>
+    requires { Unwraps limit bytes.now message.items }
+    ensures unwraps { IfOk result (λ stream. IsStreamIn limit keys.now bytes.now stream.items) }
+    ensures explains { IfErr result (λ fault. fault ≢ StreamFault.Memory
+        → Explains limit keys.now bytes.now fault) }
+{
+    if keys.is_empty() || !is_sealed(&message) {
+        return stream_of(message);
+    }
+    drop(message);
+    opened_stream(alloc, keys, bytes, limit)
+}
+
+/// Whether the message begins as an encrypted stream.
+fn is_sealed(message: &[u8]) -> bool
+    ensures { MatchBool result (BeginsAsSealed message.now) (¬ BeginsAsSealed message.now) }
+{
+    match message.split_first() {
+        Some((first, _)) => *first == ENCRYPTED,
+        None => false,
+    }
+}
+
+/// The stream in bytes that a key opens.
+fn opened_stream(
+    alloc: Global,
+    keys: &Keyring,
+    bytes: &[u8],
+    limit: usize,
+) -> Result<Vec<u8>, StreamFault>
+    ensures ok { IfOk result (λ stream. (inner : List ℕ) × OpensStreamFirst keys.now bytes.now inner
+        × IsClearStream limit inner stream.items) }
+    ensures err { IfErr result (λ fault. fault ≢ StreamFault.Memory
+        → ((cause : CipherFault) × ((inner : List ℕ) → ¬ OpensStream keys.now bytes.now inner)
+        × IsRefused StreamCause keys.now bytes.now cause × (fault ≡ StreamFault.Closed cause))
+        ⊎ ((inner : List ℕ) × OpensStreamFirst keys.now bytes.now inner
+        × ExplainsClear limit inner fault)) }
+{
+    match keys.open_stream(alloc, bytes) {
+        Ok(inner) => clear_stream(alloc, &inner, limit),
+        Err(CipherFault::Memory) => Err(StreamFault::Memory),
+        Err(cause) => Err(StreamFault::Closed(cause)),
+    }
+}
+
+/// The stream in bytes in the clear.
+fn clear_stream(alloc: Global, bytes: &[u8], limit: usize) -> Result<Vec<u8>, StreamFault>
+    ensures ok { IfOk result (λ stream. IsClearStream limit bytes.now stream.items) }
+    ensures err { IfErr result (λ fault. fault ≢ StreamFault.Memory
+        → ExplainsClear limit bytes.now fault) }
+{
+    match unwrap(alloc, bytes, limit) {
+        Ok(message) => stream_of(message),
+        Err(WrapFault::Memory) => Err(StreamFault::Memory),
+        Err(cause) => Err(StreamFault::Wrapped(cause)),
+    }
+}
+
+/// The message, if it is a push/pull stream.
+fn stream_of(message: Vec<u8>) -> Result<Vec<u8>, StreamFault>
+    ensures ok { IfOk result (λ stream. BeginsAsStream stream.items
+        × (stream.items ≡ message.items)) }
+    ensures err { IfErr result (λ fault. (¬ BeginsAsStream message.items)
+        × (fault ≡ fault_of_start message.items)) }
+{
+    let Some((first, _)) = message.split_first() else {
+        return Err(StreamFault::Empty);
+    };
+    let found = *first;
+    if found == PUSH_PULL_MESSAGE {
+        Ok(message)
+    } else {
+        Err(StreamFault::NoStream(found))
+    }
+}
