@@ -1,6 +1,5 @@
 -- The time of an entry is that of the last change of its state.
-use Rattle.std.proofs.Common.{◌≡◌, ℕ, Bool, true, false, nat_lt, nat_le, Option, Some, None, IfSome, List, [], ◌∷◌, ◌++◌, if◌then◌else◌, refl, ap, ◌∙◌}
-use Rattle.std.specs.Option.{option_to_list}
+use Rattle.std.proofs.Common.{◌≡◌, ℕ, Bool, true, false, nat_lt, nat_le, Option, Some, None, IfSome, List, if◌then◌else◌, refl, ap, ◌∙◌}
 use Rattle.std.specs.Ordering.{is_eq}
 use Rattle.swim_claim.specs.Details.{DetailsValue}
 use Rattle.memberlist_view.specs.declared.entry.Entry.{Entry}
@@ -12,7 +11,7 @@ use Rattle.memberlist_view.specs.declared.heard.Heard.{Heard}
 use Rattle.memberlist_view.specs.declared.heard.Said.{Said}
 use Rattle.memberlist_view.specs.declared.heard.Said.TheVariants.{Alive, Suspect, Dead, Left}
 use Rattle.memberlist_view.specs.Heard.{about}
-use Rattle.memberlist_view.specs.Rules.{Change, name_cmp, has_name, are_sound_versions, is_same_place, is_dead, is_gone, has_left, is_forgotten, is_rival, alive_again, alive_known, accused, suspected, ended, change_by, change}
+use Rattle.memberlist_view.specs.Rules.{Change, name_cmp, is_passed_over, are_sound_versions, is_same_place, is_dead, is_gone, has_left, is_forgotten, is_rival, alive_again, alive_known, accused, suspected, ended, change_by, change}
 use Rattle.memberlist_view.specs.Shown.{changed, shown_next}
 use Rattle.memberlist_view.specs.Lasting.{is_same_kind, IsSince, IsSince as since}
 use Rattle.memberlist_view.proofs.Changing.{by_test, first_true}
@@ -78,7 +77,7 @@ module _ (time : ℕ) (entry : Entry) where
 
     accused_since : (by : List (List ℕ)) (from : Option (List ℕ)) → entry.state ≡ state.Suspect by → IfSome (accused by entry from) Is
     accused_since by None e = tt
-    accused_since by (Some f) e = by_test Is (has_name f by) None _ (λ _. tt) (λ _. kept_as (state.Suspect by) _ e refl refl)
+    accused_since by (Some f) e = by_test Is (is_passed_over f by) None _ (λ _. tt) (λ _. kept_as (state.Suspect by) _ e refl refl)
 
     suspected_since : (from : Option (List ℕ)) (s : State) → entry.state ≡ s → IfSome (suspected s time entry inc from) Is
     suspected_since from state.Alive e = began_as state.Alive _ e refl refl

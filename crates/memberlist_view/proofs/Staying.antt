@@ -16,7 +16,7 @@ use Rattle.memberlist_view.specs.declared.heard.Heard.{Heard}
 use Rattle.memberlist_view.specs.declared.heard.Said.{Said}
 use Rattle.memberlist_view.specs.declared.heard.Said.TheVariants.{Alive, Suspect, Dead, Left}
 use Rattle.memberlist_view.specs.Heard.{about}
-use Rattle.memberlist_view.specs.Rules.{Change, name_cmp, are_sound_versions, is_same_place, is_dead, is_gone, has_left, is_forgotten, is_rival, taken_new, alive_known, suspected, ended, change_by, change}
+use Rattle.memberlist_view.specs.Rules.{Change, name_cmp, are_sound_versions, is_same_place, is_dead, is_gone, has_left, is_forgotten, is_rival, alive_known, suspected, ended, change_by, change}
 use Rattle.memberlist_view.specs.Shown.{changed, shown_next, shown_from}
 use Rattle.memberlist_view.specs.Sources.{Was}
 use Rattle.memberlist_view.specs.Lasting.{Revives, Revives as revival, IsRevival}

@@ -1,6 +1,6 @@
 //! Who suspects a member.
 
-ghost use Rattle.std.specs.Prelude.{◌≡◌, ◌∷◌, ◌++◌, [], IfOk};
+ghost use Rattle.std.specs.Prelude.{length, nat_le, ◌≡◌, ◌∷◌, ◌++◌, [], IfOk};
 ghost use Rattle.std.specs.Option.{option_copied, option_to_list};
 ghost use Rattle.memberlist_view.specs.Rules.{has_name};
 
@@ -8,7 +8,11 @@ use crate::member_name::MemberName;
 use std::alloc::{AllocError, Global};
 use std::marker::Model;
 
-/// Who suspects a member, in the order in which their words were heard.
+/// The most accusers of a member that are noted (own), so that a list of them costs little to copy
+/// whoever accuses.
+const MOST: usize = 255;
+
+/// Who suspects a member, at most 255, in the order in which their words were heard.
 #[derive(Drop, Debug)]
 pub struct Accusers {
     names: Vec<MemberName>,
@@ -46,6 +50,13 @@ impl Accusers {
         ensures { result ≡ has_name name.now self.now }
     {
         self.names.iter().any(|accuser| *accuser == *name)
+    }
+
+    /// Whether no more are noted.
+    pub(crate) fn is_full(&self) -> bool
+        ensures { result ≡ nat_le 255 (length self.now) }
+    {
+        MOST <= self.names.len()
     }
 
     /// The same again.

@@ -241,7 +241,7 @@ fn accused(
     let Some(from) = from else {
         return Ok(None);
     };
-    if by.contains(from) {
+    if by.contains(from) || by.is_full() {
         return Ok(None);
     }
     let by = by.with(alloc, from)?;
