@@ -103,14 +103,15 @@ pub data Passes (start : CaptureState) (old : Source) : ℕ → CaptureState →
       → Passes start old n at from → ReadsAs {X = Step} stop_cause same (step_at at) from new (Ok (next, None))
       → Passes start old (n + 1) next new
 
--- the step that a call ends with
+-- the step that a call ends with; without a record it changes nothing
 abbrev pub Ends : ℕ → CaptureState → Source → CaptureState → Source → List ℕ → Result (Option Record) CaptureFault → Type 0
 Ends n at from next new bytes (Ok (Some head)) =
     ReadsAs {X = Step} stop_cause same (step_at at) from new (Ok (next, Some (head, bytes)))
-Ends n at from next new bytes (Ok None) = ReadsAs {X = Step} stop_cause same (step_at at) from new (Err End)
+Ends n at from next new bytes (Ok None) =
+    ReadsAs {X = Step} stop_cause same (step_at at) from new (Err End) × (next ≡ at)
 Ends n at from next new bytes (Err fault) =
-    ReadsAs {X = Step} stop_cause same (step_at at) from new (Err (Fault fault))
-    ⊎ ((fault ≡ NoRecord) × (n ≡ 2 ^ 64 - 1))
+    (ReadsAs {X = Step} stop_cause same (step_at at) from new (Err (Fault fault))
+    ⊎ ((fault ≡ NoRecord) × (n ≡ 2 ^ 64 - 1))) × (next ≡ at)
 
 -- What the next record is: steps without one, and then the first that has one, finds the capture's
 -- end, or a fault.

@@ -145,7 +145,8 @@ fn read_enhanced<I: Inlet>(
     bytes: &mut Vec<u8>,
     total: u32,
 ) -> Result<Block, Stop>
-    ensures { ReadsAs stop_cause (block_text bytes.new.items) (timed_packet 4 (section_text section.now) total)
+    ensures { ReadsAs stop_cause (block_text bytes.new.items)
+        (timed_packet 4 (section_text section.now) total)
         (I.seen inlet.old) (I.seen inlet.new) result }
 {
     let order = section.order;
@@ -171,7 +172,8 @@ fn read_obsolete<I: Inlet>(
     bytes: &mut Vec<u8>,
     total: u32,
 ) -> Result<Block, Stop>
-    ensures { ReadsAs stop_cause (block_text bytes.new.items) (timed_packet 2 (section_text section.now) total)
+    ensures { ReadsAs stop_cause (block_text bytes.new.items)
+        (timed_packet 2 (section_text section.now) total)
         (I.seen inlet.old) (I.seen inlet.new) result }
 {
     let order = section.order;
@@ -197,7 +199,8 @@ fn read_simple<I: Inlet>(
     bytes: &mut Vec<u8>,
     total: u32,
 ) -> Result<Block, Stop>
-    ensures { ReadsAs stop_cause (block_text bytes.new.items) (simple_packet (section_text section.now) total)
+    ensures { ReadsAs stop_cause (block_text bytes.new.items)
+        (simple_packet (section_text section.now) total)
         (I.seen inlet.old) (I.seen inlet.new) result }
 {
     let order = section.order;

@@ -61,7 +61,8 @@ pub(crate) fn room_behind(captured: u32, room: u32) -> Result<u32, Stop>
 
 /// The total length of a block stands again at its end.
 pub(crate) fn check_total(again: u32, total: u32) -> Result<(), Stop>
-    ensures { (at : Source) → ReadsAs stop_cause (λ _. tt) (same_total again total) at at result }
+    ensures { (at : Source) → ReadsAs stop_cause (λ _. tt) (same_total again total)
+        at at result }
 {
     if again == total {
         Ok(())

@@ -106,7 +106,8 @@ fn fault_of(stop: Stop) -> CaptureFault
 
 /// Takes into the section what a block says, and gives the record that it holds.
 fn take_block(section: &mut Section, block: Block) -> Result<Option<Record>, Stop>
-    ensures taken { (bytes : List ℕ) → IfOk result (λ found. step_text (pcapng (section_text section.new)) bytes found
+    ensures taken { (bytes : List ℕ) → IfOk result (λ found.
+        step_text (pcapng (section_text section.new)) bytes found
         ≡ behind_block (section_text section.old) (block_text bytes block)) }
     ensures refused { IfErr result (λ refusal. refusal ≡ stops.Fault faults.Memory) }
     ensures kept { OnErr result (section_text section.new ≡ section_text section.old) }
@@ -190,7 +191,7 @@ impl CaptureReader {
 
     /// Reads the next record, and puts its captured bytes in place of what `bytes` held. There is
     /// none where the capture ends. It reads no further than the record's end, and asks for memory
-    /// only for captured bytes and interfaces that were read: at most twice 262,144 bytes at once.
+    /// only for captured bytes, options and interfaces that were read.
     ///
     /// # Errors
     ///
@@ -200,7 +201,8 @@ impl CaptureReader {
     /// of 4 or leave no room for what the block holds; `UnknownInterface`; `TooManyInterfaces`
     /// above 4,096 of a section; `NotCapture` and `Version` at a further section header block.
     /// `NoRecord` where 2^64 - 1 blocks in a row hold no record. `Device` where the inlet failed,
-    /// and `Memory` where there is none. What `bytes` then holds is left open.
+    /// and `Memory` where there is none. What the reader knows of the capture then stays, and what
+    /// `bytes` holds is left open.
     pub fn next<I: Inlet>(
         &mut self,
         inlet: &mut I,

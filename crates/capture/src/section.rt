@@ -48,8 +48,8 @@ impl Section {
 
     /// The interface of this number, which the section has to have described.
     pub(crate) fn described(&self, interface: u32) -> Result<Interface, Stop>
-        ensures { (at : Source) → ReadsAs stop_cause same (described (section_text self.now) interface)
-            at at result }
+        ensures { (at : Source) → ReadsAs stop_cause same
+            (described (section_text self.now) interface) at at result }
     {
         match self.interface(interface) {
             Some(found) => Ok(*found),

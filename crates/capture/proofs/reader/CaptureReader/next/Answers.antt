@@ -32,7 +32,7 @@ returns-in-Err-End g c = record {
     at = c.loop.self;
     from = g.I.Inlet.seen c.loop.inlet;
     passed = c.loop.invariant;
-    last = Reads-error (rw (c.in-Err-End.is, c.in-Err-End.field-0-is) at c.step.ensures.exact);
+    last = (Reads-error (rw (c.in-Err-End.is, c.in-Err-End.field-0-is) at c.step.ensures.exact), rw c.in-Err-End.is at c.step.ensures.kept);
   };
 }
 
@@ -45,7 +45,7 @@ returns-in-Err-Fault g c =
         at = c.loop.self;
         from = g.I.Inlet.seen c.loop.inlet;
         passed = c.loop.invariant;
-        last = inl (Reads-error (rw (c.in-Err-Fault.is, c.in-Err-Fault.field-0-is) at c.step.ensures.exact));
+        last = (inl (Reads-error (rw (c.in-Err-Fault.is, c.in-Err-Fault.field-0-is) at c.step.ensures.exact)), rw c.in-Err-Fault.is at c.step.ensures.kept);
       };
     })
 
@@ -58,6 +58,6 @@ returns g c =
         at = c.loop.self;
         from = g.I.Inlet.seen c.loop.inlet;
         passed = c.loop.invariant;
-        last = inr (refl, done);
+        last = (inr (refl, done), refl);
       };
     }
