@@ -1,5 +1,5 @@
 -- The one message that a packet has, in the clear or behind a key.
-use Rattle.std.proofs.Common.{◌≡◌, ◌⊎◌, ◌∙◌, inl, inr, ℕ, List, [], ◌∷◌, Result, Ok, Err, IfOk, IfErr, refl, ap, sym, subst, get_or, length, length-append, arith}
+use Rattle.std.proofs.Common.{◌≡◌, ◌⊎◌, ◌∙◌, inl, inr, ℕ, List, [], ◌∷◌, Result, Ok, Err, IfErr, refl, ap, sym, subst, get_or, length, length-append, arith}
 use Rattle.std.specs.List.{Contains}
 use Rattle.std.specs.Prelude.{◌≢◌}
 use Rattle.std.proofs.lemmas.List.Elements.{Contains-append_right}

@@ -1,5 +1,5 @@
 -- What is said of bytes that hold no stream is no fault of a device, and not that of a length.
-use Rattle.std.proofs.Common.{◌≡◌, ℕ, Option, Some, None, arith}
+use Rattle.std.proofs.Common.{ℕ, Option, Some, None, arith}
 use Rattle.std.specs.Prelude.{◌≢◌}
 use Rattle.memberlist_cipher.specs.declared.fault.CipherFault.{CipherFault}
 use Rattle.memberlist_cipher.specs.declared.fault.CipherFault.TheVariants as cipher

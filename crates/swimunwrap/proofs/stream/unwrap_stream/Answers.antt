@@ -1,6 +1,4 @@
 use Rattle.std.proofs.Common.{◌∙◌, ap}
-use Rattle.std.specs.Prelude.{◌≢◌}
-use Rattle.memberlist_transport.specs.declared.fault.StreamFault.TheVariants.{Memory}
 use Rattle.swimunwrap.specs.Stream.{what_of_stream}
 use Rattle.swimunwrap.proofs.Streams.{IsOwn, own}
 use Rattle.swimunwrap.proofs.stream.unwrap_stream.Goals as goal
