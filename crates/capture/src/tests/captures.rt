@@ -1,7 +1,7 @@
 //! Captures made by hand, by the bytes that the formats' drafts show.
 
 use crate::{CaptureFault, CaptureReader, Record};
-use std::alloc::Global;
+use std::alloc::{AllocError, Global};
 use std::process::Abort;
 use std::test::Fail;
 use swim_pack::SliceInlet;
@@ -43,15 +43,25 @@ fn assert_capture(
             link: wanted.link,
             original: wanted.original,
         };
-        assert!(rt;
-            reader.next(&mut inlet, &mut bytes) == Ok(Some(head)),
-            "{capture:?}"
-        );
+        let found = next(&mut reader, &mut inlet, &mut bytes)?;
+        assert!(rt; found == Ok(Some(head)), "{capture:?}");
         assert!(rt; bytes.as_slice() == wanted.bytes, "{capture:?}");
     }
-    let last = reader.next(&mut inlet, &mut bytes);
+    let last = next(&mut reader, &mut inlet, &mut bytes)?;
     assert!(rt; last.err() == end, "{capture:?}");
     Ok(())
+}
+
+/// The next record, or the fault, unless memory was refused.
+fn next(
+    reader: &mut CaptureReader,
+    inlet: &mut SliceInlet,
+    bytes: &mut Vec<u8>,
+) -> Result<Result<Option<Record>, CaptureFault>, AllocError> {
+    match reader.next(inlet, bytes) {
+        Err(CaptureFault::Memory) => Err(AllocError),
+        found => Ok(found),
+    }
 }
 
 #[test]
