@@ -1,5 +1,6 @@
 -- What a datagram carries.
-use Rattle.std.specs.Prelude.{List, [], ◌∷◌, ⊤}
+use Rattle.std.specs.Prelude.{List, [], ◌∷◌, map, ⊤}
+use Rattle.swim_claim.specs.declared.claim.Claim.{Claim}
 use Rattle.swim_wire.specs.declared.datagram.Datagram.{Datagram}
 use Rattle.swim_wire.specs.declared.datagram.Datagram.TheVariants.{Packet, Compound}
 use Rattle.swim_wire.specs.Packet.{PacketValue}
@@ -8,6 +9,10 @@ use Rattle.swim_wire.specs.Packet.{PacketValue}
 abbrev pub packets_in : Datagram → List PacketValue
 packets_in (Packet packet) = packet ∷ []
 packets_in (Compound packets) = packets.items
+
+-- their claims, in their order
+abbrev pub claims_in : Datagram → List Claim
+claims_in datagram = map (λ p. p.claim) (packets_in datagram)
 
 -- it is a compound packet
 abbrev pub IsCompound : Datagram → Type 0

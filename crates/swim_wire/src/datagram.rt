@@ -4,7 +4,7 @@ ghost use Rattle.std.specs.Prelude.{◌≡◌, ◌≢◌, ◌↔◌, [], List, E
 ghost use Rattle.swim_wire.specs.Asking.{PacketAsks, PartsAsk, CompoundAsks, DatagramAsks};
 ghost use Rattle.swim_wire.specs.Checks.{BeginsWith};
 ghost use Rattle.swim_wire.specs.Datagrams.{alone, packets_of, parts_at, compound_at, whole_datagram, ExplainsDatagram};
-ghost use Rattle.swim_wire.specs.PacketList.{packets_in, IsCompound};
+ghost use Rattle.swim_wire.specs.PacketList.{packets_in, claims_in, IsCompound};
 ghost use Rattle.swim_wire.specs.Packet.{PacketValue};
 ghost use Rattle.swim_wire.specs.Reading.{nothing_after, whole_packet};
 ghost use Rattle.swim_wire.specs.Texts.{DatagramText};
@@ -14,6 +14,7 @@ use crate::WireFault;
 use crate::message::{ALIVE_MESSAGE, COMPOUND_MESSAGE, DEAD_MESSAGE, SUSPECT_MESSAGE};
 use crate::packet::{Packet, decode_whole_packet};
 use std::alloc::{AllocError, Global};
+use swim_claim::Claim;
 
 /// What a datagram carries: a packet by itself, or the packets of a compound packet.
 #[derive(Drop, Debug)]
@@ -66,6 +67,27 @@ impl Datagram {
                 Ok(packets)
             }
             Datagram::Compound(packets) => Ok(packets),
+        }
+    }
+
+    /// The claims of the packets, in their order.
+    ///
+    /// # Errors
+    ///
+    /// Memory for the list is refused.
+    pub fn into_claims(self, alloc: Global) -> Result<Vec<Claim>, AllocError>
+        ensures { IfOk result (λ claims. claims.items ≡ claims_in self) }
+    {
+        match self {
+            Datagram::Packet(packet) => {
+                let mut claims = Vec::new(alloc);
+                claims.push(packet.into_claim())?;
+                Ok(claims)
+            }
+            Datagram::Compound(packets) => packets
+                .into_iter()
+                .map(|packet| packet.into_claim())
+                .collect(alloc),
         }
     }
 }

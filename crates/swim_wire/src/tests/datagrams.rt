@@ -5,7 +5,7 @@ use crate::{Datagram, Packet, WireFault, decode_datagram, skip_user};
 use std::alloc::Global;
 use std::process::Abort;
 use std::test::Fail;
-use swim_claim::Kind;
+use swim_claim::Claim;
 use swim_pack::SliceInlet;
 
 /// A compound packet of the Alive and the Suspect.
@@ -28,15 +28,25 @@ fn assert_packets(rt: &impl Abort, packets: &[Packet], names: &[u8]) {
     }
 }
 
-/// That the bytes are a datagram of packets about these names.
+/// That the claims are about these names of one letter each.
+fn assert_claims(rt: &impl Abort, claims: &[Claim], names: &[u8]) {
+    assert_count(rt, claims.len(), names.len());
+    for (claim, name) in claims.iter().zip(names) {
+        assert_bytes(rt, claim.name().bytes(), &[*name]);
+    }
+}
+
+/// That the bytes are a datagram of packets, and of claims, about these names.
 fn assert_read(rt: &impl Abort, alloc: Global, bytes: &[u8], names: &[u8]) -> Result<(), Fail> {
     let packets = decode_datagram(alloc, bytes)?;
     assert_packets(rt, &packets, names);
+    let claims = Datagram::decode(alloc, bytes)?.into_claims(alloc)?;
+    assert_claims(rt, &claims, names);
     Ok(())
 }
 
 #[test]
-fn a_datagram_has_the_packets_of_its_parts(rt: HostRuntime) -> Result<(), Fail> {
+fn a_datagram_has_the_packets_and_claims_of_its_parts(rt: HostRuntime) -> Result<(), Fail> {
     for (bytes, names) in [
         (BOTH, b"ab".as_slice()),
         (PASSED_OVER, b"b"),
