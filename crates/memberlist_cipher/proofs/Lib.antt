@@ -12,3 +12,4 @@ pub mod Once
 pub mod Streams
 pub mod Mixing
 pub mod Prepared
+pub mod Labels

@@ -3,6 +3,7 @@ pub mod Block
 pub mod Gcm
 pub mod Products
 pub mod Encryption
+pub mod Label
 pub mod Prepared
 pub mod Fault
 pub mod Refusal

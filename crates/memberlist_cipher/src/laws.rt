@@ -3,6 +3,7 @@
 
 ghost use Rattle.std.specs.Prelude.{◌≡◌, List, ℕ};
 ghost use Rattle.memberlist_cipher.specs.Encryption.{Encryption, StreamEncryption};
+ghost use Rattle.memberlist_cipher.specs.Label.{IsLabelled, IsLabelText};
 
 /// For one key and the same associated bytes, bytes are the encryption of one message.
 pub fn one_message()
@@ -10,4 +11,12 @@ pub fn one_message()
         → Encryption key associated bytes y → x ≡ y }
     ensures stream { (key label bytes x y : List ℕ) → StreamEncryption key label bytes x
         → StreamEncryption key label bytes y → x ≡ y }
+{}
+
+/// Bytes have one label, or none; and a label that was written is read back.
+pub fn one_label()
+    ensures one { (bytes label rest other behind : List ℕ) → IsLabelled bytes label rest
+        → IsLabelled bytes other behind → (label ≡ other) × (rest ≡ behind) }
+    ensures written { (bytes label rest other behind : List ℕ) → IsLabelText bytes label rest
+        → IsLabelled bytes other behind → (label ≡ other) × (rest ≡ behind) }
 {}

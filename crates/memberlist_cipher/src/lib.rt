@@ -13,6 +13,7 @@
 //! | `tagging` | the tag |
 //! | `unpadding` | padding taken off |
 //! | `key` | a key, made ready to decrypt |
+//! | `label` | the label of a packet or a stream |
 //! | `layout` | encrypted bytes taken apart |
 //! | `opening` | the message of a packet |
 //! | `stream` | the message of a stream |
@@ -27,6 +28,7 @@ mod fault;
 mod field;
 mod hashing;
 mod key;
+mod label;
 pub mod laws;
 mod layout;
 mod opening;
@@ -37,6 +39,7 @@ mod unpadding;
 
 pub use fault::CipherFault;
 pub use key::{Key, is_key};
+pub use label::{LABEL, LabelFault, labelled, split_label};
 pub use opening::decrypt;
 pub use stream::decrypt_stream;
 

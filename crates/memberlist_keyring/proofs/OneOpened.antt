@@ -5,7 +5,7 @@ use Rattle.std.proofs.lemmas.List.Elements.{Contains-append_right}
 use Rattle.memberlist_cipher.specs.Encryption.{Encryption, StreamEncryption}
 use Rattle.memberlist_cipher.proofs.Once.{one_message, one_stream_message}
 use Rattle.memberlist_keyring.specs.Opening.{IsFirst, OpensFirst, OpensStream, OpensStreamFirst}
-use Rattle.memberlist_keyring.proofs.Labels.{one_label}
+use Rattle.memberlist_cipher.proofs.Labels.{one_label}
 
 -- of two keys that open something and before which none does, each is the other
 same_key : (Opened : List ℕ → List ℕ → Type 0) (b : List (List ℕ)) (k : List ℕ) (a c : List (List ℕ)) (l : List ℕ)

@@ -7,7 +7,8 @@ use Rattle.memberlist_cipher.specs.declared.fault.CipherFault.TheVariants.{Memor
 use Rattle.memberlist_cipher.specs.Encryption.{Encryption, StreamEncryption}
 use Rattle.memberlist_keyring.specs.Opening.{Opens, OpensStream, IsFirst, OpensFirst, OpensStreamFirst}
 use Rattle.memberlist_keyring.specs.Cutting.{IsCut, IsFaultOfKeys, IsRefused, AsksMemory}
-use Rattle.memberlist_keyring.proofs.Labels.{one_label, encrypted_is_bare, stream_is_bare}
+use Rattle.memberlist_cipher.proofs.Labels.{one_label}
+use Rattle.memberlist_keyring.proofs.Labels.{encrypted_is_bare, stream_is_bare}
 
 in_the_middle : (before : List (List ℕ)) (key : List ℕ) (after keys : List (List ℕ)) → keys ≡ before ++ key ∷ after → Contains keys key
 in_the_middle before key after keys parts = (

@@ -3,7 +3,7 @@ use Rattle.std.specs.Prelude.{◌≡◌, ◌⊎◌, ℕ, List, [], ◌∷◌, �
 use Rattle.std.specs.List.{Contains}
 use Rattle.memberlist_cipher.specs.declared.fault.CipherFault.{CipherFault}
 use Rattle.memberlist_cipher.specs.declared.fault.CipherFault.TheVariants.{WrongTag, Memory}
-use Rattle.memberlist_keyring.specs.Opening.{IsLabelled}
+use Rattle.memberlist_cipher.specs.Label.{IsLabelled}
 
 -- A label and what it labels. Bytes that begin as a label and are none are left whole, with no
 -- label: the cipher refuses their first byte.

@@ -1,13 +1,8 @@
 -- What a keyring opens: a packet or a stream that was encrypted under one of its keys.
-use Rattle.std.specs.Prelude.{◌≡◌, ◌≢◌, ◌⊎◌, ℕ, ◌<◌, List, [], ◌∷◌, ◌++◌, length}
+use Rattle.std.specs.Prelude.{◌≡◌, List, ◌∷◌, ◌++◌, ℕ}
 use Rattle.std.specs.List.{Contains}
 use Rattle.memberlist_cipher.specs.Encryption.{Encryption, StreamEncryption}
-
--- a label of one byte at least and what it labels, or no label (memberlist's label.go)
-abbrev pub IsLabelled : List ℕ → List ℕ → List ℕ → Type 0
-IsLabelled bytes label rest =
-    ((label ≡ []) × (bytes ≡ rest) × ((more : List ℕ) → bytes ≢ 244 ∷ more))
-    ⊎ ((0 < length label) × (bytes ≡ 244 ∷ length label ∷ label ++ rest))
+use Rattle.memberlist_cipher.specs.Label.{IsLabelled}
 
 -- The packet is, behind its label, an encryption of this message under one of the keys; the label
 -- is associated.

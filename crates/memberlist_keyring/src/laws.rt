@@ -3,19 +3,13 @@
 
 ghost use Rattle.std.specs.Prelude.{◌≡◌, List, ℕ};
 ghost use Rattle.memberlist_keyring.specs.KeyFile.{IsKeyText, IsKeyFile};
-ghost use Rattle.memberlist_keyring.specs.Opening.{IsLabelled, OpensFirst, OpensStreamFirst};
+ghost use Rattle.memberlist_keyring.specs.Opening.{OpensFirst, OpensStreamFirst};
 
 /// A text is that of one key, and a file holds one list of keys.
 pub fn one_file()
     ensures text { (text x y : List ℕ) → IsKeyText text x → IsKeyText text y → x ≡ y }
     ensures file { (text : List ℕ) (xs ys : List (List ℕ)) → IsKeyFile text xs
         → IsKeyFile text ys → xs ≡ ys }
-{}
-
-/// Bytes have one label, or none.
-pub fn one_label()
-    ensures { (bytes label rest other behind : List ℕ) → IsLabelled bytes label rest
-        → IsLabelled bytes other behind → (label ≡ other) × (rest ≡ behind) }
 {}
 
 /// Of bytes keys in one order open one message.

@@ -3,6 +3,7 @@ use Rattle.std.proofs.Common.{◌≡◌, ℕ, ◌+◌, ◌-◌, ◌<◌, ◌≤�
 use Rattle.std.proofs.lemmas.List.{length-append, drop_at}
 use Rattle.swim_wire.specs.declared.fault.WireFault.{WireFault}
 use Rattle.swim_wire.specs.Compression.{CompressionText, whole_compression}
+use Rattle.memberlist_cipher.specs.Label.{IsLabelled}
 use Rattle.memberlist_wrap.specs.declared.fault.WrapFault.{WrapFault}
 use Rattle.memberlist_wrap.specs.declared.fault.WrapFault.TheVariants.{TooLarge}
 use Rattle.memberlist_wrap.specs.declared.wrappers.Core.{Core}
@@ -12,7 +13,7 @@ use Rattle.memberlist_wrap.specs.Explaining.FailsHere.{broken, large}
 use Rattle.memberlist_wrap.specs.Peeling.{EndsWith, Holds, PackedUnwraps, PackedFails}
 use Rattle.memberlist_wrap.specs.Peeling.PackedFails.{here, inside}
 use Rattle.memberlist_wrap.specs.Wrapping.{Wrapper, kind, WrapText, Wrapped, IsBare, UnwrapsIn}
-use Rattle.memberlist_wrap.specs.Wrapping.Wrapper.{compression}
+use Rattle.memberlist_wrap.specs.Wrapping.Wrapper.{compression, label}
 use Rattle.memberlist_wrap.proofs.Unwrapping.{Wrapped-then}
 
 pub EndsWith-then : (a b c : List ℕ) → EndsWith a b → EndsWith b c → EndsWith a c
@@ -26,6 +27,11 @@ behind_front a b p =
 
 pub no_longer : (a b : List ℕ) → EndsWith a b → length b ≤ length a
 no_longer a b p = omega (arith, ap length p.1, length-append p.0 b)
+
+-- what is labelled stands behind its label
+pub off_label : (bytes rest name inner : List ℕ) → bytes ≡ 244 ∷ rest → IsLabelled bytes name inner → EndsWith bytes inner × WrapText 0 label rest inner
+off_label bytes rest name inner begins (inl none) = absurd (none.2 rest begins)
+off_label bytes rest name inner begins (inr some) = ((244 ∷ length name ∷ name, some.1), (name, (some.0, sym begins ∙ some.1)))
 
 -- ---- one wrapper more round what is left
 

@@ -2,12 +2,13 @@
 use Rattle.std.proofs.Common.{◌≡◌, ◌≢◌, ℕ, ◌+◌, ◌-◌, ◌≤◌, List, [], ◌∷◌, ◌++◌, length, take, drop, refl, sym, ap, subst, ◌∙◌, arith, inl, inr}
 use Rattle.std.proofs.lemmas.List.{length-append, take_at, drop_at}
 use Rattle.swim_wire.proofs.Compressions.{one_compression, whole_lacks}
+use Rattle.memberlist_cipher.proofs.Labels.{one_text, lacks_text}
 use Rattle.memberlist_wrap.specs.declared.fault.WrapFault.{WrapFault}
 use Rattle.memberlist_wrap.specs.declared.fault.WrapFault.TheVariants.{Ended, Trailing, BadCode, BadChecksum, BadMap, BadAlgo, BadLabel, TooLarge, TooDeep, Memory}
 use Rattle.memberlist_wrap.specs.Explaining.{WrapperFails, ChecksumFails, LabelFails, FailsHere, ExplainsIn}
 use Rattle.memberlist_wrap.specs.Explaining.FailsHere.{deep, broken, large}
 use Rattle.memberlist_wrap.specs.Lzw.{Lzw}
-use Rattle.memberlist_wrap.specs.Wrapping.{CheckedText, LabelledText, Wrapper, kind, WrapText, Wrapped, IsBare, Wraps, UnwrapsIn}
+use Rattle.memberlist_wrap.specs.Wrapping.{CheckedText, Wrapper, kind, WrapText, Wrapped, IsBare, Wraps, UnwrapsIn}
 use Rattle.memberlist_wrap.specs.Wrapping.Wrapper.{compression, checksum, label}
 use Rattle.memberlist_wrap.proofs.OneLzw.{one_lzw, no_lzw, no_lzw_within}
 use Rattle.memberlist_wrap.proofs.Polynomials.{number_heads}
@@ -23,10 +24,7 @@ one_inner m n compression rest a b p q =
     let P : List ℕ → Type 0 = λ x. Lzw x a in
     one_lzw q.packed a b (subst P (one_compression rest p.packed q.packed p.map q.map) p.lzw) q.lzw
 one_inner m n checksum rest a b p q = sym (four rest p.digits a p.size p.text).1 ∙ (four rest q.digits b q.size q.text).1
-one_inner m n label rest a b p q =
-    let parts = number_heads _ _ _ _ (sym p.text ∙ q.text) in
-    sym (drop_at p.label a (length p.label) refl) ∙ ap (drop (length p.label)) parts.1 ∙ ap (λ n. drop n (q.label ++ b)) parts.0
-    ∙ drop_at q.label b (length q.label) refl
+one_inner m n label rest a b p q = (one_text (244 ∷ rest) p.0 a q.0 b p.1 q.1).1
 
 same_kind : (w v : Wrapper) → kind w ≡ kind v → w ≡ v
 same_kind compression compression e = refl
@@ -109,26 +107,8 @@ no_checksum TooLarge rest inner fails text = fails
 no_checksum TooDeep rest inner fails text = fails
 no_checksum Memory rest inner fails text = fails
 
-no_label : (fault : WrapFault) (rest inner : List ℕ) → LabelFails fault rest → LabelledText rest inner → ⊥
-no_label Ended rest inner (inl none) text = omega (arith, ap length (sym none ∙ text.text))
-no_label Ended rest inner (inr cut) text =
-    let parts = number_heads cut.0 (length text.label) cut.1 (text.label ++ inner) (sym cut.2 ∙ text.text) in
-    let size = parts.0 in
-    let short = cut.3 in
-    omega (arith, ap length parts.1, length-append text.label inner)
-no_label BadLabel rest inner fails text =
-    let parts = number_heads 0 (length text.label) fails.0 (text.label ++ inner) (sym fails.1 ∙ text.text) in
-    let size = parts.0 in
-    let some = text.some in
-    omega arith
-no_label Trailing rest inner fails text = fails
-no_label BadCode rest inner fails text = fails
-no_label BadChecksum rest inner fails text = fails
-no_label BadMap rest inner fails text = fails
-no_label BadAlgo rest inner fails text = fails
-no_label TooLarge rest inner fails text = fails
-no_label TooDeep rest inner fails text = fails
-no_label Memory rest inner fails text = fails
+no_label : (fault : WrapFault) (rest inner : List ℕ) → LabelFails fault rest → WrapText 0 label rest inner → ⊥
+no_label fault rest inner fails text = lacks_text fails.0 (244 ∷ rest) text.0 inner fails.1 text.1
 
 -- a wrapper that fails within a limit stands round nothing within it
 no_inner : (limit : ℕ) (fault : WrapFault) (w : Wrapper) (rest inner : List ℕ) → WrapperFails limit fault w rest → WrapText limit w rest inner → ⊥

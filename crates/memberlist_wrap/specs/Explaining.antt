@@ -1,9 +1,12 @@
 -- What a refusal says of bytes in wrappers.
-use Rattle.std.specs.Prelude.{◌≡◌, ◌⊎◌, ℕ, ◌-◌, ◌<◌, ◌≤◌, List, [], ◌∷◌, ◌++◌, length, Err}
+use Rattle.std.specs.Prelude.{◌≡◌, ◌⊎◌, ℕ, ◌-◌, ◌<◌, ◌≤◌, List, ◌∷◌, ◌++◌, length, Err}
 use Rattle.byteorder.specs.Endian.{big_number}
 use Rattle.swim_wire.specs.declared.fault.WireFault.{WireFault}
 use Rattle.swim_wire.specs.declared.fault.WireFault.TheVariants as wire
 use Rattle.swim_wire.specs.Compression.{CompressionText, whole_compression}
+use Rattle.memberlist_cipher.specs.declared.label.LabelFault.{LabelFault}
+use Rattle.memberlist_cipher.specs.declared.label.LabelFault.TheVariants as labels
+use Rattle.memberlist_cipher.specs.Label.{LabelCause}
 use Rattle.memberlist_wrap.specs.declared.fault.WrapFault.{WrapFault}
 use Rattle.memberlist_wrap.specs.declared.fault.WrapFault.TheVariants.{Ended, Trailing, BadChecksum, BadMap, BadAlgo, BadLabel, TooLarge, TooDeep, Memory}
 use Rattle.memberlist_wrap.specs.Crc.{IsCrc}
@@ -34,12 +37,15 @@ ChecksumFails BadChecksum bytes = (digits : List ℕ) × (inner : List ℕ) × (
     × (bytes ≡ digits ++ inner) × (¬ IsCrc inner (big_number 4 digits))
 ChecksumFails fault bytes = ⊥
 
--- there is no length, or not so many bytes, or the length is 0
+-- how it is told that a label is none
+abbrev pub fault_of_label : LabelFault → WrapFault
+fault_of_label labels.Ended = Ended
+fault_of_label labels.Empty = BadLabel
+
+-- with its first byte it is no label, for this cause
 abbrev pub LabelFails : WrapFault → List ℕ → Type 0
-LabelFails Ended bytes = (bytes ≡ [])
-    ⊎ ((size : ℕ) × (rest : List ℕ) × (bytes ≡ size ∷ rest) × (length rest < size))
-LabelFails BadLabel bytes = (rest : List ℕ) × (bytes ≡ 0 ∷ rest)
-LabelFails fault bytes = ⊥
+LabelFails fault bytes =
+    (cause : LabelFault) × LabelCause cause (kind label ∷ bytes) × (fault ≡ fault_of_label cause)
 
 -- what stands behind the first byte of the wrapper is not its, for this reason
 abbrev pub WrapperFails : ℕ → WrapFault → Wrapper → List ℕ → Type 0

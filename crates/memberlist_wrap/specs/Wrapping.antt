@@ -1,7 +1,8 @@
 -- Wrappers round messages: checksums, compressions and labels.
-use Rattle.std.specs.Prelude.{◌≡◌, ◌≢◌, ℕ, ◌<◌, ◌≤◌, List, [], ◌∷◌, ◌++◌, length}
+use Rattle.std.specs.Prelude.{◌≡◌, ◌≢◌, ℕ, ◌≤◌, List, [], ◌∷◌, ◌++◌, length}
 use Rattle.byteorder.specs.Endian.{big_number}
 use Rattle.swim_wire.specs.Compression.{CompressionText}
+use Rattle.memberlist_cipher.specs.Label.{IsLabelText}
 use Rattle.memberlist_wrap.specs.Crc.{IsCrc}
 use Rattle.memberlist_wrap.specs.Lzw.{Lzw}
 
@@ -29,17 +30,11 @@ pub record CheckedText (bytes inner : List ℕ) : Type 0 where
   pub crc : IsCrc inner (big_number 4 digits)
   pub text : bytes ≡ digits ++ inner
 
--- a length, so many bytes, and the rest
-pub record LabelledText (bytes inner : List ℕ) : Type 0 where
-  pub label : List ℕ
-  pub some : 0 < length label
-  pub text : bytes ≡ length label ∷ label ++ inner
-
 -- what stands behind a wrapper's first byte, round these bytes
 abbrev pub WrapText : ℕ → Wrapper → List ℕ → List ℕ → Type 0
 WrapText limit compression rest inner = CompressedText limit rest inner
 WrapText limit checksum rest inner = CheckedText rest inner
-WrapText limit label rest inner = LabelledText rest inner
+WrapText limit label rest inner = (name : List ℕ) × IsLabelText (kind label ∷ rest) name inner
 
 -- The bytes are these wrappers, the outer one first, round the inner bytes. Nothing compressed has
 -- more bytes than the limit.

@@ -2,9 +2,10 @@
 
 ghost use Rattle.std.specs.Prelude.{◌≡◌};
 ghost use Rattle.memberlist_wrap.specs.declared.fault.WrapFault.TheVariants.{Memory};
-ghost use Rattle.memberlist_wrap.specs.Explaining.{fault_of_map};
+ghost use Rattle.memberlist_wrap.specs.Explaining.{fault_of_map, fault_of_label};
 ghost use Rattle.memberlist_wrap.specs.Fault.{wrap_number};
 
+use memberlist_cipher::LabelFault;
 use std::alloc::{AllocError, AllocFailed};
 use swim_wire::WireFault;
 use thiserror::Error;
@@ -92,6 +93,17 @@ impl From<WireFault> for WrapFault {
             WireFault::OutOfRange => WrapFault::BadAlgo,
             WireFault::Memory => WrapFault::Memory,
             _ => WrapFault::BadMap,
+        }
+    }
+}
+
+impl From<LabelFault> for WrapFault {
+    ghost from_gives = { λ label fault. fault ≡ fault_of_label label };
+
+    fn from(label: LabelFault) -> WrapFault {
+        match label {
+            LabelFault::Ended => WrapFault::Ended,
+            LabelFault::Empty => WrapFault::BadLabel,
         }
     }
 }

@@ -1,21 +1,19 @@
 //! The outer wrapper of bytes.
 
 ghost use Rattle.std.specs.Prelude.{◌≡◌, ◌↔◌, ◌⊎◌, ℕ, IsTrue, IfOk, IfErr, IsErrOf};
-ghost use Rattle.memberlist_wrap.specs.Explaining.{ChecksumFails, LabelFails, FailsHere};
+ghost use Rattle.memberlist_wrap.specs.Explaining.{ChecksumFails, FailsHere};
 ghost use Rattle.memberlist_wrap.specs.Peeling.{Shows};
-ghost use Rattle.memberlist_wrap.specs.Wrapping.{CheckedText, LabelledText};
+ghost use Rattle.memberlist_wrap.specs.Wrapping.{CheckedText};
 
 use crate::{WrapFault, crc32};
 use byteorder::{BigEndian, ByteOrder};
+use memberlist_cipher::{LABEL, split_label};
 
 /// The first byte of a compression, as in memberlist's net.go.
 const COMPRESSION: u8 = 9;
 
 /// The first byte of a checksum.
 const CHECKSUM: u8 = 12;
-
-/// The first byte of a label, as in memberlist's label.go.
-const LABEL: u8 = 244;
 
 /// What the outer wrapper of bytes stands round.
 #[derive(Clone, Copy)]
@@ -47,7 +45,10 @@ pub(crate) fn take_off(bytes: &[u8], depth: u8) -> Result<Outer, WrapFault>
     match kind {
         COMPRESSION => Ok(Outer::Compression(rest)),
         CHECKSUM => Ok(Outer::Layer(checked(rest)?)),
-        _ => Ok(Outer::Layer(after_label(rest)?)),
+        _ => {
+            let (_, inner) = split_label(bytes)?;
+            Ok(Outer::Layer(inner))
+        }
     }
 }
 
@@ -72,24 +73,4 @@ fn checked(bytes: &[u8]) -> Result<&[u8], WrapFault>
         return Err(WrapFault::BadChecksum);
     }
     Ok(rest)
-}
-
-/// What stands behind a label.
-fn after_label(bytes: &[u8]) -> Result<&[u8], WrapFault>
-    ensures ok { IfOk result (λ inner. LabelledText bytes.now inner.now) }
-    ensures err { IfErr result (λ fault. LabelFails fault bytes.now) }
-    ensures no_memory { ¬ IsErrOf result WrapFault.Memory }
-{
-    let Some((first, rest)) = bytes.split_first() else {
-        return Err(WrapFault::Ended);
-    };
-    let len = *first as usize;
-    if len == 0 {
-        return Err(WrapFault::BadLabel);
-    }
-    if rest.len() < len {
-        return Err(WrapFault::Ended);
-    }
-    let (_, inner) = rest.split_at(len);
-    Ok(inner)
 }
