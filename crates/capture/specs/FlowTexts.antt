@@ -2,7 +2,6 @@
 use Rattle.std.specs.Prelude.{ℕ, ◌-◌, ◌^◌, ◌<◌, ◌⊎◌, ◌||◌, Bool, true, false, nat_le, if◌then◌else◌, length, Option, Some, None}
 use Rattle.std.specs.Option.{option_or}
 use Rattle.capture.specs.declared.flow.Flow.{Flow}
-use Rattle.capture.specs.declared.open.Open.{Open}
 use Rattle.capture.specs.declared.taken.Taken.{Taken}
 use Rattle.capture.specs.declared.taken.Taken.TheVariants.{Known, Joined, Waits, Beyond, Crowded}
 use Rattle.capture.specs.Flows.{Placed, FlowText, end_of}
@@ -30,9 +29,6 @@ pub record OpenText : Type 0 where
   pub flow : FlowText
   pub end : Option ℕ
   pub reset : Bool
-
-abbrev pub open_text : Open → OpenText
-open_text o = record { flow = flow_text o.flow; end = o.end; reset = o.reset }
 
 -- how many bytes it has after a segment: the first FIN counts, and stands behind the payload
 abbrev pub end_after : Option ℕ → Bool → Placed → Option ℕ

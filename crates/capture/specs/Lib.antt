@@ -3,6 +3,7 @@ pub mod Captures
 pub mod Clock
 pub mod FlowTexts
 pub mod Flows
+pub mod OpenFlows
 pub mod Packets
 pub mod Pcap
 pub mod Pcapng

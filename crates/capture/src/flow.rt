@@ -47,6 +47,7 @@ impl Flow {
     pub fn new(alloc: Global, start: u32) -> Flow
         ensures starts { (flow_text result).start ≡ start }
         ensures empty { Says [] (flow_text result) }
+        ensures is { flow_text result ≡ record { start = start; text = []; waiting = [] } }
     {
         Flow {
             start,

@@ -1,9 +1,19 @@
 //! The flows of a capture.
 
+ghost use Rattle.std.specs.Prelude.{◌≡◌, ◌↔◌, ◌+◌, ◌∷◌, [], true, false, None, IsNone, IfSome, IfNone};
+ghost use Rattle.std.specs.List.{All};
+ghost use Rattle.std.specs.Map.{keys_of};
+ghost use Rattle.std.specs.Option.{option_map};
+ghost use Rattle.std.specs.Ordering.{is_eq, is_lt};
+ghost use Rattle.capture.specs.declared.ends.Ends.{Ends};
+ghost use Rattle.capture.specs.FlowTexts.{OpenText, flow_text};
+ghost use Rattle.capture.specs.OpenFlows.{ends_cmp, flows_len, flow_at};
+
 use crate::open::Open;
 use crate::{Ends, Flow, Segment, Taken};
 use std::alloc::{AllocError, Global};
 use std::collections::BTreeMap;
+use std::marker::Model;
 
 /// What a segment did to the flows.
 #[derive(Drop)]
@@ -25,9 +35,19 @@ pub struct Flows {
     open: BTreeMap<Ends, Open>,
 }
 
+impl Model for Flows {
+    ghost use Rattle.capture.specs.OpenFlows.{OpenFlows};
+
+    ghost Value = { OpenFlows };
+
+    ghost view = { λ f. f.open.entries };
+}
+
 impl Flows {
     /// No flows.
-    pub fn new(alloc: Global) -> Flows {
+    pub fn new(alloc: Global) -> Flows
+        ensures { result ≡ [] }
+    {
         Flows {
             open: BTreeMap::new(alloc),
         }
@@ -86,12 +106,27 @@ impl Flows {
     }
 
     /// The flow between these ends, as far as it is put together, if one is open.
-    pub fn get(&self, ends: &Ends) -> Option<&Flow> {
+    pub fn get(&self, ends: &Ends) -> Option<&Flow>
+        ensures { option_map (λ flow. flow_text flow.now) result
+            ≡ option_map (λ o. o.flow) (flow_at self.now ends.now) }
+    {
         Some(self.open.get(ends)?.flow())
     }
 
     /// At the end of the capture, takes out one of the flows that are left, the least by its ends.
-    pub fn finish(&mut self) -> Option<(Ends, Flow)> {
+    pub fn finish(&mut self) -> Option<(Ends, Flow)>
+        ensures none { IsNone result ↔ (self.old ≡ []) }
+        ensures takes_out { IfSome result (λ p. (o : OpenText)
+            × (self.old ≡ (p.0, o) ∷ self.new) × (flow_text p.1 ≡ o.flow)) }
+        ensures least { IfSome result (λ p. All (λ ends. is_lt (ends_cmp p.0 ends) ≡ true)
+            (keys_of self.new)) }
+        ensures gone { IfSome result (λ p. flow_at self.new p.0 ≡ None) }
+        ensures others { IfSome result (λ p. (ends : Ends)
+            → is_eq (ends_cmp p.0 ends) ≡ false
+            → flow_at self.new ends ≡ flow_at self.old ends) }
+        ensures len { IfSome result (λ p. flows_len self.new + 1 ≡ flows_len self.old) }
+        ensures empty { IfNone result (self.new ≡ []) }
+    {
         let (ends, open) = self.open.pop_first()?;
         Some((ends, open.into_flow()))
     }

@@ -1,12 +1,14 @@
 //! A flow that is not complete.
 
-ghost use Rattle.std.specs.Prelude.{◌≡◌, ◌||◌, ◌++◌, ◌∷◌, [], List, true, false, None, ◌==◌, IfOk, OnOk, OnErr};
+ghost use Rattle.std.specs.Prelude.{◌≡◌, ◌≤◌, ◌||◌, ◌++◌, ◌∷◌, [], List, length, true, false, None, Ok, ◌==◌, IfOk, OnOk, OnErr};
 ghost use Rattle.capture.specs.Flows.{Placed, placed_at, Says};
-ghost use Rattle.capture.specs.FlowTexts.{counts, flow_text, open_text, end_after, is_over};
+ghost use Rattle.capture.specs.FlowTexts.{counts, flow_text, IsBeyond, end_after, is_over};
+ghost use Rattle.capture.specs.OpenFlows.{begun};
 
 use crate::piece::place;
 use crate::{Flow, Segment, Taken};
 use std::alloc::{AllocError, Global};
+use std::marker::Model;
 
 /// A flow that is not complete, and where it ends, if that is known.
 #[derive(Drop)]
@@ -17,13 +19,22 @@ pub(crate) struct Open {
     reset: bool,
 }
 
+impl Model for Open {
+    ghost use Rattle.capture.specs.FlowTexts.{OpenText, flow_text as text_of};
+
+    ghost Value = { OpenText };
+
+    ghost view = { λ o. record { flow = text_of o.flow; end = o.end; reset = o.reset } };
+}
+
 impl Open {
     /// A flow whose first byte has this sequence number.
     pub(crate) fn new(alloc: Global, first: u32) -> Open
-        ensures starts { (open_text result).flow.start ≡ first }
-        ensures empty { Says [] (open_text result).flow }
-        ensures endless { (open_text result).end ≡ None }
-        ensures whole { (open_text result).reset ≡ false }
+        ensures starts { result.flow.start ≡ first }
+        ensures empty { Says [] result.flow }
+        ensures endless { result.end ≡ None }
+        ensures whole { result.reset ≡ false }
+        ensures is { result ≡ begun first }
     {
         Open {
             flow: Flow::new(alloc, first),
@@ -34,7 +45,7 @@ impl Open {
 
     /// Whether its first byte has this sequence number.
     pub(crate) fn begins_at(&self, first: u32) -> bool
-        ensures { result ≡ ((open_text self.now).flow.start == first) }
+        ensures { result ≡ (self.now.flow.start == first) }
     {
         self.flow.start() == first
     }
@@ -47,17 +58,25 @@ impl Open {
         segment: &Segment,
     ) -> Result<Taken, AllocError>
         ensures counts { IfOk result (λ taken. counts taken ≡ true
-            → (segments : List Placed) → Says segments (open_text self.old).flow
+            → (segments : List Placed) → Says segments self.old.flow
             → Says (segments
-            ++ placed_at (open_text self.old).flow.start first segment.now.payload.now ∷ [])
-            (open_text self.new).flow) }
-        ensures starts { (open_text self.new).flow.start ≡ (open_text self.old).flow.start }
-        ensures ends { OnOk result ((open_text self.new).end ≡ end_after (open_text self.old).end
+            ++ placed_at self.old.flow.start first segment.now.payload.now ∷ [])
+            self.new.flow) }
+        ensures left_out { IfOk result (λ taken. counts taken ≡ false
+            → self.new.flow ≡ self.old.flow) }
+        ensures starts { self.new.flow.start ≡ self.old.flow.start }
+        ensures ends { OnOk result (self.new.end ≡ end_after self.old.end
             segment.now.fin
-            (placed_at (open_text self.old).flow.start first segment.now.payload.now)) }
-        ensures resets { OnOk result ((open_text self.new).reset
-            ≡ ((open_text self.old).reset || segment.now.rst)) }
-        ensures refused { OnErr result (open_text self.new ≡ open_text self.old) }
+            (placed_at self.old.flow.start first segment.now.payload.now)) }
+        ensures resets { OnOk result (self.new.reset
+            ≡ (self.old.reset || segment.now.rst)) }
+        ensures beyond { (result ≡ Ok Taken.Beyond) → IsBeyond self.old.flow
+            (placed_at self.old.flow.start first segment.now.payload.now) }
+        ensures near { IsBeyond self.old.flow
+            (placed_at self.old.flow.start first segment.now.payload.now)
+            → result ≡ Ok Taken.Beyond }
+        ensures crowded { (result ≡ Ok Taken.Crowded) → 4096 ≤ length self.old.flow.waiting }
+        ensures refused { OnErr result (self.new ≡ self.old) }
     {
         let taken = self.flow.take(alloc, first, segment.payload)?;
         if segment.fin && self.end.is_none() {
@@ -72,7 +91,7 @@ impl Open {
 
     /// Whether all its bytes are there, or it was broken off.
     pub(crate) fn is_complete(&self) -> bool
-        ensures { result ≡ is_over (open_text self.now) }
+        ensures { result ≡ is_over self.now }
     {
         let there = match self.end {
             Some(end) => end <= self.flow.bytes().len(),
@@ -82,13 +101,15 @@ impl Open {
     }
 
     /// The flow as far as it is put together.
-    pub(crate) fn flow(&self) -> &Flow {
+    pub(crate) fn flow(&self) -> &Flow
+        ensures { flow_text result.now ≡ self.now.flow }
+    {
         &self.flow
     }
 
     /// The flow as far as it is put together.
     pub(crate) fn into_flow(self) -> Flow
-        ensures { flow_text result ≡ (open_text self).flow }
+        ensures { flow_text result ≡ self.flow }
     {
         let Open {
             flow,

@@ -134,11 +134,16 @@ fn what_is_left_is_given_at_the_end(rt: HostRuntime) -> Result<(), Fail> {
     let alloc = rt.alloc();
     let mut flows = Flows::new(alloc);
     let data = segment(5, "", b"xy");
-    let ends = Ends::of(&[10, 0, 0, 1], &[10, 0, 0, 2], &data).ok_or("no addresses")?;
-    let _first = flows.take(alloc, ends, &data)?;
-    let _gap = flows.take(alloc, ends, &segment(8, "", b"z"))?;
-    let (_, left) = flows.finish().ok_or("no flow is left")?;
-    assert_eq!(rt; left.bytes(), b"xy".as_slice());
-    assert!(rt; flows.finish().is_none());
+    for source in [2, 1] {
+        let ends = Ends::of(&[10, 0, 0, source], &[10, 0, 0, 3], &data).ok_or("no addresses")?;
+        let _first = flows.take(alloc, ends, &data)?;
+        let _gap = flows.take(alloc, ends, &segment(8, "", &[source]))?;
+        let _closed = flows.take(alloc, ends, &segment(7, "", &[source]))?;
+    }
+    let mut left = Vec::new(alloc);
+    while let Some((_, flow)) = flows.finish() {
+        left.extend_from_slice(flow.bytes())?;
+    }
+    assert_eq!(rt; left.as_slice(), b"xy\x01\x01xy\x02\x02".as_slice());
     Ok(())
 }

@@ -1,0 +1,87 @@
+-- The flows that are open, as their clauses see them, and what a segment makes of them.
+use Rattle.std.specs.Prelude.{◌≡◌, ◌↔◌, ℕ, ◌+◌, ◌%◌, ◌^◌, ◌≤◌, ◌==◌, ◌||◌, ◌&&◌, Bool, true, false, not, nat_lt, if◌then◌else◌, List, [], ◌∷◌, ◌++◌, length, Option, Some, None}
+use Rattle.std.specs.BTreeMap.{is_at}
+use Rattle.std.specs.Map.{lookup}
+use Rattle.std.specs.declared.cmp.Ordering.{Ordering}
+use Rattle.capture.specs.declared.ends.Ends.{Ends}
+use Rattle.capture.specs.contracts.ends.EndsOrd.TheImpl as ends_ord
+use Rattle.capture.specs.declared.taken.Taken.{Taken}
+use Rattle.capture.specs.declared.taken.Taken.TheVariants.{Beyond, Crowded}
+use Rattle.capture.specs.Flows.{Placed, FlowText, placed_at, Says}
+use Rattle.capture.specs.FlowTexts.{OpenText, IsBeyond, counts, end_after, is_over}
+use Rattle.capture.specs.Packets.{TcpText}
+
+-- the order of ends: by the source, then by the destination
+abbrev pub ends_cmp : Ends → Ends → Ordering
+ends_cmp = (ends_ord.ghosts).cmp
+
+-- the flows that are open, in the order of their ends
+abbrev pub OpenFlows : Type 0
+OpenFlows = List (Ends × OpenText)
+
+-- how many they are
+abbrev pub flows_len : OpenFlows → ℕ
+flows_len flows = length flows
+
+-- the flow between these ends
+abbrev pub flow_at : OpenFlows → Ends → Option OpenText
+flow_at flows ends = lookup (is_at (ends_cmp ends)) flows
+
+-- a flow that has no byte
+abbrev pub begun : ℕ → OpenText
+begun start =
+    record {
+      flow = record { start = start; text = []; waiting = [] };
+      end = None;
+      reset = false;
+    }
+
+-- RFC 9293, 3.4: a SYN has a sequence number of its own, before that of the first byte
+abbrev pub first_of : TcpText → ℕ
+first_of s = if s.syn then (s.seq + 1) % 2 ^ 32 else s.seq
+
+-- a SYN of another flow than this one
+abbrev pub is_another : OpenText → TcpText → Bool
+is_another o s = s.syn && not (o.flow.start == first_of s)
+
+-- the flow that takes a segment: the open one, or one that begins with it
+abbrev pub taker : Option OpenText → TcpText → Option OpenText
+taker None s =
+    if s.syn || nat_lt 0 (length s.payload) then Some (begun (first_of s)) else None
+taker (Some o) s = if is_another o s then Some (begun (first_of s)) else Some o
+
+-- the open flow, where another one takes its place
+abbrev pub older : Option OpenText → TcpText → Option FlowText
+older None s = None
+older (Some o) s = if is_another o s then Some o.flow else None
+
+-- the place of a segment in a flow
+abbrev pub place_in : OpenText → TcpText → Placed
+place_in o s = placed_at o.flow.start (first_of s) s.payload
+
+-- the flow after it took a segment, where this became of the segment
+pub record IsAfter (old : OpenText) (s : TcpText) (taken : Taken) (new : OpenText) : Type 0 where
+  pub said : counts taken ≡ true → (segments : List Placed) → Says segments old.flow
+      → Says (segments ++ place_in old s ∷ []) new.flow
+  pub left_out : counts taken ≡ false → new.flow ≡ old.flow
+  pub starts : new.flow.start ≡ old.flow.start
+  pub ends : new.end ≡ end_after old.end s.fin (place_in old s)
+  pub resets : new.reset ≡ (old.reset || s.rst)
+  pub beyond : (taken ≡ Beyond) ↔ IsBeyond old.flow (place_in old s)
+  pub crowded : taken ≡ Crowded → 4096 ≤ length old.flow.waiting
+
+-- The flow that is complete, and the one that stays open: where another one took its place, the
+-- older one is complete; else the flow is complete once it is over.
+abbrev pub settled : Option FlowText → OpenText → Option FlowText × Option OpenText
+settled (Some flow) new = (Some flow, Some new)
+settled None new = if is_over new then (Some new.flow, None) else (None, Some new)
+
+-- what a segment makes of the flow between its ends, and what is told of that
+pub data Hears (old : Option OpenText) (s : TcpText) (taken : Option Taken)
+    (complete : Option FlowText) (new : Option OpenText) : Type 0 where
+  passed_over : taker old s ≡ None → taken ≡ None → complete ≡ None → new ≡ None
+      → Hears old s taken complete new
+  took : (flow after : OpenText) (what : Taken) → taker old s ≡ Some flow
+      → IsAfter flow s what after → taken ≡ Some what
+      → (complete, new) ≡ settled (older old s) after
+      → Hears old s taken complete new
