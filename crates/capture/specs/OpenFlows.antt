@@ -1,7 +1,8 @@
 -- The flows that are open, as their clauses see them, and what a segment makes of them.
-use Rattle.std.specs.Prelude.{◌≡◌, ◌↔◌, ℕ, ◌+◌, ◌%◌, ◌^◌, ◌≤◌, ◌==◌, ◌||◌, ◌&&◌, Bool, true, false, not, nat_lt, if◌then◌else◌, List, [], ◌∷◌, ◌++◌, length, Option, Some, None}
+use Rattle.std.specs.Prelude.{◌≡◌, ℕ, ◌+◌, ◌%◌, ◌^◌, ◌≤◌, ◌==◌, ◌||◌, ◌&&◌, Bool, true, false, not, nat_lt, if◌then◌else◌, List, [], ◌∷◌, ◌++◌, length, Option, Some, None}
 use Rattle.std.specs.BTreeMap.{is_at}
 use Rattle.std.specs.Map.{lookup}
+use Rattle.std.specs.Option.{option_map}
 use Rattle.std.specs.declared.cmp.Ordering.{Ordering}
 use Rattle.capture.specs.declared.ends.Ends.{Ends}
 use Rattle.capture.specs.contracts.ends.EndsOrd.TheImpl as ends_ord
@@ -40,34 +41,36 @@ begun start =
 abbrev pub first_of : TcpText → ℕ
 first_of s = if s.syn then (s.seq + 1) % 2 ^ 32 else s.seq
 
--- a SYN of another flow than this one
-abbrev pub is_another : OpenText → TcpText → Bool
-is_another o s = s.syn && not (o.flow.start == first_of s)
+-- A segment begins a flow: as a SYN of another one than the open flow, or where none is open as a
+-- SYN or with a payload.
+abbrev pub begins : Option OpenText → TcpText → Bool
+begins None s = s.syn || nat_lt 0 (length s.payload)
+begins (Some o) s = s.syn && not (o.flow.start == first_of s)
 
--- the flow that takes a segment: the open one, or one that begins with it
+-- the flow that takes a segment: one that begins with it, or the open one
 abbrev pub taker : Option OpenText → TcpText → Option OpenText
-taker None s =
-    if s.syn || nat_lt 0 (length s.payload) then Some (begun (first_of s)) else None
-taker (Some o) s = if is_another o s then Some (begun (first_of s)) else Some o
+taker old s = if begins old s then Some (begun (first_of s)) else old
 
 -- the open flow, where another one takes its place
 abbrev pub older : Option OpenText → TcpText → Option FlowText
-older None s = None
-older (Some o) s = if is_another o s then Some o.flow else None
+older old s = if begins old s then option_map (λ o. o.flow) old else None
 
 -- the place of a segment in a flow
-abbrev pub place_in : OpenText → TcpText → Placed
-place_in o s = placed_at o.flow.start (first_of s) s.payload
+abbrev pub place_in : OpenText → ℕ → TcpText → Placed
+place_in o first s = placed_at o.flow.start first s.payload
 
--- the flow after it took a segment, where this became of the segment
-pub record IsAfter (old : OpenText) (s : TcpText) (taken : Taken) (new : OpenText) : Type 0 where
+-- the flow after it took a segment whose payload begins at a sequence number, where this became of
+-- the segment
+pub record IsAfter (old : OpenText) (first : ℕ) (s : TcpText) (taken : Taken) (new : OpenText) :
+    Type 0 where
   pub said : counts taken ≡ true → (segments : List Placed) → Says segments old.flow
-      → Says (segments ++ place_in old s ∷ []) new.flow
+      → Says (segments ++ place_in old first s ∷ []) new.flow
   pub left_out : counts taken ≡ false → new.flow ≡ old.flow
   pub starts : new.flow.start ≡ old.flow.start
-  pub ends : new.end ≡ end_after old.end s.fin (place_in old s)
+  pub ends : new.end ≡ end_after old.end s.fin (place_in old first s)
   pub resets : new.reset ≡ (old.reset || s.rst)
-  pub beyond : (taken ≡ Beyond) ↔ IsBeyond old.flow (place_in old s)
+  pub beyond : taken ≡ Beyond → IsBeyond old.flow (place_in old first s)
+  pub near : IsBeyond old.flow (place_in old first s) → taken ≡ Beyond
   pub crowded : taken ≡ Crowded → 4096 ≤ length old.flow.waiting
 
 -- The flow that is complete, and the one that stays open: where another one took its place, the
@@ -76,12 +79,21 @@ abbrev pub settled : Option FlowText → OpenText → Option FlowText × Option 
 settled (Some flow) new = (Some flow, Some new)
 settled None new = if is_over new then (Some new.flow, None) else (None, Some new)
 
+-- The flow took the segment, and this is told and left: how the segment was taken, which flow is
+-- complete, and which stays open.
+pub record Leaves (older : Option FlowText) (flow : OpenText) (first : ℕ) (s : TcpText)
+    (taken : Option Taken) (complete : Option FlowText) (new : Option OpenText) : Type 0 where
+  pub after : OpenText
+  pub what : Taken
+  pub took : IsAfter flow first s what after
+  pub told : taken ≡ Some what
+  pub left : (complete, new) ≡ settled older after
+
 -- what a segment makes of the flow between its ends, and what is told of that
 pub data Hears (old : Option OpenText) (s : TcpText) (taken : Option Taken)
     (complete : Option FlowText) (new : Option OpenText) : Type 0 where
   passed_over : taker old s ≡ None → taken ≡ None → complete ≡ None → new ≡ None
       → Hears old s taken complete new
-  took : (flow after : OpenText) (what : Taken) → taker old s ≡ Some flow
-      → IsAfter flow s what after → taken ≡ Some what
-      → (complete, new) ≡ settled (older old s) after
+  took : (flow : OpenText) → taker old s ≡ Some flow
+      → Leaves (older old s) flow (first_of s) s taken complete new
       → Hears old s taken complete new

@@ -1,13 +1,14 @@
 //! The flows of a capture.
 
-ghost use Rattle.std.specs.Prelude.{◌≡◌, ◌↔◌, ◌+◌, ◌∷◌, [], true, false, None, IsNone, IfSome, IfNone};
+ghost use Rattle.std.specs.Prelude.{◌≡◌, ◌↔◌, ◌+◌, ◌≤◌, ◌∷◌, [], true, false, None, IsSome, IsNone, IfSome, IfNone, IfOk, OnErr, MatchBool};
 ghost use Rattle.std.specs.List.{All};
 ghost use Rattle.std.specs.Map.{keys_of};
 ghost use Rattle.std.specs.Option.{option_map};
 ghost use Rattle.std.specs.Ordering.{is_eq, is_lt};
 ghost use Rattle.capture.specs.declared.ends.Ends.{Ends};
 ghost use Rattle.capture.specs.FlowTexts.{OpenText, flow_text};
-ghost use Rattle.capture.specs.OpenFlows.{ends_cmp, flows_len, flow_at};
+ghost use Rattle.capture.specs.OpenFlows.{ends_cmp, flows_len, flow_at, begins, begun, first_of, settled, Leaves, IsAfter, Hears};
+ghost use Rattle.capture.specs.Packets.{tcp_text};
 
 use crate::open::Open;
 use crate::{Ends, Flow, Segment, Taken};
@@ -20,7 +21,8 @@ use std::marker::Model;
 pub struct Heard {
     /// What became of it; nothing where it carries no byte of a flow that is open, and begins none.
     pub taken: Option<Taken>,
-    /// The flow between its ends that it completed.
+    /// The flow between its ends that it completed. Where a SYN completed an older flow, the newer
+    /// one stays open until a further segment at least.
     pub complete: Option<Flow>,
 }
 
@@ -63,19 +65,88 @@ impl Flows {
         alloc: Global,
         ends: Ends,
         segment: &Segment,
-    ) -> Result<Heard, AllocError> {
+    ) -> Result<Heard, AllocError>
+        ensures hears { IfOk result (λ heard. Hears (flow_at self.old ends) (tcp_text segment.now)
+            heard.taken (option_map flow_text heard.complete) (flow_at self.new ends)) }
+        ensures others { (other : Ends) → is_eq (ends_cmp ends other) ≡ false
+            → flow_at self.new other ≡ flow_at self.old other }
+        ensures grows { flows_len self.new ≤ flows_len self.old + 1 }
+        ensures refused { OnErr result (self.new ≡ self.old) }
+    {
         let first = first_byte(segment);
-        match self.open.get_mut(&ends) {
-            Some(open) if !segment.syn || open.begins_at(first) => {
-                let taken = Some(open.take(alloc, first, segment)?);
-                let complete = self.take_out(&ends);
-                Ok(Heard { taken, complete })
-            }
-            None if !segment.syn && segment.payload.is_empty() => Ok(Heard {
-                taken: None,
-                complete: None,
-            }),
-            _ => self.begin(alloc, ends, first, segment),
+        if self.begins(&ends, segment) {
+            return self.begin(alloc, ends, first, segment);
+        }
+        if self.is_open(&ends) {
+            return self.go_on(alloc, &ends, first, segment);
+        }
+        Ok(Heard {
+            taken: None,
+            complete: None,
+        })
+    }
+
+    /// Whether a segment between these ends begins a flow.
+    fn begins(&self, ends: &Ends, segment: &Segment) -> bool
+        ensures { result ≡ begins (flow_at self.now ends.now) (tcp_text segment.now) }
+    {
+        match self.open.get(ends) {
+            Some(open) => segment.syn && !open.begins_at(first_byte(segment)),
+            None => segment.syn || !segment.payload.is_empty(),
+        }
+    }
+
+    /// Whether a flow between these ends is open.
+    fn is_open(&self, ends: &Ends) -> bool
+        ensures { MatchBool result (IsSome (flow_at self.now ends.now))
+            (flow_at self.now ends.now ≡ None) }
+    {
+        self.open.get(ends).is_some()
+    }
+
+    /// The open flow takes a segment, and is taken out if it is complete then.
+    fn go_on(
+        &mut self,
+        alloc: Global,
+        ends: &Ends,
+        first: u32,
+        segment: &Segment,
+    ) -> Result<Heard, AllocError>
+        requires { IsSome (flow_at self.old ends.now) }
+        ensures takes { IfOk result (λ heard. IfSome (flow_at self.old ends.now) (λ o.
+            Leaves None o first (tcp_text segment.now)
+            heard.taken (option_map flow_text heard.complete) (flow_at self.new ends.now))) }
+        ensures others { (other : Ends) → is_eq (ends_cmp ends.now other) ≡ false
+            → flow_at self.new other ≡ flow_at self.old other }
+        ensures grows_not { flows_len self.new ≤ flows_len self.old }
+        ensures refused { OnErr result (self.new ≡ self.old) }
+    {
+        let taken = Some(self.give(alloc, ends, first, segment)?);
+        let complete = self.take_out(ends);
+        Ok(Heard { taken, complete })
+    }
+
+    /// Gives a segment to the open flow.
+    fn give(
+        &mut self,
+        alloc: Global,
+        ends: &Ends,
+        first: u32,
+        segment: &Segment,
+    ) -> Result<Taken, AllocError>
+        requires { IsSome (flow_at self.old ends.now) }
+        ensures takes { IfOk result (λ taken. IfSome (flow_at self.old ends.now) (λ o.
+            IfSome (flow_at self.new ends.now) (λ after.
+            IsAfter o first (tcp_text segment.now) taken after))) }
+        ensures stays { IsSome (flow_at self.new ends.now) }
+        ensures others { (other : Ends) → is_eq (ends_cmp ends.now other) ≡ false
+            → flow_at self.new other ≡ flow_at self.old other }
+        ensures grows_not { flows_len self.new ≤ flows_len self.old }
+        ensures refused { OnErr result (self.new ≡ self.old) }
+    {
+        match self.open.get_mut(ends) {
+            Some(open) => open.take(alloc, first, segment),
+            None => unreachable!(),
         }
     }
 
@@ -86,7 +157,16 @@ impl Flows {
         ends: Ends,
         first: u32,
         segment: &Segment,
-    ) -> Result<Heard, AllocError> {
+    ) -> Result<Heard, AllocError>
+        ensures takes { IfOk result (λ heard.
+            Leaves (option_map (λ o. o.flow) (flow_at self.old ends)) (begun first)
+            first (tcp_text segment.now)
+            heard.taken (option_map flow_text heard.complete) (flow_at self.new ends)) }
+        ensures others { (other : Ends) → is_eq (ends_cmp ends other) ≡ false
+            → flow_at self.new other ≡ flow_at self.old other }
+        ensures grows { flows_len self.new ≤ flows_len self.old + 1 }
+        ensures refused { OnErr result (self.new ≡ self.old) }
+    {
         let mut open = Open::new(alloc, first);
         let taken = Some(open.take(alloc, first, segment)?);
         let complete = match self.open.insert(ends, open)? {
@@ -97,7 +177,13 @@ impl Flows {
     }
 
     /// Takes out the flow between these ends, if it is complete.
-    fn take_out(&mut self, ends: &Ends) -> Option<Flow> {
+    fn take_out(&mut self, ends: &Ends) -> Option<Flow>
+        ensures out { IfSome (flow_at self.old ends.now) (λ o.
+            (option_map flow_text result, flow_at self.new ends.now) ≡ settled None o) }
+        ensures others { (other : Ends) → is_eq (ends_cmp ends.now other) ≡ false
+            → flow_at self.new other ≡ flow_at self.old other }
+        ensures grows_not { flows_len self.new ≤ flows_len self.old }
+    {
         if self.open.get(ends)?.is_complete() {
             Some(self.open.remove(ends)?.into_flow())
         } else {
@@ -134,7 +220,9 @@ impl Flows {
 
 /// The sequence number of the first byte of a segment's payload: a SYN has one of its own
 /// (RFC 9293, 3.4).
-fn first_byte(segment: &Segment) -> u32 {
+fn first_byte(segment: &Segment) -> u32
+    ensures { result ≡ first_of (tcp_text segment.now) }
+{
     if segment.syn {
         segment.seq.wrapping_add(1)
     } else {

@@ -3,7 +3,8 @@
 ghost use Rattle.std.specs.Prelude.{◌≡◌, ◌≤◌, ◌||◌, ◌++◌, ◌∷◌, [], List, length, true, false, None, Ok, ◌==◌, IfOk, OnOk, OnErr};
 ghost use Rattle.capture.specs.Flows.{Placed, placed_at, Says};
 ghost use Rattle.capture.specs.FlowTexts.{counts, flow_text, IsBeyond, end_after, is_over};
-ghost use Rattle.capture.specs.OpenFlows.{begun};
+ghost use Rattle.capture.specs.OpenFlows.{begun, IsAfter};
+ghost use Rattle.capture.specs.Packets.{tcp_text};
 
 use crate::piece::place;
 use crate::{Flow, Segment, Taken};
@@ -76,6 +77,8 @@ impl Open {
             (placed_at self.old.flow.start first segment.now.payload.now)
             → result ≡ Ok Taken.Beyond }
         ensures crowded { (result ≡ Ok Taken.Crowded) → 4096 ≤ length self.old.flow.waiting }
+        ensures takes { IfOk result (λ taken.
+            IsAfter self.old first (tcp_text segment.now) taken self.new) }
         ensures refused { OnErr result (self.new ≡ self.old) }
     {
         let taken = self.flow.take(alloc, first, segment.payload)?;
