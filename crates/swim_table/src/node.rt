@@ -14,6 +14,9 @@ ghost use Rattle.swim_table.specs.Lending.{LendsTable};
 ghost use Rattle.swim_table.specs.Node.{SameMember};
 ghost use Rattle.swim_table.specs.Refuting.{IsAtRest, IsDueInRange, IsExhausted, IsGone, IsRefutedBy, IsWordOf};
 ghost use Rattle.swim_table.specs.Table.{get, TableOf, Reduced, IsLegalTable};
+ghost use Rattle.swim_wire.specs.Packet.{PacketValue};
+ghost use Rattle.swim_wire.specs.PacketList.{claims_in};
+ghost use Rattle.swim_wire.specs.declared.datagram.Datagram.TheVariants.{Packet};
 
 use crate::entry::Entry;
 use crate::fault::RefuteFault;
@@ -22,6 +25,7 @@ use crate::table::{Table, Taken};
 use std::alloc::{AllocError, Global};
 use std::marker::Model;
 use swim_claim::{Claim, Details, Kind, Name};
+use swim_wire::Datagram;
 
 /// A member: its name and details, and the table that it keeps.
 #[derive(Drop, Debug)]
@@ -157,6 +161,27 @@ impl Node {
         ensures member { SameMember self.old self.new }
     {
         self.table.take_all(claims)
+    }
+
+    /// Takes all the claims of a datagram into the member's table, or none. For a packet by itself
+    /// about a name that has an entry this takes no memory.
+    ///
+    /// # Errors
+    ///
+    /// Memory for the claims is refused. The datagram is dropped, and the table is as it was.
+    pub fn take_datagram(&mut self, datagram: Datagram) -> Result<(), AllocError>
+        ensures ok { OnOk result (TableOf self.new.table
+            (Reduced self.old.table ++ claims_in datagram)) }
+        ensures all { OnOk result ((claims : List Claim) → TableOf self.old.table claims
+            → TableOf self.new.table (claims ++ claims_in datagram)) }
+
+        ensures known { (packet : PacketValue) → datagram ≡ Packet packet
+            → IsSome (get self.old.table (name_of packet.claim)) → IsOk result }
+        ensures err { OnErr result (self.new.table ≡ self.old.table) }
+
+        ensures member { SameMember self.old self.new }
+    {
+        self.table.take_datagram(datagram)
     }
 
     /// Joins another table into the member's own: it is then the table of all claims that either

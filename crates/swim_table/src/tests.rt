@@ -44,6 +44,7 @@ macro_rules! leave {
     };
 }
 
+mod datagrams;
 mod dumps;
 mod many;
 mod node;

@@ -1,5 +1,6 @@
 //! A member's node, and what it refutes.
 
+use super::datagrams::PACKET;
 use super::{
     LOOPBACK, Saying, assert_bytes, assert_count, assert_lists, assert_that, claim_of, claims_of,
     details_of, name_of, table_of, take,
@@ -7,7 +8,9 @@ use super::{
 use crate::{EncodeFault, Node, RefuteFault, Room, Table, Taken, list};
 use std::alloc::{AllocError, Global};
 use std::process::Abort;
+use std::test::Fail;
 use swim_claim::{Claim, Kind};
+use swim_wire::Datagram;
 
 /// A node `a` at incarnation 3, or none where the node is refused memory.
 fn start_once(rt: &impl Abort, alloc: Global) -> Result<Option<Node>, AllocError> {
@@ -182,45 +185,46 @@ fn join_in(
 enum Way {
     Claim,
     Claims,
+    Datagram,
     Join,
     Table,
 }
 
 /// Lets the node hear a Suspect of `b` this way.
-fn hear(rt: &impl Abort, alloc: Global, node: &mut Node, way: Way) -> Result<(), AllocError> {
+fn hear(rt: &impl Abort, alloc: Global, node: &mut Node, way: Way) -> Result<(), Fail> {
     let saying = suspect!(b"b", 1);
     match way {
         Way::Claim => {
             let taken = take_one(rt, node, claim_of(rt, alloc, saying)?);
             assert_that(rt, taken == Some(Taken::New), "the name is new");
-            Ok(())
         }
-        Way::Claims => take_several(rt, alloc, node),
-        Way::Join => join_in(rt, alloc, node, table_of(rt, alloc, &[saying])?),
+        Way::Claims => take_several(rt, alloc, node)?,
+        Way::Datagram => node.take_datagram(Datagram::decode(alloc, PACKET)?)?,
+        Way::Join => join_in(rt, alloc, node, table_of(rt, alloc, &[saying])?)?,
         Way::Table => {
             take(rt, alloc, node.table_mut(), saying)?;
-            Ok(())
         }
     }
+    Ok(())
 }
 
 /// Asserts that the node has heard of `b` this way, and is still the member.
-fn assert_heard(
-    rt: &impl Abort,
-    alloc: Global,
-    node: &mut Node,
-    way: Way,
-) -> Result<(), AllocError> {
+fn assert_heard(rt: &impl Abort, alloc: Global, node: &mut Node, way: Way) -> Result<(), Fail> {
     hear(rt, alloc, node, way)?;
     assert_member(rt, node);
-    assert_lists(rt, alloc, node.table(), HEARD)
+    assert_lists(rt, alloc, node.table(), HEARD)?;
+    Ok(())
 }
 
 #[test]
-fn a_node_hears_a_claim_claims_or_a_table_and_stays_the_member(
-    rt: HostRuntime,
-) -> Result<(), AllocError> {
-    for way in [Way::Claim, Way::Claims, Way::Join, Way::Table] {
+fn a_node_hears_in_each_way_and_stays_the_member(rt: HostRuntime) -> Result<(), Fail> {
+    for way in [
+        Way::Claim,
+        Way::Claims,
+        Way::Datagram,
+        Way::Join,
+        Way::Table,
+    ] {
         let mut node = start(&rt, rt.alloc())?;
         assert_heard(&rt, rt.alloc(), &mut node, way)?;
     }
