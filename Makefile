@@ -1,7 +1,9 @@
-# swimtab: membership tables of a SWIM cluster; swimunwrap: what its members send, without wrappers.
+# swimwatch: who is in a memberlist cluster, from a capture; swimtab: membership tables of a SWIM
+# cluster; swimunwrap: what its members send, without wrappers.
 #
-#   make            the programs, at build/swimtab and build/swimunwrap, and the library for C, at
-#                   build/libswimtab.a and, where there is a C compiler, build/libswimtab.so
+#   make            the programs, at build/swimwatch, build/swimtab and build/swimunwrap, and the
+#                   library for C, at build/libswimtab.a and, if there is a C compiler,
+#                   build/libswimtab.so
 #   make run        a listing of examples/packets.hex within a minute or two, before any proof; then
 #                   swimtab alone is proved and built, and lists it again
 #   make test       the gate: every proof from nothing, and all tests; README says how long it takes
@@ -24,7 +26,7 @@ VERSION := $(shell sed -n 's/^.define SWIMTAB_VERSION "\(.*\)"/\1/p' include/swi
 
 .PHONY: all programs library run test wrong-bodies bench install clean help kit
 
-programs := swimtab swimunwrap
+programs := swimtab swimunwrap swimwatch
 
 all: programs library
 

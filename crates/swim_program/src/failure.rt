@@ -31,6 +31,12 @@ impl From<WordFault> for Failure {
     }
 }
 
+impl From<AllocError> for Failure {
+    fn from(_error: AllocError) -> Failure {
+        Failure::Memory
+    }
+}
+
 /// An error of reading the words.
 impl From<io::Error> for Failure {
     fn from(error: io::Error) -> Failure {

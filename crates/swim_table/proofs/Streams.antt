@@ -64,7 +64,7 @@ in_parts : (head records user more : List ℕ) → (head ++ records ++ user) ++ 
 in_parts head records user more = simp append_assoc
 
 -- in a stream it is what the next step wants
-wanted : (reader : Streaming) (claims all : List Claim) (join : Bool) (begun now text rest : List ℕ)
+pub wanted : (reader : Streaming) (claims all : List Claim) (join : Bool) (begun now text rest : List ℕ)
     → BeginText begun reader.header claims → length claims + reader.left ≡ reader.header.nodes
     → StreamText text all join → begun ++ now ≡ text ++ rest → (front : List ℕ) × (back : List ℕ) × IsWanted reader front × (now ≡ front ++ back)
 wanted reader claims all join begun now text rest b counted t e =
@@ -113,7 +113,7 @@ started old new reader taken fresh = record {
 }
 
 -- one more record is read
-begun_more : (header : Header) (claims : List Claim) (c : Claim) (x y : List ℕ) → BeginText x header claims → StateText y c
+pub begun_more : (header : Header) (claims : List Claim) (c : Claim) (x y : List ℕ) → BeginText x header claims → StateText y c
     → BeginText (x ++ y) header (claims ++ c ∷ [])
 begun_more header claims c x y begun text = record {
   head = begun.head;
@@ -146,7 +146,7 @@ stepped old mid new reader next some (steps.record_of c to is left taken table a
 stepped old mid new reader next some (steps.user_state is left taken) = absurd cc
 
 -- the user state is read
-whole : (header : Header) (claims : List Claim) (x y : List ℕ) → length claims ≡ header.nodes → BeginText x header claims
+pub whole : (header : Header) (claims : List Claim) (x y : List ℕ) → length claims ≡ header.nodes → BeginText x header claims
     → length y ≡ header.user_len → StreamText (x ++ y) claims header.join
 whole header claims x y count begun long = record {
   header = header;

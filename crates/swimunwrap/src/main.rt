@@ -6,7 +6,6 @@
 //! | `verb` | what the words of a command line ask for |
 //! | `command_line` | the words after the program's name |
 //! | `help` | what help and the version show |
-//! | `key_files` | the keys of a cluster, from files |
 //! | `lines` | packets in hexadecimal, one a line |
 //! | `packet` | the packet on a line |
 //! | `cause` | why a line can be read as no message |
@@ -20,7 +19,6 @@ ghost use Rattle.swim_program.specs.Report.{IsAmong};
 mod cause;
 mod command_line;
 mod help;
-mod key_files;
 mod left_out;
 mod lines;
 mod packet;
@@ -54,7 +52,7 @@ fn run(rt: &HostRuntime) -> Result<(), Failure> {
     let alloc = rt.alloc();
     let words = words_of(rt)?;
     let chosen = chosen(alloc, words.as_slice())?;
-    let keys = keyring_of(rt, chosen.key_files())?;
+    let keys = keyring_of(rt, NAME, chosen.key_files())?;
     match run_chosen(rt, &keys, &chosen) {
         Ok(()) => Ok(()),
         Err(report) => Err(Failure::refused(alloc, NAME, &report, chosen.files())),

@@ -1,32 +1,37 @@
-//! The keys of a cluster, from files.
+//! The keys of a cluster, from the files that a command line names.
+#![tactic(auto)]
 
 ghost use Rattle.std.specs.Prelude.{◌≤◌, length, IfOk};
 ghost use Rattle.swim_program.specs.Limits.{most_bytes};
 
-use crate::NAME;
 use memberlist_keyring::{KeyFileFault, Keyring};
 use std::alloc::{AllocError, Global};
 use swim_program::{BOUND, Failure, Place, What, read_file};
 
 /// The keys in the files that these words name, in the order of the words.
-pub(crate) fn keyring_of(rt: &HostRuntime, files: &[String]) -> Result<Keyring, Failure> {
+///
+/// # Errors
+///
+/// What the program then says and its status: a file that cannot be read is a device fault, one of
+/// more than 268,435,456 bytes is too long, and one that holds something else than keys is refused
+/// with the place of the first line or text that is no key.
+pub fn keyring_of(rt: &HostRuntime, program: &str, files: &[String]) -> Result<Keyring, Failure> {
     let mut keys = Keyring::new(rt.alloc());
     for (index, file) in files.iter().enumerate() {
         match text_of(rt, file) {
             Ok(text) => if let Err(fault) = keys.add_file(rt.alloc(), &text) {
-                return Err(refused(rt.alloc(), file, fault));
+                return Err(refused(rt.alloc(), program, file, fault));
             },
             Err(what) => {
                 let report = what.at(Place::File(index));
-                return Err(Failure::refused(rt.alloc(), NAME, &report, files));
+                return Err(Failure::refused(rt.alloc(), program, &report, files));
             }
         }
     }
     Ok(keys)
 }
 
-/// The bytes of a file of keys. One that cannot be read is a device fault, and one of more than
-/// 268,435,456 bytes is too long.
+/// The bytes of a file of keys.
 fn text_of(rt: &HostRuntime, file: &str) -> Result<Vec<u8>, What>
     ensures { IfOk result (λ text. length text.items ≤ most_bytes) }
 {
@@ -38,16 +43,17 @@ fn text_of(rt: &HostRuntime, file: &str) -> Result<Vec<u8>, What>
 }
 
 /// That the file holds something else than keys.
-fn refused(alloc: Global, file: &str, fault: KeyFileFault) -> Failure {
-    match refusal_text(alloc, file, fault) {
+fn refused(alloc: Global, program: &str, file: &str, fault: KeyFileFault) -> Failure {
+    match refusal_text(alloc, program, file, fault) {
         Ok(Some(text)) => Failure::Refused { text, status: 3 },
         Ok(None) | Err(AllocError) => Failure::Memory,
     }
 }
 
-/// What is said of it, or nothing for want of memory: `swimunwrap: keys: line 2: fault 50 BadKey`.
+/// What is said of it, or nothing if memory ran out: `swimunwrap: keys: line 2: fault 50 BadKey`.
 fn refusal_text(
     alloc: Global,
+    program: &str,
     file: &str,
     fault: KeyFileFault,
 ) -> Result<Option<String>, AllocError> {
@@ -58,5 +64,5 @@ fn refusal_text(
         KeyFileFault::Memory => return Ok(None),
     };
     let number = fault.number();
-    Ok(Some(format!(in alloc; "{NAME}: {file}: {place}: fault {number} BadKey")?))
+    Ok(Some(format!(in alloc; "{program}: {file}: {place}: fault {number} BadKey")?))
 }

@@ -1,0 +1,84 @@
+-- A push/pull stream of which some records are read.
+use Rattle.std.proofs.Common.{◌≡◌, ℕ, ◌+◌, ◌-◌, ◌<◌, List, [], ◌∷◌, ◌++◌, length, Some, sym, ap, ◌∙◌, append_assoc, append-nil, arith}
+use Rattle.swim_claim.specs.declared.claim.Claim.{Claim}
+use Rattle.swim_pack.specs.Ends.{TakesKnown}
+use Rattle.swim_wire.specs.declared.stream.Header.{Header}
+use Rattle.swim_wire.specs.Streams.{StreamText}
+use Rattle.swim_wire.specs.Streams.StateTexts.{none}
+use Rattle.swim_wire.specs.Texts.{HeaderText, StateText}
+use Rattle.swim_table.specs.Steps.{IsWanted, BeginText}
+use Rattle.swim_table.specs.Steps.{IsWanted as wants}
+use Rattle.swim_table.specs.Streaming.{Streaming}
+use Rattle.swim_table.proofs.Streams.{begun_more, wanted, whole}
+use Rattle.swimwatch.specs.Records.{BeginsWithStream}
+
+-- the header and the records of these claims are read, and now these bytes are left
+pub record ReadSome (bytes now : List ℕ) (header : Header) (claims : List Claim) : Type 0 where
+  pub front : List ℕ
+  pub begun : BeginText front header claims
+  pub parts : bytes ≡ front ++ now
+
+pub started : (bytes now : List ℕ) (header : Header) → TakesKnown (Some bytes) (Some now) (λ b. HeaderText b header) → ReadSome bytes now header []
+started bytes now header taken = record {
+  front = taken.0;
+  begun =
+      record { head = taken.0; records = []; bytes = sym (append-nil taken.0); head_text = taken.1; record_texts = none };
+  parts = taken.2;
+}
+
+pub one_more : (bytes mid now : List ℕ) (header : Header) (claims : List Claim) (c : Claim) → ReadSome bytes mid header claims
+    → TakesKnown (Some mid) (Some now) (λ b. StateText b c) → ReadSome bytes now header (claims ++ c ∷ [])
+one_more bytes mid now header claims c some taken = record {
+  front = some.front ++ taken.0;
+  begun = begun_more header claims c some.front taken.0 some.begun taken.1;
+  parts = some.parts ∙ ap (λ (z : List ℕ). some.front ++ z) taken.2 ∙ sym (append_assoc some.front taken.0 now);
+}
+
+pub ended : (bytes mid now : List ℕ) (header : Header) (claims : List Claim) → length claims ≡ header.nodes → ReadSome bytes mid header claims
+    → TakesKnown (Some mid) (Some now) (λ b. length b ≡ header.user_len) → BeginsWithStream bytes claims
+ended bytes mid now header claims count some taken = (
+  some.front ++ taken.0,
+  now,
+  header.join,
+  whole header claims some.front taken.0 count some.begun taken.1,
+  some.parts ∙ ap (λ (z : List ℕ). some.front ++ z) taken.2 ∙ sym (append_assoc some.front taken.0 now),
+)
+
+-- ---- no stream stands at the front
+
+in_parts : (head records user rest : List ℕ) → (head ++ records ++ user) ++ rest ≡ head ++ (records ++ (user ++ rest))
+in_parts head records user rest = simp append_assoc
+
+pub no_header : (bytes : List ℕ) → ((text rest : List ℕ) → ((h : Header) × HeaderText text h) → bytes ≡ text ++ rest → ⊥)
+    → (claims : List Claim) → ¬ BeginsWithStream bytes claims
+no_header bytes lacks claims (front, rest, join, text, parts) =
+    lacks text.head (text.records ++ (text.user ++ rest)) (text.header, text.head_text)
+    (parts ∙ ap (λ (z : List ℕ). z ++ rest) text.bytes ∙ in_parts text.head text.records text.user rest)
+
+pub no_record : (bytes now : List ℕ) (header : Header) (claims : List Claim) → ReadSome bytes now header claims → length claims < header.nodes
+    → ((text rest : List ℕ) → ((c : Claim) × StateText text c) → now ≡ text ++ rest → ⊥)
+    → (all : List Claim) → ¬ BeginsWithStream bytes all
+no_record bytes now header claims some fewer lacks all (front, rest, join, text, parts) =
+    let reader : Streaming = record { header = header; left = header.nodes - length claims; table = [] } in
+    let w =
+    wanted reader claims all join some.front now front rest some.begun (omega (arith, fewer)) text (sym some.parts ∙ parts) in
+    refuse reader w.0 w.1 (omega (arith, fewer)) w.2 w.3
+  where
+    refuse : (reader : Streaming) (text back : List ℕ) → 0 < reader.left → IsWanted reader text → now ≡ text ++ back → ⊥
+    refuse reader text back left (wants.record_of c more state) e = lacks text back (c, state) e
+    refuse reader text back left (wants.user_state over long) e = absurd (omega (arith, left, over))
+
+pub no_user : (bytes now : List ℕ) (header : Header) (claims : List Claim) → ReadSome bytes now header claims → length claims ≡ header.nodes
+    → ((text rest : List ℕ) → length text ≡ header.user_len → now ≡ text ++ rest → ⊥)
+    → (all : List Claim) → ¬ BeginsWithStream bytes all
+no_user bytes now header claims some count lacks all (front, rest, join, text, parts) =
+    let reader : Streaming = record { header = header; left = 0; table = [] } in
+    let w =
+    wanted reader claims all join some.front now front rest some.begun (omega (arith, count)) text (sym some.parts ∙ parts) in
+    refuse reader w.0 w.1 (omega arith) (λ (t : List ℕ) (r : List ℕ) (e : length t ≡ reader.header.user_len). lacks t r e) w.2 w.3
+  where
+    refuse : (reader : Streaming) (text back : List ℕ) → reader.left ≡ 0
+        → ((text rest : List ℕ) → length text ≡ reader.header.user_len → now ≡ text ++ rest → ⊥)
+        → IsWanted reader text → now ≡ text ++ back → ⊥
+    refuse reader text back none lack (wants.record_of c more state) e = absurd (omega (arith, none, more))
+    refuse reader text back none lack (wants.user_state over long) e = lack text back long e

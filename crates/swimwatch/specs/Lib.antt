@@ -1,0 +1,4 @@
+pub mod Carriage
+pub mod Records
+pub mod Told
+pub mod Views

@@ -1,0 +1,124 @@
+//! What datagrams and connections carry.
+
+ghost use Rattle.std.specs.Prelude.{◌≡◌, ◌≢◌, ◌↔◌, List, IfOk, IfErr};
+ghost use Rattle.swim_claim.specs.declared.claim.Claim.{Claim};
+ghost use Rattle.swimwatch.specs.declared.carriage.NoStream.TheVariants.{Memory};
+ghost use Rattle.swimwatch.specs.Carriage.{IsCarriage, IsStreamOf};
+
+use crate::records::claims_of_stream;
+use memberlist_cipher::CipherFault;
+use memberlist_keyring::Keyring;
+use memberlist_transport::{Message, PacketFault, StreamFault, open_packet, open_stream};
+use memberlist_wrap::WrapFault;
+use std::alloc::{AllocError, Global};
+use swim_claim::Claim;
+use swim_wire::{Claimless, Datagram, Packet, WireFault};
+
+/// The most bytes of a stream without its wrappers, as of one direction of a connection.
+const STREAM_LIMIT: usize = 33_554_432;
+
+/// The first byte of an encrypted stream, as in memberlist's `net.go`.
+const ENCRYPTED: u8 = 10;
+
+/// What a datagram carries.
+#[derive(Drop)]
+pub(crate) enum Carriage {
+    /// Packets that make claims, and the message that holds them. There may be none in a compound
+    /// packet.
+    Claims(Vec<Packet>, Vec<u8>),
+    /// A message that makes none.
+    Claimless(Claimless),
+    /// It is encrypted, and no key opens it.
+    Closed,
+    /// It is no message of memberlist.
+    Foreign,
+}
+
+/// What a datagram carries, under the first key that opens it if it is encrypted.
+///
+/// # Errors
+///
+/// Memory for it is refused.
+pub(crate) fn carriage_of(
+    alloc: Global,
+    keys: &Keyring,
+    payload: &[u8],
+) -> Result<Carriage, AllocError>
+    ensures { IfOk result (IsCarriage keys.now payload.now) }
+{
+    match open_packet(alloc, keys, payload) {
+        Ok(Message::Claims(_, bytes)) => match Datagram::decode(alloc, &bytes) {
+            Ok(datagram) => Ok(Carriage::Claims(datagram.into_packets(alloc)?, bytes)),
+            Err(WireFault::Memory) => Err(AllocError),
+            Err(_) => Ok(Carriage::Foreign),
+        },
+        Ok(Message::Claimless(kind)) => Ok(Carriage::Claimless(kind)),
+        Ok(Message::Empty) => Ok(Carriage::Foreign),
+        Err(PacketFault::Memory) => Err(AllocError),
+        Err(PacketFault::NoKeyFits | PacketFault::NoMessage(0 | 1)) => Ok(Carriage::Closed),
+        Err(_) => Ok(Carriage::Foreign),
+    }
+}
+
+/// Why one direction of a connection has no claims.
+#[derive(Clone, Copy, Debug, PartialEq, Eq)]
+pub(crate) enum NoStream {
+    /// It is encrypted, and no key opens it.
+    Closed,
+    /// Bytes of it are missing.
+    Cut,
+    /// It is a ping, an ack, a user message or an error, which make no claims.
+    Claimless,
+    /// It is no stream of memberlist.
+    Foreign,
+    /// Memory is refused.
+    Memory,
+}
+
+impl From<AllocError> for NoStream {
+    ghost from_gives = { λ _ cause. cause ≡ Memory };
+
+    fn from(_error: AllocError) -> NoStream {
+        NoStream::Memory
+    }
+}
+
+/// The claims of the push/pull stream that one direction of a connection is, in its order, under the
+/// first key that opens it if it is encrypted.
+///
+/// # Errors
+///
+/// As [`NoStream`] says.
+pub(crate) fn stream_claims(
+    alloc: Global,
+    keys: &Keyring,
+    bytes: &[u8],
+) -> Result<Vec<Claim>, NoStream>
+    ensures ok { IfOk result (λ claims. IsStreamOf keys.now bytes.now claims.items) }
+    ensures none { IfErr result (λ cause. cause ≢ NoStream.Memory → (claims : List Claim)
+        → ¬ IsStreamOf keys.now bytes.now claims) }
+{
+    match open_stream(alloc, keys, bytes, STREAM_LIMIT) {
+        Ok(stream) => match claims_of_stream(alloc, &stream)? {
+            Some(claims) => Ok(claims),
+            None => Err(NoStream::Cut),
+        },
+        Err(fault) => Err(cause_of(fault)),
+    }
+}
+
+/// Why a stream that is refused with this fault has no claims.
+fn cause_of(fault: StreamFault) -> NoStream
+    ensures { (result ≡ NoStream.Memory) ↔ (fault ≡ StreamFault.Memory) }
+{
+    match fault {
+        StreamFault::Memory => NoStream::Memory,
+        StreamFault::Closed(CipherFault::TooShort) => NoStream::Cut,
+        StreamFault::Wrapped(WrapFault::Ended) => NoStream::Cut,
+        StreamFault::Closed(_) | StreamFault::NoStream(ENCRYPTED) => NoStream::Closed,
+        StreamFault::NoStream(0 | 2 | 8 | 13) => NoStream::Claimless,
+        StreamFault::Wrapped(_) | StreamFault::NoStream(_) | StreamFault::Empty => {
+            NoStream::Foreign
+        }
+    }
+}

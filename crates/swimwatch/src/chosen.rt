@@ -1,0 +1,48 @@
+//! What the words of a command line ask for.
+
+/// What the program is asked to show.
+#[derive(Clone, Copy, Debug, PartialEq, Eq)]
+pub(crate) enum Verb {
+    /// The members, as they are at the end, or at a moment.
+    Members,
+    /// What changed, and when.
+    Timeline,
+    /// Each claim.
+    Claims,
+    /// What each sender sent, by kind.
+    Talkers,
+    /// The dump of the table of all claims.
+    Dump,
+}
+
+impl Verb {
+    /// The verb of this name.
+    pub(crate) fn named(name: &str) -> Option<Verb> {
+        match name {
+            "members" => Some(Verb::Members),
+            "timeline" => Some(Verb::Timeline),
+            "claims" => Some(Verb::Claims),
+            "talkers" => Some(Verb::Talkers),
+            "dump" => Some(Verb::Dump),
+            _ => None,
+        }
+    }
+}
+
+/// What the words ask for.
+#[derive(Debug, Drop)]
+pub(crate) struct Chosen {
+    pub(crate) verb: Verb,
+    /// The words that name captures; `-` is standard input.
+    pub(crate) captures: Vec<String>,
+    /// The words that name files of keys, in the order in which they are tried.
+    pub(crate) key_files: Vec<String>,
+    /// The only name that is shown, if there is one.
+    pub(crate) member: Option<Vec<u8>>,
+    /// The moment of which the members are shown, in microseconds since the start of 1970.
+    pub(crate) at: Option<u64>,
+    /// How many microseconds memberlist waits before it forgets a dead member.
+    pub(crate) wait: u64,
+    /// Whether objects of JSON are shown.
+    pub(crate) json: bool,
+}

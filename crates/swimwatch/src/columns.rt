@@ -1,0 +1,63 @@
+//! Rows whose columns line up.
+
+use std::alloc::{AllocError, Global};
+
+/// Rows of texts, a text for each column.
+#[derive(Drop)]
+pub(crate) struct Rows {
+    rows: Vec<Vec<String>>,
+    widths: Vec<usize>,
+}
+
+impl Rows {
+    pub(crate) fn new(alloc: Global) -> Rows {
+        Rows {
+            rows: Vec::new(alloc),
+            widths: Vec::new(alloc),
+        }
+    }
+
+    /// Adds a row.
+    pub(crate) fn push(&mut self, row: Vec<String>) -> Result<(), AllocError> {
+        for (column, cell) in row.iter().enumerate() {
+            match self.widths.get_mut(column) {
+                Some(width) => *width = (*width).max(cell.len()),
+                None => self.widths.push(cell.len())?,
+            }
+        }
+        self.rows.push(row).map_err(AllocError::from)
+    }
+
+    /// Adds the rows to a text, a line each. The texts of a column begin at one place, two spaces
+    /// behind the widest text of the column before it. An empty column takes no room, and a line
+    /// has no spaces at its end.
+    pub(crate) fn write(&self, text: &mut String) -> Result<(), AllocError> {
+        for row in &self.rows {
+            self.write_row(text, row)?;
+        }
+        Ok(())
+    }
+
+    fn write_row(&self, text: &mut String, row: &[String]) -> Result<(), AllocError> {
+        let mut owed = 0usize;
+        for (cell, width) in row.iter().zip(&self.widths) {
+            if !cell.is_empty() {
+                push_spaces(text, owed)?;
+                text.push_str(cell)?;
+                owed = 0;
+            }
+            if *width > 0 {
+                let rest = width.saturating_sub(cell.len());
+                owed = owed.saturating_add(rest).saturating_add(2);
+            }
+        }
+        text.push('\n')
+    }
+}
+
+fn push_spaces(text: &mut String, count: usize) -> Result<(), AllocError> {
+    for _ in 0..count {
+        text.push(' ')?;
+    }
+    Ok(())
+}

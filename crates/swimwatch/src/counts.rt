@@ -1,0 +1,87 @@
+//! What was read of captures, and what was left out and why.
+
+use std::alloc::{AllocError, Global};
+
+/// How often each thing came.
+#[derive(Clone, Copy, Default)]
+pub(crate) struct Counts {
+    /// Records of the captures.
+    pub(crate) records: u64,
+    /// Datagrams.
+    pub(crate) datagrams: u64,
+    /// Datagrams that make claims.
+    pub(crate) claiming: u64,
+    /// Streams that are pings, acks, user messages or errors.
+    pub(crate) claimless_streams: u64,
+    /// Push/pull streams.
+    pub(crate) streams: u64,
+    /// Packets and streams that are encrypted, and that no key opened.
+    pub(crate) closed: u64,
+    /// Datagrams and connections that are no memberlist's.
+    pub(crate) foreign: u64,
+    /// Connections of which bytes are missing.
+    pub(crate) gaps: u64,
+    /// Frames that carry nothing of IP.
+    pub(crate) not_ip: u64,
+    /// Fragments.
+    pub(crate) fragments: u64,
+    /// Packets that are neither UDP nor TCP.
+    pub(crate) others: u64,
+    /// Frames that the capture cut.
+    pub(crate) cut: u64,
+    /// Frames whose headers are wrong.
+    pub(crate) malformed: u64,
+    /// Records without a time.
+    pub(crate) timeless: u64,
+    /// Records after the moment that was asked for.
+    pub(crate) later: u64,
+    /// Frames of a link that is not read.
+    pub(crate) unknown_links: u64,
+}
+
+/// One more, up to the greatest number.
+pub(crate) fn count(number: &mut u64) {
+    *number = number.saturating_add(1);
+}
+
+impl Counts {
+    /// What was read, and what was left out, in one line: `swimwatch: 670 packets, 12 with claims; 24
+    /// streams; left out: 3 not opened by any key, 1 fragment`.
+    pub(crate) fn text(&self, alloc: Global, has_keys: bool) -> Result<String, AllocError> {
+        let mut text = format!(in alloc;
+            "{} records; {} packets, {} with claims; {} streams",
+            self.records, self.datagrams, self.claiming, self.streams
+        )?;
+        if self.claimless_streams > 0 {
+            write!(text, ", {} of other kinds", self.claimless_streams)?;
+        }
+        for (number, what) in self.left_out(has_keys) {
+            if number > 0 {
+                write!(text, "; {number} {what}")?;
+            }
+        }
+        Ok(text)
+    }
+
+    /// How often each thing was left out, with its name.
+    fn left_out(&self, has_keys: bool) -> [(u64, &'static str); 11] {
+        let closed = if has_keys {
+            "not opened by any key"
+        } else {
+            "encrypted (--key-file opens them)"
+        };
+        [
+            (self.closed, closed),
+            (self.foreign, "not memberlist's"),
+            (self.gaps, "streams with a gap"),
+            (self.not_ip, "not IP"),
+            (self.fragments, "fragments"),
+            (self.others, "neither UDP nor TCP"),
+            (self.cut, "cut by the snap length"),
+            (self.malformed, "malformed"),
+            (self.timeless, "without a time"),
+            (self.later, "after that time"),
+            (self.unknown_links, "of an unknown link type"),
+        ]
+    }
+}

@@ -1,0 +1,51 @@
+//! The claims of push/pull streams.
+
+ghost use Rattle.std.specs.Prelude.{◌≢◌, List, IfOk, IfErr, IfSome, IfNone};
+ghost use Rattle.swim_claim.specs.declared.claim.Claim.{Claim};
+ghost use Rattle.swimwatch.specs.Records.{BeginsWithStream};
+
+use std::alloc::{AllocError, Global};
+use swim_claim::Claim;
+use swim_pack::SliceInlet;
+use swim_wire::{WireFault, read_header, read_state, skip_user};
+
+/// The claims of the push/pull stream that these bytes begin with, in its order. None if they begin
+/// with no whole one: members merge nothing of such a stream (memberlist's `readRemoteState`). What
+/// follows the stream is not looked at, as memberlist does not.
+///
+/// # Errors
+///
+/// Memory for the claims is refused.
+pub(crate) fn claims_of_stream(
+    alloc: Global,
+    bytes: &[u8],
+) -> Result<Option<Vec<Claim>>, AllocError>
+    ensures whole { IfOk result (λ found. IfSome found (λ claims.
+        BeginsWithStream bytes.now claims.items)) }
+    ensures none { IfOk result (λ found. IfNone found ((claims : List Claim)
+        → ¬ BeginsWithStream bytes.now claims)) }
+{
+    match read_claims(alloc, bytes) {
+        Ok(claims) => Ok(Some(claims)),
+        Err(WireFault::Memory) => Err(AllocError),
+        Err(_) => Ok(None),
+    }
+}
+
+fn read_claims(alloc: Global, bytes: &[u8]) -> Result<Vec<Claim>, WireFault>
+    ensures whole { IfOk result (λ claims. BeginsWithStream bytes.now claims.items) }
+    ensures none { IfErr result (λ fault. fault ≢ WireFault.Memory → (claims : List Claim)
+        → ¬ BeginsWithStream bytes.now claims) }
+{
+    let mut inlet = SliceInlet::new(bytes);
+    let header = read_header(&mut inlet)?;
+    let mut claims = Vec::new(alloc);
+    for _count in 0..header.nodes {
+        let claim = read_state(alloc, &mut inlet)?;
+        if claims.push(claim).is_err() {
+            return Err(WireFault::Memory);
+        }
+    }
+    skip_user(&mut inlet, header.user_len)?;
+    Ok(claims)
+}

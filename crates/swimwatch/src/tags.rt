@@ -1,0 +1,81 @@
+//! The tags of Serf and Consul in metadata.
+
+use percent_encoding::{AsciiSet, CONTROLS, ascii_set, percent_encode};
+use std::alloc::{AllocError, Global};
+use swim_pack::{SliceInlet, raw_at_hand, read_map_len};
+
+/// The first byte of metadata that are tags, as in Serf's `encodeTags`.
+const TAGS: u8 = 0xff;
+
+/// The most bytes of a member's metadata, and so of a key or a value.
+const MOST_META: usize = 512;
+
+/// What a line escapes of a key or a value: what it escapes of a name, and what stands between keys,
+/// values and tags.
+const ESCAPED: AsciiSet = ascii_set!(CONTROLS.add(b' ').add(b'%').add(b'=').add(b','));
+
+/// A tag of a member: a key and its value.
+#[derive(Clone, Copy)]
+pub(crate) struct Tag<'a> {
+    pub(crate) key: &'a [u8],
+    pub(crate) value: &'a [u8],
+}
+
+/// The tag at the front of the bytes, and the bytes behind it.
+fn tag_at_hand(bytes: &[u8]) -> Option<(Tag, &[u8])> {
+    let (key, rest) = raw_at_hand(bytes, MOST_META)?;
+    let (value, rest) = raw_at_hand(rest, MOST_META)?;
+    Some((Tag { key, value }, rest))
+}
+
+/// The tags in metadata: `ff`, and one MessagePack map of texts. None where it is something else.
+pub(crate) fn tags_of(alloc: Global, meta: &[u8]) -> Result<Option<Vec<Tag>>, AllocError> {
+    let Some((&TAGS, body)) = meta.split_first() else {
+        return Ok(None);
+    };
+    let mut inlet = SliceInlet::new(body);
+    let Ok(count) = read_map_len(&mut inlet, MOST_META as u32) else {
+        return Ok(None);
+    };
+    let start = body.len().saturating_sub(inlet.rest().len());
+    tags_in(alloc, &body[start..], count)
+}
+
+/// So many tags, which are all that the bytes are.
+fn tags_in(alloc: Global, bytes: &[u8], count: u32) -> Result<Option<Vec<Tag>>, AllocError> {
+    let mut tags = Vec::new(alloc);
+    let mut bytes = bytes;
+    for _ in 0..count {
+        let Some((tag, rest)) = tag_at_hand(bytes) else {
+            return Ok(None);
+        };
+        tags.push(tag)?;
+        bytes = rest;
+    }
+    if !bytes.is_empty() {
+        return Ok(None);
+    }
+    Ok(Some(tags))
+}
+
+/// Adds metadata as people read them: tags as `role=web,dc=east`, and else the bytes in
+/// hexadecimal.
+pub(crate) fn write_meta(text: &mut String, meta: &[u8]) -> Result<(), AllocError> {
+    let alloc = *text.allocator();
+    match tags_of(alloc, meta)? {
+        Some(tags) => write_tags(text, &tags),
+        None => text.push_str(&hex::encode(alloc, meta)?),
+    }
+}
+
+fn write_tags(text: &mut String, tags: &[Tag]) -> Result<(), AllocError> {
+    let mut between = "";
+    for tag in tags {
+        text.push_str(between)?;
+        percent_encode(tag.key, ESCAPED).append_to(text)?;
+        text.push('=')?;
+        percent_encode(tag.value, ESCAPED).append_to(text)?;
+        between = ",";
+    }
+    Ok(())
+}

@@ -1,0 +1,5 @@
+//! What clauses do not say: texts, moments, addresses, and each call on its happy path.
+
+mod shown;
+mod words;
+mod written;

@@ -1,0 +1,64 @@
+//! The words of the command line.
+
+use crate::chosen::{Chosen, Verb};
+use crate::command_line::{Refusal, chosen};
+use std::alloc::{AllocError, Global};
+use std::process::Abort;
+use std::test::Fail;
+
+fn texts(alloc: Global, words: &[&str]) -> Result<Vec<String>, AllocError> {
+    let mut texts = Vec::new(alloc);
+    for word in words {
+        texts.push(String::from_str(alloc, word)?)?;
+    }
+    Ok(texts)
+}
+
+/// What words ask for.
+fn choice(alloc: Global, words: &[&str]) -> Result<Chosen, Refusal> {
+    let words = texts(alloc, words)?;
+    chosen(alloc, words.as_slice())
+}
+
+/// Words, what they ask for, and how many captures and files of keys they name.
+const TAKEN: [(&[&str], Verb, bool, usize, usize); 6] = [
+    (&["members", "x"], Verb::Members, false, 1, 0),
+    (&["members", "--json", "-", "x"], Verb::Members, true, 2, 0),
+    (&["timeline", "--member", "a", "x"], Verb::Timeline, false, 1, 0),
+    (&["claims", "--key-file", "k", "x"], Verb::Claims, false, 1, 1),
+    (&["talkers", "--key-file", "k", "--key-file", "l", "x"], Verb::Talkers, false, 1, 2),
+    (&["dump", "--wait", "60", "x"], Verb::Dump, false, 1, 0),
+];
+
+#[test]
+fn words_ask_for_a_verb(rt: HostRuntime) -> Result<(), Fail> {
+    for (words, verb, json, captures, keys) in TAKEN {
+        match choice(rt.alloc(), words) {
+            Ok(chosen) => {
+                assert_eq!(rt; chosen.verb, verb);
+                assert_eq!(rt; chosen.json, json);
+                assert_eq!(rt; chosen.captures.len(), captures);
+                assert_eq!(rt; chosen.key_files.len(), keys);
+            }
+            Err(_) => return Err(Fail::from(AllocError)),
+        }
+    }
+    Ok(())
+}
+
+/// Words whose values are none that the arguments take.
+const REFUSED: [(&[&str], &str); 4] = [
+    (&[], "a command is wanted; --help lists them"),
+    (&["members", "--at", "noon", "x"], "--at wants a time like 2026-11-25T02:01:43Z"),
+    (&["members", "--wait", "-1", "x"], "--wait wants a number of seconds"),
+    (&["dump", "--wait", "", "x"], "--wait wants a number of seconds"),
+];
+
+#[test]
+fn values_are_refused_with_a_text(rt: HostRuntime) {
+    for (words, text) in REFUSED {
+        if let Err(Refusal::Value(found)) = choice(rt.alloc(), words) {
+            assert_eq!(rt; found, text);
+        }
+    }
+}

@@ -1,0 +1,113 @@
+//! Texts of what lines and objects show.
+
+use crate::endpoint::endpoint;
+use crate::moment::write_moment;
+use crate::names::write_name;
+use crate::tags::write_meta;
+use memberlist_view::{Entry, Event, MemberName, State};
+use std::alloc::{AllocError, Global};
+use swim_claim::Details;
+
+/// The word for a state.
+pub(crate) fn state_word(state: &State) -> &'static str {
+    match state {
+        State::Alive => "alive",
+        State::Suspect { .. } => "suspect",
+        State::Dead { .. } => "dead",
+        State::Left => "left",
+    }
+}
+
+/// The words for an event.
+pub(crate) fn event_words(event: Event) -> &'static str {
+    match event {
+        Event::Joined => "joined",
+        Event::Back => "back",
+        Event::Updated => "updated",
+        Event::Renewed => "renewed",
+        Event::Refuted => "refuted",
+        Event::Suspected => "suspected",
+        Event::AlsoSuspected => "also suspected",
+        Event::Dead => "dead",
+        Event::Left => "left",
+        Event::Conflict => "conflict",
+    }
+}
+
+/// A name with its escapes.
+pub(crate) fn name_text(alloc: Global, name: &MemberName) -> Result<String, AllocError> {
+    let mut text = String::new(alloc);
+    write_name(&mut text, name.name().bytes())?;
+    Ok(text)
+}
+
+/// Names with their escapes, and commas between them.
+pub(crate) fn names_text(alloc: Global, names: &[MemberName]) -> Result<String, AllocError> {
+    let mut text = String::new(alloc);
+    let mut between = "";
+    for name in names {
+        text.push_str(between)?;
+        write_name(&mut text, name.name().bytes())?;
+        between = ",";
+    }
+    Ok(text)
+}
+
+/// The address and port as people write them: `10.20.1.11:7946`, `[fe80::1]:7946`.
+pub(crate) fn address_text(alloc: Global, details: &Details) -> Result<String, AllocError> {
+    match endpoint(details.addr(), details.port()) {
+        Some(end) => format!(in alloc; "{end}"),
+        None => hex::encode(alloc, details.addr()),
+    }
+}
+
+/// The moment, as RFC 3339 writes it.
+pub(crate) fn moment_text(alloc: Global, micros: u64) -> Result<String, AllocError> {
+    let mut text = String::new(alloc);
+    write_moment(&mut text, micros)?;
+    Ok(text)
+}
+
+/// The metadata: tags, or bytes in hexadecimal.
+pub(crate) fn meta_text(alloc: Global, meta: &[u8]) -> Result<String, AllocError> {
+    let mut text = String::new(alloc);
+    write_meta(&mut text, meta)?;
+    Ok(text)
+}
+
+/// By whose word a member is as it is: its own, or that of its accusers.
+pub(crate) fn by_text(
+    alloc: Global,
+    name: &MemberName,
+    state: &State,
+) -> Result<String, AllocError> {
+    match state {
+        State::Alive | State::Left => name_text(alloc, name),
+        State::Dead { by } => name_text(alloc, by),
+        State::Suspect { by } => names_text(alloc, by.names()),
+    }
+}
+
+/// Adds an address and, if there are some, metadata: ` at 10.20.1.11:7946 role=web`.
+pub(crate) fn write_place_and_meta(text: &mut String, details: &Details) -> Result<(), AllocError> {
+    let alloc = *text.allocator();
+    let address = address_text(alloc, details)?;
+    write!(text, " at {address}")?;
+    if details.meta().is_empty() {
+        return Ok(());
+    }
+    text.push(' ')?;
+    write_meta(text, details.meta())
+}
+
+/// Adds both addresses of a conflict, if there is one: ` at 10.20.1.9:7946, and is at
+/// 10.20.1.15:7946`.
+pub(crate) fn write_rivals(text: &mut String, entry: &Entry) -> Result<(), AllocError> {
+    let alloc = *text.allocator();
+    let Some(rival) = &entry.rival else {
+        return Ok(());
+    };
+    let rival = address_text(alloc, rival)?;
+    let address = address_text(alloc, &entry.details)?;
+    write!(text, " at {rival}, and is at {address}")
+}

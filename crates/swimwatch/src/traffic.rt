@@ -1,0 +1,211 @@
+//! From the frames of captures to what members sent.
+
+use crate::counts::{Counts, count};
+use crate::endpoint::endpoint;
+use crate::sent::{Proto, Sent};
+use crate::watch::Watch;
+use capture::{
+    Carried, Ends, Flow, Flows, Heard, Link, NotCarried, Record, Segment, Taken, Transport, carried,
+};
+use std::alloc::{AllocError, Global};
+use std::collections::BTreeMap;
+
+/// How far one direction of a connection was read.
+#[derive(Clone, Copy)]
+struct Progress {
+    /// When the last of its bytes was captured.
+    time: u64,
+    /// Whether it was taken in.
+    is_read: bool,
+    /// How often it was tried to be read before its end.
+    tries: u8,
+}
+
+/// The most tries to read a stream before its end.
+const MOST_TRIES: u8 = 8;
+
+/// The connections that are open.
+#[derive(Drop)]
+pub(crate) struct Traffic {
+    alloc: Global,
+    flows: Flows,
+    progress: BTreeMap<Ends, Progress>,
+}
+
+impl Traffic {
+    pub(crate) fn new(alloc: Global) -> Traffic {
+        Traffic {
+            alloc,
+            flows: Flows::new(alloc),
+            progress: BTreeMap::new(alloc),
+        }
+    }
+
+    /// Takes in a record of a capture and its bytes, if it was not captured after this moment.
+    pub(crate) fn record(
+        &mut self,
+        watch: &mut Watch,
+        until: Option<u64>,
+        record: Record,
+        bytes: &[u8],
+    ) -> Result<(), AllocError> {
+        count(&mut watch.counts.records);
+        let Some(nanos) = record.time else {
+            count(&mut watch.counts.timeless);
+            return Ok(());
+        };
+        let time = nanos / 1000;
+        if until.is_some_and(|until| until < time) {
+            count(&mut watch.counts.later);
+            return Ok(());
+        }
+        let Some(link) = Link::from_number(record.link) else {
+            count(&mut watch.counts.unknown_links);
+            return Ok(());
+        };
+        self.frame(watch, link, time, bytes)
+    }
+
+    /// Takes in a frame.
+    fn frame(
+        &mut self,
+        watch: &mut Watch,
+        link: Link,
+        time: u64,
+        bytes: &[u8],
+    ) -> Result<(), AllocError> {
+        match carried(link, bytes) {
+            Ok(content) => self.content(watch, time, content),
+            Err(cause) => {
+                leave_out(&mut watch.counts, cause);
+                Ok(())
+            }
+        }
+    }
+
+    fn content(&mut self, watch: &mut Watch, time: u64, content: Carried) -> Result<(), AllocError> {
+        match content.transport {
+            Transport::Udp(datagram) => {
+                let from = endpoint(content.source, datagram.source);
+                let to = endpoint(content.destination, datagram.destination);
+                let (Some(source), Some(destination)) = (from, to) else {
+                    return Ok(());
+                };
+                let sent = Sent {
+                    time,
+                    source,
+                    destination,
+                    proto: Proto::Udp,
+                };
+                watch.datagram(sent, datagram.payload)
+            }
+            Transport::Tcp(segment) => {
+                match Ends::of(content.source, content.destination, &segment) {
+                    Some(ends) => self.segment(watch, time, ends, &segment),
+                    None => Ok(()),
+                }
+            }
+        }
+    }
+
+    /// Takes in a segment, and what the flow carried that it completes. A stream is taken in as soon
+    /// as it is there, at a segment that its sender pushes, since members take it in then.
+    fn segment(
+        &mut self,
+        watch: &mut Watch,
+        time: u64,
+        ends: Ends,
+        segment: &Segment,
+    ) -> Result<(), AllocError> {
+        let Heard { taken, complete } = self.flows.take(self.alloc, ends, segment)?;
+        let mut progress = self.progress_of(&ends, time);
+        if let Some(flow) = complete {
+            if taken == Some(Taken::Joined) && !segment.syn {
+                progress.time = time;
+            }
+            let _ = self.progress.remove(&ends);
+            return told(watch, progress, ends, &flow);
+        }
+        if taken == Some(Taken::Joined) {
+            progress.time = time;
+            self.try_reading(watch, &mut progress, ends, segment.psh)?;
+            let _ = self.progress.insert(ends, progress)?;
+        }
+        Ok(())
+    }
+
+    fn progress_of(&self, ends: &Ends, time: u64) -> Progress {
+        match self.progress.get(ends) {
+            Some(progress) => *progress,
+            None => Progress {
+                time,
+                is_read: false,
+                tries: 0,
+            },
+        }
+    }
+
+    /// Takes in a stream that is pushed, if it is whole.
+    fn try_reading(
+        &self,
+        watch: &mut Watch,
+        progress: &mut Progress,
+        ends: Ends,
+        is_pushed: bool,
+    ) -> Result<(), AllocError> {
+        if progress.is_read || !is_pushed || progress.tries == MOST_TRIES {
+            return Ok(());
+        }
+        progress.tries = progress.tries.saturating_add(1);
+        if let Some(flow) = self.flows.get(&ends) {
+            progress.is_read = watch.whole_stream(sent_at(progress.time, ends), flow.bytes())?;
+        }
+        Ok(())
+    }
+
+    /// Takes in the flows that are left at the end of a capture.
+    pub(crate) fn finish(&mut self, watch: &mut Watch) -> Result<(), AllocError> {
+        while let Some((ends, flow)) = self.flows.finish() {
+            let progress = self.progress_of(&ends, 0);
+            let _ = self.progress.remove(&ends);
+            told(watch, progress, ends, &flow)?;
+        }
+        Ok(())
+    }
+}
+
+/// What is sent between these ends.
+fn sent_at(time: u64, ends: Ends) -> Sent {
+    Sent {
+        time,
+        source: ends.source,
+        destination: ends.destination,
+        proto: Proto::Tcp,
+    }
+}
+
+/// Takes in what a flow carried, if it was not taken in before.
+fn told(
+    watch: &mut Watch,
+    progress: Progress,
+    ends: Ends,
+    flow: &Flow,
+) -> Result<(), AllocError> {
+    let bytes = flow.bytes();
+    watch.count_bytes(ends.source, bytes.len())?;
+    if progress.is_read || bytes.is_empty() {
+        return Ok(());
+    }
+    watch.stream(sent_at(progress.time, ends), bytes)
+}
+
+/// Counts a frame that carries nothing that is used.
+fn leave_out(counts: &mut Counts, cause: NotCarried) {
+    match cause {
+        NotCarried::NotIp => count(&mut counts.not_ip),
+        NotCarried::Fragment => count(&mut counts.fragments),
+        NotCarried::OtherProtocol => count(&mut counts.others),
+        NotCarried::Cut => count(&mut counts.cut),
+        NotCarried::Malformed => count(&mut counts.malformed),
+    }
+}
