@@ -1,6 +1,6 @@
 //! A table from packets, and its listing.
 
-ghost use Rattle.std.specs.Prelude.{◌≡◌, ◌≢◌, ◌↔◌, ◌<◌, ◌≤◌, ◌++◌, ◌∷◌, [], List, map, length, IfOk, IfErr, OnOk};
+ghost use Rattle.std.specs.Prelude.{◌≡◌, ◌≢◌, ◌↔◌, ◌<◌, ◌≤◌, ◌++◌, List, map, length, IfOk, IfErr, OnOk};
 ghost use Rattle.std.specs.Str.Lines.{strip_carriage_return};
 ghost use Rattle.swim_claim.specs.declared.claim.Claim.{Claim};
 ghost use Rattle.swim_program.specs.Limits.{most_bytes};
@@ -12,8 +12,7 @@ ghost use Rattle.swimtab.specs.Lines.{TextClaims, LineClaims, PacketLines, Tells
 ghost use Rattle.swim_program.specs.Report.{IsAmong, TellsDatagram};
 
 use std::alloc::{AllocError, Global};
-use swim_claim::Claim;
-use swim_program::{BOUND, Place, Report, What, into_claims, lines_of, without_return};
+use swim_program::{BOUND, Place, Report, What, lines_of, without_return};
 use swim_table::{Table, list};
 use swim_wire::Datagram;
 
@@ -93,20 +92,7 @@ fn take_datagram(alloc: Global, table: &mut Table, bytes: &[u8]) -> Result<(), W
     ensures tells { IfErr result (λ what. what ≢ What.Memory → TellsDatagram bytes.now what) }
     ensures no_device { IfErr result (λ what. what ≢ What.Device) }
 {
-    match Datagram::decode(alloc, bytes)? {
-        Datagram::Packet(packet) => take_claim(table, packet.into_claim())?,
-        Datagram::Compound(packets) => table.take_all(into_claims(alloc, packets)?)?,
-    }
+    let datagram = Datagram::decode(alloc, bytes)?;
+    table.take_datagram(datagram)?;
     Ok(())
-}
-
-/// Takes in the claim of a packet by itself. About a name that is known that takes no memory.
-fn take_claim(table: &mut Table, claim: Claim) -> Result<(), AllocError>
-    ensures { OnOk result ((taken : List Claim) → TableOf table.old taken
-        → TableOf table.new (taken ++ claim ∷ [])) }
-{
-    match table.take(claim) {
-        Ok(_) => Ok(()),
-        Err((_, error)) => Err(error),
-    }
 }
