@@ -6,12 +6,10 @@
 //! | `words` | the words after a program's name |
 //! | `device` | input and files to their bound, and output |
 //! | `lines` | lines of input |
-//! | `claims` | the claims of packets |
 //! | `report` | what is said of a run that was refused, and its exit status |
 //! | `failure` | how a program ends where it has nothing to print |
 #![tactic(auto)]
 
-mod claims;
 mod device;
 mod failure;
 mod lines;
@@ -20,7 +18,6 @@ mod report;
 mod tests;
 mod words;
 
-pub use claims::into_claims;
 pub use device::{BOUND, read_file, read_input, read_to_bound, write_out};
 pub use failure::Failure;
 pub use lines::{Lines, lines_of, without_return};

@@ -11,7 +11,7 @@ use crate::keyword::Keyword;
 use crate::script_word::{bytes_of, name_of, number_of, split_words};
 use std::alloc::Global;
 use swim_claim::{Details, Name};
-use swim_program::{What, into_claims};
+use swim_program::What;
 use swim_sync::{Claims, Event};
 use swim_table::Node;
 use swim_wire::Datagram;
@@ -145,8 +145,8 @@ fn event_of_datagram(alloc: Global, node: usize, datagram: &[u8]) -> Result<Even
 {
     match Datagram::decode(alloc, datagram)? {
         Datagram::Packet(packet) => Ok(Event::Hear(node, packet.into_claim())),
-        Datagram::Compound(packets) => {
-            let claims = into_claims(alloc, packets)?;
+        compound => {
+            let claims = compound.into_claims(alloc)?;
             Ok(Event::HearAll(node, Claims::new(claims)))
         }
     }
