@@ -13,3 +13,4 @@ pub mod Streams
 pub mod Mixing
 pub mod Prepared
 pub mod Labels
+pub mod Encrypting

@@ -1,5 +1,5 @@
 -- What memberlist writes under a cluster's key: packets, and streams.
-use Rattle.std.specs.Prelude.{◌≡◌, ℕ, ◌-◌, ◌%◌, ◌^◌, ◌<◌, ◌≤◌, ◌⊎◌, List, ◌∷◌, ◌++◌, length, replicate}
+use Rattle.std.specs.Prelude.{◌≡◌, ℕ, ◌+◌, ◌-◌, ◌%◌, ◌^◌, ◌<◌, ◌≤◌, ◌⊎◌, List, ◌∷◌, ◌++◌, length, replicate}
 use Rattle.std.specs.Int.{w32, to_be_bytes}
 use Rattle.memberlist_cipher.specs.Block.{aes}
 use Rattle.memberlist_cipher.specs.Gcm.{ctr, tag}
@@ -13,6 +13,10 @@ IsKey key = (length key ≡ 16) ⊎ (length key ≡ 24) ⊎ (length key ≡ 32)
 abbrev pub IsWithin : List ℕ → List ℕ → Type 0
 IsWithin associated bytes = (length bytes ≤ 2 ^ 36 - 3) × (length associated < 2 ^ 61)
 
+-- so many bytes may be encrypted, within these limits
+abbrev pub MayEncrypt : List ℕ → List ℕ → Type 0
+MayEncrypt associated message = (length message ≤ 2 ^ 36 - 32) × (length associated < 2 ^ 61)
+
 -- the enciphered text and its tag (7.1)
 unfoldable pub sealed : List ℕ → List ℕ → List ℕ → List ℕ → List ℕ
 sealed key nonce associated text =
@@ -21,6 +25,10 @@ sealed key nonce associated text =
 -- 1 to 16 bytes more, each their count, up to a multiple of 16 (PKCS #7)
 unfoldable pub padded : List ℕ → List ℕ
 padded message = let more = 16 - length message % 16 in message ++ replicate more more
+
+-- the encryption of version 1 with this nonce
+unfoldable pub encrypted : List ℕ → List ℕ → List ℕ → List ℕ → List ℕ
+encrypted key nonce associated message = 1 ∷ nonce ++ sealed key nonce associated message
 
 -- The bytes are an encryption of this message under the key, with these associated bytes: a
 -- version, a nonce of 12 bytes, the enciphered text and its tag. In version 0 the text is the
@@ -33,6 +41,11 @@ pub record Encryption (key associated bytes message : List ℕ) : Type 0 where
   pub text : (bytes ≡ 0 ∷ nonce ++ sealed key nonce associated (padded message))
       ⊎ (bytes ≡ 1 ∷ nonce ++ sealed key nonce associated message)
 
+-- this message, and no other one
+abbrev pub HoldsOnly : (List ℕ → Type 0) → List ℕ → Type 0
+HoldsOnly Holds message =
+    Holds message × ((other : List ℕ) → Holds other → other ≡ message)
+
 -- the head of a stream of which n bytes follow
 unfoldable pub head : ℕ → List ℕ
 head n = 10 ∷ to_be_bytes w32 n
@@ -41,6 +54,16 @@ head n = 10 ∷ to_be_bytes w32 n
 pub record IsStream (bytes inner : List ℕ) : Type 0 where
   pub few : length inner ≤ 2 ^ 28
   pub text : bytes ≡ head (length inner) ++ inner
+
+-- a stream may hold so many bytes, and its head and the label may be associated
+abbrev pub MayEncryptStream : List ℕ → List ℕ → Type 0
+MayEncryptStream label message =
+    (length message ≤ 2 ^ 28 - 29) × (length label < 2 ^ 61 - 5)
+
+-- the stream that holds the encryption of version 1 with this nonce
+unfoldable pub encrypted_stream : List ℕ → List ℕ → List ℕ → List ℕ → List ℕ
+encrypted_stream key nonce label message =
+    let h = head (29 + length message) in h ++ encrypted key nonce (h ++ label) message
 
 -- The stream holds an encryption of this message; its head and the label are associated.
 pub record StreamEncryption (key label bytes message : List ℕ) : Type 0 where

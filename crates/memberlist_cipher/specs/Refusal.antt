@@ -99,3 +99,15 @@ StreamCause fault key label bytes =
     HeadCause fault bytes
     ⊎ ((inner : List ℕ) × IsStream bytes inner
     × ((fault ≡ Memory) ⊎ PacketCause fault key (head (length inner) ++ label) inner))
+
+-- the causes of a refusal to encrypt what may or may not be encrypted
+abbrev pub EncryptCause : Type 0 → CipherFault → Type 0
+EncryptCause May TooLong = ¬ May
+EncryptCause May Memory = May
+EncryptCause May BadKey = ⊥
+EncryptCause May TooShort = ⊥
+EncryptCause May WrongVersion = ⊥
+EncryptCause May WrongTag = ⊥
+EncryptCause May BadPadding = ⊥
+EncryptCause May NotEncrypted = ⊥
+EncryptCause May Trailing = ⊥

@@ -33,6 +33,28 @@ fn append_sum(out: &mut Vec<u8>, front: &[u8], mask: [u8; 16])
     }
 }
 
+/// Adds the bytes at the end, enciphered or deciphered. There is room for them.
+pub(crate) fn append_ctr(to: &mut Vec<u8>, words: &[u8], count: usize, nonce: &[u8], bytes: &[u8])
+    requires few { count < 14 }
+    requires words { 16 * count + 32 ≤ length words.now }
+    requires nonce { length nonce.now ≡ 12 }
+    requires room { vec_len to.old + length bytes.now ≤ vec_capacity to.old }
+    ensures items { to.new.items
+        ≡ to.old.items ++ ctr (cipher words.now count) nonce.now bytes.now }
+    ensures len { vec_len to.new ≡ vec_len to.old + length bytes.now }
+    ensures in_place { vec_capacity to.new ≡ vec_capacity to.old }
+{
+    let mut counter: u32 = 2;
+    let mut rest = bytes;
+    while 0 < rest.len() {
+        let (front, back) = split_block(rest);
+        let mask = cipher(words, count, counter_block(nonce, counter));
+        append_sum(to, front, mask);
+        counter = counter.wrapping_add(1);
+        rest = back;
+    }
+}
+
 /// The bytes, enciphered or deciphered.
 pub(crate) fn ctr(
     alloc: Global,
@@ -49,14 +71,6 @@ pub(crate) fn ctr(
     ensures size { IfOk result (λ out. vec_capacity out ≡ length bytes.now) }
 {
     let mut out = Vec::with_capacity(alloc, bytes.len())?;
-    let mut counter: u32 = 2;
-    let mut rest = bytes;
-    while 0 < rest.len() {
-        let (front, back) = split_block(rest);
-        let mask = cipher(words, count, counter_block(nonce, counter));
-        append_sum(&mut out, front, mask);
-        counter = counter.wrapping_add(1);
-        rest = back;
-    }
+    append_ctr(&mut out, words, count, nonce, bytes);
     Ok(out)
 }

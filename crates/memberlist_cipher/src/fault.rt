@@ -14,7 +14,7 @@ pub enum CipherFault {
     #[error("a key has 16, 24 or 32 bytes")]
     BadKey,
     /// The bytes, or the associated bytes, are more than the standard allows, or a stream announces
-    /// more than 268,435,456 bytes.
+    /// more than 268,435,456 bytes; or what is to be encrypted, or a label, would be too long.
     #[error("the encrypted bytes are too many")]
     TooLong,
     /// The bytes end before a message or a stream can end.

@@ -1,8 +1,8 @@
 //! Laws of the definitions, apart from any code. Each is the contract of a function that does
 //! nothing.
 
-ghost use Rattle.std.specs.Prelude.{◌≡◌, List, ℕ};
-ghost use Rattle.memberlist_cipher.specs.Encryption.{Encryption, StreamEncryption};
+ghost use Rattle.std.specs.Prelude.{◌≡◌, List, ℕ, length};
+ghost use Rattle.memberlist_cipher.specs.Encryption.{IsKey, MayEncrypt, MayEncryptStream, encrypted, encrypted_stream, HoldsOnly, Encryption, StreamEncryption};
 ghost use Rattle.memberlist_cipher.specs.Label.{IsLabelled, IsLabelText};
 
 /// For one key and the same associated bytes, bytes are the encryption of one message.
@@ -11,6 +11,17 @@ pub fn one_message()
         → Encryption key associated bytes y → x ≡ y }
     ensures stream { (key label bytes x y : List ℕ) → StreamEncryption key label bytes x
         → StreamEncryption key label bytes y → x ≡ y }
+{}
+
+/// What is encrypted is an encryption of its message, and of no other.
+pub fn encrypted_is_opened()
+    ensures packet { (key nonce associated message : List ℕ) → IsKey key → length nonce ≡ 12
+        → MayEncrypt associated message
+        → HoldsOnly (Encryption key associated (encrypted key nonce associated message)) message }
+    ensures stream { (key nonce label message : List ℕ) → IsKey key → length nonce ≡ 12
+        → MayEncryptStream label message
+        → HoldsOnly (StreamEncryption key label (encrypted_stream key nonce label message))
+        message }
 {}
 
 /// Bytes have one label, or none; and a label that was written is read back.

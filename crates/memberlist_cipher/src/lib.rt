@@ -11,6 +11,7 @@
 //! | `hashing` | the product and the hash of blocks |
 //! | `counting` | counter mode |
 //! | `tagging` | the tag |
+//! | `encrypt` | a message encrypted, as a packet or a stream |
 //! | `unpadding` | padding taken off |
 //! | `key` | a key, made ready to decrypt |
 //! | `label` | the label of a packet or a stream |
@@ -24,6 +25,7 @@ mod appending;
 mod block;
 mod columns;
 mod counting;
+mod encrypt;
 mod fault;
 mod field;
 mod hashing;

@@ -14,10 +14,10 @@ use crate::unpadding::unpadded;
 use std::alloc::Global;
 
 /// The greatest number of bytes: 2^36 - 32 of text (SP 800-38D, 5.2.1.1), and 29 more.
-const MOST_BYTES: usize = 0xf_ffff_fffd;
+pub(crate) const MOST_BYTES: usize = 0xf_ffff_fffd;
 
 /// The greatest number of associated bytes (SP 800-38D, 5.2.1.1).
-const MOST_ASSOCIATED: usize = 0x1fff_ffff_ffff_ffff;
+pub(crate) const MOST_ASSOCIATED: usize = 0x1fff_ffff_ffff_ffff;
 
 /// The message that encrypted bytes hold under the key, of 16, 24 or 32 bytes.
 ///

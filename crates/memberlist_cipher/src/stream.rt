@@ -12,7 +12,7 @@ use crate::opening::decrypt;
 use std::alloc::{AllocError, Global};
 
 /// The greatest length that a stream may announce (own).
-const MOST_BYTES: usize = 268_435_456;
+pub(crate) const MOST_BYTES: usize = 268_435_456;
 
 /// The message of an encrypted stream: the byte 10, a length of four bytes, the highest first, and
 /// so many bytes as [`decrypt`] takes.
@@ -99,7 +99,11 @@ fn opened_stream_under(
 }
 
 /// What is associated: a stream's head, and the label.
-fn associated_bytes(alloc: Global, head: &[u8], label: &[u8]) -> Result<Vec<u8>, AllocError>
+pub(crate) fn associated_bytes(
+    alloc: Global,
+    head: &[u8],
+    label: &[u8],
+) -> Result<Vec<u8>, AllocError>
     requires { length head.now ≡ 5 }
     ensures bytes { IfOk result (λ all. all.items ≡ head.now ++ label.now) }
     ensures size { IfOk result (λ all. vec_capacity all ≡ 5 + length label.now) }

@@ -4,8 +4,10 @@ use crate::{CipherFault, decrypt, decrypt_stream};
 use std::alloc::Global;
 use std::process::Abort;
 
+mod encrypt;
 mod faults;
 mod keys;
+mod labels;
 mod messages;
 mod refusals;
 mod standards;

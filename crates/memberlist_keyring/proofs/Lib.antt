@@ -7,3 +7,4 @@ pub mod Files
 pub mod Openings
 pub mod Once
 pub mod OneOpened
+pub mod Sendings

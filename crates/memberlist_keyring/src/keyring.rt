@@ -19,7 +19,7 @@ use std::marker::Model;
 /// keys' bytes.
 #[derive(Drop)]
 pub struct Keyring {
-    keys: Vec<Key>,
+    pub(crate) keys: Vec<Key>,
 }
 
 impl Model for Keyring {

@@ -1,8 +1,11 @@
 //! The label of a packet or a stream.
 
+ghost use Rattle.std.specs.Prelude.{◌≢◌, ◌<◌, ◌∷◌, ℕ, List, length, IfOk};
+ghost use Rattle.memberlist_cipher.specs.Label.{IsLabelled};
 ghost use Rattle.memberlist_keyring.specs.Cutting.{IsCut};
 
-use memberlist_cipher::split_label;
+use memberlist_cipher::{labelled, split_label};
+use std::alloc::{AllocError, Global};
 
 /// A label, and what it labels. Where there is no label, or one that is empty or cut short, it is
 /// empty, and all the bytes are left.
@@ -13,4 +16,20 @@ pub(crate) fn cut_label(bytes: &[u8]) -> (&[u8], &[u8])
         Ok(parts) => parts,
         Err(_) => (&bytes[..0], bytes),
     }
+}
+
+/// The bytes behind a label; of an empty one nothing is written.
+pub(crate) fn behind_label(
+    alloc: Global,
+    label: &[u8],
+    bytes: Vec<u8>,
+) -> Result<Vec<u8>, AllocError>
+    requires few { length label.now < 256 }
+    requires bare { (more : List ℕ) → bytes.items ≢ 244 ∷ more }
+    ensures { IfOk result (λ text. IsLabelled text.items label.now bytes.items) }
+{
+    if label.is_empty() {
+        return Ok(bytes);
+    }
+    labelled(alloc, label, &bytes)
 }

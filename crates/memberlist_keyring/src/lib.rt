@@ -1,4 +1,4 @@
-//! A cluster's keys, read from key files, and packets and streams opened under them.
+//! A cluster's keys, read from key files, and packets and streams opened and encrypted under them.
 //!
 //! | module | subject |
 //! |---|---|
@@ -8,9 +8,11 @@
 //! | `label` | the label of a packet or a stream |
 //! | `trial` | keys tried in order |
 //! | `keyring` | a cluster's keys |
+//! | `encrypt` | packets and streams encrypted under the first key |
 //! | `laws` | what holds of the definitions, apart from any code |
 #![tactic(auto)]
 
+mod encrypt;
 mod fault;
 mod key;
 mod key_file;

@@ -1,6 +1,7 @@
 //! What no clause says: packets and streams of a real memberlist, real key files, the texts of
 //! faults.
 
+mod encrypt;
 mod key_files;
 mod opening;
 mod packets;

@@ -1,25 +1,23 @@
-use Rattle.std.proofs.Common.{ℕ, ◌+◌, ◌%◌, ◌^◌, List, ◌++◌, drop, sym, ap, ap₂, ◌∙◌, arith, append_assoc, append-nil}
+use Rattle.std.proofs.Common.{refl, ℕ, ◌+◌, ◌%◌, ◌^◌, List, ◌++◌, drop, sym, ap, ap₂, ◌∙◌, arith, append_assoc, append-nil}
 use Rattle.memberlist_cipher.specs.Block.{plus_bytes, cipher}
 use Rattle.memberlist_cipher.specs.Gcm.{counted_all, ctr}
 use Rattle.memberlist_cipher.proofs.Hashes.{counted_step, counted_end}
-use Rattle.memberlist_cipher.proofs.counting.ctr.Goals as goal
+use Rattle.memberlist_cipher.proofs.counting.append_ctr.Goals as goal
 
 pub loop-rest-init : goal.loop-rest-init
 unfolding ctr
-loop-rest-init c =
-    let f = cipher c.args.words.now c.args.count in
-    record {
-      bytes = ap (λ (o : List ℕ). o ++ counted_all f c.args.nonce.now 2 c.args.bytes.now) c.in_ok-out.ensures.items;
-      len = omega (arith, c.in_ok-out.ensures.len);
-      capacity = c.in_ok-out.ensures.exact;
-    }
+loop-rest-init c = record {
+  bytes = refl;
+  len = refl;
+  capacity = refl;
+}
 
 pub loop-rest-preserved : goal.loop-rest-preserved
 loop-rest-preserved c =
     let f = cipher c.args.words.now c.args.count in
     let nonce = c.args.nonce.now in
     let n = c.loop-rest.counter in
-    let old = c.loop-rest.out.items in
+    let old = c.loop-rest.to.items in
     let rest = c.loop-rest.rest.now in
     let more = counted_all f nonce ((n + 1) % 2 ^ 32) (drop 16 rest) in
     record {
@@ -33,9 +31,9 @@ loop-rest-preserved c =
       capacity = c.append_sum.ensures.in_place ∙ c.loop-rest.invariant.capacity;
     }
 
-pub returns-clause-bytes : goal.returns-clause-bytes
-returns-clause-bytes c =
+pub returns-clause-items : goal.returns-clause-items
+returns-clause-items c =
     let f = cipher c.args.words.now c.args.count in
-    sym (append-nil c.loop-rest.out.items)
-    ∙ ap (λ (o : List ℕ). c.loop-rest.out.items ++ o) (sym (counted_end f c.args.nonce.now c.loop-rest.counter c.loop-rest.rest.now (omega arith)))
+    sym (append-nil c.loop-rest.to.items)
+    ∙ ap (λ (o : List ℕ). c.loop-rest.to.items ++ o) (sym (counted_end f c.args.nonce.now c.loop-rest.counter c.loop-rest.rest.now (omega arith)))
     ∙ c.loop-rest.invariant.bytes

@@ -1,0 +1,77 @@
+-- What is encrypted is an encryption of the message.
+use Rattle.std.proofs.Common.{◌≡◌, inr, ℕ, ◌+◌, ◌-◌, ◌^◌, ◌<◌, ◌≤◌, List, [], ◌∷◌, ◌++◌, length, drop, refl, sym, ap, ap₂, subst, ◌∙◌, arith, append_assoc}
+use Rattle.std.proofs.lemmas.List.{length-append, drop_at}
+use Rattle.memberlist_cipher.specs.Block.{cipher, aes}
+use Rattle.memberlist_cipher.specs.Gcm.{ctr, tag}
+use Rattle.memberlist_cipher.specs.Encryption.{IsKey, MayEncrypt, MayEncryptStream, sealed, encrypted, Encryption, head, encrypted_stream, StreamEncryption}
+use Rattle.memberlist_cipher.proofs.Causes.{length-head}
+use Rattle.memberlist_cipher.proofs.Refusing.{length-tag}
+use Rattle.memberlist_cipher.proofs.Sealing.{good_sizes}
+use Rattle.memberlist_cipher.proofs.Twice.{length-ctr}
+
+-- an encryption whose parts were added one after another
+pub parts_are : (key nonce associated message old w a b c d inner mark : List ℕ) (n start : ℕ) → cipher w n ≡ aes key → a ≡ old ++ 1 ∷ []
+    → b ≡ a ++ nonce → start ≡ length b → c ≡ b ++ ctr (cipher w n) nonce message → inner ≡ drop start c
+    → mark ≡ tag (cipher w n) nonce associated inner → d ≡ c ++ mark → d ≡ old ++ encrypted key nonce associated message
+unfolding encrypted sealed
+parts_are key nonce associated message old w a b c d inner mark n start under first second place third back tagged last =
+    let text = ctr (aes key) nonce message in
+    let t = tag (aes key) nonce associated text in
+    let so_far : c ≡ b ++ text = third ∙ ap (λ (f : List ℕ → List ℕ). b ++ ctr f nonce message) under in
+    let behind : inner ≡ text = back ∙ ap (drop start) so_far ∙ drop_at b text start (sym place) in
+    let is : mark ≡ t = tagged ∙ ap₂ (λ (f : List ℕ → List ℕ) (x : List ℕ). tag f nonce associated x) under behind in
+    let front : b ≡ (old ++ 1 ∷ []) ++ nonce = second ∙ ap (λ (x : List ℕ). x ++ nonce) first in
+    last ∙ ap₂ ◌++◌ so_far is ∙ append_assoc b text t ∙ ap (λ (x : List ℕ). x ++ (text ++ t)) front
+    ∙ append_assoc (old ++ 1 ∷ []) nonce (text ++ t) ∙ append_assoc old (1 ∷ []) (nonce ++ (text ++ t))
+
+pub length-encrypted : (key nonce associated message : List ℕ) → IsKey key → length nonce ≡ 12
+    → length (encrypted key nonce associated message) ≡ 29 + length message
+unfolding encrypted sealed
+length-encrypted key nonce associated message good size =
+    let text = ctr (aes key) nonce message in
+    let t = tag (aes key) nonce associated text in
+    omega (
+      arith,
+      size,
+      length-append nonce (text ++ t),
+      length-append text t,
+      length-ctr (aes key) (good_sizes key good) nonce message,
+      length-tag (aes key) (good_sizes key good) nonce associated text,
+    )
+
+pub is_encryption : (key nonce associated bytes message : List ℕ) → IsKey key → length nonce ≡ 12 → MayEncrypt associated message
+    → bytes ≡ encrypted key nonce associated message → Encryption key associated bytes message
+unfolding encrypted
+is_encryption key nonce associated bytes message good size may is = record {
+  good_key = good;
+  within = (omega (arith, may.0, ap length is, length-encrypted key nonce associated message good size), may.1);
+  nonce = nonce;
+  nonce_size = size;
+  text = inr is;
+}
+
+pub is_stream_encryption : (key nonce label bytes message : List ℕ) → IsKey key → length nonce ≡ 12 → MayEncryptStream label message
+    → bytes ≡ encrypted_stream key nonce label message → StreamEncryption key label bytes message
+unfolding encrypted_stream
+is_stream_encryption key nonce label bytes message good size may is =
+    let h = head (29 + length message) in
+    let inner = encrypted key nonce (h ++ label) message in
+    let len : 29 + length message ≡ length inner = sym (length-encrypted key nonce (h ++ label) message good size) in
+    let fits : length (h ++ label) < 2 ^ 61 = omega (arith, may.1, length-append h label, length-head (29 + length message)) in
+    let short : length message ≤ 2 ^ 36 - 32 = omega (arith, may.0) in
+    let P : ℕ → Type 0 = λ n. Encryption key (head n ++ label) inner message in
+    record {
+      inner = inner;
+      stream = record { few = omega (arith, may.0, len); text = is ∙ ap (λ (n : ℕ). head n ++ inner) len };
+      encryption = subst P len (is_encryption key nonce (h ++ label) inner message good size (short, fits) refl);
+    }
+
+-- a stream whose parts were added one after another
+pub stream_is : (key nonce label message start h associated view a d : List ℕ) → start ≡ [] → h ≡ head (29 + length message) → a ≡ start ++ h
+    → associated ≡ h ++ label → view ≡ associated → d ≡ a ++ encrypted key nonce view message → d ≡ encrypted_stream key nonce label message
+unfolding encrypted_stream
+stream_is key nonce label message start h associated view a d none top front extra same last =
+    let hd = head (29 + length message) in
+    let first : a ≡ hd = front ∙ ap₂ ◌++◌ none top in
+    let labelled : view ≡ hd ++ label = same ∙ extra ∙ ap (λ (x : List ℕ). x ++ label) top in
+    last ∙ ap₂ (λ (x y : List ℕ). x ++ encrypted key nonce y message) first labelled

@@ -1,0 +1,145 @@
+//! Messages encrypted, as packets and streams.
+
+ghost use Rattle.std.specs.Prelude.{◌≡◌, ◌+◌, ◌<◌, ◌≤◌, ◌^◌, ◌++◌, length, vec_len, vec_capacity, IfOk, IfErr, OnOk, MatchBool};
+ghost use Rattle.memberlist_cipher.specs.Encryption.{IsKey, MayEncrypt, MayEncryptStream, encrypted, encrypted_stream, head, Encryption, StreamEncryption};
+ghost use Rattle.memberlist_cipher.specs.Refusal.{EncryptCause};
+
+use crate::CipherFault;
+use crate::appending::append;
+use crate::counting::append_ctr;
+use crate::key::Key;
+use crate::opening::{MOST_ASSOCIATED, MOST_BYTES};
+use crate::stream::{MOST_BYTES as MOST_STREAM_BYTES, associated_bytes};
+use crate::tagging::tag;
+use std::alloc::Global;
+
+/// How many bytes an encryption has more than its message: its version, its nonce and its tag.
+const MORE: usize = 29;
+
+impl Key {
+    /// The encryption of a message under this key, in version 1, which has no padding: the byte 1,
+    /// the nonce, the enciphered message and the tag. [`Key::decrypt`] gives the message back.
+    ///
+    /// A nonce must not be used twice under one key: who has two messages under one nonce has their
+    /// sum, and can make tags. memberlist draws each at random.
+    ///
+    /// # Errors
+    ///
+    /// `TooLong` where the message has more than 2^36 - 32 bytes, or 2^61 are associated or more;
+    /// and else `Memory`, where a growth of memory is refused.
+    ///
+    /// Source: `encryptPayload` in memberlist's security.go; SP 800-38D.
+    pub fn encrypt(
+        &self,
+        alloc: Global,
+        nonce: &[u8; 12],
+        associated: &[u8],
+        message: &[u8],
+    ) -> Result<Vec<u8>, CipherFault>
+        ensures encrypts { IfOk result (λ bytes.
+            Encryption self.now associated.now bytes.items message.now) }
+        ensures bytes { IfOk result (λ bytes.
+            bytes.items ≡ encrypted self.now nonce.now associated.now message.now) }
+        ensures size { IfOk result (λ bytes. vec_capacity bytes ≡ 29 + length message.now) }
+        ensures within { OnOk result (MayEncrypt associated.now message.now) }
+        ensures refuses { IfErr result (EncryptCause (MayEncrypt associated.now message.now)) }
+    {
+        if !may_encrypt(associated, message) {
+            return Err(CipherFault::TooLong);
+        }
+        let mut bytes = Vec::with_capacity(alloc, MORE + message.len())?;
+        append_encrypted(&mut bytes, self, nonce, associated, message);
+        Ok(bytes)
+    }
+
+    /// The stream that holds the encryption of a message under this key: the byte 10, a length of
+    /// four bytes, the highest first, and so many bytes as [`Key::encrypt`] gives. The stream's
+    /// first five bytes are associated, and after them the label. [`Key::decrypt_stream`] gives the
+    /// message back.
+    ///
+    /// A nonce must not be used twice under one key, be it of packets or streams.
+    ///
+    /// # Errors
+    ///
+    /// `TooLong` where the stream would announce more than 268,435,456 bytes, or the label has
+    /// 2^61 - 5 or more; and else `Memory`, where a growth of memory is refused.
+    ///
+    /// Source: `encryptLocalState` in memberlist's net.go; the limit is own.
+    pub fn encrypt_stream(
+        &self,
+        alloc: Global,
+        nonce: &[u8; 12],
+        label: &[u8],
+        message: &[u8],
+    ) -> Result<Vec<u8>, CipherFault>
+        ensures encrypts { IfOk result (λ bytes.
+            StreamEncryption self.now label.now bytes.items message.now) }
+        ensures bytes { IfOk result (λ bytes.
+            bytes.items ≡ encrypted_stream self.now nonce.now label.now message.now) }
+        ensures size { IfOk result (λ bytes. vec_capacity bytes ≡ 34 + length message.now) }
+        ensures within { OnOk result (MayEncryptStream label.now message.now) }
+        ensures refuses { IfErr result (EncryptCause (MayEncryptStream label.now message.now)) }
+    {
+        if !may_encrypt_stream(label, message) {
+            return Err(CipherFault::TooLong);
+        }
+        let len = MORE + message.len();
+        let head = head_of(len);
+        let associated = associated_bytes(alloc, &head, label)?;
+        let mut bytes = Vec::with_capacity(alloc, head.len() + len)?;
+        append(&mut bytes, &head);
+        append_encrypted(&mut bytes, self, nonce, &associated, message);
+        Ok(bytes)
+    }
+}
+
+/// Whether the standard allows so many bytes.
+fn may_encrypt(associated: &[u8], message: &[u8]) -> bool
+    ensures { MatchBool result (MayEncrypt associated.now message.now)
+        (¬ MayEncrypt associated.now message.now) }
+{
+    message.len() <= MOST_BYTES - MORE && associated.len() <= MOST_ASSOCIATED
+}
+
+/// Whether a stream may hold so many bytes.
+fn may_encrypt_stream(label: &[u8], message: &[u8]) -> bool
+    ensures { MatchBool result (MayEncryptStream label.now message.now)
+        (¬ MayEncryptStream label.now message.now) }
+{
+    message.len() <= MOST_STREAM_BYTES - MORE && label.len() <= MOST_ASSOCIATED - 5
+}
+
+/// The head of a stream in which so many bytes follow.
+fn head_of(len: usize) -> [u8; 5]
+    requires { len < 2 ^ 32 }
+    ensures { result ≡ head len }
+{
+    let digits = (len as u32).to_be_bytes();
+    [10, digits[0], digits[1], digits[2], digits[3]]
+}
+
+/// Adds the encryption of a message at the end. There is room for it.
+fn append_encrypted(
+    to: &mut Vec<u8>,
+    key: &Key,
+    nonce: &[u8; 12],
+    associated: &[u8],
+    message: &[u8],
+)
+    requires room { vec_len to.old + 29 + length message.now ≤ vec_capacity to.old }
+    requires message { length message.now < 2 ^ 36 }
+    requires associated { length associated.now < 2 ^ 61 }
+    ensures items { to.new.items
+        ≡ to.old.items ++ encrypted key.now nonce.now associated.now message.now }
+    ensures good_key { IsKey key.now }
+    ensures in_place { vec_capacity to.new ≡ vec_capacity to.old }
+{
+    let words = key.round_keys.words.as_slice();
+    let count = words.len() / 16 - 2;
+    append(to, &[1]);
+    append(to, nonce);
+    let start = to.len();
+    append_ctr(to, words, count, nonce, message);
+    let mark = tag(words, count, &key.factor, associated, nonce, &to[start..]);
+    append(to, &mark);
+}

@@ -1,0 +1,40 @@
+-- What is sent is opened under the first key.
+use Rattle.std.proofs.Common.{◌≡◌, ℕ, ◌<◌, List, [], ◌∷◌, length, drop, get_or, sym, ap, ◌∙◌, arith}
+use Rattle.std.proofs.lemmas.List.{drop_more}
+use Rattle.memberlist_cipher.specs.Encryption.{Encryption, StreamEncryption}
+use Rattle.memberlist_cipher.specs.Label.{IsLabelled}
+use Rattle.memberlist_keyring.specs.Opening.{IsFirst, OpensFirst, OpensStreamFirst}
+
+-- the first of the keys opens it
+IsFirst-head : (Opened : List ℕ → List ℕ → Type 0) (keys : List (List ℕ)) (key : List ℕ) (others : List (List ℕ)) (message : List ℕ)
+    → keys ≡ key ∷ others → Opened key message → IsFirst Opened keys message
+IsFirst-head Opened keys key others message parts opened = record {
+  before = [];
+  key = key;
+  after = others;
+  parts = parts;
+  earlier = λ k c m. absurd (omega (arith, c.1));
+  opened = opened;
+}
+
+pub opens_first : (keys : List (List ℕ)) (key : List ℕ) (others : List (List ℕ)) (label bytes text message : List ℕ) → keys ≡ key ∷ others
+    → IsLabelled text label bytes → Encryption key label bytes message → OpensFirst keys text message
+opens_first keys key others label bytes text message parts labelled e = record {
+  label = label;
+  rest = bytes;
+  labelled = labelled;
+  first = IsFirst-head (λ k m. Encryption k label bytes m) keys key others message parts e;
+}
+
+pub opens_stream_first : (keys : List (List ℕ)) (key : List ℕ) (others : List (List ℕ)) (label bytes text message : List ℕ) → keys ≡ key ∷ others
+    → IsLabelled text label bytes → StreamEncryption key label bytes message → OpensStreamFirst keys text message
+opens_stream_first keys key others label bytes text message parts labelled e = record {
+  label = label;
+  rest = bytes;
+  labelled = labelled;
+  first = IsFirst-head (λ k m. StreamEncryption k label bytes m) keys key others message parts e;
+}
+
+-- the key that is read is the first of them
+pub first_is : (seen keys : List (List ℕ)) (key : List ℕ) → seen ≡ keys → 0 < length seen → key ≡ get_or seen 0 key → keys ≡ key ∷ drop 1 seen
+first_is seen keys key same some read = sym same ∙ drop_more seen 0 key some ∙ ap (λ (k : List ℕ). k ∷ drop 1 seen) (sym read)

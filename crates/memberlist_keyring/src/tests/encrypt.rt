@@ -1,0 +1,123 @@
+//! Packets and streams, encrypted under the first key as memberlist does, under the nonces that it
+//! drew.
+
+use super::packets::{LABELLED, LABELLED_STREAMS, MESSAGE, PACKETS, STREAMS};
+use super::{KEY, KEY_32, keyring};
+use crate::Keyring;
+use memberlist_cipher::CipherFault;
+use std::alloc::Global;
+use std::process::Abort;
+use std::test::Fail;
+
+/// `KEY`, and another one behind it.
+const KEY_AND_OTHER: &str = "EBceJSwzOkFIT1ZdZGtyeQ==\nAAAAAAAAAAAAAAAAAAAAAA==";
+
+/// What a packet and a stream are written by.
+#[derive(Clone, Copy)]
+enum To {
+    Packet,
+    Stream,
+}
+
+/// Encrypts a packet or a stream.
+fn encrypt(
+    alloc: Global,
+    keyring: &Keyring,
+    to: To,
+    nonce: &[u8; 12],
+    label: &[u8],
+    message: &[u8],
+) -> Result<Option<Vec<u8>>, CipherFault> {
+    match to {
+        To::Packet => keyring.encrypt(alloc, nonce, label, message),
+        To::Stream => keyring.encrypt_stream(alloc, nonce, label, message),
+    }
+}
+
+/// That the keys of this file encrypt it so. Where memory is refused the repeat does.
+fn assert_encrypts(
+    rt: &impl Abort,
+    alloc: Global,
+    keys: &str,
+    to: To,
+    nonce: &[u8; 12],
+    label: &[u8],
+    message: &[u8],
+    wanted: Option<&[u8]>,
+) -> Result<(), Fail> {
+    let keyring = keyring(alloc, keys)?;
+    let answer = match encrypt(alloc, &keyring, to, nonce, label, message) {
+        Err(CipherFault::Memory) => encrypt(alloc, &keyring, to, nonce, label, message)?,
+        answer => answer?,
+    };
+    assert_eq!(rt; answer.as_deref(), wanted);
+    Ok(())
+}
+
+#[test]
+fn the_first_key_encrypts_behind_the_label(rt: HostRuntime) -> Result<(), Fail> {
+    for (keys, to, nonce, label, message, wanted) in [
+        (
+            KEY,
+            To::Packet,
+            *b"\xf5\x2b\xce\x10\xa4\xf2\xf9\xba\x32\x35\xa0\x8d",
+            b"".as_slice(),
+            MESSAGE,
+            PACKETS[1],
+        ),
+        (
+            KEY_32,
+            To::Stream,
+            *b"\x90\x42\xff\xd0\xfd\xde\x33\x72\x14\x46\xf9\x2c",
+            b"",
+            MESSAGE,
+            STREAMS[5],
+        ),
+        (
+            KEY_AND_OTHER,
+            To::Packet,
+            *b"\x05\x18\xb6\xed\xa9\xae\x85\xb3\x03\x2d\x0a\x4f",
+            b"east",
+            b"labelled",
+            LABELLED[1],
+        ),
+        (
+            KEY_AND_OTHER,
+            To::Stream,
+            *b"\xc7\xba\xf9\xe8\xc9\xa5\xae\x07\xb8\x00\xf6\x54",
+            b"east",
+            b"labelled",
+            LABELLED_STREAMS[1],
+        ),
+    ] {
+        assert_encrypts(
+            &rt,
+            rt.alloc(),
+            keys,
+            to,
+            &nonce,
+            label,
+            message,
+            Some(wanted),
+        )?;
+    }
+    Ok(())
+}
+
+#[test]
+fn without_a_key_nothing_is_encrypted(rt: HostRuntime) -> Result<(), Fail> {
+    for to in [To::Packet, To::Stream] {
+        assert_encrypts(&rt, rt.alloc(), "", to, &[0; 12], b"east", MESSAGE, None)?;
+    }
+    Ok(())
+}
+
+#[test]
+fn a_label_of_256_bytes_is_too_long(rt: HostRuntime) -> Result<(), Fail> {
+    let keyring = keyring(rt.alloc(), KEY)?;
+    for to in [To::Packet, To::Stream] {
+        let answer = encrypt(rt.alloc(), &keyring, to, &[0; 12], &[b'x'; 256], b"").err();
+        assert_eq!(rt; answer, Some(CipherFault::TooLong));
+    }
+    Ok(())
+}
