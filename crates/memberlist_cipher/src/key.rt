@@ -1,4 +1,4 @@
-//! A key, made ready to decrypt.
+//! A key, made ready to decrypt and to encrypt.
 
 ghost use Rattle.std.specs.Prelude.{◌≡◌, ℕ, List, MatchBool, IfOk, IfErr, OnOk};
 ghost use Rattle.memberlist_cipher.specs.Encryption.{IsKey};
@@ -12,7 +12,7 @@ use crate::schedule::{RoundKeys, round_keys};
 use std::alloc::{AllocError, Global};
 use std::marker::Model;
 
-/// A key, made ready to decrypt as many messages as are tried. Contracts see its bytes.
+/// A key, made ready for as many messages as are tried or written. Contracts see its bytes.
 ///
 /// Of the key it keeps the round keys, and products of the block by which the hash multiplies. They
 /// are overwritten before their memory is given back, and stay where they are if the `Key` moves.

@@ -10,6 +10,9 @@ use thiserror::Error;
 /// The first byte of a label (memberlist's label.go).
 pub const LABEL: u8 = 244;
 
+/// The most bytes of a label (memberlist's label.go).
+pub const LABEL_MAX_SIZE: usize = 255;
+
 /// Why bytes that begin as a label have none (own).
 #[derive(Clone, Copy, Debug, PartialEq, Eq, Error)]
 pub enum LabelFault {
@@ -55,7 +58,7 @@ pub fn split_label(bytes: &[u8]) -> Result<(&[u8], &[u8]), LabelFault>
     Ok(labelled.split_at(len))
 }
 
-/// The bytes with a label before them.
+/// The bytes with a label before them, of 1 to 255 bytes.
 ///
 /// Source: `AddLabelHeaderToPacket` in memberlist's label.go.
 pub fn labelled(alloc: Global, label: &[u8], bytes: &[u8]) -> Result<Vec<u8>, AllocError>

@@ -1,4 +1,4 @@
-//! What memberlist enciphers with its cluster's key, deciphered.
+//! What memberlist encrypts under its cluster's key, decrypted and encrypted, and its labels.
 //!
 //! | module | subject |
 //! |---|---|
@@ -13,7 +13,7 @@
 //! | `tagging` | the tag |
 //! | `encrypt` | a message encrypted, as a packet or a stream |
 //! | `unpadding` | padding taken off |
-//! | `key` | a key, made ready to decrypt |
+//! | `key` | a key, made ready |
 //! | `label` | the label of a packet or a stream |
 //! | `layout` | encrypted bytes taken apart |
 //! | `opening` | the message of a packet |
@@ -41,7 +41,7 @@ mod unpadding;
 
 pub use fault::CipherFault;
 pub use key::{Key, is_key};
-pub use label::{LABEL, LabelFault, labelled, split_label};
+pub use label::{LABEL, LABEL_MAX_SIZE, LabelFault, labelled, split_label};
 pub use opening::decrypt;
 pub use stream::decrypt_stream;
 

@@ -8,11 +8,8 @@ ghost use Rattle.memberlist_keyring.specs.Sending.{MaySend, MaySendStream, Sends
 
 use crate::Keyring;
 use crate::label::behind_label;
-use memberlist_cipher::CipherFault;
+use memberlist_cipher::{CipherFault, LABEL_MAX_SIZE};
 use std::alloc::Global;
-
-/// The most bytes of a label.
-const MOST_LABEL: usize = 255;
 
 impl Keyring {
     /// A packet with this message, encrypted under the first key, which memberlist calls the
@@ -48,7 +45,7 @@ impl Keyring {
         let Some(key) = self.keys.first() else {
             return Ok(None);
         };
-        if label.len() > MOST_LABEL {
+        if label.len() > LABEL_MAX_SIZE {
             return Err(CipherFault::TooLong);
         }
         let bytes = key.encrypt(alloc, nonce, label, message)?;
@@ -87,7 +84,7 @@ impl Keyring {
         let Some(key) = self.keys.first() else {
             return Ok(None);
         };
-        if label.len() > MOST_LABEL {
+        if label.len() > LABEL_MAX_SIZE {
             return Err(CipherFault::TooLong);
         }
         let bytes = key.encrypt_stream(alloc, nonce, label, message)?;

@@ -15,8 +15,8 @@ use memberlist_cipher::{CipherFault, Key};
 use std::alloc::Global;
 use std::marker::Model;
 
-/// A cluster's keys, in the order in which they are tried. Contracts see it as the list of the
-/// keys' bytes.
+/// A cluster's keys, in the order in which they are tried; the first encrypts. Contracts see it as
+/// the list of the keys' bytes.
 #[derive(Drop)]
 pub struct Keyring {
     pub(crate) keys: Vec<Key>,
