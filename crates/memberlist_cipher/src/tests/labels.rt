@@ -1,4 +1,4 @@
-//! Labels, as memberlist's label_test.go has them.
+//! Labels, by the layout that memberlist's label.go gives.
 
 use crate::{LabelFault, labelled, split_label};
 use std::process::Abort;
