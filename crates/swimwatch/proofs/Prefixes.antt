@@ -1,7 +1,12 @@
 -- A push/pull stream of which some records are read.
-use Rattle.std.proofs.Common.{◌≡◌, ℕ, ◌+◌, ◌-◌, ◌<◌, List, [], ◌∷◌, ◌++◌, length, Some, sym, ap, ◌∙◌, append_assoc, append-nil, arith}
+use Rattle.std.proofs.Common.{◌≡◌, ℕ, ◌+◌, ◌-◌, ◌<◌, List, [], ◌∷◌, ◌++◌, length, Some, refl, sym, ap, ◌∙◌, append_assoc, append-nil, arith}
 use Rattle.swim_claim.specs.declared.claim.Claim.{Claim}
-use Rattle.swim_pack.specs.Ends.{TakesKnown}
+use Rattle.swim_pack.specs.Composing.{Cause, UnlessFailed}
+use Rattle.swim_pack.specs.Composing.Cause.{by_inlet}
+use Rattle.swim_pack.specs.Ends.{TakesKnown, Rises}
+use Rattle.swim_wire.specs.declared.fault.WireFault.{WireFault}
+use Rattle.swim_wire.specs.declared.fault.WireFault.TheVariants.{Ended, Fault, Memory}
+use Rattle.swim_wire.specs.Reading.{wire_cause}
 use Rattle.swim_wire.specs.declared.stream.Header.{Header}
 use Rattle.swim_wire.specs.Streams.{StreamText}
 use Rattle.swim_wire.specs.Streams.StateTexts.{none}
@@ -44,6 +49,20 @@ ended bytes mid now header claims count some taken = (
   some.parts ∙ ap (λ (z : List ℕ). some.front ++ z) taken.2 ∙ sym (append_assoc some.front taken.0 now),
 )
 
+-- ---- bytes in memory never fail
+
+pub no_rise : Rises 0 0 → ⊥
+no_rise h = omega (arith, h)
+
+pub no_fault : (fault : WireFault) → (wire_cause fault ≡ by_inlet → Rises 0 0) → fault ≡ Fault → ⊥
+no_fault fault rises is = no_rise (rises (ap wire_cause is))
+
+-- what is told unless the inlet failed or memory ran out
+pub told : (fault : WireFault) {P : Type 0} → (fault ≡ Fault → ⊥) → (fault ≡ Memory → ⊥) → UnlessFailed (wire_cause fault) P → P
+told Fault other more h = absurd (other refl)
+told Memory other more h = absurd (more refl)
+told error other more h = h
+
 -- ---- no stream stands at the front
 
 in_parts : (head records user rest : List ℕ) → (head ++ records ++ user) ++ rest ≡ head ++ (records ++ (user ++ rest))
@@ -80,5 +99,5 @@ no_user bytes now header claims some count lacks all (front, rest, join, text, p
     refuse : (reader : Streaming) (text back : List ℕ) → reader.left ≡ 0
         → ((text rest : List ℕ) → length text ≡ reader.header.user_len → now ≡ text ++ rest → ⊥)
         → IsWanted reader text → now ≡ text ++ back → ⊥
-    refuse reader text back none lack (wants.record_of c more state) e = absurd (omega (arith, none, more))
-    refuse reader text back none lack (wants.user_state over long) e = lack text back long e
+    refuse reader text back over lack (wants.record_of c more state) e = absurd (omega (arith, over, more))
+    refuse reader text back over lack (wants.user_state same long) e = lack text back long e

@@ -1,5 +1,6 @@
 -- One more thing is heard.
-use Rattle.std.proofs.Common.{◌≡◌, ℕ, List, [], ◌∷◌, ◌++◌, map, refl, sym, ap, ◌∙◌}
+use Rattle.std.proofs.Common.{◌≡◌, ℕ, List, [], ◌∷◌, ◌++◌, map, Result, Ok, Err, refl, sym, ap, ◌∙◌}
+use Rattle.std.specs.Result.{OnOk}
 use Rattle.swim_claim.specs.declared.claim.Claim.{Claim}
 use Rattle.swim_wire.specs.Packet.{PacketValue}
 use Rattle.memberlist_view.specs.declared.heard.Heard.{Heard}
@@ -31,3 +32,7 @@ record_heard view now time claims c is =
     ∙ sym
     (ap (after_all view) (map-push (λ (d : Claim). heard_of time (record_told d)) claims c)
     ∙ after_all-push view (heard_in_records time claims) (heard_of time (record_told c)))
+
+pub on_ok : {T E : Type 0} (r : Result T E) {P : Type 0} → P → OnOk r P
+on_ok (Ok v) h = h
+on_ok (Err e) h = tt

@@ -93,7 +93,12 @@ fn write_absent(
 ) -> Result<(), AllocError> {
     let source = listener.end_text(absent.source)?;
     write_name(text, name.name().bytes())?;
-    write!(text, " named {} {} by {source} at ", kind_word(absent.kind), absent.inc)?;
+    write!(
+        text,
+        " named {} {} by {source} at ",
+        kind_word(absent.kind),
+        absent.inc
+    )?;
     write_moment(text, absent.time)?;
     text.push('\n')
 }

@@ -31,7 +31,12 @@ pub(crate) fn write_claim(
     write_moment(text, sent.time)?;
     text.push(' ')?;
     write_name(text, told.claim.name().bytes())?;
-    write!(text, " {} {}", kind_word(told.claim.kind()), told.claim.inc())?;
+    write!(
+        text,
+        " {} {}",
+        kind_word(told.claim.kind()),
+        told.claim.inc()
+    )?;
     write_cause(text, told)?;
     write_ends(text, listener, sent)
 }

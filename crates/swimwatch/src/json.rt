@@ -96,7 +96,12 @@ impl Object {
             let value = String::from_utf8_lossy(alloc, tag.value)?;
             object.text(&key, value)?;
         }
-        put(&mut self.members, alloc, "tags", Value::Object(object.members))
+        put(
+            &mut self.members,
+            alloc,
+            "tags",
+            Value::Object(object.members),
+        )
     }
 
     /// Adds what another agent of the name says of itself, if there is a conflict.
@@ -106,7 +111,12 @@ impl Object {
         };
         let mut object = Object::new(self.alloc);
         object.details(rival)?;
-        put(&mut self.members, self.alloc, "rival", Value::Object(object.members))
+        put(
+            &mut self.members,
+            self.alloc,
+            "rival",
+            Value::Object(object.members),
+        )
     }
 
     /// Adds when something was sent, and between which ends: the members by their names, and their

@@ -39,5 +39,9 @@ pub(crate) fn write_ends(
 ) -> Result<(), AllocError> {
     let source = listener.end_text(sent.source)?;
     let destination = listener.end_text(sent.destination)?;
-    write!(text, " ({source} to {destination}, {})\n", sent.proto.name())
+    write!(
+        text,
+        " ({source} to {destination}, {})\n",
+        sent.proto.name()
+    )
 }

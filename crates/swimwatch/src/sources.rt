@@ -157,19 +157,27 @@ fn refused(alloc: Global, word: &str, start: u64, fault: CaptureFault) -> Failur
     match fault {
         CaptureFault::Memory => Failure::Memory,
         CaptureFault::Device => said(format!(in alloc; "{NAME}: {word}: device fault"), 4),
-        _ => said(format!(in alloc; "{NAME}: {word}: byte {start}: {fault}"), 3),
+        _ => said(
+            format!(in alloc; "{NAME}: {word}: byte {start}: {fault}"),
+            3,
+        ),
     }
 }
 
 /// That the capture ends before its first record could begin.
 fn cut_header(alloc: Global, word: &str) -> Failure {
-    said(format!(in alloc; "{NAME}: {word}: byte 0: the header is cut short"), 3)
+    said(
+        format!(in alloc; "{NAME}: {word}: byte 0: the header is cut short"),
+        3,
+    )
 }
 
 /// That the frames of the capture come from a link that is not read.
 fn unknown_link(alloc: Global, word: &str, link: u32) -> Failure {
     said(
-        format!(in alloc; "{NAME}: {word}: frames of link type {link} are not read; Ethernet, Linux cooked, raw IP and loopback are"),
+        format!(in alloc;
+            "{NAME}: {word}: frames of link type {link} are not read; Ethernet, Linux cooked, raw IP and loopback are"
+        ),
         3,
     )
 }

@@ -3,8 +3,8 @@
 ghost use Rattle.std.specs.Prelude.{◌<◌};
 
 use crate::columns::Rows;
-use crate::json::Object;
 use crate::counts::count;
+use crate::json::Object;
 use crate::listener::Listener;
 use std::alloc::{AllocError, Global};
 use std::collections::BTreeMap;
@@ -143,7 +143,11 @@ impl Talkers {
 
     /// What each sender sent, by the text that shows it: a member by its name, with all its
     /// connections, and another sender by its address.
-    fn by_text(&self, alloc: Global, listener: &Listener) -> Result<BTreeMap<String, Tally>, AllocError> {
+    fn by_text(
+        &self,
+        alloc: Global,
+        listener: &Listener,
+    ) -> Result<BTreeMap<String, Tally>, AllocError> {
         let mut tallies = BTreeMap::new(alloc);
         for (sender, tally) in self.tallies.iter() {
             let text = listener.end_text(*sender)?;
@@ -174,7 +178,11 @@ impl Talkers {
     }
 
     /// Adds an object for each sender.
-    pub(crate) fn write_objects(&self, text: &mut String, listener: &Listener) -> Result<(), AllocError> {
+    pub(crate) fn write_objects(
+        &self,
+        text: &mut String,
+        listener: &Listener,
+    ) -> Result<(), AllocError> {
         let alloc = *text.allocator();
         for (sender, tally) in self.by_text(alloc, listener)?.iter() {
             let mut object = Object::new(alloc);

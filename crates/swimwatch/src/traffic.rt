@@ -83,7 +83,12 @@ impl Traffic {
         }
     }
 
-    fn content(&mut self, watch: &mut Watch, time: u64, content: Carried) -> Result<(), AllocError> {
+    fn content(
+        &mut self,
+        watch: &mut Watch,
+        time: u64,
+        content: Carried,
+    ) -> Result<(), AllocError> {
         match content.transport {
             Transport::Udp(datagram) => {
                 let from = endpoint(content.source, datagram.source);
@@ -185,12 +190,7 @@ fn sent_at(time: u64, ends: Ends) -> Sent {
 }
 
 /// Takes in what a flow carried, if it was not taken in before.
-fn told(
-    watch: &mut Watch,
-    progress: Progress,
-    ends: Ends,
-    flow: &Flow,
-) -> Result<(), AllocError> {
+fn told(watch: &mut Watch, progress: Progress, ends: Ends, flow: &Flow) -> Result<(), AllocError> {
     let bytes = flow.bytes();
     watch.count_bytes(ends.source, bytes.len())?;
     if progress.is_read || bytes.is_empty() {

@@ -119,15 +119,19 @@ impl Watch {
     {
         for packet in packets {
             let told = Told::of_packet(self.alloc, packet)?;
-            self.talkers.said(sent.source, Kind::of_claim(told.claim.kind()))?;
+            self.talkers
+                .said(sent.source, Kind::of_claim(told.claim.kind()))?;
             self.hear(sent, &told)?;
         }
         Ok(())
     }
 
     /// Counts the bytes of one direction of a connection.
-    pub(crate) fn count_bytes(&mut self, source: SocketAddr, bytes: usize) -> Result<(), AllocError>
-    {
+    pub(crate) fn count_bytes(
+        &mut self,
+        source: SocketAddr,
+        bytes: usize,
+    ) -> Result<(), AllocError> {
         self.talkers.sent(host_of(source), bytes)
     }
 

@@ -24,9 +24,27 @@ fn choice(alloc: Global, words: &[&str]) -> Result<Chosen, Refusal> {
 const TAKEN: [(&[&str], Verb, bool, usize, usize); 6] = [
     (&["members", "x"], Verb::Members, false, 1, 0),
     (&["members", "--json", "-", "x"], Verb::Members, true, 2, 0),
-    (&["timeline", "--member", "a", "x"], Verb::Timeline, false, 1, 0),
-    (&["claims", "--key-file", "k", "x"], Verb::Claims, false, 1, 1),
-    (&["talkers", "--key-file", "k", "--key-file", "l", "x"], Verb::Talkers, false, 1, 2),
+    (
+        &["timeline", "--member", "a", "x"],
+        Verb::Timeline,
+        false,
+        1,
+        0,
+    ),
+    (
+        &["claims", "--key-file", "k", "x"],
+        Verb::Claims,
+        false,
+        1,
+        1,
+    ),
+    (
+        &["talkers", "--key-file", "k", "--key-file", "l", "x"],
+        Verb::Talkers,
+        false,
+        1,
+        2,
+    ),
     (&["dump", "--wait", "60", "x"], Verb::Dump, false, 1, 0),
 ];
 
@@ -49,9 +67,18 @@ fn words_ask_for_a_verb(rt: HostRuntime) -> Result<(), Fail> {
 /// Words whose values are none that the arguments take.
 const REFUSED: [(&[&str], &str); 4] = [
     (&[], "a command is wanted; --help lists them"),
-    (&["members", "--at", "noon", "x"], "--at wants a time like 2026-11-25T02:01:43Z"),
-    (&["members", "--wait", "-1", "x"], "--wait wants a number of seconds"),
-    (&["dump", "--wait", "", "x"], "--wait wants a number of seconds"),
+    (
+        &["members", "--at", "noon", "x"],
+        "--at wants a time like 2026-11-25T02:01:43Z",
+    ),
+    (
+        &["members", "--wait", "-1", "x"],
+        "--wait wants a number of seconds",
+    ),
+    (
+        &["dump", "--wait", "", "x"],
+        "--wait wants a number of seconds",
+    ),
 ];
 
 #[test]

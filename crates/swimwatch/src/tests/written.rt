@@ -34,7 +34,10 @@ fn moments_are_rfc_3339(rt: HostRuntime) -> Result<(), Fail> {
 fn texts_name_moments(rt: HostRuntime) {
     for (text, micros) in [
         ("2026-11-25T02:01:22Z", Some(1_795_572_082_000_000)),
-        ("2026-11-25T03:01:22.006798+01:00", Some(1_795_572_082_006_798)),
+        (
+            "2026-11-25T03:01:22.006798+01:00",
+            Some(1_795_572_082_006_798),
+        ),
         ("1969-12-31T23:59:59Z", None),
         ("2026-11-25", None),
         ("yesterday", None),
