@@ -1,14 +1,13 @@
 -- A push/pull stream of which some records are read.
-use Rattle.std.proofs.Common.{◌≡◌, ℕ, ◌+◌, ◌-◌, ◌<◌, List, [], ◌∷◌, ◌++◌, length, Some, refl, sym, ap, ◌∙◌, append_assoc, append-nil, arith}
+use Rattle.std.proofs.Common.{◌≡◌, ℕ, ◌-◌, ◌<◌, List, [], ◌∷◌, ◌++◌, length, Some, refl, sym, ap, ◌∙◌, append_assoc, append-nil, arith}
 use Rattle.swim_claim.specs.declared.claim.Claim.{Claim}
-use Rattle.swim_pack.specs.Composing.{Cause, UnlessFailed}
+use Rattle.swim_pack.specs.Composing.{UnlessFailed}
 use Rattle.swim_pack.specs.Composing.Cause.{by_inlet}
 use Rattle.swim_pack.specs.Ends.{TakesKnown, Rises}
 use Rattle.swim_wire.specs.declared.fault.WireFault.{WireFault}
-use Rattle.swim_wire.specs.declared.fault.WireFault.TheVariants.{Ended, Fault, Memory}
+use Rattle.swim_wire.specs.declared.fault.WireFault.TheVariants.{Fault, Memory}
 use Rattle.swim_wire.specs.Reading.{wire_cause}
 use Rattle.swim_wire.specs.declared.stream.Header.{Header}
-use Rattle.swim_wire.specs.Streams.{StreamText}
 use Rattle.swim_wire.specs.Streams.StateTexts.{none}
 use Rattle.swim_wire.specs.Texts.{HeaderText, StateText}
 use Rattle.swim_table.specs.Steps.{IsWanted, BeginText}

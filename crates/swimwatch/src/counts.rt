@@ -12,7 +12,7 @@ pub(crate) struct Counts {
     /// Datagrams that make claims.
     pub(crate) claiming: u64,
     /// Streams that are pings, acks, user messages or errors.
-    pub(crate) claimless_streams: u64,
+    pub(crate) other_streams: u64,
     /// Push/pull streams.
     pub(crate) streams: u64,
     /// Packets and streams that are encrypted, and that no key opened.
@@ -45,17 +45,14 @@ pub(crate) fn count(number: &mut u64) {
 }
 
 impl Counts {
-    /// What was read, and what was left out, in one line: `swimwatch: 670 packets, 12 with claims; 24
-    /// streams; left out: 3 not opened by any key, 1 fragment`.
+    /// What was read, and what was left out and why, in one line: `670 records; 640 packets, 12 with
+    /// claims; 24 streams; 3 not opened by any key; 1 fragmented`.
     pub(crate) fn text(&self, alloc: Global, has_keys: bool) -> Result<String, AllocError> {
         let mut text = format!(in alloc;
             "{} records; {} packets, {} with claims; {} streams",
             self.records, self.datagrams, self.claiming, self.streams
         )?;
-        if self.claimless_streams > 0 {
-            write!(text, ", {} of other kinds", self.claimless_streams)?;
-        }
-        for (number, what) in self.left_out(has_keys) {
+        for (number, what) in self.others(has_keys) {
             if number > 0 {
                 write!(text, "; {number} {what}")?;
             }
@@ -63,19 +60,20 @@ impl Counts {
         Ok(text)
     }
 
-    /// How often each thing was left out, with its name.
-    fn left_out(&self, has_keys: bool) -> [(u64, &'static str); 11] {
+    /// How often each other thing came, with its name.
+    fn others(&self, has_keys: bool) -> [(u64, &'static str); 12] {
         let closed = if has_keys {
             "not opened by any key"
         } else {
             "encrypted (--key-file opens them)"
         };
         [
+            (self.other_streams, "pings and other messages over TCP"),
             (self.closed, closed),
             (self.foreign, "not memberlist's"),
-            (self.gaps, "streams with a gap"),
+            (self.gaps, "with bytes missing"),
             (self.not_ip, "not IP"),
-            (self.fragments, "fragments"),
+            (self.fragments, "fragmented"),
             (self.others, "neither UDP nor TCP"),
             (self.cut, "cut by the snap length"),
             (self.malformed, "malformed"),

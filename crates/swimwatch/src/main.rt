@@ -89,11 +89,12 @@ fn show(rt: &HostRuntime, chosen: &Chosen) -> Result<(), Failure> {
     let mut watch = Watch::new(alloc, keys, chosen)?;
     watch_captures(rt, &mut watch, chosen)?;
     watch.finish()?;
+    // made before anything is printed, so that a refusal of memory prints nothing
+    let said = watch.counts.text(alloc, watch.has_keys())?;
     flush(rt, &mut watch)?;
     if chosen.verb == Verb::Dump {
         print_dump(rt, &watch)?;
     }
-    let said = watch.counts.text(alloc, watch.has_keys())?;
     let _ = eprintln!(rt; "{NAME}: {said}");
     Ok(())
 }

@@ -92,12 +92,12 @@ pub(crate) fn by_text(
 pub(crate) fn write_place_and_meta(text: &mut String, details: &Details) -> Result<(), AllocError> {
     let alloc = *text.allocator();
     let address = address_text(alloc, details)?;
+    let meta = meta_text(alloc, details.meta())?;
     write!(text, " at {address}")?;
-    if details.meta().is_empty() {
+    if meta.is_empty() {
         return Ok(());
     }
-    text.push(' ')?;
-    write_meta(text, details.meta())
+    write!(text, " {meta}")
 }
 
 /// Adds both addresses of a conflict, if there is one: ` at 10.20.1.9:7946, and is at

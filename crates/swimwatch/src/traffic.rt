@@ -19,6 +19,48 @@ struct Progress {
     is_read: bool,
     /// How often it was tried to be read before its end.
     tries: u8,
+    /// The sequence number behind the furthest byte of it that is known of.
+    reach: Option<u32>,
+}
+
+impl Progress {
+    /// Of a flow of which nothing was read, at this time.
+    fn new(time: u64) -> Progress {
+        Progress {
+            time,
+            is_read: false,
+            tries: 0,
+            reach: None,
+        }
+    }
+
+    /// Notes a segment: where it ends (RFC 9293, 3.4: sequence numbers are compared modulo 2^32), and
+    /// when it brought bytes.
+    fn note(&mut self, time: u64, taken: Option<Taken>, segment: &Segment) {
+        if taken == Some(Taken::Joined) {
+            self.time = time;
+        }
+        if segment.rst {
+            return;
+        }
+        let len = u32::try_from(segment.payload.len()).unwrap_or(u32::MAX);
+        let end = segment
+            .seq
+            .wrapping_add(u32::from(segment.syn))
+            .wrapping_add(len);
+        match self.reach {
+            Some(reach) if 0x8000_0000 <= end.wrapping_sub(reach) => {}
+            _ => self.reach = Some(end),
+        }
+    }
+
+    /// Whether bytes are known of that the flow does not have.
+    fn has_gap(&self, flow: &Flow) -> bool {
+        match self.reach {
+            Some(reach) => flow.bytes().len() < reach.wrapping_sub(flow.start()) as usize,
+            None => false,
+        }
+    }
 }
 
 /// The most tries to read a stream before its end.
@@ -124,17 +166,20 @@ impl Traffic {
     ) -> Result<(), AllocError> {
         let Heard { taken, complete } = self.flows.take(self.alloc, ends, segment)?;
         let mut progress = self.progress_of(&ends, time);
+        // a SYN that completes a flow is of another one
+        let is_of_it = complete.is_none() || !segment.syn;
+        if is_of_it {
+            progress.note(time, taken, segment);
+        }
         if let Some(flow) = complete {
-            if taken == Some(Taken::Joined) && !segment.syn {
-                progress.time = time;
-            }
             let _ = self.progress.remove(&ends);
             return told(watch, progress, ends, &flow);
         }
         if taken == Some(Taken::Joined) {
-            progress.time = time;
             self.try_reading(watch, &mut progress, ends, segment.psh)?;
-            let _ = self.progress.insert(ends, progress)?;
+        }
+        if taken.is_some() {
+            self.progress.insert(ends, progress)?;
         }
         Ok(())
     }
@@ -142,11 +187,7 @@ impl Traffic {
     fn progress_of(&self, ends: &Ends, time: u64) -> Progress {
         match self.progress.get(ends) {
             Some(progress) => *progress,
-            None => Progress {
-                time,
-                is_read: false,
-                tries: 0,
-            },
+            None => Progress::new(time),
         }
     }
 
@@ -193,10 +234,16 @@ fn sent_at(time: u64, ends: Ends) -> Sent {
 fn told(watch: &mut Watch, progress: Progress, ends: Ends, flow: &Flow) -> Result<(), AllocError> {
     let bytes = flow.bytes();
     watch.count_bytes(ends.source, bytes.len())?;
-    if progress.is_read || bytes.is_empty() {
+    if progress.is_read {
         return Ok(());
     }
-    watch.stream(sent_at(progress.time, ends), bytes)
+    if !bytes.is_empty() {
+        return watch.stream(sent_at(progress.time, ends), bytes);
+    }
+    if progress.has_gap(flow) {
+        count(&mut watch.counts.gaps);
+    }
+    Ok(())
 }
 
 /// Counts a frame that carries nothing that is used.

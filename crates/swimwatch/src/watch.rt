@@ -158,14 +158,25 @@ impl Watch {
     /// Takes in all that one direction of a connection carried.
     pub(crate) fn stream(&mut self, sent: Sent, bytes: &[u8]) -> Result<(), AllocError> {
         match stream_claims(self.alloc, &self.keys, bytes) {
-            Ok(claims) => return self.records(sent, claims),
-            Err(NoStream::Memory) => return Err(AllocError),
-            Err(NoStream::Closed) => count(&mut self.counts.closed),
-            Err(NoStream::Cut) => count(&mut self.counts.gaps),
-            Err(NoStream::Claimless) => count(&mut self.counts.claimless_streams),
-            Err(NoStream::Foreign) => count(&mut self.counts.foreign),
+            Ok(claims) => self.records(sent, claims),
+            Err(NoStream::Memory) => Err(AllocError),
+            Err(NoStream::Claimless) => {
+                count(&mut self.counts.other_streams);
+                self.talkers.said(host_of(sent.source), Kind::Stream)
+            }
+            Err(NoStream::Closed) => {
+                count(&mut self.counts.closed);
+                self.talkers.said(host_of(sent.source), Kind::Unread)
+            }
+            Err(NoStream::Cut) => {
+                count(&mut self.counts.gaps);
+                self.talkers.said(host_of(sent.source), Kind::Unread)
+            }
+            Err(NoStream::Foreign) => {
+                count(&mut self.counts.foreign);
+                self.talkers.said(host_of(sent.source), Kind::Unread)
+            }
         }
-        Ok(())
     }
 
     /// Hears the records of a push/pull stream.

@@ -1,6 +1,5 @@
 use Rattle.std.proofs.Common.{◌≡◌, ◌<◌, ◌∷◌, [], ◌++◌, length, length-append, Err, ap, rules, arith}
 use Rattle.std.proofs.lemmas.Result.{err_from_is_err_and}
-use Rattle.swim_wire.specs.declared.fault.WireFault.TheVariants.{Fault}
 use Rattle.swimwatch.proofs.Prefixes.{started, one_more, ended, no_header, no_record, no_user, no_fault, no_rise, told}
 use Rattle.swimwatch.proofs.records.read_claims.Goals as goal
 

@@ -1,4 +1,4 @@
-use Rattle.std.proofs.Common.{◌≡◌, ◌∙◌, ap}
+use Rattle.std.proofs.Common.{◌∙◌, ap}
 use Rattle.memberlist_view.specs.Told.{view_after}
 use Rattle.swimwatch.specs.Told.{ToldText, heard_of}
 use Rattle.swimwatch.proofs.Views.{record_heard}
