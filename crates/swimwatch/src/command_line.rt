@@ -87,91 +87,93 @@ fn is_set(found: &ArgMatches, id: &str) -> bool {
 
 /// What help says of a command, and which flags it has.
 #[derive(Clone, Copy)]
-struct Page<'a> {
-    name: &'a str,
-    about: &'a str,
-    example: &'a str,
+struct Page {
+    name: &'static str,
+    about: &'static str,
+    example: &'static str,
     at: bool,
     member: bool,
     json: bool,
 }
 
 /// The program's commands.
+const PAGES: [Page; 5] = [
+    Page {
+        name: "members",
+        about: "Shows the members, as they are at the end of the captures",
+        example: help::MEMBERS,
+        at: true,
+        member: false,
+        json: true,
+    },
+    Page {
+        name: "timeline",
+        about: "Shows what changed, by whose word and when, as it is read",
+        example: help::TIMELINE,
+        at: false,
+        member: true,
+        json: true,
+    },
+    Page {
+        name: "claims",
+        about: "Shows each claim about a member, as it is read",
+        example: help::CLAIMS,
+        at: false,
+        member: true,
+        json: true,
+    },
+    Page {
+        name: "talkers",
+        about: "Shows what each sender sent, by kind",
+        example: help::TALKERS,
+        at: false,
+        member: false,
+        json: true,
+    },
+    Page {
+        name: "dump",
+        about: "Writes the canonical dump of all claims, for swimtab",
+        example: help::DUMP,
+        at: false,
+        member: false,
+        json: false,
+    },
+];
+
+/// The program with its commands.
 fn command<'a>(alloc: Global) -> Result<Command<'a>, AllocError> {
-    let pages = [
-        Page {
-            name: "members",
-            about: "Shows the members, as they are at the end of the captures",
-            example: help::MEMBERS,
-            at: true,
-            member: false,
-            json: true,
-        },
-        Page {
-            name: "timeline",
-            about: "Shows what changed, by whose word and when, as it is read",
-            example: help::TIMELINE,
-            at: false,
-            member: true,
-            json: true,
-        },
-        Page {
-            name: "claims",
-            about: "Shows each claim about a member, as it is read",
-            example: help::CLAIMS,
-            at: false,
-            member: true,
-            json: true,
-        },
-        Page {
-            name: "talkers",
-            about: "Shows what each sender sent, by kind",
-            example: help::TALKERS,
-            at: false,
-            member: false,
-            json: true,
-        },
-        Page {
-            name: "dump",
-            about: "Writes the canonical dump of all claims, for swimtab",
-            example: help::DUMP,
-            at: false,
-            member: false,
-            json: false,
-        },
-    ];
     let mut command = Command::new(alloc, "swimwatch")
         .about("Who is in a cluster of memberlist, and who said what when, from captured traffic")
         .after_help(help::PROGRAM)
         .version(help::VERSION)
         .no_binary_name(true)
         .disable_help_subcommand(true);
-    for page in pages {
+    for page in PAGES {
         command = command.subcommand(page_command(alloc, page)?)?;
     }
     command.bin_name("swimwatch")
 }
 
-fn page_command<'a>(alloc: Global, page: Page<'a>) -> Result<Command<'a>, AllocError> {
+fn page_command<'a>(alloc: Global, page: Page) -> Result<Command<'a>, AllocError> {
     let captures = Arg::new(alloc, "CAPTURE")
         .help(help::CAPTURE)
         .required(true)
         .num_args(1..);
     let keys = Arg::new(alloc, "key-file")
         .long("key-file")
+        .value_name("FILE")
         .action(ArgAction::Append)
         .help(help::KEY_FILE);
-    let wait = Arg::new(alloc, "wait").long("wait").help(help::WAIT);
     let mut command = Command::new(alloc, page.name)
         .about(page.about)
         .after_help(page.example)
         .arg(keys)?
-        .arg(wait)?;
+        .arg(option(alloc, "wait", "SECONDS", help::WAIT))?;
     if page.at {
-        command = command.arg(Arg::new(alloc, "at").long("at").help(help::AT))?;
+        command = command.arg(option(alloc, "at", "TIME", help::AT))?;
     }
     if page.member {
-        command = command.arg(Arg::new(alloc, "member").long("member").help(help::MEMBER))?;
+        command = command.arg(option(alloc, "member", "NAME", help::MEMBER))?;
     }
     if page.json {
         let json = Arg::new(alloc, "json")
@@ -181,4 +183,17 @@ fn page_command<'a>(alloc: Global, page: Page<'a>) -> Result<Command<'a>, AllocE
         command = command.arg(json)?;
     }
     command.arg(captures)
+}
+
+/// An option with a value.
+fn option<'a>(
+    alloc: Global,
+    name: &'static str,
+    value: &'static str,
+    help: &'static str,
+) -> Arg<'a> {
+    Arg::new(alloc, name)
+        .long(name)
+        .value_name(value)
+        .help(help)
 }
