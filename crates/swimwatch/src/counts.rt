@@ -48,8 +48,11 @@ impl Counts {
     /// What was read, and what was left out and why, in one line: `670 records; 640 packets, 12 with
     /// claims; 24 streams; 3 not opened by any key; 1 fragmented`.
     pub(crate) fn text(&self, alloc: Global, has_keys: bool) -> Result<String, AllocError> {
+        let records = noun(self.records, "record", "records");
+        let packets = noun(self.datagrams, "packet", "packets");
+        let streams = noun(self.streams, "stream", "streams");
         let mut text = format!(in alloc;
-            "{} records; {} packets, {} with claims; {} streams",
+            "{} {records}; {} {packets}, {} with claims; {} {streams}",
             self.records, self.datagrams, self.claiming, self.streams
         )?;
         for (number, what) in self.others(has_keys) {
@@ -67,8 +70,13 @@ impl Counts {
         } else {
             "encrypted (--key-file opens them)"
         };
+        let other = noun(
+            self.other_streams,
+            "other message over TCP",
+            "other messages over TCP",
+        );
         [
-            (self.other_streams, "pings and other messages over TCP"),
+            (self.other_streams, other),
             (self.closed, closed),
             (self.foreign, "not memberlist's"),
             (self.gaps, "with bytes missing"),
@@ -82,4 +90,9 @@ impl Counts {
             (self.unknown_links, "of an unknown link type"),
         ]
     }
+}
+
+/// The noun for so many things.
+fn noun(number: u64, one: &'static str, several: &'static str) -> &'static str {
+    if number == 1 { one } else { several }
 }
