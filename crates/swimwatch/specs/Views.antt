@@ -1,9 +1,10 @@
 -- What a view becomes, as one thing after the other is heard.
-use Rattle.std.specs.Prelude.{ℕ, List, [], ◌∷◌, map}
+use Rattle.std.specs.Prelude.{◌≡◌, ℕ, Bool, true, false, List, [], ◌∷◌, map}
 use Rattle.swim_claim.specs.declared.claim.Claim.{Claim}
 use Rattle.swim_wire.specs.Packet.{PacketValue}
 use Rattle.memberlist_view.specs.declared.heard.Heard.{Heard}
 use Rattle.memberlist_view.specs.Told.{ViewValue, view_after}
+use Rattle.swimwatch.specs.Carriage.{IsStreamOf}
 use Rattle.swimwatch.specs.Told.{packet_told, record_told, heard_of}
 
 -- the view after these things heard, in their order
@@ -18,3 +19,12 @@ heard_in_packets time packets = map (λ p. heard_of time (packet_told p)) packet
 -- what is heard of the records of a stream at a time
 abbrev pub heard_in_records : ℕ → List Claim → List Heard
 heard_in_records time claims = map (λ c. heard_of time (record_told c)) claims
+
+-- what is heard of one direction of a connection at a time: the claims of the whole stream that it
+-- is, in their order; or nothing, and it is none
+abbrev pub HearsStream : List (List ℕ) → List ℕ → ℕ → Bool → ViewValue → ViewValue → Type 0
+HearsStream keys bytes time true old new =
+    (claims : List Claim) × IsStreamOf keys bytes claims
+    × (new ≡ after_all old (heard_in_records time claims))
+HearsStream keys bytes time false old new =
+    ((claims : List Claim) → ¬ IsStreamOf keys bytes claims) × (new ≡ old)

@@ -1,12 +1,12 @@
 //! What listens to packets and streams, and shows what was asked for.
 
-ghost use Rattle.std.specs.Prelude.{◌≡◌, List, [], true, false, Ok, IfOk, OnOk};
-ghost use Rattle.swim_claim.specs.declared.claim.Claim.{Claim};
+ghost use Rattle.std.specs.Prelude.{◌≡◌, List, Bool, IfOk, OnOk};
+ghost use Rattle.std.specs.Option.{is_none};
 ghost use Rattle.swim_wire.specs.Packet.{PacketValue};
 ghost use Rattle.memberlist_view.specs.Told.{view_after};
-ghost use Rattle.swimwatch.specs.Carriage.{IsDatagramOf, IsStreamOf};
+ghost use Rattle.swimwatch.specs.Carriage.{IsDatagramOf};
 ghost use Rattle.swimwatch.specs.Told.{told_text, heard_of};
-ghost use Rattle.swimwatch.specs.Views.{after_all, heard_in_packets, heard_in_records};
+ghost use Rattle.swimwatch.specs.Views.{after_all, heard_in_packets, heard_in_records, HearsStream};
 
 use crate::carriage::{Carriage, NoStream, carriage_of, stream_claims};
 use crate::chosen::{Chosen, Verb};
@@ -138,44 +138,54 @@ impl Watch {
     /// Takes in one direction of a connection that may still grow, if it is a whole push/pull
     /// stream, and says whether it is.
     pub(crate) fn whole_stream(&mut self, sent: Sent, bytes: &[u8]) -> Result<bool, AllocError>
-        ensures hears { IfOk result (λ whole. whole ≡ true → ((claims : List Claim)
-            × IsStreamOf self.old.keys bytes.now claims
-            × (self.new.listener.view
-            ≡ after_all self.old.listener.view (heard_in_records sent.time claims)))) }
-        ensures nothing { (result ≡ Ok false)
-            → self.new.listener.view ≡ self.old.listener.view }
+        ensures hears { IfOk result (λ whole. HearsStream self.old.keys bytes.now sent.time whole
+            self.old.listener.view self.new.listener.view) }
     {
-        match stream_claims(self.alloc, &self.keys, bytes) {
-            Ok(claims) => {
-                self.records(sent, claims)?;
-                Ok(true)
-            }
-            Err(NoStream::Memory) => Err(AllocError),
-            Err(_) => Ok(false),
+        match self.take_stream(sent, bytes)? {
+            None => Ok(true),
+            Some(_) => Ok(false),
         }
     }
 
     /// Takes in all that one direction of a connection carried.
-    pub(crate) fn stream(&mut self, sent: Sent, bytes: &[u8]) -> Result<(), AllocError> {
-        match stream_claims(self.alloc, &self.keys, bytes) {
-            Ok(claims) => self.records(sent, claims),
-            Err(NoStream::Memory) => Err(AllocError),
-            Err(NoStream::Claimless) => {
+    pub(crate) fn stream(&mut self, sent: Sent, bytes: &[u8]) -> Result<(), AllocError>
+        ensures hears { OnOk result ((whole : Bool) × HearsStream self.old.keys bytes.now sent.time
+            whole self.old.listener.view self.new.listener.view) }
+    {
+        let counted = match self.take_stream(sent, bytes)? {
+            None => return Ok(()),
+            Some(NoStream::Claimless) => {
                 count(&mut self.counts.other_streams);
-                self.talkers.said(host_of(sent.source), Kind::Stream)
+                Kind::Stream
             }
-            Err(NoStream::Closed) => {
+            Some(NoStream::Closed) => {
                 count(&mut self.counts.closed);
-                self.talkers.said(host_of(sent.source), Kind::Unread)
+                Kind::Unread
             }
-            Err(NoStream::Cut) => {
+            Some(NoStream::Cut) => {
                 count(&mut self.counts.gaps);
-                self.talkers.said(host_of(sent.source), Kind::Unread)
+                Kind::Unread
             }
-            Err(NoStream::Foreign) => {
+            Some(NoStream::Foreign | NoStream::Memory) => {
                 count(&mut self.counts.foreign);
-                self.talkers.said(host_of(sent.source), Kind::Unread)
+                Kind::Unread
             }
+        };
+        self.talkers.said(host_of(sent.source), counted)
+    }
+
+    /// Hears the push/pull stream that one direction of a connection is, or says why it is none.
+    fn take_stream(&mut self, sent: Sent, bytes: &[u8]) -> Result<Option<NoStream>, AllocError>
+        ensures { IfOk result (λ cause. HearsStream self.old.keys bytes.now sent.time
+            (is_none cause) self.old.listener.view self.new.listener.view) }
+    {
+        match stream_claims(self.alloc, &self.keys, bytes) {
+            Ok(claims) => {
+                self.records(sent, claims)?;
+                Ok(None)
+            }
+            Err(NoStream::Memory) => Err(AllocError),
+            Err(cause) => Ok(Some(cause)),
         }
     }
 
