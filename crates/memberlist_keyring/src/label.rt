@@ -18,8 +18,15 @@ pub(crate) fn cut_label(bytes: &[u8]) -> (&[u8], &[u8])
     }
 }
 
-/// The bytes behind a label; of an empty one nothing is written.
-pub(crate) fn behind_label(
+/// The bytes behind a label of at most 255 bytes; of an empty one nothing is written. Bytes that
+/// begin as a label does, with 244, would be read as labelled.
+///
+/// # Errors
+///
+/// `AllocError` if memory for them is refused.
+///
+/// Source: `AddLabelHeaderToPacket` and `AddLabelHeaderToStream` in memberlist's label.go.
+pub fn behind_label(
     alloc: Global,
     label: &[u8],
     bytes: Vec<u8>,

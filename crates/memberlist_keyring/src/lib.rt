@@ -23,6 +23,7 @@ mod trial;
 
 pub use fault::KeyFileFault;
 pub use keyring::Keyring;
+pub use label::behind_label;
 
 #[cfg(test)]
 mod tests;

@@ -5,6 +5,7 @@
 //! |---|---|
 //! | `words` | the words after a program's name |
 //! | `device` | input and files to their bound, and output |
+//! | `until` | ends of a connection that give up together |
 //! | `lines` | lines of input |
 //! | `report` | what is said of a run that was refused, and its exit status |
 //! | `failure` | how a program ends where it has nothing to print |
@@ -16,10 +17,12 @@ mod lines;
 mod report;
 #[cfg(test)]
 mod tests;
+mod until;
 mod words;
 
 pub use device::{BOUND, read_file, read_input, read_to_bound, write_out};
 pub use failure::Failure;
 pub use lines::{Lines, lines_of, without_return};
 pub use report::{Place, Report, What, report_text, status};
+pub use until::Until;
 pub use words::{WordFault, texts_of, words_of};

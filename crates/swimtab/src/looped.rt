@@ -8,14 +8,13 @@ ghost use Rattle.swimtab.specs.Looping.{FitsLoop, IsLoopTable, IsLoopRefused, Ta
 ghost use Rattle.swim_program.specs.Report.{IsAmong, what_of};
 
 use crate::dumps::{check_length, table_of_file};
-use crate::patience::Until;
 use std::alloc::{AllocError, Global};
 use std::io;
 use std::io::{Error, ErrorKind};
 use std::net::{Ipv4Addr, TcpListener, TcpStream};
 use std::time::{Clock, Duration, Instant};
 use swim_pack::{FromRead, ToWrite};
-use swim_program::{Place, Report, What};
+use swim_program::{Place, Report, Until, What};
 use swim_sync::{answer, finish, offer};
 use swim_table::{EncodeFault, Relation, Table, encode, list, relation};
 

@@ -1,3 +1,4 @@
+pub mod Asking
 pub mod Carriage
 pub mod Records
 pub mod Told

@@ -9,7 +9,7 @@ use crate::sent::Sent;
 use crate::texts::{moment_text, name_text};
 use memberlist_view::MemberName;
 use std::alloc::{AllocError, Global};
-use std::collections::BTreeMap;
+use std::collections::{BTreeMap, btree_map};
 use std::net::SocketAddr;
 use swim_claim::{Claim, Kind};
 
@@ -57,6 +57,11 @@ impl Absents {
                 Ok(())
             }
         }
+    }
+
+    /// Each name with what was heard of it, in ascending byte order.
+    pub(crate) fn iter(&self) -> btree_map::Iter<'_, MemberName, Absent> {
+        self.names.iter()
     }
 
     /// Adds a line for each name that the view does not show: `web-9 named dead 3 by web-2 at

@@ -15,7 +15,7 @@ use swim_claim::Claim;
 use swim_wire::{Claimless, Datagram, Packet, WireFault};
 
 /// The most bytes of a stream without its wrappers, as of one direction of a connection.
-const STREAM_LIMIT: usize = 33_554_432;
+pub(crate) const STREAM_LIMIT: usize = 33_554_432;
 
 /// The first byte of an encrypted stream, as in memberlist's `net.go`.
 const ENCRYPTED: u8 = 10;
@@ -108,7 +108,7 @@ pub(crate) fn stream_claims(
 }
 
 /// Why a stream that is refused with this fault has no claims.
-fn cause_of(fault: StreamFault) -> NoStream
+pub(crate) fn cause_of(fault: StreamFault) -> NoStream
     ensures { (result ≡ NoStream.Memory) ↔ (fault ≡ StreamFault.Memory) }
 {
     match fault {

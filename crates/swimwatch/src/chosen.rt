@@ -13,6 +13,10 @@ pub(crate) enum Verb {
     Talkers,
     /// The dump of the table of all claims.
     Dump,
+    /// What members answer that are asked.
+    Pull,
+    /// What is another way at one side than at another one.
+    Diff,
 }
 
 impl Verb {
@@ -24,6 +28,8 @@ impl Verb {
             "claims" => Some(Verb::Claims),
             "talkers" => Some(Verb::Talkers),
             "dump" => Some(Verb::Dump),
+            "pull" => Some(Verb::Pull),
+            "diff" => Some(Verb::Diff),
             _ => None,
         }
     }
@@ -33,8 +39,9 @@ impl Verb {
 #[derive(Debug, Drop)]
 pub(crate) struct Chosen {
     pub(crate) verb: Verb,
-    /// The words that name captures; `-` is standard input.
-    pub(crate) captures: Vec<String>,
+    /// The words that name captures, of which `-` is standard input; members that are asked; or the
+    /// two sides of a comparison.
+    pub(crate) inputs: Vec<String>,
     /// The words that name files of keys, in the order in which they are tried.
     pub(crate) key_files: Vec<String>,
     /// The only name that is shown, if there is one.
@@ -45,4 +52,17 @@ pub(crate) struct Chosen {
     pub(crate) wait: u64,
     /// Whether objects of JSON are shown.
     pub(crate) json: bool,
+    /// Whether a dump is written.
+    pub(crate) dump: bool,
+    /// How members are asked.
+    pub(crate) asking: Asking,
+}
+
+/// How members are asked.
+#[derive(Debug, Drop)]
+pub(crate) struct Asking {
+    /// How many seconds a member may take, in all.
+    pub(crate) timeout: u64,
+    /// The label of the cluster, of at most 255 bytes; empty if it has none.
+    pub(crate) label: Vec<u8>,
 }

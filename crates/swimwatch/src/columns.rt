@@ -61,3 +61,12 @@ fn push_spaces(text: &mut String, count: usize) -> Result<(), AllocError> {
     }
     Ok(())
 }
+
+/// A row of these words.
+pub(crate) fn row_of_words(alloc: Global, words: &[&str]) -> Result<Vec<String>, AllocError> {
+    let mut row = Vec::new(alloc);
+    for word in words {
+        row.push(String::from_str(alloc, word)?)?;
+    }
+    Ok(row)
+}

@@ -1,15 +1,19 @@
 //! The words after the program's name.
 
-use crate::chosen::{Chosen, Verb};
+use crate::chosen::{Asking, Chosen, Verb};
 use crate::help;
 use crate::moment::moment_of;
 use crate::names::name_bytes;
 use clap::{Arg, ArgAction, ArgMatches, Command};
+use memberlist_cipher::LABEL_MAX_SIZE;
 use std::alloc::{AllocError, Global};
 use swim_program::{WordFault, texts_of};
 
 /// memberlist's `GossipToTheDeadTime` in a local network, in seconds.
 const WAIT: u64 = 30;
+
+/// How many seconds a member may take to answer, unless the words say another number.
+const TIMEOUT: u64 = 5;
 
 /// Why words ask for nothing.
 #[derive(Debug, Drop)]
@@ -58,12 +62,9 @@ fn chosen_of(alloc: Global, verb: Verb, found: &ArgMatches) -> Result<Chosen, Re
             None => return Err(Refusal::Value("--at wants a time like 2026-11-25T02:01:43Z")),
         },
     };
-    let wait = match found.get_str("wait") {
-        None => WAIT,
-        Some(word) => match word.parse::<u32>() {
-            Ok(seconds) => u64::from(seconds),
-            Err(_) => return Err(Refusal::Value("--wait wants a number of seconds")),
-        },
+    let wait = seconds_of(found.get_str("wait"), WAIT);
+    let Some(wait) = wait else {
+        return Err(Refusal::Value("--wait wants a number of seconds"));
     };
     let member = match found.get_str("member") {
         None => None,
@@ -71,13 +72,40 @@ fn chosen_of(alloc: Global, verb: Verb, found: &ArgMatches) -> Result<Chosen, Re
     };
     Ok(Chosen {
         verb,
-        captures: texts_of(alloc, found, "CAPTURE")?,
+        inputs: texts_of(alloc, found, "INPUT")?,
         key_files: texts_of(alloc, found, "key-file")?,
         member,
         at,
         wait: wait.saturating_mul(1_000_000),
         json: is_set(found, "json"),
+        dump: is_set(found, "dump"),
+        asking: asking_of(alloc, found)?,
     })
+}
+
+/// How members are asked.
+fn asking_of(alloc: Global, found: &ArgMatches) -> Result<Asking, Refusal> {
+    let timeout = match seconds_of(found.get_str("timeout"), TIMEOUT) {
+        Some(seconds) if seconds > 0 => seconds,
+        _ => return Err(Refusal::Value("--timeout wants a number of seconds, at least 1")),
+    };
+    let label = match found.get_str("label") {
+        None => Vec::new(alloc),
+        Some(word) if matches!(word.len(), 1..=LABEL_MAX_SIZE) => word.as_bytes().to_vec(alloc)?,
+        Some(_) => return Err(Refusal::Value("--label wants 1 to 255 bytes")),
+    };
+    Ok(Asking { timeout, label })
+}
+
+/// The seconds that a word says, or these if there is none. None if it says none.
+fn seconds_of(word: Option<&str>, otherwise: u64) -> Option<u64> {
+    match word {
+        None => Some(otherwise),
+        Some(word) => match word.parse::<u32>() {
+            Ok(seconds) => Some(u64::from(seconds)),
+            Err(_) => None,
+        },
+    }
 }
 
 /// Whether a flag is there.
@@ -85,65 +113,93 @@ fn is_set(found: &ArgMatches, id: &str) -> bool {
     matches!(found.get_str(id), Some("true"))
 }
 
-/// What help says of a command, and which flags it has.
+/// An argument that some commands have, beside the files of keys.
+#[derive(Clone, Copy)]
+enum Flag {
+    At,
+    Wait,
+    Member,
+    Timeout,
+    Label,
+    Json,
+    Dump,
+}
+
+/// The words that a command reads.
+#[derive(Clone, Copy)]
+enum Inputs {
+    Captures,
+    Hosts,
+    Sides,
+}
+
+/// What help says of a command, and which arguments it has.
 #[derive(Clone, Copy)]
 struct Page {
     name: &'static str,
     about: &'static str,
     example: &'static str,
-    at: bool,
-    member: bool,
-    json: bool,
+    inputs: Inputs,
+    flags: &'static [Flag],
 }
 
 /// The program's commands.
-const PAGES: [Page; 5] = [
+const PAGES: [Page; 7] = [
     Page {
         name: "members",
         about: "Shows the members, as they are at the end of the captures",
         example: help::MEMBERS,
-        at: true,
-        member: false,
-        json: true,
+        inputs: Inputs::Captures,
+        flags: &[Flag::Wait, Flag::At, Flag::Json],
     },
     Page {
         name: "timeline",
         about: "Shows what changed, by whose word and when, as it is read",
         example: help::TIMELINE,
-        at: false,
-        member: true,
-        json: true,
+        inputs: Inputs::Captures,
+        flags: &[Flag::Wait, Flag::Member, Flag::Json],
     },
     Page {
         name: "claims",
         about: "Shows each claim about a member, as it is read",
         example: help::CLAIMS,
-        at: false,
-        member: true,
-        json: true,
+        inputs: Inputs::Captures,
+        flags: &[Flag::Wait, Flag::Member, Flag::Json],
     },
     Page {
         name: "talkers",
         about: "Shows what each sender sent, by kind",
         example: help::TALKERS,
-        at: false,
-        member: false,
-        json: true,
+        inputs: Inputs::Captures,
+        flags: &[Flag::Wait, Flag::Json],
     },
     Page {
         name: "dump",
         about: "Writes the canonical dump of all claims, for swimtab",
         example: help::DUMP,
-        at: false,
-        member: false,
-        json: false,
+        inputs: Inputs::Captures,
+        flags: &[Flag::Wait],
+    },
+    Page {
+        name: "pull",
+        about: "Asks members for their tables, and shows whether they agree",
+        example: help::PULL,
+        inputs: Inputs::Hosts,
+        flags: &[Flag::Timeout, Flag::Label, Flag::Json, Flag::Dump],
+    },
+    Page {
+        name: "diff",
+        about: "Shows what changed between two captures, dumps or members",
+        example: help::DIFF,
+        inputs: Inputs::Sides,
+        flags: &[Flag::Wait, Flag::Timeout, Flag::Label, Flag::Json],
     },
 ];
 
 /// The program with its commands.
 fn command<'a>(alloc: Global) -> Result<Command<'a>, AllocError> {
     let mut command = Command::new(alloc, "swimwatch")
-        .about("Who is in a cluster of memberlist, and who said what when, from captured traffic")
+        .about("Who is in a cluster of memberlist, and who said what when")
         .after_help(help::PROGRAM)
         .version(help::VERSION)
         .no_binary_name(true)
@@ -155,34 +211,48 @@ fn command<'a>(alloc: Global) -> Result<Command<'a>, AllocError> {
 }
 
 fn page_command<'a>(alloc: Global, page: Page) -> Result<Command<'a>, AllocError> {
-    let captures = Arg::new(alloc, "CAPTURE")
-        .help(help::CAPTURE)
-        .required(true)
-        .num_args(1..);
-    let keys = Arg::new(alloc, "key-file")
-        .long("key-file")
-        .value_name("FILE")
-        .action(ArgAction::Append)
-        .help(help::KEY_FILE);
+    let keys = option(alloc, "key-file", "FILE", help::KEY_FILE).action(ArgAction::Append);
     let mut command = Command::new(alloc, page.name)
         .about(page.about)
         .after_help(page.example)
-        .arg(keys)?
-        .arg(option(alloc, "wait", "SECONDS", help::WAIT))?;
-    if page.at {
-        command = command.arg(option(alloc, "at", "TIME", help::AT))?;
+        .arg(keys)?;
+    for flag in page.flags {
+        command = command.arg(flag_argument(alloc, *flag))?;
     }
-    if page.member {
-        command = command.arg(option(alloc, "member", "NAME", help::MEMBER))?;
+    command.arg(input_argument(alloc, page.inputs))
+}
+
+/// The argument of the words that a command reads.
+fn input_argument<'a>(alloc: Global, inputs: Inputs) -> Arg<'a> {
+    let words = Arg::new(alloc, "INPUT").required(true);
+    match inputs {
+        Inputs::Captures => words
+            .value_name("CAPTURE")
+            .help(help::CAPTURE)
+            .num_args(1..),
+        Inputs::Hosts => words.value_name("HOST").help(help::HOST).num_args(1..),
+        Inputs::Sides => words.value_name("SIDE").help(help::SIDE).num_args(2..=2),
     }
-    if page.json {
-        let json = Arg::new(alloc, "json")
-            .long("json")
-            .action(ArgAction::SetTrue)
-            .help(help::JSON);
-        command = command.arg(json)?;
+}
+
+fn flag_argument<'a>(alloc: Global, flag: Flag) -> Arg<'a> {
+    match flag {
+        Flag::At => option(alloc, "at", "TIME", help::AT),
+        Flag::Wait => option(alloc, "wait", "SECONDS", help::WAIT),
+        Flag::Member => option(alloc, "member", "NAME", help::MEMBER),
+        Flag::Timeout => option(alloc, "timeout", "SECONDS", help::TIMEOUT),
+        Flag::Label => option(alloc, "label", "LABEL", help::LABEL),
+        Flag::Json => switch(alloc, "json", help::JSON),
+        Flag::Dump => switch(alloc, "dump", help::PULLED_DUMP),
     }
-    command.arg(captures)
+}
+
+/// An option without a value.
+fn switch<'a>(alloc: Global, name: &'static str, help: &'static str) -> Arg<'a> {
+    Arg::new(alloc, name)
+        .long(name)
+        .action(ArgAction::SetTrue)
+        .help(help)
 }
 
 /// An option with a value.

@@ -78,6 +78,7 @@ pub(crate) fn place_of(view: &View, name: &MemberName) -> Option<SocketAddr> {
     endpoint(entry.details.addr(), entry.details.port())
 }
 
-fn copy_of(alloc: Global, name: &MemberName) -> Result<MemberName, AllocError> {
+/// The same name again.
+pub(crate) fn copy_of(alloc: Global, name: &MemberName) -> Result<MemberName, AllocError> {
     Ok(MemberName::new(name.name().try_clone(alloc)?))
 }

@@ -17,6 +17,18 @@ pub(crate) const MEMBER: &str = "Show this member alone";
 
 pub(crate) const JSON: &str = "Show an object of JSON on each line";
 
+pub(crate) const HOST: &str =
+    "A member: a name or an address, and its port if it is not 7946, as in [fe80::1]:7946";
+
+pub(crate) const SIDE: &str =
+    "A capture, a file with a dump or another push/pull stream, or a member";
+
+pub(crate) const TIMEOUT: &str = "Seconds that a member may take in all: 5 unless said";
+
+pub(crate) const LABEL: &str = "The label of the cluster, if it has one";
+
+pub(crate) const PULLED_DUMP: &str = "Write the canonical dump of the table, for swimtab";
+
 pub(crate) const PROGRAM: &str = "\
 A capture is what tcpdump writes: pcap or pcapng. Several are read side by side, by the times
 of their records. The last line on standard error says what was read, and what was left out.
@@ -25,8 +37,10 @@ Examples:
   swimwatch members cluster.pcap
   swimwatch timeline --member web-5 cluster.pcap
   tcpdump -U -w - port 7946 | swimwatch timeline -
+  swimwatch pull web-1
 
-Exit status: 0 done, 2 bad usage or help, 3 input refused, 4 device failed, 5 out of memory";
+Exit status: 0 done, 1 members do not agree or something changed, 2 bad usage or help,
+3 input refused, 4 device or connection failed, 5 out of memory";
 
 pub(crate) const MEMBERS: &str = "\
 Examples:
@@ -50,3 +64,20 @@ pub(crate) const DUMP: &str = "\
 Examples:
   swimwatch dump cluster.pcap > cluster.bin
   swimtab list cluster.bin";
+
+pub(crate) const PULL: &str = "\
+Asks each member as one that does not join, so that nothing changes in the cluster. Of several
+members it shows on which names they agree, and what each says of the others.
+
+Examples:
+  swimwatch pull web-1
+  swimwatch pull 10.20.1.11 10.20.1.12 10.20.1.13
+  swimwatch pull --key-file keys --dump web-1 > web-1.bin";
+
+pub(crate) const DIFF: &str = "\
+Shows which members are new, gone, or another way in the second than in the first. What a dump
+does not tell is not compared.
+
+Examples:
+  swimwatch diff before.pcap after.pcap
+  swimwatch diff web-1.bin web-1";

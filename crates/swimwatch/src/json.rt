@@ -96,12 +96,16 @@ impl Object {
             let value = String::from_utf8_lossy(alloc, tag.value)?;
             object.text(&key, value)?;
         }
-        put(
-            &mut self.members,
-            alloc,
-            "tags",
-            Value::Object(object.members),
-        )
+        self.object("tags", Some(object))
+    }
+
+    /// Adds a member whose value is an object, or null.
+    pub(crate) fn object(&mut self, key: &str, object: Option<Object>) -> Result<(), AllocError> {
+        let value = match object {
+            Some(object) => Value::Object(object.members),
+            None => Value::Null,
+        };
+        put(&mut self.members, self.alloc, key, value)
     }
 
     /// Adds what another agent of the name says of itself, if there is a conflict.
@@ -111,12 +115,7 @@ impl Object {
         };
         let mut object = Object::new(self.alloc);
         object.details(rival)?;
-        put(
-            &mut self.members,
-            self.alloc,
-            "rival",
-            Value::Object(object.members),
-        )
+        self.object("rival", Some(object))
     }
 
     /// Adds when something was sent, and between which ends: the members by their names, and their

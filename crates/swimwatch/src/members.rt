@@ -1,9 +1,10 @@
 //! The members of a view, a row each.
 
-use crate::columns::Rows;
+use crate::columns::{Rows, row_of_words};
 use crate::json::write_member;
 use crate::listener::Listener;
 use crate::names::write_name;
+use crate::tags::is_bare;
 use crate::texts::{
     address_text, by_text, meta_text, moment_text, name_text, state_word, write_rivals,
 };
@@ -39,7 +40,7 @@ pub(crate) fn write_member_objects(
 /// Adds a head, and a row for each name.
 fn write_rows(text: &mut String, view: &View) -> Result<(), AllocError> {
     let alloc = *text.allocator();
-    let has_tags = view.iter().any(|(_, entry)| !is_bare(entry));
+    let has_tags = view.iter().any(|(_, entry)| !is_bare(entry.details.meta()));
     let mut rows = Rows::new(alloc);
     rows.push(head(alloc, has_tags)?)?;
     for (name, entry) in view.iter() {
@@ -48,16 +49,8 @@ fn write_rows(text: &mut String, view: &View) -> Result<(), AllocError> {
     rows.write(text)
 }
 
-/// Whether a member has no metadata, or no tags in it.
-fn is_bare(entry: &Entry) -> bool {
-    matches!(entry.details.meta(), [] | [0xff, 0x80])
-}
-
 fn head(alloc: Global, has_tags: bool) -> Result<Vec<String>, AllocError> {
-    let mut row = Vec::new(alloc);
-    for word in ["NAME", "ADDRESS", "STATE", "INC", "SINCE", "BY"] {
-        row.push(String::from_str(alloc, word)?)?;
-    }
+    let mut row = row_of_words(alloc, &["NAME", "ADDRESS", "STATE", "INC", "SINCE", "BY"])?;
     if has_tags {
         row.push(String::from_str(alloc, "TAGS")?)?;
     }

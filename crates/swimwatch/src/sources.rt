@@ -2,8 +2,9 @@
 
 use crate::NAME;
 use crate::input::{Counted, Input};
+use crate::said::said;
 use capture::{CaptureFault, CaptureReader, Link, Record};
-use std::alloc::{AllocError, Global};
+use std::alloc::Global;
 use swim_pack::FromRead;
 use swim_program::Failure;
 
@@ -180,12 +181,4 @@ fn unknown_link(alloc: Global, word: &str, link: u32) -> Failure {
         ),
         3,
     )
-}
-
-/// A text for standard error, and the status.
-fn said(text: Result<String, AllocError>, status: u8) -> Failure {
-    match text {
-        Ok(text) => Failure::Refused { text, status },
-        Err(AllocError) => Failure::Memory,
-    }
 }

@@ -21,6 +21,20 @@ pub(crate) struct Tag<'a> {
     pub(crate) value: &'a [u8],
 }
 
+impl Tag<'_> {
+    /// Adds the tag with its escapes, as `role=web`.
+    pub(crate) fn write(&self, text: &mut String) -> Result<(), AllocError> {
+        percent_encode(self.key, ESCAPED).append_to(text)?;
+        text.push('=')?;
+        self.write_value(text)
+    }
+
+    /// Adds its value with its escapes.
+    pub(crate) fn write_value(&self, text: &mut String) -> Result<(), AllocError> {
+        percent_encode(self.value, ESCAPED).append_to(text)
+    }
+}
+
 /// The tag at the front of the bytes, and the bytes behind it.
 fn tag_at_hand(bytes: &[u8]) -> Option<(Tag, &[u8])> {
     let (key, rest) = raw_at_hand(bytes, MOST_META)?;
@@ -58,6 +72,11 @@ fn tags_in(alloc: Global, bytes: &[u8], count: u32) -> Result<Option<Vec<Tag>>, 
     Ok(Some(tags))
 }
 
+/// Whether there is no metadata, or no tag in it.
+pub(crate) fn is_bare(meta: &[u8]) -> bool {
+    matches!(meta, [] | [TAGS, 0x80])
+}
+
 /// Adds metadata as people read them: tags as `role=web,dc=east`, and else the bytes in
 /// hexadecimal.
 pub(crate) fn write_meta(text: &mut String, meta: &[u8]) -> Result<(), AllocError> {
@@ -72,9 +91,7 @@ fn write_tags(text: &mut String, tags: &[Tag]) -> Result<(), AllocError> {
     let mut between = "";
     for tag in tags {
         text.push_str(between)?;
-        percent_encode(tag.key, ESCAPED).append_to(text)?;
-        text.push('=')?;
-        percent_encode(tag.value, ESCAPED).append_to(text)?;
+        tag.write(text)?;
         between = ",";
     }
     Ok(())

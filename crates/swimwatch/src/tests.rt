@@ -1,5 +1,6 @@
 //! What clauses do not say: texts, moments, addresses, and each call on its happy path.
 
+mod asked;
 mod shown;
 mod words;
 mod written;

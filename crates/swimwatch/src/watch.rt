@@ -16,6 +16,7 @@ use crate::json::{write_change, write_told};
 use crate::listener::Listener;
 use crate::members::{write_member_objects, write_members};
 use crate::parts::claimless_parts;
+use crate::roster::Roster;
 use crate::sent::Sent;
 use crate::talkers::{Kind, Talkers, host_of};
 use crate::timeline::write_event;
@@ -281,6 +282,11 @@ impl Watch {
             (Verb::Talkers, true) => self.talkers.write_objects(&mut self.out, &self.listener),
             _ => Ok(()),
         }
+    }
+
+    /// The members, as one shows them who listened.
+    pub(crate) fn roster(&self) -> Result<Roster, AllocError> {
+        Roster::of_listener(self.alloc, &self.listener)
     }
 
     /// The canonical dump of the table of all claims.

@@ -1,6 +1,6 @@
 //! What is shown of packets and streams.
 
-use crate::chosen::{Chosen, Verb};
+use crate::chosen::{Asking, Chosen, Verb};
 use crate::sent::{Proto, Sent};
 use crate::watch::Watch;
 use memberlist_keyring::Keyring;
@@ -18,7 +18,7 @@ const PACKETS: [&str; 3] = [
 ];
 
 /// The push/pull stream of a member of a running cluster of three: `l1`, `l2` and `l3`.
-const THREE: &str = "\
+pub(crate) const THREE: &str = "\
 0683a44a6f696ec3a54e6f64657303ac5573657253746174654c656e0087a441646472a47f000403ab496e6361726e61\
 74696f6e01a44d657461c0a44e616d65a26c33a4506f7274cd8343a5537461746500a356736ea601050200000087a441\
 646472a47f000401ab496e6361726e6174696f6e01a44d657461c0a44e616d65a26c31a4506f7274cda8dba553746174\
@@ -28,12 +28,17 @@ a26c32a4506f7274cdb2a1a5537461746500a356736ea6010502000000";
 fn watch(alloc: Global, verb: Verb, json: bool) -> Result<Watch, AllocError> {
     let chosen = Chosen {
         verb,
-        captures: Vec::new(alloc),
+        inputs: Vec::new(alloc),
         key_files: Vec::new(alloc),
         member: None,
         at: None,
         wait: 30_000_000,
         json,
+        dump: false,
+        asking: Asking {
+            timeout: 5,
+            label: Vec::new(alloc),
+        },
     };
     Watch::new(alloc, Keyring::new(alloc), &chosen)
 }

@@ -21,7 +21,7 @@ fn choice(alloc: Global, words: &[&str]) -> Result<Chosen, Refusal> {
 }
 
 /// Words, what they ask for, and how many captures and files of keys they name.
-const TAKEN: [(&[&str], Verb, bool, usize, usize); 6] = [
+const TAKEN: [(&[&str], Verb, bool, usize, usize); 8] = [
     (&["members", "x"], Verb::Members, false, 1, 0),
     (&["members", "--json", "-", "x"], Verb::Members, true, 2, 0),
     (
@@ -46,6 +46,8 @@ const TAKEN: [(&[&str], Verb, bool, usize, usize); 6] = [
         2,
     ),
     (&["dump", "--wait", "60", "x"], Verb::Dump, false, 1, 0),
+    (&["pull", "--label", "dc1", "x", "y"], Verb::Pull, false, 2, 0),
+    (&["diff", "--timeout", "1", "x", "y"], Verb::Diff, false, 2, 0),
 ];
 
 #[test]
@@ -55,7 +57,7 @@ fn words_ask_for_a_verb(rt: HostRuntime) -> Result<(), Fail> {
             Ok(chosen) => {
                 assert_eq!(rt; chosen.verb, verb);
                 assert_eq!(rt; chosen.json, json);
-                assert_eq!(rt; chosen.captures.len(), captures);
+                assert_eq!(rt; chosen.inputs.len(), captures);
                 assert_eq!(rt; chosen.key_files.len(), keys);
             }
             Err(_) => return Err(Fail::from(AllocError)),
@@ -65,7 +67,7 @@ fn words_ask_for_a_verb(rt: HostRuntime) -> Result<(), Fail> {
 }
 
 /// Words whose values are none that the arguments take.
-const REFUSED: [(&[&str], &str); 4] = [
+const REFUSED: [(&[&str], &str); 6] = [
     (&[], "a command is wanted; --help lists them"),
     (
         &["members", "--at", "noon", "x"],
@@ -78,6 +80,14 @@ const REFUSED: [(&[&str], &str); 4] = [
     (
         &["dump", "--wait", "", "x"],
         "--wait wants a number of seconds",
+    ),
+    (
+        &["pull", "--timeout", "0", "x"],
+        "--timeout wants a number of seconds, at least 1",
+    ),
+    (
+        &["pull", "--label", "", "x"],
+        "--label wants 1 to 255 bytes",
     ),
 ];
 

@@ -10,19 +10,20 @@ use std::time::{Clock, Duration, Instant};
 /// An end of a connection whose reads and writes wait up to one moment, however many there are.
 /// Behind it each is refused as timed out.
 #[derive(Drop)]
-pub(crate) struct Until<'a, C: Clock> {
+pub struct Until<'a, C: Clock> {
     stream: &'a TcpStream,
     clock: &'a C,
     end: Instant,
 }
 
 impl<'a, C: Clock> Until<'a, C> {
-    pub(crate) fn new(stream: &'a TcpStream, clock: &'a C, end: Instant) -> Until<'a, C> {
+    /// The end that gives up at this moment of the clock.
+    pub fn new(stream: &'a TcpStream, clock: &'a C, end: Instant) -> Until<'a, C> {
         Until { stream, clock, end }
     }
 
     /// The same end once more.
-    pub(crate) fn again(&self) -> Until<'a, C> {
+    pub fn again(&self) -> Until<'a, C> {
         Until::new(self.stream, self.clock, self.end)
     }
 

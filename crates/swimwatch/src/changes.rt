@@ -1,0 +1,190 @@
+//! What changed between two rosters, a line for each name.
+
+use crate::directory::copy_of;
+use crate::json::Object;
+use crate::known::Known;
+use crate::names::write_name;
+use crate::roster::Roster;
+use crate::tags::{Tag, is_bare, tags_of};
+use crate::texts::name_text;
+use memberlist_view::MemberName;
+use std::alloc::{AllocError, Global};
+use std::collections::BTreeMap;
+
+/// The names of which two rosters do not say the same.
+fn changed(
+    alloc: Global,
+    before: &Roster,
+    after: &Roster,
+) -> Result<BTreeMap<MemberName, ()>, AllocError> {
+    let mut names = BTreeMap::new(alloc);
+    for (name, known) in before.iter() {
+        if !after.get(name).is_some_and(|now| now.is_same(known)) {
+            names.insert(copy_of(alloc, name)?, ())?;
+        }
+    }
+    for (name, _) in after.iter() {
+        if before.get(name).is_none() {
+            names.insert(copy_of(alloc, name)?, ())?;
+        }
+    }
+    Ok(names)
+}
+
+/// Adds what changed, a line for each name, as `web-5 alive 10.20.1.15:7946 -> alive
+/// 10.20.1.5:7946, tags ver=v2 -> v1`. Answers whether something did.
+pub(crate) fn write_changes(
+    text: &mut String,
+    before: &Roster,
+    after: &Roster,
+) -> Result<bool, AllocError> {
+    let names = changed(*text.allocator(), before, after)?;
+    for (name, ()) in names.iter() {
+        write_name(text, name.name().bytes())?;
+        match (before.get(name), after.get(name)) {
+            (Some(was), Some(is)) => write_both(text, was, is)?,
+            (was, is) => {
+                write_side(text, was)?;
+                text.push_str(" ->")?;
+                write_side(text, is)?;
+            }
+        }
+        text.push('\n')?;
+    }
+    Ok(!names.is_empty())
+}
+
+/// Adds the same as objects of JSON, one a line.
+pub(crate) fn write_change_objects(
+    text: &mut String,
+    before: &Roster,
+    after: &Roster,
+) -> Result<bool, AllocError> {
+    let alloc = *text.allocator();
+    let names = changed(alloc, before, after)?;
+    for (name, ()) in names.iter() {
+        let mut object = Object::new(alloc);
+        object.text("name", name_text(alloc, name)?)?;
+        object.object("before", object_of(alloc, before.get(name))?)?;
+        object.object("after", object_of(alloc, after.get(name))?)?;
+        object.write(text)?;
+    }
+    Ok(!names.is_empty())
+}
+
+fn object_of(alloc: Global, known: Option<&Known>) -> Result<Option<Object>, AllocError> {
+    let Some(known) = known else {
+        return Ok(None);
+    };
+    let mut object = Object::new(alloc);
+    known.write(&mut object)?;
+    Ok(Some(object))
+}
+
+/// Adds how a member is and where, or that it is absent: ` alive 10.20.1.15:7946`.
+fn write_side(text: &mut String, known: Option<&Known>) -> Result<(), AllocError> {
+    let Some(known) = known else {
+        return text.push_str(" absent");
+    };
+    let address = known.address(*text.allocator())?;
+    write!(text, " {}", known.state())?;
+    if address.is_empty() {
+        return Ok(());
+    }
+    write!(text, " {address}")
+}
+
+/// Adds how a member was and is, and what else changed.
+fn write_both(text: &mut String, was: &Known, is: &Known) -> Result<(), AllocError> {
+    write_side(text, Some(was))?;
+    if was.kind != is.kind || was.is_elsewhere(is) {
+        text.push_str(" ->")?;
+        write_side(text, Some(is))?;
+    }
+    if was.inc != is.inc {
+        write!(text, ", incarnation {} -> {}", was.inc, is.inc)?;
+    }
+    if was.details.is_none() || is.details.is_none() {
+        return Ok(());
+    }
+    write_metas(text, was.meta(), is.meta())?;
+    if was.vsn() == is.vsn() {
+        return Ok(());
+    }
+    text.push_str(", versions ")?;
+    write_hex(text, was.vsn())?;
+    text.push_str(" -> ")?;
+    write_hex(text, is.vsn())
+}
+
+/// Adds what changed of the tags, or of other metadata.
+fn write_metas(text: &mut String, was: &[u8], is: &[u8]) -> Result<(), AllocError> {
+    if was == is {
+        return Ok(());
+    }
+    let alloc = *text.allocator();
+    if let (Some(old), Some(new)) = (tags_or_none(alloc, was)?, tags_or_none(alloc, is)?) {
+        return write_tags(text, &old, &new);
+    }
+    text.push_str(", metadata ")?;
+    write_hex(text, was)?;
+    text.push_str(" -> ")?;
+    write_hex(text, is)
+}
+
+/// The tags in metadata, which may be empty. None if they are something else.
+fn tags_or_none(alloc: Global, meta: &[u8]) -> Result<Option<Vec<Tag>>, AllocError> {
+    if is_bare(meta) {
+        return Ok(Some(Vec::new(alloc)));
+    }
+    tags_of(alloc, meta)
+}
+
+/// Adds the tags that changed, are gone, and are new: `, tags ver=v2 -> v1, -rack=3, +zone=a`.
+fn write_tags(text: &mut String, was: &[Tag], is: &[Tag]) -> Result<(), AllocError> {
+    let mut before = ", tags ";
+    for tag in was {
+        let now = value_in(is, tag);
+        if now == Some(tag.value) {
+            continue;
+        }
+        text.push_str(before)?;
+        before = ", ";
+        if now.is_none() {
+            text.push('-')?;
+        }
+        tag.write(text)?;
+        if let Some(value) = now {
+            text.push_str(" -> ")?;
+            Tag {
+                key: tag.key,
+                value,
+            }
+            .write_value(text)?;
+        }
+    }
+    for tag in is {
+        if value_in(was, tag).is_none() {
+            text.push_str(before)?;
+            before = ", ";
+            text.push('+')?;
+            tag.write(text)?;
+        }
+    }
+    Ok(())
+}
+
+/// The value that the key of the tag has among these.
+fn value_in<'a>(tags: &[Tag<'a>], tag: &Tag) -> Option<&'a [u8]> {
+    let found = tags.iter().find(|other| other.key == tag.key)?;
+    Some(found.value)
+}
+
+/// Adds bytes in hexadecimal, or `none`.
+fn write_hex(text: &mut String, bytes: &[u8]) -> Result<(), AllocError> {
+    if bytes.is_empty() {
+        return text.push_str("none");
+    }
+    let shown = hex::encode(*text.allocator(), bytes)?;
+    text.push_str(&shown)
+}

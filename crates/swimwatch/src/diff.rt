@@ -1,0 +1,31 @@
+//! Two clusters, or one at two times, that are compared.
+
+use crate::captures::print;
+use crate::changes::{write_change_objects, write_changes};
+use crate::chosen::Chosen;
+use crate::said::misused;
+use crate::side::roster_of;
+use std::process::ExitCode;
+use swim_program::Failure;
+
+/// Shows what is another way at the second side than at the first one. The status is 1 if something
+/// is.
+///
+/// # Errors
+///
+/// Those of [`roster_of`], of the first side that cannot be read.
+pub(crate) fn diff(rt: &HostRuntime, chosen: &Chosen) -> Result<ExitCode, Failure> {
+    let [before, after] = chosen.inputs.as_slice() else {
+        return Err(misused(rt.alloc(), "diff wants two captures, dumps or members"));
+    };
+    let before = roster_of(rt, chosen, before)?;
+    let after = roster_of(rt, chosen, after)?;
+    let mut text = String::new(rt.alloc());
+    let is_changed = if chosen.json {
+        write_change_objects(&mut text, &before, &after)?
+    } else {
+        write_changes(&mut text, &before, &after)?
+    };
+    print(rt, text.as_bytes())?;
+    Ok(ExitCode::from(u8::from(is_changed)))
+}

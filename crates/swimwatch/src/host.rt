@@ -1,0 +1,68 @@
+//! Which member is asked.
+
+use std::alloc::{AllocError, Global};
+use std::net::IpAddr;
+
+/// memberlist's port, unless the word says another one.
+const PORT: u16 = 7946;
+
+/// The name or address of a member, and its port.
+#[derive(Clone, Copy, Debug, PartialEq, Eq)]
+pub(crate) struct Host<'a> {
+    /// A name for the system's resolver, or an address.
+    pub(crate) name: &'a str,
+    pub(crate) port: u16,
+}
+
+impl<'a> Host<'a> {
+    /// The host that a word names: `web-1`, `10.20.1.11`, `fe80::1`, or one of these with a port
+    /// behind a colon, where an address of IPv6 is in brackets: `[fe80::1]:7946`. None if it names
+    /// none.
+    pub(crate) fn parse(word: &'a str) -> Option<Host<'a>> {
+        if word.parse::<IpAddr>().is_ok() {
+            return Some(Host {
+                name: word,
+                port: PORT,
+            });
+        }
+        let (name, port) = match word.strip_prefix('[') {
+            Some(rest) => rest.split_once(']')?,
+            None => name_and_port(word),
+        };
+        if name.is_empty() || !word.starts_with('[') && name.contains(':') {
+            return None;
+        }
+        Some(Host {
+            name,
+            port: port_of(port)?,
+        })
+    }
+
+    /// The host as it is written: `10.20.1.11:7946`, `[fe80::1]:7946`.
+    pub(crate) fn text(&self, alloc: Global) -> Result<String, AllocError> {
+        let Host { name, port } = *self;
+        if name.contains(':') {
+            return format!(in alloc; "[{name}]:{port}");
+        }
+        format!(in alloc; "{name}:{port}")
+    }
+}
+
+/// What is before the last colon, and the rest with the colon. All, if there is none.
+fn name_and_port(word: &str) -> (&str, &str) {
+    match word.rfind(':') {
+        Some(place) => word.split_at(place),
+        None => (word, ""),
+    }
+}
+
+/// The port in `:7946`, or memberlist's in an empty text.
+fn port_of(text: &str) -> Option<u16> {
+    if text.is_empty() {
+        return Some(PORT);
+    }
+    match text.strip_prefix(':')?.parse::<u16>() {
+        Ok(port) if port > 0 => Some(port),
+        _ => None,
+    }
+}

@@ -1,0 +1,106 @@
+//! What somebody says of a member.
+
+use crate::claims::kind_word;
+use crate::json::Object;
+use crate::tags::is_bare;
+use crate::texts::{address_text, meta_text};
+use memberlist_view::{Entry, State};
+use std::alloc::{AllocError, Global};
+use swim_claim::{Details, Kind};
+
+/// How a member is, and where, by somebody's word.
+#[derive(Debug, Drop)]
+pub(crate) struct Known {
+    pub(crate) kind: Kind,
+    pub(crate) inc: u32,
+    /// Its address, port, metadata and versions, if they were said.
+    pub(crate) details: Option<Details>,
+}
+
+impl Known {
+    /// What a view shows.
+    pub(crate) fn of_entry(alloc: Global, entry: &Entry) -> Result<Known, AllocError> {
+        Ok(Known {
+            kind: kind_of(&entry.state),
+            inc: entry.inc,
+            details: Some(entry.details.try_clone(alloc)?),
+        })
+    }
+
+    /// Whether the same is said. Details that one of the two lacks are not compared.
+    pub(crate) fn is_same(&self, other: &Known) -> bool {
+        let same_details = match (&self.details, &other.details) {
+            (Some(own), Some(others)) => *own == *others,
+            _ => true,
+        };
+        self.kind == other.kind && self.inc == other.inc && same_details
+    }
+
+    /// Whether both say where it is, and not the same.
+    pub(crate) fn is_elsewhere(&self, other: &Known) -> bool {
+        match (&self.details, &other.details) {
+            (Some(own), Some(others)) => {
+                own.addr() != others.addr() || own.port() != others.port()
+            }
+            _ => false,
+        }
+    }
+
+    /// The word for how it is.
+    pub(crate) fn state(&self) -> &'static str {
+        kind_word(self.kind)
+    }
+
+    /// The address and port; empty if none were said.
+    pub(crate) fn address(&self, alloc: Global) -> Result<String, AllocError> {
+        match &self.details {
+            Some(details) => address_text(alloc, details),
+            None => Ok(String::new(alloc)),
+        }
+    }
+
+    /// The metadata; empty if none were said.
+    pub(crate) fn meta(&self) -> &[u8] {
+        match &self.details {
+            Some(details) => details.meta(),
+            None => &[],
+        }
+    }
+
+    /// The versions; empty if none were said.
+    pub(crate) fn vsn(&self) -> &[u8] {
+        match &self.details {
+            Some(details) => details.vsn(),
+            None => &[],
+        }
+    }
+
+    /// Whether no tags and no other metadata were said.
+    pub(crate) fn is_bare(&self) -> bool {
+        is_bare(self.meta())
+    }
+
+    /// The metadata as people read them.
+    pub(crate) fn tags(&self, alloc: Global) -> Result<String, AllocError> {
+        meta_text(alloc, self.meta())
+    }
+
+    /// Adds it to an object of JSON.
+    pub(crate) fn write(&self, object: &mut Object) -> Result<(), AllocError> {
+        object.word("state", self.state())?;
+        object.number("incarnation", u64::from(self.inc))?;
+        match &self.details {
+            Some(details) => object.details(details),
+            None => Ok(()),
+        }
+    }
+}
+
+fn kind_of(state: &State) -> Kind {
+    match state {
+        State::Alive => Kind::Alive,
+        State::Suspect { .. } => Kind::Suspect,
+        State::Dead { .. } => Kind::Confirm,
+        State::Left => Kind::Leave,
+    }
+}
