@@ -17,6 +17,8 @@ pub(crate) enum Verb {
     Pull,
     /// What is another way at one side than at another one.
     Diff,
+    /// A picture of who was in the cluster, and how it was.
+    Chart,
 }
 
 impl Verb {
@@ -30,6 +32,7 @@ impl Verb {
             "dump" => Some(Verb::Dump),
             "pull" => Some(Verb::Pull),
             "diff" => Some(Verb::Diff),
+            "chart" => Some(Verb::Chart),
             _ => None,
         }
     }

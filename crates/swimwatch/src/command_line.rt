@@ -144,7 +144,7 @@ struct Page {
 }
 
 /// The program's commands.
-const PAGES: [Page; 7] = [
+const PAGES: [Page; 8] = [
     Page {
         name: "members",
         about: "Shows the members, as they are at the end of the captures",
@@ -179,6 +179,13 @@ const PAGES: [Page; 7] = [
         example: help::DUMP,
         inputs: Inputs::Captures,
         flags: &[Flag::Wait],
+    },
+    Page {
+        name: "chart",
+        about: "Writes a picture (SVG) of who was in the cluster, and in what state",
+        example: help::CHART,
+        inputs: Inputs::Captures,
+        flags: &[Flag::Wait, Flag::Member],
     },
     Page {
         name: "pull",

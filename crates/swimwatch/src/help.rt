@@ -81,3 +81,7 @@ does not tell is not compared.
 Examples:
   swimwatch diff before.pcap after.pcap
   swimwatch diff web-1.bin web-1";
+
+pub(crate) const CHART: &str = "\
+Examples:
+  swimwatch chart cluster.pcap > cluster.svg";

@@ -13,6 +13,7 @@
 //! | `roster`, `known`, `node_state` | what somebody knows of members |
 //! | `agreement` | what members answered, and whether they agree |
 //! | `diff`, `side`, `changes` | what changed between two captures, dumps or members |
+//! | `chart`, `svg` | what is drawn |
 //! | `moment`, `names`, `tags`, `endpoint`, `texts`, `columns`, `json` | how it is written |
 //! | `counts` | what was read, and what was left out and why |
 //! | `said` | how the program ends with a text of its own |
@@ -25,6 +26,7 @@ mod ask;
 mod captures;
 mod carriage;
 mod changes;
+mod chart;
 mod chosen;
 mod claims;
 mod columns;
@@ -53,6 +55,7 @@ mod said;
 mod sent;
 mod side;
 mod sources;
+mod svg;
 mod tags;
 mod talkers;
 #[cfg(test)]

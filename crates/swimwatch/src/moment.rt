@@ -14,10 +14,15 @@ const FORMAT: &str = "%Y-%m-%dT%H:%M:%S.%6fZ";
 ///
 /// Memory for the text is refused.
 pub(crate) fn write_moment(text: &mut String, micros: u64) -> Result<(), AllocError> {
+    write_as(text, micros, FORMAT)
+}
+
+/// Adds a moment in the same way, as a format of `strftime` has it in UTC.
+pub(crate) fn write_as(text: &mut String, micros: u64, format: &str) -> Result<(), AllocError> {
     let Some(moment) = timestamp(micros) else {
         return text.push_str("after 9999");
     };
-    match moment.strftime(*text.allocator(), FORMAT) {
+    match moment.strftime(*text.allocator(), format) {
         Ok(shown) => text.push_str(&shown),
         Err(_) => Err(AllocError),
     }

@@ -9,6 +9,7 @@ ghost use Rattle.swimwatch.specs.Told.{told_text, heard_of};
 ghost use Rattle.swimwatch.specs.Views.{after_all, heard_in_packets, heard_in_records, HearsStream};
 
 use crate::carriage::{Carriage, NoStream, carriage_of, stream_claims};
+use crate::chart::Chart;
 use crate::chosen::{Chosen, Verb};
 use crate::claims::write_claim;
 use crate::counts::{Counts, count};
@@ -40,6 +41,7 @@ pub(crate) struct Watch {
     /// The only name that is shown, if there is one.
     member: Option<Vec<u8>>,
     talkers: Talkers,
+    chart: Chart,
     table: Table,
     pub(crate) counts: Counts,
     /// What is to be printed.
@@ -60,6 +62,7 @@ impl Watch {
             json: chosen.json,
             member,
             talkers: Talkers::new(alloc),
+            chart: Chart::new(alloc),
             table: Table::new(alloc),
             counts: Counts::default(),
             out: String::new(alloc),
@@ -80,6 +83,7 @@ impl Watch {
         ensures keys { OnOk result (self.new.keys ≡ self.old.keys) }
     {
         count(&mut self.counts.datagrams);
+        self.chart.reach(sent.time);
         self.talkers.sent(sent.source, payload.len())?;
         match carriage_of(self.alloc, &self.keys, payload)? {
             Carriage::Claims(packets, message) => {
@@ -180,6 +184,7 @@ impl Watch {
         ensures { IfOk result (λ cause. HearsStream self.old.keys bytes.now sent.time
             (is_none cause) self.old.listener.view self.new.listener.view) }
     {
+        self.chart.reach(sent.time);
         match stream_claims(self.alloc, &self.keys, bytes) {
             Ok(claims) => {
                 self.records(sent, claims)?;
@@ -226,6 +231,7 @@ impl Watch {
             (Verb::Timeline, Some(event)) => self.show_event(sent, told, event),
             (Verb::Claims, _) => self.show_claim(sent, told),
             (Verb::Dump, _) => self.take_claim(told),
+            (Verb::Chart, Some(event)) => self.chart.take(&self.listener, sent, told, event),
             _ => Ok(()),
         }
     }
@@ -280,6 +286,7 @@ impl Watch {
             (Verb::Members, true) => write_member_objects(&mut self.out, &self.listener),
             (Verb::Talkers, false) => self.talkers.write(&mut self.out, &self.listener),
             (Verb::Talkers, true) => self.talkers.write_objects(&mut self.out, &self.listener),
+            (Verb::Chart, _) => self.chart.write(&mut self.out),
             _ => Ok(()),
         }
     }

@@ -21,7 +21,7 @@ fn choice(alloc: Global, words: &[&str]) -> Result<Chosen, Refusal> {
 }
 
 /// Words, what they ask for, and how many captures and files of keys they name.
-const TAKEN: [(&[&str], Verb, bool, usize, usize); 8] = [
+const TAKEN: [(&[&str], Verb, bool, usize, usize); 9] = [
     (&["members", "x"], Verb::Members, false, 1, 0),
     (&["members", "--json", "-", "x"], Verb::Members, true, 2, 0),
     (
@@ -48,6 +48,7 @@ const TAKEN: [(&[&str], Verb, bool, usize, usize); 8] = [
     (&["dump", "--wait", "60", "x"], Verb::Dump, false, 1, 0),
     (&["pull", "--label", "dc1", "x", "y"], Verb::Pull, false, 2, 0),
     (&["diff", "--timeout", "1", "x", "y"], Verb::Diff, false, 2, 0),
+    (&["chart", "--member", "a", "x"], Verb::Chart, false, 1, 0),
 ];
 
 #[test]

@@ -1,0 +1,96 @@
+//! Who was in a cluster, and in what state, as a picture.
+//!
+//! | module | subject |
+//! |---|---|
+//! | `row` | what is drawn of a member |
+//! | `span` | the moments that a picture shows, and where they are drawn |
+//! | `axis` | the times below which a line is drawn |
+//! | `page` | what stands around the rows |
+//! | `drawing` | the rows |
+//! | `style` | colours, patterns and shapes |
+
+pub(crate) mod axis;
+mod drawing;
+mod page;
+mod row;
+pub(crate) mod span;
+mod style;
+
+use crate::listener::Listener;
+use crate::sent::Sent;
+use crate::told::Told;
+use drawing::{label_width, write_row};
+use memberlist_view::{Event, MemberName};
+use page::Page;
+use row::Row;
+use span::Span;
+use std::alloc::{AllocError, Global};
+use std::collections::BTreeMap;
+
+/// What happened to each member, to be drawn.
+#[derive(Drop)]
+pub(crate) struct Chart {
+    alloc: Global,
+    span: Option<Span>,
+    rows: BTreeMap<MemberName, Row>,
+}
+
+impl Chart {
+    pub(crate) fn new(alloc: Global) -> Chart {
+        Chart {
+            alloc,
+            span: None,
+            rows: BTreeMap::new(alloc),
+        }
+    }
+
+    /// Notes that something was sent at this time, so that the picture shows it.
+    pub(crate) fn reach(&mut self, time: u64) {
+        self.span = match self.span {
+            Some(span) => Some(span.with(time)),
+            None => Some(Span::at(time)),
+        };
+    }
+
+    /// Takes in what changed of the member that a message tells of.
+    pub(crate) fn take(
+        &mut self,
+        listener: &Listener,
+        sent: &Sent,
+        told: &Told,
+        event: Event,
+    ) -> Result<(), AllocError> {
+        let Some(entry) = listener.entry_of(told)? else {
+            return Ok(());
+        };
+        let name = MemberName::new(told.claim.name().try_clone(self.alloc)?);
+        if let Some(row) = self.rows.get_mut(&name) {
+            return row.take(sent.time, told, event, entry);
+        }
+        let mut row = Row::new(self.alloc);
+        row.take(sent.time, told, event, entry)?;
+        self.rows.insert(name, row)?;
+        Ok(())
+    }
+
+    /// Adds the picture as SVG: a row for each member that has something to be drawn, in ascending
+    /// order of the names.
+    ///
+    /// # Errors
+    ///
+    /// Memory for the text is refused.
+    pub(crate) fn write(&self, text: &mut String) -> Result<(), AllocError> {
+        let mut width = 0u64;
+        for (name, _) in self.rows.iter() {
+            width = width.max(label_width(self.alloc, name)?);
+        }
+        let page = Page::new(self.span, self.rows.len(), width);
+        page.write_head(text)?;
+        let mut top = page.top();
+        for (name, row) in self.rows.iter() {
+            write_row(text, &page, top, name, row)?;
+            top = page.below(top);
+        }
+        text.push_str("</svg>\n")
+    }
+}

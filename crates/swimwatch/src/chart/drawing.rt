@@ -1,0 +1,152 @@
+//! The rows.
+
+use crate::chart::page::Page;
+use crate::chart::row::{Bar, Mark, Row};
+use crate::chart::style::shape;
+use crate::names::write_name;
+use crate::svg::escaped;
+use crate::texts::{event_words, name_text};
+use memberlist_view::MemberName;
+use std::alloc::{AllocError, Global};
+
+/// The most characters of a name that are seen.
+const LABEL: usize = 32;
+
+/// Adds a row that begins so many pixels below the top.
+pub(crate) fn write_row(
+    text: &mut String,
+    page: &Page,
+    top: u64,
+    name: &MemberName,
+    row: &Row,
+) -> Result<(), AllocError> {
+    let alloc = *text.allocator();
+    let whole = name_text(alloc, name)?;
+    write_label(text, page, top, name, &whole)?;
+    let mut edge = 0u64;
+    for (index, bar) in row.bars.iter().enumerate() {
+        let until = row.until(index, page.span().last);
+        let (begin, end) = page.span().stretch(bar.since, until, edge);
+        let title = escaped(alloc, &bar_title(page, &whole, bar, until)?)?;
+        write!(
+            text,
+            "<rect class=\"{}\" x=\"{}\" y=\"{}\" width=\"{}\" height=\"14\"><title>{title}\
+             </title></rect>\n",
+            bar.state,
+            page.left().saturating_add(begin),
+            top.saturating_add(4),
+            end.saturating_sub(begin)
+        )?;
+        edge = end;
+    }
+    write_marks(text, page, top, &whole, row)?;
+    text.push_str("</g>\n")
+}
+
+/// Begins a row with its name.
+fn write_label(
+    text: &mut String,
+    page: &Page,
+    top: u64,
+    name: &MemberName,
+    whole: &str,
+) -> Result<(), AllocError> {
+    let alloc = *text.allocator();
+    let label = escaped(alloc, &label(alloc, name)?)?;
+    let title = escaped(alloc, whole)?;
+    write!(
+        text,
+        "<g>\n<text class=\"name\" x=\"{}\" y=\"{}\"><title>{title}</title>{label}</text>\n",
+        page.left().saturating_sub(10),
+        top.saturating_add(15)
+    )
+}
+
+/// Adds the marks of a row.
+fn write_marks(
+    text: &mut String,
+    page: &Page,
+    top: u64,
+    whole: &str,
+    row: &Row,
+) -> Result<(), AllocError> {
+    let alloc = *text.allocator();
+    for mark in &row.marks {
+        let title = escaped(alloc, &mark_title(page, whole, mark, alloc)?)?;
+        write!(
+            text,
+            "<path class=\"mark\" d=\"M{} {}{}\"><title>{title}</title></path>\n",
+            page.left().saturating_add(page.span().place(mark.time)),
+            // at the upper edge of the bars, so that a short one is seen below it
+            top.saturating_add(5),
+            shape(mark.event)
+        )?;
+    }
+    Ok(())
+}
+
+/// What a bar shows: `web-5 suspect 1 at 10.20.1.15:7946 from 02:01:39.007123 to 02:01:43.010456 by
+/// web-2, web-4`.
+fn bar_title(page: &Page, name: &str, bar: &Bar, until: u64) -> Result<String, AllocError> {
+    let mut title = String::from_str(*bar.place.allocator(), name)?;
+    write!(title, " {} {}", bar.state, bar.first_inc)?;
+    if bar.first_inc != bar.last_inc {
+        write!(title, " to {}", bar.last_inc)?;
+    }
+    title.push_str(&bar.place)?;
+    title.push_str(" from ")?;
+    page.write_time(&mut title, bar.since)?;
+    title.push_str(" to ")?;
+    page.write_time(&mut title, until)?;
+    if !bar.by.is_empty() {
+        write!(title, " by {}", bar.by)?;
+    }
+    Ok(title)
+}
+
+/// What a mark shows: `web-4 back 2 at 10.20.1.14:7946, 02:02:11.096432`.
+fn mark_title(page: &Page, name: &str, mark: &Mark, alloc: Global) -> Result<String, AllocError> {
+    let mut title = String::from_str(alloc, name)?;
+    write!(
+        title,
+        " {} {}{}, ",
+        event_words(mark.event),
+        mark.inc,
+        mark.place
+    )?;
+    page.write_time(&mut title, mark.time)?;
+    Ok(title)
+}
+
+/// The name with its escapes, and its first characters alone if it is long.
+fn label(alloc: Global, name: &MemberName) -> Result<String, AllocError> {
+    let whole = name_text(alloc, name)?;
+    if whole.len() <= LABEL {
+        return Ok(whole);
+    }
+    let mut label = String::new(alloc);
+    for byte in name.name().bytes() {
+        // room for an escape and for what stands behind it
+        if LABEL < label.len().saturating_add(6) {
+            break;
+        }
+        write_name(&mut label, std::slice::from_ref(byte))?;
+    }
+    label.push_str("...")?;
+    Ok(label)
+}
+
+/// How many pixels wide a name is, at most, in the common fonts.
+pub(crate) fn label_width(alloc: Global, name: &MemberName) -> Result<u64, AllocError> {
+    let mut width = 0u64;
+    for byte in label(alloc, name)?.bytes() {
+        let pixels = match byte {
+            b'i' | b'j' | b'l' | b'.' | b',' | b'-' | b':' | b';' | b'!' | b'|' => 5,
+            b'm' | b'w' | b'M' | b'W' | b'%' | b'@' => 12,
+            b'A'..=b'Z' => 9,
+            _ => 8,
+        };
+        width = width.saturating_add(pixels);
+    }
+    Ok(width)
+}

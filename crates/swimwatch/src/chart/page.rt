@@ -1,0 +1,185 @@
+//! What stands around the rows.
+
+use crate::chart::axis::Ticks;
+use crate::chart::span::{Span, WIDTH};
+use crate::chart::style::{MARKS, STATES, STYLE, shape};
+use crate::moment::{write_as, write_moment};
+use crate::texts::event_words;
+use std::alloc::AllocError;
+
+/// Where the first row begins, in pixels from the top.
+const TOP: u64 = 92;
+
+/// How high a row is, in pixels.
+const ROW: u64 = 22;
+
+/// From how many rows on the axis stands below them too.
+const MANY: usize = 20;
+
+/// A time with its date, and one without.
+const DATED: &str = "%Y-%m-%d %H:%M:%S.%6f";
+
+const OF_THE_DAY: &str = "%H:%M:%S.%6f";
+
+/// A picture: the moments that it shows, how many rows it has, and where these begin.
+#[derive(Clone, Copy)]
+pub(crate) struct Page {
+    span: Option<Span>,
+    count: usize,
+    left: u64,
+}
+
+impl Page {
+    /// A picture of so many rows, with names at most so many pixels wide.
+    pub(crate) fn new(span: Option<Span>, count: usize, names: u64) -> Page {
+        Page {
+            span,
+            count,
+            left: names.saturating_add(26),
+        }
+    }
+
+    /// The moments that it shows.
+    pub(crate) fn span(&self) -> Span {
+        match self.span {
+            Some(span) => span,
+            None => Span::at(0),
+        }
+    }
+
+    /// Where the rows begin, in pixels from the left.
+    pub(crate) fn left(&self) -> u64 {
+        self.left
+    }
+
+    /// Where the first row begins, in pixels from the top.
+    pub(crate) fn top(&self) -> u64 {
+        TOP
+    }
+
+    /// Where the row below one begins.
+    pub(crate) fn below(&self, top: u64) -> u64 {
+        top.saturating_add(ROW)
+    }
+
+    /// Where the last row ends.
+    fn bottom(&self) -> u64 {
+        (self.count as u64).saturating_mul(ROW).saturating_add(TOP)
+    }
+
+    /// Adds a time: without its date if the title has it.
+    pub(crate) fn write_time(&self, text: &mut String, time: u64) -> Result<(), AllocError> {
+        let is_of_one_day = self.span().is_of_one_day();
+        write_as(text, time, if is_of_one_day { OF_THE_DAY } else { DATED })
+    }
+
+    /// Adds all that stands before the rows.
+    pub(crate) fn write_head(&self, text: &mut String) -> Result<(), AllocError> {
+        let width = self.left.saturating_add(WIDTH).saturating_add(40);
+        let below = if self.count < MANY { 16 } else { 36 };
+        let height = self.bottom().saturating_add(below);
+        write!(
+            text,
+            "<svg xmlns=\"http://www.w3.org/2000/svg\" version=\"1.1\" role=\"img\" \
+             width=\"{width}\" height=\"{height}\" viewBox=\"0 0 {width} {height}\">\n<title>"
+        )?;
+        self.write_what(text)?;
+        self.write_range(text)?;
+        text.push_str(
+            "</title>\n<desc>A row for each member, by name. A bar shows since when and until when \
+             it was alive, suspect, dead or left; a mark shows a conflict, a refutation or a \
+             return.</desc>\n",
+        )?;
+        text.push_str(STYLE)?;
+        text.push_str("<rect class=\"page\" width=\"100%\" height=\"100%\"/>\n")?;
+        self.write_title(text)?;
+        if self.count == 0 {
+            return Ok(());
+        }
+        write_legend(text)?;
+        self.write_axis(text)
+    }
+
+    /// Adds how many members are shown.
+    fn write_what(&self, text: &mut String) -> Result<(), AllocError> {
+        match self.count {
+            0 => text.push_str("Nothing was heard of any member"),
+            1 => text.push_str("1 member"),
+            count => write!(text, "{count} members"),
+        }
+    }
+
+    /// Adds from when to when, if something was sent.
+    fn write_range(&self, text: &mut String) -> Result<(), AllocError> {
+        let Some(span) = self.span else {
+            return Ok(());
+        };
+        text.push_str(" from ")?;
+        write_moment(text, span.first)?;
+        text.push_str(" to ")?;
+        write_moment(text, span.last)
+    }
+
+    /// Adds the title that is seen.
+    fn write_title(&self, text: &mut String) -> Result<(), AllocError> {
+        text.push_str("<text class=\"title\" x=\"16\" y=\"28\">")?;
+        self.write_what(text)?;
+        if let Some(span) = self.span {
+            text.push_str(", ")?;
+            write_as(text, span.first, DATED)?;
+            text.push_str(" to ")?;
+            self.write_time(text, span.last)?;
+            text.push_str(" UTC")?;
+        }
+        text.push_str("</text>\n")
+    }
+
+    /// Adds round times above the rows, and below many, with lines through them.
+    fn write_axis(&self, text: &mut String) -> Result<(), AllocError> {
+        let bottom = self.bottom();
+        let ticks = Ticks::of(*text.allocator(), self.span())?;
+        for time in &ticks.times {
+            let x = self.left.saturating_add(self.span().place(*time));
+            write!(text, "<path class=\"grid\" d=\"M{x} {TOP}V{bottom}\"/>\n")?;
+            write_tick(text, x, TOP.saturating_sub(6), *time, &ticks)?;
+            if MANY <= self.count {
+                write_tick(text, x, bottom.saturating_add(16), *time, &ticks)?;
+            }
+        }
+        Ok(())
+    }
+}
+
+fn write_tick(
+    text: &mut String,
+    x: u64,
+    y: u64,
+    time: u64,
+    ticks: &Ticks,
+) -> Result<(), AllocError> {
+    write!(text, "<text class=\"tick\" x=\"{x}\" y=\"{y}\">")?;
+    write_as(text, time, ticks.format(time))?;
+    text.push_str("</text>\n")
+}
+
+/// Adds what the bars and the marks mean.
+fn write_legend(text: &mut String) -> Result<(), AllocError> {
+    for (word, x) in &STATES {
+        let behind = x.saturating_add(30);
+        write!(
+            text,
+            "<rect class=\"{word}\" x=\"{x}\" y=\"44\" width=\"24\" height=\"14\"/>\
+             <text x=\"{behind}\" y=\"55\">{word}</text>\n"
+        )?;
+    }
+    for (event, x) in &MARKS {
+        let behind = x.saturating_add(12);
+        write!(
+            text,
+            "<path class=\"mark\" d=\"M{x} 51{}\"/><text x=\"{behind}\" y=\"55\">{}</text>\n",
+            shape(*event),
+            event_words(*event)
+        )?;
+    }
+    Ok(())
+}

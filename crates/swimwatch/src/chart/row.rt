@@ -1,0 +1,152 @@
+//! What is drawn of a member.
+
+use crate::names::write_name;
+use crate::texts::{address_text, state_word, write_rivals};
+use crate::told::Told;
+use memberlist_view::{Entry, Event};
+use std::alloc::{AllocError, Global};
+
+/// How a member was, from one moment on.
+#[derive(Drop)]
+pub(crate) struct Bar {
+    /// The word for it.
+    pub(crate) state: &'static str,
+    /// Since when, in microseconds since the start of 1970.
+    pub(crate) since: u64,
+    /// At which incarnation it began.
+    pub(crate) first_inc: u32,
+    /// At which one it ended.
+    pub(crate) last_inc: u32,
+    /// Where the member was: ` at 10.20.1.11:7946`.
+    pub(crate) place: String,
+    /// Who said so, with commas between.
+    pub(crate) by: String,
+}
+
+/// What happened to a member at a moment.
+#[derive(Drop)]
+pub(crate) struct Mark {
+    pub(crate) event: Event,
+    /// When, in microseconds since the start of 1970.
+    pub(crate) time: u64,
+    pub(crate) inc: u32,
+    /// Where the member was, and of a conflict both places.
+    pub(crate) place: String,
+}
+
+/// What is drawn of a member, in the order in which it was heard.
+#[derive(Drop)]
+pub(crate) struct Row {
+    alloc: Global,
+    pub(crate) bars: Vec<Bar>,
+    pub(crate) marks: Vec<Mark>,
+}
+
+impl Row {
+    pub(crate) fn new(alloc: Global) -> Row {
+        Row {
+            alloc,
+            bars: Vec::new(alloc),
+            marks: Vec::new(alloc),
+        }
+    }
+
+    /// Takes in what a message changed, after which the view shows this entry.
+    pub(crate) fn take(
+        &mut self,
+        time: u64,
+        told: &Told,
+        event: Event,
+        entry: &Entry,
+    ) -> Result<(), AllocError> {
+        match event {
+            Event::Joined | Event::Left => self.begin(time, entry),
+            Event::Suspected | Event::Dead => {
+                self.begin(time, entry)?;
+                self.accuse(&told.from)
+            }
+            Event::AlsoSuspected => self.accuse(&told.from),
+            Event::Back | Event::Refuted => {
+                self.mark(time, event, entry)?;
+                self.begin(time, entry)
+            }
+            Event::Conflict => self.mark(time, event, entry),
+            Event::Updated | Event::Renewed => {
+                self.raise(entry.inc);
+                Ok(())
+            }
+        }
+    }
+
+    /// Begins a bar.
+    fn begin(&mut self, time: u64, entry: &Entry) -> Result<(), AllocError> {
+        let bar = Bar {
+            state: state_word(&entry.state),
+            since: time,
+            first_inc: entry.inc,
+            last_inc: entry.inc,
+            place: place_text(self.alloc, entry)?,
+            by: String::new(self.alloc),
+        };
+        self.bars.push(bar).map_err(AllocError::from)
+    }
+
+    /// Adds a mark.
+    fn mark(&mut self, time: u64, event: Event, entry: &Entry) -> Result<(), AllocError> {
+        let place = match event {
+            Event::Conflict => places_text(self.alloc, entry)?,
+            _ => place_text(self.alloc, entry)?,
+        };
+        let mark = Mark {
+            event,
+            time,
+            inc: entry.inc,
+            place,
+        };
+        self.marks.push(mark).map_err(AllocError::from)
+    }
+
+    /// Notes that somebody, if one is named, says what the last bar shows.
+    fn accuse(&mut self, from: &[u8]) -> Result<(), AllocError> {
+        if from.is_empty() {
+            return Ok(());
+        }
+        let Some(bar) = self.bars.last_mut() else {
+            return Ok(());
+        };
+        if !bar.by.is_empty() {
+            bar.by.push_str(", ")?;
+        }
+        write_name(&mut bar.by, from)
+    }
+
+    /// Notes a greater incarnation in the last bar.
+    fn raise(&mut self, inc: u32) {
+        if let Some(bar) = self.bars.last_mut() {
+            bar.last_inc = inc;
+        }
+    }
+
+    /// Until when a bar lasts: until the next one begins, or until the last moment.
+    pub(crate) fn until(&self, index: usize, last: u64) -> u64 {
+        let until = match self.bars.get(index.saturating_add(1)) {
+            Some(next) => next.since,
+            None => last,
+        };
+        match self.bars.get(index) {
+            Some(bar) => until.max(bar.since),
+            None => until,
+        }
+    }
+}
+
+fn places_text(alloc: Global, entry: &Entry) -> Result<String, AllocError> {
+    let mut text = String::new(alloc);
+    write_rivals(&mut text, entry)?;
+    Ok(text)
+}
+
+fn place_text(alloc: Global, entry: &Entry) -> Result<String, AllocError> {
+    let address = address_text(alloc, &entry.details)?;
+    format!(in alloc; " at {address}")
+}
