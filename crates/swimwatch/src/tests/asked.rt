@@ -27,7 +27,14 @@ const HOSTS: [(&str, &str, u16); 6] = [
 
 /// Words that name no host.
 const NO_HOSTS: [&str; 8] = [
-    "", ":7946", "web-1:", "web-1:0", "web-1:65536", "[fe80::1", "fe80::g:1", "[]:7946",
+    "",
+    ":7946",
+    "web-1:",
+    "web-1:0",
+    "web-1:65536",
+    "[fe80::1",
+    "fe80::g:1",
+    "[]:7946",
 ];
 
 #[test]
@@ -42,8 +49,14 @@ fn words_name_hosts(rt: HostRuntime) {
 
 /// The empty offer, and the same behind the label `dc1`, in memberlist's bytes.
 const REQUESTS: [(&[u8], &str); 2] = [
-    (b"", "0683a44a6f696ec2a54e6f64657300ac5573657253746174654c656e00"),
-    (b"dc1", "f4036463310683a44a6f696ec2a54e6f64657300ac5573657253746174654c656e00"),
+    (
+        b"",
+        "0683a44a6f696ec2a54e6f64657300ac5573657253746174654c656e00",
+    ),
+    (
+        b"dc1",
+        "f4036463310683a44a6f696ec2a54e6f64657300ac5573657253746174654c656e00",
+    ),
 ];
 
 #[test]
@@ -105,22 +118,30 @@ fn answers_are_compared(rt: HostRuntime) -> Result<(), Fail> {
     let mut text = String::new(rt.alloc());
     let changed = write_changes(&mut text, &first.roster, &second.roster)?;
     assert!(rt; changed);
-    assert_eq!(rt; text, "\
+    assert_eq!(rt;
+        text,
+        "\
         l1 alive 127.0.4.1:7946 -> alive 127.0.4.9:7946, incarnation 1 -> 3, tags v=1 -> 2\n\
         l2 absent -> alive 127.0.4.2:7946\n\
-        l3 dead 127.0.4.3:7946 -> absent\n");
+        l3 dead 127.0.4.3:7946 -> absent\n"
+    );
     let mut answers = Vec::new(rt.alloc());
     answers.push(first)?;
     let mut text = String::new(rt.alloc());
     assert!(rt; write_answers(&mut text, &answers)?);
-    assert_eq!(rt; text, "\
+    assert_eq!(rt;
+        text,
+        "\
         NAME  ADDRESS         STATE  INC  TAGS\n\
         l1    127.0.4.1:7946  alive  1    v=1\n\
-        l3    127.0.4.3:7946  dead   2\n");
+        l3    127.0.4.3:7946  dead   2\n"
+    );
     answers.push(second)?;
     let mut text = String::new(rt.alloc());
     assert!(rt; !write_answers(&mut text, &answers)?);
-    assert_eq!(rt; text, "\
+    assert_eq!(rt;
+        text,
+        "\
         2 members agree on 0 of 3 names:\n\
         NAME  MEMBER  STATE   INC  ADDRESS         TAGS\n\
         l1    a:7946  alive   1    127.0.4.1:7946  v=1\n\
@@ -128,7 +149,8 @@ fn answers_are_compared(rt: HostRuntime) -> Result<(), Fail> {
         l2    a:7946  absent\n\
         l2    b:7946  alive   1    127.0.4.2:7946\n\
         l3    a:7946  dead    2    127.0.4.3:7946\n\
-        l3    b:7946  absent\n");
+        l3    b:7946  absent\n"
+    );
     Ok(())
 }
 

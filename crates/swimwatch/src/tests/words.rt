@@ -46,8 +46,20 @@ const TAKEN: [(&[&str], Verb, bool, usize, usize); 9] = [
         2,
     ),
     (&["dump", "--wait", "60", "x"], Verb::Dump, false, 1, 0),
-    (&["pull", "--label", "dc1", "x", "y"], Verb::Pull, false, 2, 0),
-    (&["diff", "--timeout", "1", "x", "y"], Verb::Diff, false, 2, 0),
+    (
+        &["pull", "--label", "dc1", "x", "y"],
+        Verb::Pull,
+        false,
+        2,
+        0,
+    ),
+    (
+        &["diff", "--timeout", "1", "x", "y"],
+        Verb::Diff,
+        false,
+        2,
+        0,
+    ),
     (&["chart", "--member", "a", "x"], Verb::Chart, false, 1, 0),
 ];
 
