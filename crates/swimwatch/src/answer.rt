@@ -1,7 +1,7 @@
 //! What a member answers.
 
 ghost use Rattle.std.specs.Prelude.{IfOk};
-ghost use Rattle.swimwatch.specs.Asking.{IsAnswer};
+ghost use Rattle.swimwatch.specs.Asking.{IsAnswer, IsRead};
 
 use crate::carriage::{NoStream, STREAM_LIMIT, cause_of};
 use memberlist_cipher::{LABEL, LABEL_MAX_SIZE};
@@ -53,11 +53,7 @@ pub(crate) fn stream_in(
 ) -> Result<Vec<u8>, NoAnswer>
     ensures { IfOk result (λ stream. IsAnswer keys.now label.now answer.items stream.items) }
 {
-    let bytes = if answer.first() == Some(&LABEL) || label.len() > LABEL_MAX_SIZE {
-        answer
-    } else {
-        behind_label(alloc, label, answer)?
-    };
+    let bytes = as_read(alloc, label, answer)?;
     match open_stream(alloc, keys, &bytes, STREAM_LIMIT) {
         Ok(stream) => Ok(stream),
         Err(StreamFault::NoStream(ERROR_MESSAGE)) => {
@@ -66,6 +62,20 @@ pub(crate) fn stream_in(
         }
         Err(fault) => Err(NoAnswer::NoStream(cause_of(fault))),
     }
+}
+
+/// An answer as it is read: behind the label of the cluster, unless a label stands before it.
+fn as_read(alloc: Global, label: &[u8], answer: Vec<u8>) -> Result<Vec<u8>, NoAnswer>
+    ensures { IfOk result (λ bytes. IsRead label.now answer.items bytes.items) }
+{
+    if answer.first() == Some(&LABEL) {
+        return Ok(answer);
+    }
+    if label.len() > LABEL_MAX_SIZE {
+        return Err(NoAnswer::NoStream(NoStream::Closed));
+    }
+    let bytes = behind_label(alloc, label, answer)?;
+    Ok(bytes)
 }
 
 /// The message that the bytes hold, in the clear or encrypted; empty if there is none.

@@ -1,5 +1,8 @@
 //! A connection to a member, on which it is asked once.
 
+ghost use Rattle.std.specs.Prelude.{◌≡◌, IfOk};
+ghost use Rattle.std.specs.Io.KnownBytes.{Consumes};
+
 use crate::host::Host;
 use std::alloc::{AllocError, Global};
 use std::io::{self, Error, ErrorKind, Read};
@@ -44,6 +47,14 @@ pub(crate) struct Reply {
     pub(crate) bytes: Vec<u8>,
     /// Whether the time was over before the member closed the connection.
     pub(crate) is_late: bool,
+}
+
+impl Reply {
+    fn new(bytes: Vec<u8>, is_late: bool) -> Reply
+        ensures { result.bytes ≡ bytes }
+    {
+        Reply { bytes, is_late }
+    }
 }
 
 /// Connects to the host, sends the request, and reads what comes until the other side closes the
@@ -102,29 +113,26 @@ fn connect(rt: &HostRuntime, host: &Host, end: Instant) -> Result<TcpStream, NoR
 }
 
 /// Reads until the end, or until a read waited too long.
-pub(crate) fn read_to_end<R: Read>(alloc: Global, reader: &mut R) -> Result<Reply, NoReply> {
+pub(crate) fn read_to_end<R: Read>(alloc: Global, reader: &mut R) -> Result<Reply, NoReply>
+    // Of a reader that tells its bytes these are the next ones.
+    ensures { IfOk result (λ reply.
+        Consumes (R.remaining reader.old) (R.remaining reader.new) reply.bytes.items) }
+{
     let mut bytes = Vec::new(alloc);
     let mut piece = [0; PIECE];
     let mut interruptions = 0;
-    while bytes.len() <= MOST_BYTES {
+    for _turn in 0..u64::MAX {
         match reader.read(&mut piece) {
-            Ok(0) => {
-                return Ok(Reply {
-                    bytes,
-                    is_late: false,
-                });
-            }
+            Ok(0) => return Ok(Reply::new(bytes, false)),
             Ok(count) => bytes.extend_from_slice(&piece[..count])?,
             Err(error) => match error.kind() {
-                ErrorKind::WouldBlock | ErrorKind::TimedOut => {
-                    return Ok(Reply {
-                        bytes,
-                        is_late: true,
-                    });
-                }
+                ErrorKind::WouldBlock | ErrorKind::TimedOut => return Ok(Reply::new(bytes, true)),
                 ErrorKind::Interrupted if interruptions < RETRIES => interruptions += 1,
                 _ => return Err(NoReply::Broken(error)),
             },
+        }
+        if bytes.len() > MOST_BYTES {
+            break;
         }
     }
     Err(NoReply::TooLong)
