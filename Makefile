@@ -37,6 +37,7 @@ library: build/libswimtab.a
 	else echo 'there is no $(CC), so build/libswimtab.so is not built'; fi
 
 build/swimbench: words := -- check
+build/swimwatch: words := -- members ../../examples/serf.pcap
 $(programs:%=build/%) build/swimbench: build/%: $(SOURCES) | kit
 	@echo 'proving $* and the libraries that it stands on, and building it; some minutes for each the first time'
 	@.ci/prove $* rt run $(words)

@@ -93,6 +93,9 @@ fn end_of<C: Clock>(clock: &C, timeout: Duration) -> io::Result<Instant> {
 fn connect(rt: &HostRuntime, host: &Host, end: Instant) -> Result<TcpStream, NoReply> {
     let addresses = match (host.name, host.port).to_socket_addrs(rt) {
         Ok(addresses) => addresses,
+        Err(error) if matches!(error.kind(), ErrorKind::OutOfMemory) => {
+            return Err(NoReply::Memory);
+        }
         Err(error) => return Err(NoReply::NoAddress(error)),
     };
     let mut refusal = NoReply::NoAddress(Error::from(ErrorKind::NotFound));

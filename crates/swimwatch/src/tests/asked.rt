@@ -64,7 +64,8 @@ fn a_member_is_asked_in_the_clear(rt: HostRuntime) -> Result<(), Fail> {
     let keys = Keyring::new(rt.alloc());
     for (label, wanted) in REQUESTS {
         let sent = request(rt.alloc(), &keys, &[0; 12], label)?;
-        assert_eq!(rt; hex::encode(rt.alloc(), &sent)?, wanted);
+        let found = hex::encode(rt.alloc(), &sent)?;
+        assert_eq!(rt; found.as_str(), wanted);
     }
     Ok(())
 }
@@ -77,7 +78,7 @@ fn a_member_says_why_it_answers_nothing(rt: HostRuntime) -> Result<(), Fail> {
     let keys = Keyring::new(rt.alloc());
     let answer = hex::decode(rt.alloc(), ERROR)?;
     match stream_in(rt.alloc(), &keys, &[], answer) {
-        Err(NoAnswer::Error(words)) => assert_eq!(rt; words, "no: %22x%22%80"),
+        Err(NoAnswer::Error(words)) => assert_eq!(rt; words.as_str(), "no: %22x%22%80"),
         Err(NoAnswer::NoStream(NoStream::Memory)) => return Err(Fail::from(AllocError)),
         _ => panic!(rt; "an error was sent"),
     }
@@ -119,7 +120,7 @@ fn answers_are_compared(rt: HostRuntime) -> Result<(), Fail> {
     let changed = write_changes(&mut text, &first.roster, &second.roster)?;
     assert!(rt; changed);
     assert_eq!(rt;
-        text,
+        text.as_str(),
         "\
         l1 alive 127.0.4.1:7946 -> alive 127.0.4.9:7946, incarnation 1 -> 3, tags v=1 -> 2\n\
         l2 absent -> alive 127.0.4.2:7946\n\
@@ -130,7 +131,7 @@ fn answers_are_compared(rt: HostRuntime) -> Result<(), Fail> {
     let mut text = String::new(rt.alloc());
     assert!(rt; write_answers(&mut text, &answers)?);
     assert_eq!(rt;
-        text,
+        text.as_str(),
         "\
         NAME  ADDRESS         STATE  INC  TAGS\n\
         l1    127.0.4.1:7946  alive  1    v=1\n\
@@ -140,7 +141,7 @@ fn answers_are_compared(rt: HostRuntime) -> Result<(), Fail> {
     let mut text = String::new(rt.alloc());
     assert!(rt; !write_answers(&mut text, &answers)?);
     assert_eq!(rt;
-        text,
+        text.as_str(),
         "\
         2 members agree on 0 of 3 names:\n\
         NAME  MEMBER  STATE   INC  ADDRESS         TAGS\n\
