@@ -35,7 +35,10 @@ impl Roster {
         };
         for claim in claims {
             let details = details_in(alloc, inlet.rest())?;
-            let _ = read_state(alloc, &mut inlet);
+            // it was read before, so only memory can be refused
+            if read_state(alloc, &mut inlet).is_err() {
+                return Err(AllocError);
+            }
             let known = Known {
                 kind: claim.kind(),
                 inc: claim.inc(),
