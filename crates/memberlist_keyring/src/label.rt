@@ -26,11 +26,7 @@ pub(crate) fn cut_label(bytes: &[u8]) -> (&[u8], &[u8])
 /// `AllocError` if memory for them is refused.
 ///
 /// Source: `AddLabelHeaderToPacket` and `AddLabelHeaderToStream` in memberlist's label.go.
-pub fn behind_label(
-    alloc: Global,
-    label: &[u8],
-    bytes: Vec<u8>,
-) -> Result<Vec<u8>, AllocError>
+pub fn behind_label(alloc: Global, label: &[u8], bytes: Vec<u8>) -> Result<Vec<u8>, AllocError>
     requires few { length label.now < 256 }
     requires bare { (more : List ℕ) → bytes.items ≢ 244 ∷ more }
     ensures { IfOk result (λ text. IsLabelled text.items label.now bytes.items) }
