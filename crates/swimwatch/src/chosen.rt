@@ -15,7 +15,7 @@ pub(crate) enum Verb {
     Dump,
     /// What members answer that are asked.
     Pull,
-    /// What is another way at one side than at another one.
+    /// What changed between two sides.
     Diff,
     /// A picture of who was in the cluster, and how it was.
     Chart,

@@ -8,8 +8,7 @@ use crate::side::roster_of;
 use std::process::ExitCode;
 use swim_program::Failure;
 
-/// Shows what is another way at the second side than at the first one. The status is 1 if something
-/// is.
+/// Shows what changed from the first side to the second. The status is 1 if something did.
 ///
 /// # Errors
 ///

@@ -75,7 +75,7 @@ Examples:
   swimwatch pull --key-file keys --dump web-1 > web-1.bin";
 
 pub(crate) const DIFF: &str = "\
-Shows which members are new, gone, or another way in the second than in the first. What a dump
+Shows which members are new, gone or changed in the second, compared with the first. What a dump
 does not tell is not compared.
 
 Examples:
