@@ -313,6 +313,7 @@ module _ {X : Type 0} where
               rooms = All-set HasRoom bs k c room i.vectors.rooms;
               empties = i.vectors.empties;
               places = omega (arith, long, i.vectors.places);
+              spare_places = omega (arith, long, i.vectors.spare_places);
               few = omega (arith, long, i.vectors.few);
             };
         each =

@@ -1,6 +1,6 @@
 -- The vectors of blocks, and the lists in them.
-use Rattle.std.proofs.Common.{◌≡◌, ℕ, ◌<◌, List, [], ◌∷◌, ◌++◌, length, get_or, set, take, drop, All, sym, ap, subst, ◌∙◌}
-use Rattle.std.specs.List.{insert}
+use Rattle.std.proofs.Common.{◌≡◌, ℕ, ◌<◌, List, [], ◌∷◌, ◌++◌, length, get_or, set, take, drop, suc, All, sym, ap, subst, ◌∙◌}
+use Rattle.std.specs.List.{insert, remove}
 use Rattle.std.proofs.lemmas.List.{map-set, get_or-map, map-append, take-map, drop-map, length-map}
 use Rattle.std.proofs.lemmas.List.Elements.{All-get_or}
 use Rattle.std.specs.declared.vec.Vec.{Vec}
@@ -19,6 +19,12 @@ module _ {X Z : Type 0} where
       map-append (λ (v : Vec X Z). v.items) (take i bs) (b ∷ drop i bs)
       ∙ ap (λ xs. xs ++ b.items ∷ shape (drop i bs)) (sym (take-map (λ (v : Vec X Z). v.items) i bs))
       ∙ ap (λ xs. take i (shape bs) ++ b.items ∷ xs) (sym (drop-map (λ (v : Vec X Z). v.items) i bs))
+
+  pub shape-remove : (bs : List (Vec X Z)) (i : ℕ) → shape (remove bs i) ≡ remove (shape bs) i
+  shape-remove bs i =
+      map-append (λ (v : Vec X Z). v.items) (take i bs) (drop (suc i) bs)
+      ∙ ap (λ xs. xs ++ shape (drop (suc i) bs)) (sym (take-map (λ (v : Vec X Z). v.items) i bs))
+      ∙ ap (λ xs. take i (shape bs) ++ xs) (sym (drop-map (λ (v : Vec X Z). v.items) (suc i) bs))
 
   pub block_good : (bs : List (Vec X Z)) (k : ℕ) (b : Vec X Z) → k < length bs → b ≡ get_or bs k b → All IsBlock (shape bs) → IsBlock b.items
   block_good bs k b h e a =

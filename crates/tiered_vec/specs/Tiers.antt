@@ -1,6 +1,6 @@
 -- What a vector in blocks is seen as.
 use Rattle.std.specs.Prelude.{◌≡◌, ℕ, zero, suc, ◌+◌, ◌-◌, ◌*◌, ◌/◌, ◌<◌, ◌≤◌, max, List, [], ◌∷◌, length, take, drop, slice_index_or, slice_set, All, Result, Ok, Err, refl}
-use Rattle.std.specs.List.{flat_map, insert}
+use Rattle.std.specs.List.{flat_map, insert, remove}
 use Rattle.std.specs.Coded.{Coded, code_by, coded×, coded_ℕ, coded_list}
 use Rattle.tiered_vec.specs.Place.{Position}
 
@@ -45,6 +45,10 @@ module _ {T : Type 0} where
   -- the blocks with an element put into one of them
   abbrev pub with_put : List (List T) → ℕ → ℕ → T → List (List T)
   with_put blocks k at x = slice_set blocks k (insert (block_at blocks k) at x)
+
+  -- the blocks with an element taken out of one of them
+  abbrev pub without : List (List T) → ℕ → ℕ → List (List T)
+  without blocks k at = slice_set blocks k (remove (block_at blocks k) at)
 
   -- the blocks with one cut in two
   abbrev pub cut : List (List T) → ℕ → List (List T)

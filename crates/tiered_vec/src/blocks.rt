@@ -1,9 +1,10 @@
 //! What is done to the vectors of a vector in blocks.
-ghost use Rattle.std.specs.Prelude.{◌≡◌, ◌+◌, ◌<◌, ◌≤◌, ◌++◌, ◌∷◌, [], All, max, length, take, drop, vec_capacity, OnOk, OnErr, IfOk, IsOk, MatchResult};
+ghost use Rattle.std.specs.Prelude.{◌≡◌, ◌+◌, ◌<◌, ◌≤◌, ◌++◌, ◌∷◌, [], All, max, length, take, drop, vec_capacity, slice_index_or, OnOk, OnErr, IfOk, IsOk, MatchResult};
 ghost use Rattle.std.specs.Fn.{ComputesKey};
+ghost use Rattle.std.specs.List.{remove};
 ghost use Rattle.std.specs.List.Sorted.{IsBinarySearchResult};
 ghost use Rattle.tiered_vec.specs.Sound.{shape, HasRoom, HasRooms};
-ghost use Rattle.tiered_vec.specs.Tiers.{IsBlock, IsGap, IsPlace, IsPlaceOf, IsOpened, block_size, half_size, cut_room, end_room, with_put, cut, block_at, flatten, index_of, index_result};
+ghost use Rattle.tiered_vec.specs.Tiers.{IsBlock, IsGap, IsPlace, IsPlaceOf, IsOpened, block_size, half_size, cut_room, end_room, with_put, without, cut, block_at, flatten, index_of, index_result};
 
 use crate::place::Place;
 use std::alloc::{AllocError, Global};
@@ -18,8 +19,8 @@ pub(crate) const HALF: usize = BLOCK / 2;
 /// The most blocks.
 const MOST: usize = 1 << 54;
 
-/// Makes empty blocks until there are n, with a place for each among the blocks. Where there are n
-/// it takes no memory.
+/// Makes empty blocks until there are n, with a place for each among the blocks, and for each block
+/// among the empty ones. Where there are n it takes no memory.
 ///
 /// # Errors
 ///
@@ -46,7 +47,7 @@ pub(crate) fn make_spares<T>(
         return Err(AllocError);
     }
     blocks.reserve(n)?;
-    spares.reserve(n - spares.len())?;
+    spares.reserve(n - spares.len() + blocks.len())?;
     while spares.len() < n {
         let block = Vec::with_capacity(alloc, BLOCK)?;
         spares.push_reserved(block);
@@ -117,6 +118,61 @@ pub(crate) fn put<T>(blocks: &mut Vec<Vec<T>>, block: usize, at: usize, x: T)
         Ok(()) => {}
         Err(_) => unreachable!(),
     }
+}
+
+/// Takes an element out of a block, which may leave it empty.
+pub(crate) fn take_from<T>(blocks: &mut Vec<Vec<T>>, block: usize, at: usize) -> T
+    requires rooms { All HasRoom blocks.old.items }
+    requires block { block < length blocks.old.items }
+    requires at { at < length (block_at (shape blocks.old.items) block) }
+    ensures value { result
+        ≡ slice_index_or (block_at (shape blocks.old.items) block) at result }
+    ensures rooms { All HasRoom blocks.new.items }
+    ensures len { length blocks.new.items ≡ length blocks.old.items }
+    ensures capacity { vec_capacity blocks.new ≡ vec_capacity blocks.old }
+    ensures shape { shape blocks.new.items ≡ without (shape blocks.old.items) block at }
+{
+    let block = &mut blocks[block];
+    block.remove(at)
+}
+
+/// Moves an empty block to the spare ones.
+pub(crate) fn spare_block<T>(blocks: &mut Vec<Vec<T>>, spares: &mut Vec<Vec<T>>, block: usize)
+    requires rooms { HasRooms blocks.old spares.old }
+    requires block { block < length blocks.old.items }
+    requires empty { block_at (shape blocks.old.items) block ≡ [] }
+    ensures rooms { HasRooms blocks.new spares.new }
+    ensures spares { length spares.new.items ≡ length spares.old.items + 1 }
+    ensures shape { shape blocks.new.items ≡ remove (shape blocks.old.items) block }
+{
+    let empty = blocks.remove(block);
+    spares.push_reserved(empty);
+}
+
+/// Takes the element at a place out of the blocks. A block that is then empty becomes a spare one.
+#[tactic(auto, unfolding(crate::specs::Tiers::index_of))]
+pub(crate) fn take_out<T>(blocks: &mut Vec<Vec<T>>, spares: &mut Vec<Vec<T>>, place: Place) -> T
+    requires rooms { HasRooms blocks.old spares.old }
+    requires each { All IsBlock (shape blocks.old.items) }
+    requires place { IsPlace (shape blocks.old.items) place }
+    ensures value { let old = shape blocks.old.items in
+        result ≡ slice_index_or (flatten old) (index_of old place) result }
+    ensures items { let old = shape blocks.old.items in
+        flatten (shape blocks.new.items) ≡ remove (flatten old) (index_of old place) }
+    ensures rooms { HasRooms blocks.new spares.new }
+    ensures each { All IsBlock (shape blocks.new.items) }
+    ensures spares { length spares.old.items ≤ length spares.new.items }
+    ensures room { cut_room (shape blocks.old.items) (length spares.old.items)
+        ≤ cut_room (shape blocks.new.items) (length spares.new.items) }
+    ensures end_room { end_room (shape blocks.old.items) (length spares.old.items)
+        ≤ end_room (shape blocks.new.items) (length spares.new.items) }
+{
+    let x = take_from(blocks, place.block, place.at);
+    if !blocks[place.block].is_empty() {
+        return x;
+    }
+    spare_block(blocks, spares, place.block);
+    x
 }
 
 /// Makes a place ready for an element: a full block there is cut first. Answers where the place is

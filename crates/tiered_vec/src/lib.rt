@@ -1,5 +1,5 @@
-//! A vector in blocks, in which an insertion in the middle is cheap: it moves the elements of one
-//! block. To its callers it is one list.
+//! A vector in blocks, in which an insertion or a removal in the middle is cheap: it moves the
+//! elements of one block. To its callers it is one list.
 //!
 //! | module | subject |
 //! |---|---|

@@ -2,7 +2,7 @@
 use std::marker::Model;
 
 /// Where an element is, or would go: in which block, and where in it. It is got from the list in
-/// which it is used, and holds until an insertion or a push there succeeds.
+/// which it is used, and holds until an insertion or a push there succeeds, or the next removal.
 #[derive(Clone, Copy, Debug)]
 pub struct Place {
     pub(crate) block: usize,

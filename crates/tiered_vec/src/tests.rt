@@ -70,6 +70,15 @@ fn push(
     Ok(())
 }
 
+/// Removes an element from both.
+fn remove(rt: &impl Abort, list: &mut TieredVec<u32>, model: &mut Vec<u32>, side: u8) {
+    assert_eq!(rt; list.len(), model.len());
+    assert!(rt; model.len() > 0);
+    let at = spot(side, model.len() - 1);
+    let place = list.place(at);
+    assert_eq!(rt; list.remove_at(place), model.remove(at), "at {at}");
+}
+
 /// Adds an element for which there is room. The README shows this caller and the next.
 fn push_in_room(list: &mut TieredVec<u32>, x: u32)
     requires { 0 < tail_room list.old }
@@ -115,6 +124,65 @@ fn pushes_are_those_of_a_plain_vector(rt: HostRuntime) -> Result<(), Fail> {
         push(&rt, &mut list, &mut model, x)?;
     }
     assert_same(&rt, &list, &model);
+    Ok(())
+}
+
+/// How many numbers from 0 on a list has, and which is removed: the only one, the first, the last,
+/// and those at the borders of the first block.
+const REMOVED: [(u32, u32); 9] = [
+    (1, 0),
+    (2, 0),
+    (2, 1),
+    (129, 0),
+    (129, 64),
+    (129, 127),
+    (129, 128),
+    (300, 127),
+    (300, 128),
+];
+
+#[test]
+fn a_removed_element_is_given_back_and_the_others_stay(rt: HostRuntime) -> Result<(), Fail> {
+    for (len, x) in REMOVED {
+        let mut list = TieredVec::new(rt.alloc());
+        for y in 0..len {
+            list.push(y)?;
+        }
+        let at = x as usize;
+        assert!(rt; at < list.len());
+        assert_eq!(rt; list.remove_at(list.place(at)), x);
+        let mut rest = list.into_iter();
+        for y in 0..len {
+            if y != x {
+                assert_eq!(rt; rest.next(), Some(y), "of {len} without {x}");
+            }
+        }
+        assert_eq!(rt; rest.next(), None);
+    }
+    Ok(())
+}
+
+/// Two thousand elements fill sixteen blocks at least, which take two thousand again.
+#[test]
+fn elements_removed_down_to_none_leave_room_for_as_many(rt: HostRuntime) -> Result<(), Fail> {
+    for side in [0, 1, 2] {
+        let mut model = Vec::with_capacity(rt.alloc(), 2000)?;
+        let mut list = TieredVec::new(rt.alloc());
+        for x in 0..2000 {
+            insert(&rt, &mut list, &mut model, side, x)?;
+        }
+        for count in [1, 999, 1000] {
+            for _ in 0..count {
+                remove(&rt, &mut list, &mut model, side);
+            }
+            assert_same(&rt, &list, &model);
+        }
+        for x in 0..2000 {
+            assert!(rt; list.push(x).is_ok(), "at {x}");
+            model.push(x)?;
+        }
+        assert_same(&rt, &list, &model);
+    }
     Ok(())
 }
 

@@ -1,7 +1,7 @@
 //! A vector in blocks: what its callers see.
 ghost use Rattle.std.specs.declared.alloc.Global.{Global};
 ghost use Rattle.std.specs.Prelude.{◌≡◌, ◌+◌, ◌-◌, ◌/◌, ◌<◌, ◌≤◌, ◌^◌, ◌↔◌, ◌++◌, ◌∷◌, [], IsTrue, IsOk, IfOk, IfErr, OnOk, OnErr, MatchResult, slice_get, slice_set, length, min, max, slice_index_or};
-ghost use Rattle.std.specs.List.{insert};
+ghost use Rattle.std.specs.List.{insert, remove};
 ghost use Rattle.std.specs.Option.{option_copied};
 ghost use Rattle.std.specs.List.Sorted.{IsBinarySearchResult};
 ghost use Rattle.std.specs.Fn.{ComputesKey};
@@ -9,6 +9,7 @@ ghost use Rattle.tiered_vec.specs.Tiers.{block_size, half_size, items, room, tai
 
 use crate::blocks::{
     BLOCK, HALF, end_of, find_among, make_spares, open, open_end, place_after, place_of, put,
+    take_out,
 };
 use crate::iter::{IntoIter, Iter};
 use crate::place::Place;
@@ -16,11 +17,11 @@ use std::alloc::{AllocError, AllocFailed, Global};
 use std::cmp::Ordering;
 use std::marker::Model;
 
-/// A list of elements, kept in blocks of bounded size, so that an insertion in the middle moves the
-/// elements of one block and not all that follow (own).
+/// A list of elements, kept in blocks of bounded size, so that an insertion or a removal in the
+/// middle moves the elements of one block and not all that follow (own).
 ///
 /// An element is reached by its `Place`, or by how many stand before it. A place holds until the
-/// next insertion or push that succeeds.
+/// next insertion or push that succeeds, or the next removal.
 #[derive(Drop, Debug)]
 pub struct TieredVec<T> {
     alloc: Global,
@@ -136,6 +137,23 @@ impl<T> TieredVec<T> {
             }
             Err(_) => Err(AllocFailed { value: x }),
         }
+    }
+
+    /// Removes the element at a place and gives it back. Each element after it then stands one
+    /// earlier. This takes no memory. At most one block of elements is moved. A block that is then
+    /// empty is kept as a spare one, and three words are moved for each block that followed it.
+    #[tactic(auto, unfolding(crate::specs::Tiers::room, crate::specs::Tiers::tail_room))]
+    pub fn remove_at(&mut self, place: Place) -> T
+        requires { IsPlace self.old.blocks place }
+        ensures value { result
+            ≡ slice_index_or (items self.old) (index_of self.old.blocks place) result }
+        ensures items { items self.new ≡ remove (items self.old) (index_of self.old.blocks place) }
+        ensures room { room self.old ≤ room self.new }
+        ensures tail_room { tail_room self.old ≤ tail_room self.new }
+    {
+        let x = take_out(&mut self.blocks, &mut self.spares, place);
+        self.len -= 1;
+        x
     }
 
     /// The list of no elements, to which n can be pushed with no more memory.

@@ -1,4 +1,4 @@
-use Rattle.std.proofs.Common.{◌-◌, ◌≤◌, length, vec_capacity, All}
+use Rattle.std.proofs.Common.{◌+◌, ◌-◌, ◌≤◌, length, vec_capacity, All}
 use Rattle.tiered_vec.specs.Sound.{IsSpare}
 use Rattle.tiered_vec.proofs.blocks.make_spares.Given as goal
 
@@ -6,7 +6,7 @@ abbrev pub invariant-loop-alloc : goal.invariant-loop-alloc
 invariant-loop-alloc g l = record {
   empties : All IsSpare l.spares.items;
   more : length l.fn.spares.items ≤ length l.spares.items;
-  room : l.n ≤ vec_capacity l.spares;
+  room : length l.fn.blocks.items + l.n ≤ vec_capacity l.spares;
   few : length l.spares.items ≤ l.n;
 }
 

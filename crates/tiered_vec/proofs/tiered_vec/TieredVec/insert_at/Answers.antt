@@ -29,6 +29,7 @@ invariant_of-self g c =
             rooms = c.put.ensures.rooms;
             empties = rooms.empties;
             places = omega (arith, c.put.ensures.len, c.put.ensures.capacity, rooms.places);
+            spare_places = omega (arith, c.put.ensures.len, rooms.spare_places);
             few = omega (arith, c.put.ensures.len, rooms.few);
           };
       each = subst (All IsBlock) (sym c.put.ensures.shape) (put_each s t (index_of s c.args.place) p c.args.x o);
