@@ -13,7 +13,7 @@ ghost use Rattle.swim_table.specs.Join.{Join};
 ghost use Rattle.swim_table.specs.Lending.{LendsTable};
 ghost use Rattle.swim_table.specs.Node.{SameMember};
 ghost use Rattle.swim_table.specs.Refuting.{IsAtRest, IsDueInRange, IsExhausted, IsGone, IsRefutedBy, IsWordOf};
-ghost use Rattle.swim_table.specs.Table.{get, TableOf, Reduced, IsLegalTable};
+ghost use Rattle.swim_table.specs.Table.{get, TableOf, Reduced, IsLegalTable, about_others};
 ghost use Rattle.swim_wire.specs.Packet.{PacketValue};
 ghost use Rattle.swim_wire.specs.PacketList.{claims_in};
 ghost use Rattle.swim_wire.specs.declared.datagram.Datagram.TheVariants.{Packet};
@@ -195,6 +195,24 @@ impl Node {
         ensures member { SameMember self.old self.new }
     {
         self.table.join_in(room, other);
+    }
+
+    /// Forgets a name, and answers whether the member's table had an entry of it. The table is then
+    /// that of the claims taken in about other names. This takes no memory.
+    ///
+    /// If the name is the member's own, its own claims go too. No refutation is due then, until the
+    /// table takes in a claim about the member again.
+    pub fn forget(&mut self, name: &[u8]) -> bool
+        ensures kept { TableOf self.new.table (about_others name.now (Reduced self.old.table)) }
+        ensures all { (claims : List Claim) → TableOf self.old.table claims
+            → TableOf self.new.table (about_others name.now claims) }
+
+        ensures had { IsTrue result ↔ IsSome (get self.old.table name.now) }
+        ensures absent { get self.old.table name.now ≡ None → self.new.table ≡ self.old.table }
+
+        ensures member { SameMember self.old self.new }
+    {
+        self.table.forget(name)
     }
 
     /// Refutes what others say of the member (SWIM paper, section 4.2: a suspected member answers

@@ -46,6 +46,7 @@ macro_rules! leave {
 
 mod datagrams;
 mod dumps;
+mod forgetting;
 mod many;
 mod node;
 mod pieces;

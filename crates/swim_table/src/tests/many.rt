@@ -1,7 +1,7 @@
 //! Tables of many names, for which memory is there.
 
 use super::dumps::dump;
-use super::{assert_count, suspicion};
+use super::{assert_count, assert_that, suspicion};
 use crate::{Room, Table, list, read_dump};
 use std::alloc::{AllocError, Global};
 use std::process::Abort;
@@ -118,6 +118,22 @@ fn a_table_of_one_name_is_joined_into_one_of_many(rt: HostRuntime) -> Result<(),
     }
     assert_count(&rt, table.len(), 301, "names");
     Ok(())
+}
+
+/// Forgets the names that were taken in, from the number 0 on.
+fn forget(rt: &impl Abort, table: &mut Table) {
+    for number in 0u32..300 {
+        assert_that(rt, table.forget(&number.to_be_bytes()), "an entry");
+    }
+}
+
+#[test]
+fn three_hundred_names_are_forgotten_and_taken_in_again(rt: HostRuntime) -> Result<(), AllocError> {
+    let mut table = table(&rt, rt.alloc(), 0)?;
+    forget(&rt, &mut table);
+    assert_that(&rt, table.is_empty(), "no names");
+    take(&rt, rt.alloc(), &mut table, 0)?;
+    assert_shown(&rt, rt.alloc(), &table)
 }
 
 /// What the table holds is sized by the claims, and so is the room that is asked for them.

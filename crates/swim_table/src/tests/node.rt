@@ -20,7 +20,7 @@ fn start_once(rt: &impl Abort, alloc: Global) -> Result<Option<Node>, AllocError
 }
 
 /// A node `a` at incarnation 3, made at the second try where memory is refused.
-fn start(rt: &impl Abort, alloc: Global) -> Result<Node, AllocError> {
+pub(super) fn start(rt: &impl Abort, alloc: Global) -> Result<Node, AllocError> {
     match start_once(rt, alloc)? {
         Some(node) => Ok(node),
         None => Ok(start_once(rt, alloc)?.expect(rt, "the second try")),
@@ -28,7 +28,7 @@ fn start(rt: &impl Abort, alloc: Global) -> Result<Node, AllocError> {
 }
 
 /// Asserts that the node is still `a` with its own address and port.
-fn assert_member(rt: &impl Abort, node: &Node) {
+pub(super) fn assert_member(rt: &impl Abort, node: &Node) {
     let details = node.details();
     let same = node.name().bytes() == b"a".as_slice()
         && details.addr() == LOOPBACK
@@ -94,9 +94,9 @@ fn assert_turns(
 }
 
 /// How a node starts, and what it has heard of `b` then.
-const START: &str = "a alive 3 3/7f000001/7946//\n";
+pub(super) const START: &str = "a alive 3 3/7f000001/7946//\n";
 
-const HEARD: &str = "a alive 3 3/7f000001/7946//\nb suspect 1 -\n";
+pub(super) const HEARD: &str = "a alive 3 3/7f000001/7946//\nb suspect 1 -\n";
 
 /// The turns of some nodes, each from its start.
 const TURNS: &[&[Turn]] = &[
