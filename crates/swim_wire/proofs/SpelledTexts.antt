@@ -1,13 +1,14 @@
 -- The canonical bytes of messages are texts of them.
 use Rattle.std.proofs.Common.{◌≡◌, ◌≢◌, ℕ, ◌<◌, ◌≤◌, ◌^◌, Bool, List, [], length, Some, codes, refl, ap, inl, inr, lit<, lit≤, arith}
+use Rattle.std.specs.Option.{unwrap_or}
 use Rattle.swim_claim.specs.declared.claim.Claim.{Claim}
 use Rattle.swim_claim.specs.declared.claim.Claim.TheVariants.{Alive, Suspect, Confirm, Leave}
-use Rattle.swim_claim.specs.Claim.{IsLegalClaim}
+use Rattle.swim_claim.specs.Claim.{details_of, IsLegalClaim}
 use Rattle.swim_claim.specs.Details.{DetailsValue, IsLegalDetails}
 use Rattle.swim_claim.specs.Name.{IsLegalName}
 use Rattle.swim_wire.specs.declared.layout.Limit.TheVariants as limits
 use Rattle.swim_wire.specs.declared.stream.Header.{Header}
-use Rattle.swim_wire.specs.Canonical.{claim_bytes, packet_bytes, header_bytes, record_bytes, state_bytes, no_details}
+use Rattle.swim_wire.specs.Canonical.{claim_bytes, packet_bytes, header_bytes, record_bytes, state_bytes, state_bytes_with, no_details}
 use Rattle.swim_wire.specs.Layout.{Layout, MapText, of_key, alive_layout, accusation_layout, header_layout, state_layout}
 use Rattle.swim_wire.specs.Layout.Spelled.{number, raw, flag}
 use Rattle.swim_wire.specs.Packet.{PacketValue, IsLegalPacket}
@@ -60,13 +61,13 @@ HeaderText-canonical h few short = record {
 -- ---- state records
 
 -- the parts of details are within their limits
-record Fits (details : DetailsValue) : Type 0 where
+pub record Fits (details : DetailsValue) : Type 0 where
   addr : length details.addr ≤ 16
   port : details.port ≤ 0xffff
   meta : length details.meta ≤ 512
   vsn : length details.vsn ≤ 6
 
-Fits-legal : (details : DetailsValue) → IsLegalDetails details → Fits details
+pub Fits-legal : (details : DetailsValue) → IsLegalDetails details → Fits details
 Fits-legal details legal = record {
   addr = elim legal.addr [ inl is ↦ omega arith | inr is ↦ omega arith ];
   port = omega (arith, legal.port);
@@ -74,7 +75,7 @@ Fits-legal details legal = record {
   vsn = elim legal.vsn [ inl is ↦ omega arith | inr is ↦ omega arith ];
 }
 
-Fits-none : Fits no_details
+pub Fits-none : Fits no_details
 Fits-none = record { addr = lit≤ tt; port = lit≤ tt; meta = lit≤ tt; vsn = lit≤ tt }
 
 record_map : (name : List ℕ) (inc state : ℕ) (details : DetailsValue) → length name ≤ 1024 → inc < 2 ^ 32 → state < 4 → Fits details
@@ -126,6 +127,20 @@ StateText-canonical (Alive name inc details) legal =
 StateText-canonical (Suspect name inc) legal = state_text _ name inc 1 no_details legal.name legal.inc (lit< tt) Fits-none (states.suspect refl refl)
 StateText-canonical (Confirm name inc) legal = state_text _ name inc 2 no_details legal.name legal.inc (lit< tt) Fits-none (states.confirm refl refl)
 StateText-canonical (Leave name inc) legal = state_text _ name inc 3 no_details legal.name legal.inc (lit< tt) Fits-none (states.leave refl refl)
+
+-- a record beside these details, of which the claim's own go first
+pub StateText-with : (details : DetailsValue) (c : Claim) → IsLegalClaim c → Fits (unwrap_or (details_of c) details) → StateText
+    (state_bytes_with details c) c
+StateText-with details (Alive name inc own) legal fits = StateText-canonical (Alive name inc own) legal
+StateText-with details (Suspect name inc) legal fits = state_text _ name inc 1 details legal.name legal.inc (lit< tt) fits (states.suspect refl refl)
+StateText-with details (Confirm name inc) legal fits = state_text _ name inc 2 details legal.name legal.inc (lit< tt) fits (states.confirm refl refl)
+StateText-with details (Leave name inc) legal fits = state_text _ name inc 3 details legal.name legal.inc (lit< tt) fits (states.leave refl refl)
+
+pub StateText-beside : (c : Claim) (details : DetailsValue) → IsLegalClaim c → Fits details → StateText (state_bytes_with details c) c
+StateText-beside (Alive name inc own) details legal fits = StateText-canonical (Alive name inc own) legal
+StateText-beside (Suspect name inc) details legal fits = StateText-with details (Suspect name inc) legal fits
+StateText-beside (Confirm name inc) details legal fits = StateText-with details (Confirm name inc) legal fits
+StateText-beside (Leave name inc) details legal fits = StateText-with details (Leave name inc) legal fits
 
 -- ---- packets
 

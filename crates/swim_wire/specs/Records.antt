@@ -1,7 +1,8 @@
 -- State records by what facts tell of a member.
 use Rattle.std.specs.Prelude.{ℕ, ◌≤◌, List, length}
-use Rattle.std.specs.Option.{option_copied}
+use Rattle.std.specs.Option.{option_copied, unwrap_or}
 use Rattle.swim_claim.specs.declared.claim.Facts.{Facts}
+use Rattle.swim_claim.specs.Details.{DetailsValue}
 use Rattle.swim_claim.specs.Limits.{longest_name, longest_meta}
 use Rattle.swim_wire.specs.declared.canonical.records.Record.{Record}
 use Rattle.swim_wire.specs.Canonical.{record_bytes}
@@ -12,6 +13,12 @@ abbrev pub facts_bytes : List ℕ → Facts → List ℕ
 facts_bytes name facts =
     record_bytes name facts.inc (state_number facts.kind)
     (details_or_none (option_copied facts.details))
+
+-- the same, with these details where the facts tell none
+abbrev pub facts_bytes_with : DetailsValue → List ℕ → Facts → List ℕ
+facts_bytes_with details name facts =
+    record_bytes name facts.inc (state_number facts.kind)
+    (unwrap_or (option_copied facts.details) details)
 
 -- the bytes of a record that the code writes
 abbrev pub bytes_of : Record → List ℕ

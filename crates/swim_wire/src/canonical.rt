@@ -14,7 +14,9 @@ ghost use Rattle.swim_wire.specs.Packet.{IsLegalPacket};
 ghost use Rattle.swim_wire.specs.Texts.{PacketText, HeaderText, StateText, DatagramText};
 
 use crate::canonical::pairs::{Written, write_message};
-pub use crate::canonical::records::{header_len, put_header, put_state, state_len};
+pub use crate::canonical::records::{
+    header_len, put_header, put_state, put_state_with_details, state_len, state_with_details_len,
+};
 use crate::layout::Key;
 use crate::message::{ALIVE_MESSAGE, COMPOUND_MESSAGE, DEAD_MESSAGE, SUSPECT_MESSAGE};
 use crate::packet::Packet;

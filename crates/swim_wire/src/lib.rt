@@ -33,8 +33,8 @@ mod stream_law;
 mod user_state;
 
 pub use canonical::{
-    encode_compound, encode_packet, header_len, put_header, put_state, state_len, write_header,
-    write_state,
+    encode_compound, encode_packet, header_len, put_header, put_state, put_state_with_details,
+    state_len, state_with_details_len, write_header, write_state,
 };
 pub use claimless::{Claimless, decode_claimless};
 pub use compression::decode_compression;

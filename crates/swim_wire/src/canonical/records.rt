@@ -1,17 +1,20 @@
 //! The header and the records of a stream, into room that is there, and how long they are.
 
-ghost use Rattle.std.specs.Prelude.{◌≡◌, ◌+◌, ◌^◌, ◌<◌, ◌≤◌, ◌++◌, take, length};
+ghost use Rattle.std.specs.Prelude.{◌≡◌, ◌+◌, ◌^◌, ◌<◌, ◌≤◌, ◌++◌, take, length, unwrap_or};
+ghost use Rattle.std.specs.Option.{option_copied};
 ghost use Rattle.swim_claim.specs.declared.claim.Claim.{Claim};
 ghost use Rattle.swim_claim.specs.Claim.{name_of, HasFacts, IsLegalClaim, IsLegalFacts};
-ghost use Rattle.swim_wire.specs.Canonical.{header_bytes, state_bytes, number_pair, raw_pair};
+ghost use Rattle.swim_claim.specs.Details.{IsLegalDetails};
+ghost use Rattle.swim_wire.specs.Canonical.{header_bytes, state_bytes, state_bytes_with, number_pair, raw_pair};
 ghost use Rattle.swim_wire.specs.Pairs.{state_number};
-ghost use Rattle.swim_wire.specs.Records.{facts_bytes, bytes_of, IsShortRecord};
+ghost use Rattle.swim_wire.specs.Records.{facts_bytes, facts_bytes_with, bytes_of, IsShortRecord};
 ghost use Rattle.swim_wire.specs.Slots.{key_text};
+ghost use Rattle.swim_wire.specs.Texts.{StateText};
 
 use crate::layout::Key;
 use crate::message::PUSH_PULL_MESSAGE;
 use crate::stream::Header;
-use swim_claim::{Facts, Kind, Name};
+use swim_claim::{Details, Facts, Kind, Name};
 use swim_pack::{put_bool, put_bytes, put_map_len, put_raw, put_uint, raw_len, uint_len};
 
 /// How many bytes the header of a push/pull stream has.
@@ -67,6 +70,46 @@ pub fn put_state<'a>(out: &mut [u8], at: usize, name: &'a Name, facts: Facts<'a>
     put_record(out, at, &Record::of(name, facts))
 }
 
+/// How many bytes the state record has that [`put_state_with_details`] writes. It is a condition
+/// that the facts have details exactly for an Alive.
+#[inline(always)]
+pub fn state_with_details_len<'a>(name: &'a Name, facts: Facts<'a>, details: &'a Details) -> usize
+    requires { IsLegalFacts facts }
+    ensures len { (c : Claim) → name_of c ≡ name.now → HasFacts c facts.entry
+        → result ≡ length (state_bytes_with details.now c) }
+    ensures told { result ≡ length (facts_bytes_with details.now name.now facts.entry) }
+    ensures small { result < 2 ^ 16 }
+{
+    record_len(&Record::with(name, facts, details))
+}
+
+/// Writes the state record of the claim that the facts make about a member into room that is there,
+/// with these details where the claim has none of its own. Answers the place behind it.
+///
+/// memberlist refuses a stream of which one record has no versions; a record of a Suspect, Confirm
+/// or Leave has them here. Its details are no part of the claim, and readers pass over them. It is
+/// a condition that the facts have details exactly for an Alive.
+#[inline(always)]
+pub fn put_state_with_details<'a>(
+    out: &mut [u8],
+    at: usize,
+    name: &'a Name,
+    facts: Facts<'a>,
+    details: &'a Details,
+) -> usize
+    requires legal { IsLegalFacts facts }
+    requires room { at + length (facts_bytes_with details.now name.now facts) ≤ length out.old }
+    ensures end { result ≡ at + length (facts_bytes_with details.now name.now facts.entry) }
+    ensures put { take result out.new
+        ≡ take at out.old ++ facts_bytes_with details.now name.now facts.entry }
+    ensures state { (c : Claim) → name_of c ≡ name.now → HasFacts c facts.entry
+        → facts_bytes_with details.now name.now facts.entry ≡ state_bytes_with details.now c }
+    ensures text { (c : Claim) → name_of c ≡ name.now → HasFacts c facts.entry
+        → StateText (state_bytes_with details.now c) c }
+{
+    put_record(out, at, &Record::with(name, facts, details))
+}
+
 /// What a state record says. All parts of the details are empty where there are none.
 #[derive(Drop)]
 struct Record<'a> {
@@ -88,15 +131,7 @@ impl<'a> Record<'a> {
             → IsLegalClaim c }
     {
         match facts.details {
-            Some(details) => Record {
-                name: name.bytes(),
-                inc: facts.inc,
-                state: state_of(facts.kind),
-                addr: details.addr(),
-                port: details.port(),
-                meta: details.meta(),
-                vsn: details.vsn(),
-            },
+            Some(details) => Record::with(name, facts, details),
             None => Record {
                 name: name.bytes(),
                 inc: facts.inc,
@@ -106,6 +141,27 @@ impl<'a> Record<'a> {
                 meta: &[],
                 vsn: &[],
             },
+        }
+    }
+
+    /// With these details, where the facts have none.
+    #[inline(always)]
+    fn with(name: &'a Name, facts: Facts<'a>, details: &'a Details) -> Record<'a>
+        ensures told { bytes_of result ≡ facts_bytes_with details.now name.now facts.entry }
+        ensures short { IsShortRecord result }
+        ensures details { IsLegalDetails (unwrap_or (option_copied facts.entry.details) details.now) }
+        ensures legal { (c : Claim) → name_of c ≡ name.now → HasFacts c facts.entry
+            → IsLegalClaim c }
+    {
+        let details = facts.details.unwrap_or(details);
+        Record {
+            name: name.bytes(),
+            inc: facts.inc,
+            state: state_of(facts.kind),
+            addr: details.addr(),
+            port: details.port(),
+            meta: details.meta(),
+            vsn: details.vsn(),
         }
     }
 }

@@ -1,15 +1,16 @@
 //! Messages by their canonical bytes.
 
 use super::datagrams::{BOTH, greatest_compound};
-use super::{ALIVE, CONFIRM, LEAVE, SUSPECT, assert_written};
+use super::{ALIVE, CONFIRM, LEAVE, SUSPECT, assert_claim, assert_written};
 use crate::{
-    Header, Packet, decode_datagram, decode_packet, encode_compound, encode_packet, write_header,
-    write_state,
+    Header, Packet, decode_datagram, decode_packet, encode_compound, encode_packet,
+    put_state_with_details, read_state, state_with_details_len, write_header, write_state,
 };
 use std::alloc::{AllocError, Global};
 use std::process::Abort;
 use std::test::Fail;
-use swim_claim::Claim;
+use swim_claim::{Claim, Details, Kind};
+use swim_pack::SliceInlet;
 
 /// `ALIVE` in other forms and another order, where Meta is nil and Vsn is absent.
 pub(crate) const OTHER_ALIVE: &[u8] =
@@ -153,6 +154,60 @@ fn a_state_record_has_the_state_and_the_details_of_its_claim(rt: HostRuntime) ->
         (LEAVE_OF_C, leave),
     ] {
         assert_written(&rt, record_of(rt.alloc(), packet)?, record);
+    }
+    Ok(())
+}
+
+/// The details of 127.0.0.1 and port 7946, the metadata `m` and memberlist's versions.
+fn details(rt: &impl Abort, alloc: Global) -> Result<Details, AllocError> {
+    let meta = vec![in alloc; b'm'; 1]?;
+    Ok(Details::of(b"\x7f\0\0\x01", 7946, meta, b"\x01\x05\x02\0\0\0").expect(rt, "legal details"))
+}
+
+/// The record of the claim beside the details.
+fn record_with(alloc: Global, claim: &Claim, details: &Details) -> Result<Vec<u8>, AllocError> {
+    let len = state_with_details_len(claim.name(), claim.facts(), details);
+    let mut out = vec![in alloc; 0; len]?;
+    put_state_with_details(&mut out, 0, claim.name(), claim.facts(), details);
+    Ok(out)
+}
+
+/// Asserts that the packet's claim has this record beside the details, which is read back as the
+/// claim.
+fn assert_record_with(
+    rt: &impl Abort,
+    alloc: Global,
+    packet: &[u8],
+    kind: Kind,
+    wanted: &[u8],
+) -> Result<(), Fail> {
+    let packet = decode_packet(alloc, packet)?;
+    let claim = packet.claim();
+    assert_written(rt, record_with(alloc, claim, &details(rt, alloc)?)?, wanted);
+    let read = read_state(alloc, &mut SliceInlet::new(wanted))?;
+    assert_claim(rt, &read, kind, claim.name().bytes(), claim.inc());
+    Ok(())
+}
+
+#[test]
+fn a_state_record_has_the_details_beside_a_claim_without_its_own(
+    rt: HostRuntime,
+) -> Result<(), Fail> {
+    let alive =
+        b"\x87\xa4Addr\xa4\x7f\0\0\x01\xabIncarnation\0\xa4Meta\xa0\xa4Name\xa1a\xa4Port\xcd\x1f\x0a\xa5State\0\xa3Vsn\xa0";
+    let suspect =
+        b"\x87\xa4Addr\xa4\x7f\0\0\x01\xabIncarnation\x01\xa4Meta\xa1m\xa4Name\xa1b\xa4Port\xcd\x1f\x0a\xa5State\x01\xa3Vsn\xa6\x01\x05\x02\0\0\0";
+    let confirm =
+        b"\x87\xa4Addr\xa4\x7f\0\0\x01\xabIncarnation\0\xa4Meta\xa1m\xa4Name\xa1a\xa4Port\xcd\x1f\x0a\xa5State\x02\xa3Vsn\xa6\x01\x05\x02\0\0\0";
+    let leave =
+        b"\x87\xa4Addr\xa4\x7f\0\0\x01\xabIncarnation\x03\xa4Meta\xa1m\xa4Name\xa1c\xa4Port\xcd\x1f\x0a\xa5State\x03\xa3Vsn\xa6\x01\x05\x02\0\0\0";
+    for (packet, kind, record) in [
+        (ALIVE, Kind::Alive, alive.as_slice()),
+        (SUSPECT, Kind::Suspect, suspect),
+        (CONFIRM, Kind::Confirm, confirm),
+        (LEAVE_OF_C, Kind::Leave, leave),
+    ] {
+        assert_record_with(&rt, rt.alloc(), packet, kind, record)?;
     }
     Ok(())
 }
