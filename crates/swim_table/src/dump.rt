@@ -77,7 +77,7 @@ pub fn encode_into(table: &Table, join: bool, out: &mut [u8])
 }
 
 /// The header of a dump of so many records.
-fn dump_header(nodes: u32, join: bool) -> Header
+pub(crate) fn dump_header(nodes: u32, join: bool) -> Header
     ensures { result ≡ record { nodes = nodes; user_len = 0; join = join } }
 {
     Header {

@@ -48,6 +48,7 @@ mod datagrams;
 mod dumps;
 mod forgetting;
 mod many;
+mod memberlist_dumps;
 mod node;
 mod pieces;
 mod plain;

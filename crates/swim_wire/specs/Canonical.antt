@@ -71,8 +71,8 @@ state_bytes (Suspect name inc) = record_bytes name inc 1 no_details
 state_bytes (Confirm name inc) = record_bytes name inc 2 no_details
 state_bytes (Leave name inc) = record_bytes name inc 3 no_details
 
--- the state record of a claim beside these details, which memberlist asks of each record: an Alive
--- has its own, and every other claim these
+-- the state record of a claim with these details, of which memberlist asks the versions of each
+-- record; an Alive has its own
 abbrev pub state_bytes_with : DetailsValue → Claim → List ℕ
 state_bytes_with details (Alive name inc own) = record_bytes name inc 0 own
 state_bytes_with details (Suspect name inc) = record_bytes name inc 1 details

@@ -2,7 +2,9 @@
 
 use super::streams::{ALIVE, SUSPECT, SUSPECTED, reads_back};
 use super::{LOOPBACK, Saying, assert_bytes, assert_that, suspicion, table_of};
-use crate::{EncodeFault, Relation, Table, dump_len, encode, encode_into, list};
+use crate::{
+    EncodeFault, Relation, Table, dump_len, encode, encode_into, list, memberlist_dump_len,
+};
 use std::alloc::{AllocError, Global};
 use std::process::Abort;
 use swim_claim::Kind;
@@ -41,7 +43,7 @@ const DUMPS: &[(&[Saying], bool, &[u8])] = &[
     ),
 ];
 
-fn assert_memory(rt: &impl Abort, fault: EncodeFault) {
+pub(super) fn assert_memory(rt: &impl Abort, fault: EncodeFault) {
     let memory = fault == EncodeFault::Memory && fault.number() == 10;
     assert_that(rt, memory, "want of memory is told");
 }
@@ -156,6 +158,9 @@ fn assert_too_many(rt: &impl Abort, alloc: Global, table: &Table) {
         unmeasured == Some(EncodeFault::TooManyRecords),
         "no length",
     );
+    // none of its names has a home
+    let without_homes = memberlist_dump_len(table, false).ok();
+    assert_that(rt, without_homes == Some(NO_RECORDS.len()), "no homes");
     assert_that(rt, list(alloc, table).is_ok(), "a listing");
 }
 

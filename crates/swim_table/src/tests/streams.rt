@@ -40,7 +40,7 @@ const JOIN: &[u8] = b"\x06\x81\xa4Join\xc3";
 const STATE_4: &[u8] = b"\x06\x81\xa5Nodes\x01\x82\xa4Name\xa1d\xa5State\x04";
 
 /// Reads the dump. Where memory is refused the repeat reads it.
-fn read(alloc: Global, bytes: &[u8]) -> Result<(Table, bool), WireFault> {
+pub(super) fn read(alloc: Global, bytes: &[u8]) -> Result<(Table, bool), WireFault> {
     match read_dump(alloc, bytes) {
         Err(WireFault::Memory) => read_dump(alloc, bytes),
         answer => answer,
@@ -120,7 +120,7 @@ fn assert_refused(rt: &impl Abort, alloc: Global, bytes: &[u8], cause: WireFault
 }
 
 /// Asserts that the bytes are a dump of this table and this flag.
-fn assert_dump(
+pub(super) fn assert_dump(
     rt: &impl Abort,
     alloc: Global,
     bytes: &[u8],

@@ -1,0 +1,10 @@
+use Rattle.std.proofs.Common.{◌≡◌, ◌+◌, ◌++◌, length, take}
+use Rattle.std.specs.List.{flat_map}
+use Rattle.swim_table.specs.MemberlistDump.{entry_bytes}
+use Rattle.swim_table.proofs.memberlist_dump.encode_memberlist_into.Given as goal
+
+abbrev pub invariant-loop-entry : goal.invariant-loop-entry
+invariant-loop-entry l = record {
+  put : take l.at l.out ++ flat_map entry_bytes l.entry-iterator ≡ take l.initial.at l.initial.out ++ flat_map entry_bytes l.fn.table;
+  place : l.at + length (flat_map entry_bytes l.entry-iterator) ≡ l.initial.at + length (flat_map entry_bytes l.fn.table);
+}
