@@ -8,10 +8,10 @@ ghost use Rattle.swim_table.specs.Fault.{encode_number, refute_number};
 use std::alloc::AllocError;
 use thiserror::Error;
 
-/// Why a table has no canonical dump. Each has a number, by which reports name it.
+/// Why a table has no dump. Each has a number, by which reports name it.
 #[derive(Clone, Copy, Debug, PartialEq, Eq, Error)]
 pub enum EncodeFault {
-    /// The table keeps more than 131,072 records (own).
+    /// The dump would have more than 131,072 records (own).
     #[error("the table has more than 131,072 records")]
     TooManyRecords,
     /// A growth of memory was refused.
