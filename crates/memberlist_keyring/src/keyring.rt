@@ -1,8 +1,9 @@
 //! A cluster's keys.
 
-ghost use Rattle.std.specs.Prelude.{◌≡◌, ◌≢◌, ◌++◌, ℕ, List, [], MatchBool, IfOk, IfErr, IsErrOf, OnOk, OnErr};
+ghost use Rattle.std.specs.Prelude.{◌≡◌, ◌≢◌, ◌∷◌, ◌++◌, ℕ, List, [], MatchBool, IfOk, IfErr, IsErrOf, OnOk, OnErr};
 ghost use Rattle.memberlist_cipher.specs.declared.fault.CipherFault.TheVariants.{Memory as CipherMemory};
-ghost use Rattle.memberlist_cipher.specs.Refusal.{PacketCause, StreamCause};
+ghost use Rattle.memberlist_cipher.specs.Encryption.{IsKey};
+ghost use Rattle.memberlist_cipher.specs.Refusal.{KeyCause, PacketCause, StreamCause};
 ghost use Rattle.memberlist_keyring.specs.Cutting.{IsRefused, AsksMemory};
 ghost use Rattle.memberlist_keyring.specs.KeyFile.{IsKeyFile, KeyFileCause};
 ghost use Rattle.memberlist_keyring.specs.Opening.{Opens, OpensStream, OpensFirst, OpensStreamFirst};
@@ -43,6 +44,25 @@ impl Keyring {
         ensures { MatchBool result (self.now ≡ []) (self.now ≢ []) }
     {
         self.keys.is_empty()
+    }
+
+    /// Adds a key of 16, 24 or 32 bytes, behind those that are there.
+    ///
+    /// # Errors
+    ///
+    /// `BadKey` if the bytes are more or fewer, and else `Memory` if a growth of memory is refused.
+    /// The keyring is then as it was.
+    ///
+    /// Source: memberlist's keyring.go.
+    pub fn add(&mut self, alloc: Global, key: &[u8]) -> Result<(), CipherFault>
+        ensures adds { OnOk result (self.new ≡ self.old ++ key.now ∷ []) }
+        ensures good { OnOk result (IsKey key.now) }
+        ensures stays { OnErr result (self.new ≡ self.old) }
+        ensures refuses { IfErr result (λ fault. KeyCause fault key.now) }
+    {
+        let key = Key::new(alloc, key)?;
+        self.keys.push(key)?;
+        Ok(())
     }
 
     /// Adds the keys of a key file, behind those that are there.

@@ -2,7 +2,7 @@
 //! drew.
 
 use super::packets::{LABELLED, LABELLED_STREAMS, MESSAGE, PACKETS, STREAMS};
-use super::{KEY, KEY_32, keyring};
+use super::{KEY, KEY_32, OTHER, keyring};
 use crate::Keyring;
 use memberlist_cipher::CipherFault;
 use std::alloc::Global;
@@ -118,6 +118,22 @@ fn a_label_of_256_bytes_is_too_long(rt: HostRuntime) -> Result<(), Fail> {
     for to in [To::Packet, To::Stream] {
         let answer = encrypt(rt.alloc(), &keyring, to, &[0; 12], &[b'x'; 256], b"").err();
         assert_eq!(rt; answer, Some(CipherFault::TooLong));
+    }
+    Ok(())
+}
+
+/// The bytes of `KEY`.
+const KEY_BYTES: &[u8] = b"\x10\x17\x1e\x25\x2c\x33\x3a\x41\x48\x4f\x56\x5d\x64\x6b\x72\x79";
+
+#[test]
+fn a_key_is_added_behind_the_others(rt: HostRuntime) -> Result<(), Fail> {
+    let mut keyring = keyring(rt.alloc(), OTHER)?;
+    keyring.add(rt.alloc(), KEY_BYTES)?;
+    let message = keyring.open(rt.alloc(), LABELLED[1])?;
+    assert_eq!(rt; message.as_slice(), b"labelled".as_slice());
+    for len in [0, 15] {
+        let fault = keyring.add(rt.alloc(), &KEY_BYTES[..len]).err();
+        assert_eq!(rt; fault, Some(CipherFault::BadKey));
     }
     Ok(())
 }
