@@ -3,6 +3,9 @@ pub mod Drops
 pub mod Faults
 pub mod Halves
 pub mod Handles
+pub mod KeyringHandles
 pub mod NodeCalls
 pub mod Sayings
+pub mod Unsealing
+pub mod Unwrappings
 pub mod WholeStreams

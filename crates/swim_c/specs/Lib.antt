@@ -1,10 +1,14 @@
 pub mod Buffers
 pub mod Exchanges
 pub mod Handle
+pub mod Keyring
 pub mod Members
 pub mod OnNode
 pub mod Opening
 pub mod Packing
 pub mod Relating
 pub mod Saying
+pub mod Sealing
+pub mod Statuses
 pub mod Taking
+pub mod Unwrapping

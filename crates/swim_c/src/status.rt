@@ -4,6 +4,8 @@
 pub const DONE: u32 = 0;
 /// A growth of memory was refused.
 pub const MEMORY: u32 = 10;
+/// A message that makes no claims.
+pub const WRONG_TYPE: u32 = 16;
 /// The handle has no node.
 pub const NO_NODE: u32 = 64;
 /// The handle has a node already.

@@ -1,6 +1,8 @@
 //! The exports, called as C calls them. Each call that asks for memory is made again where one
 //! allocation is refused, and finds what it would have found at first.
 
+mod keyrings;
+
 use super::life::{swimtab_raw_close, swimtab_raw_open};
 use super::packets::{
     swimtab_raw_alive, swimtab_raw_compound, swimtab_raw_confirm, swimtab_raw_leave,

@@ -1,0 +1,122 @@
+-- What was sealed is unwrapped again.
+use Rattle.std.proofs.Common.{◌≡◌, ◌≢◌, ℕ, ◌+◌, ◌≤◌, List, [], ◌∷◌, ◌++◌, length, length-append, get_or, inl, inr, refl, sym, ap, ◌∙◌, subst, None, arith}
+use Rattle.std.specs.Int.{w32, to_be_bytes}
+use Rattle.memberlist_cipher.specs.Encryption.{sealed, encrypted, encrypted_stream, head}
+use Rattle.memberlist_cipher.specs.Label.{IsLabelled}
+use Rattle.memberlist_keyring.proofs.OneOpened.{one_opened}
+use Rattle.memberlist_wrap.specs.Wrapping.{Wrapper, kind, IsBare, Unwraps}
+use Rattle.memberlist_wrap.specs.Wrapping.Wrapper.{compression, checksum, label as labelling}
+use Rattle.memberlist_wrap.proofs.Unwrapping.{one_message}
+use Rattle.memberlist_transport.specs.declared.message.Message.{Message}
+use Rattle.memberlist_transport.specs.declared.message.Message.TheVariants.{Claims, Claimless, Empty}
+use Rattle.memberlist_transport.specs.Message.{claiming_of, IsMessage}
+use Rattle.memberlist_transport.specs.Packet.{most_message, HoldsClear, IsUnclear, Holds}
+use Rattle.memberlist_transport.specs.Stream.{IsClearStream, IsSealed, IsStreamIn}
+use Rattle.swim_c.specs.Sealing.{IsSealedPacket, IsSealedStream}
+use Rattle.swim_c.specs.Unwrapping.{most_stream}
+
+-- bytes that begin with no wrapper's byte are bare
+bare_from : (bytes rest : List ℕ) (first : ℕ) → bytes ≡ first ∷ rest → ((w : Wrapper) → first ≢ kind w) → IsBare bytes
+bare_from bytes rest first is other w more begins = other w (ap (λ (b : List ℕ). get_or b 0 0) (sym is ∙ begins))
+
+-- what is labelled is wrapped in the label, or in nothing
+label_wraps : (limit : ℕ) (bytes name rest : List ℕ) → IsLabelled bytes name rest → IsBare rest → length bytes ≤ limit → Unwraps limit bytes rest
+label_wraps limit bytes name rest (inl none) bare few = record {
+  wrappers = [];
+  few = omega arith;
+  wraps = record { wrapped = none.1; bare = bare; within = omega (arith, few, ap length none.1) };
+}
+label_wraps limit bytes name rest (inr some) bare few = record {
+  wrappers = labelling ∷ [];
+  few = omega arith;
+  wraps = record {
+    wrapped = (length name ∷ name ++ rest, rest, some.1, (name, (some.0, refl)), refl);
+    bare = bare;
+    within = omega (arith, few, ap length some.1, length-append name rest);
+  };
+}
+
+-- ---- packets
+
+begins_packet : (key nonce label message : List ℕ) → encrypted key nonce label message ≡ 1 ∷ nonce ++ sealed key nonce label message
+unfolding encrypted
+begins_packet key nonce label message = refl
+
+claims_none : (key nonce label message : List ℕ) → claiming_of (encrypted key nonce label message) ≡ None
+claims_none key nonce label message = ap claiming_of (begins_packet key nonce label message)
+
+not_one : (w : Wrapper) → 1 ≢ kind w
+not_one compression e = omega (arith, e)
+not_one checksum e = omega (arith, e)
+not_one labelling e = omega (arith, e)
+
+wraps_packet : (keys : List (List ℕ)) (nonce label message packet : List ℕ) → (s : IsSealedPacket keys nonce label message packet)
+    → Unwraps most_message packet (encrypted s.sends.key nonce label message)
+wraps_packet keys nonce label message packet s =
+    let key = s.sends.key in
+    label_wraps most_message packet label (encrypted key nonce label message) s.sends.labelled
+    (bare_from (encrypted key nonce label message) (nonce ++ sealed key nonce label message) 1 (begins_packet key nonce label message) not_one) s.within
+
+unclear : (keys : List (List ℕ)) (nonce label message packet : List ℕ) → IsSealedPacket keys nonce label message packet → IsUnclear packet
+unclear keys nonce label message packet s =
+    let key = s.sends.key in (
+      1,
+      omega arith,
+      (
+        encrypted key nonce label message,
+        wraps_packet keys nonce label message packet s,
+        (
+          (nonce ++ sealed key nonce label message, begins_packet key nonce label message),
+          claims_none key nonce label message,
+          s.no_ping,
+        ),
+      ),
+    )
+
+-- the same bytes are no message
+is_none : (keys : List (List ℕ)) (nonce label message packet : List ℕ) → (s : IsSealedPacket keys nonce label message packet) → (inner : Message)
+    → ¬ IsMessage (encrypted s.sends.key nonce label message) inner
+is_none keys nonce label message packet s (Claims claim copy) is =
+    let none = claims_none s.sends.key nonce label message in let some = is.0 in cc (some, none)
+is_none keys nonce label message packet s (Claimless claimless) is = s.no_ping claimless is
+is_none keys nonce label message packet s Empty is = absurd (omega (arith, ap length (sym is ∙ begins_packet s.sends.key nonce label message)))
+
+pub packet_again : (keys : List (List ℕ)) (nonce label message packet : List ℕ) (inner : Message) → IsSealedPacket keys nonce label message packet
+    → HoldsClear message inner → Holds keys packet inner
+packet_again keys nonce label message packet inner s holds = Holds.opened message (unclear keys nonce label message packet s) s.opens holds
+
+pub no_other : (keys : List (List ℕ)) (nonce label message packet : List ℕ) (inner : Message) → IsSealedPacket keys nonce label message packet
+    → Holds keys packet inner → HoldsClear message inner
+no_other keys nonce label message packet inner s (Holds.clear holds) =
+    let wraps = wraps_packet keys nonce label message packet s in
+    let one = (one_message most_message most_message packet holds.1.wrappers wraps.wrappers holds.0 _ holds.1.wraps wraps.wraps).1 in
+    absurd (is_none keys nonce label message packet s inner (subst (λ (b : List ℕ). IsMessage b inner) one holds.2))
+no_other keys nonce label message packet inner s (Holds.opened other is opens holds) =
+    subst (λ (m : List ℕ). HoldsClear m inner) (one_opened keys packet other message opens s.opens) holds
+
+-- ---- streams
+
+abbrev stream_rest : (key nonce label message : List ℕ) → List ℕ
+stream_rest key nonce label message =
+    let n = 29 + length message in to_be_bytes w32 n ++ encrypted key nonce (head n ++ label) message
+
+begins_stream : (key nonce label message : List ℕ) → encrypted_stream key nonce label message ≡ 10 ∷ stream_rest key nonce label message
+unfolding encrypted_stream head
+begins_stream key nonce label message = refl
+
+not_ten : (w : Wrapper) → 10 ≢ kind w
+not_ten compression e = omega (arith, e)
+not_ten checksum e = omega (arith, e)
+not_ten labelling e = omega (arith, e)
+
+is_sealed : (keys : List (List ℕ)) (nonce label message bytes : List ℕ) → IsSealedStream keys nonce label message bytes → IsSealed most_stream bytes
+is_sealed keys nonce label message bytes s =
+    let key = s.sends.key in let made = encrypted_stream key nonce label message in let begins = begins_stream key nonce label message in (
+      made,
+      label_wraps most_stream bytes label made s.sends.labelled (bare_from made (stream_rest key nonce label message) 10 begins not_ten) s.within,
+      (stream_rest key nonce label message, begins),
+    )
+
+pub stream_again : (keys : List (List ℕ)) (nonce label message bytes stream : List ℕ) → IsSealedStream keys nonce label message bytes
+    → IsClearStream most_stream message stream → IsStreamIn most_stream keys bytes stream
+stream_again keys nonce label message bytes stream s clear = IsStreamIn.opened message (is_sealed keys nonce label message bytes s) s.opens clear

@@ -1,0 +1,34 @@
+-- What a keyring's handle owns, and the keys of it.
+use base.Fml.{Fml, ftrue, ffalse}
+use base.Stored.{Coded}
+use denote.RawPtr.{Ptr}
+use Rattle.std.specs.Prelude.{◌≡◌, ℕ, List, [], ◌∷◌, ◌++◌, Bool, true, false, Option, Some, None}
+use Rattle.std.specs.Coded.{coded_option}
+use Rattle.std.specs.Box.Ownership.{box_owns}
+use Rattle.std.specs.contracts.impls.GlobalAllocator.TheImpl.{ghosts}
+use Rattle.memberlist_cipher.specs.Encryption.{IsKey}
+use Rattle.memberlist_keyring.specs.contracts.keyring.Keyring.{the_row}
+use Rattle.swim_c.specs.Handle.{heap}
+
+-- how proofs tell a keyring from another one, and from none
+abbrev pub keyring_coded : Coded (Option the_row.Denot)
+keyring_coded = coded_option the_row.coded
+
+-- a keyring and the right to free its block, if the handle has one
+abbrev pub keyring_owns : Ptr → Bool → Option the_row.Denot → Fml
+keyring_owns at true (Some keys) = box_owns (ghosts.dealloc_token heap) the_row at keys
+keyring_owns at false None = ftrue
+keyring_owns at true None = ffalse
+keyring_owns at false (Some keys) = ffalse
+
+-- the keys of a handle: one with no keyring has none
+abbrev pub keys_of : Option (List (List ℕ)) → List (List ℕ)
+keys_of None = []
+keys_of (Some keys) = keys
+
+-- The key stands behind those that were there (0). Or the handle is as it was: the key has another
+-- length (50), or memory was refused (10).
+pub data KeyAdded (key : List ℕ) (status : ℕ) (old new : Option (List (List ℕ))) : Type 0 where
+  added : status ≡ 0 → IsKey key → new ≡ Some (keys_of old ++ key ∷ []) → KeyAdded key status old new
+  bad_key : status ≡ 50 → ¬ IsKey key → new ≡ old → KeyAdded key status old new
+  memory : status ≡ 10 → IsKey key → new ≡ old → KeyAdded key status old new

@@ -1,0 +1,73 @@
+-- Messages that are encrypted, or labelled in the clear, into a buffer.
+use Rattle.std.specs.Prelude.{◌≡◌, ◌≢◌, ℕ, ◌<◌, ◌≤◌, List, [], ◌∷◌, ◌++◌, length}
+use Rattle.memberlist_cipher.specs.Encryption.{encrypted, encrypted_stream}
+use Rattle.memberlist_keyring.specs.Opening.{OpensFirst, OpensStreamFirst}
+use Rattle.memberlist_keyring.specs.Sending.{MaySend, MaySendStream, SendsFirst}
+use Rattle.memberlist_transport.specs.Packet.{most_message}
+use Rattle.swim_wire.specs.declared.claimless.Claimless.{Claimless}
+use Rattle.swim_wire.specs.Claimless.{ClaimlessText}
+use Rattle.swim_c.specs.Buffers.{Copied}
+use Rattle.swim_c.specs.Unwrapping.{most_stream, IsUnwritten}
+
+-- what is sent if there is no key: the message, behind its label if that has a byte
+abbrev pub in_the_clear : List ℕ → List ℕ → List ℕ
+in_the_clear [] message = message
+in_the_clear (first ∷ rest) message =
+    244 ∷ length (first ∷ rest) ∷ (first ∷ rest) ++ message
+
+-- It was copied or did not fit, or its label has more than 255 bytes (51), or memory was refused
+-- (10).
+pub data IsSentClear (label message old new : List ℕ) (status len : ℕ) : Type 0 where
+  copied : length label < 256 → Copied (in_the_clear label message) old new status len
+      → IsSentClear label message old new status len
+  too_long : 255 < length label → IsUnwritten 51 old new status len
+      → IsSentClear label message old new status len
+  memory : IsUnwritten 10 old new status len → IsSentClear label message old new status len
+
+-- What became of a message that is made into bytes with the first key, which may be of such a
+-- length, and which the keys open: it was copied or did not fit, or it or its label is too long
+-- (51), or memory was refused (10). With no key it is sent in the clear.
+pub data Sealed (made : List ℕ → List ℕ) (Opened : List ℕ → Type 0) (May : Type 0)
+    (keys : List (List ℕ)) (label message old new : List ℕ) (status len : ℕ) : Type 0 where
+  under_key : (bytes : List ℕ) → SendsFirst made keys label bytes → Opened bytes → May
+      → Copied bytes old new status len
+      → Sealed made Opened May keys label message old new status len
+  clear : keys ≡ [] → IsSentClear label message old new status len
+      → Sealed made Opened May keys label message old new status len
+  too_long : keys ≢ [] → ¬ May → IsUnwritten 51 old new status len
+      → Sealed made Opened May keys label message old new status len
+  memory : keys ≢ [] → May → IsUnwritten 10 old new status len
+      → Sealed made Opened May keys label message old new status len
+
+-- what became of a message that is sent as a packet, with this nonce
+abbrev pub PacketSealed : List (List ℕ) → List ℕ → List ℕ → List ℕ → List ℕ → List ℕ → ℕ → ℕ
+    → Type 0
+PacketSealed keys nonce label message old new status len =
+    Sealed (λ key. encrypted key nonce label message) (λ bytes. OpensFirst keys bytes message)
+    (MaySend label message) keys label message old new status len
+
+-- what became of a message that is sent as a stream, with this nonce
+abbrev pub StreamSealed : List (List ℕ) → List ℕ → List ℕ → List ℕ → List ℕ → List ℕ → ℕ → ℕ
+    → Type 0
+StreamSealed keys nonce label message old new status len =
+    Sealed (λ key. encrypted_stream key nonce label message)
+    (λ bytes. OpensStreamFirst keys bytes message)
+    (MaySendStream label message) keys label message old new status len
+
+-- ---- what is sealed, unwrapped again
+
+-- Under the keys the packet was made of this message, and is no message by itself: no indirect
+-- ping, whose first byte it has.
+pub record IsSealedPacket (keys : List (List ℕ)) (nonce label message packet : List ℕ) : Type 0
+  where
+    pub sends : SendsFirst (λ key. encrypted key nonce label message) keys label packet
+    pub opens : OpensFirst keys packet message
+    pub within : length packet ≤ most_message
+    pub no_ping : (kind : Claimless) → ¬ ClaimlessText (encrypted sends.key nonce label message) kind
+
+-- Under the keys the stream was made of this message.
+pub record IsSealedStream (keys : List (List ℕ)) (nonce label message stream : List ℕ) : Type 0
+  where
+    pub sends : SendsFirst (λ key. encrypted_stream key nonce label message) keys label stream
+    pub opens : OpensStreamFirst keys stream message
+    pub within : length stream ≤ most_stream

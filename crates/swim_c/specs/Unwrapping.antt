@@ -1,0 +1,54 @@
+-- Packets and streams that are unwrapped into a buffer.
+use Rattle.std.specs.Prelude.{◌≡◌, ◌≢◌, ℕ, List}
+use Rattle.memberlist_transport.specs.declared.fault.PacketFault.{PacketFault}
+use Rattle.memberlist_transport.specs.declared.fault.PacketFault.TheVariants as packet_fault
+use Rattle.memberlist_transport.specs.declared.fault.StreamFault.{StreamFault}
+use Rattle.memberlist_transport.specs.declared.fault.StreamFault.TheVariants as stream_fault
+use Rattle.memberlist_transport.specs.declared.message.Message.{Message}
+use Rattle.memberlist_transport.specs.declared.message.Message.TheVariants.{Claims, Claimless, Empty}
+use Rattle.memberlist_transport.specs.Packet.{Holds, Fails}
+use Rattle.memberlist_transport.specs.Stream.{IsStreamIn, Explains}
+use Rattle.swim_c.specs.Buffers.{Copied}
+use Rattle.swim_c.specs.Statuses.{packet_status, stream_status}
+
+-- how many bytes a stream may have, and what is compressed or encrypted in it
+abbrev pub most_stream : ℕ
+most_stream = 268435456
+
+-- the call has this status, and has written nothing
+pub record IsUnwritten (number : ℕ) (old new : List ℕ) (status len : ℕ) : Type 0 where
+  pub status_is : status ≡ number
+  pub no_len : len ≡ 0
+  pub same : new ≡ old
+
+-- The bytes of a message that makes claims were copied or did not fit. One that makes none has the
+-- wrong type (16), and an empty one ends too soon (1).
+abbrev pub GivesMessage : Message → List ℕ → List ℕ → ℕ → ℕ → Type 0
+GivesMessage (Claims kind bytes) old new status len = Copied bytes.items old new status len
+GivesMessage (Claimless kind) old new status len = IsUnwritten 16 old new status len
+GivesMessage Empty old new status len = IsUnwritten 1 old new status len
+
+-- What became of a packet: its message, or the fault for which it has none, or memory was refused
+-- (10).
+pub data PacketUnwrapped (keys : List (List ℕ)) (packet old new : List ℕ) (status len : ℕ)
+    : Type 0 where
+  message : (message : Message) → Holds keys packet message
+      → GivesMessage message old new status len → PacketUnwrapped keys packet old new status len
+  refused : (fault : PacketFault) → fault ≢ packet_fault.Memory → Fails keys packet fault
+      → ((message : Message) → ¬ Holds keys packet message)
+      → IsUnwritten (packet_status fault) old new status len
+      → PacketUnwrapped keys packet old new status len
+  memory : IsUnwritten 10 old new status len → PacketUnwrapped keys packet old new status len
+
+-- What became of a stream: it was copied or did not fit, or the fault for which there is none, or
+-- memory was refused (10).
+pub data StreamUnwrapped (keys : List (List ℕ)) (bytes old new : List ℕ) (status len : ℕ)
+    : Type 0 where
+  stream : (stream : List ℕ) → IsStreamIn most_stream keys bytes stream
+      → Copied stream old new status len → StreamUnwrapped keys bytes old new status len
+  refused : (fault : StreamFault) → fault ≢ stream_fault.Memory
+      → Explains most_stream keys bytes fault
+      → ((stream : List ℕ) → ¬ IsStreamIn most_stream keys bytes stream)
+      → IsUnwritten (stream_status fault) old new status len
+      → StreamUnwrapped keys bytes old new status len
+  memory : IsUnwritten 10 old new status len → StreamUnwrapped keys bytes old new status len

@@ -1,0 +1,118 @@
+//! Keyrings, and packets and streams that are sealed and unwrapped, against bytes that python's
+//! cryptography sealed. If an allocation is refused the call is made again.
+
+use crate::copy::Written;
+use crate::exports::keyrings::{swimtab_raw_keyring_add, swimtab_raw_keyring_close};
+use crate::exports::wrapped::{
+    swimtab_raw_seal, swimtab_raw_seal_stream, swimtab_raw_unwrap, swimtab_raw_unwrap_stream,
+};
+use crate::keyring::KeyringHandle;
+use std::alloc::Global;
+use std::process::Abort;
+
+/// A key of 16 bytes, and another one of 24.
+const KEY: &[u8] = b"\x10\x17\x1e\x25\x2c\x33\x3a\x41\x48\x4f\x56\x5d\x64\x6b\x72\x79";
+
+const OTHER: &[u8] = b"another key of 24 bytes.";
+
+/// An alive packet of `a`, and under `KEY` behind the label `dc`.
+const ALIVE: &[u8] =
+    b"\x04\x86\xa4Addr\xa4\x7f\x00\x00\x01\xabIncarnation\x00\xa4Meta\xa0\xa4Node\xa1a\xa4Port\
+      \xcd\x1f\x0a\xa3Vsn\xa0";
+
+const SEALED: &[u8] =
+    b"\xf4\x02dc\x01nonce-number\xb2\x98\x0f\xe9$}H\x05W]\x83\x00#a\x8e\xf4\xdb\xc4\x89V\x7f\
+      \x15\x853\xac[\x98P\xe4M~\xed\x8a\xbdkK\x98\xa8\xb5\xfb4\xa4\xd3!\x18\x7f3r\xc0\xb7\x93\
+      \x84S\x20b\xb2\xa68\x8412\x96\xf0\xbe\x0e\xf2K";
+
+/// A stream of one member, and under `KEY` without a label.
+const STREAM: &[u8] =
+    b"\x06\x83\xa4Join\xc2\xa5Nodes\x01\xacUserStateLen\x00\x87\xa4Addr\xa4\x7f\x00\x00\x01\
+      \xabIncarnation\x00\xa4Meta\xa0\xa4Name\xa1a\xa4Port\xcd\x1f\x0a\xa5State\x00\xa3Vsn\xa0";
+
+const SEALED_STREAM: &[u8] =
+    b"\x0a\x00\x00\x00s\x01nonce-number\xb0\x9d\x0f\xe2/pTc\x8d\x13\xece\xed[\xe1;\xef\xc5\x82\
+      EX\x08\x8b)\xc9\xb3\xb0[\x90\xabz\x08\xa0\xb6}\x8aF\xc9\x11\xaa\xf0\x9f\xc9\x8ff\x07\xfe\
+      E\xc7\xb0\\\x0e\x8at\x81B\xe8\x18\x11\xa4\xcb@\xf3\xc7\x99\x06VW\xaa\xb4z\x8b\xab\x9a\
+      \xfe\xbb|Q_2\xb3<\xf6\xeb\xda\xa4\xc1\xc1t\x93J\x92\xcb\x9ar\x1b\xe8\xeeY\x1a\xf8\x8f";
+
+/// What a call does with bytes.
+#[derive(Clone, Copy)]
+enum Does {
+    Unwrap,
+    UnwrapStream,
+    Seal(&'static [u8]),
+    SealStream(&'static [u8]),
+}
+
+/// Makes the call.
+fn call(
+    alloc: Global,
+    keyring: &mut KeyringHandle,
+    does: Does,
+    bytes: &[u8],
+    out: &mut [u8],
+) -> Written {
+    let nonce = b"nonce-number";
+    match does {
+        Does::Unwrap => swimtab_raw_unwrap(alloc, keyring, bytes, out),
+        Does::UnwrapStream => swimtab_raw_unwrap_stream(alloc, keyring, bytes, out),
+        Does::Seal(label) => swimtab_raw_seal(alloc, keyring, nonce, label, bytes, out),
+        Does::SealStream(label) => {
+            swimtab_raw_seal_stream(alloc, keyring, nonce, label, bytes, out)
+        }
+    }
+}
+
+/// Asserts that a key of this length is taken in.
+fn assert_adds(rt: &impl Abort, alloc: Global, keyring: &mut KeyringHandle, key: &[u8]) {
+    if swimtab_raw_keyring_add(alloc, keyring, key) == 10 {
+        assert_eq!(rt; swimtab_raw_keyring_add(alloc, keyring, key), 0);
+    }
+}
+
+/// Asserts that the call has this status, and writes the wanted bytes and nothing behind them.
+fn assert_writes(
+    rt: &impl Abort,
+    alloc: Global,
+    keyring: &mut KeyringHandle,
+    does: Does,
+    bytes: &[u8],
+    status: u32,
+    wanted: &[u8],
+) {
+    let mut out = [7; 200];
+    let mut written = call(alloc, keyring, does, bytes, &mut out);
+    if written.status == 10 {
+        written = call(alloc, keyring, does, bytes, &mut out);
+    }
+    assert_eq!(rt; written.status, status);
+    assert_eq!(rt; written.len, wanted.len());
+    assert!(rt; out.starts_with(wanted));
+    assert!(rt; out.iter().skip(wanted.len()).all(|byte| *byte == 7));
+}
+
+#[test]
+fn a_keyring_seals_under_its_first_key_and_unwraps_by_each(rt: HostRuntime) {
+    let alloc = rt.alloc();
+    let mut keyring = KeyringHandle::none();
+    assert_writes(&rt, alloc, &mut keyring, Does::Unwrap, SEALED, 16, b"");
+    assert_writes(&rt, alloc, &mut keyring, Does::Seal(b""), ALIVE, 0, ALIVE);
+    assert_adds(&rt, alloc, &mut keyring, KEY);
+    assert_adds(&rt, alloc, &mut keyring, OTHER);
+    assert_eq!(rt; swimtab_raw_keyring_add(alloc, &mut keyring, b"short"), 50);
+    for (does, bytes, status, wanted) in [
+        (Does::Seal(b"dc"), ALIVE, 0, SEALED),
+        (Does::SealStream(b""), STREAM, 0, SEALED_STREAM),
+        (Does::Unwrap, SEALED, 0, ALIVE),
+        (Does::Unwrap, ALIVE, 0, ALIVE),
+        (Does::UnwrapStream, SEALED_STREAM, 0, STREAM),
+        (Does::UnwrapStream, SEALED, 16, b""),
+        (Does::Unwrap, b"\x01\xff", 54, b""),
+        (Does::Unwrap, b"", 1, b""),
+    ] {
+        assert_writes(&rt, alloc, &mut keyring, does, bytes, status, wanted);
+    }
+    assert_eq!(rt; swimtab_raw_keyring_close(alloc, &mut keyring), 0);
+    assert_eq!(rt; swimtab_raw_keyring_close(alloc, &mut keyring), 64);
+}

@@ -1,0 +1,146 @@
+//! Packets and streams as a real cluster sends them: unwrapped and opened, and sealed.
+
+ghost use Rattle.std.specs.Prelude.{◌≡◌};
+ghost use Rattle.swim_c.specs.Keyring.{keys_of};
+ghost use Rattle.swim_c.specs.Sealing.{PacketSealed, StreamSealed};
+ghost use Rattle.swim_c.specs.Unwrapping.{PacketUnwrapped, StreamUnwrapped};
+
+use crate::copy::Written;
+use crate::keyring::KeyringHandle;
+use crate::sealing::{seal_out, seal_stream_out};
+use crate::unwrapping::{unwrap_out, unwrap_stream_out};
+use memberlist_keyring::Keyring;
+use std::alloc::Global;
+
+/// Writes the message of a packet to the buffer, if it makes claims: its checksums, compressions
+/// and labels are taken off, and what is encrypted is opened with the keys. The message, and what
+/// is compressed or encrypted, has at most 1,048,576 bytes. The keyring stays; a handle without one
+/// has no key.
+///
+/// # Statuses
+///
+/// If it is not 0 the buffer is as it was.
+///
+/// - 16 if the message is a whole one that makes no claims, or is none; without keys, also if it is
+///   encrypted.
+/// - 1 if it is empty.
+/// - 40 to 48 if the wrappers are wrong (docs/PROTOCOL.md).
+/// - 54 if it is encrypted and no key opens it.
+/// - 66 if the buffer is too small. The length is then that of the message.
+/// - 10 if memory is refused.
+#[unsafe(no_mangle)]
+pub extern "C" fn swimtab_raw_unwrap(
+    alloc: Global,
+    keyring: &mut KeyringHandle,
+    packet: &[u8],
+    out: &mut [u8],
+) -> Written
+    ensures stays { keyring.new.keys ≡ keyring.old.keys }
+    ensures unwraps { PacketUnwrapped (keys_of keyring.old.keys) packet.now
+        out.old out.new result.status result.len }
+{
+    let Some(held) = keyring.take(alloc) else {
+        return unwrap_out(alloc, &Keyring::new(alloc), packet, out);
+    };
+    let written = unwrap_out(alloc, &held, packet, out);
+    keyring.put(held);
+    written
+}
+
+/// Writes the push/pull stream that bytes hold to the buffer: its checksums, compressions and labels
+/// are taken off, and what is encrypted is opened with the keys. Neither it, nor what is compressed
+/// or encrypted, has more than 268,435,456 bytes. The keyring stays; a handle without one has no
+/// key.
+///
+/// # Statuses
+///
+/// If it is not 0 the buffer is as it was.
+///
+/// - 16 if it is no push/pull stream; without keys, also if it is encrypted.
+/// - 1 if it is empty.
+/// - 40 to 48 if the wrappers are wrong, and 51 to 57 if it is encrypted and no key opens it: the
+///   fault of the last key (docs/PROTOCOL.md).
+/// - 66 if the buffer is too small. The length is then that of the stream.
+/// - 10 if memory is refused.
+#[unsafe(no_mangle)]
+pub extern "C" fn swimtab_raw_unwrap_stream(
+    alloc: Global,
+    keyring: &mut KeyringHandle,
+    stream: &[u8],
+    out: &mut [u8],
+) -> Written
+    ensures stays { keyring.new.keys ≡ keyring.old.keys }
+    ensures unwraps { StreamUnwrapped (keys_of keyring.old.keys) stream.now
+        out.old out.new result.status result.len }
+{
+    let Some(held) = keyring.take(alloc) else {
+        return unwrap_stream_out(alloc, &Keyring::new(alloc), stream, out);
+    };
+    let written = unwrap_stream_out(alloc, &held, stream, out);
+    keyring.put(held);
+    written
+}
+
+/// Writes a packet with this message to the buffer, encrypted under the first key with this nonce.
+/// The label stands before it, and is associated with it; an empty one is not written. A nonce must
+/// not be used twice under one key, be it for packets or streams. Without a key the message is
+/// written in the clear, behind its label. The keyring stays.
+///
+/// # Statuses
+///
+/// If it is not 0 the buffer is as it was.
+///
+/// - 51 if the label has more than 255 bytes, or what is to be encrypted more than 2^36 - 32.
+/// - 66 if the buffer is too small. The length is then that of the packet.
+/// - 10 if memory is refused.
+#[unsafe(no_mangle)]
+pub extern "C" fn swimtab_raw_seal(
+    alloc: Global,
+    keyring: &mut KeyringHandle,
+    nonce: &[u8; 12],
+    label: &[u8],
+    message: &[u8],
+    out: &mut [u8],
+) -> Written
+    ensures stays { keyring.new.keys ≡ keyring.old.keys }
+    ensures seals { PacketSealed (keys_of keyring.old.keys) nonce.now label.now message.now
+        out.old out.new result.status result.len }
+{
+    let Some(held) = keyring.take(alloc) else {
+        return seal_out(alloc, &Keyring::new(alloc), nonce, label, message, out);
+    };
+    let written = seal_out(alloc, &held, nonce, label, message, out);
+    keyring.put(held);
+    written
+}
+
+/// Writes a stream with this message to the buffer, encrypted under the first key with this nonce,
+/// as [`swimtab_raw_seal`] does a packet.
+///
+/// # Statuses
+///
+/// If it is not 0 the buffer is as it was.
+///
+/// - 51 if the label has more than 255 bytes, or what is to be encrypted more than 268,435,427.
+/// - 66 if the buffer is too small. The length is then that of the stream.
+/// - 10 if memory is refused.
+#[unsafe(no_mangle)]
+pub extern "C" fn swimtab_raw_seal_stream(
+    alloc: Global,
+    keyring: &mut KeyringHandle,
+    nonce: &[u8; 12],
+    label: &[u8],
+    message: &[u8],
+    out: &mut [u8],
+) -> Written
+    ensures stays { keyring.new.keys ≡ keyring.old.keys }
+    ensures seals { StreamSealed (keys_of keyring.old.keys) nonce.now label.now message.now
+        out.old out.new result.status result.len }
+{
+    let Some(held) = keyring.take(alloc) else {
+        return seal_stream_out(alloc, &Keyring::new(alloc), nonce, label, message, out);
+    };
+    let written = seal_stream_out(alloc, &held, nonce, label, message, out);
+    keyring.put(held);
+    written
+}

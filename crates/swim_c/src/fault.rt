@@ -1,0 +1,54 @@
+//! What a status says of wrapped and encrypted bytes.
+
+ghost use Rattle.std.specs.Prelude.{◌≡◌};
+ghost use Rattle.swim_c.specs.Statuses.{cipher_status, wrap_status, packet_status, stream_status};
+
+use crate::status::MEMORY;
+use memberlist_cipher::CipherFault;
+use memberlist_transport::{PacketFault, StreamFault};
+use memberlist_wrap::WrapFault;
+use swim_wire::WireFault;
+
+/// The status of bytes or keys that the cipher refuses.
+pub fn cipher_status(fault: CipherFault) -> u32
+    ensures { result ≡ cipher_status fault }
+{
+    match fault {
+        CipherFault::Memory => MEMORY,
+        fault => fault.number(),
+    }
+}
+
+fn wrap_status(fault: WrapFault) -> u32
+    ensures { result ≡ wrap_status fault }
+{
+    match fault {
+        WrapFault::Memory => MEMORY,
+        fault => fault.number(),
+    }
+}
+
+/// The status of a packet that has no message.
+pub fn packet_status(fault: PacketFault) -> u32
+    ensures { result ≡ packet_status fault }
+{
+    match fault {
+        PacketFault::Wrapped(fault) => wrap_status(fault),
+        PacketFault::NoMessage(found) => WireFault::WrongType { found }.number(),
+        PacketFault::NoKeyFits => CipherFault::WrongTag.number(),
+        PacketFault::Memory => MEMORY,
+    }
+}
+
+/// The status of bytes that hold no stream.
+pub fn stream_status(fault: StreamFault) -> u32
+    ensures { result ≡ stream_status fault }
+{
+    match fault {
+        StreamFault::Wrapped(fault) => wrap_status(fault),
+        StreamFault::Closed(fault) => cipher_status(fault),
+        StreamFault::NoStream(found) => WireFault::WrongType { found }.number(),
+        StreamFault::Empty => WireFault::Ended.number(),
+        StreamFault::Memory => MEMORY,
+    }
+}

@@ -1,0 +1,22 @@
+//! What holds of the definitions, apart from any code.
+
+ghost use Rattle.std.specs.Prelude.{List, ℕ};
+ghost use Rattle.memberlist_transport.specs.declared.message.Message.{Message};
+ghost use Rattle.memberlist_transport.specs.Packet.{Holds, HoldsClear};
+ghost use Rattle.memberlist_transport.specs.Stream.{IsStreamIn, IsClearStream};
+ghost use Rattle.swim_c.specs.Sealing.{IsSealedPacket, IsSealedStream};
+ghost use Rattle.swim_c.specs.Unwrapping.{most_stream};
+
+/// What is sealed is unwrapped again by the same keys: of a packet and of a stream, what is in the
+/// message. A packet gives nothing else.
+pub fn sealed_is_unwrapped()
+    ensures packet { (keys : List (List ℕ)) (nonce label message packet : List ℕ)
+        (inner : Message) → IsSealedPacket keys nonce label message packet
+        → HoldsClear message inner → Holds keys packet inner }
+    ensures no_other { (keys : List (List ℕ)) (nonce label message packet : List ℕ)
+        (inner : Message) → IsSealedPacket keys nonce label message packet
+        → Holds keys packet inner → HoldsClear message inner }
+    ensures stream { (keys : List (List ℕ)) (nonce label message bytes stream : List ℕ)
+        → IsSealedStream keys nonce label message bytes
+        → IsClearStream most_stream message stream → IsStreamIn most_stream keys bytes stream }
+{}

@@ -1,0 +1,72 @@
+//! Messages encrypted under a keyring, or labelled in the clear, into a buffer.
+
+ghost use Rattle.swim_c.specs.Sealing.{IsSentClear, PacketSealed, StreamSealed};
+
+use crate::copy::{Written, copy_out};
+use crate::fault::cipher_status;
+use crate::status::MEMORY;
+use memberlist_cipher::{CipherFault, LABEL_MAX_SIZE, labelled};
+use memberlist_keyring::Keyring;
+use std::alloc::Global;
+
+/// Writes a packet with this message to the buffer: encrypted under the first key, or in the clear
+/// if there is none.
+pub fn seal_out(
+    alloc: Global,
+    keys: &Keyring,
+    nonce: &[u8; 12],
+    label: &[u8],
+    message: &[u8],
+    out: &mut [u8],
+) -> Written
+    ensures { PacketSealed keys.now nonce.now label.now message.now
+        out.old out.new result.status result.len }
+{
+    if keys.is_empty() {
+        return label_out(alloc, label, message, out);
+    }
+    match keys.encrypt(alloc, nonce, label, message) {
+        Ok(Some(sealed)) => copy_out(&sealed, out),
+        Ok(None) => unreachable!(),
+        Err(fault) => Written::refused(cipher_status(fault)),
+    }
+}
+
+/// Writes a stream with this message to the buffer: encrypted under the first key, or in the clear
+/// if there is none.
+pub fn seal_stream_out(
+    alloc: Global,
+    keys: &Keyring,
+    nonce: &[u8; 12],
+    label: &[u8],
+    message: &[u8],
+    out: &mut [u8],
+) -> Written
+    ensures { StreamSealed keys.now nonce.now label.now message.now
+        out.old out.new result.status result.len }
+{
+    if keys.is_empty() {
+        return label_out(alloc, label, message, out);
+    }
+    match keys.encrypt_stream(alloc, nonce, label, message) {
+        Ok(Some(sealed)) => copy_out(&sealed, out),
+        Ok(None) => unreachable!(),
+        Err(fault) => Written::refused(cipher_status(fault)),
+    }
+}
+
+/// Writes a message behind its label to the buffer, in the clear.
+fn label_out(alloc: Global, label: &[u8], message: &[u8], out: &mut [u8]) -> Written
+    ensures { IsSentClear label.now message.now out.old out.new result.status result.len }
+{
+    if label.is_empty() {
+        return copy_out(message, out);
+    }
+    if label.len() > LABEL_MAX_SIZE {
+        return Written::refused(CipherFault::TooLong.number());
+    }
+    match labelled(alloc, label, message) {
+        Ok(text) => copy_out(&text, out),
+        Err(_) => Written::refused(MEMORY),
+    }
+}
