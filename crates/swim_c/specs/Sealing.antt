@@ -15,14 +15,15 @@ in_the_clear [] message = message
 in_the_clear (first ∷ rest) message =
     244 ∷ length (first ∷ rest) ∷ (first ∷ rest) ++ message
 
--- It was copied or did not fit, or its label has more than 255 bytes (51), or memory was refused
--- (10).
+-- What became of a message that is sent in the clear: it was copied or did not fit, or its label has
+-- more than 255 bytes (51), or it has a label and memory was refused (10).
 pub data IsSentClear (label message old new : List ℕ) (status len : ℕ) : Type 0 where
   copied : length label < 256 → Copied (in_the_clear label message) old new status len
       → IsSentClear label message old new status len
   too_long : 255 < length label → IsUnwritten 51 old new status len
       → IsSentClear label message old new status len
-  memory : IsUnwritten 10 old new status len → IsSentClear label message old new status len
+  memory : 0 < length label → length label < 256 → IsUnwritten 10 old new status len
+      → IsSentClear label message old new status len
 
 -- What became of a message that is made into bytes with the first key, which may be of such a
 -- length, and which the keys open: it was copied or did not fit, or it or its label is too long
