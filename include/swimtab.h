@@ -1,6 +1,6 @@
 /* swimtab.h: the membership table of a SWIM cluster, over memberlist's messages, for C and C++.
  *
- *     swimtab_node node = SWIMTAB_NO_NODE;
+ *     swimtab_node node = SWIMTAB_NODE_INIT;
  *     uint32_t status = swimtab_open(&node, name, 2, addr, 4, 7946, NULL, 0, NULL, 0, 1);
  *     status = swimtab_take(&node, packet, packet_len);
  *     status = swimtab_close(&node);
@@ -25,10 +25,10 @@
  *
  * What the caller owes, and nothing checks
  *
- * - A handle begins as SWIMTAB_NO_NODE (all bytes zero), and only calls write into it. It may be
+ * - A handle begins as SWIMTAB_NODE_INIT (all bytes zero), and only calls write into it. It may be
  *   moved in memory between calls, but of two copies only one may be used from then on.
- * - A handle is given to one call at a time, by reading calls too: swimtab_count as much as
- *   swimtab_take. It may go from thread to thread between calls that a lock, the start or the join
+ * - A handle is given to one call at a time, by calls that only read it too, which take it as const:
+ *   swimtab_count as much as swimtab_take. It may go from thread to thread between calls that a lock, the start or the join
  *   of a thread, or the like orders. Different handles need no lock.
  * - A buffer that a call writes overlaps nothing else that the call is given.
  * - A length beside a pointer that is not NULL is at most that of its memory, and less than 2^63.
@@ -48,9 +48,12 @@ extern "C" {
 
 /* The version, as `swimtab --version` names it. */
 #define SWIMTAB_VERSION_MAJOR 0
-#define SWIMTAB_VERSION_MINOR 1
+#define SWIMTAB_VERSION_MINOR 2
 #define SWIMTAB_VERSION_PATCH 0
-#define SWIMTAB_VERSION "0.1.0"
+#define SWIMTAB_VERSION "0.2.0"
+
+/* The same as one number: 10,000 times the major, 100 times the minor, and the patch version. */
+#define SWIMTAB_VERSION_NUMBER 200
 
 /* The length of the longest packet that swimtab_alive, .._suspect, .._confirm and .._leave write. */
 #define SWIMTAB_LONGEST_PACKET 2083
@@ -61,8 +64,20 @@ typedef struct swimtab_node {
     bool held;
 } swimtab_node;
 
-/* How a handle begins: swimtab_node node = SWIMTAB_NO_NODE; */
-#define SWIMTAB_NO_NODE {NULL, false}
+/* How a handle begins: swimtab_node node = SWIMTAB_NODE_INIT; */
+#define SWIMTAB_NODE_INIT {NULL, false}
+
+/* Holds a cluster's keys, or none. What is in it is the library's. */
+typedef struct swimtab_keyring {
+    void *at;
+    bool held;
+} swimtab_keyring;
+
+/* How a keyring begins: swimtab_keyring keyring = SWIMTAB_KEYRING_INIT; */
+#define SWIMTAB_KEYRING_INIT {NULL, false}
+
+/* How many bytes a nonce has. */
+#define SWIMTAB_NONCE 12
 
 /* What a call answers: 0, the number of a fault of docs/PROTOCOL.md, or one of the library's own
  * from 64 on. */
@@ -92,6 +107,23 @@ enum {
     SWIMTAB_TOO_MANY_RECORDS = 23, /* a table has more than 131,072 records, too many for a stream */
     SWIMTAB_EXHAUSTED = 24,        /* no greater incarnation is left */
     SWIMTAB_GONE = 25,             /* the member was confirmed dead, or left */
+    SWIMTAB_WRAPPER_ENDED = 40,     /* a wrapper, or compressed bytes, end too soon */
+    SWIMTAB_WRAPPER_TRAILING = 41,  /* bytes behind the map of a compression, or behind its last code */
+    SWIMTAB_BAD_CODE = 42,          /* a code of a compression stands for no word yet */
+    SWIMTAB_BAD_CHECKSUM = 43,      /* the bytes behind a checksum have another one */
+    SWIMTAB_BAD_MAP = 44,           /* what stands behind a 9 is no map of a compression */
+    SWIMTAB_BAD_ALGO = 45,          /* a compression that is not LZW */
+    SWIMTAB_BAD_LABEL = 46,         /* a label of no bytes */
+    SWIMTAB_TOO_LARGE = 47,         /* what is wrapped, or what comes out, is longer than its limit */
+    SWIMTAB_TOO_DEEP = 48,          /* more than 4 wrappers round each other */
+    SWIMTAB_BAD_KEY = 50,           /* a key has another length than 16, 24 or 32 bytes */
+    SWIMTAB_CIPHER_TOO_LONG = 51,   /* a label, or what is encrypted, is too long */
+    SWIMTAB_CIPHER_TOO_SHORT = 52,  /* encrypted bytes end before a message or a stream can end */
+    SWIMTAB_WRONG_VERSION = 53,     /* a version of encryption is neither 0 nor 1 */
+    SWIMTAB_WRONG_TAG = 54,         /* no key opens it: a tag is that of another key or of other bytes */
+    SWIMTAB_BAD_PADDING = 55,       /* decrypted bytes have no padding */
+    SWIMTAB_NOT_ENCRYPTED = 56,     /* a stream's first byte is not 10 */
+    SWIMTAB_CIPHER_TRAILING = 57,   /* bytes follow the length that a stream announces */
     SWIMTAB_NO_NODE_HERE = 64,     /* the handle has no node */
     SWIMTAB_NODE_THERE = 65,       /* the handle has a node already */
     SWIMTAB_TOO_SMALL = 66,        /* the buffer is too small; `len` says what is needed */
@@ -160,25 +192,37 @@ uint32_t swimtab_raw_open(swimtab_node *node, const void *name, size_t name_len,
                           size_t meta_len, const void *vsn, size_t vsn_len, uint32_t inc);
 uint32_t swimtab_raw_close(swimtab_node *node);
 uint32_t swimtab_raw_take(swimtab_node *node, const void *bytes, size_t len);
-swimtab_written swimtab_raw_offer(swimtab_node *node, bool join, void *out, size_t out_len);
+swimtab_written swimtab_raw_offer(const swimtab_node *node, bool join, void *out, size_t out_len);
 swimtab_exchanged swimtab_raw_answer(swimtab_node *node, const void *stream, size_t len,
                                      void *out, size_t out_len);
 swimtab_exchanged swimtab_raw_finish(swimtab_node *node, const void *stream, size_t len);
 swimtab_refuted swimtab_raw_refute(swimtab_node *node);
-swimtab_written swimtab_raw_alive(swimtab_node *node, uint32_t inc, void *out, size_t out_len);
-swimtab_written swimtab_raw_suspect(swimtab_node *node, const void *name, size_t name_len,
+swimtab_written swimtab_raw_alive(const swimtab_node *node, uint32_t inc, void *out, size_t out_len);
+swimtab_written swimtab_raw_suspect(const swimtab_node *node, const void *name, size_t name_len,
                                     uint32_t inc, void *out, size_t out_len);
-swimtab_written swimtab_raw_confirm(swimtab_node *node, const void *name, size_t name_len,
+swimtab_written swimtab_raw_confirm(const swimtab_node *node, const void *name, size_t name_len,
                                     uint32_t inc, void *out, size_t out_len);
-swimtab_written swimtab_raw_leave(swimtab_node *node, uint32_t inc, void *out, size_t out_len);
+swimtab_written swimtab_raw_leave(const swimtab_node *node, uint32_t inc, void *out, size_t out_len);
 swimtab_written swimtab_raw_compound(const void *packets, size_t len, const size_t *lens,
                                      size_t count, void *out, size_t out_len);
-size_t swimtab_raw_count(swimtab_node *node);
-uint32_t swimtab_raw_member(swimtab_node *node, size_t i, swimtab_member_data *member);
-uint32_t swimtab_raw_find(swimtab_node *node, const void *name, size_t name_len,
+size_t swimtab_raw_count(const swimtab_node *node);
+uint32_t swimtab_raw_member(const swimtab_node *node, size_t i, swimtab_member_data *member);
+uint32_t swimtab_raw_find(const swimtab_node *node, const void *name, size_t name_len,
                           swimtab_member_data *member);
-swimtab_written swimtab_raw_list(swimtab_node *node, void *out, size_t out_len);
-swimtab_related swimtab_raw_relate(swimtab_node *first, swimtab_node *second);
+swimtab_written swimtab_raw_list(const swimtab_node *node, void *out, size_t out_len);
+swimtab_related swimtab_raw_relate(const swimtab_node *first, const swimtab_node *second);
+uint32_t swimtab_raw_keyring_add(swimtab_keyring *keyring, const void *key, size_t key_len);
+uint32_t swimtab_raw_keyring_close(swimtab_keyring *keyring);
+swimtab_written swimtab_raw_unwrap(const swimtab_keyring *keyring, const void *packet, size_t len,
+                                   void *out, size_t out_len);
+swimtab_written swimtab_raw_unwrap_stream(const swimtab_keyring *keyring, const void *stream, size_t len,
+                                          void *out, size_t out_len);
+swimtab_written swimtab_raw_seal(const swimtab_keyring *keyring, const void *nonce, const void *label,
+                                 size_t label_len, const void *message, size_t len, void *out,
+                                 size_t out_len);
+swimtab_written swimtab_raw_seal_stream(const swimtab_keyring *keyring, const void *nonce,
+                                        const void *label, size_t label_len, const void *message,
+                                        size_t len, void *out, size_t out_len);
 
 /* ------------------------------------------------------------------ opening and closing */
 
@@ -242,7 +286,7 @@ static inline swimtab_refuted swimtab_refute(swimtab_node *node) {
  * incarnation: that of swimtab_open at first, later those that swimtab_refute gives.
  *
  * SWIMTAB_DONE; SWIMTAB_TOO_SMALL; SWIMTAB_NO_NODE_HERE; SWIMTAB_MEMORY. */
-static inline swimtab_written swimtab_alive(swimtab_node *node, uint32_t inc, void *out,
+static inline swimtab_written swimtab_alive(const swimtab_node *node, uint32_t inc, void *out,
                                             size_t out_len) {
     const swimtab_written refused = {SWIMTAB_NO_NODE_HERE, 0};
     uint8_t none = 0;
@@ -255,7 +299,7 @@ static inline swimtab_written swimtab_alive(swimtab_node *node, uint32_t inc, vo
  *
  * SWIMTAB_DONE; SWIMTAB_TOO_SMALL; SWIMTAB_NO_NODE_HERE; SWIMTAB_NAME_EMPTY;
  * SWIMTAB_NAME_TOO_LONG; SWIMTAB_MEMORY. */
-static inline swimtab_written swimtab_suspect(swimtab_node *node, const void *name,
+static inline swimtab_written swimtab_suspect(const swimtab_node *node, const void *name,
                                               size_t name_len, uint32_t inc, void *out,
                                               size_t out_len) {
     const swimtab_written refused = {SWIMTAB_NO_NODE_HERE, 0};
@@ -270,7 +314,7 @@ static inline swimtab_written swimtab_suspect(swimtab_node *node, const void *na
  *
  * SWIMTAB_DONE; SWIMTAB_TOO_SMALL; SWIMTAB_NO_NODE_HERE; SWIMTAB_OWN_NAME: the name is the member's
  * own; SWIMTAB_NAME_EMPTY; SWIMTAB_NAME_TOO_LONG; SWIMTAB_MEMORY. */
-static inline swimtab_written swimtab_confirm(swimtab_node *node, const void *name,
+static inline swimtab_written swimtab_confirm(const swimtab_node *node, const void *name,
                                               size_t name_len, uint32_t inc, void *out,
                                               size_t out_len) {
     const swimtab_written refused = {SWIMTAB_NO_NODE_HERE, 0};
@@ -283,7 +327,7 @@ static inline swimtab_written swimtab_confirm(swimtab_node *node, const void *na
 /* Writes the packet by which the member itself leaves, at the incarnation. The node does not change.
  *
  * SWIMTAB_DONE; SWIMTAB_TOO_SMALL; SWIMTAB_NO_NODE_HERE; SWIMTAB_MEMORY. */
-static inline swimtab_written swimtab_leave(swimtab_node *node, uint32_t inc, void *out,
+static inline swimtab_written swimtab_leave(const swimtab_node *node, uint32_t inc, void *out,
                                             size_t out_len) {
     const swimtab_written refused = {SWIMTAB_NO_NODE_HERE, 0};
     uint8_t none = 0;
@@ -314,7 +358,7 @@ static inline swimtab_written swimtab_compound(const void *packets, size_t len,
  * takes no memory, and a call without a buffer adds lengths up and encodes nothing.
  *
  * SWIMTAB_DONE; SWIMTAB_TOO_SMALL; SWIMTAB_NO_NODE_HERE; SWIMTAB_TOO_MANY_RECORDS. */
-static inline swimtab_written swimtab_offer(swimtab_node *node, bool join, void *out,
+static inline swimtab_written swimtab_offer(const swimtab_node *node, bool join, void *out,
                                             size_t out_len) {
     const swimtab_written refused = {SWIMTAB_NO_NODE_HERE, 0};
     uint8_t none = 0;
@@ -322,7 +366,7 @@ static inline swimtab_written swimtab_offer(swimtab_node *node, bool join, void 
 }
 
 /* The same with the join flag false: the bytes that `swimtab merge` prints of the table. */
-static inline swimtab_written swimtab_dump(swimtab_node *node, void *out, size_t out_len) {
+static inline swimtab_written swimtab_dump(const swimtab_node *node, void *out, size_t out_len) {
     return swimtab_offer(node, false, out, out_len);
 }
 
@@ -356,10 +400,105 @@ static inline swimtab_exchanged swimtab_finish(swimtab_node *node, const void *s
     return node ? swimtab_raw_finish(node, stream ? stream : &none, stream ? len : 0) : refused;
 }
 
+/* ------------------------------------------------------------------ as a real cluster sends it */
+
+/* Adds a key of 16, 24 or 32 bytes, behind those that are there. The first key encrypts; all are tried
+ * in order to open what was encrypted. The keyring copies what it needs of the key, overwrites that
+ * before its memory is given back, and lets it go on swimtab_keyring_close. A keyring is given to one
+ * call at a time, as a node is.
+ *
+ * SWIMTAB_DONE; SWIMTAB_BAD_KEY: another length; SWIMTAB_MEMORY: the keyring is as it was. A NULL
+ * handle, which has no room for a keyring, is SWIMTAB_NO_NODE_HERE. */
+static inline uint32_t swimtab_keyring_add(swimtab_keyring *keyring, const void *key,
+                                           size_t key_len) {
+    const uint8_t none = 0;
+    if (!keyring) return SWIMTAB_NO_NODE_HERE;
+    return swimtab_raw_keyring_add(keyring, key ? key : &none, key ? key_len : 0);
+}
+
+/* Overwrites the keys and frees the keyring. The handle has none then, and may be given keys again.
+ *
+ * SWIMTAB_DONE; SWIMTAB_NO_NODE_HERE: there was no keyring, and nothing happened. */
+static inline uint32_t swimtab_keyring_close(swimtab_keyring *keyring) {
+    if (!keyring) return SWIMTAB_NO_NODE_HERE;
+    return swimtab_raw_keyring_close(keyring);
+}
+
+/* Writes the message of a packet, one UDP payload as a member sends it: its label, its checksum and
+ * its compression are taken off, and what is encrypted is opened by the keys. What comes out is what
+ * swimtab_take reads. With a keyring packets in the clear are read too. Neither the message, nor what
+ * is compressed or encrypted, has more than 1,048,576 bytes. A NULL keyring has no key. The keyring
+ * does not change.
+ *
+ * SWIMTAB_DONE; SWIMTAB_TOO_SMALL; SWIMTAB_MEMORY; SWIMTAB_WRONG_TYPE: a whole message that makes no
+ * claims, as a ping, or no message; without a key also one that is encrypted; SWIMTAB_ENDED: it is
+ * empty; .._WRAPPER_ENDED to .._TOO_DEEP: its wrappers are wrong; SWIMTAB_WRONG_TAG: it is encrypted,
+ * and no key opens it. */
+static inline swimtab_written swimtab_unwrap(const swimtab_keyring *keyring, const void *packet,
+                                             size_t len, void *out, size_t out_len) {
+    const swimtab_keyring no_keys = SWIMTAB_KEYRING_INIT;
+    uint8_t none = 0;
+    return swimtab_raw_unwrap(keyring ? keyring : &no_keys, packet ? packet : &none,
+                              packet ? len : 0, out ? out : &none, out ? out_len : 0);
+}
+
+/* Writes the push/pull stream that one direction of a TCP connection is, in the same way. What comes
+ * out is what swimtab_answer and swimtab_finish read. Neither it, nor what is compressed or encrypted,
+ * has more than 268,435,456 bytes.
+ *
+ * SWIMTAB_DONE; SWIMTAB_TOO_SMALL; SWIMTAB_MEMORY; SWIMTAB_WRONG_TYPE: no push/pull stream; without a
+ * key also one that is encrypted; SWIMTAB_ENDED: it is empty; .._WRAPPER_ENDED to .._TOO_DEEP;
+ * .._CIPHER_TOO_LONG to .._CIPHER_TRAILING: it is encrypted and no key opens it, the fault of the last
+ * key. */
+static inline swimtab_written swimtab_unwrap_stream(const swimtab_keyring *keyring, const void *stream,
+                                                    size_t len, void *out, size_t out_len) {
+    const swimtab_keyring no_keys = SWIMTAB_KEYRING_INIT;
+    uint8_t none = 0;
+    return swimtab_raw_unwrap_stream(keyring ? keyring : &no_keys, stream ? stream : &none,
+                                     stream ? len : 0, out ? out : &none, out ? out_len : 0);
+}
+
+/* Writes a packet with this message, as memberlist sends it: encrypted under the first key with the
+ * nonce, SWIMTAB_NONCE bytes, behind the label, which is associated with it. No label is written where
+ * it is empty. A nonce must not be used twice under one key, be it for packets or streams: draw each
+ * at random. Without a key the message is not encrypted, the nonce is not read, and the label alone is
+ * written before it. The keyring does not change. A NULL nonce is 12 zero bytes, for calls without a
+ * key.
+ *
+ * SWIMTAB_DONE; SWIMTAB_TOO_SMALL; SWIMTAB_MEMORY; SWIMTAB_CIPHER_TOO_LONG: the label has more than
+ * 255 bytes, or the message, which is to be encrypted, more than 2^36 - 32. */
+static inline swimtab_written swimtab_seal(const swimtab_keyring *keyring, const void *nonce,
+                                           const void *label, size_t label_len,
+                                           const void *message, size_t len, void *out,
+                                           size_t out_len) {
+    const uint8_t zeros[SWIMTAB_NONCE] = {0};
+    const swimtab_keyring no_keys = SWIMTAB_KEYRING_INIT;
+    uint8_t none = 0;
+    return swimtab_raw_seal(keyring ? keyring : &no_keys, nonce ? nonce : zeros,
+                            label ? label : &none, label ? label_len : 0,
+                            message ? message : &none, message ? len : 0, out ? out : &none,
+                            out ? out_len : 0);
+}
+
+/* Writes a stream with this message in the same way; what is encrypted has at most 268,435,427
+ * bytes. */
+static inline swimtab_written swimtab_seal_stream(const swimtab_keyring *keyring, const void *nonce,
+                                                  const void *label, size_t label_len,
+                                                  const void *message, size_t len, void *out,
+                                                  size_t out_len) {
+    const uint8_t zeros[SWIMTAB_NONCE] = {0};
+    const swimtab_keyring no_keys = SWIMTAB_KEYRING_INIT;
+    uint8_t none = 0;
+    return swimtab_raw_seal_stream(keyring ? keyring : &no_keys, nonce ? nonce : zeros,
+                                   label ? label : &none, label ? label_len : 0,
+                                   message ? message : &none, message ? len : 0, out ? out : &none,
+                                   out ? out_len : 0);
+}
+
 /* ------------------------------------------------------------------ looking at the table */
 
 /* How many members the node knows of, itself among them; 0 for a handle without a node. */
-static inline size_t swimtab_count(swimtab_node *node) {
+static inline size_t swimtab_count(const swimtab_node *node) {
     return node ? swimtab_raw_count(node) : 0;
 }
 
@@ -369,14 +508,14 @@ static inline size_t swimtab_count(swimtab_node *node) {
  *
  * SWIMTAB_DONE; SWIMTAB_NO_MEMBER: `i` is the count or above; SWIMTAB_NO_NODE_HERE. With the last two
  * `member` is as it was. */
-static inline uint32_t swimtab_member(swimtab_node *node, size_t i, swimtab_member_data *member) {
+static inline uint32_t swimtab_member(const swimtab_node *node, size_t i, swimtab_member_data *member) {
     swimtab_member_data none;
     if (!node) return SWIMTAB_NO_NODE_HERE;
     return swimtab_raw_member(node, i, member ? member : &none);
 }
 
 /* The same of the member of this name. A name that no member has, or can have, is SWIMTAB_NO_MEMBER. */
-static inline uint32_t swimtab_find(swimtab_node *node, const void *name, size_t name_len,
+static inline uint32_t swimtab_find(const swimtab_node *node, const void *name, size_t name_len,
                                     swimtab_member_data *member) {
     swimtab_member_data none_member;
     const uint8_t none = 0;
@@ -389,7 +528,7 @@ static inline uint32_t swimtab_find(swimtab_node *node, const void *name, size_t
  * member, without a zero byte behind it.
  *
  * SWIMTAB_DONE; SWIMTAB_TOO_SMALL; SWIMTAB_NO_NODE_HERE; SWIMTAB_MEMORY. */
-static inline swimtab_written swimtab_list(swimtab_node *node, void *out, size_t out_len) {
+static inline swimtab_written swimtab_list(const swimtab_node *node, void *out, size_t out_len) {
     const swimtab_written refused = {SWIMTAB_NO_NODE_HERE, 0};
     uint8_t none = 0;
     return node ? swimtab_raw_list(node, out ? out : &none, out ? out_len : 0) : refused;
@@ -399,7 +538,8 @@ static inline swimtab_written swimtab_list(swimtab_node *node, void *out, size_t
  * handle given twice is equal to itself.
  *
  * SWIMTAB_DONE; SWIMTAB_NO_NODE_HERE: one of the two has no node. */
-static inline swimtab_related swimtab_relate(swimtab_node *first, swimtab_node *second) {
+static inline swimtab_related swimtab_relate(const swimtab_node *first,
+                                             const swimtab_node *second) {
     swimtab_related answer = {SWIMTAB_NO_NODE_HERE, 0};
     if (!first || !second) return answer;
     if (first != second) return swimtab_raw_relate(first, second);
@@ -471,7 +611,64 @@ static inline const char *swimtab_fault_name(uint32_t status) {
     case 67: return "NoMember";
     case 68: return "OwnName";
     case 69: return "TooManyPackets";
+    case 70: return "BadForm";
     default: return "Unknown";
+    }
+}
+
+/* What a status says, as a sentence: "The bytes end too soon." The text is there for good. */
+static inline const char *swimtab_fault_text(uint32_t status) {
+    switch (status) {
+    case 0: return "Done.";
+    case 1: return "The bytes end too soon.";
+    case 2: return "A number is wanted that is not negative.";
+    case 3: return "A number is above the greatest value of its place.";
+    case 4: return "A truth value is wanted.";
+    case 5: return "Text or bytes are wanted.";
+    case 6: return "Text or bytes are longer than their place allows.";
+    case 7: return "A map is wanted.";
+    case 8: return "A map has more pairs than its layout has keys.";
+    case 10: return "Out of memory.";
+    case 11: return "The name is empty.";
+    case 12: return "The name has more than 1,024 bytes.";
+    case 13: return "The address has neither 4 nor 16 bytes.";
+    case 14: return "The metadata has more than 512 bytes.";
+    case 15: return "The versions have neither none nor 6 bytes.";
+    case 16: return "The message is of a type that is not read.";
+    case 17: return "A map has a key that its layout lacks.";
+    case 18: return "A map has a key twice.";
+    case 19: return "A state is none of 0 to 3.";
+    case 20: return "The stream promises more than 131,072 members.";
+    case 21: return "The stream promises more than 20,971,520 bytes of user state.";
+    case 22: return "There are bytes after the end.";
+    case 23: return "The table has more than 131,072 records, too many for a stream.";
+    case 24: return "No greater incarnation is left.";
+    case 25: return "The member was confirmed dead, or left.";
+    case 40: return "A wrapper, or what is compressed, ends too soon.";
+    case 41: return "There are bytes after what is compressed.";
+    case 42: return "A code of a compression stands for nothing yet.";
+    case 43: return "The checksum is another one.";
+    case 44: return "The map of a compression is invalid.";
+    case 45: return "The compression is not LZW.";
+    case 46: return "The label is empty.";
+    case 47: return "What is wrapped is longer than its limit.";
+    case 48: return "There are more than 4 wrappers around each other.";
+    case 50: return "The key has another length than 16, 24 or 32 bytes.";
+    case 51: return "The label, or what is encrypted, is too long.";
+    case 52: return "What is encrypted ends too soon.";
+    case 53: return "The version of the encryption is neither 0 nor 1.";
+    case 54: return "No key opens it.";
+    case 55: return "What was decrypted has no padding.";
+    case 56: return "The stream is not encrypted.";
+    case 57: return "There are bytes after what is encrypted.";
+    case 64: return "The handle is empty.";
+    case 65: return "The handle has a node already.";
+    case 66: return "The buffer is too small.";
+    case 67: return "There is no such member.";
+    case 68: return "A member does not confirm its own death; it leaves.";
+    case 69: return "There are more than 255 packets for one compound packet.";
+    case 70: return "There is no such form of a stream.";
+    default: return "There is no such status.";
     }
 }
 

@@ -50,7 +50,7 @@ static void exchange(swimtab_node *joining, swimtab_node *other) {
 int main(void) {
     const uint8_t addr_a[4] = {10, 0, 0, 1}, addr_b[4] = {10, 0, 0, 2};
     const uint8_t versions[6] = {1, 5, 2, 0, 0, 0};
-    swimtab_node a = SWIMTAB_NO_NODE, b = SWIMTAB_NO_NODE;
+    swimtab_node a = SWIMTAB_NODE_INIT, b = SWIMTAB_NODE_INIT;
     check(swimtab_open(&a, "a", 1, addr_a, 4, 7946, "db", 2, versions, 6, 1), "open");
     check(swimtab_open(&b, "b", 1, addr_b, 4, 7946, "web", 3, versions, 6, 1), "open");
 

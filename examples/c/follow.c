@@ -150,7 +150,7 @@ static void take_line(swimtab_node *node, const char *line, unsigned long number
 int main(void) {
     static char line[LONGEST_LINE];
     const uint8_t nowhere[4] = {0, 0, 0, 0};
-    swimtab_node node = SWIMTAB_NO_NODE;
+    swimtab_node node = SWIMTAB_NODE_INIT;
     struct seen_list list = {NULL, 0, 0};
     check(swimtab_open(&node, listener, sizeof listener - 1, nowhere, 4, 0, NULL, 0, NULL, 0, 0));
     for (unsigned long number = 1; fgets(line, sizeof line, stdin); number++) {

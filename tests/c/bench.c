@@ -36,7 +36,7 @@ static uint8_t *room(size_t len) {
 }
 
 static swimtab_node member(const char *name, unsigned i, uint32_t inc) {
-    swimtab_node node = SWIMTAB_NO_NODE;
+    swimtab_node node = SWIMTAB_NODE_INIT;
     const uint8_t addr[4] = {10, (uint8_t)(i >> 16), (uint8_t)(i >> 8), (uint8_t)i}, versions[6] = {1, 5, 2, 0, 0, 0};
     WANT(swimtab_open(&node, name, strlen(name), addr, 4, 7946, meta, strlen(meta), versions, 6, inc) == 0);
     return node;

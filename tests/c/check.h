@@ -119,7 +119,7 @@ static const uint8_t local_addr[4] = {127, 0, 0, 1};
 
 /* A node of this name, alive at the incarnation on 127.0.0.1. */
 static inline swimtab_node opened(const char *name, uint16_t port, uint32_t inc) {
-    swimtab_node node = SWIMTAB_NO_NODE;
+    swimtab_node node = SWIMTAB_NODE_INIT;
     WANT(swimtab_open(&node, name, strlen(name), local_addr, 4, port, NULL, 0, NULL, 0, inc) == 0);
     return node;
 }

@@ -8,7 +8,7 @@ namespace {
 
 class Node {
 public:
-    Node(const std::string &name, uint16_t port) : handle_(SWIMTAB_NO_NODE) {
+    Node(const std::string &name, uint16_t port) : handle_(SWIMTAB_NODE_INIT) {
         const unsigned char local[4] = {127, 0, 0, 1};
         status_ = swimtab_open(&handle_, name.data(), name.size(), local, sizeof local, port, nullptr, 0,
                                nullptr, 0, 0);

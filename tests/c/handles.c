@@ -50,7 +50,7 @@ static void refuses_without_a_node(swimtab_node *none) {
 }
 
 static void a_handle_without_a_node_has_none(void) {
-    swimtab_node fresh = SWIMTAB_NO_NODE, zeroed, closed = opened("a", 1, 0);
+    swimtab_node fresh = SWIMTAB_NODE_INIT, zeroed, closed = opened("a", 1, 0);
     memset(&zeroed, 0, sizeof zeroed);
     WANT(swimtab_close(&closed) == SWIMTAB_DONE);
     refuses_without_a_node(&fresh);
@@ -81,7 +81,7 @@ static void openings_are_refused(void) {
         {1, 4, 0, 5, SWIMTAB_BAD_VERSIONS},    {1, 4, 0, 7, SWIMTAB_BAD_VERSIONS},
     };
     for (size_t i = 0; i < sizeof cases / sizeof *cases; i++) {
-        swimtab_node node = SWIMTAB_NO_NODE;
+        swimtab_node node = SWIMTAB_NODE_INIT;
         struct bytes name = bytes_of_size(cases[i].name_len, 'n'), addr = bytes_of_size(cases[i].addr_len, 1),
                      meta = bytes_of_size(cases[i].meta_len, 2), vsn = bytes_of_size(cases[i].vsn_len, 3);
         WANT(swimtab_open(&node, name.at, name.len, addr.at, addr.len, 1, meta.at, meta.len, vsn.at,
@@ -89,7 +89,7 @@ static void openings_are_refused(void) {
         WANT(swimtab_close(&node) == SWIMTAB_NO_NODE_HERE);
         free(name.at), free(addr.at), free(meta.at), free(vsn.at);
     }
-    swimtab_node node = SWIMTAB_NO_NODE;
+    swimtab_node node = SWIMTAB_NODE_INIT;
     WANT(swimtab_open(&node, NULL, 1, local_addr, 4, 1, NULL, 0, NULL, 0, 0) == SWIMTAB_NAME_EMPTY);
     WANT(swimtab_open(&node, "a", 1, NULL, 4, 1, NULL, 0, NULL, 0, 0) == SWIMTAB_BAD_ADDRESS);
     node = opened("a", 7946, 0);
@@ -103,7 +103,7 @@ static void the_longest_values_are_copied_out(void) {
     struct bytes name = bytes_of_size(1024, 0), addr = bytes_of_size(16, 1), meta = bytes_of_size(512, 2),
                  vsn = bytes_of_size(6, 3);
     for (size_t i = 0; i < name.len; i++) name.at[i] = (uint8_t)i;
-    swimtab_node node = SWIMTAB_NO_NODE;
+    swimtab_node node = SWIMTAB_NODE_INIT;
     WANT(swimtab_open(&node, name.at, name.len, addr.at, addr.len, 65535, meta.at, meta.len, vsn.at, vsn.len,
                       UINT32_MAX) == 0);
     swimtab_member_data member;

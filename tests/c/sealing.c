@@ -3,28 +3,6 @@
  * memberlist's encryptPayload and encryptLocalState, with labels; and of Go's crypto and compress/lzw. */
 #include "check.h"
 
-#ifndef SWIMTAB_NO_KEYRING
-typedef struct swimtab_keyring {
-    void *at;
-    bool held;
-} swimtab_keyring;
-
-#define SWIMTAB_NO_KEYRING {NULL, false}
-
-uint32_t swimtab_raw_keyring_add(swimtab_keyring *keyring, const void *key, size_t key_len);
-uint32_t swimtab_raw_keyring_close(swimtab_keyring *keyring);
-swimtab_written swimtab_raw_unwrap(swimtab_keyring *keyring, const void *packet, size_t len, void *out,
-                                   size_t out_len);
-swimtab_written swimtab_raw_unwrap_stream(swimtab_keyring *keyring, const void *stream, size_t len,
-                                          void *out, size_t out_len);
-swimtab_written swimtab_raw_seal(swimtab_keyring *keyring, const void *nonce, const void *label,
-                                 size_t label_len, const void *message, size_t len, void *out,
-                                 size_t out_len);
-swimtab_written swimtab_raw_seal_stream(swimtab_keyring *keyring, const void *nonce, const void *label,
-                                        size_t label_len, const void *message, size_t len, void *out,
-                                        size_t out_len);
-#endif
-
 /* The keys of the cluster that was captured: its first one was replaced by the new one. */
 #define OLD_KEY "0d1c51557ebaaee59ca0f5167923fc116f050e5174abc232601430cf8ead85db"
 #define NEW_KEY "3b91421dae7f570e037c45dd729985efad5f7659103d10134452b9016801a83f"
@@ -134,13 +112,13 @@ swimtab_written swimtab_raw_seal_stream(swimtab_keyring *keyring, const void *no
     "32aa536f75726365506f7274cd1f0a"
 
 /* What reads wrapped bytes, and what writes them. */
-typedef swimtab_written (*unwrapping)(swimtab_keyring *, const void *, size_t, void *, size_t);
-typedef swimtab_written (*sealing)(swimtab_keyring *, const void *, const void *, size_t, const void *, size_t,
+typedef swimtab_written (*unwrapping)(const swimtab_keyring *, const void *, size_t, void *, size_t);
+typedef swimtab_written (*sealing)(const swimtab_keyring *, const void *, const void *, size_t, const void *, size_t,
                                    void *, size_t);
 
 /* A keyring with the keys of these texts, up to the first NULL. */
 static swimtab_keyring keyring_of(const char *const *keys) {
-    swimtab_keyring keyring = SWIMTAB_NO_KEYRING;
+    swimtab_keyring keyring = SWIMTAB_KEYRING_INIT;
     for (; *keys; keys++) {
         struct bytes key = hex(*keys);
         WANT(swimtab_raw_keyring_add(&keyring, key.at, key.len) == SWIMTAB_DONE && keyring.held);
@@ -225,7 +203,7 @@ static const char *const key_32[] = {KEY_32, NULL};
 static const char *const others[] = {OLD_KEY, KEY_16, KEY_32, NULL};
 
 static void keys_are_added_and_freed(void) {
-    swimtab_keyring keyring = SWIMTAB_NO_KEYRING;
+    swimtab_keyring keyring = SWIMTAB_KEYRING_INIT;
     const uint8_t key[33] = {1};
     static const size_t wrong[] = {0, 1, 15, 17, 23, 25, 31, 33};
     for (size_t i = 0; i < sizeof wrong / sizeof *wrong; i++)

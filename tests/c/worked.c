@@ -79,7 +79,7 @@ static void exchange(swimtab_node *x, swimtab_node *y) {
 int main(int argc, char **argv) {
     static const char *const relations[] = {"equal\n", "behind\n", "ahead\n", "apart\n"};
     const uint8_t addr_x[4] = {127, 0, 9, 1}, addr_y[4] = {127, 0, 9, 2}, versions[6] = {1, 5, 2, 0, 0, 0};
-    swimtab_node x = SWIMTAB_NO_NODE, y = SWIMTAB_NO_NODE;
+    swimtab_node x = SWIMTAB_NODE_INIT, y = SWIMTAB_NODE_INIT;
     if (argc != 4) return 2;
     folder = argv[3];
     WANT(swimtab_open(&x, "x", 1, addr_x, 4, 7946, "m", 1, versions, 6, 0) == 0);
