@@ -1,5 +1,5 @@
-//! What holds of the dump that memberlist merges, apart from any code. Each law is the contract of a
-//! function that does nothing.
+//! What holds of the dump that memberlist merges, apart from any code. Each law is the contract of
+//! a function that does nothing.
 
 ghost use Rattle.std.specs.Prelude.{◌≡◌, ◌≤◌, Bool, List, All, Contains, IsSome, length};
 ghost use Rattle.swim_claim.specs.declared.claim.Claim.{Claim};

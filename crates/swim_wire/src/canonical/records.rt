@@ -86,9 +86,9 @@ pub fn state_with_details_len<'a>(name: &'a Name, facts: Facts<'a>, details: &'a
 /// Writes the state record of the claim that the facts make about a member into room that is there,
 /// with these details where the claim has none of its own. Answers the place behind it.
 ///
-/// memberlist refuses a whole stream if one record has no versions, so here the record of a Suspect,
-/// Confirm or Leave can have some. The details are no part of its claim, and readers pass over them.
-/// It is a condition that the facts have details exactly for an Alive.
+/// memberlist refuses a whole stream if one record has no versions, so here the record of a
+/// Suspect, Confirm or Leave can have some. The details are no part of its claim, and readers pass
+/// over them. It is a condition that the facts have details exactly for an Alive.
 #[inline(always)]
 pub fn put_state_with_details<'a>(
     out: &mut [u8],
@@ -149,7 +149,8 @@ impl<'a> Record<'a> {
     fn with(name: &'a Name, facts: Facts<'a>, details: &'a Details) -> Record<'a>
         ensures told { bytes_of result ≡ facts_bytes_with details.now name.now facts.entry }
         ensures short { IsShortRecord result }
-        ensures details { IsLegalDetails (unwrap_or (option_copied facts.entry.details) details.now) }
+        ensures details { IsLegalDetails
+            (unwrap_or (option_copied facts.entry.details) details.now) }
         ensures legal { (c : Claim) → name_of c ≡ name.now → HasFacts c facts.entry
             → IsLegalClaim c }
     {
