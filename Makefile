@@ -11,20 +11,29 @@
 #                   tries the wrong bodies of crates that changed, and of one crate more; with ANEW=1 all
 #   make bench      what a record costs, by size and by order of the names; some minutes
 #   make install    copies what make built to PREFIX: the programs to bin, their pages to share/man/man1,
-#                   the library to lib, its header to include, and what pkg-config reads to
-#                   lib/pkgconfig; it is built first only where it is not there, so root needs no kit
+#                   the library to LIBDIR, its header to include, and what pkg-config reads to
+#                   LIBDIR/pkgconfig; it builds all of it first if nothing is there, so root needs no kit
+#   make install-library
+#                   the same of the library alone
+#   make uninstall  removes what install copies there
 #   make programs   the programs alone
 #   make library    the library alone
 #   make clean      removes what was built
 #   make help       these lines
 
 PREFIX ?= /usr/local
+LIBDIR ?= $(prefix)/lib
 CC ?= cc
 AR ?= ar
+LD ?= ld
+NM ?= nm
+OBJCOPY ?= objcopy
 SOURCES := $(shell find crates -type f -not -path '*/out/*') crates.txt HANDLES
+SONAME := libswimtab.so.1
 VERSION := $(shell sed -n 's/^.define SWIMTAB_VERSION "\(.*\)"/\1/p' include/swimtab.h)
 
-.PHONY: all programs library run test wrong-bodies bench install clean help kit
+.PHONY: all programs library run test wrong-bodies bench install install-programs install-library uninstall \
+	clean help kit
 
 programs := swimtab swimunwrap swimwatch
 
@@ -43,18 +52,22 @@ $(programs:%=build/%) build/swimbench: build/%: $(SOURCES) | kit
 	@.ci/prove $* rt run $(words)
 	@cp crates/$*/out/$* build/$*
 
-# the crate's archive, and the kit's few functions over malloc, realloc and free, as one
+# the crate's archive, and the kit's few functions over malloc, realloc and free, as one object, of which
+# others see the functions of the header alone
 build/libswimtab.a: $(SOURCES) | kit
 	@echo 'proving swim_c and the libraries that it stands on, and building it; some minutes for each the first time'
 	@.ci/prove swim_c rt lib
-	@rm -f $@
-	@printf 'create %s\naddlib %s\naddlib %s\nsave\nend\n' $@ crates/swim_c/out/libswim_c.a \
-		"$$(dirname "$$(rt doc)")/c/liblibc_c.a" | $(AR) -M
-	@$(AR) s $@
+	@rm -f $@ build/libswimtab.o
+	@$(LD) -r --gc-sections -o build/libswimtab.o \
+		$$($(NM) -g --defined-only crates/swim_c/out/libswim_c.a | sed -n 's/.* \(swimtab_raw_.*\)/-u \1/p') \
+		crates/swim_c/out/libswim_c.a "$$(dirname "$$(rt doc)")/c/liblibc_c.a"
+	@$(OBJCOPY) --wildcard --keep-global-symbol='swimtab_raw_*' build/libswimtab.o
+	@$(AR) rcs $@ build/libswimtab.o
+	@rm -f build/libswimtab.o
 
 build/libswimtab.so: build/libswimtab.a
 	@echo '{ global: swimtab_raw_*; local: *; };' > build/libswimtab.map
-	$(CC) -shared -o $@ -Wl,-soname,libswimtab.so.0 -Wl,--version-script=build/libswimtab.map \
+	$(CC) -shared -o $@ -Wl,-soname,$(SONAME) -Wl,--version-script=build/libswimtab.map \
 		-Wl,--gc-sections -Wl,--whole-archive $< -Wl,--no-whole-archive
 	@rm -f build/libswimtab.map
 
@@ -76,23 +89,38 @@ wrong-bodies: kit
 bench: build/swimbench
 	@build/swimbench
 
-install: prefix = $(if $(filter /%,$(PREFIX)),$(PREFIX),$(CURDIR)/$(PREFIX))
-install: root = $(DESTDIR)$(prefix)
+prefix = $(if $(filter /%,$(PREFIX)),$(PREFIX),$(CURDIR)/$(PREFIX))
+root = $(DESTDIR)$(prefix)
+libdir = $(DESTDIR)$(LIBDIR)
+
 install:
+	@ls build/swimtab build/libswimtab.a 2> /dev/null | grep -q . || $(MAKE) all
+	@if [ -f build/swimtab ]; then $(MAKE) --no-print-directory install-programs; fi
+	@if [ -f build/libswimtab.a ]; then $(MAKE) --no-print-directory install-library; fi
+
+install-programs:
 	@for program in $(programs); do test -x build/$$program || $(MAKE) build/$$program || exit 1; done
-	@test -f build/libswimtab.a || $(MAKE) library
-	@mkdir -p '$(root)/bin' '$(root)/share/man/man1' '$(root)/lib/pkgconfig' '$(root)/include'
+	@mkdir -p '$(root)/bin' '$(root)/share/man/man1'
 	install -m 755 $(programs:%=build/%) '$(root)/bin'
 	install -m 644 $(programs:%=docs/%.1) '$(root)/share/man/man1'
+
+install-library:
+	@test -f build/libswimtab.a || $(MAKE) library
+	@mkdir -p '$(libdir)/pkgconfig' '$(root)/include'
 	install -m 644 include/swimtab.h '$(root)/include/swimtab.h'
-	install -m 644 build/libswimtab.a '$(root)/lib/libswimtab.a'
+	install -m 644 build/libswimtab.a '$(libdir)/libswimtab.a'
 	@if [ -f build/libswimtab.so ]; then \
-		install -m 755 build/libswimtab.so '$(root)/lib/libswimtab.so.0' && \
-		ln -sf libswimtab.so.0 '$(root)/lib/libswimtab.so'; fi
-	@printf '%s\n' 'prefix=$(prefix)' 'libdir=$${prefix}/lib' 'includedir=$${prefix}/include' '' \
+		install -m 755 build/libswimtab.so '$(libdir)/$(SONAME)' && \
+		ln -sf $(SONAME) '$(libdir)/libswimtab.so' && \
+		echo 'if the loader does not find $(SONAME) in $(LIBDIR), run ldconfig once as root, or set LD_LIBRARY_PATH'; fi
+	@printf '%s\n' 'prefix=$(prefix)' 'libdir=$(LIBDIR)' 'includedir=$${prefix}/include' '' \
 		'Name: swimtab' 'Description: membership tables of SWIM clusters, over the messages of memberlist' \
-		'Version: $(VERSION)' 'Libs: -L$${libdir} -lswimtab' 'Cflags: -I$${includedir}' \
-		> '$(root)/lib/pkgconfig/swimtab.pc'
+		$(if $(URL),'URL: $(URL)') 'Version: $(VERSION)' 'Libs: -L$${libdir} -lswimtab' 'Libs.private:' \
+		'Cflags: -I$${includedir}' > '$(libdir)/pkgconfig/swimtab.pc'
+
+uninstall:
+	rm -f $(programs:%='$(root)/bin/%') $(programs:%='$(root)/share/man/man1/%.1') '$(root)/include/swimtab.h' \
+		'$(libdir)/libswimtab.a' '$(libdir)/libswimtab.so' '$(libdir)/$(SONAME)' '$(libdir)/pkgconfig/swimtab.pc'
 
 help:
 	@sed -n 's/^#   //p' Makefile
