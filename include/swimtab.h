@@ -2,7 +2,7 @@
  *
  *     swimtab_node node = SWIMTAB_NODE_INIT;
  *     uint32_t status = swimtab_open(&node, name, 2, addr, 4, 7946, NULL, 0, NULL, 0, 1);
- *     status = swimtab_take(&node, packet, packet_len);
+ *     swimtab_taken taken = swimtab_take(&node, packet, packet_len);
  *     status = swimtab_close(&node);
  *
  * A node is what one member of a cluster knows: who it is itself, and a table of all members that
@@ -28,8 +28,8 @@
  * - A handle begins as SWIMTAB_NODE_INIT (all bytes zero), and only calls write into it. It may be
  *   moved in memory between calls, but of two copies only one may be used from then on.
  * - A handle is given to one call at a time, by calls that only read it too, which take it as const:
- *   swimtab_count as much as swimtab_take. It may go from thread to thread between calls that a lock, the start or the join
- *   of a thread, or the like orders. Different handles need no lock.
+ *   swimtab_count as much as swimtab_take. It may go from thread to thread between calls that a lock,
+ *   the start or the join of a thread, or the like orders. Different handles need no lock.
  * - A buffer that a call writes overlaps nothing else that the call is given.
  * - A length beside a pointer that is not NULL is at most that of its memory, and less than 2^63.
  * - malloc, realloc and free are of one allocator, whose memory is aligned to 16 bytes.
@@ -57,6 +57,11 @@ extern "C" {
 
 /* The length of the longest packet that swimtab_alive, .._suspect, .._confirm and .._leave write. */
 #define SWIMTAB_LONGEST_PACKET 2083
+
+/* The version of the library that is linked, as SWIMTAB_VERSION_NUMBER is that of this header. From 0.2
+ * on calls are only added and structs grow only in their reserved room, as long as the name of the shared
+ * library ends in .so.1. */
+static inline uint32_t swimtab_version(void);
 
 /* Holds a node, or none. What is in it is the library's. */
 typedef struct swimtab_node {
@@ -129,7 +134,8 @@ enum {
     SWIMTAB_TOO_SMALL = 66,        /* the buffer is too small; `len` says what is needed */
     SWIMTAB_NO_MEMBER = 67,        /* no member at this place, or of this name */
     SWIMTAB_OWN_NAME = 68,         /* a member does not confirm its own death; it leaves */
-    SWIMTAB_TOO_MANY_PACKETS = 69  /* more than 255 packets for one compound packet */
+    SWIMTAB_TOO_MANY_PACKETS = 69, /* more than 255 packets for one compound packet */
+    SWIMTAB_BAD_FORM = 70          /* a form of a stream is neither 0 nor 1 */
 };
 
 /* A member's state. */
@@ -138,6 +144,18 @@ enum { SWIMTAB_ALIVE = 0, SWIMTAB_SUSPECT = 1, SWIMTAB_CONFIRM = 2, SWIMTAB_LEAV
 /* How a table relates to another: both say the same; the other one says more; this one says more;
  * each says something that the other one does not. */
 enum { SWIMTAB_EQUAL = 0, SWIMTAB_BEHIND = 1, SWIMTAB_AHEAD = 2, SWIMTAB_APART = 3 };
+
+/* The forms of a stream that is written: all that the table keeps, in canonical bytes; or what memberlist
+ * merges. memberlist refuses a whole stream if one record of it has no versions, so each record then has
+ * the address, port, metadata and versions of the member's newest address, and names of which no Alive
+ * is known are left out. */
+enum { SWIMTAB_CANONICAL = 0, SWIMTAB_MEMBERLIST = 1 };
+
+/* What came of a packet or compound packet. */
+typedef struct swimtab_taken {
+    uint32_t status;
+    bool news; /* whether the table changed; false if the status is not 0 */
+} swimtab_taken;
 
 /* What came of writing bytes. */
 typedef struct swimtab_written {
@@ -149,6 +167,7 @@ typedef struct swimtab_written {
 typedef struct swimtab_exchanged {
     uint32_t status;
     bool join;   /* the join flag of the stream that was read */
+    bool news;   /* whether the table changed; false unless the status is SWIMTAB_DONE */
     size_t used; /* how many bytes it has; others behind them were not looked at */
     size_t len;  /* of swimtab_answer: the length of the reply, as in swimtab_written */
 } swimtab_exchanged;
@@ -171,6 +190,8 @@ typedef struct swimtab_member_data {
     uint32_t state;    /* SWIMTAB_ALIVE, .._SUSPECT, .._CONFIRM or .._LEAVE */
     uint32_t inc;      /* the incarnation of the claim that stands */
     bool has_home;     /* whether an Alive was ever seen: if not, what follows is 0, but for the name */
+    bool came_back;    /* whether that Alive has a greater incarnation than the claim that stands: a
+                        * member that was confirmed dead or left, and is heard of again */
     /* the greatest Alive, by incarnation and then by what follows; it need not be the latest one */
     uint32_t home_inc; /* its incarnation, and from here its address and the rest */
     uint16_t port;
@@ -182,7 +203,34 @@ typedef struct swimtab_member_data {
     uint8_t vsn[6];
     uint8_t meta[512];
     uint8_t name[1024]; /* any bytes; no zero byte ends it */
+    uint8_t reserved[32]; /* zeros, for what later versions tell */
 } swimtab_member_data;
+
+/* Bytes in memory of the library, or none. A program reads `len` bytes at `at`, and writes nothing here;
+ * what is in `kept` is the library's. A buffer is given to one call at a time. It may be moved in memory
+ * between calls, but of two copies only one may be used from then on. A call that is refused leaves it
+ * as it was; one that is done frees the bytes of before. */
+typedef struct swimtab_buffer {
+    const uint8_t *at;
+    size_t len;
+    struct {
+        void *at;
+        bool held;
+    } kept;
+} swimtab_buffer;
+
+/* How a buffer begins: swimtab_buffer buffer = SWIMTAB_BUFFER_INIT; */
+#define SWIMTAB_BUFFER_INIT {NULL, 0, {NULL, false}}
+
+/* How far a stream is read that comes in pieces. It begins as SWIMTAB_PROGRESS_INIT (all bytes zero). */
+typedef struct swimtab_progress {
+    size_t at;         /* the place of the first byte that was not read */
+    uint32_t left;     /* how many records are still to come */
+    uint32_t user_len; /* the length of the user state behind them */
+    bool has_header;   /* whether the header was read */
+} swimtab_progress;
+
+#define SWIMTAB_PROGRESS_INIT {0, 0, 0, false}
 
 /* The functions of the archive, for other languages than C and C++. They do what the functions below
  * do, but no pointer given to them may be NULL, not even with length 0, and swimtab_raw_relate takes
@@ -191,12 +239,18 @@ uint32_t swimtab_raw_open(swimtab_node *node, const void *name, size_t name_len,
                           const void *addr, size_t addr_len, uint16_t port, const void *meta,
                           size_t meta_len, const void *vsn, size_t vsn_len, uint32_t inc);
 uint32_t swimtab_raw_close(swimtab_node *node);
-uint32_t swimtab_raw_take(swimtab_node *node, const void *bytes, size_t len);
-swimtab_written swimtab_raw_offer(const swimtab_node *node, bool join, void *out, size_t out_len);
+uint32_t swimtab_raw_version(void);
+swimtab_taken swimtab_raw_take(swimtab_node *node, const void *bytes, size_t len);
+swimtab_written swimtab_raw_offer(const swimtab_node *node, bool join, uint32_t form, void *out,
+                                  size_t out_len);
 swimtab_exchanged swimtab_raw_answer(swimtab_node *node, const void *stream, size_t len,
-                                     void *out, size_t out_len);
+                                     uint32_t form, void *out, size_t out_len);
 swimtab_exchanged swimtab_raw_finish(swimtab_node *node, const void *stream, size_t len);
 swimtab_refuted swimtab_raw_refute(swimtab_node *node);
+swimtab_written swimtab_raw_alive_of(const void *name, size_t name_len, const void *addr,
+                                     size_t addr_len, uint16_t port, const void *meta,
+                                     size_t meta_len, const void *vsn, size_t vsn_len, uint32_t inc,
+                                     void *out, size_t out_len);
 swimtab_written swimtab_raw_alive(const swimtab_node *node, uint32_t inc, void *out, size_t out_len);
 swimtab_written swimtab_raw_suspect(const swimtab_node *node, const void *name, size_t name_len,
                                     uint32_t inc, void *out, size_t out_len);
@@ -205,6 +259,16 @@ swimtab_written swimtab_raw_confirm(const swimtab_node *node, const void *name, 
 swimtab_written swimtab_raw_leave(const swimtab_node *node, uint32_t inc, void *out, size_t out_len);
 swimtab_written swimtab_raw_compound(const void *packets, size_t len, const size_t *lens,
                                      size_t count, void *out, size_t out_len);
+uint32_t swimtab_raw_forget(swimtab_node *node, const void *name, size_t name_len);
+uint32_t swimtab_raw_offer_new(const swimtab_node *node, bool join, uint32_t form,
+                               swimtab_buffer *buffer);
+swimtab_exchanged swimtab_raw_answer_new(swimtab_node *node, const void *stream, size_t len,
+                                         uint32_t form, swimtab_buffer *buffer);
+uint32_t swimtab_raw_list_new(const swimtab_node *node, swimtab_buffer *buffer);
+void swimtab_raw_free(swimtab_buffer *buffer);
+uint32_t swimtab_raw_whole(swimtab_progress *progress, const void *bytes, size_t len);
+uint32_t swimtab_raw_watch(swimtab_node *node, bool on);
+uint32_t swimtab_raw_next_change(swimtab_node *node, swimtab_member_data *member);
 size_t swimtab_raw_count(const swimtab_node *node);
 uint32_t swimtab_raw_member(const swimtab_node *node, size_t i, swimtab_member_data *member);
 uint32_t swimtab_raw_find(const swimtab_node *node, const void *name, size_t name_len,
@@ -223,6 +287,10 @@ swimtab_written swimtab_raw_seal(const swimtab_keyring *keyring, const void *non
 swimtab_written swimtab_raw_seal_stream(const swimtab_keyring *keyring, const void *nonce,
                                         const void *label, size_t label_len, const void *message,
                                         size_t len, void *out, size_t out_len);
+
+static inline uint32_t swimtab_version(void) {
+    return swimtab_raw_version();
+}
 
 /* ------------------------------------------------------------------ opening and closing */
 
@@ -255,18 +323,19 @@ static inline uint32_t swimtab_close(swimtab_node *node) {
 
 /* ------------------------------------------------------------------ gossip */
 
-/* Takes in the claim of a packet, or all claims of a compound packet: one UDP payload, without
- * label, checksum, encryption or compression. The texts and bytes of a packet may take memory while
- * it is read. Of a packet about a name that is known, only newer metadata stays.
+/* Takes in the claim of a packet, or all claims of a compound packet: one UDP payload without wrappers,
+ * as swimtab_unwrap writes it. `news` tells whether the table changed: a program that passes packets on
+ * passes those on that have news. The texts and bytes of a packet may take memory while it is read. Of a
+ * packet about a name that is known, only newer metadata stays.
  *
- * SWIMTAB_DONE, also where it says nothing new; SWIMTAB_NO_NODE_HERE, .._MEMORY, and for what is no
+ * SWIMTAB_DONE, also if it says nothing new; SWIMTAB_NO_NODE_HERE, .._MEMORY, and for what is no
  * packet or compound packet the fault at which its reading stops: .._ENDED to .._MAP_COUNT,
  * .._NAME_EMPTY, .._BAD_ADDRESS, .._BAD_VERSIONS, .._WRONG_TYPE, .._UNKNOWN_KEY, .._DUPLICATE_KEY,
  * .._TRAILING. Then no claim of it was taken in. */
-static inline uint32_t swimtab_take(swimtab_node *node, const void *bytes, size_t len) {
+static inline swimtab_taken swimtab_take(swimtab_node *node, const void *bytes, size_t len) {
+    const swimtab_taken refused = {SWIMTAB_NO_NODE_HERE, false};
     const uint8_t none = 0;
-    if (!node) return SWIMTAB_NO_NODE_HERE;
-    return swimtab_raw_take(node, bytes ? bytes : &none, bytes ? len : 0);
+    return node ? swimtab_raw_take(node, bytes ? bytes : &none, bytes ? len : 0) : refused;
 }
 
 /* Refutes what others say of the member, where that is due: where it is suspected in its own table,
@@ -291,6 +360,21 @@ static inline swimtab_written swimtab_alive(const swimtab_node *node, uint32_t i
     const swimtab_written refused = {SWIMTAB_NO_NODE_HERE, 0};
     uint8_t none = 0;
     return node ? swimtab_raw_alive(node, inc, out ? out : &none, out ? out_len : 0) : refused;
+}
+
+/* Writes the packet of another member's Alive, as a member that gossips passes it on. It needs no node.
+ *
+ * SWIMTAB_DONE; SWIMTAB_TOO_SMALL; SWIMTAB_NAME_EMPTY, .._NAME_TOO_LONG, .._BAD_ADDRESS,
+ * .._META_TOO_LONG, .._BAD_VERSIONS: the first part that is invalid; SWIMTAB_MEMORY. */
+static inline swimtab_written swimtab_alive_of(const void *name, size_t name_len, const void *addr,
+                                               size_t addr_len, uint16_t port, const void *meta,
+                                               size_t meta_len, const void *vsn, size_t vsn_len,
+                                               uint32_t inc, void *out, size_t out_len) {
+    uint8_t none = 0;
+    return swimtab_raw_alive_of(name ? name : &none, name ? name_len : 0, addr ? addr : &none,
+                                addr ? addr_len : 0, port, meta ? meta : &none, meta ? meta_len : 0,
+                                vsn ? vsn : &none, vsn ? vsn_len : 0, inc, out ? out : &none,
+                                out ? out_len : 0);
 }
 
 /* Writes the packet by which the member suspects the one of this name at the incarnation, which is
@@ -353,38 +437,38 @@ static inline swimtab_written swimtab_compound(const void *packets, size_t len,
 
 /* ------------------------------------------------------------------ exchanges */
 
-/* Writes the node's canonical dump, with which an exchange begins: the push/pull stream that a member
- * sends over TCP, without label, encryption or compression. memberlist sets `join` where it joins. It
- * takes no memory, and a call without a buffer adds lengths up and encodes nothing.
+/* Writes the node's table as a push/pull stream, with which an exchange begins: in canonical bytes
+ * (SWIMTAB_CANONICAL), or as memberlist merges it (SWIMTAB_MEMBERLIST). memberlist sets `join` when it
+ * joins. It takes no memory, and a call without a buffer adds lengths up and encodes nothing.
  *
- * SWIMTAB_DONE; SWIMTAB_TOO_SMALL; SWIMTAB_NO_NODE_HERE; SWIMTAB_TOO_MANY_RECORDS. */
-static inline swimtab_written swimtab_offer(const swimtab_node *node, bool join, void *out,
-                                            size_t out_len) {
+ * SWIMTAB_DONE; SWIMTAB_TOO_SMALL; SWIMTAB_NO_NODE_HERE; SWIMTAB_BAD_FORM; SWIMTAB_TOO_MANY_RECORDS. */
+static inline swimtab_written swimtab_offer(const swimtab_node *node, bool join, uint32_t form,
+                                            void *out, size_t out_len) {
     const swimtab_written refused = {SWIMTAB_NO_NODE_HERE, 0};
     uint8_t none = 0;
-    return node ? swimtab_raw_offer(node, join, out ? out : &none, out ? out_len : 0) : refused;
+    return node ? swimtab_raw_offer(node, join, form, out ? out : &none, out ? out_len : 0) : refused;
 }
 
-/* The same with the join flag false: the bytes that `swimtab merge` prints of the table. */
+/* The canonical form with the join flag false: the bytes that `swimtab merge` prints of the table. */
 static inline swimtab_written swimtab_dump(const swimtab_node *node, void *out, size_t out_len) {
-    return swimtab_offer(node, false, out, out_len);
+    return swimtab_offer(node, false, SWIMTAB_CANONICAL, out, out_len);
 }
 
-/* Answers an offer: reads the stream, writes the node's dump of before, with the same join flag, and
- * takes the stream in. All memory is there before the reply is written, and none is taken for the
- * reply itself: a call without a buffer reads the stream and adds lengths up. Bytes behind the stream
- * are not looked at; `used` says where it ends.
+/* Answers an offer: reads the stream, writes the node's table of before in this form, with the same
+ * join flag, and takes the stream in. All memory is there before the reply is written, and none is taken
+ * for the reply itself: a call without a buffer reads the stream and adds lengths up. Bytes behind the
+ * stream are not looked at; `used` says where it ends.
  *
  * SWIMTAB_DONE; SWIMTAB_TOO_SMALL: nothing was written or taken in, and `join`, `used` and `len` say
- * what they would; SWIMTAB_NO_NODE_HERE; SWIMTAB_TOO_MANY_RECORDS; SWIMTAB_MEMORY; and for what is no
- * stream the fault at which its reading stops: .._ENDED to .._MAP_COUNT, .._NAME_EMPTY,
- * .._BAD_ADDRESS, .._BAD_VERSIONS to .._USER_TOO_LONG. SWIMTAB_ENDED alone may be mended by more
- * bytes. With all but the first nothing has changed. */
-static inline swimtab_exchanged swimtab_answer(swimtab_node *node, const void *stream,
-                                               size_t len, void *out, size_t out_len) {
-    const swimtab_exchanged refused = {SWIMTAB_NO_NODE_HERE, false, 0, 0};
+ * what they would; SWIMTAB_NO_NODE_HERE; SWIMTAB_BAD_FORM; SWIMTAB_TOO_MANY_RECORDS; SWIMTAB_MEMORY; and
+ * for what is no stream the fault at which its reading stops: .._ENDED to .._MAP_COUNT,
+ * .._NAME_EMPTY, .._BAD_ADDRESS, .._BAD_VERSIONS to .._USER_TOO_LONG. SWIMTAB_ENDED alone may be mended
+ * by more bytes. With all but the first nothing has changed. */
+static inline swimtab_exchanged swimtab_answer(swimtab_node *node, const void *stream, size_t len,
+                                               uint32_t form, void *out, size_t out_len) {
+    const swimtab_exchanged refused = {SWIMTAB_NO_NODE_HERE, false, false, 0, 0};
     uint8_t none = 0;
-    return node ? swimtab_raw_answer(node, stream ? stream : &none, stream ? len : 0,
+    return node ? swimtab_raw_answer(node, stream ? stream : &none, stream ? len : 0, form,
                                      out ? out : &none, out ? out_len : 0)
                 : refused;
 }
@@ -395,9 +479,50 @@ static inline swimtab_exchanged swimtab_answer(swimtab_node *node, const void *s
  * nothing was taken in. */
 static inline swimtab_exchanged swimtab_finish(swimtab_node *node, const void *stream,
                                                size_t len) {
-    const swimtab_exchanged refused = {SWIMTAB_NO_NODE_HERE, false, 0, 0};
+    const swimtab_exchanged refused = {SWIMTAB_NO_NODE_HERE, false, false, 0, 0};
     const uint8_t none = 0;
     return node ? swimtab_raw_finish(node, stream ? stream : &none, stream ? len : 0) : refused;
+}
+
+/* As swimtab_offer and swimtab_answer, with the bytes in memory of the library: they are encoded once,
+ * and the buffer has them then, in place of those that it had. swimtab_free gives them back. The `len` of
+ * the answer is that of the reply. A NULL buffer is SWIMTAB_TOO_SMALL.
+ *
+ * The statuses of those calls but SWIMTAB_TOO_SMALL; SWIMTAB_MEMORY also for the bytes. */
+static inline uint32_t swimtab_offer_new(const swimtab_node *node, bool join, uint32_t form,
+                                         swimtab_buffer *buffer) {
+    if (!node) return SWIMTAB_NO_NODE_HERE;
+    if (!buffer) return SWIMTAB_TOO_SMALL;
+    return swimtab_raw_offer_new(node, join, form, buffer);
+}
+
+static inline swimtab_exchanged swimtab_answer_new(swimtab_node *node, const void *stream, size_t len,
+                                                   uint32_t form, swimtab_buffer *buffer) {
+    swimtab_exchanged refused = {SWIMTAB_NO_NODE_HERE, false, false, 0, 0};
+    const uint8_t none = 0;
+    if (!node) return refused;
+    refused.status = SWIMTAB_TOO_SMALL;
+    if (!buffer) return refused;
+    return swimtab_raw_answer_new(node, stream ? stream : &none, stream ? len : 0, form, buffer);
+}
+
+/* Frees the bytes of a buffer, which has none then. An empty buffer, or NULL, stays as it is. */
+static inline void swimtab_free(swimtab_buffer *buffer) {
+    if (buffer) swimtab_raw_free(buffer);
+}
+
+/* Tells whether bytes begin with a whole stream, for a program to which one comes in pieces. The first
+ * call has SWIMTAB_PROGRESS_INIT; each later one has the progress as the call before left it, and bytes
+ * that begin with those of the call before. It reads on from the last whole record, so that each record
+ * is read once, however many pieces come. It keeps no memory. With other numbers in the progress the
+ * call is as safe, and its answer says nothing.
+ *
+ * SWIMTAB_DONE: a whole stream of `at` + `user_len` bytes is there; SWIMTAB_ENDED: the bytes end before
+ * it does; SWIMTAB_MEMORY: the same call may be made again; else the fault for which there is none. */
+static inline uint32_t swimtab_whole(swimtab_progress *progress, const void *bytes, size_t len) {
+    swimtab_progress fresh = SWIMTAB_PROGRESS_INIT;
+    const uint8_t none = 0;
+    return swimtab_raw_whole(progress ? progress : &fresh, bytes ? bytes : &none, bytes ? len : 0);
 }
 
 /* ------------------------------------------------------------------ as a real cluster sends it */
@@ -534,6 +659,13 @@ static inline swimtab_written swimtab_list(const swimtab_node *node, void *out, 
     return node ? swimtab_raw_list(node, out ? out : &none, out ? out_len : 0) : refused;
 }
 
+/* The same in memory of the library, as swimtab_offer_new has it. */
+static inline uint32_t swimtab_list_new(const swimtab_node *node, swimtab_buffer *buffer) {
+    if (!node) return SWIMTAB_NO_NODE_HERE;
+    if (!buffer) return SWIMTAB_TOO_SMALL;
+    return swimtab_raw_list_new(node, buffer);
+}
+
 /* How the table of the first node relates to that of the second, by what both say together. One
  * handle given twice is equal to itself.
  *
@@ -545,6 +677,47 @@ static inline swimtab_related swimtab_relate(const swimtab_node *first,
     if (first != second) return swimtab_raw_relate(first, second);
     if (first->held) answer.status = SWIMTAB_DONE;
     return answer;
+}
+
+/* ------------------------------------------------------------------ what changed */
+
+/* Begins to note the names of the members whose entries change, with none noted, or stops and lets
+ * the noted ones go. A name is noted when it is new, or when something else stands of it than before:
+ * by swimtab_take, swimtab_answer, swimtab_finish and swimtab_refute. A name that changes often is
+ * noted once. A node that was just opened notes nothing. It takes no memory.
+ *
+ * While names are noted, the calls that note them get the memory for it before anything changes: with
+ * SWIMTAB_MEMORY the table and the noted names are as they were. Every packet that is taken in may
+ * take memory then, also one about a name that is known.
+ *
+ * SWIMTAB_DONE; SWIMTAB_NO_NODE_HERE. */
+static inline uint32_t swimtab_watch(swimtab_node *node, bool on) {
+    if (!node) return SWIMTAB_NO_NODE_HERE;
+    return swimtab_raw_watch(node, on);
+}
+
+/* Copies what the node knows of the first noted name, in byte order, which is noted no longer then.
+ * So a program that calls this until it answers SWIMTAB_NO_MEMBER sees each member that changed as it
+ * is now. It takes no memory. With NULL for `member` the name is let go, and nothing is copied.
+ *
+ * SWIMTAB_DONE; SWIMTAB_NO_MEMBER: no name is noted; SWIMTAB_NO_NODE_HERE. With the last two `member`
+ * and the noted names are as they were. */
+static inline uint32_t swimtab_next_change(swimtab_node *node, swimtab_member_data *member) {
+    swimtab_member_data none;
+    if (!node) return SWIMTAB_NO_NODE_HERE;
+    return swimtab_raw_next_change(node, member ? member : &none);
+}
+
+/* Forgets a name: the table is then that of all claims that were taken in and are not about it. It is the
+ * only way in which a table shrinks. What is heard of the name later is taken in as of a new one: also a
+ * death or a leave that another member still tells, so forget a name only when the others have forgotten
+ * it. With the member's own name its own claims go too. It takes no memory.
+ *
+ * SWIMTAB_DONE; SWIMTAB_NO_NODE_HERE; SWIMTAB_NO_MEMBER: the table has no such name. */
+static inline uint32_t swimtab_forget(swimtab_node *node, const void *name, size_t name_len) {
+    const uint8_t none = 0;
+    if (!node) return SWIMTAB_NO_NODE_HERE;
+    return swimtab_raw_forget(node, name ? name : &none, name ? name_len : 0);
 }
 
 /* ------------------------------------------------------------------ names */
