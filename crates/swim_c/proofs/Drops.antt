@@ -1,4 +1,4 @@
--- How a node, a keyring and the heap's handle are let go, as the functions that take a box ask to know. Assumes `Logic`.
+-- How a node, a keyring, kept bytes and the heap's handle are let go, as the functions that take a box ask to know. Assumes `Logic`.
 use Rattle.std.proofs.Common.{[], ◌∷◌, refl}
 use seplogic.Ra.Ura.{Ura}
 use mir.Syntax.{Dict, impl, method, tnil, tcons, dnil, no_args}
@@ -26,6 +26,8 @@ use Rattle.swim_table.specs.contracts.node.Node as node
 use Rattle.swim_table.proofs.node.Node.TheLaws as node_laws
 use Rattle.memberlist_keyring.specs.contracts.keyring.Keyring as keyring
 use Rattle.memberlist_keyring.proofs.keyring.Keyring.TheLaws as keyring_laws
+use Rattle.swim_c.specs.contracts.kept.Kept as kept
+use Rattle.swim_c.proofs.kept.Kept.TheLaws as kept_laws
 use Rattle.swim_c.proofs.Destruct++none.drop.Code as none
 use Rattle.swim_c.proofs.swim_table++node++Node+Destruct.drop.Kinds as kinds
 use Rattle.swim_c.proofs.swim_table++node++Node+Destruct.drop.Met.{met}
@@ -35,6 +37,10 @@ use Rattle.swim_c.proofs.memberlist_keyring++keyring++Keyring+Destruct.drop.Kind
 use Rattle.swim_c.proofs.memberlist_keyring++keyring++Keyring+Destruct.drop.Met.{met as keyring_met}
 use Rattle.swim_c.proofs.memberlist_keyring++keyring++Keyring+Destruct.drop.Reads as keyring_reads
 use Rattle.swim_c.proofs.memberlist_keyring++keyring++Keyring+Destruct.drop.Symbol as keyring_symbol
+use Rattle.swim_c.proofs.swim_c++kept++Kept+Destruct.drop.Kinds as kept_kinds
+use Rattle.swim_c.proofs.swim_c++kept++Kept+Destruct.drop.Met.{met as kept_met}
+use Rattle.swim_c.proofs.swim_c++kept++Kept+Destruct.drop.Reads as kept_reads
+use Rattle.swim_c.proofs.swim_c++kept++Kept+Destruct.drop.Symbol as kept_symbol
 
 -- a row as a call passes it
 abbrev pub node_row : RattleType
@@ -49,6 +55,12 @@ keyring_row = arg (raw (layout keyring.the_row)) no keyring.the_row
 abbrev pub keyring_row_laws : Laws keyring_row
 keyring_row_laws = arg_laws (raw (layout keyring.the_row)) no keyring.the_row keyring_laws.the_row_laws refl
 
+abbrev pub kept_row : RattleType
+kept_row = arg (raw (layout kept.the_row)) no kept.the_row
+
+abbrev pub kept_row_laws : Laws kept_row
+kept_row_laws = arg_laws (raw (layout kept.the_row)) no kept.the_row kept_laws.the_row_laws refl
+
 abbrev pub heap_row : RattleType
 heap_row = arg (raw (layout heap.the_row)) no heap.the_row
 
@@ -60,6 +72,9 @@ node_drops = impl ("swim_c::swim_table++node++Node+Destruct::drop" ∷ []) tnil 
 
 abbrev pub keyring_drops : Dict
 keyring_drops = impl ("swim_c::memberlist_keyring++keyring++Keyring+Destruct::drop" ∷ []) tnil dnil
+
+abbrev pub kept_drops : Dict
+kept_drops = impl ("swim_c::swim_c++kept++Kept+Destruct::drop" ∷ []) tnil dnil
 
 abbrev pub heap_drops : Dict
 heap_drops = impl ("swim_c::Destruct++none::drop" ∷ []) (tcons (raw (layout heap.the_row)) tnil) dnil
@@ -97,6 +112,23 @@ keyring_goes {M} 𝓤 𝓛 𝓜 𝓡 wired =
     (λ κs bd within a vss qs. method_Known 0 keyring_kinds.ps keyring_kinds.r keyring_reads.requires keyring_reads.ensures keyring_reads.Asked keyring_reads.Learnt
     keyring_reads.known (record { M = M; 𝓤 = 𝓤; 𝓛 = 𝓛; 𝓜 = 𝓜; 𝓡 = 𝓡 }) keyring_symbol.name k
     (keyring_symbol.as_method 𝓡.env wired k refl) (keyring_met 𝓤 𝓛 𝓜 𝓡 wired) ((tt, qs, tt, a, vss), tt)))
+
+abbrev KeptEn : Ended
+KeptEn = ended_of 0 kept_kinds.ps kept_kinds.r
+
+pub kept_goes : {M : Type 1} (𝓤 : Ura M) (𝓛 : Logic 𝓤) (𝓜 : Model 𝓤 𝓛.H) (𝓡 : Running 𝓤 𝓛.H 𝓜) → Wired 𝓡.env kept_symbol.code → Met 𝓛 𝓜 𝓡 𝓡.env kept_row kept_drops
+unfolding tables_of
+kept_goes {M} 𝓤 𝓛 𝓜 𝓡 wired =
+    let k = method kept_drops 0 no_args in
+    glue_by kept_row kept_row_laws (record { M = M; 𝓤 = 𝓤; 𝓛 = 𝓛; 𝓜 = 𝓜; 𝓡 = 𝓡 }) kept_drops 𝓡.env (λ κs a. Lasts KeptEn tt a)
+    (λ κs a. lasts KeptEn tt a) (λ κs a x ws. Fit KeptEn (stays kept_kinds.ps) tt a ws × kept_reads.Learnt tt a x (at_exit KeptEn tt a ws))
+    (λ κs a. κs.0 ⊑ kept_row.lives) 0 tt (λ κs a h. h)
+    (via_longer 𝓛 (Over 𝓛 𝓜 𝓡 𝓡.env) 1 (glue_ps kept_row kept_row_laws) r_unit (λ κs a. Lasts KeptEn tt a)
+    (λ κs a. lasts KeptEn tt a) (λ κs a x ws. Fit KeptEn (stays kept_kinds.ps) tt a ws × kept_reads.Learnt tt a x (at_exit KeptEn tt a ws))
+    (λ κs a. κs.0 ⊑ kept_row.lives) k 0 tt (λ κs. tt) (λ κs a. kept_reads.Asked tt a) (λ κs a p. (tt, tt))
+    (λ κs bd within a vss qs. method_Known 0 kept_kinds.ps kept_kinds.r kept_reads.requires kept_reads.ensures kept_reads.Asked kept_reads.Learnt
+    kept_reads.known (record { M = M; 𝓤 = 𝓤; 𝓛 = 𝓛; 𝓜 = 𝓜; 𝓡 = 𝓡 }) kept_symbol.name k
+    (kept_symbol.as_method 𝓡.env wired k refl) (kept_met 𝓤 𝓛 𝓜 𝓡 wired) ((tt, qs, tt, a, vss), tt)))
 
 pub heap_goes : {M : Type 1} (𝓤 : Ura M) (𝓛 : Logic 𝓤) (𝓜 : Model 𝓤 𝓛.H) (𝓡 : Running 𝓤 𝓛.H 𝓜) → Wired 𝓡.env none.code → Met 𝓛 𝓜 𝓡 𝓡.env heap_row heap_drops
 unfolding none.code

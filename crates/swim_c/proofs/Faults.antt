@@ -1,24 +1,33 @@
 -- What the status of a refused call says.
-use Rattle.std.proofs.Common.{◌≡◌, ◌≢◌, inl, inr, ◌∙◌, ap, subst, ℕ, ◌-◌, List, length, ◌≤◌, false, refl, Some, Result, Err, arith}
-use Rattle.swim_pack.specs.Ends.{Source}
+use Rattle.std.proofs.Common.{◌≡◌, ◌≢◌, inl, inr, ◌∙◌, ap, sym, subst, ℕ, ◌-◌, List, ◌++◌, Bool, length, ◌≤◌, false, refl, Some, Result, Err, arith}
+use Rattle.swim_pack.specs.Composing.{UnlessFailed}
+use Rattle.swim_pack.specs.Ends.{Source, Rises}
 use Rattle.swim_wire.specs.declared.fault.WireFault.{WireFault}
 use Rattle.swim_wire.specs.declared.fault.WireFault.TheVariants as wire
 use Rattle.swim_wire.specs.Asking.{PacketAsks, DatagramAsks}
 use Rattle.swim_wire.specs.Checks.{ExplainsWhole}
 use Rattle.swim_wire.specs.Datagrams.{ExplainsDatagram}
 use Rattle.swim_wire.specs.Fault.{wire_number}
+use Rattle.swim_wire.specs.Reading.{wire_cause}
+use Rattle.swim_wire.specs.Streams.{StreamText}
 use Rattle.swim_wire.proofs.Explaining.{memory_or}
-use Rattle.swim_table.proofs.WholeStreams.{refused_front}
+use Rattle.swim_table.proofs.WholeStreams.{HasNone, refused_front}
+use Rattle.swim_table.specs.declared.fault.EncodeFault.{EncodeFault}
+use Rattle.swim_table.specs.declared.fault.EncodeFault.TheVariants as encode
 use Rattle.swim_table.specs.declared.fault.RefuteFault.{RefuteFault}
 use Rattle.swim_table.specs.declared.fault.RefuteFault.TheVariants as refute
 use Rattle.swim_table.specs.Fault.{refute_number}
 use Rattle.swim_table.specs.Node.{NodeValue}
 use Rattle.swim_table.specs.Refuting.{IsDueInRange, IsExhausted, IsGone}
+use Rattle.swim_table.specs.Steps.{ExplainsStream}
 use Rattle.swim_table.specs.Table.{Entries}
 use Rattle.swim_sync.specs.declared.fault.SyncFault.{SyncFault}
 use Rattle.swim_sync.specs.declared.fault.SyncFault.TheVariants as sync
 use Rattle.swim_sync.specs.Exchanging as exchanging
+use Rattle.swim_sync.specs.Fault.{fault_of_wire, fault_of_encode}
+use Rattle.swim_c.specs.declared.form.Form.{Form}
 use Rattle.swim_c.specs.Exchanges.{HoldsNoStream, FinishCause, AnswerCause}
+use Rattle.swim_c.specs.Forms.{HasTooManyIn}
 use Rattle.swim_c.specs.Taking.{IsNoDatagram, HearingAsks, TakeDone, RefuteDone}
 use Rattle.swim_c.specs.Packing.{LacksPackets, PackingAsks, CompoundDone}
 use Rattle.swim_c.proofs.WholeStreams.{begins}
@@ -72,18 +81,35 @@ finish_refused bytes rest sync.TooManyRecords why = why
 finish_refused bytes rest sync.Push why = why
 finish_refused bytes rest sync.Memory why = why
 
-answer_lacks : (bytes rest : List ℕ) (table : Entries) (fault : SyncFault) → exchanging.IsPrepareRefused (memory bytes) (memory rest) table fault
-    → AnswerCause bytes table fault
-answer_lacks bytes rest table (sync.Wire error) why = lacks bytes rest error why
-answer_lacks bytes rest table sync.TooManyRecords why = (why.0, (why.1.1, length bytes - length rest, (why.1.0, begins bytes rest why.1.0 why.1.1 why.1.2)))
-answer_lacks bytes rest table sync.Push why = why
-answer_lacks bytes rest table sync.Memory why = why
+-- another fault of a stream than want of memory
+other_wire : (fault : WireFault) → fault ≢ wire.Memory → fault_of_wire fault ≡ sync.Wire fault
+other_wire wire.Memory other = absurd (other refl)
+other_wire error other = refl
 
-pub answer_refused : (bytes inlet rest : List ℕ) (table own : Entries) (fault : SyncFault) → inlet ≡ bytes → own ≡ table
-    → exchanging.IsPrepareRefused (memory inlet) (memory rest) own fault → AnswerCause bytes table fault
-answer_refused bytes inlet rest table own fault is same why =
-    answer_lacks bytes rest table fault (subst (λ (b : List ℕ). exchanging.IsPrepareRefused (memory b) (memory rest) table fault) is
-    (subst (λ (t : Entries). exchanging.IsPrepareRefused (memory inlet) (memory rest) t fault) same why))
+-- no stream was read, so that none is answered
+pub stream_unread : (form : Form) (bytes inlet rest : List ℕ) (table : Entries) (fault : WireFault) → inlet ≡ bytes
+    → UnlessFailed (wire_cause fault) (HasNone inlet) → ExplainsStream fault inlet
+    → (fault ≡ wire.Fault → Rises 0 0) → AnswerCause form bytes table (fault_of_wire fault)
+stream_unread form bytes inlet rest table fault is none explains failed = elim (memory_or fault) [
+  | inl wants ↦ subst (λ (f : WireFault). AnswerCause form bytes table (fault_of_wire f)) (sym wants) tt
+  | inr other ↦
+    let why : exchanging.LacksStream (memory inlet) (memory rest) fault = record { no_memory = other; lacks = none; explains = explains; failed = failed } in
+    subst (λ (f : SyncFault). AnswerCause form bytes table f) (sym (other_wire fault other))
+    (subst (λ (b : List ℕ). HoldsNoStream b fault) is (lacks inlet rest fault why))
+]
+
+-- a stream was read, and its reply is not made: it has too many records, or memory was refused
+pub reply_refused : (form : Form) (bytes inlet rest : List ℕ) (offered table own : Entries) (join : Bool) (fault : EncodeFault) → inlet ≡ bytes → own ≡ table
+    → exchanging.ReadsOffer (memory inlet) (memory rest) offered join → (fault ≡ encode.TooManyRecords → HasTooManyIn form own)
+    → AnswerCause form bytes table (fault_of_encode fault)
+reply_refused form bytes inlet rest offered table own join encode.TooManyRecords is same read many = (
+      subst (HasTooManyIn form) same (many refl),
+      join,
+      length bytes - length rest,
+      read.0,
+      begins bytes rest read.0 join (subst (λ (b : List ℕ). (text : List ℕ) × StreamText text read.0 join × (b ≡ text ++ rest)) is read.2),
+    )
+reply_refused form bytes inlet rest offered table own join encode.Memory is same read many = tt
 
 pub refute_done : (before after : NodeValue) (fault : RefuteFault) → after ≡ before
     → (fault ≡ refute.Exhausted → IsExhausted before) → ((at : ℕ) → fault ≡ refute.Gone at → IsGone before at) → (fault ≡ refute.Memory → IsDueInRange before)

@@ -1,15 +1,16 @@
 -- Halves of an exchange over bytes in memory.
 use Rattle.std.proofs.Common.{◌≡◌, ℕ, ◌-◌, List, ◌++◌, length, Bool, false, refl, sym, ◌∙◌, subst}
 use Rattle.swim_claim.specs.declared.claim.Claim.{Claim}
-use Rattle.swim_table.specs.Dump.{dump_bytes}
 use Rattle.swim_table.specs.Lending.{with_table}
 use Rattle.swim_table.specs.Node.{NodeValue, SameMember}
 use Rattle.swim_table.specs.Table.{Entries, TableOf, IsLegalTable}
 use Rattle.swim_sync.specs.declared.fault.SyncFault.{SyncFault}
 use Rattle.swim_sync.specs.Exchanging as exchanging
 use Rattle.swim_sync.specs.Fault.{sync_number}
+use Rattle.swim_c.specs.declared.form.Form.{Form}
 use Rattle.swim_c.specs.Buffers.{Copied}
-use Rattle.swim_c.specs.Exchanges.{BeginsStream, AnswersOffer, FinishDone}
+use Rattle.swim_c.specs.Exchanges.{BeginsStream, NodeTakesStream, AnswersOffer, FinishDone}
+use Rattle.swim_c.specs.Forms.{bytes_in}
 use Rattle.swim_c.proofs.Faults.{memory, finish_refused}
 use Rattle.swim_c.proofs.WholeStreams.{begins, taken_in}
 
@@ -22,15 +23,23 @@ offer_read bytes inlet rest offered join used is len read =
     subst (λ (b : List ℕ). exchanging.ReadsOffer (memory b) (memory rest) offered join) is read in
     (whole.0, whole.1, subst (λ (u : ℕ). BeginsStream bytes whole.0 join u) (sym len) (begins bytes rest whole.0 join whole.2))
 
--- an answer was given, and the stream joined in
-pub answered : (bytes inlet rest old new dump : List ℕ) (offered : Entries) (join : Bool) (status used len : ℕ) (before after : NodeValue)
+-- an offer was read, and joined in
+pub took : (bytes inlet rest : List ℕ) (offered : Entries) (join : Bool) (used : ℕ) (before after : NodeValue)
     → inlet ≡ bytes → used ≡ length bytes - length rest → exchanging.ReadsOffer (memory inlet) (memory rest) offered join → IsLegalTable before.table
     → ((claims others : List Claim) → TableOf before.table claims → TableOf offered others → TableOf after.table (claims ++ others))
-    → SameMember before after → status ≡ 0 → dump ≡ dump_bytes before.table join → Copied dump old new status len
-    → AnswersOffer bytes old new status join used len before after
-answered bytes inlet rest old new dump offered join status used len before after is gone read legal all member done of copied =
+    → SameMember before after → NodeTakesStream bytes join used before after
+took bytes inlet rest offered join used before after is gone read legal all member =
     let offer = offer_read bytes inlet rest offered join used is gone read in
-    AnswersOffer.answered done (taken_in bytes offered offer.0 join used before after offer.2 offer.1 legal all member)
+    taken_in bytes offered offer.0 join used before after offer.2 offer.1 legal all member
+
+-- an answer was given, and the stream joined in
+pub answered : (form : Form) (bytes inlet rest old new dump : List ℕ) (offered : Entries) (join : Bool) (status used len : ℕ) (before after : NodeValue)
+    → inlet ≡ bytes → used ≡ length bytes - length rest → exchanging.ReadsOffer (memory inlet) (memory rest) offered join → IsLegalTable before.table
+    → ((claims others : List Claim) → TableOf before.table claims → TableOf offered others → TableOf after.table (claims ++ others))
+    → SameMember before after → status ≡ 0 → dump ≡ bytes_in form before.table join → Copied dump old new status len
+    → AnswersOffer form bytes old new status join used len before after
+answered form bytes inlet rest old new dump offered join status used len before after is gone read legal all member done of copied =
+    AnswersOffer.answered done (took bytes inlet rest offered join used before after is gone read legal all member)
     (subst (λ (b : List ℕ). Copied b old new status len) of copied)
 
 -- a reply was taken in by the node's table

@@ -1,10 +1,13 @@
 pub mod BehindOneAnother
 pub mod Drops
 pub mod Faults
+pub mod Filled
 pub mod Halves
 pub mod Handles
+pub mod KeptHandles
 pub mod KeyringHandles
 pub mod NodeCalls
+pub mod Pieces
 pub mod Sayings
 pub mod Unsealing
 pub mod Unwrappings

@@ -4,15 +4,15 @@ use Rattle.swim_claim.specs.declared.claim.Claim.{Claim}
 use Rattle.swim_wire.specs.declared.fault.WireFault.{WireFault}
 use Rattle.swim_wire.specs.declared.fault.WireFault.TheVariants as wire
 use Rattle.swim_wire.specs.Streams.{StreamText}
-use Rattle.swim_table.specs.Dump.{dump_bytes}
 use Rattle.swim_table.specs.Node.{NodeValue, SameMember}
 use Rattle.swim_table.specs.Steps.{ExplainsStream}
 use Rattle.swim_table.specs.Table.{Entries}
 use Rattle.swim_sync.specs.declared.fault.SyncFault.{SyncFault}
 use Rattle.swim_sync.specs.declared.fault.SyncFault.TheVariants.{Wire, TooManyRecords, Push, Memory}
-use Rattle.swim_sync.specs.Exchanging.{HasTooMany}
 use Rattle.swim_sync.specs.Fault.{sync_number}
-use Rattle.swim_c.specs.Buffers.{Copied}
+use Rattle.swim_c.specs.declared.form.Form.{Form}
+use Rattle.swim_c.specs.Buffers.{Copied, WrittenOr}
+use Rattle.swim_c.specs.Forms.{form_number, bytes_in, HasTooManyIn, IsNoForm}
 use Rattle.swim_c.specs.Taking.{TakesClaims}
 
 -- the bytes begin with a stream of this length and flag, of these claims
@@ -44,9 +44,9 @@ pub record HoldsNoStream (bytes : List ℕ) (fault : WireFault) : Type 0 where
       → bytes ≢ text ++ rest
   pub explains : ExplainsStream fault bytes
 
--- why a table has no dump: too many records (23)
-abbrev pub LacksDump : Entries → ℕ → Type 0
-LacksDump table status = (status ≡ 23) × HasTooMany table
+-- why a table has no dump in a form: too many records (23)
+abbrev pub LacksDump : Form → Entries → ℕ → Type 0
+LacksDump form table status = (status ≡ 23) × HasTooManyIn form table
 
 -- why a reply is not taken in
 abbrev pub FinishCause : List ℕ → SyncFault → Type 0
@@ -56,12 +56,12 @@ FinishCause stream Push = ⊥
 FinishCause stream Memory = Unit {0}
 
 -- why an offer is not answered: for too many records only where a stream stands there
-abbrev pub AnswerCause : List ℕ → Entries → SyncFault → Type 0
-AnswerCause stream table (Wire fault) = HoldsNoStream stream fault
-AnswerCause stream table TooManyRecords = HasTooMany table
+abbrev pub AnswerCause : Form → List ℕ → Entries → SyncFault → Type 0
+AnswerCause form stream table (Wire fault) = HoldsNoStream stream fault
+AnswerCause form stream table TooManyRecords = HasTooManyIn form table
     × ((join : Bool) × (used : ℕ) × ReadsStream stream join used)
-AnswerCause stream table Push = ⊥
-AnswerCause stream table Memory = Unit {0}
+AnswerCause form stream table Push = ⊥
+AnswerCause form stream table Memory = Unit {0}
 
 -- nothing is told of a stream
 pub record IsUntold (join : Bool) (used len : ℕ) : Type 0 where
@@ -79,24 +79,44 @@ pub data FinishDone (stream : List ℕ) (status : ℕ) (join : Bool) (used len :
       → IsUntold join used len
       → after ≡ before → FinishDone stream status join used len before after
 
--- A stream was read, and the dump of before written and the stream taken in (0), or the dump does
--- not fit and nothing has changed (66).
-pub data AnswersOffer (stream old new : List ℕ) (status : ℕ) (join : Bool) (used len : ℕ)
-    (before after : NodeValue) : Type 0 where
+-- A stream was read, and the dump of before in the form written and the stream taken in (0), or the
+-- dump does not fit and nothing has changed (66).
+pub data AnswersOffer (form : Form) (stream old new : List ℕ) (status : ℕ) (join : Bool)
+    (used len : ℕ) (before after : NodeValue) : Type 0 where
   answered : status ≡ 0 → NodeTakesStream stream join used before after
-      → Copied (dump_bytes before.table join) old new status len
-      → AnswersOffer stream old new status join used len before after
+      → Copied (bytes_in form before.table join) old new status len
+      → AnswersOffer form stream old new status join used len before after
   too_small : status ≡ 66 → ReadsStream stream join used
-      → Copied (dump_bytes before.table join) old new status len → after ≡ before
-      → AnswersOffer stream old new status join used len before after
+      → Copied (bytes_in form before.table join) old new status len → after ≡ before
+      → AnswersOffer form stream old new status join used len before after
 
 -- An offer was answered, or the reply does not fit; or the node and the buffer are as they were: no
 -- stream stands there, and the status is that of the fault, or the node's table has too many
--- records (23), or there is no memory (10).
-pub data AnswerDone (stream old new : List ℕ) (status : ℕ) (join : Bool) (used len : ℕ)
-    (before after : NodeValue) : Type 0 where
-  answers : AnswersOffer stream old new status join used len before after
-      → AnswerDone stream old new status join used len before after
-  refused : (fault : SyncFault) → AnswerCause stream before.table fault
+-- records in the form (23), or there is no memory (10).
+pub data AnswerDone (form : Form) (stream old new : List ℕ) (status : ℕ) (join : Bool)
+    (used len : ℕ) (before after : NodeValue) : Type 0 where
+  answers : AnswersOffer form stream old new status join used len before after
+      → AnswerDone form stream old new status join used len before after
+  refused : (fault : SyncFault) → AnswerCause form stream before.table fault
       → status ≡ sync_number fault → IsUntold join used len
-      → after ≡ before → new ≡ old → AnswerDone stream old new status join used len before after
+      → after ≡ before → new ≡ old → AnswerDone form stream old new status join used len before after
+
+-- An offer was written in the form of this number. Or it is that of none (70), and the buffer is as
+-- it was.
+pub data OfferedInForm (number : ℕ) (table : Entries) (join : Bool) (old new : List ℕ)
+    (status len : ℕ) : Type 0 where
+  in_form : (form : Form) → number ≡ form_number form
+      → WrittenOr (bytes_in form table join) old new status len (LacksDump form table)
+      → OfferedInForm number table join old new status len
+  bad_form : IsNoForm number → status ≡ 70 → len ≡ 0 → new ≡ old
+      → OfferedInForm number table join old new status len
+
+-- An offer was answered in the form of this number, or refused. Or it is that of none (70), and the
+-- node and the buffer are as they were.
+pub data AnsweredInForm (number : ℕ) (stream old new : List ℕ) (status : ℕ) (join : Bool)
+    (used len : ℕ) (before after : NodeValue) : Type 0 where
+  in_form : (form : Form) → number ≡ form_number form
+      → AnswerDone form stream old new status join used len before after
+      → AnsweredInForm number stream old new status join used len before after
+  bad_form : IsNoForm number → status ≡ 70 → IsUntold join used len → after ≡ before → new ≡ old
+      → AnsweredInForm number stream old new status join used len before after

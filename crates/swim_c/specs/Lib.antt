@@ -1,11 +1,17 @@
 pub mod Buffers
 pub mod Exchanges
+pub mod Forgetting
+pub mod Forms
 pub mod Handle
+pub mod Kept
+pub mod KeptBytes
 pub mod Keyring
 pub mod Members
+pub mod NewBytes
 pub mod OnNode
 pub mod Opening
 pub mod Packing
+pub mod Progressing
 pub mod Relating
 pub mod Saying
 pub mod Sealing

@@ -1,5 +1,5 @@
 -- What is copied of a member.
-use Rattle.std.specs.Prelude.{◌≡◌, ℕ, take, true, false, Option, Some, None}
+use Rattle.std.specs.Prelude.{◌≡◌, ◌↔◌, ◌<◌, ℕ, take, replicate, true, false, Option, Some, None, IfSome, IsSome, IsTrue}
 use Rattle.std.specs.Option.{option_map, option_and_then}
 use Rattle.swim_claim.specs.Claim.{name_of, inc_of, kind_of, details_of}
 use Rattle.swim_claim.specs.Details.{DetailsValue}
@@ -7,12 +7,14 @@ use Rattle.swim_wire.specs.Pairs.{state_number}
 use Rattle.swim_table.specs.Standing.{Standing}
 use Rattle.swim_c.specs.declared.member.Member.{Member}
 
--- what is said beside the home is as it was
+-- what is said beside the newest Alive, and whether it came back, is as it was
 pub record KeepsName (old new : Member) : Type 0 where
   pub state : new.state ≡ old.state
   pub inc : new.inc ≡ old.inc
   pub name_len : new.name_len ≡ old.name_len
   pub name : new.name ≡ old.name
+  pub came_back : new.came_back ≡ old.came_back
+  pub reserved : new.reserved ≡ old.reserved
 
 -- what is copied of the details
 pub record IsDetails (details : DetailsValue) (m : Member) : Type 0 where
@@ -36,12 +38,18 @@ IsHome (Some inc) (Some details) m = (m.has_home ≡ true) × (m.home_inc ≡ in
 IsHome (Some inc) None m = IsNoHome m
 IsHome None details m = IsNoHome m
 
+-- the newest Alive has a greater incarnation than the claim that stands
+abbrev pub CameBack : Standing → Type 0
+CameBack entry = IfSome entry.home (λ home. inc_of entry.top < inc_of home) × IsSome entry.home
+
 -- the member's data are those of the entry
 pub record IsMember (entry : Standing) (m : Member) : Type 0 where
   pub state : m.state ≡ state_number (kind_of entry.top)
   pub inc : m.inc ≡ inc_of entry.top
   pub name : take m.name_len m.name ≡ name_of entry.top
   pub home : IsHome (option_map inc_of entry.home) (option_and_then details_of entry.home) m
+  pub came_back : IsTrue m.came_back ↔ CameBack entry
+  pub reserved : m.reserved ≡ replicate 32 0
 
 -- The entry was copied (0), or there is none (67) and the data are as they were.
 abbrev pub MemberDone : Option Standing → Member → Member → ℕ → Type 0

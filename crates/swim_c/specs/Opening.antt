@@ -37,11 +37,15 @@ IsUnopened name details (Claim BadVersions) =
     × (¬ IsVersions details.vsn)
 IsUnopened name details Memory = ⊤
 
+-- the status of the first check that fails, or of want of memory
+abbrev pub IsUnmade : List ℕ → DetailsValue → ℕ → Type 0
+IsUnmade name details status = (fault : OpenFault) × (status ≡ open_number fault)
+    × IsUnopened name details fault
+
 -- A handle with a node keeps it (65). One with none has such a node (0), or still none, and the
 -- status says why.
 abbrev pub OpenDone : List ℕ → DetailsValue → ℕ → Option NodeValue → Option NodeValue → ℕ → Type 0
 OpenDone name details inc (Some before) new status = (status ≡ 65) × (new ≡ Some before)
 OpenDone name details inc None (Some after) status =
     (status ≡ 0) × IsNewMember name details inc after
-OpenDone name details inc None None status = (fault : OpenFault) × (status ≡ open_number fault)
-    × IsUnopened name details fault
+OpenDone name details inc None None status = IsUnmade name details status

@@ -1,18 +1,17 @@
 //! The halves of an exchange, over the caller's memory.
 
-ghost use Rattle.std.specs.Prelude.{◌≡◌, ◌≤◌, ◌++◌, false, drop, length, IfOk, IfErr, OnErr};
-ghost use Rattle.swim_wire.specs.Limits.{most_nodes};
-ghost use Rattle.swim_table.specs.Dump.{dump_bytes};
-ghost use Rattle.swim_table.specs.Table.{Reduced};
+ghost use Rattle.std.specs.Prelude.{◌≡◌, false, IfOk, IfErr, OnErr};
 ghost use Rattle.swim_c.specs.Buffers.{WrittenOr};
-ghost use Rattle.swim_c.specs.Exchanges.{AnswersOffer, LacksDump, AnswerCause, FinishDone, AnswerDone};
+ghost use Rattle.swim_c.specs.Exchanges.{AnswersOffer, LacksDump, AnswerCause, FinishDone, AnswerDone, OfferedInForm, AnsweredInForm};
+ghost use Rattle.swim_c.specs.Forms.{bytes_in};
 
 use crate::copy::Written;
-use crate::status::{DONE, TOO_SMALL};
+use crate::form::Form;
+use crate::status::{BAD_FORM, DONE, TOO_SMALL};
 use std::alloc::Global;
 use swim_pack::SliceInlet;
-use swim_sync::{ReadOffer, SyncFault, finish, read_offer, room_for_both};
-use swim_table::{Node, Table, dump_len, encode_into};
+use swim_sync::{SyncFault, finish, room_for_both};
+use swim_table::{Node, read_stream};
 
 /// What came of a stream.
 #[repr(C)]
@@ -40,12 +39,23 @@ impl Exchanged {
     }
 }
 
-/// Writes the node's dump to the buffer, where it is long enough. No memory is asked for.
-pub fn offer_out(node: &Node, join: bool, out: &mut [u8]) -> Written
-    ensures { WrittenOr (dump_bytes node.now.table join)
-        out.old out.new result.status result.len (LacksDump node.now.table) }
+/// Writes the node's dump in the form of this number to the buffer, or refuses a number that is that
+/// of none.
+pub fn offer_in_form(node: &Node, join: bool, form: u32, out: &mut [u8]) -> Written
+    ensures { OfferedInForm form node.now.table join out.old out.new result.status result.len }
 {
-    let len = match dump_len(node.table(), join) {
+    match Form::of(form) {
+        Some(form) => offer_out(node, join, form, out),
+        None => Written::refused(BAD_FORM),
+    }
+}
+
+/// Writes the node's dump in the form to the buffer, if it is long enough. No memory is asked for.
+fn offer_out(node: &Node, join: bool, form: Form, out: &mut [u8]) -> Written
+    ensures { WrittenOr (bytes_in form node.now.table join)
+        out.old out.new result.status result.len (LacksDump form node.now.table) }
+{
+    let len = match form.dump_len(node.table(), join) {
         Ok(len) => len,
         Err(fault) => return Written::refused(fault.number()),
     };
@@ -55,29 +65,41 @@ pub fn offer_out(node: &Node, join: bool, out: &mut [u8]) -> Written
             len,
         };
     }
-    dump_front(node.table(), join, len, out);
+    form.dump_front(node.table(), join, len, out);
     Written { status: DONE, len }
 }
 
-/// Writes the dump of a table, which is so long, to the front of the buffer.
-fn dump_front(table: &Table, join: bool, len: usize, out: &mut [u8])
-    requires few { length (Reduced table.now) ≤ most_nodes }
-    requires len { len ≡ length (dump_bytes table.now join) }
-    requires room { len ≤ length out.old }
-    ensures { out.new ≡ dump_bytes table.now join ++ drop len out.old }
-{
-    let (front, _) = out.split_at_mut(len);
-    encode_into(table, join, front);
-}
-
-/// Reads a stream, writes the node's dump of before to the buffer, and takes the stream in. Where
-/// the buffer is too small, nothing is taken in, and the length that the dump needs is told. No
-/// memory is asked for the dump.
-pub fn answer_stream(alloc: Global, node: &mut Node, stream: &[u8], out: &mut [u8]) -> Exchanged
-    ensures { AnswerDone stream.now
+/// Answers a stream in the form of this number, or refuses a number that is that of none.
+pub fn answer_in_form(
+    alloc: Global,
+    node: &mut Node,
+    stream: &[u8],
+    form: u32,
+    out: &mut [u8],
+) -> Exchanged
+    ensures { AnsweredInForm form stream.now
         out.old out.new result.status result.join result.used result.len node.old node.new }
 {
-    match try_answer(alloc, node, stream, out) {
+    match Form::of(form) {
+        Some(form) => answer_stream(alloc, node, stream, form, out),
+        None => Exchanged::refused(BAD_FORM),
+    }
+}
+
+/// Reads a stream, writes the node's dump of before in the form to the buffer, and takes the stream
+/// in. If the buffer is too small, nothing is taken in, and the length that the dump needs is told.
+/// No memory is asked for the dump.
+fn answer_stream(
+    alloc: Global,
+    node: &mut Node,
+    stream: &[u8],
+    form: Form,
+    out: &mut [u8],
+) -> Exchanged
+    ensures { AnswerDone form stream.now
+        out.old out.new result.status result.join result.used result.len node.old node.new }
+{
+    match try_answer(alloc, node, stream, form, out) {
         Ok(exchanged) => exchanged,
         Err(fault) => Exchanged::refused(fault.number()),
     }
@@ -87,19 +109,17 @@ fn try_answer(
     alloc: Global,
     node: &mut Node,
     stream: &[u8],
+    form: Form,
     out: &mut [u8],
 ) -> Result<Exchanged, SyncFault>
-    ensures answers { IfOk result (λ made. AnswersOffer stream.now
+    ensures answers { IfOk result (λ made. AnswersOffer form stream.now
         out.old out.new made.status made.join made.used made.len node.old node.new) }
     ensures unchanged { OnErr result ((node.new ≡ node.old) × (out.new ≡ out.old)) }
-    ensures refused { IfErr result (AnswerCause stream.now node.old.table) }
+    ensures refused { IfErr result (AnswerCause form stream.now node.old.table) }
 {
     let mut inlet = SliceInlet::new(stream);
-    let ReadOffer {
-        join,
-        table: offered,
-        reply_len,
-    } = read_offer(alloc, &mut inlet, node.table())?;
+    let (offered, join) = read_stream(alloc, &mut inlet)?;
+    let reply_len = form.dump_len(node.table(), join)?;
     let used = stream.len() - inlet.rest().len();
     if reply_len > out.len() {
         return Ok(Exchanged {
@@ -110,7 +130,7 @@ fn try_answer(
         });
     }
     let room = room_for_both(alloc, node.table(), &offered)?;
-    dump_front(node.table(), join, reply_len, out);
+    form.dump_front(node.table(), join, reply_len, out);
     node.join_in(room, offered);
     Ok(Exchanged {
         status: DONE,

@@ -1,5 +1,7 @@
 //! What C calls.
 
+mod buffers;
+mod forgetting;
 mod keyrings;
 mod life;
 mod packets;

@@ -1,11 +1,19 @@
 //! What holds of the definitions, apart from any code.
 
-ghost use Rattle.std.specs.Prelude.{List, ℕ};
+ghost use Rattle.std.specs.Prelude.{List, ℕ, ◌++◌};
 ghost use Rattle.memberlist_transport.specs.declared.message.Message.{Message};
 ghost use Rattle.memberlist_transport.specs.Packet.{Holds, HoldsClear};
 ghost use Rattle.memberlist_transport.specs.Stream.{IsStreamIn, IsClearStream};
+ghost use Rattle.swim_c.specs.declared.progress.Progress.{Progress};
+ghost use Rattle.swim_c.specs.Progressing.{IsProgressIn};
 ghost use Rattle.swim_c.specs.Sealing.{IsSealedPacket, IsSealedStream};
 ghost use Rattle.swim_c.specs.Unwrapping.{most_stream};
+
+/// The progress of a stream in bytes is one in all bytes that begin with them.
+pub fn progress_carries_on()
+    ensures { (bytes more : List ℕ) (p : Progress) → IsProgressIn bytes p
+        → IsProgressIn (bytes ++ more) p }
+{}
 
 /// What is sealed is unwrapped again by the same keys: of a packet and of a stream, what is in the
 /// message. A packet gives nothing else.

@@ -1,8 +1,8 @@
 //! A member as a table has it, in the caller's memory.
 
-ghost use Rattle.std.specs.Prelude.{◌≡◌, ◌≤◌, length};
+ghost use Rattle.std.specs.Prelude.{◌≡◌, ◌≤◌, ◌↔◌, length, IsTrue};
 ghost use Rattle.swim_wire.specs.Pairs.{state_number};
-ghost use Rattle.swim_c.specs.Members.{IsMember, IsDetails, IsNoHome, KeepsName};
+ghost use Rattle.swim_c.specs.Members.{CameBack, IsMember, IsDetails, IsNoHome, KeepsName};
 
 use crate::copy::copy_front;
 use swim_claim::{Details, Kind};
@@ -17,6 +17,8 @@ pub struct Member {
     pub inc: u32,
     /// Whether there was an Alive, of which the rest speaks.
     pub has_home: bool,
+    /// Whether that Alive has a greater incarnation than the claim that stands.
+    pub came_back: bool,
     pub home_inc: u32,
     pub port: u16,
     pub name_len: u16,
@@ -27,6 +29,8 @@ pub struct Member {
     pub vsn: [u8; 6],
     pub meta: [u8; 512],
     pub name: [u8; 1024],
+    /// Zeros, for what later versions tell.
+    pub reserved: [u8; 32],
 }
 
 impl Member {
@@ -39,6 +43,8 @@ impl Member {
         self.inc = entry.inc();
         self.name_len = name.len() as u16;
         copy_front(name, &mut self.name);
+        self.came_back = came_back(entry);
+        self.reserved = [0; 32];
         match (entry.home_inc(), entry.home_details()) {
             (Some(inc), Some(details)) => {
                 self.has_home = true;
@@ -74,6 +80,16 @@ impl Member {
         self.addr_len = 0;
         self.meta_len = 0;
         self.vsn_len = 0;
+    }
+}
+
+/// Whether there is an Alive of a greater incarnation than the claim that stands.
+fn came_back(entry: &Entry) -> bool
+    ensures { IsTrue result ↔ CameBack entry.now }
+{
+    match entry.home_inc() {
+        Some(inc) => inc > entry.inc(),
+        None => false,
     }
 }
 

@@ -74,12 +74,33 @@ pub fn open(alloc: Global, parts: Parts, inc: u32) -> Result<Box<Node>, OpenFaul
       vsn = parts.entry.vsn.now;
     })) }
 {
-    let name = Name::copied(alloc, parts.name)??;
-    let meta = parts.meta.to_vec(alloc)?;
-    let details = Details::of(parts.addr, parts.port, meta, parts.vsn)?;
+    let (name, details) = copied(alloc, parts)?;
     let node = Node::new(alloc, name, details, inc)?;
     match Box::new(alloc, node) {
         Ok(node) => Ok(node),
         Err(_) => Err(OpenFault::Memory),
     }
+}
+
+/// The name and the details of these parts, which are copied. A name that is none is refused
+/// before anything else.
+pub fn copied(alloc: Global, parts: Parts) -> Result<(Name, Details), OpenFault>
+    ensures name { IfOk result (λ made. made.0 ≡ parts.entry.name.now) }
+    ensures details { IfOk result (λ made. made.1 ≡ record {
+      addr = parts.entry.addr.now;
+      port = parts.entry.port;
+      meta = parts.entry.meta.now;
+      vsn = parts.entry.vsn.now;
+    }) }
+    ensures refused { IfErr result (IsUnopened parts.entry.name.now (record {
+      addr = parts.entry.addr.now;
+      port = parts.entry.port;
+      meta = parts.entry.meta.now;
+      vsn = parts.entry.vsn.now;
+    })) }
+{
+    let name = Name::copied(alloc, parts.name)??;
+    let meta = parts.meta.to_vec(alloc)?;
+    let details = Details::of(parts.addr, parts.port, meta, parts.vsn)?;
+    Ok((name, details))
 }

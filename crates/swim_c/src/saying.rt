@@ -1,12 +1,15 @@
-//! What a member says, as packets: its own Alive and Leave, and that others are suspected or dead.
+//! What a member says, as packets: its own Alive and Leave, that others are suspected or dead, and
+//! another member's Alive.
 
 ghost use Rattle.std.specs.Prelude.{◌≡◌, ◌≤◌, [], length, IfOk, IfErr};
 ghost use Rattle.swim_claim.specs.declared.claim.Claim.TheVariants.{Alive, Suspect, Confirm, Leave};
 ghost use Rattle.swim_c.specs.Buffers.{IsNoMemory};
+ghost use Rattle.swim_c.specs.Opening.{IsUnmade};
 ghost use Rattle.swim_c.specs.Saying.{SaidOr, IsNoName, IsUnsaid};
 ghost use Rattle.swim_claim.specs.Limits.{longest_name};
 
 use crate::copy::{Written, copy_out};
+use crate::opening::{Parts, copied};
 use crate::status::{MEMORY, OWN_NAME};
 use std::alloc::{AllocError, Global};
 use swim_claim::{Claim, Name};
@@ -31,6 +34,30 @@ fn own_alive(alloc: Global, node: &Node, inc: u32) -> Result<Packet, AllocError>
     let name = node.name().try_clone(alloc)?;
     let details = node.details().try_clone(alloc)?;
     Ok(Packet::new(Claim::Alive { name, inc, details }, Vec::new(alloc)))
+}
+
+/// Writes the packet of the Alive of a member that says this of itself, at the incarnation, to the
+/// buffer.
+pub fn say_alive_of(alloc: Global, parts: Parts, inc: u32, out: &mut [u8]) -> Written
+    ensures { SaidOr (record { claim = Alive parts.entry.name.now inc (record {
+      addr = parts.entry.addr.now;
+      port = parts.entry.port;
+      meta = parts.entry.meta.now;
+      vsn = parts.entry.vsn.now;
+    }); from = [] }) out.old out.new result.status result.len (IsUnmade parts.entry.name.now (record {
+      addr = parts.entry.addr.now;
+      port = parts.entry.port;
+      meta = parts.entry.meta.now;
+      vsn = parts.entry.vsn.now;
+    })) }
+{
+    match copied(alloc, parts) {
+        Ok((name, details)) => {
+            let packet = Packet::new(Claim::Alive { name, inc, details }, Vec::new(alloc));
+            packet_out(alloc, &packet, out)
+        }
+        Err(fault) => Written::refused(fault.number()),
+    }
 }
 
 /// Writes the packet of the member's own Leave at the incarnation to the buffer.
@@ -93,10 +120,10 @@ fn accusation(alloc: Global, node: &Node, name: &[u8]) -> Result<(Name, Vec<u8>)
     ensures short { IfOk result (λ names. length names.1.items ≤ longest_name) }
     ensures refused { IfErr result (IsNoName name.now) }
 {
-    let Ok(copied) = Name::copied(alloc, name) else {
+    let Ok(made) = Name::copied(alloc, name) else {
         return Err(MEMORY);
     };
-    let name = copied.map_err(|fault| fault.number())?;
+    let name = made.map_err(|fault| fault.number())?;
     let Ok(from) = node.name().bytes().to_vec(alloc) else {
         return Err(MEMORY);
     };

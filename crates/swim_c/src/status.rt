@@ -18,3 +18,5 @@ pub const NO_MEMBER: u32 = 67;
 pub const OWN_NAME: u32 = 68;
 /// A compound packet has at most 255 packets.
 pub const TOO_MANY_PACKETS: u32 = 69;
+/// A dump has form 0 or 1.
+pub const BAD_FORM: u32 = 70;

@@ -1,9 +1,11 @@
 //! Packets that a node takes in, and packets of what it says.
 
 ghost use Rattle.std.specs.Prelude.{◌≡◌, [], false};
+ghost use Rattle.swim_claim.specs.Details.{DetailsValue};
 ghost use Rattle.swim_claim.specs.declared.claim.Claim.TheVariants.{Alive, Suspect, Confirm, Leave};
 ghost use Rattle.swim_c.specs.Buffers.{IsNoMemory};
 ghost use Rattle.swim_c.specs.OnNode.{OnNode, OnSame};
+ghost use Rattle.swim_c.specs.Opening.{IsUnmade};
 ghost use Rattle.swim_c.specs.Packing.{CompoundDone};
 ghost use Rattle.swim_c.specs.Saying.{SaidOr, IsNoName, IsUnsaid};
 ghost use Rattle.swim_c.specs.Taking.{TakeDone, RefuteDone};
@@ -11,8 +13,9 @@ ghost use Rattle.swim_c.specs.Taking.{TakeDone, RefuteDone};
 use crate::copy::Written;
 use crate::handle::Handle;
 use crate::hearing::hear;
+use crate::opening::Parts;
 use crate::packing::compound_out;
-use crate::saying::{say_alive, say_confirm, say_leave, say_suspect};
+use crate::saying::{say_alive, say_alive_of, say_confirm, say_leave, say_suspect};
 use crate::status::NO_NODE;
 use crate::telling::{Refuted, refute};
 use std::alloc::Global;
@@ -94,6 +97,44 @@ pub extern "C" fn swimtab_raw_alive(
     let written = say_alive(alloc, &held, inc, out);
     node.put(held);
     written
+}
+
+/// Writes the packet of a member's Alive at the incarnation to the buffer, as another member passes
+/// it on: its name of 1 to 1,024 bytes, its address of 4 or 16 bytes, its port, its metadata of at
+/// most 512 bytes, and no versions or 6 bytes of them. No node is asked for.
+///
+/// # Statuses
+///
+/// If it is not 0 the buffer is as it was.
+///
+/// - 11 or 12 for the name, else 13 for the address, else 14 for the metadata, else 15 for the
+///   versions: the first that is refused.
+/// - 66 if the buffer is too small. The length is then that of the packet.
+/// - 10 if memory is refused.
+#[unsafe(no_mangle)]
+pub extern "C" fn swimtab_raw_alive_of(
+    alloc: Global,
+    name: &[u8],
+    addr: &[u8],
+    port: u16,
+    meta: &[u8],
+    vsn: &[u8],
+    inc: u32,
+    out: &mut [u8],
+) -> Written
+    ensures { (details : DetailsValue) → details
+        ≡ record { addr = addr.now; port = port; meta = meta.now; vsn = vsn.now }
+        → SaidOr (record { claim = Alive name.now inc details; from = [] })
+        out.old out.new result.status result.len (IsUnmade name.now details) }
+{
+    let parts = Parts {
+        name,
+        addr,
+        port,
+        meta,
+        vsn,
+    };
+    say_alive_of(alloc, parts, inc, out)
 }
 
 /// Writes the packet by which the member suspects the one of this name, of 1 to 1,024 bytes, at the

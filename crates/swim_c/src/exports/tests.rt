@@ -2,6 +2,7 @@
 //! allocation is refused, and finds what it would have found at first.
 
 mod keyrings;
+mod streams;
 
 use super::life::{swimtab_raw_close, swimtab_raw_open};
 use super::packets::{
@@ -107,6 +108,7 @@ fn room() -> Member {
         state: 9,
         inc: 9,
         has_home: false,
+        came_back: true,
         home_inc: 9,
         port: 0,
         name_len: 0,
@@ -117,6 +119,7 @@ fn room() -> Member {
         vsn: [0; 6],
         meta: [0; 512],
         name: [0; 1024],
+        reserved: [9; 32],
     }
 }
 
@@ -232,15 +235,15 @@ fn an_exchange_levels_two_nodes(rt: HostRuntime) {
 fn exchange(rt: &impl Abort, alloc: Global, first: &mut Handle, second: &mut Handle) {
     let mut wire = [0; 200];
     let mut reply = [0; 200];
-    let offered = swimtab_raw_offer(alloc, first, true, &mut wire);
+    let offered = swimtab_raw_offer(alloc, first, true, 0, &mut wire);
     if offered.status == 10 {
         return;
     }
     let mut short = [0; 3];
-    let small = swimtab_raw_answer(alloc, second, &wire, &mut short);
+    let small = swimtab_raw_answer(alloc, second, &wire, 0, &mut short);
     assert!(rt; small.status == 66 || small.status == 10);
     assert_eq!(rt; swimtab_raw_count(alloc, second), 1);
-    let answered = swimtab_raw_answer(alloc, second, &wire, &mut reply);
+    let answered = swimtab_raw_answer(alloc, second, &wire, 0, &mut reply);
     if answered.status == 10 {
         return;
     }

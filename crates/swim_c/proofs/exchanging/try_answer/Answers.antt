@@ -1,18 +1,11 @@
-use Rattle.std.proofs.Common.{◌≡◌, ◌≤◌, ◌++◌, ℕ, List, drop, length, ◌∙◌, ap, refl, arith, rules}
+use Rattle.std.proofs.Common.{◌≡◌, ◌≤◌, ◌++◌, ℕ, List, drop, length, ◌∙◌, Err, ap, refl, arith, rules}
 use Rattle.std.proofs.lemmas.Result.{err_from_is_err_and}
-use Rattle.swim_table.specs.Dump.{dump_bytes}
 use Rattle.swim_table.specs.Table.{Entries}
 use Rattle.swim_c.specs.Buffers.{Copied}
-use Rattle.swim_c.proofs.Faults.{answer_refused}
+use Rattle.swim_c.specs.Forms.{bytes_in}
+use Rattle.swim_c.proofs.Faults.{stream_unread, reply_refused}
 use Rattle.swim_c.proofs.Halves.{answered}
 use Rattle.swim_c.proofs.exchanging.try_answer.Goals as goal
-
-pub returns-in_err-join-clause-refused : goal.returns-in_err-join-clause-refused
-returns-in_err-join-clause-refused c =
-    let p = err_from_is_err_and c.from_residual.result c.from_residual.ensures.1 in
-    rw (p.1, p.2)
-    (answer_refused c.args.stream.now c.new-inlet.result c.read_offer.new.inlet c.args.node.now.table c.table.result.now
-    c.in_err-join.field-0.0 c.new-inlet.ensures c.table.ensures.table c.in_err-join.ensures.refused)
 
 -- a dump that fits was copied to the front
 copied : (own table third : Entries) (len : ℕ) (old new : List ℕ) (d : Entries → List ℕ) → own ≡ table → third ≡ table
@@ -22,13 +15,29 @@ copied own table third len old new d is again sized fits put =
     Copied.done refl long (omega (arith, long, fits))
     (put ∙ ap (λ (t : Entries). d t ++ drop len old) again ∙ ap (λ (n : ℕ). d table ++ drop n old) long)
 
+pub returns-in_err-offered-clause-refused : goal.returns-in_err-offered-clause-refused
+returns-in_err-offered-clause-refused c =
+    let p = err_from_is_err_and c.from_residual.result c.from_residual.ensures.1 in
+    let why = c.in_err-offered.ensures in
+    rw (p.1, p.2)
+    (stream_unread c.args.form c.args.stream.now c.new-inlet.result c.read_stream.new.inlet c.args.node.now.table c.in_err-offered.field-0.0
+    c.new-inlet.ensures why.lacks why.explains (λ e. why.fault (ap Err e)))
+
+pub returns-in_err-reply_len-clause-refused : goal.returns-in_err-reply_len-clause-refused
+returns-in_err-reply_len-clause-refused c =
+    let p = err_from_is_err_and c.from_residual-in_err-reply_len.result c.from_residual-in_err-reply_len.ensures.1 in
+    let why = c.in_err-reply_len.ensures in
+    rw (p.1, p.2)
+    (reply_refused c.args.form c.args.stream.now c.new-inlet.result c.read_stream.new.inlet c.in_ok-offered.offered c.args.node.now.table
+    c.table.result.now c.in_ok-offered.join c.in_err-reply_len.field-0.0
+    c.new-inlet.ensures c.table.ensures.table c.in_ok-offered.ensures.takes (λ e. why.too_many.0 refl))
+
 pub returns-clause-answers : goal.returns-clause-answers
 returns-clause-answers c =
-    let made = c.in_ok-join.field-0 in
-    answered c.args.stream.now c.new-inlet.result c.read_offer.new.inlet c.args.out.now c.dump_front.new.out
-    (dump_bytes c.args.node.now.table made.join) made.table made.join 0 _ made.reply_len c.args.node.now c.join_in.new.self
-    c.new-inlet.ensures (search rules) c.in_ok-join.ensures.reads c.table.ensures.legal c.join_in.ensures.all
+    let join = c.in_ok-offered.join in let d = λ (t : Entries). bytes_in c.args.form t join in
+    answered c.args.form c.args.stream.now c.new-inlet.result c.read_stream.new.inlet c.args.out.now c.dump_front.new.out
+    (d c.args.node.now.table) c.in_ok-offered.offered join 0 _ c.in_ok-reply_len.reply_len c.args.node.now c.join_in.new.self
+    c.new-inlet.ensures (search rules) c.in_ok-offered.ensures.takes c.table.ensures.legal c.join_in.ensures.all
     c.join_in.ensures.member refl refl
-    (copied c.table.result.now c.args.node.now.table c.table-3.result.now made.reply_len c.args.out.now c.dump_front.new.out
-    (λ (t : Entries). dump_bytes t made.join)
-    c.table.ensures.table c.table-3.ensures.table c.in_ok-join.ensures.len c.if-reply_len-out.false c.dump_front.ensures)
+    (copied c.table.result.now c.args.node.now.table c.table-3.result.now c.in_ok-reply_len.reply_len c.args.out.now c.dump_front.new.out d
+    c.table.ensures.table c.table-3.ensures.table c.in_ok-reply_len.ensures.len c.if-reply_len-out.false c.dump_front.ensures)

@@ -1,0 +1,115 @@
+//! Bytes in memory of the library: dumps, replies and listings of any length by one call.
+
+ghost use Rattle.std.specs.Prelude.{◌≡◌, false, None};
+ghost use Rattle.swim_table.specs.Listing.{listing};
+ghost use Rattle.swim_c.specs.Buffers.{IsNoMemory};
+ghost use Rattle.swim_c.specs.NewBytes.{AnsweredNew, FilledOr, OfferedNew};
+ghost use Rattle.swim_c.specs.OnNode.{OnNode, OnSame};
+
+use crate::buffer::Buffer;
+use crate::exchanging::Exchanged;
+use crate::filling::{answer_new, list_new, offer_new};
+use crate::handle::Handle;
+use crate::status::NO_NODE;
+use std::alloc::Global;
+
+/// Has the buffer keep the dump of the node's table, with this join flag, as `swimtab_raw_offer`
+/// writes it. What the buffer kept before is freed. The node stays.
+///
+/// # Statuses
+///
+/// If it is not 0 the buffer is as it was.
+///
+/// - 64 if the handle has no node.
+/// - 70 if the form is neither 0 nor 1.
+/// - 23 if the dump has more than 131,072 records.
+/// - 10 if memory is refused.
+#[unsafe(no_mangle)]
+pub extern "C" fn swimtab_raw_offer_new(
+    alloc: Global,
+    node: &mut Handle,
+    join: bool,
+    form: u32,
+    buffer: &mut Buffer,
+) -> u32
+    ensures { OnSame node.old.node node.new.node
+        ((result ≡ 64) × (buffer.new ≡ buffer.old))
+        (λ held. OfferedNew form held.table join buffer.old buffer.new result) }
+{
+    let Some(held) = node.take(alloc) else {
+        return NO_NODE;
+    };
+    let status = offer_new(alloc, &held, join, form, buffer);
+    node.put(held);
+    status
+}
+
+/// Answers an offer as `swimtab_raw_answer` does, and has the buffer keep the reply. What the
+/// buffer kept before is freed.
+///
+/// # Statuses
+///
+/// If it is not 0 the node and the buffer are as they were.
+///
+/// - 64 if the handle has no node.
+/// - 70 if the form is neither 0 nor 1.
+/// - 1 to 21 if no stream stands at the front: the fault at which its reading stops.
+/// - 23 if the reply has more than 131,072 records.
+/// - 10 if memory is refused, for the stream's claims, for the reply or for the join.
+#[unsafe(no_mangle)]
+pub extern "C" fn swimtab_raw_answer_new(
+    alloc: Global,
+    node: &mut Handle,
+    stream: &[u8],
+    form: u32,
+    buffer: &mut Buffer,
+) -> Exchanged
+    ensures { OnNode node.old.node node.new.node
+        ((result ≡ record { status = 64; join = false; used = 0; len = 0 })
+        × (buffer.new ≡ buffer.old))
+        (AnsweredNew form stream.now buffer.old buffer.new
+        result.status result.join result.used result.len) }
+{
+    let Some(mut held) = node.take(alloc) else {
+        return Exchanged::refused(NO_NODE);
+    };
+    let exchanged = answer_new(alloc, &mut held, stream, form, buffer);
+    node.put(held);
+    exchanged
+}
+
+/// Has the buffer keep the listing of the node's table (docs/PROTOCOL.md). What the buffer kept
+/// before is freed. The node stays.
+///
+/// # Statuses
+///
+/// If it is not 0 the buffer is as it was.
+///
+/// - 64 if the handle has no node.
+/// - 10 if memory is refused.
+#[unsafe(no_mangle)]
+pub extern "C" fn swimtab_raw_list_new(
+    alloc: Global,
+    node: &mut Handle,
+    buffer: &mut Buffer,
+) -> u32
+    ensures { OnSame node.old.node node.new.node
+        ((result ≡ 64) × (buffer.new ≡ buffer.old))
+        (λ held. FilledOr (listing held.table) buffer.old buffer.new result IsNoMemory) }
+{
+    let Some(held) = node.take(alloc) else {
+        return NO_NODE;
+    };
+    let status = list_new(alloc, &held, buffer);
+    node.put(held);
+    status
+}
+
+/// Frees the bytes of a buffer, which is then empty. An empty one stays so.
+#[unsafe(no_mangle)]
+pub extern "C" fn swimtab_raw_free(alloc: Global, buffer: &mut Buffer)
+    ensures kept { buffer.new.kept.kept ≡ None }
+    ensures len { buffer.new.len ≡ 0 }
+{
+    buffer.free(alloc);
+}

@@ -1,0 +1,36 @@
+//! Names that a node forgets.
+
+ghost use Rattle.std.specs.Prelude.{◌≡◌};
+ghost use Rattle.swim_c.specs.Forgetting.{ForgetDone};
+ghost use Rattle.swim_c.specs.OnNode.{OnNode};
+
+use crate::forgetting::forget;
+use crate::handle::Handle;
+use crate::status::NO_NODE;
+use std::alloc::Global;
+
+/// Forgets a name: the table is then that of the claims taken in about other names. No memory is
+/// asked for.
+///
+/// If the name is the member's own, its own claims go too. No refutation is due then, until the
+/// table takes in a claim about the member again. What a packet or a stream says of the name later
+/// is taken in as of a new one.
+///
+/// # Statuses
+///
+/// If it is not 0 the node is as it was.
+///
+/// - 64 if the handle has no node.
+/// - 67 if the table has no such name.
+#[unsafe(no_mangle)]
+pub extern "C" fn swimtab_raw_forget(alloc: Global, node: &mut Handle, name: &[u8]) -> u32
+    ensures { OnNode node.old.node node.new.node
+        (result ≡ 64) (ForgetDone name.now result) }
+{
+    let Some(mut held) = node.take(alloc) else {
+        return NO_NODE;
+    };
+    let status = forget(&mut held, name);
+    node.put(held);
+    status
+}

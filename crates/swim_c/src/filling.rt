@@ -1,0 +1,143 @@
+//! Buffers of the library that are filled: with a dump, a reply or a listing.
+
+ghost use Rattle.std.specs.Prelude.{◌≡◌, length, IfOk, IfErr, IsErrOf, OnErr};
+ghost use Rattle.swim_table.specs.Listing.{listing};
+ghost use Rattle.swim_c.specs.Buffers.{IsNoMemory};
+ghost use Rattle.swim_c.specs.Exchanges.{AnswerCause, NodeTakesStream};
+ghost use Rattle.swim_c.specs.Forms.{bytes_in, HasTooManyIn};
+ghost use Rattle.swim_c.specs.NewBytes.{AnsweredNew, AnswersNew, FilledOr, HasBytes, OfferedNew};
+
+use crate::buffer::Buffer;
+use crate::exchanging::Exchanged;
+use crate::form::Form;
+use crate::kept::Kept;
+use crate::status::{BAD_FORM, DONE, MEMORY};
+use std::alloc::{AllocError, Global};
+use swim_pack::SliceInlet;
+use swim_sync::{SyncFault, room_for_both};
+use swim_table::{EncodeFault, Node, list, read_stream};
+
+/// Fills the buffer with the node's dump in the form of this number. Answers a status.
+pub fn offer_new(
+    alloc: Global,
+    node: &Node,
+    join: bool,
+    form: u32,
+    buffer: &mut Buffer,
+) -> u32
+    ensures { OfferedNew form node.now.table join buffer.old buffer.new result }
+{
+    let Some(form) = Form::of(form) else {
+        return BAD_FORM;
+    };
+    match kept_dump(alloc, node, join, form) {
+        Ok(kept) => {
+            buffer.fill(alloc, kept);
+            DONE
+        }
+        Err(fault) => fault.number(),
+    }
+}
+
+fn kept_dump(
+    alloc: Global,
+    node: &Node,
+    join: bool,
+    form: Form,
+) -> Result<Box<Kept>, EncodeFault>
+    ensures bytes { IfOk result (λ kept. kept.value.bytes ≡ bytes_in form node.now.table join) }
+    ensures too_many { IsErrOf result EncodeFault.TooManyRecords
+        → HasTooManyIn form node.now.table }
+{
+    let dump = form.dump(alloc, node.table(), join)?;
+    let kept = Kept::boxed(alloc, dump)?;
+    Ok(kept)
+}
+
+/// Reads a stream, fills the buffer with the node's dump of before in the form of this number, and
+/// takes the stream in.
+pub fn answer_new(
+    alloc: Global,
+    node: &mut Node,
+    stream: &[u8],
+    form: u32,
+    buffer: &mut Buffer,
+) -> Exchanged
+    ensures { AnsweredNew form stream.now buffer.old buffer.new
+        result.status result.join result.used result.len node.old node.new }
+{
+    match Form::of(form) {
+        Some(form) => answer_filling(alloc, node, stream, form, buffer),
+        None => Exchanged::refused(BAD_FORM),
+    }
+}
+
+fn answer_filling(
+    alloc: Global,
+    node: &mut Node,
+    stream: &[u8],
+    form: Form,
+    buffer: &mut Buffer,
+) -> Exchanged
+    ensures { AnswersNew form stream.now buffer.old buffer.new
+        result.status result.join result.used result.len node.old node.new }
+{
+    match try_answer_new(alloc, node, stream, form, buffer) {
+        Ok(exchanged) => exchanged,
+        Err(fault) => Exchanged::refused(fault.number()),
+    }
+}
+
+fn try_answer_new(
+    alloc: Global,
+    node: &mut Node,
+    stream: &[u8],
+    form: Form,
+    buffer: &mut Buffer,
+) -> Result<Exchanged, SyncFault>
+    ensures done { IfOk result (λ made. made.status ≡ 0) }
+    ensures takes { IfOk result (λ made.
+        NodeTakesStream stream.now made.join made.used node.old node.new) }
+    ensures fills { IfOk result (λ made.
+        HasBytes (bytes_in form node.old.table made.join) buffer.new) }
+    ensures len { IfOk result (λ made.
+        made.len ≡ length (bytes_in form node.old.table made.join)) }
+    ensures unchanged { OnErr result ((node.new ≡ node.old) × (buffer.new ≡ buffer.old)) }
+    ensures refused { IfErr result (AnswerCause form stream.now node.old.table) }
+{
+    let mut inlet = SliceInlet::new(stream);
+    let (offered, join) = read_stream(alloc, &mut inlet)?;
+    let reply = form.dump(alloc, node.table(), join)?;
+    let used = stream.len() - inlet.rest().len();
+    let len = reply.len();
+    let kept = Kept::boxed(alloc, reply)?;
+    let room = room_for_both(alloc, node.table(), &offered)?;
+    buffer.fill(alloc, kept);
+    node.join_in(room, offered);
+    Ok(Exchanged {
+        status: DONE,
+        join,
+        used,
+        len,
+    })
+}
+
+/// Fills the buffer with the listing of the node's table. Answers a status.
+pub fn list_new(alloc: Global, node: &Node, buffer: &mut Buffer) -> u32
+    ensures { FilledOr (listing node.now.table) buffer.old buffer.new result IsNoMemory }
+{
+    match kept_listing(alloc, node) {
+        Ok(kept) => {
+            buffer.fill(alloc, kept);
+            DONE
+        }
+        Err(_) => MEMORY,
+    }
+}
+
+fn kept_listing(alloc: Global, node: &Node) -> Result<Box<Kept>, AllocError>
+    ensures { IfOk result (λ kept. kept.value.bytes ≡ listing node.now.table) }
+{
+    let text = list(alloc, node.table())?;
+    Kept::boxed(alloc, text)
+}
