@@ -102,13 +102,9 @@ stream_unread form bytes inlet rest table fault is none explains failed = elim (
 pub reply_refused : (form : Form) (bytes inlet rest : List ℕ) (offered table own : Entries) (join : Bool) (fault : EncodeFault) → inlet ≡ bytes → own ≡ table
     → exchanging.ReadsOffer (memory inlet) (memory rest) offered join → (fault ≡ encode.TooManyRecords → HasTooManyIn form own)
     → AnswerCause form bytes table (fault_of_encode fault)
-reply_refused form bytes inlet rest offered table own join encode.TooManyRecords is same read many = (
-      subst (HasTooManyIn form) same (many refl),
-      join,
-      length bytes - length rest,
-      read.0,
-      begins bytes rest read.0 join (subst (λ (b : List ℕ). (text : List ℕ) × StreamText text read.0 join × (b ≡ text ++ rest)) is read.2),
-    )
+reply_refused form bytes inlet rest offered table own join encode.TooManyRecords is same read many = 
+    (subst (HasTooManyIn form) same (many refl), (join, length bytes - length rest,
+    (read.0, begins bytes rest read.0 join (subst (λ (b : List ℕ). (text : List ℕ) × StreamText text read.0 join × (b ≡ text ++ rest)) is read.2))))
 reply_refused form bytes inlet rest offered table own join encode.Memory is same read many = tt
 
 pub refute_done : (before after : NodeValue) (fault : RefuteFault) → after ≡ before
