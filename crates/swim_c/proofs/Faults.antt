@@ -93,18 +93,23 @@ pub stream_unread : (form : Form) (bytes inlet rest : List ℕ) (table : Entries
 stream_unread form bytes inlet rest table fault is none explains failed = elim (memory_or fault) [
   | inl wants ↦ subst (λ (f : WireFault). AnswerCause form bytes table (fault_of_wire f)) (sym wants) tt
   | inr other ↦
-    let why : exchanging.LacksStream (memory inlet) (memory rest) fault = record { no_memory = other; lacks = none; explains = explains; failed = failed } in
-    subst (λ (f : SyncFault). AnswerCause form bytes table f) (sym (other_wire fault other))
-    (subst (λ (b : List ℕ). HoldsNoStream b fault) is (lacks inlet rest fault why))
+      let why : exchanging.LacksStream (memory inlet) (memory rest) fault = record { no_memory = other; lacks = none; explains = explains; failed = failed } in
+      subst (λ (f : SyncFault). AnswerCause form bytes table f) (sym (other_wire fault other))
+      (subst (λ (b : List ℕ). HoldsNoStream b fault) is (lacks inlet rest fault why))
 ]
 
 -- a stream was read, and its reply is not made: it has too many records, or memory was refused
 pub reply_refused : (form : Form) (bytes inlet rest : List ℕ) (offered table own : Entries) (join : Bool) (fault : EncodeFault) → inlet ≡ bytes → own ≡ table
     → exchanging.ReadsOffer (memory inlet) (memory rest) offered join → (fault ≡ encode.TooManyRecords → HasTooManyIn form own)
     → AnswerCause form bytes table (fault_of_encode fault)
-reply_refused form bytes inlet rest offered table own join encode.TooManyRecords is same read many = 
-    (subst (HasTooManyIn form) same (many refl), (join, length bytes - length rest,
-    (read.0, begins bytes rest read.0 join (subst (λ (b : List ℕ). (text : List ℕ) × StreamText text read.0 join × (b ≡ text ++ rest)) is read.2))))
+reply_refused form bytes inlet rest offered table own join encode.TooManyRecords is same read many = (
+  subst (HasTooManyIn form) same (many refl),
+  (
+    join,
+    length bytes - length rest,
+    (read.0, begins bytes rest read.0 join (subst (λ (b : List ℕ). (text : List ℕ) × StreamText text read.0 join × (b ≡ text ++ rest)) is read.2)),
+  ),
+)
 reply_refused form bytes inlet rest offered table own join encode.Memory is same read many = tt
 
 pub refute_done : (before after : NodeValue) (fault : RefuteFault) → after ≡ before

@@ -8,7 +8,7 @@ use types.Logic.{Logic}
 use base.Logic.{emp}
 use contract.BorrowLft.{◌⊑◌}
 use contract.Monad.{fact, fact_i}
-use types.Kit.{Item, Goal, Seq, Step, step, ‵, raw, ◌⊛◌, ◌$◌, use0, move, drop, join, rewrite, fsplit, fjoin, fpick, fpack, feq_i, feq_l}
+use types.Kit.{Item, Goal, Seq, Step, step, ‵, raw, ◌⊛◌, ◌$◌, use0, move, drop, join, fsplit, fjoin, fpick, fpack, feq_i, feq_l}
 use denote.RattleType.{RattleType, Valss}
 use denote.Builtin.{RawPtr, bool}
 use denote.RawPtr.{Ptr, block_ptr, null_ptr, ptr_val}

@@ -1,5 +1,5 @@
 -- Streams that come in pieces: how far one is read, and why it is not whole.
-use Rattle.std.proofs.Common.{◌≡◌, ◌≢◌, ◌∙◌, ℕ, ◌+◌, ◌-◌, ◌<◌, ◌≤◌, Bool, true, false, List, [], ◌∷◌, ◌++◌, length, take, drop, inl, inr, refl, sym, ap, subst, append-nil, append_assoc, arith}
+use Rattle.std.proofs.Common.{◌≡◌, ◌≢◌, ◌∙◌, ℕ, ◌+◌, ◌-◌, ◌<◌, ◌≤◌, true, false, List, [], ◌∷◌, ◌++◌, length, take, drop, inl, inr, refl, sym, ap, subst, append-nil, append_assoc, arith}
 use Rattle.std.proofs.Math.Seq.{drop-append_seam}
 use Rattle.std.proofs.lemmas.List.{length-append, length-take-le, take-append-drop}
 use Rattle.swim_claim.specs.declared.claim.Claim.{Claim}
@@ -13,7 +13,7 @@ use Rattle.swim_wire.specs.declared.stream.Header.{Header}
 use Rattle.swim_wire.proofs.Explaining.{memory_or}
 use Rattle.swim_wire.specs.Fault.{wire_number}
 use Rattle.swim_wire.specs.Reading.{wire_cause}
-use Rattle.swim_wire.specs.Streams.{StateTexts, StreamText}
+use Rattle.swim_wire.specs.Streams.{StateTexts}
 use Rattle.swim_wire.specs.Texts.{HeaderText, StateText}
 use Rattle.swim_table.proofs.Streams.{ReadSome, begun_more, none_wanted, step_explains, whole}
 use Rattle.swim_table.proofs.Tables.{TableOf-table_of}
@@ -22,7 +22,7 @@ use Rattle.swim_table.specs.Join.{table_of}
 use Rattle.swim_table.specs.Steps.{BeginText, IsWanted, ExplainsBegin, ExplainsRecord, ExplainsStep, ExplainsStream}
 use Rattle.swim_table.specs.Streaming.{Streaming}
 use Rattle.swim_c.specs.declared.progress.Progress.{Progress}
-use Rattle.swim_c.specs.Exchanges.{BeginsStream, HoldsNoStream}
+use Rattle.swim_c.specs.Exchanges.{HoldsNoStream}
 use Rattle.swim_c.specs.Progressing.{progress, IsProgressIn, StopsAt, WholeDone}
 use Rattle.swim_c.proofs.Faults.{memory, lacks}
 
@@ -90,13 +90,13 @@ no_stream bytes none text rest is parts =
 pub header_missing : (bytes : List ℕ) (p : Progress) (fault : WireFault) → fault ≢ wire.Memory → (wire_cause fault ≡ by_inlet → Rises 0 0)
     → UnlessFailed (wire_cause fault) (Lacks (memory (drop p.at bytes)) (λ b. (h : Header) × HeaderText b h)) → ExplainsBegin fault (drop p.at bytes)
     → p.has_header ≡ false → IsProgressIn bytes p → HoldsNoStream bytes fault
-header_missing bytes p fault no_memory failed none why fresh (IsProgressIn.none is) =
+header_missing bytes p error no_memory failed none why fresh (IsProgressIn.none is) =
     let all : drop p.at bytes ≡ bytes = ap (λ (q : Progress). drop q.at bytes) is in
-    none_there bytes fault no_memory failed
-    (UnlessFailed-weaker (wire_cause fault) (λ (n : Lacks (memory (drop p.at bytes)) (λ b. (h : Header) × HeaderText b h)).
+    none_there bytes error no_memory failed
+    (UnlessFailed-weaker (wire_cause error) (λ (n : Lacks (memory (drop p.at bytes)) (λ b. (h : Header) × HeaderText b h)).
     no_stream bytes (subst (λ (b : List ℕ). Lacks (memory b) (λ b. (h : Header) × HeaderText b h)) all n)) none)
-    (ExplainsStream.header (subst (λ (b : List ℕ). ExplainsBegin fault b) all why))
-header_missing bytes p fault no_memory failed none why fresh (IsProgressIn.some front more header claims begun parts sum is) = absurd (has_one p _ _ _ is fresh)
+    (ExplainsStream.header (subst (λ (b : List ℕ). ExplainsBegin error b) all why))
+header_missing bytes p error no_memory failed none why fresh (IsProgressIn.some front more header claims begun parts sum is) = absurd (has_one p _ _ _ is fresh)
 
 not_next : (header : Header) (left : ℕ) (claims : List Claim) (rest : List ℕ) → 0 < left → Lacks (memory rest) (λ b. (c : Claim) × StateText b c)
     → Lacks (memory rest) (IsWanted (record { header = header; left = left; table = table_of claims }))
@@ -106,16 +106,16 @@ not_next header left claims rest some none text more (IsWanted.user_state over l
 pub record_missing : (bytes : List ℕ) (p : Progress) (fault : WireFault) → fault ≢ wire.Memory → (wire_cause fault ≡ by_inlet → Rises 0 0)
     → UnlessFailed (wire_cause fault) (Lacks (memory (drop p.at bytes)) (λ b. (c : Claim) × StateText b c)) → ExplainsRecord fault (drop p.at bytes)
     → p.has_header ≡ true → 0 < p.left → IsProgressIn bytes p → HoldsNoStream bytes fault
-record_missing bytes p fault no_memory failed none why begun_it more (IsProgressIn.none is) = absurd (has_none p is begun_it)
-record_missing bytes p fault no_memory failed none why begun_it more (IsProgressIn.some front rest header claims begun parts sum is) =
+record_missing bytes p error no_memory failed none why begun_it more (IsProgressIn.none is) = absurd (has_none p is begun_it)
+record_missing bytes p error no_memory failed none why begun_it more (IsProgressIn.some front rest header claims begun parts sum is) =
     let here = unread bytes front rest p header.user_len parts is in
     let reader : Streaming = record { header = header; left = p.left; table = table_of claims } in
     let some = read_some bytes front rest header claims p.left begun parts sum in
-    none_there bytes fault no_memory failed
-    (UnlessFailed-weaker (wire_cause fault) (λ (n : Lacks (memory (drop p.at bytes)) (λ b. (c : Claim) × StateText b c)).
+    none_there bytes error no_memory failed
+    (UnlessFailed-weaker (wire_cause error) (λ (n : Lacks (memory (drop p.at bytes)) (λ b. (c : Claim) × StateText b c)).
     none_wanted (memory bytes) (memory rest) reader some
     (not_next header p.left claims rest more (subst (λ (b : List ℕ). Lacks (memory b) (λ b. (c : Claim) × StateText b c)) here n))) none)
-    (step_explains fault (memory bytes) (memory rest) reader some (ExplainsStep.record_of more (subst (λ (b : List ℕ). ExplainsRecord fault b) here why)))
+    (step_explains error (memory bytes) (memory rest) reader some (ExplainsStep.record_of more (subst (λ (b : List ℕ). ExplainsRecord error b) here why)))
 
 not_enough : (header : Header) (claims : List Claim) (rest : List ℕ) → length rest < header.user_len
     → Lacks (memory rest) (IsWanted (record { header = header; left = 0; table = table_of claims }))
@@ -149,14 +149,17 @@ whole_there bytes p enough begun_it over (IsProgressIn.some front rest header cl
     let size = ap length here in
     let long : length (take header.user_len rest) ≡ header.user_len = length-take-le header.user_len rest (omega (arith, enough, user, size)) in
     let sizes = length-append front (take header.user_len rest) in
-    WholeDone.whole header.join refl over (claims, record {
-      text = front ++ take header.user_len rest;
-      rest = drop header.user_len rest;
-      front = parts ∙ ap (λ (r : List ℕ). front ++ r) (sym (take-append-drop header.user_len rest))
-          ∙ sym (append_assoc front (take header.user_len rest) (drop header.user_len rest));
-      used_is = omega (arith, at, user, long, sizes);
-      stream = whole header claims front (take header.user_len rest) (omega (arith, sum, over)) begun long;
-    })
+    WholeDone.whole header.join refl over (
+      claims,
+      record {
+        text = front ++ take header.user_len rest;
+        rest = drop header.user_len rest;
+        front = parts ∙ ap (λ (r : List ℕ). front ++ r) (sym (take-append-drop header.user_len rest))
+            ∙ sym (append_assoc front (take header.user_len rest) (drop header.user_len rest));
+        used_is = omega (arith, at, user, long, sizes);
+        stream = whole header claims front (take header.user_len rest) (omega (arith, sum, over)) begun long;
+      },
+    )
 
 -- ---- what a call answers
 

@@ -1,5 +1,5 @@
 -- The two forms of a table's dump, by number.
-use Rattle.std.specs.Prelude.{◌≡◌, ◌≢◌, ℕ, ◌<◌, Bool, List, length}
+use Rattle.std.specs.Prelude.{◌≢◌, ℕ, ◌<◌, Bool, List, length}
 use Rattle.swim_claim.specs.declared.claim.Claim.{Claim}
 use Rattle.swim_wire.specs.Limits.{most_nodes}
 use Rattle.swim_table.specs.Dump.{dump_bytes}

@@ -16,6 +16,10 @@ abbrev pub open_number : OpenFault → ℕ
 open_number (Claim fault) = claim_number fault
 open_number Memory = 10
 
+-- what a member says of itself beside its name
+abbrev pub told : List ℕ → ℕ → List ℕ → List ℕ → DetailsValue
+told addr port meta vsn = record { addr = addr; port = port; meta = meta; vsn = vsn }
+
 -- the node of a member of this name and these details, of which nothing is known but its Alive at
 -- this incarnation
 pub record IsNewMember (name : List ℕ) (details : DetailsValue) (inc : ℕ)

@@ -18,13 +18,7 @@ use swim_sync::{SyncFault, room_for_both};
 use swim_table::{EncodeFault, Node, list, read_stream};
 
 /// Fills the buffer with the node's dump in the form of this number. Answers a status.
-pub fn offer_new(
-    alloc: Global,
-    node: &Node,
-    join: bool,
-    form: u32,
-    buffer: &mut Buffer,
-) -> u32
+pub fn offer_new(alloc: Global, node: &Node, join: bool, form: u32, buffer: &mut Buffer) -> u32
     ensures { OfferedNew form node.now.table join buffer.old buffer.new result }
 {
     let Some(form) = Form::of(form) else {
@@ -39,12 +33,7 @@ pub fn offer_new(
     }
 }
 
-fn kept_dump(
-    alloc: Global,
-    node: &Node,
-    join: bool,
-    form: Form,
-) -> Result<Box<Kept>, EncodeFault>
+fn kept_dump(alloc: Global, node: &Node, join: bool, form: Form) -> Result<Box<Kept>, EncodeFault>
     ensures bytes { IfOk result (λ kept. kept.value.bytes ≡ bytes_in form node.now.table join) }
     ensures too_many { IsErrOf result EncodeFault.TooManyRecords
         → HasTooManyIn form node.now.table }

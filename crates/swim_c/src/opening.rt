@@ -3,7 +3,7 @@
 ghost use Rattle.std.specs.Prelude.{◌≡◌, ◌∷◌, [], IfOk, IfErr};
 ghost use Rattle.swim_claim.specs.declared.claim.Claim.TheVariants.{Alive};
 ghost use Rattle.swim_table.specs.Table.{TableOf};
-ghost use Rattle.swim_c.specs.Opening.{IsUnopened, open_number};
+ghost use Rattle.swim_c.specs.Opening.{IsUnopened, open_number, told};
 ghost use Rattle.swim_c.specs.declared.opening.OpenFault.TheVariants as opening;
 
 use crate::status::MEMORY;
@@ -59,20 +59,12 @@ impl OpenFault {
 /// before anything else.
 pub fn open(alloc: Global, parts: Parts, inc: u32) -> Result<Box<Node>, OpenFault>
     ensures name { IfOk result (λ node. node.value.name ≡ parts.entry.name.now) }
-    ensures details { IfOk result (λ node. node.value.details ≡ record {
-      addr = parts.entry.addr.now;
-      port = parts.entry.port;
-      meta = parts.entry.meta.now;
-      vsn = parts.entry.vsn.now;
-    }) }
+    ensures details { IfOk result (λ node. node.value.details
+        ≡ told parts.entry.addr.now parts.entry.port parts.entry.meta.now parts.entry.vsn.now) }
     ensures table { IfOk result (λ node.
         TableOf node.value.table (Alive node.value.name inc node.value.details ∷ [])) }
-    ensures refused { IfErr result (IsUnopened parts.entry.name.now (record {
-      addr = parts.entry.addr.now;
-      port = parts.entry.port;
-      meta = parts.entry.meta.now;
-      vsn = parts.entry.vsn.now;
-    })) }
+    ensures refused { IfErr result (IsUnopened parts.entry.name.now
+        (told parts.entry.addr.now parts.entry.port parts.entry.meta.now parts.entry.vsn.now)) }
 {
     let (name, details) = copied(alloc, parts)?;
     let node = Node::new(alloc, name, details, inc)?;
@@ -86,18 +78,10 @@ pub fn open(alloc: Global, parts: Parts, inc: u32) -> Result<Box<Node>, OpenFaul
 /// before anything else.
 pub fn copied(alloc: Global, parts: Parts) -> Result<(Name, Details), OpenFault>
     ensures name { IfOk result (λ made. made.0 ≡ parts.entry.name.now) }
-    ensures details { IfOk result (λ made. made.1 ≡ record {
-      addr = parts.entry.addr.now;
-      port = parts.entry.port;
-      meta = parts.entry.meta.now;
-      vsn = parts.entry.vsn.now;
-    }) }
-    ensures refused { IfErr result (IsUnopened parts.entry.name.now (record {
-      addr = parts.entry.addr.now;
-      port = parts.entry.port;
-      meta = parts.entry.meta.now;
-      vsn = parts.entry.vsn.now;
-    })) }
+    ensures details { IfOk result (λ made. made.1
+        ≡ told parts.entry.addr.now parts.entry.port parts.entry.meta.now parts.entry.vsn.now) }
+    ensures refused { IfErr result (IsUnopened parts.entry.name.now
+        (told parts.entry.addr.now parts.entry.port parts.entry.meta.now parts.entry.vsn.now)) }
 {
     let name = Name::copied(alloc, parts.name)??;
     let meta = parts.meta.to_vec(alloc)?;

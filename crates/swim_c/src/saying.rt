@@ -4,7 +4,7 @@
 ghost use Rattle.std.specs.Prelude.{◌≡◌, ◌≤◌, [], length, IfOk, IfErr};
 ghost use Rattle.swim_claim.specs.declared.claim.Claim.TheVariants.{Alive, Suspect, Confirm, Leave};
 ghost use Rattle.swim_c.specs.Buffers.{IsNoMemory};
-ghost use Rattle.swim_c.specs.Opening.{IsUnmade};
+ghost use Rattle.swim_c.specs.Opening.{IsUnmade, told};
 ghost use Rattle.swim_c.specs.Saying.{SaidOr, IsNoName, IsUnsaid};
 ghost use Rattle.swim_claim.specs.Limits.{longest_name};
 
@@ -39,17 +39,12 @@ fn own_alive(alloc: Global, node: &Node, inc: u32) -> Result<Packet, AllocError>
 /// Writes the packet of the Alive of a member that says this of itself, at the incarnation, to the
 /// buffer.
 pub fn say_alive_of(alloc: Global, parts: Parts, inc: u32, out: &mut [u8]) -> Written
-    ensures { SaidOr (record { claim = Alive parts.entry.name.now inc (record {
-      addr = parts.entry.addr.now;
-      port = parts.entry.port;
-      meta = parts.entry.meta.now;
-      vsn = parts.entry.vsn.now;
-    }); from = [] }) out.old out.new result.status result.len (IsUnmade parts.entry.name.now (record {
-      addr = parts.entry.addr.now;
-      port = parts.entry.port;
-      meta = parts.entry.meta.now;
-      vsn = parts.entry.vsn.now;
-    })) }
+    ensures { SaidOr (record {
+      claim = Alive parts.entry.name.now inc
+          (told parts.entry.addr.now parts.entry.port parts.entry.meta.now parts.entry.vsn.now);
+      from = [];
+    }) out.old out.new result.status result.len (IsUnmade parts.entry.name.now
+        (told parts.entry.addr.now parts.entry.port parts.entry.meta.now parts.entry.vsn.now)) }
 {
     match copied(alloc, parts) {
         Ok((name, details)) => {

@@ -88,11 +88,7 @@ pub extern "C" fn swimtab_raw_answer_new(
 /// - 64 if the handle has no node.
 /// - 10 if memory is refused.
 #[unsafe(no_mangle)]
-pub extern "C" fn swimtab_raw_list_new(
-    alloc: Global,
-    node: &mut Handle,
-    buffer: &mut Buffer,
-) -> u32
+pub extern "C" fn swimtab_raw_list_new(alloc: Global, node: &mut Handle, buffer: &mut Buffer) -> u32
     ensures { OnSame node.old.node node.new.node
         ((result ≡ 64) × (buffer.new ≡ buffer.old))
         (λ held. FilledOr (listing held.table) buffer.old buffer.new result IsNoMemory) }

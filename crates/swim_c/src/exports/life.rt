@@ -1,7 +1,7 @@
 //! The life of a node: opened, and closed.
 
 ghost use Rattle.std.specs.Prelude.{◌≡◌, None, MatchOption};
-ghost use Rattle.swim_c.specs.Opening.{OpenDone};
+ghost use Rattle.swim_c.specs.Opening.{OpenDone, told};
 
 use crate::handle::Handle;
 use crate::opening::{Parts, open};
@@ -31,9 +31,8 @@ pub extern "C" fn swimtab_raw_open(
     vsn: &[u8],
     inc: u32,
 ) -> u32
-    ensures { OpenDone name.now
-        (record { addr = addr.now; port = port; meta = meta.now; vsn = vsn.now })
-        inc node.old.node node.new.node result }
+    ensures { OpenDone name.now (told addr.now port meta.now vsn.now) inc
+        node.old.node node.new.node result }
 {
     if let Some(held) = node.take(alloc) {
         node.put(held);

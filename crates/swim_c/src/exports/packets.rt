@@ -1,11 +1,10 @@
 //! Packets that a node takes in, and packets of what it says.
 
 ghost use Rattle.std.specs.Prelude.{◌≡◌, [], false};
-ghost use Rattle.swim_claim.specs.Details.{DetailsValue};
 ghost use Rattle.swim_claim.specs.declared.claim.Claim.TheVariants.{Alive, Suspect, Confirm, Leave};
 ghost use Rattle.swim_c.specs.Buffers.{IsNoMemory};
 ghost use Rattle.swim_c.specs.OnNode.{OnNode, OnSame};
-ghost use Rattle.swim_c.specs.Opening.{IsUnmade};
+ghost use Rattle.swim_c.specs.Opening.{IsUnmade, told};
 ghost use Rattle.swim_c.specs.Packing.{CompoundDone};
 ghost use Rattle.swim_c.specs.Saying.{SaidOr, IsNoName, IsUnsaid};
 ghost use Rattle.swim_c.specs.Taking.{TakeDone, RefuteDone};
@@ -122,10 +121,11 @@ pub extern "C" fn swimtab_raw_alive_of(
     inc: u32,
     out: &mut [u8],
 ) -> Written
-    ensures { (details : DetailsValue) → details
-        ≡ record { addr = addr.now; port = port; meta = meta.now; vsn = vsn.now }
-        → SaidOr (record { claim = Alive name.now inc details; from = [] })
-        out.old out.new result.status result.len (IsUnmade name.now details) }
+    ensures { SaidOr (record {
+      claim = Alive name.now inc (told addr.now port meta.now vsn.now);
+      from = [];
+    }) out.old out.new result.status result.len
+        (IsUnmade name.now (told addr.now port meta.now vsn.now)) }
 {
     let parts = Parts {
         name,

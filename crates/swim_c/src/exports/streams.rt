@@ -113,14 +113,14 @@ pub extern "C" fn swimtab_raw_finish(alloc: Global, node: &mut Handle, stream: &
 /// with those of the call before: it reads on from the last whole record, so that each record is
 /// read once. No node is asked for, and no memory stays.
 ///
-/// Where it is 0 the stream is as long as the place in the progress and its user state together.
+/// Where it is 0 the stream has as many bytes as the place in the progress and the length of the user
+/// state together.
 /// What is read of it is no claim of a node: the answer and the finish read it once more.
 ///
 /// # Statuses
 ///
 /// - 1 where the bytes end before the stream does: there may be one once more of them are there.
-/// - 2 to 21 where no stream stands at the front, whatever follows: the fault at which its reading
-///   stops.
+/// - 2 to 21 where no stream stands at the front: the fault at which its reading stops.
 /// - 10 where memory is refused for a record. The same call may be made again.
 #[unsafe(no_mangle)]
 pub extern "C" fn swimtab_raw_whole(alloc: Global, progress: &mut Progress, bytes: &[u8]) -> u32

@@ -114,10 +114,7 @@ fn the_library_keeps_bytes_until_they_are_freed(rt: HostRuntime) {
         len: 0,
         kept: KeptHandle::none(),
     };
-    assert_eq!(rt;
-        offered(alloc, &mut node, 1, &mut buffer),
-        STREAM.len()
-    );
+    assert_eq!(rt; offered(alloc, &mut node, 1, &mut buffer), STREAM.len());
     assert_eq!(rt;
         swimtab_raw_offer_new(alloc, &mut node, false, 2, &mut buffer),
         70

@@ -1,4 +1,4 @@
-use Rattle.std.proofs.Common.{◌≡◌, ◌∙◌, true, Result, Ok, Err, OnOk, IfErr, ap, sym, subst, rules}
+use Rattle.std.proofs.Common.{◌∙◌, Result, Ok, Err, OnOk, IfErr, ap, sym, subst, rules}
 use Rattle.std.proofs.lemmas.Result.{err_from_is_err_and}
 use Rattle.swim_c.specs.declared.progress.Progress.{Progress}
 use Rattle.swim_c.specs.Progressing.{IsProgressIn}
@@ -16,14 +16,14 @@ then_err (Err e) p f = f e p
 pub loop-self-init : goal.loop-self-init
 loop-self-init c = elim c.if-not-self.branch [
   | then-not-self+in_ok-read_header w ↦
-    let read = w.in_ok-read_header.ensures in record {
-      header = ap (λ (p : Progress). p.has_header) w.self-is ∙ read.read;
-      progress = λ at. subst (λ (p : Progress). IsProgressIn c.args.bytes.now p) (sym w.self-is) (read.progress at);
-    }
+      let read = w.in_ok-read_header.ensures in record {
+        header = ap (λ (p : Progress). p.has_header) w.self-is ∙ read.read;
+        progress = λ at. subst (λ (p : Progress). IsProgressIn c.args.bytes.now p) (sym w.self-is) (read.progress at);
+      }
   | else-not-self w ↦ record {
-      header = ap (λ (p : Progress). p.has_header) w.self-is ∙ search rules;
-      progress = λ at. subst (λ (p : Progress). IsProgressIn c.args.bytes.now p) (sym w.self-is) at;
-    }
+    header = ap (λ (p : Progress). p.has_header) w.self-is ∙ search rules;
+    progress = λ at. subst (λ (p : Progress). IsProgressIn c.args.bytes.now p) (sym w.self-is) at;
+  }
 ]
 
 pub loop-self-preserved : goal.loop-self-preserved
