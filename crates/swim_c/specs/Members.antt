@@ -1,5 +1,5 @@
 -- What is copied of a member.
-use Rattle.std.specs.Prelude.{◌≡◌, ◌↔◌, ◌<◌, ℕ, take, replicate, true, false, Option, Some, None, IfSome, IsSome, IsTrue}
+use Rattle.std.specs.Prelude.{◌≡◌, ◌↔◌, ◌<◌, ℕ, take, replicate, true, false, Option, Some, None, MatchOption, IsTrue}
 use Rattle.std.specs.Option.{option_map, option_and_then}
 use Rattle.swim_claim.specs.Claim.{name_of, inc_of, kind_of, details_of}
 use Rattle.swim_claim.specs.Details.{DetailsValue}
@@ -40,7 +40,7 @@ IsHome None details m = IsNoHome m
 
 -- the newest Alive has a greater incarnation than the claim that stands
 abbrev pub CameBack : Standing → Type 0
-CameBack entry = IfSome entry.home (λ home. inc_of entry.top < inc_of home) × IsSome entry.home
+CameBack entry = MatchOption entry.home ⊥ (λ home. inc_of entry.top < inc_of home)
 
 -- the member's data are those of the entry
 pub record IsMember (entry : Standing) (m : Member) : Type 0 where
