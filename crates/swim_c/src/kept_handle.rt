@@ -55,5 +55,3 @@ impl KeptHandle {
         Some(unsafe { Box::from_raw(alloc, at as *mut Kept) })
     }
 }
-
-unsafe impl Send for KeptHandle {}
