@@ -1,9 +1,10 @@
 -- What is sent is opened under the first key.
-use Rattle.std.proofs.Common.{◌≡◌, ℕ, ◌<◌, List, [], ◌∷◌, length, drop, get_or, sym, ap, ◌∙◌, arith}
+use Rattle.std.proofs.Common.{◌≡◌, ◌≢◌, ℕ, ◌<◌, List, [], ◌∷◌, ◌++◌, length, drop, get_or, inl, inr, refl, sym, ap, ◌∙◌, arith}
 use Rattle.std.proofs.lemmas.List.{drop_more}
 use Rattle.memberlist_cipher.specs.Encryption.{Encryption, StreamEncryption}
 use Rattle.memberlist_cipher.specs.Label.{IsLabelled}
-use Rattle.memberlist_keyring.specs.Opening.{IsFirst, OpensFirst, OpensStreamFirst}
+use Rattle.memberlist_keyring.specs.Opening.{IsFirst, OpensFirst, OpensStreamFirst, OpensReplyFirst}
+use Rattle.memberlist_keyring.specs.Sending.{SendsFirst}
 
 -- the first of the keys opens it
 IsFirst-head : (Opened : List ℕ → List ℕ → Type 0) (keys : List (List ℕ)) (key : List ℕ) (others : List (List ℕ)) (message : List ℕ)
@@ -38,3 +39,27 @@ opens_stream_first keys key others label bytes text message parts labelled e = r
 -- the key that is read is the first of them
 pub first_is : (seen keys : List (List ℕ)) (key : List ℕ) → seen ≡ keys → 0 < length seen → key ≡ get_or seen 0 key → keys ≡ key ∷ drop 1 seen
 first_is seen keys key same some read = sym same ∙ drop_more seen 0 key some ∙ ap (λ (k : List ℕ). k ∷ drop 1 seen) (sym read)
+
+-- ---- a reply, before which no label stands
+
+-- what is made with the first of the keys, and begins with no label, is sent bare
+pub sends_bare : (made : List ℕ → List ℕ) (keys : List (List ℕ)) (key : List ℕ) (others : List (List ℕ)) (bytes : List ℕ) → keys ≡ key ∷ others
+    → bytes ≡ made key → ((more : List ℕ) → bytes ≢ 244 ∷ more) → SendsFirst made keys [] bytes
+sends_bare made keys key others bytes parts is bare = record {
+  key = key;
+  others = others;
+  first = parts;
+  labelled = inl (refl, is, bare);
+}
+
+-- a label goes before bytes that begin with none
+behind : (label bytes : List ℕ) → ((more : List ℕ) → bytes ≢ 244 ∷ more) → (text : List ℕ) × IsLabelled text label bytes
+behind [] bytes bare = (bytes, inl (refl, refl, bare))
+behind (first ∷ others) bytes bare =
+    (244 ∷ length (first ∷ others) ∷ (first ∷ others) ++ bytes, inr (omega arith, refl))
+
+pub opens_reply_first : (keys : List (List ℕ)) (key : List ℕ) (others : List (List ℕ)) (label bytes message : List ℕ) → keys ≡ key ∷ others
+    → ((more : List ℕ) → bytes ≢ 244 ∷ more) → StreamEncryption key label bytes message → OpensReplyFirst keys label bytes message
+opens_reply_first keys key others label bytes message parts bare e =
+    let text = behind label bytes bare in
+    (text.0, text.1, opens_stream_first keys key others label bytes text.0 message parts text.1 e)

@@ -47,3 +47,8 @@ pub record OpensStreamFirst (keys : List (List ℕ)) (bytes message : List ℕ) 
   pub rest : List ℕ
   pub labelled : IsLabelled bytes label rest
   pub first : IsFirst (λ key m. StreamEncryption key label rest m) keys message
+
+-- behind this label, or bare if that is empty, the bytes are a stream that opens to the message
+abbrev pub OpensReplyFirst : List (List ℕ) → List ℕ → List ℕ → List ℕ → Type 0
+OpensReplyFirst keys label bytes message =
+    (stream : List ℕ) × IsLabelled stream label bytes × OpensStreamFirst keys stream message

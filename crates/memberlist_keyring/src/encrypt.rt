@@ -3,7 +3,7 @@
 ghost use Rattle.std.specs.Prelude.{◌≡◌, ◌≢◌, [], IfSome, OnSome, MatchOption, IfOk, IfErr};
 ghost use Rattle.memberlist_cipher.specs.Encryption.{encrypted, encrypted_stream};
 ghost use Rattle.memberlist_cipher.specs.Refusal.{EncryptCause};
-ghost use Rattle.memberlist_keyring.specs.Opening.{OpensFirst, OpensStreamFirst};
+ghost use Rattle.memberlist_keyring.specs.Opening.{OpensFirst, OpensStreamFirst, OpensReplyFirst};
 ghost use Rattle.memberlist_keyring.specs.Sending.{MaySend, MaySendStream, SendsFirst};
 
 use crate::Keyring;
@@ -81,6 +81,42 @@ impl Keyring {
         ensures within { IfOk result (λ sent. OnSome sent (MaySendStream label.now message.now)) }
         ensures refuses { IfErr result (EncryptCause (MaySendStream label.now message.now)) }
     {
+        let Some(bytes) = self.encrypt_reply(alloc, nonce, label, message)? else {
+            return Ok(None);
+        };
+        let sent = behind_label(alloc, label, bytes)?;
+        Ok(Some(sent))
+    }
+
+    /// What answers a stream: a stream with this message, encrypted under the first key; none where
+    /// there is no key. In memberlist only the side that opens a connection writes the label, but
+    /// the side that answers associates it too. So no label stands before it, and
+    /// [`Keyring::open_stream`] gives the message back once one does.
+    ///
+    /// A nonce must not be used twice under one key, be it of packets or streams.
+    ///
+    /// # Errors
+    ///
+    /// As [`Keyring::encrypt_stream`] has them.
+    ///
+    /// Source: `sendLocalState` and `encryptLocalState` in memberlist's net.go; the limit is own.
+    pub fn encrypt_reply(
+        &self,
+        alloc: Global,
+        nonce: &[u8; 12],
+        label: &[u8],
+        message: &[u8],
+    ) -> Result<Option<Vec<u8>>, CipherFault>
+        ensures key { IfOk result (λ sent. MatchOption sent (self.now ≡ [])
+            (λ _. self.now ≢ [])) }
+        ensures sends { IfOk result (λ sent. IfSome sent (λ bytes.
+            SendsFirst (λ key. encrypted_stream key nonce.now label.now message.now)
+            self.now [] bytes.items)) }
+        ensures opens { IfOk result (λ sent. IfSome sent (λ bytes.
+            OpensReplyFirst self.now label.now bytes.items message.now)) }
+        ensures within { IfOk result (λ sent. OnSome sent (MaySendStream label.now message.now)) }
+        ensures refuses { IfErr result (EncryptCause (MaySendStream label.now message.now)) }
+    {
         let Some(key) = self.keys.first() else {
             return Ok(None);
         };
@@ -88,7 +124,6 @@ impl Keyring {
             return Err(CipherFault::TooLong);
         }
         let bytes = key.encrypt_stream(alloc, nonce, label, message)?;
-        let sent = behind_label(alloc, label, bytes)?;
-        Ok(Some(sent))
+        Ok(Some(bytes))
     }
 }

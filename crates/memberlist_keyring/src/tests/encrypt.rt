@@ -1,7 +1,7 @@
 //! Packets and streams, encrypted under the first key as memberlist does, under the nonces that it
 //! drew.
 
-use super::packets::{LABELLED, LABELLED_STREAMS, MESSAGE, PACKETS, STREAMS};
+use super::packets::{LABELLED, LABELLED_STREAMS, MESSAGE, PACKETS, REPLY, STREAMS};
 use super::{KEY, KEY_32, OTHER, keyring};
 use crate::Keyring;
 use memberlist_cipher::CipherFault;
@@ -12,14 +12,15 @@ use std::test::Fail;
 /// `KEY`, and another one behind it.
 const KEY_AND_OTHER: &str = "EBceJSwzOkFIT1ZdZGtyeQ==\nAAAAAAAAAAAAAAAAAAAAAA==";
 
-/// What a packet and a stream are written by.
+/// What packets, streams and replies are written by.
 #[derive(Clone, Copy)]
 enum To {
     Packet,
     Stream,
+    Reply,
 }
 
-/// Encrypts a packet or a stream.
+/// Encrypts a packet, a stream or a reply.
 fn encrypt(
     alloc: Global,
     keyring: &Keyring,
@@ -31,6 +32,7 @@ fn encrypt(
     match to {
         To::Packet => keyring.encrypt(alloc, nonce, label, message),
         To::Stream => keyring.encrypt_stream(alloc, nonce, label, message),
+        To::Reply => keyring.encrypt_reply(alloc, nonce, label, message),
     }
 }
 
@@ -89,6 +91,14 @@ fn the_first_key_encrypts_behind_the_label(rt: HostRuntime) -> Result<(), Fail> 
             b"labelled",
             LABELLED_STREAMS[1],
         ),
+        (
+            KEY_AND_OTHER,
+            To::Reply,
+            *b"\xc7\xba\xf9\xe8\xc9\xa5\xae\x07\xb8\x00\xf6\x54",
+            b"east",
+            b"labelled",
+            REPLY,
+        ),
     ] {
         assert_encrypts(
             &rt,
@@ -106,7 +116,7 @@ fn the_first_key_encrypts_behind_the_label(rt: HostRuntime) -> Result<(), Fail> 
 
 #[test]
 fn without_a_key_nothing_is_encrypted(rt: HostRuntime) -> Result<(), Fail> {
-    for to in [To::Packet, To::Stream] {
+    for to in [To::Packet, To::Stream, To::Reply] {
         assert_encrypts(&rt, rt.alloc(), "", to, &[0; 12], b"east", MESSAGE, None)?;
     }
     Ok(())
@@ -115,7 +125,7 @@ fn without_a_key_nothing_is_encrypted(rt: HostRuntime) -> Result<(), Fail> {
 #[test]
 fn a_label_of_256_bytes_is_too_long(rt: HostRuntime) -> Result<(), Fail> {
     let keyring = keyring(rt.alloc(), KEY)?;
-    for to in [To::Packet, To::Stream] {
+    for to in [To::Packet, To::Stream, To::Reply] {
         let answer = encrypt(rt.alloc(), &keyring, to, &[0; 12], &[b'x'; 256], b"").err();
         assert_eq!(rt; answer, Some(CipherFault::TooLong));
     }
