@@ -1,3 +1,4 @@
 pub mod Message
 pub mod Packet
 pub mod Stream
+pub mod Reply

@@ -5,6 +5,7 @@
 //! | `packet` | the message of a packet |
 //! | `message` | what a message is |
 //! | `stream` | the push/pull stream of a connection |
+//! | `reply` | the push/pull stream that answers one |
 //! | `fault` | why a packet or a stream is refused |
 //! | `laws` | what holds of the definitions, apart from any code |
 #![tactic(auto)]
@@ -13,11 +14,13 @@ mod fault;
 pub mod laws;
 mod message;
 mod packet;
+mod reply;
 mod stream;
 
 pub use fault::{PacketFault, StreamFault};
 pub use message::{Claiming, Message};
 pub use packet::{MESSAGE_LIMIT, open_packet};
+pub use reply::open_reply;
 pub use stream::open_stream;
 
 #[cfg(test)]

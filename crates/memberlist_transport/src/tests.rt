@@ -71,6 +71,14 @@ const LABELLED_STREAM: &[u8] =
       \xdb\xc4\x0f\x08P\xf3\xd2.\xd0\xcc\xbc\x18TN\x0b\xf4\xf3\xd8f\xe2Z\x87\xd4\x91\xec>\x0fj\
       \xd1\xa8\xbd\xb2\x95\x08)\xfcT\xffryX{\x06\xcb\xcd{^\\\x17\xe1P\xc6\xfe\xb95\xb8\xd1";
 
+/// The stream as the reply to one in a cluster with the label `dc`, under the key, by python's
+/// cryptography.
+const SEALED_REPLY: &[u8] =
+    b"\x0a\x00\x00\x00s\x01nonce-number;%\xab6}\xebl-\xc3\xcf\xdd\xa1,[\x9e\xb4\x91\xfd4\
+      \x00(\xe5\xc3\x07\x03T\xb9]\x9c\xa2\xb0]\x96;B\xad\x8e\xfa\xc3f\xae\xfb\xe9M\xefX\
+      \x00\x15ub\xeb\xceU\x9e\x14\x07)j\xd6)\x1bX=<\xe6\x06\xab\xf0^N\x9a\xaa2M\x07J\x1e8\
+      \xfa\xfd\xf5\x16\x9d\x81l\x03{q{=\x88P\x90Q\x80\x11\xfb\x9d$\xa0E\xe3";
+
 const ACK_STREAM: &[u8] =
     b"\x0a\x00\x00\x00/\x01nonce-number?$\xa8,s\xfbn\x80\x07\xe5r`\x1aM\xeeV\xab\x8f+,#\xaf\
       \x1aZ4\xfd4\xc8\xc1\xce)\xaa\x11\xed";
@@ -256,6 +264,38 @@ fn what_holds_no_stream_is_refused_by_its_cause(rt: HostRuntime) -> Result<(), F
     ] {
         let found = stream_in(rt.alloc(), keys, bytes, limit)?.err();
         assert_eq!(rt; found, Some(fault), "{bytes:?}");
+    }
+    Ok(())
+}
+
+/// What the bytes hold as a reply in a cluster with this label. Where a growth is refused, the next
+/// call finds memory.
+fn reply_in(
+    alloc: Global,
+    keys: &str,
+    label: &[u8; 2],
+    bytes: &[u8],
+) -> Result<Result<Vec<u8>, StreamFault>, Fail> {
+    let keys = keyring(alloc, keys)?;
+    match open_reply(alloc, &keys, label, bytes, 999) {
+        Err(StreamFault::Memory) => Ok(open_reply(alloc, &keys, label, bytes, 999)),
+        result => Ok(result),
+    }
+}
+
+#[test]
+fn a_reply_is_opened_with_the_label_of_the_cluster(rt: HostRuntime) -> Result<(), Fail> {
+    for (keys, label, bytes, wanted) in [
+        (KEY, b"dc", SEALED_REPLY, Some(STREAM)),
+        (KEY, b"dc", STREAM, Some(STREAM)),
+        ("", b"dc", STREAM, Some(STREAM)),
+        (KEY, b"dx", LABELLED_STREAM, Some(STREAM)),
+        (KEY, b"dx", SEALED_REPLY, None),
+        (KEY, b"dc", SEALED_STREAM, None),
+        ("", b"dc", SEALED_REPLY, None),
+    ] {
+        let found = reply_in(rt.alloc(), keys, label, bytes)?.ok();
+        assert_eq!(rt; found.as_deref(), wanted, "{bytes:?}");
     }
     Ok(())
 }
