@@ -279,14 +279,15 @@ uint32_t swimtab_raw_keyring_add(swimtab_keyring *keyring, const void *key, size
 uint32_t swimtab_raw_keyring_close(swimtab_keyring *keyring);
 swimtab_written swimtab_raw_unwrap(const swimtab_keyring *keyring, const void *packet, size_t len,
                                    void *out, size_t out_len);
-swimtab_written swimtab_raw_unwrap_stream(const swimtab_keyring *keyring, const void *stream, size_t len,
-                                          void *out, size_t out_len);
+swimtab_written swimtab_raw_unwrap_stream(const swimtab_keyring *keyring, const void *label,
+                                          size_t label_len, const void *stream, size_t len, void *out,
+                                          size_t out_len);
 swimtab_written swimtab_raw_seal(const swimtab_keyring *keyring, const void *nonce, const void *label,
                                  size_t label_len, const void *message, size_t len, void *out,
                                  size_t out_len);
 swimtab_written swimtab_raw_seal_stream(const swimtab_keyring *keyring, const void *nonce,
-                                        const void *label, size_t label_len, const void *message,
-                                        size_t len, void *out, size_t out_len);
+                                        const void *label, size_t label_len, bool reply,
+                                        const void *message, size_t len, void *out, size_t out_len);
 
 static inline uint32_t swimtab_version(void) {
     return swimtab_raw_version();
@@ -571,15 +572,22 @@ static inline swimtab_written swimtab_unwrap(const swimtab_keyring *keyring, con
  * out is what swimtab_answer and swimtab_finish read. Neither it, nor what is compressed or encrypted,
  * has more than 268,435,456 bytes.
  *
+ * The label is that of the cluster, and empty if it has none. In a cluster with a label only the side
+ * that opened the connection writes it before its stream; the side that answers does not, but
+ * authenticates it too. So a stream that does not begin with a label is read as if this one stood
+ * before it. One that begins with a label, whichever it is, is read as it is.
+ *
  * SWIMTAB_DONE; SWIMTAB_TOO_SMALL; SWIMTAB_MEMORY; SWIMTAB_WRONG_TYPE: no push/pull stream; without a
  * key also one that is encrypted; SWIMTAB_ENDED: it is empty; .._WRAPPER_ENDED to .._TOO_DEEP;
  * .._CIPHER_TOO_LONG to .._CIPHER_TRAILING: it is encrypted and no key opens it, the fault of the last
- * key. */
-static inline swimtab_written swimtab_unwrap_stream(const swimtab_keyring *keyring, const void *stream,
-                                                    size_t len, void *out, size_t out_len) {
+ * key; SWIMTAB_CIPHER_TOO_LONG also: the label has more than 255 bytes. */
+static inline swimtab_written swimtab_unwrap_stream(const swimtab_keyring *keyring, const void *label,
+                                                    size_t label_len, const void *stream, size_t len,
+                                                    void *out, size_t out_len) {
     const swimtab_keyring no_keys = SWIMTAB_KEYRING_INIT;
     uint8_t none = 0;
-    return swimtab_raw_unwrap_stream(keyring ? keyring : &no_keys, stream ? stream : &none,
+    return swimtab_raw_unwrap_stream(keyring ? keyring : &no_keys, label ? label : &none,
+                                     label ? label_len : 0, stream ? stream : &none,
                                      stream ? len : 0, out ? out : &none, out ? out_len : 0);
 }
 
@@ -606,16 +614,19 @@ static inline swimtab_written swimtab_seal(const swimtab_keyring *keyring, const
 }
 
 /* Writes a stream with this message in the same way; what is encrypted has at most 268,435,427
- * bytes. */
+ * bytes. `reply` is false on the side that opened the connection, as for what swimtab_offer wrote,
+ * and true on the side that answers, as for what swimtab_answer wrote. No label is written before a
+ * reply: if it is encrypted the label is associated with it all the same, and if not the label is
+ * not used. */
 static inline swimtab_written swimtab_seal_stream(const swimtab_keyring *keyring, const void *nonce,
-                                                  const void *label, size_t label_len,
+                                                  const void *label, size_t label_len, bool reply,
                                                   const void *message, size_t len, void *out,
                                                   size_t out_len) {
     const uint8_t zeros[SWIMTAB_NONCE] = {0};
     const swimtab_keyring no_keys = SWIMTAB_KEYRING_INIT;
     uint8_t none = 0;
     return swimtab_raw_seal_stream(keyring ? keyring : &no_keys, nonce ? nonce : zeros,
-                                   label ? label : &none, label ? label_len : 0,
+                                   label ? label : &none, label ? label_len : 0, reply,
                                    message ? message : &none, message ? len : 0, out ? out : &none,
                                    out ? out_len : 0);
 }

@@ -95,6 +95,12 @@
     "3ddbc40f0850f3d22ed0ccbc18544e0bf4f3d866e25a87d491ec3e0f6ad1a8bdb2950829fc54ff7279587b06cbcd" \
     "7b5e5c17e150c6feb935b8d1"
 
+/* The stream as the reply to one in the cluster `dc`, with no label before it; by python's cryptography. */
+#define SEALED_REPLY \
+    "0a00000073017265706c792d6e756d626572cac33fce2641d8d4bca9832bea86239a813d97cde094ecba0ca5c532" \
+    "f86908430e42d76f5bae8aaf91d5153387d57ae1ffbd621086e929bf00f3f783854ca8be93a7e61f1a4dd7654271" \
+    "1255994f2af38d89d1c698a2ae58d0d2a6d36eb14726b7c5d5c927fc"
+
 /* Under it, without a label: a byte that is no message, and an ack as a stream. */
 #define SEALED_BYTE "016e6f6e63652d6e756d6265723b0b56637d80325b1ad4163cc9c2cbef66"
 #define ACK_STREAM \
@@ -115,6 +121,33 @@
 typedef swimtab_written (*unwrapping)(const swimtab_keyring *, const void *, size_t, void *, size_t);
 typedef swimtab_written (*sealing)(const swimtab_keyring *, const void *, const void *, size_t, const void *, size_t,
                                    void *, size_t);
+
+/* A stream in a cluster without a label, and in the clusters `dc` and `east`. */
+static swimtab_written unwrap_stream(const swimtab_keyring *keyring, const void *stream, size_t len, void *out,
+                                     size_t out_len) {
+    return swimtab_raw_unwrap_stream(keyring, "", 0, stream, len, out, out_len);
+}
+
+static swimtab_written unwrap_in_dc(const swimtab_keyring *keyring, const void *stream, size_t len, void *out,
+                                    size_t out_len) {
+    return swimtab_raw_unwrap_stream(keyring, "dc", 2, stream, len, out, out_len);
+}
+
+static swimtab_written unwrap_in_east(const swimtab_keyring *keyring, const void *stream, size_t len, void *out,
+                                      size_t out_len) {
+    return swimtab_raw_unwrap_stream(keyring, "east", 4, stream, len, out, out_len);
+}
+
+/* A stream of the side that opens a connection, and one of the side that answers. */
+static swimtab_written seal_stream(const swimtab_keyring *keyring, const void *nonce, const void *label,
+                                   size_t label_len, const void *message, size_t len, void *out, size_t out_len) {
+    return swimtab_raw_seal_stream(keyring, nonce, label, label_len, false, message, len, out, out_len);
+}
+
+static swimtab_written seal_reply(const swimtab_keyring *keyring, const void *nonce, const void *label,
+                                  size_t label_len, const void *message, size_t len, void *out, size_t out_len) {
+    return swimtab_raw_seal_stream(keyring, nonce, label, label_len, true, message, len, out, out_len);
+}
 
 /* A keyring with the keys of these texts, up to the first NULL. */
 static swimtab_keyring keyring_of(const char *const *keys) {
@@ -247,43 +280,65 @@ static void packets_without_claims_are_refused(void) {
 }
 
 static void streams_of_a_cluster_are_unwrapped(void) {
-    unwraps(both, swimtab_raw_unwrap_stream, STREAM_SENT, STREAM);
-    unwraps(no_keys, swimtab_raw_unwrap_stream, STREAM_PACKED, STREAM);
-    unwraps(both, swimtab_raw_unwrap_stream, STREAM, STREAM);
-    unwraps(others, swimtab_raw_unwrap_stream, SEALED_STREAM, CLEAR_STREAM);
+    unwraps(both, unwrap_stream, STREAM_SENT, STREAM);
+    unwraps(no_keys, unwrap_stream, STREAM_PACKED, STREAM);
+    unwraps(both, unwrap_stream, STREAM, STREAM);
+    unwraps(others, unwrap_stream, SEALED_STREAM, CLEAR_STREAM);
+}
+
+static void replies_of_a_cluster_with_a_label_are_unwrapped(void) {
+    unwraps(others, unwrap_in_dc, SEALED_REPLY, CLEAR_STREAM);
+    unwraps(others, unwrap_stream, "f4026463" SEALED_REPLY, CLEAR_STREAM);
+    unwraps(no_keys, unwrap_in_dc, CLEAR_STREAM, CLEAR_STREAM);
+    unwraps(no_keys, unwrap_in_dc, STREAM_PACKED, STREAM);
+    unwraps(others, unwrap_in_dc, SEALED_STREAM, CLEAR_STREAM);
+    unwraps(others, unwrap_in_east, SEALED_STREAM, CLEAR_STREAM);
+    refused(key_32, unwrap_stream, SEALED_REPLY, 54);
+    refused(key_32, unwrap_in_east, SEALED_REPLY, 54);
+    refused(key_32, unwrap_in_dc, ACK_STREAM, 54);
+    refused(no_keys, unwrap_in_dc, SEALED_REPLY, SWIMTAB_WRONG_TYPE);
+    refused(no_keys, unwrap_in_dc, "", SWIMTAB_ENDED);
+    refused(no_keys, unwrap_in_dc, "f400", 46);
 }
 
 static void what_holds_no_stream_is_refused(void) {
-    refused(no_keys, swimtab_raw_unwrap_stream, "", SWIMTAB_ENDED);
-    refused(no_keys, swimtab_raw_unwrap_stream, "08616263", SWIMTAB_WRONG_TYPE);
-    refused(no_keys, swimtab_raw_unwrap_stream, STREAM_SENT, SWIMTAB_WRONG_TYPE);
-    refused(key_32, swimtab_raw_unwrap_stream, ACK_STREAM, SWIMTAB_WRONG_TYPE);
-    refused(no_keys, swimtab_raw_unwrap_stream, "0c00000001", 43);
-    refused(key_32, swimtab_raw_unwrap_stream, "0a10000001", 51);
-    refused(key_32, swimtab_raw_unwrap_stream, "0a000000", 52);
-    refused(key_16, swimtab_raw_unwrap_stream, STREAM_SENT, 54);
-    refused(both, swimtab_raw_unwrap_stream, STREAM_SENT "00", 57);
+    refused(no_keys, unwrap_stream, "", SWIMTAB_ENDED);
+    refused(no_keys, unwrap_stream, "08616263", SWIMTAB_WRONG_TYPE);
+    refused(no_keys, unwrap_stream, STREAM_SENT, SWIMTAB_WRONG_TYPE);
+    refused(key_32, unwrap_stream, ACK_STREAM, SWIMTAB_WRONG_TYPE);
+    refused(no_keys, unwrap_stream, "0c00000001", 43);
+    refused(key_32, unwrap_stream, "0a10000001", 51);
+    refused(key_32, unwrap_stream, "0a000000", 52);
+    refused(key_16, unwrap_stream, STREAM_SENT, 54);
+    refused(both, unwrap_stream, STREAM_SENT "00", 57);
 }
 
 static void messages_are_sealed_as_the_cluster_did(void) {
     seals(old_only, swimtab_raw_seal, 1, "", ALIVE_CHECKED, ALIVE_SENT);
-    seals(old_only, swimtab_raw_seal_stream, 6, "", STREAM_PACKED, STREAM_SENT);
+    seals(old_only, seal_stream, 6, "", STREAM_PACKED, STREAM_SENT);
     seals(key_16, swimtab_raw_seal, 7, "east", LABELLED, LABELLED_SENT);
-    seals(key_16, swimtab_raw_seal_stream, 12, "east", LABELLED, LABELLED_STREAM_SENT);
+    seals(key_16, seal_stream, 12, "east", LABELLED, LABELLED_STREAM_SENT);
     seals(key_32, swimtab_raw_seal, 5, "dc", CLEAR_ALIVE, SEALED_ALIVE);
+}
+
+static void a_reply_is_sealed_without_its_label(void) {
+    seals(key_32, seal_reply, 6, "dc", CLEAR_STREAM, SEALED_REPLY);
+    seals(old_only, seal_reply, 6, "", STREAM_PACKED, STREAM_SENT);
+    seals(no_keys, seal_reply, 0, "", CLEAR_STREAM, CLEAR_STREAM);
+    seals(no_keys, seal_reply, 0, "dc", CLEAR_STREAM, CLEAR_STREAM);
 }
 
 static void the_first_key_seals(void) {
     static const char *const first[] = {OLD_KEY, NEW_KEY, KEY_16, NULL};
     seals(first, swimtab_raw_seal, 1, "", ALIVE_CHECKED, ALIVE_SENT);
-    seals(first, swimtab_raw_seal_stream, 6, "", STREAM_PACKED, STREAM_SENT);
+    seals(first, seal_stream, 6, "", STREAM_PACKED, STREAM_SENT);
 }
 
 static void without_a_key_the_label_alone_is_written(void) {
     seals(no_keys, swimtab_raw_seal, 0, "", CLEAR_ALIVE, CLEAR_ALIVE);
     seals(no_keys, swimtab_raw_seal, 0, "dc", CLEAR_ALIVE, "f4026463" CLEAR_ALIVE);
-    seals(no_keys, swimtab_raw_seal_stream, 0, "", CLEAR_STREAM, CLEAR_STREAM);
-    seals(no_keys, swimtab_raw_seal_stream, 0, "dc", CLEAR_STREAM, "f4026463" CLEAR_STREAM);
+    seals(no_keys, seal_stream, 0, "", CLEAR_STREAM, CLEAR_STREAM);
+    seals(no_keys, seal_stream, 0, "dc", CLEAR_STREAM, "f4026463" CLEAR_STREAM);
 }
 
 /* A label of 255 bytes is written, and one of 256 refused, with a key and without. */
@@ -299,11 +354,29 @@ static void the_longest_label(sealing call, const char *const *keys) {
     closes(&keyring);
 }
 
+/* The same of the label of a reply, which is not written, and of one that is unwrapped. */
+static void the_longest_label_of_a_reply(void) {
+    swimtab_keyring keyring = keyring_of(key_16);
+    struct bytes label = bytes_of_size(256, 'x'), room = bytes_of_size(2000, 7), read = bytes_of_size(9, 7);
+    const uint8_t nonce[12] = {1};
+    swimtab_written written = seal_reply(&keyring, nonce, label.at, 256, "\x06", 1, room.at, room.len);
+    WANT(written.status == 51 && written.len == 0 && is_filled(room, 0));
+    written = seal_reply(&keyring, nonce, label.at, 255, "\x06", 1, room.at, room.len);
+    WANT(written.status == SWIMTAB_DONE && written.len == 35 && room.at[0] == 10);
+    written = swimtab_raw_unwrap_stream(&keyring, label.at, 256, room.at, 35, read.at, read.len);
+    WANT(written.status == 51 && written.len == 0 && is_filled(read, 0));
+    written = swimtab_raw_unwrap_stream(&keyring, label.at, 255, room.at, 35, read.at, read.len);
+    is_written(written, read, "06");
+    free(label.at), free(room.at), free(read.at);
+    closes(&keyring);
+}
+
 static void a_label_has_255_bytes_at_most(void) {
     the_longest_label(swimtab_raw_seal, no_keys);
     the_longest_label(swimtab_raw_seal, key_16);
-    the_longest_label(swimtab_raw_seal_stream, no_keys);
-    the_longest_label(swimtab_raw_seal_stream, key_16);
+    the_longest_label(seal_stream, no_keys);
+    the_longest_label(seal_stream, key_16);
+    the_longest_label_of_a_reply();
 }
 
 /* What is sealed is unwrapped again, and a node takes it in. */
@@ -321,11 +394,18 @@ static void what_is_sealed_is_taken_in(void) {
     WANT(swimtab_take(&node, read, got.len) == SWIMTAB_DONE && swimtab_count(&node) == 2);
 
     said = swimtab_offer(&other, true, packet, sizeof packet);
-    sealed = swimtab_raw_seal_stream(&keyring, nonce, "dc", 2, packet, said.len, sent, sizeof sent);
+    sealed = swimtab_raw_seal_stream(&keyring, nonce, "dc", 2, false, packet, said.len, sent, sizeof sent);
     WANT(sealed.status == SWIMTAB_DONE && sealed.len == said.len + 38);
-    got = swimtab_raw_unwrap_stream(&keyring, sent, sealed.len, read, sizeof read);
+    got = swimtab_raw_unwrap_stream(&keyring, "", 0, sent, sealed.len, read, sizeof read);
     WANT(got.status == SWIMTAB_DONE && got.len == said.len);
-    WANT(swimtab_finish(&node, read, got.len).status == SWIMTAB_DONE);
+    swimtab_exchanged answered = swimtab_answer(&node, read, got.len, packet, sizeof packet);
+    WANT(answered.status == SWIMTAB_DONE);
+
+    sealed = swimtab_raw_seal_stream(&keyring, nonce, "dc", 2, true, packet, answered.len, sent, sizeof sent);
+    WANT(sealed.status == SWIMTAB_DONE && sealed.len == answered.len + 34);
+    got = swimtab_raw_unwrap_stream(&keyring, "dc", 2, sent, sealed.len, read, sizeof read);
+    WANT(got.status == SWIMTAB_DONE && got.len == answered.len);
+    WANT(swimtab_finish(&other, read, got.len).status == SWIMTAB_DONE && swimtab_count(&other) == 2);
     WANT(swimtab_close(&node) == SWIMTAB_DONE && swimtab_close(&other) == SWIMTAB_DONE);
     closes(&keyring);
 }
@@ -336,8 +416,10 @@ int main(void) {
         {"packets of a cluster are unwrapped", packets_of_a_cluster_are_unwrapped},
         {"packets without claims are refused", packets_without_claims_are_refused},
         {"streams of a cluster are unwrapped", streams_of_a_cluster_are_unwrapped},
+        {"replies of a cluster with a label are unwrapped", replies_of_a_cluster_with_a_label_are_unwrapped},
         {"what holds no stream is refused", what_holds_no_stream_is_refused},
         {"messages are sealed as the cluster did", messages_are_sealed_as_the_cluster_did},
+        {"a reply is sealed without its label", a_reply_is_sealed_without_its_label},
         {"the first key seals", the_first_key_seals},
         {"without a key the label alone is written", without_a_key_the_label_alone_is_written},
         {"a label has 255 bytes at most", a_label_has_255_bytes_at_most},

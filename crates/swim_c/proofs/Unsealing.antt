@@ -11,8 +11,9 @@ use Rattle.memberlist_transport.specs.declared.message.Message.{Message}
 use Rattle.memberlist_transport.specs.declared.message.Message.TheVariants.{Claims, Claimless, Empty}
 use Rattle.memberlist_transport.specs.Message.{claiming_of, IsMessage}
 use Rattle.memberlist_transport.specs.Packet.{most_message, HoldsClear, IsUnclear, Holds}
+use Rattle.memberlist_transport.specs.Reply.{IsReadAs, IsReplyIn}
 use Rattle.memberlist_transport.specs.Stream.{IsClearStream, IsSealed, IsStreamIn}
-use Rattle.swim_c.specs.Sealing.{IsSealedPacket, IsSealedStream}
+use Rattle.swim_c.specs.Sealing.{IsSealedPacket, IsSealedStream, IsSealedReply}
 use Rattle.swim_c.specs.Unwrapping.{most_stream}
 
 -- bytes that begin with no wrapper's byte are bare
@@ -120,3 +121,40 @@ is_sealed keys nonce label message bytes s =
 pub stream_again : (keys : List (List ℕ)) (nonce label message bytes stream : List ℕ) → IsSealedStream keys nonce label message bytes
     → IsClearStream most_stream message stream → IsStreamIn most_stream keys bytes stream
 stream_again keys nonce label message bytes stream s clear = IsStreamIn.opened message (is_sealed keys nonce label message bytes s) s.opens clear
+
+-- ---- streams behind their label, and replies, before which none stands
+
+-- what stands behind a label is read as it is, and so is what has none by a reader with none
+read_behind : (label own bytes rest : List ℕ) → IsLabelled bytes label rest → (label ≡ [] → own ≡ []) → IsReadAs own bytes bytes
+read_behind label own bytes rest (inl none) same = inr (λ begins. none.2 begins.0 begins.1, inl (same none.0, refl, none.2))
+read_behind label own bytes rest (inr some) same = inl ((length label ∷ label ++ rest, some.1), refl)
+
+pub behind_again : (keys : List (List ℕ)) (nonce label own message bytes stream : List ℕ) → IsSealedStream keys nonce label message bytes
+    → IsClearStream most_stream message stream → (label ≡ [] → own ≡ []) → IsReplyIn most_stream keys own bytes stream
+behind_again keys nonce label own message bytes stream s clear same =
+    (bytes, read_behind label own bytes _ s.sends.labelled same, stream_again keys nonce label message bytes stream s clear)
+
+-- what is sent bare begins with no label, and is what was made
+is_bare : (bytes rest : List ℕ) → IsLabelled bytes [] rest → (bytes ≡ rest) × ((more : List ℕ) → bytes ≢ 244 ∷ more)
+is_bare bytes rest (inl none) = (none.1, none.2)
+is_bare bytes rest (inr some) = absurd (omega (arith, some.0))
+
+-- a reply is, with its label before it, a stream that was sealed behind that
+sealed_behind : (keys : List (List ℕ)) (nonce label message bytes : List ℕ) → (s : IsSealedReply keys nonce label message bytes)
+    → IsSealedStream keys nonce label message s.opens.0
+sealed_behind keys nonce label message bytes s = record {
+  sends = record {
+    key = s.sends.key;
+    others = s.sends.others;
+    first = s.sends.first;
+    labelled = subst (λ (b : List ℕ). IsLabelled s.opens.0 label b) (is_bare bytes _ s.sends.labelled).0 s.opens.1;
+  };
+  opens = s.opens.2;
+  within = s.within s.opens.0 s.opens.1;
+}
+
+pub reply_again : (keys : List (List ℕ)) (nonce label message bytes stream : List ℕ) → IsSealedReply keys nonce label message bytes
+    → IsClearStream most_stream message stream → IsReplyIn most_stream keys label bytes stream
+reply_again keys nonce label message bytes stream s clear =
+    let bare = (is_bare bytes _ s.sends.labelled).1 in
+    (s.opens.0, inr (λ begins. bare begins.0 begins.1, s.opens.1), stream_again keys nonce label message s.opens.0 stream (sealed_behind keys nonce label message bytes s) clear)

@@ -1,5 +1,5 @@
 -- What the status of a call on wrapped or encrypted bytes says.
-use Rattle.std.proofs.Common.{◌≡◌, ◌≢◌, ℕ, List, [], ap, refl, sym, subst, Option, Some, None}
+use Rattle.std.proofs.Common.{◌≡◌, ◌≢◌, ℕ, ◌<◌, List, [], length, ap, refl, sym, subst, Option, Some, None}
 use Rattle.std.specs.Prelude.{IfSome}
 use Rattle.memberlist_cipher.specs.declared.fault.CipherFault.{CipherFault}
 use Rattle.memberlist_cipher.specs.declared.fault.CipherFault.TheVariants as cipher
@@ -10,7 +10,7 @@ use Rattle.memberlist_transport.specs.declared.fault.StreamFault.{StreamFault}
 use Rattle.memberlist_transport.specs.declared.fault.StreamFault.TheVariants as stream_fault
 use Rattle.memberlist_transport.specs.declared.message.Message.{Message}
 use Rattle.memberlist_transport.specs.Packet.{Holds, Fails}
-use Rattle.memberlist_transport.specs.Stream.{IsStreamIn, Explains}
+use Rattle.memberlist_transport.specs.Reply.{IsReplyIn, ExplainsReply}
 use Rattle.swim_c.specs.declared.copy.Written.{Written}
 use Rattle.swim_c.specs.Keyring.{keys_of}
 use Rattle.swim_c.specs.Sealing.{Sealed}
@@ -34,18 +34,18 @@ packet_refused keys packet old new status len packet_fault.NoKeyFits is why none
     let other : packet_fault.NoKeyFits ≢ packet_fault.Memory = λ e. absurd cc in PacketUnwrapped.refused packet_fault.NoKeyFits other (why other) (none other) is
 
 -- a stream was refused
-pub stream_refused : (keys : List (List ℕ)) (bytes old new : List ℕ) (status len : ℕ) (fault : StreamFault)
-    → IsUnwritten (stream_status fault) old new status len → (fault ≢ stream_fault.Memory → Explains most_stream keys bytes fault)
-    → (fault ≢ stream_fault.Memory → (stream : List ℕ) → ¬ IsStreamIn most_stream keys bytes stream) → StreamUnwrapped keys bytes old new status len
-stream_refused keys bytes old new status len stream_fault.Memory is why none = StreamUnwrapped.memory is
-stream_refused keys bytes old new status len (stream_fault.Wrapped cause) is why none =
-    let other : stream_fault.Wrapped cause ≢ stream_fault.Memory = λ e. absurd cc in StreamUnwrapped.refused (stream_fault.Wrapped cause) other (why other) (none other) is
-stream_refused keys bytes old new status len (stream_fault.Closed cause) is why none =
-    let other : stream_fault.Closed cause ≢ stream_fault.Memory = λ e. absurd cc in StreamUnwrapped.refused (stream_fault.Closed cause) other (why other) (none other) is
-stream_refused keys bytes old new status len (stream_fault.NoStream first) is why none =
-    let other : stream_fault.NoStream first ≢ stream_fault.Memory = λ e. absurd cc in StreamUnwrapped.refused (stream_fault.NoStream first) other (why other) (none other) is
-stream_refused keys bytes old new status len stream_fault.Empty is why none =
-    let other : stream_fault.Empty ≢ stream_fault.Memory = λ e. absurd cc in StreamUnwrapped.refused stream_fault.Empty other (why other) (none other) is
+pub stream_refused : (keys : List (List ℕ)) (label bytes old new : List ℕ) (status len : ℕ) (fault : StreamFault)
+    → length label < 256 → IsUnwritten (stream_status fault) old new status len → (fault ≢ stream_fault.Memory → ExplainsReply most_stream keys label bytes fault)
+    → (fault ≢ stream_fault.Memory → (stream : List ℕ) → ¬ IsReplyIn most_stream keys label bytes stream) → StreamUnwrapped keys label bytes old new status len
+stream_refused keys label bytes old new status len stream_fault.Memory few is why none = StreamUnwrapped.memory few is
+stream_refused keys label bytes old new status len (stream_fault.Wrapped cause) few is why none =
+    let other : stream_fault.Wrapped cause ≢ stream_fault.Memory = λ e. absurd cc in StreamUnwrapped.refused (stream_fault.Wrapped cause) few other (why other) (none other) is
+stream_refused keys label bytes old new status len (stream_fault.Closed cause) few is why none =
+    let other : stream_fault.Closed cause ≢ stream_fault.Memory = λ e. absurd cc in StreamUnwrapped.refused (stream_fault.Closed cause) few other (why other) (none other) is
+stream_refused keys label bytes old new status len (stream_fault.NoStream first) few is why none =
+    let other : stream_fault.NoStream first ≢ stream_fault.Memory = λ e. absurd cc in StreamUnwrapped.refused (stream_fault.NoStream first) few other (why other) (none other) is
+stream_refused keys label bytes old new status len stream_fault.Empty few is why none =
+    let other : stream_fault.Empty ≢ stream_fault.Memory = λ e. absurd cc in StreamUnwrapped.refused stream_fault.Empty few other (why other) (none other) is
 
 -- a message was not encrypted
 pub seal_refused : (made : List ℕ → List ℕ) (Opened : List ℕ → Type 0) (May : Type 0) (keys : List (List ℕ)) (label message old new : List ℕ)

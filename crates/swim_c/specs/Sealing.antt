@@ -1,7 +1,8 @@
 -- Messages that are encrypted, or labelled in the clear, into a buffer.
 use Rattle.std.specs.Prelude.{◌≡◌, ◌≢◌, ℕ, ◌<◌, ◌≤◌, List, [], ◌∷◌, ◌++◌, length}
 use Rattle.memberlist_cipher.specs.Encryption.{encrypted, encrypted_stream}
-use Rattle.memberlist_keyring.specs.Opening.{OpensFirst, OpensStreamFirst}
+use Rattle.memberlist_cipher.specs.Label.{IsLabelled}
+use Rattle.memberlist_keyring.specs.Opening.{OpensFirst, OpensStreamFirst, OpensReplyFirst}
 use Rattle.memberlist_keyring.specs.Sending.{MaySend, MaySendStream, SendsFirst}
 use Rattle.memberlist_transport.specs.Packet.{most_message}
 use Rattle.swim_wire.specs.declared.claimless.Claimless.{Claimless}
@@ -55,6 +56,15 @@ StreamSealed keys nonce label message old new status len =
     (λ bytes. OpensStreamFirst keys bytes message)
     (MaySendStream label message) keys label message old new status len
 
+-- what became of a message that is sent as the reply to a stream, with this nonce: the label is
+-- associated, and not written
+abbrev pub ReplySealed : List (List ℕ) → List ℕ → List ℕ → List ℕ → List ℕ → List ℕ → ℕ → ℕ
+    → Type 0
+ReplySealed keys nonce label message old new status len =
+    Sealed (λ key. encrypted_stream key nonce label message)
+    (λ bytes. OpensReplyFirst keys label bytes message)
+    (MaySendStream label message) keys [] message old new status len
+
 -- ---- what is sealed, unwrapped again
 
 -- Under the keys the packet was made of this message, and is no message by itself: no indirect
@@ -72,3 +82,10 @@ pub record IsSealedStream (keys : List (List ℕ)) (nonce label message stream :
     pub sends : SendsFirst (λ key. encrypted_stream key nonce label message) keys label stream
     pub opens : OpensStreamFirst keys stream message
     pub within : length stream ≤ most_stream
+
+-- Under the keys the reply was made of this message, with this label associated.
+pub record IsSealedReply (keys : List (List ℕ)) (nonce label message reply : List ℕ) : Type 0
+  where
+    pub sends : SendsFirst (λ key. encrypted_stream key nonce label message) keys [] reply
+    pub opens : OpensReplyFirst keys label reply message
+    pub within : (stream : List ℕ) → IsLabelled stream label reply → length stream ≤ most_stream

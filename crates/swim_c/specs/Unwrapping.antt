@@ -1,5 +1,5 @@
 -- Packets and streams that are unwrapped into a buffer.
-use Rattle.std.specs.Prelude.{◌≡◌, ◌≢◌, ℕ, List}
+use Rattle.std.specs.Prelude.{◌≡◌, ◌≢◌, ℕ, ◌<◌, List, length}
 use Rattle.memberlist_transport.specs.declared.fault.PacketFault.{PacketFault}
 use Rattle.memberlist_transport.specs.declared.fault.PacketFault.TheVariants as packet_fault
 use Rattle.memberlist_transport.specs.declared.fault.StreamFault.{StreamFault}
@@ -7,7 +7,7 @@ use Rattle.memberlist_transport.specs.declared.fault.StreamFault.TheVariants as 
 use Rattle.memberlist_transport.specs.declared.message.Message.{Message}
 use Rattle.memberlist_transport.specs.declared.message.Message.TheVariants.{Claims, Claimless, Empty}
 use Rattle.memberlist_transport.specs.Packet.{Holds, Fails}
-use Rattle.memberlist_transport.specs.Stream.{IsStreamIn, Explains}
+use Rattle.memberlist_transport.specs.Reply.{IsReplyIn, ExplainsReply}
 use Rattle.swim_c.specs.Buffers.{Copied}
 use Rattle.swim_c.specs.Statuses.{packet_status, stream_status}
 
@@ -40,15 +40,19 @@ pub data PacketUnwrapped (keys : List (List ℕ)) (packet old new : List ℕ) (s
       → PacketUnwrapped keys packet old new status len
   memory : IsUnwritten 10 old new status len → PacketUnwrapped keys packet old new status len
 
--- What became of a stream: it was copied or did not fit, or the fault for which there is none, or
--- memory was refused (10).
-pub data StreamUnwrapped (keys : List (List ℕ)) (bytes old new : List ℕ) (status len : ℕ)
+-- What became of a stream in a cluster with this label: it was copied or did not fit, or the fault
+-- for which there is none, or memory was refused (10). A label of more than 255 bytes is too long
+-- (51).
+pub data StreamUnwrapped (keys : List (List ℕ)) (label bytes old new : List ℕ) (status len : ℕ)
     : Type 0 where
-  stream : (stream : List ℕ) → IsStreamIn most_stream keys bytes stream
-      → Copied stream old new status len → StreamUnwrapped keys bytes old new status len
-  refused : (fault : StreamFault) → fault ≢ stream_fault.Memory
-      → Explains most_stream keys bytes fault
-      → ((stream : List ℕ) → ¬ IsStreamIn most_stream keys bytes stream)
+  stream : (stream : List ℕ) → length label < 256 → IsReplyIn most_stream keys label bytes stream
+      → Copied stream old new status len → StreamUnwrapped keys label bytes old new status len
+  refused : (fault : StreamFault) → length label < 256 → fault ≢ stream_fault.Memory
+      → ExplainsReply most_stream keys label bytes fault
+      → ((stream : List ℕ) → ¬ IsReplyIn most_stream keys label bytes stream)
       → IsUnwritten (stream_status fault) old new status len
-      → StreamUnwrapped keys bytes old new status len
-  memory : IsUnwritten 10 old new status len → StreamUnwrapped keys bytes old new status len
+      → StreamUnwrapped keys label bytes old new status len
+  too_long : 255 < length label → IsUnwritten 51 old new status len
+      → StreamUnwrapped keys label bytes old new status len
+  memory : length label < 256 → IsUnwritten 10 old new status len
+      → StreamUnwrapped keys label bytes old new status len

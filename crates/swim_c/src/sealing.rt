@@ -1,6 +1,7 @@
 //! Messages encrypted under a keyring, or labelled in the clear, into a buffer.
 
-ghost use Rattle.swim_c.specs.Sealing.{IsSentClear, PacketSealed, StreamSealed};
+ghost use Rattle.std.specs.Prelude.{MatchBool};
+ghost use Rattle.swim_c.specs.Sealing.{IsSentClear, PacketSealed, StreamSealed, ReplySealed};
 
 use crate::copy::{Written, copy_out};
 use crate::fault::cipher_status;
@@ -32,9 +33,32 @@ pub fn seal_out(
     }
 }
 
-/// Writes a stream with this message to the buffer: encrypted under the first key, or in the clear
-/// if there is none.
+/// Writes a stream with this message to the buffer, or the reply to one: encrypted under the first
+/// key, or in the clear if there is none.
 pub fn seal_stream_out(
+    alloc: Global,
+    keys: &Keyring,
+    nonce: &[u8; 12],
+    label: &[u8],
+    reply: bool,
+    message: &[u8],
+    out: &mut [u8],
+) -> Written
+    ensures { MatchBool reply
+        (ReplySealed keys.now nonce.now label.now message.now
+        out.old out.new result.status result.len)
+        (StreamSealed keys.now nonce.now label.now message.now
+        out.old out.new result.status result.len) }
+{
+    if reply {
+        reply_out(alloc, keys, nonce, label, message, out)
+    } else {
+        stream_out(alloc, keys, nonce, label, message, out)
+    }
+}
+
+/// Writes a stream behind its label.
+fn stream_out(
     alloc: Global,
     keys: &Keyring,
     nonce: &[u8; 12],
@@ -49,6 +73,28 @@ pub fn seal_stream_out(
         return label_out(alloc, label, message, out);
     }
     match keys.encrypt_stream(alloc, nonce, label, message) {
+        Ok(Some(sealed)) => copy_out(&sealed, out),
+        Ok(None) => unreachable!(),
+        Err(fault) => Written::refused(cipher_status(fault)),
+    }
+}
+
+/// Writes the reply to a stream, before which no label stands.
+fn reply_out(
+    alloc: Global,
+    keys: &Keyring,
+    nonce: &[u8; 12],
+    label: &[u8],
+    message: &[u8],
+    out: &mut [u8],
+) -> Written
+    ensures { ReplySealed keys.now nonce.now label.now message.now
+        out.old out.new result.status result.len }
+{
+    if keys.is_empty() {
+        return copy_out(message, out);
+    }
+    match keys.encrypt_reply(alloc, nonce, label, message) {
         Ok(Some(sealed)) => copy_out(&sealed, out),
         Ok(None) => unreachable!(),
         Err(fault) => Written::refused(cipher_status(fault)),

@@ -5,8 +5,9 @@ ghost use Rattle.swim_c.specs.Unwrapping.{GivesMessage, PacketUnwrapped, StreamU
 use crate::copy::{Written, copy_out};
 use crate::fault::{packet_status, stream_status};
 use crate::status::WRONG_TYPE;
+use memberlist_cipher::{CipherFault, LABEL_MAX_SIZE};
 use memberlist_keyring::Keyring;
-use memberlist_transport::{Message, open_packet, open_stream};
+use memberlist_transport::{Message, open_packet, open_reply};
 use std::alloc::Global;
 use swim_wire::WireFault;
 
@@ -34,11 +35,21 @@ fn message_out(message: &Message, out: &mut [u8]) -> Written
     }
 }
 
-/// Writes the push/pull stream that bytes hold to the buffer.
-pub fn unwrap_stream_out(alloc: Global, keys: &Keyring, bytes: &[u8], out: &mut [u8]) -> Written
-    ensures { StreamUnwrapped keys.now bytes.now out.old out.new result.status result.len }
+/// Writes the push/pull stream that bytes hold in a cluster with this label to the buffer.
+pub fn unwrap_stream_out(
+    alloc: Global,
+    keys: &Keyring,
+    label: &[u8],
+    bytes: &[u8],
+    out: &mut [u8],
+) -> Written
+    ensures { StreamUnwrapped keys.now label.now bytes.now
+        out.old out.new result.status result.len }
 {
-    match open_stream(alloc, keys, bytes, STREAM_LIMIT) {
+    if label.len() > LABEL_MAX_SIZE {
+        return Written::refused(CipherFault::TooLong.number());
+    }
+    match open_reply(alloc, keys, label, bytes, STREAM_LIMIT) {
         Ok(stream) => copy_out(&stream, out),
         Err(fault) => Written::refused(stream_status(fault)),
     }

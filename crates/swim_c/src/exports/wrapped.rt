@@ -1,8 +1,8 @@
 //! Packets and streams as a real cluster sends them: unwrapped and opened, and sealed.
 
-ghost use Rattle.std.specs.Prelude.{◌≡◌};
+ghost use Rattle.std.specs.Prelude.{◌≡◌, MatchBool};
 ghost use Rattle.swim_c.specs.Keyring.{keys_of};
-ghost use Rattle.swim_c.specs.Sealing.{PacketSealed, StreamSealed};
+ghost use Rattle.swim_c.specs.Sealing.{PacketSealed, StreamSealed, ReplySealed};
 ghost use Rattle.swim_c.specs.Unwrapping.{PacketUnwrapped, StreamUnwrapped};
 
 use crate::copy::Written;
@@ -52,6 +52,10 @@ pub extern "C" fn swimtab_raw_unwrap(
 /// or encrypted, has more than 268,435,456 bytes. The keyring stays; a handle without one has no
 /// key.
 ///
+/// The side that answers writes no label before its stream, and yet associates it. So bytes that do
+/// not begin with a label are read as if this one, the cluster's, stood before them; an empty one
+/// is none.
+///
 /// # Statuses
 ///
 /// If it is not 0 the buffer is as it was.
@@ -60,23 +64,25 @@ pub extern "C" fn swimtab_raw_unwrap(
 /// - 1 if it is empty.
 /// - 40 to 48 if the wrappers are wrong, and 51 to 57 if it is encrypted and no key opens it: the
 ///   fault of the last key (docs/PROTOCOL.md).
+/// - 51 if the label has more than 255 bytes.
 /// - 66 if the buffer is too small. The length is then that of the stream.
 /// - 10 if memory is refused.
 #[unsafe(no_mangle)]
 pub extern "C" fn swimtab_raw_unwrap_stream(
     alloc: Global,
     keyring: &mut KeyringHandle,
+    label: &[u8],
     stream: &[u8],
     out: &mut [u8],
 ) -> Written
     ensures stays { keyring.new.keys ≡ keyring.old.keys }
-    ensures unwraps { StreamUnwrapped (keys_of keyring.old.keys) stream.now
+    ensures unwraps { StreamUnwrapped (keys_of keyring.old.keys) label.now stream.now
         out.old out.new result.status result.len }
 {
     let Some(held) = keyring.take(alloc) else {
-        return unwrap_stream_out(alloc, &Keyring::new(alloc), stream, out);
+        return unwrap_stream_out(alloc, &Keyring::new(alloc), label, stream, out);
     };
-    let written = unwrap_stream_out(alloc, &held, stream, out);
+    let written = unwrap_stream_out(alloc, &held, label, stream, out);
     keyring.put(held);
     written
 }
@@ -115,13 +121,16 @@ pub extern "C" fn swimtab_raw_seal(
 }
 
 /// Writes a stream with this message to the buffer, encrypted under the first key with this nonce,
-/// as [`swimtab_raw_seal`] does a packet.
+/// as [`swimtab_raw_seal`] does a packet. The side that opens a connection writes a label before
+/// its stream. The reply to one is written without it: with a key the label is associated all the
+/// same, and without one it is not used.
 ///
 /// # Statuses
 ///
 /// If it is not 0 the buffer is as it was.
 ///
-/// - 51 if the label has more than 255 bytes, or what is to be encrypted more than 268,435,427.
+/// - 51 if the label has more than 255 bytes, unless it is not used; or what is to be encrypted has
+///   more than 268,435,427.
 /// - 66 if the buffer is too small. The length is then that of the stream.
 /// - 10 if memory is refused.
 #[unsafe(no_mangle)]
@@ -130,17 +139,29 @@ pub extern "C" fn swimtab_raw_seal_stream(
     keyring: &mut KeyringHandle,
     nonce: &[u8; 12],
     label: &[u8],
+    reply: bool,
     message: &[u8],
     out: &mut [u8],
 ) -> Written
     ensures stays { keyring.new.keys ≡ keyring.old.keys }
-    ensures seals { StreamSealed (keys_of keyring.old.keys) nonce.now label.now message.now
-        out.old out.new result.status result.len }
+    ensures seals { MatchBool reply
+        (ReplySealed (keys_of keyring.old.keys) nonce.now label.now message.now
+        out.old out.new result.status result.len)
+        (StreamSealed (keys_of keyring.old.keys) nonce.now label.now message.now
+        out.old out.new result.status result.len) }
 {
     let Some(held) = keyring.take(alloc) else {
-        return seal_stream_out(alloc, &Keyring::new(alloc), nonce, label, message, out);
+        return seal_stream_out(
+            alloc,
+            &Keyring::new(alloc),
+            nonce,
+            label,
+            reply,
+            message,
+            out,
+        );
     };
-    let written = seal_stream_out(alloc, &held, nonce, label, message, out);
+    let written = seal_stream_out(alloc, &held, nonce, label, reply, message, out);
     keyring.put(held);
     written
 }

@@ -1,14 +1,18 @@
-use Rattle.std.proofs.Common.{ℕ, List, subst, rules}
-use Rattle.swim_c.specs.Buffers.{Copied}
-use Rattle.swim_c.specs.Sealing.{Sealed}
-use Rattle.swim_c.proofs.Unwrappings.{of_some}
+use Rattle.std.proofs.Common.{Bool, subst, sym}
+use Rattle.std.specs.Prelude.{MatchBool}
+use Rattle.swim_c.specs.Sealing.{StreamSealed, ReplySealed}
 use Rattle.swim_c.proofs.sealing.seal_stream_out.Goals as goal
 
-pub returns-in-Ok-Some : goal.returns-in-Ok-Some
-returns-in-Ok-Some c =
-    let made = c.in-Ok-Some.ensures in let sealed = c.in-Ok-Some.sealed in
-    Sealed.under_key sealed.items
-    (of_some c.in-Ok-Some.field-0 sealed _ (search rules) made.sends)
-    (of_some c.in-Ok-Some.field-0 sealed _ (search rules) made.opens)
-    (of_some c.in-Ok-Some.field-0 sealed _ (search rules) made.within)
-    (subst (λ (b : List ℕ). Copied b c.args.out.now c.copy_out.new.out c.copy_out.result.status c.copy_out.result.len) c.deref.ensures.value c.copy_out.ensures)
+pub returns-then-reply : goal.returns-then-reply
+returns-then-reply c =
+    subst (λ (b : Bool). MatchBool b
+    (ReplySealed c.args.keys.now c.args.nonce.now c.args.label.now c.args.message.now c.args.out.now c.reply_out.new.out c.reply_out.result.status c.reply_out.result.len)
+    (StreamSealed c.args.keys.now c.args.nonce.now c.args.label.now c.args.message.now c.args.out.now c.reply_out.new.out c.reply_out.result.status c.reply_out.result.len))
+    (sym c.if-reply.true) c.reply_out.ensures
+
+pub returns-else-reply : goal.returns-else-reply
+returns-else-reply c =
+    subst (λ (b : Bool). MatchBool b
+    (ReplySealed c.args.keys.now c.args.nonce.now c.args.label.now c.args.message.now c.args.out.now c.stream_out.new.out c.stream_out.result.status c.stream_out.result.len)
+    (StreamSealed c.args.keys.now c.args.nonce.now c.args.label.now c.args.message.now c.args.out.now c.stream_out.new.out c.stream_out.result.status c.stream_out.result.len))
+    (sym c.if-reply.false) c.stream_out.ensures

@@ -36,13 +36,21 @@ const SEALED_STREAM: &[u8] =
       E\xc7\xb0\\\x0e\x8at\x81B\xe8\x18\x11\xa4\xcb@\xf3\xc7\x99\x06VW\xaa\xb4z\x8b\xab\x9a\
       \xfe\xbb|Q_2\xb3<\xf6\xeb\xda\xa4\xc1\xc1t\x93J\x92\xcb\x9ar\x1b\xe8\xeeY\x1a\xf8\x8f";
 
+/// The stream as the reply to one in a cluster with the label `dc`, under `KEY`.
+const SEALED_REPLY: &[u8] =
+    b"\x0a\x00\x00\x00s\x01nonce-number\xb0\x9d\x0f\xe2/pTc\x8d\x13\xece\xed[\xe1;\xef\xc5\x82\
+      EX\x08\x8b)\xc9\xb3\xb0[\x90\xabz\x08\xa0\xb6}\x8aF\xc9\x11\xaa\xf0\x9f\xc9\x8ff\x07\xfe\
+      E\xc7\xb0\\\x0e\x8at\x81B\xe8\x18\x11\xa4\xcb@\xf3\xc7\x99\x06VW\xaa\xb4z\x8b\xab\x9a\
+      \xfe\xbb|Q_2\xb3<\xf6\xeb\xda\xa4\xfe\x06\x95\x9a,5_\x98M\xe9\xa1\x06\xa6\xe7\xc6\x06";
+
 /// What a call does with bytes.
 #[derive(Clone, Copy)]
 enum Does {
     Unwrap,
-    UnwrapStream,
+    UnwrapStream(&'static [u8]),
     Seal(&'static [u8]),
     SealStream(&'static [u8]),
+    SealReply(&'static [u8]),
 }
 
 /// Makes the call.
@@ -56,10 +64,15 @@ fn call(
     let nonce = b"nonce-number";
     match does {
         Does::Unwrap => swimtab_raw_unwrap(alloc, keyring, bytes, out),
-        Does::UnwrapStream => swimtab_raw_unwrap_stream(alloc, keyring, bytes, out),
+        Does::UnwrapStream(label) => {
+            swimtab_raw_unwrap_stream(alloc, keyring, label, bytes, out)
+        }
         Does::Seal(label) => swimtab_raw_seal(alloc, keyring, nonce, label, bytes, out),
         Does::SealStream(label) => {
-            swimtab_raw_seal_stream(alloc, keyring, nonce, label, bytes, out)
+            swimtab_raw_seal_stream(alloc, keyring, nonce, label, false, bytes, out)
+        }
+        Does::SealReply(label) => {
+            swimtab_raw_seal_stream(alloc, keyring, nonce, label, true, bytes, out)
         }
     }
 }
@@ -106,8 +119,11 @@ fn a_keyring_seals_under_its_first_key_and_unwraps_by_each(rt: HostRuntime) {
         (Does::SealStream(b""), STREAM, 0, SEALED_STREAM),
         (Does::Unwrap, SEALED, 0, ALIVE),
         (Does::Unwrap, ALIVE, 0, ALIVE),
-        (Does::UnwrapStream, SEALED_STREAM, 0, STREAM),
-        (Does::UnwrapStream, SEALED, 16, b""),
+        (Does::SealReply(b"dc"), STREAM, 0, SEALED_REPLY),
+        (Does::UnwrapStream(b""), SEALED_STREAM, 0, STREAM),
+        (Does::UnwrapStream(b""), SEALED_REPLY, 54, b""),
+        (Does::UnwrapStream(b"dc"), SEALED_REPLY, 0, STREAM),
+        (Does::UnwrapStream(b"dc"), SEALED, 16, b""),
         (Does::Unwrap, b"\x01\xff", 54, b""),
         (Does::Unwrap, b"", 1, b""),
     ] {

@@ -1,15 +1,16 @@
 use Rattle.std.proofs.Common.{rules}
-use Rattle.swim_c.specs.Sealing.{StreamSealed}
+use Rattle.std.specs.Prelude.{MatchBool}
+use Rattle.swim_c.specs.Sealing.{StreamSealed, ReplySealed}
 use Rattle.swim_c.proofs.Unwrappings.{without_keys, with_keys}
 use Rattle.swim_c.proofs.exports.wrapped.swimtab_raw_seal_stream.Goals as goal
 
 pub returns-in_default-clause-seals : goal.returns-in_default-clause-seals
 returns-in_default-clause-seals c =
     without_keys
-    (λ keys. StreamSealed keys c.args.nonce.now c.args.label.now c.args.message.now c.args.out.now c.seal_stream_out-in_default.new.out c.seal_stream_out-in_default.result.status c.seal_stream_out-in_default.result.len)
+    (λ keys. MatchBool c.args.reply (ReplySealed keys c.args.nonce.now c.args.label.now c.args.message.now c.args.out.now c.seal_stream_out-in_default.new.out c.seal_stream_out-in_default.result.status c.seal_stream_out-in_default.result.len) (StreamSealed keys c.args.nonce.now c.args.label.now c.args.message.now c.args.out.now c.seal_stream_out-in_default.new.out c.seal_stream_out-in_default.result.status c.seal_stream_out-in_default.result.len))
     c.args.keyring.now.keys c.new.result c.in_default.ensures.taken c.new.ensures c.seal_stream_out-in_default.ensures
 
 pub returns-clause-seals : goal.returns-clause-seals
 returns-clause-seals c =
-    with_keys (λ keys. StreamSealed keys c.args.nonce.now c.args.label.now c.args.message.now c.args.out.now c.seal_stream_out-written.new.out c.seal_stream_out-written.result.status c.seal_stream_out-written.result.len)
+    with_keys (λ keys. MatchBool c.args.reply (ReplySealed keys c.args.nonce.now c.args.label.now c.args.message.now c.args.out.now c.seal_stream_out-written.new.out c.seal_stream_out-written.result.status c.seal_stream_out-written.result.len) (StreamSealed keys c.args.nonce.now c.args.label.now c.args.message.now c.args.out.now c.seal_stream_out-written.new.out c.seal_stream_out-written.result.status c.seal_stream_out-written.result.len))
     c.args.keyring.now.keys c.deref.result.now (search rules) c.seal_stream_out-written.ensures

@@ -6,10 +6,10 @@ use Rattle.swim_c.proofs.exports.wrapped.swimtab_raw_unwrap_stream.Goals as goal
 pub returns-in_default-clause-unwraps : goal.returns-in_default-clause-unwraps
 returns-in_default-clause-unwraps c =
     without_keys
-    (λ keys. StreamUnwrapped keys c.args.stream.now c.args.out.now c.unwrap_stream_out-in_default.new.out c.unwrap_stream_out-in_default.result.status c.unwrap_stream_out-in_default.result.len)
+    (λ keys. StreamUnwrapped keys c.args.label.now c.args.stream.now c.args.out.now c.unwrap_stream_out-in_default.new.out c.unwrap_stream_out-in_default.result.status c.unwrap_stream_out-in_default.result.len)
     c.args.keyring.now.keys c.new.result c.in_default.ensures.taken c.new.ensures c.unwrap_stream_out-in_default.ensures
 
 pub returns-clause-unwraps : goal.returns-clause-unwraps
 returns-clause-unwraps c =
-    with_keys (λ keys. StreamUnwrapped keys c.args.stream.now c.args.out.now c.unwrap_stream_out-written.new.out c.unwrap_stream_out-written.result.status c.unwrap_stream_out-written.result.len)
+    with_keys (λ keys. StreamUnwrapped keys c.args.label.now c.args.stream.now c.args.out.now c.unwrap_stream_out-written.new.out c.unwrap_stream_out-written.result.status c.unwrap_stream_out-written.result.len)
     c.args.keyring.now.keys c.deref.result.now (search rules) c.unwrap_stream_out-written.ensures
