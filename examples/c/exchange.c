@@ -33,13 +33,13 @@ static void show(const char *title, swimtab_node *node) {
 
 /* A whole exchange, as when `joining` joins at `other`. */
 static void exchange(swimtab_node *joining, swimtab_node *other) {
-    size_t offer_len = swimtab_offer(joining, true, NULL, 0).len;
+    size_t offer_len = swimtab_offer(joining, true, SWIMTAB_CANONICAL, NULL, 0).len;
     uint8_t *offer = room(offer_len);
-    check(swimtab_offer(joining, true, offer, offer_len).status, "offer");
+    check(swimtab_offer(joining, true, SWIMTAB_CANONICAL, offer, offer_len).status, "offer");
     /* .. over TCP, to the other member, who replies with what it knew before .. */
-    size_t reply_len = swimtab_answer(other, offer, offer_len, NULL, 0).len;
+    size_t reply_len = swimtab_answer(other, offer, offer_len, SWIMTAB_CANONICAL, NULL, 0).len;
     uint8_t *reply = room(reply_len);
-    check(swimtab_answer(other, offer, offer_len, reply, reply_len).status, "answer");
+    check(swimtab_answer(other, offer, offer_len, SWIMTAB_CANONICAL, reply, reply_len).status, "answer");
     /* .. and back */
     check(swimtab_finish(joining, reply, reply_len).status, "finish");
     printf("an exchange: %zu bytes offered, %zu in reply\n\n", offer_len, reply_len);

@@ -69,7 +69,7 @@ static void shuffle(unsigned *order, unsigned count) {
 static double take_all(swimtab_node *node, const struct packet *packets, const unsigned *order, unsigned count) {
     double since = now();
     for (unsigned i = 0; i < count; i++)
-        WANT(swimtab_take(node, packets[order[i]].bytes, packets[order[i]].len) == 0);
+        WANT(swimtab_take(node, packets[order[i]].bytes, packets[order[i]].len).status == 0);
     return (now() - since) / count;
 }
 
@@ -118,12 +118,12 @@ static void looks_cost(swimtab_node *node, const unsigned *order, unsigned count
 
 static void streams_cost(swimtab_node *node) {
     double offers = 1e18, empty = 1e18, again = 1e18, answers = 1e18, lists = 1e18;
-    size_t len = swimtab_offer(node, false, NULL, 0).len, text_len = swimtab_list(node, NULL, 0).len + 4096;
+    size_t len = swimtab_dump(node, NULL, 0).len, text_len = swimtab_list(node, NULL, 0).len + 4096;
     uint8_t *wire = room(len), *reply = room(len + 4096), *text = room(text_len);
     for (int run = 0; run < RUNS; run++) {
         swimtab_node other = member("a", 1, 0);
         double since = now();
-        WANT(swimtab_offer(node, false, wire, len).status == 0);
+        WANT(swimtab_dump(node, wire, len).status == 0);
         least(&offers, since);
         since = now();
         WANT(swimtab_finish(&other, wire, len).status == 0);
@@ -132,7 +132,7 @@ static void streams_cost(swimtab_node *node) {
         WANT(swimtab_finish(&other, wire, len).status == 0);
         least(&again, since);
         since = now();
-        WANT(swimtab_answer(&other, wire, len, reply, len + 4096).status == 0);
+        WANT(swimtab_answer(&other, wire, len, SWIMTAB_CANONICAL, reply, len + 4096).status == 0);
         least(&answers, since);
         since = now();
         WANT(swimtab_list(&other, text, text_len).status == 0);

@@ -79,15 +79,26 @@ static inline bool is_hex(const uint8_t *at, size_t len, const char *text) {
     return same;
 }
 
-static inline uint32_t take_hex(swimtab_node *node, const char *text) {
+static inline swimtab_taken taken_of(swimtab_node *node, const char *text) {
     struct bytes packet = hex(text);
-    uint32_t status = swimtab_take(node, packet.at, packet.len);
+    swimtab_taken taken = swimtab_take(node, packet.at, packet.len);
     free(packet.at);
-    return status;
+    return taken;
+}
+
+static inline uint32_t take_hex(swimtab_node *node, const char *text) {
+    return taken_of(node, text).status;
+}
+
+/* Whether a packet that is taken in has news. */
+static inline bool has_news(swimtab_node *node, const char *text) {
+    swimtab_taken taken = taken_of(node, text);
+    WANT(taken.status == SWIMTAB_DONE);
+    return taken.news;
 }
 
 /* The listing of a node as text, to be freed; the empty one where it has none. */
-static inline char *listing(swimtab_node *node) {
+static inline char *listing(const swimtab_node *node) {
     swimtab_written needed = swimtab_list(node, NULL, 0);
     size_t len = needed.status == SWIMTAB_TOO_SMALL ? needed.len : 0;
     char *text = malloc(len + 1);
@@ -97,7 +108,7 @@ static inline char *listing(swimtab_node *node) {
     return text;
 }
 
-static inline bool lists(swimtab_node *node, const char *wanted) {
+static inline bool lists(const swimtab_node *node, const char *wanted) {
     char *text = listing(node);
     bool same = strcmp(text, wanted) == 0;
     if (!same) printf("    lists: %s", text);
@@ -111,8 +122,12 @@ static const uint8_t local_addr[4] = {127, 0, 0, 1};
 #define ALIVE_A_4 \
     "0486a441646472a47f000001ab496e6361726e6174696f6e04a44d657461a0a44e6f6465a161a4506f7274cd1f0b" \
     "a356736ea0"
+#define ALIVE_A_6 \
+    "0486a441646472a47f000001ab496e6361726e6174696f6e06a44d657461a0a44e6f6465a161a4506f7274cd1f0b" \
+    "a356736ea0"
 #define SUSPECT_A_5 "0383a446726f6da178ab496e6361726e6174696f6e05a44e6f6465a161"
 #define CONFIRM_A_0 "0583a446726f6da178ab496e6361726e6174696f6e00a44e6f6465a161"
+#define CONFIRM_A_5 "0583a446726f6da178ab496e6361726e6174696f6e05a44e6f6465a161"
 #define LEAVE_A_0 "0583a446726f6da161ab496e6361726e6174696f6e00a44e6f6465a161"
 #define SUSPECT_B_1 "0383a446726f6da178ab496e6361726e6174696f6e01a44e6f6465a162"
 #define LIST_A_0 "a alive 0 0/7f000001/7946//\n"

@@ -18,7 +18,7 @@ public:
     Node &operator=(const Node &) = delete;
 
     uint32_t status() const { return status_; }
-    uint32_t take(const std::string &packet) { return swimtab_take(&handle_, packet.data(), packet.size()); }
+    uint32_t take(const std::string &packet) { return swimtab_take(&handle_, packet.data(), packet.size()).status; }
     std::string list() {
         std::string text(swimtab_list(&handle_, nullptr, 0).len, ' ');
         swimtab_list(&handle_, &text[0], text.size());

@@ -7,6 +7,9 @@ static void versions_agree(void) {
     snprintf(text, sizeof text, "%d.%d.%d", SWIMTAB_VERSION_MAJOR, SWIMTAB_VERSION_MINOR,
              SWIMTAB_VERSION_PATCH);
     WANT(strcmp(text, SWIMTAB_VERSION) == 0);
+    WANT(SWIMTAB_VERSION_NUMBER ==
+         10000 * SWIMTAB_VERSION_MAJOR + 100 * SWIMTAB_VERSION_MINOR + SWIMTAB_VERSION_PATCH);
+    WANT(swimtab_version() == SWIMTAB_VERSION_NUMBER);
 }
 
 static void statuses_have_names(void) {
@@ -18,29 +21,71 @@ static void statuses_have_names(void) {
     WANT(strcmp(swimtab_fault_name(SWIMTAB_NO_MEMBER), "NoMember") == 0);
     WANT(strcmp(swimtab_fault_name(SWIMTAB_OWN_NAME), "OwnName") == 0);
     WANT(strcmp(swimtab_fault_name(SWIMTAB_TOO_MANY_PACKETS), "TooManyPackets") == 0);
+    WANT(strcmp(swimtab_fault_name(SWIMTAB_BAD_FORM), "BadForm") == 0);
     WANT(strcmp(swimtab_fault_name(63), "Unknown") == 0);
     WANT(strcmp(swimtab_fault_name(UINT32_MAX), "Unknown") == 0);
+}
+
+/* Whether a call of the library can answer this status. */
+static bool is_answered(uint32_t status) {
+    return status <= 8 || (status >= 10 && status <= 25) || (status >= 40 && status <= 48) ||
+           (status >= 50 && status <= 57) || (status >= 64 && status <= 70);
+}
+
+static void statuses_have_sentences(void) {
+    static const char none[] = "There is no such status.";
+    WANT(strcmp(swimtab_fault_text(SWIMTAB_DONE), "Done.") == 0);
+    WANT(strcmp(swimtab_fault_text(SWIMTAB_MEMORY), "Out of memory.") == 0);
+    WANT(strcmp(swimtab_fault_text(SWIMTAB_BAD_FORM), "There is no such form of a stream.") == 0);
+    for (uint32_t status = 0; status < 256; status++) {
+        const char *text = swimtab_fault_text(status);
+        WANT((strcmp(text, none) == 0) != is_answered(status));
+        WANT(text[0] >= 'A' && text[0] <= 'Z' && text[strlen(text) - 1] == '.');
+    }
+    WANT(strcmp(swimtab_fault_text(UINT32_MAX), none) == 0);
+}
+
+/* Each call that looks or changes, on what has no node. */
+static void refuses_to_look_without_a_node(swimtab_node *none) {
+    swimtab_member_data member;
+    WANT(swimtab_count(none) == 0);
+    WANT(swimtab_member(none, 0, &member) == SWIMTAB_NO_NODE_HERE);
+    WANT(swimtab_find(none, "a", 1, &member) == SWIMTAB_NO_NODE_HERE);
+    WANT(swimtab_watch(none, true) == SWIMTAB_NO_NODE_HERE);
+    WANT(swimtab_watch(none, false) == SWIMTAB_NO_NODE_HERE);
+    WANT(swimtab_next_change(none, &member) == SWIMTAB_NO_NODE_HERE);
+    WANT(swimtab_next_change(none, NULL) == SWIMTAB_NO_NODE_HERE);
+    WANT(swimtab_forget(none, "a", 1) == SWIMTAB_NO_NODE_HERE);
+    WANT(swimtab_forget(none, NULL, 0) == SWIMTAB_NO_NODE_HERE);
+}
+
+/* Each call that fills a buffer, on what has no node. */
+static void fills_nothing_without_a_node(swimtab_node *none) {
+    swimtab_buffer buffer = SWIMTAB_BUFFER_INIT;
+    WANT(swimtab_offer_new(none, true, SWIMTAB_CANONICAL, &buffer) == SWIMTAB_NO_NODE_HERE);
+    WANT(swimtab_answer_new(none, "", 0, SWIMTAB_CANONICAL, &buffer).status == SWIMTAB_NO_NODE_HERE);
+    WANT(swimtab_list_new(none, &buffer) == SWIMTAB_NO_NODE_HERE);
+    WANT(buffer.at == NULL && buffer.len == 0 && !buffer.kept.held);
+    WANT(swimtab_list_new(none, NULL) == (none ? SWIMTAB_TOO_SMALL : SWIMTAB_NO_NODE_HERE));
 }
 
 /* Each call on what has no node. */
 static void refuses_without_a_node(swimtab_node *none) {
     uint8_t out[4] = {7, 7, 7, 7};
-    swimtab_member_data member;
     swimtab_node other = opened("other", 1, 0);
     WANT(swimtab_close(none) == SWIMTAB_NO_NODE_HERE);
-    WANT(swimtab_take(none, out, 4) == SWIMTAB_NO_NODE_HERE);
+    WANT(swimtab_take(none, out, 4).status == SWIMTAB_NO_NODE_HERE && !swimtab_take(none, out, 4).news);
     WANT(swimtab_refute(none).status == SWIMTAB_NO_NODE_HERE);
     WANT(swimtab_alive(none, 1, out, 4).status == SWIMTAB_NO_NODE_HERE);
     WANT(swimtab_suspect(none, "a", 1, 1, out, 4).status == SWIMTAB_NO_NODE_HERE);
     WANT(swimtab_confirm(none, "a", 1, 1, out, 4).status == SWIMTAB_NO_NODE_HERE);
     WANT(swimtab_leave(none, 1, out, 4).status == SWIMTAB_NO_NODE_HERE);
-    WANT(swimtab_offer(none, true, out, 4).status == SWIMTAB_NO_NODE_HERE);
+    WANT(swimtab_offer(none, true, SWIMTAB_CANONICAL, out, 4).status == SWIMTAB_NO_NODE_HERE);
     WANT(swimtab_dump(none, out, 4).status == SWIMTAB_NO_NODE_HERE);
-    WANT(swimtab_answer(none, "", 0, out, 4).status == SWIMTAB_NO_NODE_HERE);
+    WANT(swimtab_answer(none, "", 0, SWIMTAB_CANONICAL, out, 4).status == SWIMTAB_NO_NODE_HERE);
     WANT(swimtab_finish(none, "", 0).status == SWIMTAB_NO_NODE_HERE);
-    WANT(swimtab_count(none) == 0);
-    WANT(swimtab_member(none, 0, &member) == SWIMTAB_NO_NODE_HERE);
-    WANT(swimtab_find(none, "a", 1, &member) == SWIMTAB_NO_NODE_HERE);
+    refuses_to_look_without_a_node(none);
+    fills_nothing_without_a_node(none);
     WANT(swimtab_list(none, out, 4).status == SWIMTAB_NO_NODE_HERE);
     WANT(swimtab_relate(none, none).status == SWIMTAB_NO_NODE_HERE);
     WANT(swimtab_relate(none, &other).status == SWIMTAB_NO_NODE_HERE);
@@ -153,6 +198,30 @@ static void members_are_found_by_place_and_by_name(void) {
     WANT(swimtab_close(&node) == 0);
 }
 
+/* Whether what is known of a is told as a member that came back. */
+static bool a_came_back(const swimtab_node *node) {
+    static const uint8_t zeros[32];
+    swimtab_member_data member;
+    memset(&member, 9, sizeof member);
+    WANT(swimtab_find(node, "a", 1, &member) == SWIMTAB_DONE);
+    WANT(memcmp(member.reserved, zeros, sizeof zeros) == 0);
+    return member.came_back;
+}
+
+static void members_that_come_back_are_told(void) {
+    swimtab_node node = opened("b", 7946, 0);
+    WANT(take_hex(&node, CONFIRM_A_5) == 0 && !a_came_back(&node));
+    WANT(take_hex(&node, ALIVE_A_4) == 0 && !a_came_back(&node));
+    WANT(take_hex(&node, ALIVE_A_6) == 0 && a_came_back(&node));
+    WANT(lists(&node, "a confirm 5 6/7f000001/7947//\nb alive 0 0/7f000001/7946//\n"));
+    WANT(swimtab_close(&node) == 0);
+    node = opened("b", 7946, 0);
+    WANT(take_hex(&node, ALIVE_A_4) == 0 && !a_came_back(&node));
+    WANT(take_hex(&node, SUSPECT_A_5) == 0 && !a_came_back(&node));
+    WANT(take_hex(&node, LEAVE_A_0) == 0 && a_came_back(&node));
+    WANT(swimtab_close(&node) == 0);
+}
+
 static swimtab_written write_list(swimtab_node *node, uint8_t *out, size_t out_len) {
     return swimtab_list(node, out, out_len);
 }
@@ -170,8 +239,8 @@ static void a_whole_exchange_levels_two_members(void) {
     WANT(take_hex(&first, "0583a446726f6da162ab496e6361726e6174696f6e03a44e6f6465a163") == 0);
     swimtab_related relation = swimtab_relate(&first, &second);
     WANT(relation.status == 0 && relation.relation == SWIMTAB_APART);
-    swimtab_written offered = swimtab_offer(&first, true, offer, sizeof offer);
-    swimtab_exchanged answered = swimtab_answer(&second, offer, offered.len, reply, sizeof reply);
+    swimtab_written offered = swimtab_offer(&first, true, SWIMTAB_CANONICAL, offer, sizeof offer);
+    swimtab_exchanged answered = swimtab_answer(&second, offer, offered.len, SWIMTAB_CANONICAL, reply, sizeof reply);
     WANT(offered.status == 0 && answered.status == 0 && answered.join && answered.used == offered.len);
     relation = swimtab_relate(&first, &second);
     WANT(relation.status == 0 && relation.relation == SWIMTAB_BEHIND);
@@ -192,11 +261,13 @@ int main(void) {
     static const struct test tests[] = {
         {"versions agree", versions_agree},
         {"statuses have names", statuses_have_names},
+        {"statuses have sentences", statuses_have_sentences},
         {"a handle without a node has none", a_handle_without_a_node_has_none},
         {"a closed handle opens again", a_closed_handle_opens_again},
         {"openings are refused", openings_are_refused},
         {"the longest values are copied out", the_longest_values_are_copied_out},
         {"members are found by place and by name", members_are_found_by_place_and_by_name},
+        {"members that come back are told", members_that_come_back_are_told},
         {"a listing is written where it fits", a_listing_is_written_where_it_fits},
         {"a whole exchange levels two members", a_whole_exchange_levels_two_members},
     };

@@ -17,6 +17,24 @@ static void packets_are_taken_in(void) {
     WANT(swimtab_close(&node) == 0);
 }
 
+static void packets_tell_whether_they_have_news(void) {
+    swimtab_node node = opened("b", 7946, 0);
+    WANT(has_news(&node, SUSPECT_A_5) && !has_news(&node, SUSPECT_A_5));
+    /* the newest address of a suspected member is news, though the suspicion stands */
+    WANT(has_news(&node, ALIVE_A_4) && !has_news(&node, ALIVE_A_4));
+    /* the same map with a longer spelling of the incarnation says nothing new */
+    WANT(!has_news(&node, "0383a446726f6da178ab496e6361726e6174696f6ecc05a44e6f6465a161"));
+    WANT(has_news(&node, CONFIRM_A_0) && has_news(&node, LEAVE_A_0) && !has_news(&node, CONFIRM_A_0));
+    WANT(!has_news(&node, SUSPECT_A_5));
+    /* compound packets: of nothing, of a ping alone, of what is known, and with one part that is new */
+    WANT(!has_news(&node, "0700") && !has_news(&node, "07010003" "008080"));
+    WANT(!has_news(&node, "0702001d001d" SUSPECT_A_5 CONFIRM_A_0));
+    WANT(has_news(&node, "0702001d001d" SUSPECT_A_5 SUSPECT_B_1));
+    WANT(!has_news(&node, "0702001d001d" SUSPECT_A_5 SUSPECT_B_1));
+    WANT(lists(&node, "a leave 0 4/7f000001/7947//\nb suspect 1 0/7f000001/7946//\n"));
+    WANT(swimtab_close(&node) == 0);
+}
+
 /* What is no packet, and its fault. */
 static const struct {
     const char *bytes;
@@ -50,12 +68,13 @@ static const struct {
 static void what_is_no_packet_is_refused(void) {
     swimtab_node node = opened("a", 7946, 0);
     for (size_t i = 0; i < sizeof no_packets / sizeof *no_packets; i++) {
-        uint32_t status = take_hex(&node, no_packets[i].bytes);
+        swimtab_taken taken = taken_of(&node, no_packets[i].bytes);
+        uint32_t status = taken.status;
         if (status != no_packets[i].status) printf("    %s: %s\n", no_packets[i].bytes, swimtab_fault_name(status));
-        WANT(status == no_packets[i].status);
+        WANT(status == no_packets[i].status && !taken.news);
         WANT(lists(&node, LIST_A_0));
     }
-    WANT(swimtab_take(&node, NULL, 0) == SWIMTAB_ENDED && swimtab_take(&node, NULL, 5) == SWIMTAB_ENDED);
+    WANT(swimtab_take(&node, NULL, 0).status == SWIMTAB_ENDED && swimtab_take(&node, NULL, 5).status == SWIMTAB_ENDED);
     WANT(swimtab_close(&node) == 0);
 }
 
@@ -78,6 +97,63 @@ static swimtab_written write_compound(swimtab_node *node, uint8_t *out, size_t o
     swimtab_written written = swimtab_compound(packets.at, packets.len, lens, 2, out, out_len);
     free(packets.at);
     return written;
+}
+
+static const uint8_t db_3_addr[16] = {0xfd, 0, 0, 0x10, [15] = 0x13}, db_3_vsn[6] = {1, 5, 2, 2, 5, 5};
+static const char db_3_meta[] = "\xff\x82\xa4role\xa2" "db\xa4rack\xa2r3";
+
+static swimtab_written write_alive_of(swimtab_node *node, uint8_t *out, size_t out_len) {
+    (void)node;
+    return swimtab_alive_of("db-3", 4, db_3_addr, 16, 7946, db_3_meta, 18, db_3_vsn, 6, 1, out, out_len);
+}
+static swimtab_written write_plain_alive_of(swimtab_node *node, uint8_t *out, size_t out_len) {
+    (void)node;
+    return swimtab_alive_of("a", 1, local_addr, 4, 7947, NULL, 0, NULL, 0, 4, out, out_len);
+}
+
+/* The first packet is that of a running cluster: tests/c/sealing.c has it as it was sent. */
+static void anybodys_alive_is_written(void) {
+    swimtab_node node = opened("a", 7946, 0);
+    writes(&node, write_alive_of,
+           "0486a441646472b0fd000010000000000000000000000013ab496e6361726e6174696f6e01a44d657461b2ff82a4"
+           "726f6c65a26462a47261636ba27233a44e6f6465a464622d33a4506f7274cd1f0aa356736ea6010502020505");
+    writes(&node, write_plain_alive_of, ALIVE_A_4);
+    WANT(lists(&node, LIST_A_0));
+    WANT(swimtab_close(&node) == 0);
+}
+
+/* The first part that is invalid is named, and nothing is written. */
+static void an_alive_of_invalid_parts_is_refused(void) {
+    static const struct {
+        size_t name_len, addr_len, meta_len, vsn_len;
+        uint32_t status;
+    } cases[] = {
+        {0, 0, 513, 1, SWIMTAB_NAME_EMPTY},    {1025, 0, 513, 1, SWIMTAB_NAME_TOO_LONG},
+        {1, 0, 513, 1, SWIMTAB_BAD_ADDRESS},   {1, 3, 0, 0, SWIMTAB_BAD_ADDRESS},
+        {1, 15, 0, 0, SWIMTAB_BAD_ADDRESS},    {1, 17, 0, 0, SWIMTAB_BAD_ADDRESS},
+        {1, 4, 513, 1, SWIMTAB_META_TOO_LONG}, {1, 4, 512, 1, SWIMTAB_BAD_VERSIONS},
+        {1, 16, 0, 5, SWIMTAB_BAD_VERSIONS},   {1, 16, 0, 7, SWIMTAB_BAD_VERSIONS},
+        {1024, 16, 512, 6, SWIMTAB_DONE},      {1, 4, 0, 0, SWIMTAB_DONE},
+    };
+    for (size_t i = 0; i < sizeof cases / sizeof *cases; i++) {
+        struct bytes name = bytes_of_size(cases[i].name_len, 'n'), addr = bytes_of_size(cases[i].addr_len, 1),
+                     meta = bytes_of_size(cases[i].meta_len, 2), vsn = bytes_of_size(cases[i].vsn_len, 3),
+                     out = bytes_of_size(2100, 7);
+        swimtab_written written = swimtab_alive_of(name.at, name.len, addr.at, addr.len, 1, meta.at, meta.len,
+                                                   vsn.at, vsn.len, UINT32_MAX, out.at, out.len);
+        WANT(written.status == cases[i].status);
+        WANT(written.status == SWIMTAB_DONE || (written.len == 0 && out.at[0] == 7));
+        swimtab_node node = opened("a", 7946, 0);
+        if (written.status == SWIMTAB_DONE) {
+            WANT(swimtab_take(&node, out.at, written.len).news);
+            WANT(swimtab_find(&node, name.at, name.len, NULL) == SWIMTAB_DONE);
+        }
+        WANT(swimtab_close(&node) == 0);
+        free(name.at), free(addr.at), free(meta.at), free(vsn.at), free(out.at);
+    }
+    uint8_t out[8];
+    WANT(swimtab_alive_of(NULL, 1, local_addr, 4, 1, NULL, 0, NULL, 0, 0, out, 8).status == SWIMTAB_NAME_EMPTY);
+    WANT(swimtab_alive_of("a", 1, NULL, 4, 1, NULL, 0, NULL, 0, 0, out, 8).status == SWIMTAB_BAD_ADDRESS);
 }
 
 static void packets_are_written_where_they_fit(void) {
@@ -132,7 +208,7 @@ static void what_a_member_may_not_say_is_refused(void) {
     WANT(swimtab_confirm(&node, "a", 1, 1, NULL, 0).len == 0);
     WANT(out.at[0] == 7 && memcmp(out.at, out.at + 1, out.len - 1) == 0);
     swimtab_written written = swimtab_suspect(&node, name.at, 1024, 1, out.at, out.len);
-    WANT(written.status == 0 && swimtab_take(&node, out.at, written.len) == 0);
+    WANT(written.status == 0 && swimtab_take(&node, out.at, written.len).status == 0);
     WANT(swimtab_find(&node, name.at, 1024, NULL) == 0);
     WANT(swimtab_close(&node) == 0);
     WANT(swimtab_open(&node, name.at, 1024, local_addr, 4, 1, NULL, 0, NULL, 0, 0) == 0);
@@ -142,10 +218,10 @@ static void what_a_member_may_not_say_is_refused(void) {
     node = opened("a", 7946, 0);
     /* a member may suspect itself, though nobody does */
     written = swimtab_suspect(&node, "a", 1, 1, out.at, out.len);
-    WANT(written.status == 0 && swimtab_take(&node, out.at, written.len) == 0);
+    WANT(written.status == 0 && swimtab_take(&node, out.at, written.len).status == 0);
     WANT(swimtab_refute(&node).due);
     written = swimtab_leave(&node, 2, out.at, out.len);
-    WANT(written.status == 0 && swimtab_take(&node, out.at, written.len) == 0);
+    WANT(written.status == 0 && swimtab_take(&node, out.at, written.len).status == 0);
     WANT(swimtab_refute(&node).status == SWIMTAB_GONE);
     free(name.at), free(out.at);
     WANT(swimtab_close(&node) == 0);
@@ -169,14 +245,14 @@ static void packets_become_one_compound_packet(void) {
     swimtab_written written = swimtab_compound(packets.at, packets.len, lens, 2, out, sizeof out);
     WANT(written.status == 0 && written.len == 6 + packets.len);
     swimtab_node node = opened("b", 7946, 0);
-    WANT(swimtab_take(&node, out, written.len) == 0);
+    WANT(swimtab_take(&node, out, written.len).status == 0);
     WANT(lists(&node, "a suspect 5 4/7f000001/7947//\nb alive 0 0/7f000001/7946//\n"));
     const size_t whole[1] = {written.len};
     uint8_t again[256];
     WANT(swimtab_compound(out, written.len, whole, 1, again, sizeof again).status == SWIMTAB_WRONG_TYPE);
     written = swimtab_compound(NULL, 0, NULL, 0, out, sizeof out);
     WANT(written.status == 0 && is_hex(out, written.len, "0700"));
-    WANT(swimtab_take(&node, out, written.len) == 0 && swimtab_count(&node) == 2);
+    WANT(swimtab_take(&node, out, written.len).status == 0 && swimtab_count(&node) == 2);
     free(packets.at);
     WANT(swimtab_close(&node) == 0);
 }
@@ -193,7 +269,7 @@ static void a_compound_packet_has_255_packets_at_most(void) {
     swimtab_written written = swimtab_compound(packets.at, 255 * 29, lens, 255, out.at, out.len);
     WANT(written.status == 0 && written.len == 2 + 255 * 31 && out.at[1] == 255);
     swimtab_node node = opened("b", 7946, 0);
-    WANT(swimtab_take(&node, out.at, written.len) == 0 && swimtab_find(&node, "a", 1, NULL) == 0);
+    WANT(swimtab_take(&node, out.at, written.len).status == 0 && swimtab_find(&node, "a", 1, NULL) == 0);
     WANT(swimtab_close(&node) == 0);
     free(one.at), free(packets.at), free(out.at);
 }
@@ -201,7 +277,10 @@ static void a_compound_packet_has_255_packets_at_most(void) {
 int main(void) {
     static const struct test tests[] = {
         {"packets are taken in", packets_are_taken_in},
+        {"packets tell whether they have news", packets_tell_whether_they_have_news},
         {"what is no packet is refused", what_is_no_packet_is_refused},
+        {"anybody's Alive is written", anybodys_alive_is_written},
+        {"an Alive of invalid parts is refused", an_alive_of_invalid_parts_is_refused},
         {"packets are written where they fit", packets_are_written_where_they_fit},
         {"refutations come where they are due", refutations_come_where_they_are_due},
         {"what a member may not say is refused", what_a_member_may_not_say_is_refused},

@@ -1,6 +1,6 @@
 /* Each allocation of a run refused in turn: every call is done, or answers SWIMTAB_MEMORY and has changed
- * neither a node nor its buffer; made again it is done; and at the end all memory was let go. Linked
- * with -Wl,--wrap=malloc,--wrap=realloc,--wrap=free. */
+ * neither a node nor a buffer nor the noted names; made again it is done; and at the end all memory was
+ * let go. Linked with -Wl,--wrap=malloc,--wrap=realloc,--wrap=free. */
 #include "check.h"
 
 void *__real_malloc(size_t size);
@@ -38,6 +38,7 @@ void __wrap_free(void *at) {
 enum { ROOM = 1 << 14 };
 
 static swimtab_node first, second;
+static swimtab_buffer buffer;
 static uint8_t offer[ROOM], reply[ROOM], out[ROOM];
 static size_t offer_len, reply_len;
 static size_t out_len; /* what the call before wrote to out */
@@ -51,6 +52,8 @@ static uint8_t meta[200];
 static uint32_t open_first(void) {
     return swimtab_open(&first, long_name, sizeof long_name - 1, local, 4, 7946, meta, sizeof meta, NULL, 0, 1);
 }
+static uint32_t watch_first(void) { return swimtab_watch(&first, true); }
+static uint32_t watch_second(void) { return swimtab_watch(&second, true); }
 static uint32_t open_second(void) {
     return swimtab_open(&second, "b", 1, local, 4, 7947, NULL, 0, NULL, 0, 1);
 }
@@ -60,7 +63,7 @@ static uint32_t take(swimtab_node *node, const char *text) {
     for (; digit_of(text[2 * len]) < 16; len++)
         bytes[len] = (uint8_t)(16 * digit_of(text[2 * len]) + digit_of(text[2 * len + 1]));
     watching = true;
-    uint32_t status = swimtab_take(node, bytes, len);
+    uint32_t status = swimtab_take(node, bytes, len).status;
     watching = false;
     return status;
 }
@@ -79,6 +82,9 @@ static uint32_t take_compound(void) {
 static uint32_t suspect_second(void) {
     return take(&second, "0383a446726f6da178ab496e6361726e6174696f6e01a44e6f6465a162");
 }
+static uint32_t suspect_second_again(void) {
+    return take(&second, "0383a446726f6da178ab496e6361726e6174696f6e09a44e6f6465a162");
+}
 static uint32_t kept(swimtab_written written) {
     out_len = written.len;
     return written.status;
@@ -94,32 +100,51 @@ static uint32_t say_compound(void) {
 }
 static uint32_t list_first(void) { return kept(swimtab_list(&first, out, ROOM)); }
 static uint32_t offer_first(void) {
-    uint32_t status = kept(swimtab_offer(&first, true, out, ROOM));
+    uint32_t status = kept(swimtab_offer(&first, true, SWIMTAB_CANONICAL, out, ROOM));
     memcpy(offer, out, out_len);
     offer_len = out_len;
     return status;
 }
 static uint32_t answer_second(void) {
-    swimtab_exchanged made = swimtab_answer(&second, offer, offer_len, out, ROOM);
+    swimtab_exchanged made = swimtab_answer(&second, offer, offer_len, SWIMTAB_CANONICAL, out, ROOM);
     out_len = made.len;
     memcpy(reply, out, out_len);
     reply_len = out_len;
     return made.status;
 }
+static uint32_t say_alive_of(void) {
+    return kept(swimtab_alive_of(long_name, 40, local, 4, 1, meta, sizeof meta, NULL, 0, 9, out, ROOM));
+}
+static uint32_t list_new(void) { return swimtab_list_new(&first, &buffer); }
+static uint32_t offer_new(void) { return swimtab_offer_new(&first, true, SWIMTAB_MEMBERLIST, &buffer); }
+static uint32_t offer_new_again(void) { return swimtab_offer_new(&first, true, SWIMTAB_CANONICAL, &buffer); }
+static uint32_t answer_new(void) {
+    /* a table that changes: the offer of the first node, which has more than the second one */
+    return swimtab_answer_new(&second, offer, offer_len, SWIMTAB_MEMBERLIST, &buffer).status;
+}
+static uint32_t whole_offer(void) {
+    swimtab_progress progress = SWIMTAB_PROGRESS_INIT;
+    return swimtab_whole(&progress, offer, offer_len);
+}
+static uint32_t forget_d(void) { return swimtab_forget(&first, "d", 1); }
 static uint32_t finish_first(void) { return swimtab_finish(&first, reply, reply_len).status; }
 static uint32_t refute_second(void) { return swimtab_refute(&second).status; }
 
 static uint32_t (*const calls[])(void) = {
-    open_first,   open_second, take_alive,  take_known,    take_compound, suspect_second, say_alive,
-    say_suspect,  say_confirm, say_leave,   say_compound,  list_first,    offer_first,    answer_second,
-    finish_first, refute_second,
+    open_first,      watch_first,   open_second,   take_alive,    take_known, take_compound,        suspect_second,
+    say_alive,       say_alive_of,  say_suspect,   say_confirm,   say_leave,  say_compound,         list_first,
+    list_new,        offer_new,     offer_first,   watch_second,  refute_second, suspect_second_again,
+    offer_new_again, whole_offer,   answer_second, answer_new,    finish_first, refute_second,      forget_d,
 };
 
-/* What both nodes show, without watching. */
+enum { CALLS = sizeof calls / sizeof *calls };
+
+/* What both nodes show, without watching, and the bytes of the buffer behind it. */
 static size_t show(uint8_t *shown) {
     swimtab_written one = swimtab_list(&first, shown, ROOM);
     swimtab_written two = swimtab_list(&second, shown + one.len, ROOM - one.len);
-    return one.len + two.len;
+    if (buffer.len) memcpy(shown + one.len + two.len, buffer.at, buffer.len);
+    return one.len + two.len + buffer.len;
 }
 
 /* Makes a call with the next allocations as they come, and once more where it was refused. */
@@ -127,10 +152,12 @@ static bool make(uint32_t (*call)(void)) {
     static uint8_t before[ROOM], after[ROOM];
     size_t len = show(before);
     memset(out, 7, ROOM);
+    const uint8_t *at = buffer.at;
     watching = true;
     uint32_t status = call();
     watching = false;
     if (status == SWIMTAB_DONE) return false;
+    WANT(buffer.at == at);
     WANT(status == SWIMTAB_MEMORY);
     WANT(show(after) == len && memcmp(before, after, len) == 0);
     WANT(out[0] == 7 && memcmp(out, out + 1, ROOM - 1) == 0);
@@ -141,6 +168,57 @@ static bool make(uint32_t (*call)(void)) {
     return true;
 }
 
+static void close_all(void) {
+    swimtab_close(&first), swimtab_close(&second), swimtab_free(&buffer);
+    WANT(held == 0);
+}
+
+/* Takes the noted names of both nodes, as a line of text. */
+static void drain(char *text, size_t room) {
+    static swimtab_member_data member;
+    size_t len = 0;
+    swimtab_node *nodes[2] = {&first, &second};
+    text[0] = 0;
+    for (size_t i = 0; i < 2; i++) {
+        while (swimtab_next_change(nodes[i], &member) == SWIMTAB_DONE && len < room)
+            len += (size_t)snprintf(text + len, room - len, "%.*s ", (int)member.name_len, (char *)member.name);
+        if (len < room) len += (size_t)snprintf(text + len, room - len, "| ");
+    }
+}
+
+/* The first calls, with the allocation of this number refused: how many calls were done. */
+static size_t calls_done(long number, size_t count) {
+    size_t done = 0;
+    until_refused = number;
+    while (done < count) {
+        watching = true;
+        uint32_t status = calls[done]();
+        watching = false;
+        if (status != SWIMTAB_DONE) break;
+        done++;
+    }
+    until_refused = -1;
+    return done;
+}
+
+/* After the call that was refused the noted names are those of before it. Answers whether one was. */
+static bool noted_names_stay(long number) {
+    static char wanted[4096], noted[4096];
+    size_t done = calls_done(number, CALLS);
+    if (done == CALLS) {
+        close_all();
+        return false;
+    }
+    drain(noted, sizeof noted);
+    close_all();
+    WANT(calls_done(-1, done) == done);
+    drain(wanted, sizeof wanted);
+    close_all();
+    if (strcmp(noted, wanted) != 0) printf("    noted %s, wanted %s\n", noted, wanted);
+    WANT(strcmp(noted, wanted) == 0);
+    return true;
+}
+
 /* A run with the allocation of this number refused: how many calls were refused, or -1 where there
  * was no such allocation. */
 static int run(long number) {
@@ -148,7 +226,7 @@ static int run(long number) {
     static size_t wanted_len;
     int refused = 0;
     until_refused = number;
-    for (size_t i = 0; i < sizeof calls / sizeof *calls; i++) refused += make(calls[i]);
+    for (size_t i = 0; i < CALLS; i++) refused += make(calls[i]);
     bool reached = until_refused < 0 && number >= 0;
     until_refused = -1;
     size_t len = show(shown);
@@ -157,8 +235,7 @@ static int run(long number) {
         wanted_len = len;
     }
     WANT(len == wanted_len && memcmp(shown, wanted, len) == 0);
-    WANT(swimtab_close(&first) == 0 && swimtab_close(&second) == 0);
-    WANT(held == 0);
+    close_all();
     return reached ? refused : -1;
 }
 
@@ -174,6 +251,12 @@ static void each_allocation_may_be_refused(void) {
         if (runs > 10000) break;
     }
     WANT(runs > 0 && runs <= 10000 && refusals > 0);
+}
+
+static void a_refused_call_leaves_the_noted_names(void) {
+    long refused = 0;
+    for (long number = 0; number < runs; number++) refused += noted_names_stay(number);
+    WANT(refused > 0 && refused == refusals);
 }
 
 static void an_alive_of_a_known_name_takes_no_memory(void) {
@@ -199,12 +282,13 @@ static void an_offer_takes_no_memory(void) {
     WANT(open_first() == 0 && take_alive() == 0 && take_compound() == 0);
     until_refused = 0;
     watching = true;
-    swimtab_written asked = swimtab_offer(&first, true, NULL, 0);
+    swimtab_written asked = swimtab_offer(&first, true, SWIMTAB_CANONICAL, NULL, 0);
     WANT(asked.status == SWIMTAB_TOO_SMALL);
-    swimtab_written short_by_one = swimtab_offer(&first, true, out, asked.len - 1);
+    swimtab_written short_by_one = swimtab_offer(&first, true, SWIMTAB_CANONICAL, out, asked.len - 1);
     WANT(short_by_one.status == SWIMTAB_TOO_SMALL && short_by_one.len == asked.len);
-    swimtab_written made = swimtab_offer(&first, true, out, asked.len);
+    swimtab_written made = swimtab_offer(&first, true, SWIMTAB_CANONICAL, out, asked.len);
     WANT(made.status == SWIMTAB_DONE && made.len == asked.len);
+    WANT(swimtab_offer(&first, true, SWIMTAB_MEMBERLIST, reply, ROOM).status == SWIMTAB_DONE);
     watching = false;
     WANT(until_refused == 0);
     until_refused = -1;
@@ -212,11 +296,28 @@ static void an_offer_takes_no_memory(void) {
     WANT(swimtab_close(&first) == 0 && held == 0);
 }
 
+static void watching_and_forgetting_take_no_memory(void) {
+    swimtab_member_data member;
+    WANT(open_first() == 0 && watch_first() == 0 && take_alive() == 0 && take_compound() == 0);
+    until_refused = 0;
+    watching = true;
+    WANT(swimtab_next_change(&first, &member) == SWIMTAB_DONE && swimtab_next_change(&first, NULL) == SWIMTAB_DONE);
+    WANT(swimtab_forget(&first, "a", 1) == SWIMTAB_DONE && swimtab_forget(&first, "a", 1) == SWIMTAB_NO_MEMBER);
+    WANT(swimtab_watch(&first, true) == SWIMTAB_DONE && swimtab_watch(&first, false) == SWIMTAB_DONE);
+    WANT(swimtab_version() == SWIMTAB_VERSION_NUMBER);
+    watching = false;
+    WANT(until_refused == 0);
+    until_refused = -1;
+    WANT(swimtab_close(&first) == 0 && held == 0);
+}
+
 int main(void) {
     static const struct test tests[] = {
         {"each allocation may be refused", each_allocation_may_be_refused},
+        {"a refused call leaves the noted names", a_refused_call_leaves_the_noted_names},
         {"an Alive of a known name takes no memory", an_alive_of_a_known_name_takes_no_memory},
         {"an offer takes no memory", an_offer_takes_no_memory},
+        {"watching and forgetting take no memory", watching_and_forgetting_take_no_memory},
     };
     /* the first print takes a block for its buffer */
     printf("refused memory:\n");

@@ -1,49 +1,6 @@
 /* Push/pull streams: taken in, refused, offered and answered. The expected bytes and faults are those of
  * docs/PROTOCOL.md. */
-#include "check.h"
-
-/* a node a, alive at 0; the same where it is suspected at 5 and was alive at 4; and b suspected at 1 */
-#define DUMP_A_0 \
-    "0683a44a6f696ec2a54e6f64657301ac5573657253746174654c656e00" \
-    "87a441646472a47f000001ab496e6361726e6174696f6e00a44d657461a0a44e616d65a161a4506f7274cd1f0aa5" \
-    "537461746500a356736ea0"
-#define DUMP_A_4_5 \
-    "0683a44a6f696ec2a54e6f64657302ac5573657253746174654c656e00" \
-    "87a441646472a47f000001ab496e6361726e6174696f6e04a44d657461a0a44e616d65a161a4506f7274cd1f0ba5" \
-    "537461746500a356736ea0" \
-    "87a441646472a0ab496e6361726e6174696f6e05a44d657461a0a44e616d65a161a4506f727400a5537461746501" \
-    "a356736ea0"
-#define DUMP_B_1 \
-    "0683a44a6f696ec2a54e6f64657301ac5573657253746174654c656e00" \
-    "87a441646472a0ab496e6361726e6174696f6e01a44d657461a0a44e616d65a162a4506f727400a5537461746501" \
-    "a356736ea0"
-
-/* What is no stream, and its fault. */
-static const struct {
-    const char *bytes;
-    uint32_t status;
-} no_streams[] = {
-    {"", SWIMTAB_ENDED},
-    {"0681a54e6f64657301", SWIMTAB_ENDED},
-    {"0681a54e6f646573ce00020000", SWIMTAB_ENDED},
-    {"0681ac5573657253746174654c656e02ff", SWIMTAB_ENDED},
-    {"0681a54e6f646573a0", SWIMTAB_NOT_UNSIGNED},
-    {"0681a54e6f64657301" "81a4506f7274ce00010000", SWIMTAB_OUT_OF_RANGE},
-    {"0681a44a6f696e05", SWIMTAB_NOT_BOOL},
-    {"0681a54e6f64657301" "81a44e616d6505", SWIMTAB_NOT_RAW},
-    {"0681a54e6f64657301" "81a44d657461da0201", SWIMTAB_TOO_LONG},
-    {"06c0", SWIMTAB_NOT_MAP},
-    {"0684", SWIMTAB_MAP_COUNT},
-    {"0681a54e6f64657301" "80", SWIMTAB_NAME_EMPTY},
-    {"0681a54e6f64657301" "81a44e616d65a161", SWIMTAB_BAD_ADDRESS},
-    {"0681a54e6f64657301" "83a441646472a47f000001a44e616d65a161a356736ea101", SWIMTAB_BAD_VERSIONS},
-    {"03", SWIMTAB_WRONG_TYPE},
-    {"0681a44e6f6465", SWIMTAB_UNKNOWN_KEY},
-    {"0682a44a6f696ec2a44a6f696e", SWIMTAB_DUPLICATE_KEY},
-    {"0681a54e6f64657301" "82a44e616d65a161a5537461746504", SWIMTAB_BAD_STATE},
-    {"0681a54e6f646573ce00020001", SWIMTAB_TOO_MANY_NODES},
-    {"0681ac5573657253746174654c656ece01400001", SWIMTAB_USER_TOO_LONG},
-};
+#include "streams.h"
 
 static void what_is_no_stream_is_refused(void) {
     swimtab_node node = opened("a", 7946, 0);
@@ -52,23 +9,40 @@ static void what_is_no_stream_is_refused(void) {
         uint8_t out[256];
         memset(out, 7, sizeof out);
         swimtab_exchanged finished = swimtab_finish(&node, stream.at, stream.len);
-        swimtab_exchanged answered = swimtab_answer(&node, stream.at, stream.len, out, sizeof out);
+        swimtab_exchanged answered = swimtab_answer(&node, stream.at, stream.len, SWIMTAB_CANONICAL, out, sizeof out);
         if (finished.status != no_streams[i].status)
             printf("    %s: %s\n", no_streams[i].bytes, swimtab_fault_name(finished.status));
         WANT(finished.status == no_streams[i].status && answered.status == no_streams[i].status);
-        WANT(!finished.join && finished.used == 0 && finished.len == 0);
-        WANT(!answered.join && answered.used == 0 && answered.len == 0);
+        WANT(!finished.join && !finished.news && finished.used == 0 && finished.len == 0);
+        WANT(!answered.join && !answered.news && answered.used == 0 && answered.len == 0);
         WANT(out[0] == 7 && memcmp(out, out + 1, sizeof out - 1) == 0);
         WANT(lists(&node, LIST_A_0));
         free(stream.at);
     }
     WANT(swimtab_finish(&node, NULL, 0).status == SWIMTAB_ENDED);
-    WANT(swimtab_answer(&node, NULL, 0, NULL, 0).status == SWIMTAB_ENDED);
+    WANT(swimtab_answer(&node, NULL, 0, SWIMTAB_CANONICAL, NULL, 0).status == SWIMTAB_ENDED);
+    WANT(swimtab_close(&node) == 0);
+}
+
+static void forms_that_do_not_exist_are_refused(void) {
+    static const uint32_t forms[] = {2, 3, 256, UINT32_MAX};
+    swimtab_node node = opened("a", 7946, 0);
+    struct bytes stream = hex(DUMP_B_1);
+    uint8_t out[256];
+    memset(out, 7, sizeof out);
+    for (size_t i = 0; i < sizeof forms / sizeof *forms; i++) {
+        swimtab_written offered = swimtab_offer(&node, true, forms[i], out, sizeof out);
+        WANT(offered.status == SWIMTAB_BAD_FORM && offered.len == 0);
+        swimtab_exchanged answered = swimtab_answer(&node, stream.at, stream.len, forms[i], out, sizeof out);
+        WANT(answered.status == SWIMTAB_BAD_FORM && answered.used == 0 && answered.len == 0 && !answered.news);
+    }
+    WANT(out[0] == 7 && memcmp(out, out + 1, sizeof out - 1) == 0 && lists(&node, LIST_A_0));
+    free(stream.at);
     WANT(swimtab_close(&node) == 0);
 }
 
 static swimtab_written write_offer(swimtab_node *node, uint8_t *out, size_t out_len) {
-    return swimtab_offer(node, true, out, out_len);
+    return swimtab_offer(node, true, SWIMTAB_CANONICAL, out, out_len);
 }
 
 static void dumps_are_canonical(void) {
@@ -81,7 +55,7 @@ static void dumps_are_canonical(void) {
     WANT(take_hex(&node, SUSPECT_A_5) == 0);
     written = swimtab_dump(&node, out, sizeof out);
     WANT(written.status == 0 && is_hex(out, written.len, DUMP_A_4_5));
-    written = swimtab_offer(&node, true, out, sizeof out);
+    written = swimtab_offer(&node, true, SWIMTAB_CANONICAL, out, sizeof out);
     WANT(written.status == 0 && out[7] == 0xc3);
     out[7] = 0xc2;
     WANT(is_hex(out, written.len, DUMP_A_4_5));
@@ -96,13 +70,15 @@ static void dumps_are_canonical(void) {
 static void an_offer_is_answered_with_the_table_of_before(void) {
     swimtab_node node = opened("a", 7946, 0);
     struct bytes stream = hex(DUMP_B_1 "ffff"), reply = bytes_of_size(86, 7);
-    swimtab_exchanged made = swimtab_answer(&node, stream.at, stream.len, reply.at, 85);
-    WANT(made.status == SWIMTAB_TOO_SMALL && made.len == 86 && made.used == stream.len - 2 && !made.join);
+    swimtab_exchanged made = swimtab_answer(&node, stream.at, stream.len, SWIMTAB_CANONICAL, reply.at, 85);
+    WANT(made.status == SWIMTAB_TOO_SMALL && made.len == 86 && made.used == stream.len - 2);
+    WANT(!made.join && !made.news);
     WANT(reply.at[0] == 7 && memcmp(reply.at, reply.at + 1, 85) == 0 && lists(&node, LIST_A_0));
-    made = swimtab_answer(&node, stream.at, stream.len, NULL, 0);
+    made = swimtab_answer(&node, stream.at, stream.len, SWIMTAB_CANONICAL, NULL, 0);
     WANT(made.status == SWIMTAB_TOO_SMALL && made.len == 86 && lists(&node, LIST_A_0));
-    made = swimtab_answer(&node, stream.at, stream.len, reply.at, 86);
-    WANT(made.status == SWIMTAB_DONE && made.len == 86 && made.used == stream.len - 2 && !made.join);
+    made = swimtab_answer(&node, stream.at, stream.len, SWIMTAB_CANONICAL, reply.at, 86);
+    WANT(made.status == SWIMTAB_DONE && made.len == 86 && made.used == stream.len - 2);
+    WANT(!made.join && made.news);
     WANT(is_hex(reply.at, 86, DUMP_A_0));
     WANT(lists(&node, LIST_A_0 "b suspect 1 -\n"));
     free(stream.at), free(reply.at);
@@ -110,8 +86,9 @@ static void an_offer_is_answered_with_the_table_of_before(void) {
     joins[15] = '3';
     stream = hex(joins);
     reply = bytes_of_size(200, 7);
-    made = swimtab_answer(&node, stream.at, stream.len, reply.at, reply.len);
+    made = swimtab_answer(&node, stream.at, stream.len, SWIMTAB_CANONICAL, reply.at, reply.len);
     WANT(made.status == SWIMTAB_DONE && made.join && made.used == stream.len && reply.at[7] == 0xc3);
+    WANT(!made.news);
     free(stream.at), free(reply.at);
     WANT(swimtab_close(&node) == 0);
 }
@@ -121,14 +98,16 @@ static void a_reply_is_taken_in(void) {
     struct bytes stream = hex(DUMP_A_4_5 "00");
     swimtab_exchanged made = swimtab_finish(&node, stream.at, stream.len);
     WANT(made.status == SWIMTAB_DONE && made.used == stream.len - 1 && !made.join && made.len == 0);
-    WANT(lists(&node, "a suspect 5 4/7f000001/7947//\n"));
+    WANT(made.news && lists(&node, "a suspect 5 4/7f000001/7947//\n"));
+    made = swimtab_finish(&node, stream.at, stream.len);
+    WANT(made.status == SWIMTAB_DONE && made.used == stream.len - 1 && !made.news);
     made = swimtab_finish(&node, stream.at, stream.len - 2);
     WANT(made.status == SWIMTAB_ENDED);
     free(stream.at);
     /* two bytes of user state, which are dropped */
     stream = hex("0682a44a6f696ec3ac5573657253746174654c656e020102");
     made = swimtab_finish(&node, stream.at, stream.len);
-    WANT(made.status == SWIMTAB_DONE && made.used == stream.len && made.join);
+    WANT(made.status == SWIMTAB_DONE && made.used == stream.len && made.join && !made.news);
     free(stream.at);
     WANT(swimtab_close(&node) == 0);
 }
@@ -157,9 +136,17 @@ static void a_table_of_too_many_records_has_no_dump(void) {
     swimtab_exchanged made = swimtab_finish(&node, stream.at, stream.len);
     WANT(made.status == SWIMTAB_DONE && made.used == stream.len && swimtab_count(&node) == 131073);
     uint8_t out[16] = {7};
-    WANT(swimtab_offer(&node, false, out, sizeof out).status == SWIMTAB_TOO_MANY_RECORDS);
+    WANT(swimtab_offer(&node, false, SWIMTAB_CANONICAL, out, sizeof out).status == SWIMTAB_TOO_MANY_RECORDS);
     WANT(swimtab_dump(&node, out, sizeof out).len == 0);
-    made = swimtab_answer(&node, small.at, small.len, out, sizeof out);
+    swimtab_buffer buffer = SWIMTAB_BUFFER_INIT;
+    WANT(swimtab_offer_new(&node, false, SWIMTAB_CANONICAL, &buffer) == SWIMTAB_TOO_MANY_RECORDS);
+    made = swimtab_answer_new(&node, small.at, small.len, SWIMTAB_CANONICAL, &buffer);
+    WANT(made.status == SWIMTAB_TOO_MANY_RECORDS && !buffer.kept.held && buffer.at == NULL);
+    /* of the suspects no Alive is known, so the form for memberlist has the member alone */
+    WANT(swimtab_offer_new(&node, false, SWIMTAB_MEMBERLIST, &buffer) == SWIMTAB_DONE);
+    WANT(is_hex(buffer.at, buffer.len, DUMP_A_0));
+    swimtab_free(&buffer);
+    made = swimtab_answer(&node, small.at, small.len, SWIMTAB_CANONICAL, out, sizeof out);
     WANT(made.status == SWIMTAB_TOO_MANY_RECORDS && out[0] == 7);
     WANT(swimtab_count(&node) == 131073 && swimtab_find(&node, "b", 1, NULL) == SWIMTAB_NO_MEMBER);
     WANT(swimtab_find(&node, "131071", 6, NULL) == 0);
@@ -170,6 +157,7 @@ static void a_table_of_too_many_records_has_no_dump(void) {
 int main(void) {
     static const struct test tests[] = {
         {"what is no stream is refused", what_is_no_stream_is_refused},
+        {"forms that do not exist are refused", forms_that_do_not_exist_are_refused},
         {"dumps are canonical", dumps_are_canonical},
         {"an offer is answered with the table of before", an_offer_is_answered_with_the_table_of_before},
         {"a reply is taken in", a_reply_is_taken_in},

@@ -16,9 +16,9 @@ static void *use(void *given) {
         char name[16];
         snprintf(name, sizeof name, "m%u", (unsigned)(i % 50));
         swimtab_written written = swimtab_suspect(node, name, strlen(name), i, packet, sizeof packet);
-        *failed += written.status != 0 || swimtab_take(node, packet, written.len) != 0;
+        *failed += written.status != 0 || swimtab_take(node, packet, written.len).status != 0;
         written = swimtab_suspect(node, "self", 4, i, packet, sizeof packet);
-        *failed += written.status != 0 || swimtab_take(node, packet, written.len) != 0;
+        *failed += written.status != 0 || swimtab_take(node, packet, written.len).status != 0;
         swimtab_refuted refuted = swimtab_refute(node);
         *failed += refuted.status != 0 || !refuted.due || refuted.inc != i + 1;
     }

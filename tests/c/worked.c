@@ -66,8 +66,8 @@ static void take_lines(swimtab_node *node, const char *path) {
 
 static void exchange(swimtab_node *x, swimtab_node *y) {
     struct bytes offer = dump(x);
-    struct bytes reply = bytes_of_size(swimtab_answer(y, offer.at, offer.len, NULL, 0).len, 0);
-    swimtab_exchanged answered = swimtab_answer(y, offer.at, offer.len, reply.at, reply.len);
+    struct bytes reply = bytes_of_size(swimtab_answer(y, offer.at, offer.len, SWIMTAB_CANONICAL, NULL, 0).len, 0);
+    swimtab_exchanged answered = swimtab_answer(y, offer.at, offer.len, SWIMTAB_CANONICAL, reply.at, reply.len);
     WANT(answered.status == 0 && !answered.join && answered.used == offer.len && answered.len == reply.len);
     swimtab_exchanged finished = swimtab_finish(x, reply.at, reply.len);
     WANT(finished.status == 0 && !finished.join && finished.used == reply.len);
