@@ -6,45 +6,37 @@
 
 #include <stdio.h>
 #include <stdlib.h>
-#include <string.h>
 
-/* Ends the program where a call was refused. */
+/* Ends the program if a call was refused. */
 static void check(uint32_t status, const char *call) {
     if (status == SWIMTAB_DONE) return;
-    fprintf(stderr, "%s: %s\n", call, swimtab_fault_name(status));
+    fprintf(stderr, "%s: %s\n", call, swimtab_fault_text(status));
     exit(1);
 }
 
-/* Memory for bytes whose number a call with no buffer told. */
-static void *room(size_t len) {
-    void *made = malloc(len + 1);
-    if (made) return made;
-    fputs("out of memory\n", stderr);
-    exit(1);
+/* Takes a packet in. */
+static void hear(swimtab_node *node, const void *packet, size_t len) {
+    check(swimtab_take(node, packet, len).status, "take");
 }
 
-static void show(const char *title, swimtab_node *node) {
-    size_t len = swimtab_list(node, NULL, 0).len;
-    char *text = room(len);
-    check(swimtab_list(node, text, len).status, "list");
-    printf("%s, who knows of %zu:\n%.*s\n", title, swimtab_count(node), (int)len, text);
-    free(text);
+static void show(const char *title, const swimtab_node *node) {
+    swimtab_buffer text = SWIMTAB_BUFFER_INIT;
+    check(swimtab_list_new(node, &text), "list");
+    printf("%s, who knows of %zu:\n%.*s\n", title, swimtab_count(node), (int)text.len, (const char *)text.at);
+    swimtab_free(&text);
 }
 
 /* A whole exchange, as when `joining` joins at `other`. */
 static void exchange(swimtab_node *joining, swimtab_node *other) {
-    size_t offer_len = swimtab_offer(joining, true, SWIMTAB_CANONICAL, NULL, 0).len;
-    uint8_t *offer = room(offer_len);
-    check(swimtab_offer(joining, true, SWIMTAB_CANONICAL, offer, offer_len).status, "offer");
+    swimtab_buffer offer = SWIMTAB_BUFFER_INIT, reply = SWIMTAB_BUFFER_INIT;
+    check(swimtab_offer_new(joining, true, SWIMTAB_CANONICAL, &offer), "offer");
     /* .. over TCP, to the other member, who replies with what it knew before .. */
-    size_t reply_len = swimtab_answer(other, offer, offer_len, SWIMTAB_CANONICAL, NULL, 0).len;
-    uint8_t *reply = room(reply_len);
-    check(swimtab_answer(other, offer, offer_len, SWIMTAB_CANONICAL, reply, reply_len).status, "answer");
+    check(swimtab_answer_new(other, offer.at, offer.len, SWIMTAB_CANONICAL, &reply).status, "answer");
     /* .. and back */
-    check(swimtab_finish(joining, reply, reply_len).status, "finish");
-    printf("an exchange: %zu bytes offered, %zu in reply\n\n", offer_len, reply_len);
-    free(offer);
-    free(reply);
+    check(swimtab_finish(joining, reply.at, reply.len).status, "finish");
+    printf("an exchange: %zu bytes offered, %zu in reply\n\n", offer.len, reply.len);
+    swimtab_free(&offer);
+    swimtab_free(&reply);
 }
 
 int main(void) {
@@ -58,8 +50,8 @@ int main(void) {
     const uint8_t c_is_alive[] = "\x04\x85\xa4""Addr\xa4\x0a\x00\x00\x03\xab""Incarnation\x03"
                                  "\xa4Node\xa1""c\xa4Port\xcd\x1f\x0a\xa3Vsn\xa6\x01\x05\x02\x00\x00\x00";
     const uint8_t c_is_suspect[] = "\x03\x83\xa4""From\xa1""d\xab""Incarnation\x03\xa4Node\xa1""c";
-    check(swimtab_take(&a, c_is_alive, sizeof c_is_alive - 1), "take");
-    check(swimtab_take(&a, c_is_suspect, sizeof c_is_suspect - 1), "take");
+    hear(&a, c_is_alive, sizeof c_is_alive - 1);
+    hear(&a, c_is_suspect, sizeof c_is_suspect - 1);
     show("a", &a);
 
     exchange(&b, &a);
@@ -72,8 +64,8 @@ int main(void) {
     uint8_t packet[SWIMTAB_LONGEST_PACKET];
     swimtab_written suspicion = swimtab_suspect(&b, "a", 1, 1, packet, sizeof packet);
     check(suspicion.status, "suspect");
-    check(swimtab_take(&b, packet, suspicion.len), "take");
-    check(swimtab_take(&a, packet, suspicion.len), "take");
+    hear(&b, packet, suspicion.len);
+    hear(&a, packet, suspicion.len);
     show("b, who suspects a", &b);
 
     /* a refutes that, and says that it is alive */
@@ -82,7 +74,7 @@ int main(void) {
     if (refuted.due) {
         swimtab_written word = swimtab_alive(&a, refuted.inc, packet, sizeof packet);
         check(word.status, "alive");
-        check(swimtab_take(&b, packet, word.len), "take");
+        hear(&b, packet, word.len);
     }
     show("b, once a refuted it", &b);
 
@@ -95,7 +87,7 @@ int main(void) {
     const size_t lens[2] = {leave.len, death.len};
     swimtab_written last = swimtab_compound(both, leave.len + death.len, lens, 2, compound, sizeof compound);
     check(last.status, "compound");
-    check(swimtab_take(&a, compound, last.len), "take");
+    hear(&a, compound, last.len);
     show("a, at the end", &a);
 
     swimtab_close(&a);

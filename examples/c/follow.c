@@ -1,10 +1,13 @@
 /* Follows a cluster: takes packets in hexadecimal, one a line, from standard input as they come, and after
- * each prints a line for every member whose state or address changed, as `name state address:port`:
+ * each prints a line for every member that changed, as `name state address:port`, and `back` behind it if the
+ * member was dead or had left, and is heard of again:
  *
  *     tcpdump -l -nn -x -i eth0 udp port 7946 | gawk -f examples/payloads.awk | follow
  *
- * A checksum in front of a packet (0c and four bytes) is passed over, and so is a packet of another kind
- * than follow knows, as a ping; of any other that cannot be read there is a line on standard error.
+ * Packets are read as members send them, with checksums and compressed. Those of a cluster with a key are read
+ * if a file of its keys is given: `follow KEYS`. It has one key a line, in base64; a keyring in JSON, as Serf and
+ * Consul keep it, is not read. A packet without claims, as a ping, is passed over; without a key an encrypted one
+ * is passed over too. For any other that cannot be read there is a line on standard error.
  *
  *     cc follow.c $(pkg-config --cflags --libs swimtab) -o follow */
 #include <swimtab.h>
@@ -13,45 +16,16 @@
 #include <stdlib.h>
 #include <string.h>
 
-enum {
-    LONGEST_LINE = 2 * 65536 + 4,
-    BAD_HEX = 30 /* the number of this fault, which the library itself has no use for */
-};
+enum { LONGEST_LINE = 2 * 65536 + 4, LONGEST_MESSAGE = 1 << 20 };
 
-/* What was last seen of a member. */
-struct seen {
-    uint8_t *name;
-    size_t name_len;
-    uint32_t state;
-    uint16_t port;
-    uint8_t addr_len;
-    uint8_t addr[16];
-};
-
-/* All members that were seen, in the order in which the node has them. */
-struct seen_list {
-    struct seen *members;
-    size_t len, room;
-};
-
-/* The node that listens is a member of its own table; nobody else has this name. */
+/* The node that listens has a name that no member has. */
 static const char listener[] = "(follow)";
 
-static void *or_end(void *memory) {
-    if (memory) return memory;
-    fputs("follow: out of memory\n", stderr);
-    exit(5);
-}
-
-static void check(uint32_t status) {
-    if (status == SWIMTAB_MEMORY) or_end(NULL);
+/* Ends the program if a call was refused that has to be done. */
+static void check(uint32_t status, const char *what) {
     if (status == SWIMTAB_DONE) return;
-    fprintf(stderr, "follow: %s\n", swimtab_fault_name(status));
-    exit(3);
-}
-
-static bool is_listener(const swimtab_member_data *member) {
-    return member->name_len == sizeof listener - 1 && memcmp(member->name, listener, member->name_len) == 0;
+    fprintf(stderr, "follow: %s: %s\n", what, swimtab_fault_text(status));
+    exit(status == SWIMTAB_MEMORY ? 5 : 3);
 }
 
 /* Prints a member as a line, the name as the listing of swimtab has it. */
@@ -64,55 +38,19 @@ static void print_member(const swimtab_member_data *member) {
     printf(" %s ", states[member->state]);
     if (!member->has_home) {
         puts("-");
-    } else if (member->addr_len == 4) {
-        const uint8_t *a = member->addr;
-        printf("%u.%u.%u.%u:%u\n", a[0], a[1], a[2], a[3], member->port);
-    } else {
-        for (size_t i = 0; i < 16; i += 2) printf("%c%02x%02x", i ? ':' : '[', member->addr[i], member->addr[i + 1]);
-        printf("]:%u\n", member->port);
+        return;
     }
+    const uint8_t *a = member->addr;
+    if (member->addr_len == 4)
+        printf("%u.%u.%u.%u", a[0], a[1], a[2], a[3]);
+    else
+        for (size_t i = 0; i < 16; i += 2) printf(i < 14 ? "%c%02x%02x" : "%c%02x%02x]", i ? ':' : '[', a[i], a[i + 1]);
+    printf(":%u%s\n", member->port, member->came_back ? " back" : "");
 }
 
-/* Keeps a member as it is now, and says whether its state or address is another one than before. */
-static bool renew(struct seen *seen, const swimtab_member_data *member) {
-    bool same = seen->state == member->state && seen->port == member->port && seen->addr_len == member->addr_len &&
-                memcmp(seen->addr, member->addr, member->addr_len) == 0;
-    seen->state = member->state;
-    seen->port = member->port;
-    seen->addr_len = member->addr_len;
-    memcpy(seen->addr, member->addr, member->addr_len);
-    return !same;
-}
-
-/* Makes room at a place for a member that is new. */
-static void insert(struct seen_list *list, size_t place, const swimtab_member_data *member) {
-    if (list->len == list->room) {
-        list->room = 2 * list->room + 16;
-        list->members = or_end(realloc(list->members, list->room * sizeof *list->members));
-    }
-    struct seen *at = list->members + place;
-    memmove(at + 1, at, (list->len - place) * sizeof *at);
-    memset(at, 0, sizeof *at);
-    at->name_len = member->name_len;
-    at->name = or_end(malloc(member->name_len));
-    memcpy(at->name, member->name, member->name_len);
-    list->len++;
-}
-
-static bool has_name(const struct seen *seen, const swimtab_member_data *member) {
-    return seen->name_len == member->name_len && memcmp(seen->name, member->name, member->name_len) == 0;
-}
-
-/* Goes through the node's members and the list side by side: both are in the order of the names, and
- * a name that was seen stays. */
-static void print_changes(swimtab_node *node, struct seen_list *list) {
+static void print_changes(swimtab_node *node) {
     static swimtab_member_data member;
-    for (size_t i = 0; i < swimtab_count(node); i++) {
-        check(swimtab_member(node, i, &member));
-        bool is_new = i == list->len || !has_name(&list->members[i], &member);
-        if (is_new) insert(list, i, &member);
-        if ((renew(&list->members[i], &member) || is_new) && !is_listener(&member)) print_member(&member);
-    }
+    while (swimtab_next_change(node, &member) == SWIMTAB_DONE) print_member(&member);
     fflush(stdout);
 }
 
@@ -123,7 +61,7 @@ static int digit_of(char c) {
     return -1;
 }
 
-/* Reads a line of hexadecimal: the number of its bytes, or -1 where it is none. */
+/* Reads a line of hexadecimal: the number of its bytes, or -1 if it is none. */
 static long read_hex(const char *line, uint8_t *bytes) {
     size_t len = strcspn(line, "\r\n");
     if (len % 2) return -1;
@@ -135,30 +73,82 @@ static long read_hex(const char *line, uint8_t *bytes) {
     return (long)(len / 2);
 }
 
-/* Takes a line in, and says why not where that is worth a word. */
-static void take_line(swimtab_node *node, const char *line, unsigned long number) {
-    static uint8_t bytes[LONGEST_LINE];
-    long len = read_hex(line, bytes);
-    if (len == 0) return;
-    size_t skip = len > 5 && bytes[0] == 0x0c ? 5 : 0;
-    uint32_t status = len < 0 ? BAD_HEX : swimtab_take(node, bytes + skip, (size_t)len - skip);
-    if (status == SWIMTAB_MEMORY) or_end(NULL);
-    if (status != SWIMTAB_DONE && status != SWIMTAB_WRONG_TYPE)
-        fprintf(stderr, "follow: line %lu: %s\n", number, swimtab_fault_name(status));
+/* Takes a packet in as a member sent it. */
+static uint32_t take(swimtab_node *node, const swimtab_keyring *keys, const uint8_t *packet, size_t len) {
+    static uint8_t message[LONGEST_MESSAGE];
+    swimtab_written unwrapped = swimtab_unwrap(keys, packet, len, message, sizeof message);
+    if (unwrapped.status != SWIMTAB_DONE) return unwrapped.status;
+    return swimtab_take(node, message, unwrapped.len).status;
 }
 
-int main(void) {
+/* Takes a line in, and says why not unless it is a packet without claims. */
+static void take_line(swimtab_node *node, const swimtab_keyring *keys, const char *line, unsigned long number) {
+    static uint8_t packet[LONGEST_LINE];
+    long len = read_hex(line, packet);
+    if (len == 0) return;
+    if (len < 0) {
+        fprintf(stderr, "follow: line %lu: This is not hexadecimal.\n", number);
+        return;
+    }
+    uint32_t status = take(node, keys, packet, (size_t)len);
+    if (status == SWIMTAB_MEMORY) check(status, "take");
+    if (status != SWIMTAB_DONE && status != SWIMTAB_WRONG_TYPE)
+        fprintf(stderr, "follow: line %lu: %s\n", number, swimtab_fault_text(status));
+}
+
+/* Reads base64 with its padding, four characters at a time: the number of bytes, or 0 if it is none. */
+static size_t read_base64(const char *text, size_t len, uint8_t *bytes) {
+    static const char digits[] = "ABCDEFGHIJKLMNOPQRSTUVWXYZabcdefghijklmnopqrstuvwxyz0123456789+/";
+    size_t padding = 0, made = 0;
+    uint32_t bits = 0;
+    if (len == 0 || len % 4) return 0;
+    if (text[len - 1] == '=') padding = text[len - 2] == '=' ? 2 : 1;
+    for (size_t i = 0; i < len; i++) {
+        const char *digit = i < len - padding ? memchr(digits, text[i], 64) : digits;
+        if (!digit) return 0;
+        bits = bits << 6 | (uint32_t)(digit - digits);
+        if (i % 4 != 3) continue;
+        for (int shift = 16; shift >= 0; shift -= 8) bytes[made++] = (uint8_t)(bits >> shift);
+        bits = 0;
+    }
+    return made - padding;
+}
+
+/* Adds the keys of a file, one a line. */
+static void add_keys(swimtab_keyring *keys, const char *path) {
+    char line[80];
+    uint8_t key[60];
+    FILE *file = fopen(path, "r");
+    if (!file) {
+        perror(path);
+        exit(4);
+    }
+    for (unsigned long number = 1; fgets(line, sizeof line, file); number++) {
+        size_t len = strcspn(line, "\r\n");
+        uint32_t status = len ? swimtab_keyring_add(keys, key, read_base64(line, len, key)) : SWIMTAB_DONE;
+        if (status != SWIMTAB_DONE) fprintf(stderr, "follow: %s: line %lu\n", path, number);
+        check(status, "keys");
+    }
+    fclose(file);
+}
+
+int main(int argc, char **argv) {
     static char line[LONGEST_LINE];
     const uint8_t nowhere[4] = {0, 0, 0, 0};
     swimtab_node node = SWIMTAB_NODE_INIT;
-    struct seen_list list = {NULL, 0, 0};
-    check(swimtab_open(&node, listener, sizeof listener - 1, nowhere, 4, 0, NULL, 0, NULL, 0, 0));
-    for (unsigned long number = 1; fgets(line, sizeof line, stdin); number++) {
-        take_line(&node, line, number);
-        print_changes(&node, &list);
+    swimtab_keyring keys = SWIMTAB_KEYRING_INIT;
+    if (argc > 2) {
+        fputs("usage: follow [KEYS] < PACKETS\nKEYS has one key a line in base64, and no JSON.\n", stderr);
+        return 2;
     }
-    for (size_t i = 0; i < list.len; i++) free(list.members[i].name);
-    free(list.members);
+    if (argc == 2) add_keys(&keys, argv[1]);
+    check(swimtab_open(&node, listener, sizeof listener - 1, nowhere, 4, 0, NULL, 0, NULL, 0, 0), "open");
+    check(swimtab_watch(&node, true), "watch");
+    for (unsigned long number = 1; fgets(line, sizeof line, stdin); number++) {
+        take_line(&node, &keys, line, number);
+        print_changes(&node);
+    }
     swimtab_close(&node);
+    swimtab_keyring_close(&keys);
     return ferror(stdin) ? 4 : 0;
 }

@@ -6,6 +6,16 @@
 
 namespace {
 
+// Bytes of the library, freed with the object.
+struct Bytes {
+    Bytes() : buffer(SWIMTAB_BUFFER_INIT) {}
+    ~Bytes() { swimtab_free(&buffer); }
+    Bytes(const Bytes &) = delete;
+    Bytes &operator=(const Bytes &) = delete;
+
+    swimtab_buffer buffer;
+};
+
 class Node {
 public:
     Node(const std::string &name, uint16_t port) : handle_(SWIMTAB_NODE_INIT) {
@@ -18,11 +28,17 @@ public:
     Node &operator=(const Node &) = delete;
 
     uint32_t status() const { return status_; }
-    uint32_t take(const std::string &packet) { return swimtab_take(&handle_, packet.data(), packet.size()).status; }
-    std::string list() {
-        std::string text(swimtab_list(&handle_, nullptr, 0).len, ' ');
-        swimtab_list(&handle_, &text[0], text.size());
-        return text;
+    swimtab_taken take(const std::string &packet) { return swimtab_take(&handle_, packet.data(), packet.size()); }
+    bool join(const Node &other) {
+        Bytes offer;
+        if (swimtab_offer_new(&other.handle_, true, SWIMTAB_CANONICAL, &offer.buffer) != SWIMTAB_DONE) return false;
+        swimtab_exchanged made = swimtab_finish(&handle_, offer.buffer.at, offer.buffer.len);
+        return made.status == SWIMTAB_DONE && made.join && made.news;
+    }
+    std::string list() const {
+        Bytes text;
+        if (swimtab_list_new(&handle_, &text.buffer) != SWIMTAB_DONE) return std::string();
+        return std::string(text.buffer.at, text.buffer.at + text.buffer.len);
     }
     std::string suspicion(const std::string &name, uint32_t inc) {
         std::string packet(SWIMTAB_LONGEST_PACKET, ' ');
@@ -41,9 +57,12 @@ private:
 
 int main() {
     Node a("a", 1), b("b", 2), none("", 3);
-    bool fine = a.status() == SWIMTAB_DONE && none.status() == SWIMTAB_NAME_EMPTY && none.list().empty();
-    fine = fine && b.take(a.suspicion("b", 4)) == SWIMTAB_DONE && b.take("\x09") == SWIMTAB_WRONG_TYPE;
+    bool fine = swimtab_version() == SWIMTAB_VERSION_NUMBER;
+    fine = fine && a.status() == SWIMTAB_DONE && none.status() == SWIMTAB_NAME_EMPTY && none.list().empty();
+    const std::string suspicion = a.suspicion("b", 4);
+    fine = fine && b.take(suspicion).news && !b.take(suspicion).news && b.take("\x09").status == SWIMTAB_WRONG_TYPE;
     fine = fine && b.list() == "b suspect 4 0/7f000001/2//\n" && a.list() == "a alive 0 0/7f000001/1//\n";
+    fine = fine && a.join(b) && a.list() == "a alive 0 0/7f000001/1//\nb suspect 4 0/7f000001/2//\n";
     std::puts(fine ? "1 passed, 0 failed" : "0 passed, 1 failed");
     return fine ? 0 : 1;
 }

@@ -88,8 +88,9 @@ static size_t name_of(unsigned number, uint8_t *name) {
 
 static struct claim any_claim(void) {
     static const uint32_t incs[] = {0, 1, 2, 3, 127, 128, 255, 256, 65536, UINT32_MAX - 1, UINT32_MAX};
-    /* half of the claims are Alives, and a death is seldom, since it is final */
-    unsigned kind = any(16) < 8 ? SWIMTAB_ALIVE : any(8) < 6 ? SWIMTAB_SUSPECT : SWIMTAB_CONFIRM + any(2);
+    /* a death is final, and therefore seldom */
+    unsigned dice = any(64);
+    unsigned kind = dice == 0 ? SWIMTAB_CONFIRM + any(2) : dice < 36 ? SWIMTAB_ALIVE : SWIMTAB_SUSPECT;
     struct claim made = {kind, incs[any(8) ? any(5) : any(11)], any(NAMES), any(8)};
     return made;
 }
