@@ -38,6 +38,7 @@ void __wrap_free(void *at) {
 enum { ROOM = 1 << 14 };
 
 static swimtab_node first, second;
+static swimtab_keyring keyring;
 static swimtab_buffer buffer;
 static uint8_t offer[ROOM], reply[ROOM], out[ROOM];
 static size_t offer_len, reply_len;
@@ -115,6 +116,36 @@ static uint32_t answer_second(void) {
 static uint32_t say_alive_of(void) {
     return kept(swimtab_alive_of(long_name, 40, local, 4, 1, meta, sizeof meta, NULL, 0, 9, out, ROOM));
 }
+/* Two keys, and a suspicion, sealed and unwrapped again. */
+static const uint8_t keys[2][32] = {{1, 2, 3}, {4, 5}};
+static uint8_t sealed[256], unwrapped[256];
+static size_t sealed_len, unwrapped_len;
+
+static uint32_t add_key(void) { return swimtab_keyring_add(&keyring, keys[0], 32); }
+static uint32_t add_another_key(void) { return swimtab_keyring_add(&keyring, keys[1], 16); }
+static uint32_t seal(void) {
+    static const uint8_t message[] = "\x03\x82\xabIncarnation\x01\xa4Node\xa1y", nonce[SWIMTAB_NONCE] = {9};
+    uint32_t status = kept(swimtab_seal(&keyring, nonce, "dc", 2, message, sizeof message - 1, out, ROOM));
+    memcpy(sealed, out, out_len);
+    sealed_len = out_len;
+    return status;
+}
+static uint32_t unwrap(void) {
+    uint32_t status = kept(swimtab_unwrap(&keyring, sealed, sealed_len, out, ROOM));
+    memcpy(unwrapped, out, out_len);
+    unwrapped_len = out_len;
+    return status;
+}
+static uint32_t take_unwrapped(void) { return swimtab_take(&second, unwrapped, unwrapped_len).status; }
+/* an Alive that was compressed, with its checksum */
+static uint32_t unwrap_compressed(void) {
+    static const uint8_t packet[] =
+        "\x0c\xaa\x79\x8b\x02\x09\x82\xa4\x41\x6c\x67\x6f\x00\xa3\x42\x75\x66\xda\x00\x3c\x00\x09\x18\x22\x15"
+        "\x84\x0c\x19\x39\xa4\xfe\x00\x00\x10\x60\x55\x12\x37\x63\xc2\xc8\x71\x13\x86\x4e\x9a\x37\x6e\x00\x90"
+        "\x6a\x52\x86\x4e\x18\x50\xa4\x9c\xbc\x21\x53\x26\x54\x18\x52\x50\xde\xc8\xa1\xd3\xec\x83\x82\x51\x56"
+        "\xe6\xb8\x01\x15\x10";
+    return kept(swimtab_unwrap(NULL, packet, sizeof packet - 1, out, ROOM));
+}
 static uint32_t list_new(void) { return swimtab_list_new(&first, &buffer); }
 static uint32_t offer_new(void) { return swimtab_offer_new(&first, true, SWIMTAB_MEMBERLIST, &buffer); }
 static uint32_t offer_new_again(void) { return swimtab_offer_new(&first, true, SWIMTAB_CANONICAL, &buffer); }
@@ -131,10 +162,11 @@ static uint32_t finish_first(void) { return swimtab_finish(&first, reply, reply_
 static uint32_t refute_second(void) { return swimtab_refute(&second).status; }
 
 static uint32_t (*const calls[])(void) = {
-    open_first,      watch_first,   open_second,   take_alive,    take_known, take_compound,        suspect_second,
-    say_alive,       say_alive_of,  say_suspect,   say_confirm,   say_leave,  say_compound,         list_first,
-    list_new,        offer_new,     offer_first,   watch_second,  refute_second, suspect_second_again,
-    offer_new_again, whole_offer,   answer_second, answer_new,    finish_first, refute_second,      forget_d,
+    open_first,    watch_first,    open_second,       take_alive,   take_known,    take_compound, suspect_second,
+    say_alive,     say_alive_of,   say_suspect,       say_confirm,  say_leave,     say_compound,  list_first,
+    list_new,      offer_new,      offer_first,       watch_second, add_key,       seal,          add_another_key,
+    unwrap,        take_unwrapped, unwrap_compressed, refute_second, suspect_second_again,        offer_new_again,
+    whole_offer,   answer_second,  answer_new,        finish_first, refute_second, forget_d,
 };
 
 enum { CALLS = sizeof calls / sizeof *calls };
@@ -169,7 +201,7 @@ static bool make(uint32_t (*call)(void)) {
 }
 
 static void close_all(void) {
-    swimtab_close(&first), swimtab_close(&second), swimtab_free(&buffer);
+    swimtab_close(&first), swimtab_close(&second), swimtab_free(&buffer), swimtab_keyring_close(&keyring);
     WANT(held == 0);
 }
 
