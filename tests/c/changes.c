@@ -40,7 +40,7 @@ static void nothing_is_noted_without_a_watch(void) {
     WANT(swimtab_watch(&node, true) == SWIMTAB_DONE && tells_nothing(&node));
     /* a watch that begins again begins with none */
     WANT(has_news(&node, CONFIRM_A_5) && swimtab_watch(&node, true) == SWIMTAB_DONE && tells_nothing(&node));
-    WANT(has_news(&node, LEAVE_A_0) == false && tells_nothing(&node));
+    WANT(!has_news(&node, LEAVE_A_0) && tells_nothing(&node));
     WANT(swimtab_close(&node) == SWIMTAB_DONE);
     /* and so does a handle that is opened again */
     node = opened("a", 7946, 0);
@@ -190,7 +190,8 @@ static void the_own_name_is_forgotten_too(void) {
 static void forgetting_is_no_change_that_is_told(void) {
     swimtab_node node = watched();
     WANT(has_news(&node, SUSPECT_A_5) && has_news(&node, SUSPECT_B_1) && tells(&node, 'a', SWIMTAB_SUSPECT, 5));
-    WANT(swimtab_forget(&node, "a", 1) == SWIMTAB_DONE && tells(&node, 'b', SWIMTAB_SUSPECT, 1) && tells_nothing(&node));
+    WANT(swimtab_forget(&node, "a", 1) == SWIMTAB_DONE);
+    WANT(tells(&node, 'b', SWIMTAB_SUSPECT, 1) && tells_nothing(&node));
     /* a name that was noted and then forgotten is no member, and the others are told all the same */
     WANT(has_news(&node, SUSPECT_A_5) && has_news(&node, CONFIRM_B_2));
     WANT(swimtab_forget(&node, "a", 1) == SWIMTAB_DONE);
