@@ -2,7 +2,9 @@ package swimtab
 
 import (
 	"bytes"
+	"encoding/hex"
 	"errors"
+	"fmt"
 	"net/netip"
 	"strings"
 	"sync"
@@ -45,40 +47,100 @@ func refused(t *testing.T, err error, wanted Error) {
 	}
 }
 
+func takes(t *testing.T, node *Node, packet []byte, news bool) {
+	t.Helper()
+	if told, err := node.Take(packet); told != news || err != nil {
+		t.Errorf("%x: %v %v", packet, told, err)
+	}
+}
+
+// unhex is the bytes of hexadecimal.
+func unhex(text string) []byte {
+	bytes, err := hex.DecodeString(text)
+	if err != nil {
+		panic(err)
+	}
+	return bytes
+}
+
+// same sees that bytes are those that are wanted.
+func same(t *testing.T) func(got []byte, err error) func(wanted string) {
+	return func(got []byte, err error) func(wanted string) {
+		return func(wanted string) {
+			t.Helper()
+			if err != nil || string(got) != wanted {
+				t.Errorf("%v: %x, wanted %x", err, got, wanted)
+			}
+		}
+	}
+}
+
+func TestTheVersionIsThatOfTheHeader(t *testing.T) {
+	if version := Version(); version != "0.2.0" {
+		t.Error(version)
+	}
+}
+
+func TestFaultsHaveNamesAndTexts(t *testing.T) {
+	seen := map[string]bool{}
+	for fault := Error(1); fault <= ErrBadForm; fault++ {
+		told := fault.Name() != "Unknown" && !strings.HasSuffix(fault.Error(), "no such status")
+		if told && seen[fault.Error()] {
+			t.Error(fault)
+		}
+		seen[fault.Error()] = true
+	}
+	for fault, text := range map[Error]string{
+		ErrEnded:          "swimtab: fault 1 Ended: the bytes end too soon",
+		ErrMemory:         "swimtab: fault 10 Memory: out of memory",
+		ErrCipherTrailing: "swimtab: fault 57 Trailing: there are bytes after what is encrypted",
+		ErrBadForm:        "swimtab: fault 70 BadForm: there is no such form of a stream",
+	} {
+		if fault.Error() != text {
+			t.Error(fault)
+		}
+	}
+	if !errors.Is(fmt.Errorf("a packet: %w", ErrWrongTag), ErrWrongTag) || errors.Is(ErrWrongTag, ErrEnded) {
+		t.Error(ErrWrongTag)
+	}
+}
+
 func TestOpeningsAreRefused(t *testing.T) {
 	_, err := Open("", details(1), 0)
-	refused(t, err, NameEmpty)
+	refused(t, err, ErrNameEmpty)
 	_, err = Open(strings.Repeat("n", 1025), details(1), 0)
-	refused(t, err, NameTooLong)
+	refused(t, err, ErrNameTooLong)
 	_, err = Open("a", Details{}, 0)
-	refused(t, err, BadAddress)
+	refused(t, err, ErrBadAddress)
 	long := details(1)
 	long.Meta = make([]byte, 513)
 	_, err = Open("a", long, 0)
-	refused(t, err, MetaTooLong)
+	refused(t, err, ErrMetaTooLong)
 	long.Meta, long.Versions = nil, make([]byte, 5)
 	_, err = Open("a", long, 0)
-	refused(t, err, BadVersions)
-	if text := err.Error(); text != "swimtab: fault 15 BadVersions" {
+	refused(t, err, ErrBadVersions)
+	if text := err.Error(); text != "swimtab: fault 15 BadVersions: the versions have neither none nor 6 bytes" {
 		t.Error(text)
 	}
 }
 
 func TestPacketsAreTakenInOrRefused(t *testing.T) {
 	a, b := opened(t, "a", 1), opened(t, "b", 2)
-	if err := a.Take(must[[]byte](t)(b.Alive(3))); err != nil {
-		t.Fatal(err)
-	}
+	takes(t, a, must[[]byte](t)(b.Alive(3)), true)
+	takes(t, a, must[[]byte](t)(b.Alive(3)), false)
+	takes(t, a, must[[]byte](t)(b.Suspect("b", 2)), false)
 	wanted := "a alive 0 0/7f000001/7946/6d/010502000000\nb alive 3 3/7f000002/7946/6d/010502000000\n"
 	if text := must[string](t)(a.List()); text != wanted {
 		t.Error(text)
 	}
-	refused(t, a.Take(nil), Ended)
-	refused(t, a.Take([]byte{9}), WrongType)
-	_, err := a.Suspect("", 1)
-	refused(t, err, NameEmpty)
+	_, err := a.Take(nil)
+	refused(t, err, ErrEnded)
+	_, err = a.Take([]byte{9})
+	refused(t, err, ErrWrongType)
+	_, err = a.Suspect("", 1)
+	refused(t, err, ErrNameEmpty)
 	_, err = a.Confirm("a", 1)
-	refused(t, err, OwnName)
+	refused(t, err, ErrOwnName)
 }
 
 func TestASuspicionIsRefuted(t *testing.T) {
@@ -86,26 +148,24 @@ func TestASuspicionIsRefuted(t *testing.T) {
 	if _, due, err := a.Refute(); due || err != nil {
 		t.Error(due, err)
 	}
-	a.Take(must[[]byte](t)(b.Suspect("a", 6)))
+	takes(t, a, must[[]byte](t)(b.Suspect("a", 6)), true)
 	if inc, due, err := a.Refute(); inc != 7 || !due || err != nil {
 		t.Error(inc, due, err)
 	}
-	b.Take(must[[]byte](t)(a.Alive(7)))
+	takes(t, b, must[[]byte](t)(a.Alive(7)), true)
 	if known := must[Member](t)(b.Find("a")); known.State != Alive || known.Incarnation != 7 {
 		t.Error(known)
 	}
-	a.Take(must[[]byte](t)(b.Confirm("a", 1)))
+	takes(t, a, must[[]byte](t)(b.Confirm("a", 7)), true)
 	_, _, err := a.Refute()
-	refused(t, err, Gone)
+	refused(t, err, ErrGone)
 }
 
 func TestMembersComeInTheOrderOfTheirNames(t *testing.T) {
 	a := opened(t, "m", 1)
 	compound := must[[]byte](t)(Compound(must[[]byte](t)(a.Suspect("z", 4)),
 		must[[]byte](t)(opened(t, "c", 9).Alive(2)), must[[]byte](t)(opened(t, "d", 8).Leave(5))))
-	if err := a.Take(compound); err != nil {
-		t.Fatal(err)
-	}
+	takes(t, a, compound, true)
 	members := a.Members()
 	if len(members) != 4 || a.Len() != 4 {
 		t.Fatal(members)
@@ -127,37 +187,11 @@ func TestMembersComeInTheOrderOfTheirNames(t *testing.T) {
 		t.Error(at)
 	}
 	_, err := a.At(4)
-	refused(t, err, NoMember)
+	refused(t, err, ErrNoMember)
 	_, err = a.At(-1)
-	refused(t, err, NoMember)
+	refused(t, err, ErrNoMember)
 	_, err = a.Find("none")
-	refused(t, err, NoMember)
-}
-
-func TestAnExchangeLevelsTwoMembers(t *testing.T) {
-	a, b := opened(t, "a", 1), opened(t, "b", 2)
-	relates := func(wanted Relation) {
-		t.Helper()
-		if relation := must[Relation](t)(a.Relation(b)); relation != wanted {
-			t.Error(relation)
-		}
-	}
-	relates(Apart)
-	offer := must[[]byte](t)(a.Offer(true))
-	_, _, err := b.Answer(offer[:len(offer)-1])
-	refused(t, err, Ended)
-	reply, taken, err := b.Answer(offer)
-	if err != nil || !taken.Join || taken.Used != len(offer) {
-		t.Fatal(taken, err)
-	}
-	relates(Behind)
-	if taken := must[Taken](t)(a.Finish(reply)); taken.Used != len(reply) {
-		t.Error(taken)
-	}
-	relates(Equal)
-	if relation := must[Relation](t)(a.Relation(a)); relation != Equal {
-		t.Error(relation)
-	}
+	refused(t, err, ErrNoMember)
 }
 
 func TestACompoundPacketHas255PacketsAtMost(t *testing.T) {
@@ -167,7 +201,7 @@ func TestACompoundPacketHas255PacketsAtMost(t *testing.T) {
 		many[i] = packet
 	}
 	_, err := Compound(many...)
-	refused(t, err, TooManyPackets)
+	refused(t, err, ErrTooManyPackets)
 	if compound := must[[]byte](t)(Compound(many[:255]...)); len(compound) != 2+255*(len(packet)+2) {
 		t.Error(len(compound))
 	}
@@ -180,11 +214,14 @@ func TestAClosedNodeHasNoNode(t *testing.T) {
 	a, b := opened(t, "a", 1), opened(t, "b", 1)
 	a.Close()
 	a.Close()
-	refused(t, a.Take(nil), NoNode)
-	_, err := a.Offer(false)
-	refused(t, err, NoNode)
+	_, err := a.Take(nil)
+	refused(t, err, ErrNoNode)
+	_, err = a.Offer(false, Canonical)
+	refused(t, err, ErrNoNode)
+	refused(t, a.Forget("a"), ErrNoNode)
+	refused(t, a.Watch(true), ErrNoNode)
 	_, err = b.Relation(a)
-	refused(t, err, NoNode)
+	refused(t, err, ErrNoNode)
 	if a.Len() != 0 || len(a.Members()) != 0 {
 		t.Error(a.Len())
 	}
@@ -199,7 +236,10 @@ func TestGoroutinesShareANode(t *testing.T) {
 			defer group.Done()
 			for inc := uint32(1); inc < 100; inc++ {
 				packet, err := one.Suspect("c", inc)
-				if err != nil || other.Take(packet) != nil {
+				if err != nil {
+					t.Error(err)
+				}
+				if _, err := other.Take(packet); err != nil {
 					t.Error(err)
 				}
 				if _, err := one.Relation(other); err != nil {
@@ -211,5 +251,59 @@ func TestGoroutinesShareANode(t *testing.T) {
 	group.Wait()
 	if known := must[Member](t)(a.Find("c")); known.Incarnation != 99 {
 		t.Error(known)
+	}
+}
+
+// A member of a cluster as a program may have it: bytes stand beside pointers.
+type connection struct {
+	node   *Node
+	others []*connection
+	length int
+	bytes  [256]byte
+	key    [32]byte
+}
+
+func (c *connection) hears(bytes []byte) []byte {
+	c.length = copy(c.bytes[:], bytes)
+	return c.bytes[:c.length]
+}
+
+// cgo panics if it finds a pointer of Go in what is given to C, and looks beyond a slice if it is not told.
+func TestBytesMayStandBesidePointers(t *testing.T) {
+	c := &connection{node: opened(t, "a", 1), others: []*connection{{}}}
+	b := opened(t, "b", 2)
+	takes(t, c.node, c.hears(must[[]byte](t)(b.Alive(3))), true)
+	used := must[Taken](t)(c.node.Finish(c.hears(must[[]byte](t)(b.Offer(false, Canonical))))).Used
+	if used != c.length {
+		t.Error(used)
+	}
+	_, taken, err := c.node.Answer(c.hears(must[[]byte](t)(b.Offer(true, Canonical))), Canonical)
+	if err != nil || !taken.Join {
+		t.Error(err)
+	}
+	if _, whole, err := new(Progress).Whole(c.bytes[:c.length]); !whole || err != nil {
+		t.Error(err)
+	}
+	must[[]byte](t)(Compound(c.hears(must[[]byte](t)(b.Alive(3)))))
+	keyring := must[*Keyring](t)(NewKeyring(c.key[:]))
+	packet := must[[]byte](t)(keyring.Unwrap(c.hears(must[[]byte](t)(keyring.Seal("", c.bytes[:c.length])))))
+	takes(t, c.node, packet, false)
+	details := Details{Addr: details(1).Addr, Meta: c.bytes[:1], Versions: c.key[:6]}
+	must[[]byte](t)(AliveOf("c", details, 1))
+	must[*Node](t)(Open("c", details, 1)).Close()
+}
+
+func TestAnotherMembersAliveIsWritten(t *testing.T) {
+	details := Details{Addr: netip.AddrFrom4([4]byte{127, 0, 0, 1}), Port: 7947}
+	same(t)(AliveOf("a", details, 4))("\x04\x86\xa4Addr\xa4\x7f\x00\x00\x01\xabIncarnation\x04\xa4Meta\xa0" +
+		"\xa4Node\xa1a\xa4Port\xcd\x1f\x0b\xa3Vsn\xa0")
+	_, err := AliveOf("", details, 4)
+	refused(t, err, ErrNameEmpty)
+	_, err = AliveOf("a", Details{}, 4)
+	refused(t, err, ErrBadAddress)
+	long := strings.Repeat("n", 1024)
+	details.Meta = make([]byte, 512)
+	if packet := must[[]byte](t)(AliveOf(long, details, 1<<32-1)); len(packet) > longest {
+		t.Error(len(packet))
 	}
 }

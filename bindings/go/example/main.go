@@ -22,6 +22,12 @@ func check(err error) {
 	}
 }
 
+// hears takes a packet in.
+func hears(node *swimtab.Node, packet []byte) {
+	_, err := node.Take(packet)
+	check(err)
+}
+
 // sent is what a call wrote, once it is sure that it was not refused.
 func sent(bytes []byte, err error) []byte {
 	check(err)
@@ -35,11 +41,11 @@ func main() {
 	defer c.Close()
 
 	// a hears that c is alive, and then suspects it
-	check(a.Take(sent(c.Alive(4))))
-	check(a.Take(sent(a.Suspect("c", 4))))
+	hears(a, sent(c.Alive(4)))
+	hears(a, sent(a.Suspect("c", 4)))
 
 	// b joins at a: what it offers goes out over TCP, and what a replies comes back
-	reply, _, err := a.Answer(sent(b.Offer(true)))
+	reply, _, err := a.Answer(sent(b.Offer(true, swimtab.MemberlistForm)), swimtab.MemberlistForm)
 	check(err)
 	_, err = b.Finish(reply)
 	check(err)
@@ -49,11 +55,11 @@ func main() {
 	}
 
 	// b suspects a, which refutes it
-	check(a.Take(sent(b.Suspect("a", 1))))
+	hears(a, sent(b.Suspect("a", 1)))
 	incarnation, due, err := a.Refute()
 	check(err)
 	if due {
-		check(b.Take(sent(a.Alive(incarnation))))
+		hears(b, sent(a.Alive(incarnation)))
 	}
 	known, err := b.Find("a")
 	check(err)

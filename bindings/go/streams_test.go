@@ -1,0 +1,106 @@
+package swimtab
+
+import (
+	"strings"
+	"testing"
+)
+
+func TestAnExchangeLevelsTwoMembers(t *testing.T) {
+	a, b := opened(t, "a", 1), opened(t, "b", 2)
+	relates := func(wanted Relation) {
+		t.Helper()
+		if relation := must[Relation](t)(a.Relation(b)); relation != wanted {
+			t.Error(relation)
+		}
+	}
+	relates(Apart)
+	offer := must[[]byte](t)(a.Offer(true, Canonical))
+	_, _, err := b.Answer(offer[:len(offer)-1], Canonical)
+	refused(t, err, ErrEnded)
+	reply, taken, err := b.Answer(offer, Canonical)
+	if err != nil || !taken.Join || !taken.News || taken.Used != len(offer) {
+		t.Fatal(taken, err)
+	}
+	relates(Behind)
+	if taken := must[Taken](t)(a.Finish(reply)); taken.Used != len(reply) || !taken.News || !taken.Join {
+		t.Error(taken)
+	}
+	relates(Equal)
+	if taken := must[Taken](t)(a.Finish(reply)); taken.News {
+		t.Error(taken)
+	}
+	if relation := must[Relation](t)(a.Relation(a)); relation != Equal {
+		t.Error(relation)
+	}
+}
+
+// header is that of a stream of so many records.
+func header(join, records byte) string {
+	return "\x06\x83\xa4Join" + string([]byte{join}) + "\xa5Nodes" + string([]byte{records}) + "\xacUserStateLen\x00"
+}
+
+// record is one with the details of 127.0.0.last.
+func record(name string, inc, state, last byte) string {
+	return "\x87\xa4Addr\xa4\x7f\x00\x00" + string([]byte{last}) + "\xabIncarnation" + string([]byte{inc}) +
+		"\xa4Meta\xa1m\xa4Name\xa1" + name + "\xa4Port\xcd\x1f\x0a\xa5State" + string([]byte{state}) +
+		"\xa3Vsn\xa6\x01\x05\x02\x00\x00\x00"
+}
+
+// bare is one without details.
+func bare(name string, inc, state byte) string {
+	return "\x87\xa4Addr\xa0\xabIncarnation" + string([]byte{inc}) + "\xa4Meta\xa0\xa4Name\xa1" + name +
+		"\xa4Port\x00\xa5State" + string([]byte{state}) + "\xa3Vsn\xa0"
+}
+
+func TestStreamsHaveTwoForms(t *testing.T) {
+	a, b := opened(t, "a", 1), opened(t, "b", 2)
+	takes(t, a, must[[]byte](t)(b.Alive(3)), true)
+	takes(t, a, must[[]byte](t)(a.Suspect("b", 3)), true)
+	takes(t, a, must[[]byte](t)(a.Suspect("z", 4)), true)
+	all := record("a", 0, 0, 1) + record("b", 3, 0, 2) + bare("b", 3, 1) + bare("z", 4, 1)
+	merged := record("a", 0, 0, 1) + record("b", 3, 0, 2) + record("b", 3, 1, 2)
+	same(t)(a.Offer(true, Canonical))(header(0xc3, 4) + all)
+	same(t)(a.Dump())(header(0xc2, 4) + all)
+	same(t)(a.Offer(true, MemberlistForm))(header(0xc3, 3) + merged)
+	_, err := a.Offer(true, 2)
+	refused(t, err, ErrBadForm)
+	none := header(0xc2, 0)
+	_, _, err = a.Answer([]byte(none), 2)
+	refused(t, err, ErrBadForm)
+	reply, taken, err := a.Answer([]byte(none+"behind"), MemberlistForm)
+	if taken.Join || taken.News || taken.Used != len(none) {
+		t.Error(taken)
+	}
+	same(t)(reply, err)(header(0xc2, 3) + merged)
+}
+
+func TestAStreamComesInPieces(t *testing.T) {
+	stream := header(0xc2, 2) + record("a", 0, 0, 1) + bare("b", 3, 1)
+	with := strings.Replace(stream, "UserStateLen\x00", "UserStateLen\x02", 1) + "us"
+	for _, stream := range []string{stream, with} {
+		var progress Progress
+		for i := 0; i < len(stream); i++ {
+			if used, whole, err := progress.Whole([]byte(stream[:i])); used != 0 || whole || err != nil {
+				t.Fatal(i, used, whole, err)
+			}
+		}
+		used, whole, err := progress.Whole([]byte(stream + "behind"))
+		if used != len(stream) || !whole || err != nil {
+			t.Error(used, whole, err)
+		}
+	}
+	_, _, err := new(Progress).Whole([]byte{3})
+	refused(t, err, ErrWrongType)
+	_, _, err = new(Progress).Whole([]byte{6, 0xc0})
+	refused(t, err, ErrNotMap)
+}
+
+func TestTheListingMayBeLong(t *testing.T) {
+	a := opened(t, "a", 1)
+	for i := byte('b'); i <= 'z'; i++ {
+		takes(t, a, must[[]byte](t)(a.Suspect(strings.Repeat(string([]byte{i}), 1000), 1)), true)
+	}
+	if text := must[string](t)(a.List()); strings.Count(text, "\n") != 26 || len(text) < 25*1000 {
+		t.Error(len(text))
+	}
+}
