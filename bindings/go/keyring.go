@@ -62,10 +62,10 @@ func (k *Keyring) Close() error {
 // ErrMemory.
 func (k *Keyring) Unwrap(packet []byte) ([]byte, error) {
 	first := filled(packet)
-	handle := k.hold()
-	defer k.release()
+	k = k.held()
+	defer k.lock.Unlock()
 	return written(2*len(packet)+1, func(out []byte) C.swimtab_written {
-		return C.swimtab_unwrap(handle, unsafe.Pointer(&first[0]), size(packet), unsafe.Pointer(&out[0]), size(out))
+		return C.swimtab_unwrap(&k.handle, unsafe.Pointer(&first[0]), size(packet), unsafe.Pointer(&out[0]), size(out))
 	})
 }
 
@@ -78,10 +78,10 @@ func (k *Keyring) Unwrap(packet []byte) ([]byte, error) {
 // key opens it; ErrCipherTooLong also if the label has more than 255 bytes; ErrMemory.
 func (k *Keyring) UnwrapStream(label string, stream []byte) ([]byte, error) {
 	text, first := textOf(label), filled(stream)
-	handle := k.hold()
-	defer k.release()
+	k = k.held()
+	defer k.lock.Unlock()
 	return written(2*len(stream)+1, func(out []byte) C.swimtab_written {
-		return C.swimtab_unwrap_stream(handle, unsafe.Pointer(&text[0]), size(label), unsafe.Pointer(&first[0]),
+		return C.swimtab_unwrap_stream(&k.handle, unsafe.Pointer(&text[0]), size(label), unsafe.Pointer(&first[0]),
 			size(stream), unsafe.Pointer(&out[0]), size(out))
 	})
 }
@@ -118,20 +118,20 @@ const overhead = 2 + 5 + 1 + nonceSize + 16
 
 func (k *Keyring) seal(nonce []byte, label string, message []byte) ([]byte, error) {
 	text, first := textOf(label), filled(message)
-	handle := k.hold()
-	defer k.release()
+	k = k.held()
+	defer k.lock.Unlock()
 	return written(len(label)+len(message)+overhead, func(out []byte) C.swimtab_written {
-		return C.swimtab_seal(handle, unsafe.Pointer(&nonce[0]), unsafe.Pointer(&text[0]), size(label),
+		return C.swimtab_seal(&k.handle, unsafe.Pointer(&nonce[0]), unsafe.Pointer(&text[0]), size(label),
 			unsafe.Pointer(&first[0]), size(message), unsafe.Pointer(&out[0]), size(out))
 	})
 }
 
 func (k *Keyring) sealStream(nonce []byte, label string, reply bool, message []byte) ([]byte, error) {
 	text, first := textOf(label), filled(message)
-	handle := k.hold()
-	defer k.release()
+	k = k.held()
+	defer k.lock.Unlock()
 	return written(len(label)+len(message)+overhead, func(out []byte) C.swimtab_written {
-		return C.swimtab_seal_stream(handle, unsafe.Pointer(&nonce[0]), unsafe.Pointer(&text[0]), size(label),
+		return C.swimtab_seal_stream(&k.handle, unsafe.Pointer(&nonce[0]), unsafe.Pointer(&text[0]), size(label),
 			C.bool(reply), unsafe.Pointer(&first[0]), size(message), unsafe.Pointer(&out[0]), size(out))
 	})
 }
@@ -143,17 +143,11 @@ func draw() ([]byte, error) {
 	return nonce, err
 }
 
-// hold locks the keyring, until release, and is its handle: nil for a nil one, which the library takes as no keys.
-func (k *Keyring) hold() *C.swimtab_keyring {
+// held is the keyring, or an empty one in place of none, and locks it.
+func (k *Keyring) held() *Keyring {
 	if k == nil {
-		return nil
+		k = new(Keyring)
 	}
 	k.lock.Lock()
-	return &k.handle
-}
-
-func (k *Keyring) release() {
-	if k != nil {
-		k.lock.Unlock()
-	}
+	return k
 }

@@ -261,6 +261,8 @@ type connection struct {
 	length int
 	bytes  [256]byte
 	key    [32]byte
+	keys   Keyring
+	stream Progress
 }
 
 func (c *connection) hears(bytes []byte) []byte {
@@ -281,12 +283,18 @@ func TestBytesMayStandBesidePointers(t *testing.T) {
 	if err != nil || !taken.Join {
 		t.Error(err)
 	}
-	if _, whole, err := new(Progress).Whole(c.bytes[:c.length]); !whole || err != nil {
+	if _, whole, err := c.stream.Whole(c.bytes[:c.length]); !whole || err != nil {
 		t.Error(err)
 	}
+	sent := must[[]byte](t)(c.keys.SealStream("dc", true, c.bytes[:c.length]))
+	must[[]byte](t)(c.keys.UnwrapStream("dc", c.hears(sent)))
 	must[[]byte](t)(Compound(c.hears(must[[]byte](t)(b.Alive(3)))))
-	keyring := must[*Keyring](t)(NewKeyring(c.key[:]))
-	packet := must[[]byte](t)(keyring.Unwrap(c.hears(must[[]byte](t)(keyring.Seal("", c.bytes[:c.length])))))
+	defer c.keys.Close()
+	if err := c.keys.Add(c.key[:]); err != nil {
+		t.Fatal(err)
+	}
+	c.hears(must[[]byte](t)(b.Alive(3)))
+	packet := must[[]byte](t)(c.keys.Unwrap(c.hears(must[[]byte](t)(c.keys.Seal("", c.bytes[:c.length])))))
 	takes(t, c.node, packet, false)
 	details := Details{Addr: details(1).Addr, Meta: c.bytes[:1], Versions: c.key[:6]}
 	must[[]byte](t)(AliveOf("c", details, 1))

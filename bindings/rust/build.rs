@@ -1,29 +1,68 @@
-//! Finds libswimtab.a: in SWIMTAB_LIB, where pkg-config says, or in the build/ of this repository.
+//! Finds the library: in SWIMTAB_LIB, or else where pkg-config says, or else in the build/ of this repository.
 
 use std::env;
-use std::path::PathBuf;
+use std::path::{Path, PathBuf};
 use std::process::Command;
 
-fn by_pkg_config() -> Option<PathBuf> {
-    let told = Command::new("pkg-config").args(["--variable=libdir", "swimtab"]).output().ok()?;
-    let folder = String::from_utf8(told.stdout).ok()?;
-    (told.status.success() && !folder.trim().is_empty()).then(|| PathBuf::from(folder.trim()))
+/// The oldest library that has all calls.
+const OLDEST: &str = "0.2.0";
+
+/// Whether the library is linked as a shared one.
+fn is_shared() -> bool {
+    env::var_os("CARGO_FEATURE_SHARED").is_some()
+        || env::var("SWIMTAB_SHARED").is_ok_and(|shared| shared == "1")
 }
 
-fn of_this_repository() -> Option<PathBuf> {
-    let folder = PathBuf::from(env::var_os("CARGO_MANIFEST_DIR")?).join("../../build");
-    folder.join("libswimtab.a").exists().then_some(folder)
+/// The folder that pkg-config tells, or why there is none.
+fn by_pkg_config() -> Result<PathBuf, String> {
+    let asked = |word: &str| {
+        let told = Command::new("pkg-config").args([word, "swimtab"]).output();
+        told.map_err(|error| format!("pkg-config did not run: {error}"))
+    };
+    let told = asked("--variable=libdir")?;
+    let folder = String::from_utf8_lossy(&told.stdout).trim().to_owned();
+    if !told.status.success() || folder.is_empty() {
+        return Err("pkg-config does not know swimtab".into());
+    }
+    if !asked(&format!("--atleast-version={OLDEST}"))?.status.success() {
+        return Err(format!("{folder}, as pkg-config says, has an older version than {OLDEST}"));
+    }
+    Ok(folder.into())
+}
+
+/// The folder, if it has the file, or that it has not.
+fn holding(file: &str, folder: PathBuf, whose: &str) -> Result<PathBuf, String> {
+    if folder.join(file).exists() {
+        Ok(folder)
+    } else {
+        Err(format!("{} ({whose})", folder.display()))
+    }
+}
+
+/// The folder of the library, or the places that were looked at.
+fn folder_of(file: &str) -> Result<PathBuf, Vec<String>> {
+    if let Some(folder) = env::var_os("SWIMTAB_LIB") {
+        return holding(file, folder.into(), "SWIMTAB_LIB").map_err(|place| vec![place]);
+    }
+    let build = Path::new(&env::var_os("CARGO_MANIFEST_DIR").unwrap_or_default()).join("../../build");
+    by_pkg_config()
+        .and_then(|folder| holding(file, folder, "as pkg-config says"))
+        .or_else(|first| holding(file, build, "this repository's").map_err(|second| vec![first, second]))
 }
 
 fn main() {
-    for variable in ["SWIMTAB_LIB", "PKG_CONFIG_PATH"] {
+    for variable in ["SWIMTAB_LIB", "SWIMTAB_SHARED", "PKG_CONFIG_PATH", "PKG_CONFIG_LIBDIR"] {
         println!("cargo:rerun-if-env-changed={variable}");
     }
-    let folder =
-        env::var_os("SWIMTAB_LIB").map(PathBuf::from).or_else(by_pkg_config).or_else(of_this_repository);
-    if let Some(folder) = folder {
-        println!("cargo:rerun-if-changed={}", folder.join("libswimtab.a").display());
-        println!("cargo:rustc-link-search=native={}", folder.display());
-    }
-    println!("cargo:rustc-link-lib=static=swimtab");
+    let (kind, file) = if is_shared() { ("dylib", "libswimtab.so") } else { ("static", "libswimtab.a") };
+    let folder = folder_of(file).unwrap_or_else(|places| {
+        panic!(
+            "{file} was not found. Looked at: {}. Run `make library` in the swimtab repository, and set \
+             SWIMTAB_LIB to the folder that has {file}, or run `make install-library` there.",
+            places.join("; ")
+        )
+    });
+    println!("cargo:rerun-if-changed={}", folder.join(file).display());
+    println!("cargo:rustc-link-search=native={}", folder.display());
+    println!("cargo:rustc-link-lib={kind}=swimtab");
 }

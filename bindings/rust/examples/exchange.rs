@@ -1,7 +1,7 @@
 //! Two members, an exchange of their tables, and a suspicion that is refuted.
 
 use std::net::Ipv4Addr;
-use swimtab::{Details, Node, Result, State};
+use swimtab::{Details, Form, Node, Result, State};
 
 fn member(name: &str, last: u8) -> Result<Node> {
     let addr = Ipv4Addr::new(10, 0, 0, last).into();
@@ -27,7 +27,7 @@ fn main() -> Result<()> {
     a.take(&suspicion)?;
 
     // b joins at a: what it offers goes out over TCP, and what a replies comes back
-    let answer = a.answer(&b.offer(true)?)?;
+    let answer = a.answer(&b.offer(true, Form::Memberlist)?, Form::Memberlist)?;
     b.finish(&answer.reply)?;
     show("b, after an exchange with a", &b);
 

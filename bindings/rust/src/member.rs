@@ -11,8 +11,15 @@ pub struct Details<'a> {
     pub port: u16,
     /// At most 512 bytes.
     pub meta: &'a [u8],
-    /// Least, greatest and current version of memberlist's protocol and of the delegate's.
+    /// The least, greatest and current version of memberlist's protocol and of the delegate's. memberlist wants
+    /// them of those whom it takes in.
     pub versions: Option<[u8; 6]>,
+}
+
+impl Details<'_> {
+    pub(crate) fn version_bytes(&self) -> &[u8] {
+        self.versions.as_ref().map_or(&[], |versions| versions)
+    }
 }
 
 /// A member's state.
@@ -45,7 +52,10 @@ pub struct Member {
     pub state: State,
     /// That of the claim that stands.
     pub incarnation: u32,
-    /// None where no Alive was seen.
+    /// Whether the home has a greater incarnation than the claim that stands: a member that was confirmed
+    /// dead or left, and is heard of again.
+    pub came_back: bool,
+    /// None if no Alive was seen.
     pub home: Option<Home>,
 }
 
@@ -55,6 +65,7 @@ impl raw::Member {
             state: 0,
             inc: 0,
             has_home: false,
+            came_back: false,
             home_inc: 0,
             port: 0,
             name_len: 0,
@@ -65,6 +76,7 @@ impl raw::Member {
             vsn: [0; 6],
             meta: [0; 512],
             name: [0; 1024],
+            reserved: [0; 32],
         }
     }
 }
@@ -80,6 +92,7 @@ impl From<&raw::Member> for Member {
                 _ => State::Leave,
             },
             incarnation: raw.inc,
+            came_back: raw.came_back,
             home: raw.has_home.then(|| Home {
                 incarnation: raw.home_inc,
                 addr: addr_of(raw),

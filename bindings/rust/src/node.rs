@@ -1,19 +1,21 @@
 //! A member's node.
 
+use crate::bytes::{owned, written, Buffer, Octets};
 use crate::error::{done, Result};
 use crate::member::{Details, Member, Members};
-use crate::raw::{self, DONE, LONGEST_PACKET, NO_MEMBER, TOO_SMALL};
+use crate::raw::{self, DONE, LONGEST_PACKET, NO_MEMBER};
+use crate::stream::{Answer, Form, Taken};
 use std::cell::UnsafeCell;
 use std::fmt;
-use std::net::IpAddr;
+use std::iter;
 use std::ptr;
 
 /// What one member of a cluster knows: itself, and a table of all members of which it has heard.
 ///
 /// It may go from thread to thread, and is used by one at a time: it is `Send`, and not `Sync`.
 pub struct Node {
-    // Every call writes to the handle, those that only look too. The library calls nothing back, and
-    // UnsafeCell keeps the node from being shared, so no two calls on it overlap.
+    // A handle is given to one call at a time, also to those that only read it. The library calls nothing back,
+    // and UnsafeCell keeps the node from being shared between threads, so no two calls on it overlap.
     handle: UnsafeCell<raw::Node>,
 }
 
@@ -32,39 +34,17 @@ pub enum Relation {
     Apart,
 }
 
-/// A stream that was taken in.
-#[derive(Clone, Copy, Debug, PartialEq, Eq)]
-pub struct Taken {
-    /// The stream's join flag.
-    pub join: bool,
-    /// How many bytes it has; those behind it were not looked at.
-    pub used: usize,
-}
-
-/// The reply to a stream, which was taken in.
-#[derive(Clone, Debug, PartialEq, Eq)]
-pub struct Answer {
-    pub reply: Vec<u8>,
-    pub taken: Taken,
-}
-
 impl Node {
-    /// The node of the member of this name, who is alive at the incarnation and knows of nobody else.
-    /// Refused: NameEmpty, NameTooLong, MetaTooLong, Memory.
+    /// The node of the member of this name, who is alive at the incarnation and knows of nobody else. The name
+    /// has 1 to 1,024 bytes of any values.
+    ///
+    /// # Errors
+    ///
+    /// `NameEmpty`, `NameTooLong` and `MetaTooLong`; `Memory`.
     pub fn open(name: &[u8], details: Details<'_>, incarnation: u32) -> Result<Node> {
         let node = Node { handle: UnsafeCell::new(raw::Node { at: ptr::null_mut(), held: false }) };
-        let (four, sixteen);
-        let addr: &[u8] = match details.addr {
-            IpAddr::V4(addr) => {
-                four = addr.octets();
-                &four
-            }
-            IpAddr::V6(addr) => {
-                sixteen = addr.octets();
-                &sixteen
-            }
-        };
-        let versions = details.versions.as_ref().map_or(&[][..], |versions| versions);
+        let addr = Octets::of(details.addr);
+        let (addr, versions) = (addr.bytes(), details.version_bytes());
         // SAFETY: the handle is fresh, and a slice's pointer is never null.
         done(unsafe {
             raw::swimtab_raw_open(
@@ -84,15 +64,26 @@ impl Node {
         Ok(node)
     }
 
-    /// Takes in the claims of a packet or compound packet. Refused by the fault at which its reading
-    /// stops, and by Memory; then none of its claims was taken in.
-    pub fn take(&mut self, packet: &[u8]) -> Result<()> {
+    /// Takes in the claims of a packet or compound packet without wrappers. It tells whether the table changed:
+    /// a program that passes packets on passes those on that have news.
+    ///
+    /// # Errors
+    ///
+    /// The fault at which the reading of the packet stops, and `Memory`; then none of its claims was taken in.
+    pub fn take(&mut self, packet: &[u8]) -> Result<bool> {
         // SAFETY: as in open; no other call runs.
-        done(unsafe { raw::swimtab_raw_take(self.handle.get(), packet.as_ptr(), packet.len()) })
+        let taken = unsafe { raw::swimtab_raw_take(self.handle.get(), packet.as_ptr(), packet.len()) };
+        done(taken.status)?;
+        Ok(taken.news)
     }
 
-    /// Refutes what others say of the member, where that is due, and tells at which incarnation it is
-    /// alive again. Refused: Exhausted, Gone, Memory.
+    /// Refutes what others say of the member, if that is due, and tells at which incarnation it is alive
+    /// again.
+    ///
+    /// # Errors
+    ///
+    /// `Exhausted` if no greater incarnation is left; `Gone` if the member was confirmed dead, or left;
+    /// `Memory`. Nothing has changed then.
     pub fn refute(&mut self) -> Result<Option<u32>> {
         // SAFETY: as in take.
         let refuted = unsafe { raw::swimtab_raw_refute(self.handle.get()) };
@@ -100,60 +91,128 @@ impl Node {
         Ok(refuted.due.then_some(refuted.inc))
     }
 
-    /// The packet by which the member says that it is alive. Refused: Memory.
+    /// Forgets a name: the table is then that of all claims that were taken in and are not about it. What is
+    /// heard of the name later is taken in as of a new one, also an old death; so forget a name only when the
+    /// other members have forgotten it.
+    ///
+    /// # Errors
+    ///
+    /// `NoMember` if the table has no such name.
+    pub fn forget(&mut self, name: &[u8]) -> Result<()> {
+        // SAFETY: as in take.
+        done(unsafe { raw::swimtab_raw_forget(self.handle.get(), name.as_ptr(), name.len()) })
+    }
+
+    /// The packet by which the member says that it is alive at the incarnation: that of `open` at first, later
+    /// those that `refute` gives.
+    ///
+    /// # Errors
+    ///
+    /// `Memory`.
     pub fn alive(&self, incarnation: u32) -> Result<Vec<u8>> {
-        self.bytes(LONGEST_PACKET, |handle, out, len| {
+        self.packet(|handle, out, len| {
             // SAFETY: as in take, and `out` has room for `len` bytes; so in all closures below.
             unsafe { raw::swimtab_raw_alive(handle, incarnation, out, len) }
         })
     }
 
-    /// The packet by which the member suspects another one. Refused: NameEmpty, NameTooLong, Memory.
+    /// The packet by which the member suspects another one. The table does not change; `take` the packet to
+    /// have it do so.
+    ///
+    /// # Errors
+    ///
+    /// `NameEmpty` and `NameTooLong`; `Memory`.
     pub fn suspect(&self, name: &[u8], incarnation: u32) -> Result<Vec<u8>> {
-        self.bytes(LONGEST_PACKET, |handle, out, len| unsafe {
+        self.packet(|handle, out, len| unsafe {
             raw::swimtab_raw_suspect(handle, name.as_ptr(), name.len(), incarnation, out, len)
         })
     }
 
-    /// The packet by which the member confirms that another one is dead. Refused as `suspect`, and
-    /// OwnName.
+    /// The packet by which the member confirms that another one is dead. The table does not change.
+    ///
+    /// # Errors
+    ///
+    /// `OwnName` if the name is the member's own; `NameEmpty` and `NameTooLong`; `Memory`.
     pub fn confirm(&self, name: &[u8], incarnation: u32) -> Result<Vec<u8>> {
-        self.bytes(LONGEST_PACKET, |handle, out, len| unsafe {
+        self.packet(|handle, out, len| unsafe {
             raw::swimtab_raw_confirm(handle, name.as_ptr(), name.len(), incarnation, out, len)
         })
     }
 
-    /// The packet by which the member itself leaves. Refused: Memory.
+    /// The packet by which the member itself leaves. The table does not change.
+    ///
+    /// # Errors
+    ///
+    /// `Memory`.
     pub fn leave(&self, incarnation: u32) -> Result<Vec<u8>> {
-        self.bytes(LONGEST_PACKET, |handle, out, len| unsafe {
-            raw::swimtab_raw_leave(handle, incarnation, out, len)
-        })
+        self.packet(|handle, out, len| unsafe { raw::swimtab_raw_leave(handle, incarnation, out, len) })
     }
 
-    /// The stream that begins an exchange: the table's canonical dump. Refused: TooManyRecords, Memory.
-    pub fn offer(&self, join: bool) -> Result<Vec<u8>> {
-        self.bytes(0, |handle, out, len| unsafe { raw::swimtab_raw_offer(handle, join, out, len) })
+    /// The stream that begins an exchange: the node's table. memberlist sets `join` when it joins.
+    ///
+    /// # Errors
+    ///
+    /// `TooManyRecords` if the table has more than 131,072; `Memory`.
+    pub fn offer(&self, join: bool, form: Form) -> Result<Vec<u8>> {
+        owned(|buffer| unsafe { raw::swimtab_raw_offer_new(self.handle.get(), join, form.number(), buffer) })
     }
 
-    /// Answers an offer: the reply is the dump of before, and the stream is taken in. Refused by the
-    /// fault at which the stream's reading stops, of which Ended alone may be mended by more bytes, and by
-    /// TooManyRecords and Memory; then nothing was taken in.
-    pub fn answer(&mut self, stream: &[u8]) -> Result<Answer> {
-        let mut taken = Taken { join: false, used: 0 };
-        let reply = self.bytes(0, |handle, out, len| {
-            let made = unsafe { raw::swimtab_raw_answer(handle, stream.as_ptr(), stream.len(), out, len) };
-            taken = Taken { join: made.join, used: made.used };
-            raw::Written { status: made.status, len: made.len }
-        })?;
-        Ok(Answer { reply, taken })
+    /// The bytes that `swimtab merge` prints of the table: an offer in canonical form that does not join.
+    ///
+    /// # Errors
+    ///
+    /// As `offer`.
+    pub fn dump(&self) -> Result<Vec<u8>> {
+        self.offer(false, Form::Canonical)
     }
 
-    /// Takes in a stream: a reply, or a dump. Refused as `answer`, but not by TooManyRecords.
+    /// Answers an offer: the reply is the table of before in this form, and the stream is taken in. A suspicion
+    /// may have come with it, so `refute` after it.
+    ///
+    /// # Errors
+    ///
+    /// The fault at which the reading of the stream stops, of which `Ended` alone may be mended by more bytes;
+    /// `TooManyRecords`; `Memory`. Nothing was taken in then.
+    pub fn answer(&mut self, stream: &[u8], form: Form) -> Result<Answer> {
+        let mut buffer = Buffer::new();
+        let (at, len) = (stream.as_ptr(), stream.len());
+        // SAFETY: as in take.
+        let made =
+            unsafe { raw::swimtab_raw_answer_new(self.handle.get(), at, len, form.number(), buffer.at()) };
+        done(made.status)?;
+        Ok(Answer { reply: buffer.bytes().to_vec(), taken: made.into() })
+    }
+
+    /// Takes in a stream: a reply, or a dump. A suspicion may have come with it, so `refute` after it.
+    ///
+    /// # Errors
+    ///
+    /// As `answer`, but not `TooManyRecords`.
     pub fn finish(&mut self, stream: &[u8]) -> Result<Taken> {
         // SAFETY: as in take.
         let made = unsafe { raw::swimtab_raw_finish(self.handle.get(), stream.as_ptr(), stream.len()) };
         done(made.status)?;
-        Ok(Taken { join: made.join, used: made.used })
+        Ok(made.into())
+    }
+
+    /// Begins to note the names of members of which something else stands than before, with none noted, or
+    /// stops and lets the noted names go.
+    pub fn watch(&mut self, on: bool) {
+        // SAFETY: as in take. It is refused to a handle without a node alone, and this one has a node.
+        unsafe { raw::swimtab_raw_watch(self.handle.get(), on) };
+    }
+
+    /// The member of the first noted name, as it is now, or `None` if no name is noted. The name is noted no
+    /// longer then.
+    pub fn next_change(&mut self) -> Option<Member> {
+        // SAFETY: as in take.
+        self.member(|handle, member| unsafe { raw::swimtab_raw_next_change(handle, member) })
+    }
+
+    /// The members whose names are noted, in the byte order of their names. Those that are not reached stay
+    /// noted.
+    pub fn changes(&mut self) -> impl Iterator<Item = Member> + '_ {
+        iter::from_fn(|| self.next_change())
     }
 
     /// How many members it knows of, itself among them.
@@ -182,10 +241,15 @@ impl Node {
         Members::of(self)
     }
 
-    /// The listing of the table, as `swimtab list` prints it. Refused: Memory.
+    /// The listing of the table, as `swimtab list` prints it.
+    ///
+    /// # Errors
+    ///
+    /// `Memory`.
     pub fn list(&self) -> Result<String> {
-        let text = self.bytes(0, |handle, out, len| unsafe { raw::swimtab_raw_list(handle, out, len) })?;
-        Ok(String::from_utf8_lossy(&text).into_owned())
+        let text = owned(|buffer| unsafe { raw::swimtab_raw_list_new(self.handle.get(), buffer) })?;
+        Ok(String::from_utf8(text)
+            .unwrap_or_else(|text| String::from_utf8_lossy(text.as_bytes()).into_owned()))
     }
 
     /// How its table relates to another's.
@@ -203,12 +267,8 @@ impl Node {
         }
     }
 
-    fn bytes(
-        &self,
-        guess: usize,
-        mut call: impl FnMut(*mut raw::Node, *mut u8, usize) -> raw::Written,
-    ) -> Result<Vec<u8>> {
-        written(guess, |out, len| call(self.handle.get(), out, len))
+    fn packet(&self, call: impl Fn(*const raw::Node, *mut u8, usize) -> raw::Written) -> Result<Vec<u8>> {
+        written(LONGEST_PACKET, |out, len| call(self.handle.get(), out, len))
     }
 
     fn member(&self, call: impl FnOnce(*mut raw::Node, *mut raw::Member) -> u32) -> Option<Member> {
@@ -233,31 +293,5 @@ impl Drop for Node {
 impl fmt::Debug for Node {
     fn fmt(&self, f: &mut fmt::Formatter<'_>) -> fmt::Result {
         f.debug_struct("Node").field("members", &self.len()).finish_non_exhaustive()
-    }
-}
-
-/// One compound packet of up to 255 packets. Refused: TooManyPackets, Memory, and the fault of the first
-/// that is no packet.
-pub fn compound<P: AsRef<[u8]>>(packets: &[P]) -> Result<Vec<u8>> {
-    let lens: Vec<usize> = packets.iter().map(|packet| packet.as_ref().len()).collect();
-    let bytes: Vec<u8> = packets.iter().flat_map(|packet| packet.as_ref()).copied().collect();
-    written(bytes.len() + 2 * lens.len() + 2, |out, len| {
-        // SAFETY: a vector's pointer is never null, and `out` has room for `len` bytes.
-        unsafe { raw::swimtab_raw_compound(bytes.as_ptr(), bytes.len(), lens.as_ptr(), lens.len(), out, len) }
-    })
-}
-
-/// Makes a call that writes bytes, and makes it again with room for as many as it told.
-fn written(guess: usize, mut call: impl FnMut(*mut u8, usize) -> raw::Written) -> Result<Vec<u8>> {
-    let mut out = vec![0; guess];
-    loop {
-        let raw::Written { status, len } = call(out.as_mut_ptr(), out.len());
-        if status == TOO_SMALL {
-            out.resize(len, 0);
-            continue;
-        }
-        done(status)?;
-        out.truncate(len);
-        return Ok(out);
     }
 }

@@ -1,16 +1,14 @@
 //! The wrapper over the library; the library's own tests stand in tests/c.
 
+mod common;
+
+use common::{details, opened, VERSIONS};
 use std::net::{IpAddr, Ipv4Addr, Ipv6Addr};
-use swimtab::{compound, Details, Error, Member, Node, Relation, State};
+use swimtab::{alive_of, compound, version, Details, Error, Member, Node, State};
 
-const VERSIONS: [u8; 6] = [1, 5, 2, 0, 0, 0];
-
-fn details(last: u8) -> Details<'static> {
-    Details { addr: Ipv4Addr::new(127, 0, 0, last).into(), port: 7946, meta: b"m", versions: Some(VERSIONS) }
-}
-
-fn opened(name: &str, last: u8) -> Node {
-    Node::open(name.as_bytes(), details(last), 0).unwrap()
+#[test]
+fn the_version_is_that_of_the_crate() {
+    assert_eq!(version(), env!("CARGO_PKG_VERSION"));
 }
 
 #[test]
@@ -25,15 +23,17 @@ fn openings_are_refused() {
 fn errors_have_numbers_and_texts() {
     assert_eq!(Error::Gone.number(), 25);
     assert_eq!(Error::OwnName.number(), 68);
+    assert_eq!(Error::CipherTrailing.number(), 57);
     assert_eq!(Error::Trailing.to_string(), "there are bytes after the end");
     let error: Box<dyn std::error::Error + Send + Sync> = Error::WrongType.into();
-    assert_eq!(error.to_string(), "a message of a type that is not read");
+    assert_eq!(error.to_string(), "the message is of a type that is not read");
 }
 
 #[test]
 fn packets_are_taken_in_or_refused() {
     let (mut a, b) = (opened("a", 1), opened("b", 2));
-    a.take(&b.alive(3).unwrap()).unwrap();
+    let alive = b.alive(3).unwrap();
+    assert_eq!((a.take(&alive), a.take(&alive)), (Ok(true), Ok(false)));
     assert_eq!(
         a.list().unwrap(),
         "a alive 0 0/7f000001/7946/6d/010502000000\nb alive 3 3/7f000002/7946/6d/010502000000\n"
@@ -49,11 +49,11 @@ fn packets_are_taken_in_or_refused() {
 fn a_suspicion_is_refuted() {
     let (mut a, mut b) = (opened("a", 1), opened("b", 2));
     assert_eq!(a.refute(), Ok(None));
-    a.take(&b.suspect(b"a", 6).unwrap()).unwrap();
+    assert_eq!(a.take(&b.suspect(b"a", 6).unwrap()), Ok(true));
     assert_eq!(a.refute(), Ok(Some(7)));
     b.take(&a.alive(7).unwrap()).unwrap();
     assert_eq!(b.find(b"a").map(|a| (a.state, a.incarnation)), Some((State::Alive, 7)));
-    a.take(&b.confirm(b"a", 1).unwrap()).unwrap();
+    a.take(&b.confirm(b"a", 7).unwrap()).unwrap();
     assert_eq!(a.refute(), Err(Error::Gone));
 }
 
@@ -76,25 +76,73 @@ fn members_come_in_the_order_of_their_names() {
 }
 
 #[test]
+fn changes_are_noted() {
+    let mut a = opened("a", 1);
+    let names = |node: &mut Node| -> Vec<Vec<u8>> { node.changes().map(|member| member.name).collect() };
+    let old = a.suspect(b"z", 4).unwrap();
+    a.take(&old).unwrap();
+    a.watch(true);
+    assert_eq!(a.next_change(), None);
+    for packet in [
+        a.suspect(b"z", 5).unwrap(),
+        opened("c", 3).alive(1).unwrap(),
+        a.suspect(b"z", 6).unwrap(),
+        old.clone(),
+    ] {
+        a.take(&packet).unwrap();
+    }
+    assert_eq!(names(&mut a), [b"c", b"z"]);
+    assert_eq!((a.take(&old), a.take(&[3])), (Ok(false), Err(Error::Ended)));
+    assert_eq!(a.next_change(), None);
+    a.finish(&opened("d", 4).dump().unwrap()).unwrap();
+    a.take(&a.suspect(b"a", 0).unwrap()).unwrap();
+    let first = a.next_change().unwrap();
+    assert_eq!((&first.name[..], first.state), (&b"a"[..], State::Suspect));
+    assert_eq!(a.refute(), Ok(Some(1)));
+    assert_eq!(names(&mut a), [b"a", b"d"]);
+    a.take(&a.suspect(b"z", 7).unwrap()).unwrap();
+    a.watch(false);
+    assert_eq!(a.next_change(), None);
+}
+
+#[test]
+fn a_name_is_forgotten() {
+    let (mut a, c) = (opened("a", 1), opened("c", 3));
+    assert_eq!((a.forget(b"c"), a.forget(b"")), (Err(Error::NoMember), Err(Error::NoMember)));
+    a.take(&c.leave(9).unwrap()).unwrap();
+    assert_eq!((a.len(), a.forget(b"c"), a.len(), a.find(b"c")), (2, Ok(()), 1, None));
+    assert_eq!(a.take(&c.alive(1).unwrap()), Ok(true));
+    assert_eq!(a.find(b"c").map(|c| c.state), Some(State::Alive));
+}
+
+#[test]
+fn a_member_comes_back() {
+    let (mut a, c) = (opened("a", 1), opened("c", 3));
+    a.take(&c.alive(4).unwrap()).unwrap();
+    a.take(&a.confirm(b"c", 4).unwrap()).unwrap();
+    assert_eq!(a.find(b"c").map(|c| (c.state, c.came_back)), Some((State::Confirm, false)));
+    assert_eq!(a.take(&c.alive(5).unwrap()), Ok(true));
+    let known = a.find(b"c").unwrap();
+    assert_eq!((known.state, known.incarnation, known.came_back), (State::Confirm, 4, true));
+    assert_eq!(known.home.map(|home| home.incarnation), Some(5));
+}
+
+#[test]
+fn another_members_alive_is_written() {
+    let details = Details { addr: Ipv4Addr::LOCALHOST.into(), port: 7947, meta: b"", versions: None };
+    let wanted = b"\x04\x86\xa4Addr\xa4\x7f\0\0\x01\xabIncarnation\x04\xa4Meta\xa0\xa4Node\xa1a\xa4Port\xcd\x1f\x0b\xa3Vsn\xa0";
+    assert_eq!(alive_of(b"a", details, 4).unwrap(), wanted);
+    assert_eq!(alive_of(b"", details, 4), Err(Error::NameEmpty));
+    let meta = [0; 513];
+    assert_eq!(alive_of(b"a", Details { meta: &meta, ..details }, 4), Err(Error::MetaTooLong));
+}
+
+#[test]
 fn addresses_of_both_kinds_come_back() {
     let addr = IpAddr::from(Ipv6Addr::LOCALHOST);
     let node = Node::open(b"six", Details { addr, port: 1, meta: b"", versions: None }, 0).unwrap();
     let home = node.find(b"six").unwrap().home.unwrap();
     assert_eq!((home.addr, home.port, home.versions, home.meta.len()), (addr, 1, None, 0));
-}
-
-#[test]
-fn an_exchange_levels_two_members() {
-    let (mut a, mut b) = (opened("a", 1), opened("b", 2));
-    assert_eq!(a.relation(&b), Relation::Apart);
-    let offer = a.offer(true).unwrap();
-    assert_eq!(b.answer(&offer[..offer.len() - 1]), Err(Error::Ended));
-    assert_eq!(b.len(), 1);
-    let answer = b.answer(&offer).unwrap();
-    assert!(answer.taken.join && answer.taken.used == offer.len());
-    assert_eq!((a.relation(&b), b.relation(&a)), (Relation::Behind, Relation::Ahead));
-    assert_eq!(a.finish(&answer.reply).unwrap().used, answer.reply.len());
-    assert_eq!((a.relation(&b), a.relation(&a)), (Relation::Equal, Relation::Equal));
 }
 
 #[test]
