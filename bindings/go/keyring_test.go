@@ -87,6 +87,18 @@ func TestStreamsAreUnwrapped(t *testing.T) {
 	refused(t, err, ErrEnded)
 }
 
+func TestStreamsAreUnwrappedWhenAllHasCome(t *testing.T) {
+	all := keyring(t, key16, key32)
+	for _, sent := range []string{sealedStream, sealedReply} {
+		for end := 0; end < len(sent)/2; end++ {
+			_, err := all.UnwrapStream("dc", unhex(sent)[:end])
+			if err != ErrEnded && err != ErrWrapperEnded && err != ErrCipherTooShort {
+				t.Fatal(end, err)
+			}
+		}
+	}
+}
+
 func TestMessagesAreSealed(t *testing.T) {
 	nonceAt := func(sent string, at int) []byte { return unhex(sent)[at : at+nonceSize] }
 	east, dc := keyring(t, key16), keyring(t, key32, key16)

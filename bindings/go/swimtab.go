@@ -4,9 +4,6 @@
 package swimtab
 
 // #include <swimtab.h>
-// #if !defined(SWIMTAB_VERSION_NUMBER) || SWIMTAB_VERSION_NUMBER < 200
-// #error "this package needs libswimtab 0.2 or later"
-// #endif
 import "C"
 
 import (

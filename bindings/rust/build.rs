@@ -25,29 +25,30 @@ fn by_pkg_config() -> Result<PathBuf, String> {
         return Err("pkg-config does not know swimtab".into());
     }
     if !asked(&format!("--atleast-version={OLDEST}"))?.status.success() {
-        return Err(format!("{folder}, as pkg-config says, has an older version than {OLDEST}"));
+        return Err(format!("in {folder}, which pkg-config tells, it is older than {OLDEST}"));
     }
     Ok(folder.into())
 }
 
-/// The folder, if it has the file, or that it has not.
+/// The folder, if the file is in it, or that it is not.
 fn holding(file: &str, folder: PathBuf, whose: &str) -> Result<PathBuf, String> {
     if folder.join(file).exists() {
         Ok(folder)
     } else {
-        Err(format!("{} ({whose})", folder.display()))
+        Err(format!("it is not in {}, {whose}", folder.display()))
     }
 }
 
-/// The folder of the library, or the places that were looked at.
+/// The folder of the library, or why each place that was looked at is none.
 fn folder_of(file: &str) -> Result<PathBuf, Vec<String>> {
     if let Some(folder) = env::var_os("SWIMTAB_LIB") {
-        return holding(file, folder.into(), "SWIMTAB_LIB").map_err(|place| vec![place]);
+        return holding(file, folder.into(), "the folder SWIMTAB_LIB").map_err(|place| vec![place]);
     }
-    let build = Path::new(&env::var_os("CARGO_MANIFEST_DIR").unwrap_or_default()).join("../../build");
-    by_pkg_config()
-        .and_then(|folder| holding(file, folder, "as pkg-config says"))
-        .or_else(|first| holding(file, build, "this repository's").map_err(|second| vec![first, second]))
+    let manifest = env::var_os("CARGO_MANIFEST_DIR").unwrap_or_default();
+    let build = Path::new(&manifest).ancestors().nth(2).unwrap_or(Path::new("")).join("build");
+    by_pkg_config().and_then(|folder| holding(file, folder, "which pkg-config tells")).or_else(|first| {
+        holding(file, build, "the build folder of this repository").map_err(|second| vec![first, second])
+    })
 }
 
 fn main() {
@@ -57,7 +58,7 @@ fn main() {
     let (kind, file) = if is_shared() { ("dylib", "libswimtab.so") } else { ("static", "libswimtab.a") };
     let folder = folder_of(file).unwrap_or_else(|places| {
         panic!(
-            "{file} was not found. Looked at: {}. Run `make library` in the swimtab repository, and set \
+            "{file} was not found: {}. Run `make library` in the swimtab repository, and set \
              SWIMTAB_LIB to the folder that has {file}, or run `make install-library` there.",
             places.join("; ")
         )

@@ -94,6 +94,18 @@ fn streams_are_unwrapped() {
 }
 
 #[test]
+fn streams_are_unwrapped_when_all_has_come() {
+    let (all, early) =
+        (keyring(&[KEY_16, KEY_32]), [Error::Ended, Error::WrapperEnded, Error::CipherTooShort]);
+    for sent in [unhex(SEALED_STREAM), unhex(SEALED_REPLY)] {
+        for end in 0..sent.len() {
+            let error = all.unwrap_stream(b"dc", &sent[..end]).unwrap_err();
+            assert!(early.contains(&error), "{end}: {error}");
+        }
+    }
+}
+
+#[test]
 fn messages_are_sealed() {
     let nonce = |sent: &str, at: usize| -> [u8; NONCE] { unhex(sent)[at..at + NONCE].try_into().unwrap() };
     let (east, dc, none) = (keyring(&[KEY_16]), keyring(&[KEY_32, KEY_16]), Keyring::new());
