@@ -1,4 +1,5 @@
-//! Finds the library: in SWIMTAB_LIB, or else where pkg-config says, or else in the build/ of this repository.
+//! Finds the library: in SWIMTAB_LIB, or else where pkg-config says, or else in the build/ of this
+//! repository.
 
 use std::env;
 use std::path::{Path, PathBuf};

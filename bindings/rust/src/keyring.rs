@@ -42,13 +42,14 @@ impl Keyring {
     }
 
     /// The message of a packet, one UDP payload as a member sends it: its label, its checksum and its
-    /// compression are taken off, and what is encrypted is opened. [`Node::take`](crate::Node::take) reads it.
+    /// compression are taken off, and what is encrypted is opened. [`Node::take`](crate::Node::take) reads
+    /// it.
     ///
     /// # Errors
     ///
-    /// `WrongType` if the message makes no claims, as a ping, and without a key if it is encrypted; `Ended` if
-    /// it is empty; `WrapperEnded` to `TooDeep` if its wrappers are wrong; `WrongTag` if it is encrypted and no
-    /// key opens it; `Memory`.
+    /// `WrongType` if the message makes no claims, as a ping, and without a key if it is encrypted; `Ended`
+    /// if it is empty; `WrapperEnded` to `TooDeep` if its wrappers are wrong; `WrongTag` if it is encrypted
+    /// and no key opens it; `Memory`.
     pub fn unwrap_packet(&self, packet: &[u8]) -> Result<Vec<u8>> {
         written(2 * packet.len(), |out, len| unsafe {
             raw::swimtab_raw_unwrap(self.handle.get(), packet.as_ptr(), packet.len(), out, len)
@@ -62,10 +63,10 @@ impl Keyring {
     ///
     /// # Errors
     ///
-    /// `WrongType` if it is no push/pull stream, and without a key if it is encrypted; `Ended` if it is empty;
-    /// `WrapperEnded` to `TooDeep` if its wrappers are wrong; `CipherTooLong` to `CipherTrailing`, the fault of
-    /// the last key, if it is encrypted and no key opens it; `CipherTooLong` also if the label has more than
-    /// 255 bytes; `Memory`.
+    /// `WrongType` if it is no push/pull stream, and without a key if it is encrypted; `Ended` if it is
+    /// empty; `WrapperEnded` to `TooDeep` if its wrappers are wrong; `CipherTooLong` to `CipherTrailing`, the
+    /// fault of the last key, if it is encrypted and no key opens it; `CipherTooLong` also if the label has
+    /// more than 255 bytes; `Memory`.
     pub fn unwrap_stream(&self, label: &[u8], stream: &[u8]) -> Result<Vec<u8>> {
         written(2 * stream.len(), |out, len| unsafe {
             raw::swimtab_raw_unwrap_stream(
@@ -82,8 +83,8 @@ impl Keyring {
 
     /// A packet with this message, as memberlist sends it: encrypted under the first key, behind the label,
     /// which is authenticated. No label is written if it is empty. A nonce must not be used twice under one
-    /// key, be it for packets or streams: draw each at random. Without a key the label alone is written before
-    /// the message, and the nonce is not read.
+    /// key, be it for packets or streams: draw each at random. Without a key the label alone is written
+    /// before the message, and the nonce is not read.
     ///
     /// # Errors
     ///
@@ -103,10 +104,10 @@ impl Keyring {
         })
     }
 
-    /// A stream with this message in the same way. `reply` is false on the side that opened the connection, as
-    /// for what [`Node::offer`](crate::Node::offer) wrote, and true on the side that answers, as for
-    /// [`Answer::reply`](crate::Answer::reply): no label is written before a reply, and if it is encrypted the
-    /// label is authenticated all the same.
+    /// A stream with this message in the same way. `reply` is false on the side that opened the connection,
+    /// as for what [`Node::offer`](crate::Node::offer) wrote, and true on the side that answers, as for
+    /// [`Answer::reply`](crate::Answer::reply): no label is written before a reply, and if it is encrypted
+    /// the label is authenticated all the same.
     ///
     /// # Errors
     ///

@@ -11,8 +11,8 @@ pub struct Details<'a> {
     pub port: u16,
     /// At most 512 bytes.
     pub meta: &'a [u8],
-    /// The least, greatest and current version of memberlist's protocol and of the delegate's. memberlist wants
-    /// them of those whom it takes in.
+    /// The least, greatest and current version of memberlist's protocol and of the delegate's. memberlist
+    /// wants them of those whom it takes in.
     pub versions: Option<[u8; 6]>,
 }
 

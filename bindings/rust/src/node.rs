@@ -14,8 +14,8 @@ use std::ptr;
 ///
 /// It may go from thread to thread, and is used by one at a time: it is `Send`, and not `Sync`.
 pub struct Node {
-    // A handle is given to one call at a time, also to those that only read it. The library calls nothing back,
-    // and UnsafeCell keeps the node from being shared between threads, so no two calls on it overlap.
+    // A handle is given to one call at a time, also to those that only read it. The library calls nothing
+    // back, and UnsafeCell keeps the node from being shared between threads, so no two calls on it overlap.
     handle: UnsafeCell<raw::Node>,
 }
 
@@ -35,8 +35,8 @@ pub enum Relation {
 }
 
 impl Node {
-    /// The node of the member of this name, who is alive at the incarnation and knows of nobody else. The name
-    /// has 1 to 1,024 bytes of any values.
+    /// The node of the member of this name, who is alive at the incarnation and knows of nobody else. The
+    /// name has 1 to 1,024 bytes of any values.
     ///
     /// # Errors
     ///
@@ -64,12 +64,13 @@ impl Node {
         Ok(node)
     }
 
-    /// Takes in the claims of a packet or compound packet without wrappers. It tells whether the table changed:
-    /// a program that passes packets on passes those on that have news.
+    /// Takes in the claims of a packet or compound packet without wrappers. It tells whether the table
+    /// changed: a program that passes packets on passes those on that have news.
     ///
     /// # Errors
     ///
-    /// The fault at which the reading of the packet stops, and `Memory`; then none of its claims was taken in.
+    /// The fault at which the reading of the packet stops, and `Memory`; then none of its claims was taken
+    /// in.
     pub fn take(&mut self, packet: &[u8]) -> Result<bool> {
         // SAFETY: as in open; no other call runs.
         let taken = unsafe { raw::swimtab_raw_take(self.handle.get(), packet.as_ptr(), packet.len()) };
@@ -103,8 +104,8 @@ impl Node {
         done(unsafe { raw::swimtab_raw_forget(self.handle.get(), name.as_ptr(), name.len()) })
     }
 
-    /// The packet by which the member says that it is alive at the incarnation: that of `open` at first, later
-    /// those that `refute` gives.
+    /// The packet by which the member says that it is alive at the incarnation: that of `open` at first,
+    /// later those that `refute` gives.
     ///
     /// # Errors
     ///
@@ -166,13 +167,13 @@ impl Node {
         self.offer(false, Form::Canonical)
     }
 
-    /// Answers an offer: the reply is the table of before in this form, and the stream is taken in. A suspicion
-    /// may have come with it, so `refute` after it.
+    /// Answers an offer: the reply is the table of before in this form, and the stream is taken in. A
+    /// suspicion may have come with it, so `refute` after it.
     ///
     /// # Errors
     ///
-    /// The fault at which the reading of the stream stops, of which `Ended` alone may be mended by more bytes;
-    /// `TooManyRecords`; `Memory`. Nothing was taken in then.
+    /// The fault at which the reading of the stream stops, of which `Ended` alone may be mended by more
+    /// bytes; `TooManyRecords`; `Memory`. Nothing was taken in then.
     pub fn answer(&mut self, stream: &[u8], form: Form) -> Result<Answer> {
         let mut buffer = Buffer::new();
         let (at, len) = (stream.as_ptr(), stream.len());

@@ -58,9 +58,9 @@ impl Progress {
         Progress::default()
     }
 
-    /// Tells how many bytes the stream has with which these bytes, all that have come so far, begin, or `None`
-    /// if they end before it does. Each call has the bytes of the call before at the front. Each record is
-    /// read once, however many pieces come.
+    /// Tells how many bytes the stream has with which these bytes, all that have come so far, begin, or
+    /// `None` if they end before it does. Each call has the bytes of the call before at the front. Each
+    /// record is read once, however many pieces come.
     ///
     /// # Errors
     ///

@@ -130,7 +130,8 @@ fn a_member_comes_back() {
 #[test]
 fn another_members_alive_is_written() {
     let details = Details { addr: Ipv4Addr::LOCALHOST.into(), port: 7947, meta: b"", versions: None };
-    let wanted = b"\x04\x86\xa4Addr\xa4\x7f\0\0\x01\xabIncarnation\x04\xa4Meta\xa0\xa4Node\xa1a\xa4Port\xcd\x1f\x0b\xa3Vsn\xa0";
+    let wanted = b"\x04\x86\xa4Addr\xa4\x7f\0\0\x01\xabIncarnation\x04\xa4Meta\xa0\xa4Node\xa1a\
+        \xa4Port\xcd\x1f\x0b\xa3Vsn\xa0";
     assert_eq!(alive_of(b"a", details, 4).unwrap(), wanted);
     assert_eq!(alive_of(b"", details, 4), Err(Error::NameEmpty));
     let meta = [0; 513];
