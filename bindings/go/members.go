@@ -44,7 +44,7 @@ type Member struct {
 	Home     *Home // nil if no Alive was seen
 }
 
-// Len is how many members the node knows of, itself among them, and 0 once it is closed.
+// Len is how many members the node knows of, itself among them unless it forgot itself, and 0 once it is closed.
 func (n *Node) Len() int {
 	n.lock.Lock()
 	defer n.lock.Unlock()

@@ -68,6 +68,14 @@ func TestANameIsForgotten(t *testing.T) {
 	if known := must[Member](t)(a.Find("c")); known.State != Alive || a.Len() != 2 {
 		t.Error(known)
 	}
+	for _, name := range []string{"c", "a"} {
+		if err := a.Forget(name); err != nil {
+			t.Error(err)
+		}
+	}
+	if text := must[string](t)(a.List()); text != "" || a.Len() != 0 {
+		t.Error(text)
+	}
 }
 
 func TestAMemberComesBack(t *testing.T) {

@@ -76,8 +76,11 @@ func (n *Node) List() (string, error) {
 	n.lock.Lock()
 	defer n.lock.Unlock()
 	var buffer C.swimtab_buffer
-	text, err := owned(&buffer, C.swimtab_list_new(&n.handle, &buffer))
-	return string(text), err
+	if err := done(C.swimtab_list_new(&n.handle, &buffer)); err != nil {
+		return "", err
+	}
+	defer C.swimtab_free(&buffer)
+	return string(held(&buffer)), nil
 }
 
 func takenOf(made C.swimtab_exchanged) Taken {
@@ -90,7 +93,16 @@ func owned(buffer *C.swimtab_buffer, status C.uint32_t) ([]byte, error) {
 		return nil, err
 	}
 	defer C.swimtab_free(buffer)
-	return append([]byte(nil), viewOf(buffer.at, buffer.len)...), nil
+	return append([]byte(nil), held(buffer)...), nil
+}
+
+// held is the bytes of a buffer, not copied. If it has none, its pointer may be none that Go allows, and is not
+// looked at.
+func held(buffer *C.swimtab_buffer) []byte {
+	if buffer.len == 0 {
+		return nil
+	}
+	return viewOf(buffer.at, buffer.len)
 }
 
 // Progress is how far a stream is read that comes in pieces. The zero Progress begins one; each stream has its

@@ -216,11 +216,15 @@ impl Node {
         iter::from_fn(|| self.next_change())
     }
 
-    /// How many members it knows of, itself among them.
-    #[allow(clippy::len_without_is_empty)] // it knows at least of itself
+    /// How many members it knows of, itself among them unless it forgot itself.
     pub fn len(&self) -> usize {
         // SAFETY: as in take.
         unsafe { raw::swimtab_raw_count(self.handle.get()) }
+    }
+
+    /// Whether it knows of nobody: it forgot itself too.
+    pub fn is_empty(&self) -> bool {
+        self.len() == 0
     }
 
     /// The member at a place, in the byte order of the names.

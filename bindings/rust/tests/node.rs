@@ -113,6 +113,8 @@ fn a_name_is_forgotten() {
     assert_eq!((a.len(), a.forget(b"c"), a.len(), a.find(b"c")), (2, Ok(()), 1, None));
     assert_eq!(a.take(&c.alive(1).unwrap()), Ok(true));
     assert_eq!(a.find(b"c").map(|c| c.state), Some(State::Alive));
+    assert_eq!((a.forget(b"c"), a.is_empty(), a.forget(b"a"), a.is_empty()), (Ok(()), false, Ok(()), true));
+    assert_eq!((a.list(), a.members().len()), (Ok(String::new()), 0));
 }
 
 #[test]
