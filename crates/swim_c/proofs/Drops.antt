@@ -22,17 +22,17 @@ use borrow.Fn.Kinds.{ended_of, stays, r_unit}
 use borrow.Fn.Run.{Over}
 use Rattle.std.specs.contracts.alloc.Global as heap
 use Rattle.std.proofs.alloc.Global.TheLaws as heap_laws
-use Rattle.swim_table.specs.contracts.node.Node as node
-use Rattle.swim_table.proofs.node.Node.TheLaws as node_laws
+use Rattle.swim_c.specs.contracts.watching.Watched as node
+use Rattle.swim_c.proofs.watching.Watched.TheLaws as node_laws
 use Rattle.memberlist_keyring.specs.contracts.keyring.Keyring as keyring
 use Rattle.memberlist_keyring.proofs.keyring.Keyring.TheLaws as keyring_laws
 use Rattle.swim_c.specs.contracts.kept.Kept as kept
 use Rattle.swim_c.proofs.kept.Kept.TheLaws as kept_laws
 use Rattle.swim_c.proofs.Destruct++none.drop.Code as none
-use Rattle.swim_c.proofs.swim_table++node++Node+Destruct.drop.Kinds as kinds
-use Rattle.swim_c.proofs.swim_table++node++Node+Destruct.drop.Met.{met}
-use Rattle.swim_c.proofs.swim_table++node++Node+Destruct.drop.Reads as reads
-use Rattle.swim_c.proofs.swim_table++node++Node+Destruct.drop.Symbol as symbol
+use Rattle.swim_c.proofs.swim_c++watching++Watched+Destruct.drop.Kinds as kinds
+use Rattle.swim_c.proofs.swim_c++watching++Watched+Destruct.drop.Met.{met}
+use Rattle.swim_c.proofs.swim_c++watching++Watched+Destruct.drop.Reads as reads
+use Rattle.swim_c.proofs.swim_c++watching++Watched+Destruct.drop.Symbol as symbol
 use Rattle.swim_c.proofs.memberlist_keyring++keyring++Keyring+Destruct.drop.Kinds as keyring_kinds
 use Rattle.swim_c.proofs.memberlist_keyring++keyring++Keyring+Destruct.drop.Met.{met as keyring_met}
 use Rattle.swim_c.proofs.memberlist_keyring++keyring++Keyring+Destruct.drop.Reads as keyring_reads
@@ -68,7 +68,7 @@ abbrev pub heap_row_laws : Laws heap_row
 heap_row_laws = arg_laws (raw (layout heap.the_row)) no heap.the_row heap_laws.the_row_laws refl
 
 abbrev pub node_drops : Dict
-node_drops = impl ("swim_c::swim_table++node++Node+Destruct::drop" ∷ []) tnil dnil
+node_drops = impl ("swim_c::swim_c++watching++Watched+Destruct::drop" ∷ []) tnil dnil
 
 abbrev pub keyring_drops : Dict
 keyring_drops = impl ("swim_c::memberlist_keyring++keyring++Keyring+Destruct::drop" ∷ []) tnil dnil

@@ -1,11 +1,12 @@
 -- What the status of a refused call says.
 use Rattle.std.proofs.Common.{◌≡◌, ◌≢◌, inl, inr, ◌∙◌, ap, sym, subst, ℕ, ◌-◌, List, ◌++◌, Bool, length, ◌≤◌, false, refl, Some, Result, Err, arith}
+use Rattle.swim_claim.specs.declared.claim.Claim.{Claim}
 use Rattle.swim_pack.specs.Composing.{UnlessFailed}
-use Rattle.swim_pack.specs.Ends.{Source, Rises}
+use Rattle.swim_pack.specs.Ends.{Source, Lacks, Rises}
 use Rattle.swim_wire.specs.declared.fault.WireFault.{WireFault}
 use Rattle.swim_wire.specs.declared.fault.WireFault.TheVariants as wire
 use Rattle.swim_wire.specs.Asking.{PacketAsks, DatagramAsks}
-use Rattle.swim_wire.specs.Checks.{ExplainsWhole}
+use Rattle.swim_wire.specs.Checks.{ExplainsStart, ExplainsWhole}
 use Rattle.swim_wire.specs.Datagrams.{ExplainsDatagram}
 use Rattle.swim_wire.specs.Fault.{wire_number}
 use Rattle.swim_wire.specs.Reading.{wire_cause}
@@ -75,16 +76,23 @@ compound_refused {X} bytes lens old new status len fault few is no_len same why 
   | inr other ↦ CompoundDone.refused few fault is other (why other) no_len same
 ]
 
-pub finish_refused : (bytes rest : List ℕ) (fault : SyncFault) → exchanging.IsFinishRefused (memory bytes) (memory rest) fault → FinishCause bytes fault
-finish_refused bytes rest (sync.Wire error) why = lacks bytes rest error why
-finish_refused bytes rest sync.TooManyRecords why = why
-finish_refused bytes rest sync.Push why = why
-finish_refused bytes rest sync.Memory why = why
-
 -- another fault of a stream than want of memory
-other_wire : (fault : WireFault) → fault ≢ wire.Memory → fault_of_wire fault ≡ sync.Wire fault
-other_wire wire.Memory other = absurd (other refl)
-other_wire error other = refl
+is_wire : (fault : WireFault) → fault ≢ wire.Memory → fault_of_wire fault ≡ sync.Wire fault
+is_wire wire.Memory other = absurd (other refl)
+is_wire error other = refl
+
+-- a reply was refused, for want of memory or since there is none
+pub unread : (bytes inlet rest : List ℕ) (fault : WireFault) → inlet ≡ bytes
+    → UnlessFailed (wire_cause fault) (Lacks (memory inlet) (λ b. (claims : List Claim) × (join : Bool) × StreamText b claims join))
+    → ExplainsStart (ExplainsStream fault) (memory inlet) → (fault ≡ wire.Fault → Rises 0 0)
+    → FinishCause bytes (fault_of_wire fault)
+unread bytes inlet rest fault is none explains failed = elim (memory_or fault) [
+  | inl wants ↦ subst (λ (f : WireFault). FinishCause bytes (fault_of_wire f)) (sym wants) tt
+  | inr other ↦
+      subst (FinishCause bytes) (sym (is_wire fault other))
+      (lacks bytes rest fault (subst (λ (b : List ℕ). exchanging.LacksStream (memory b) (memory rest) fault) is
+      (record { no_memory = other; lacks = none; explains = explains; failed = failed })))
+]
 
 -- no stream was read, so that none is answered
 pub stream_unread : (form : Form) (bytes inlet rest : List ℕ) (table : Entries) (fault : WireFault) → inlet ≡ bytes
@@ -94,7 +102,7 @@ stream_unread form bytes inlet rest table fault is none explains failed = elim (
   | inl wants ↦ subst (λ (f : WireFault). AnswerCause form bytes table (fault_of_wire f)) (sym wants) tt
   | inr other ↦
       let why : exchanging.LacksStream (memory inlet) (memory rest) fault = record { no_memory = other; lacks = none; explains = explains; failed = failed } in
-      subst (λ (f : SyncFault). AnswerCause form bytes table f) (sym (other_wire fault other))
+      subst (λ (f : SyncFault). AnswerCause form bytes table f) (sym (is_wire fault other))
       (subst (λ (b : List ℕ). HoldsNoStream b fault) is (lacks inlet rest fault why))
 ]
 

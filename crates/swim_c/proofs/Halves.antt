@@ -1,17 +1,14 @@
 -- Halves of an exchange over bytes in memory.
-use Rattle.std.proofs.Common.{◌≡◌, ℕ, ◌-◌, List, ◌++◌, length, Bool, false, refl, sym, ◌∙◌, subst}
+use Rattle.std.proofs.Common.{◌≡◌, ℕ, ◌-◌, List, ◌++◌, length, Bool, refl, sym, subst}
 use Rattle.swim_claim.specs.declared.claim.Claim.{Claim}
-use Rattle.swim_table.specs.Lending.{with_table}
 use Rattle.swim_table.specs.Node.{NodeValue, SameMember}
 use Rattle.swim_table.specs.Table.{Entries, TableOf, IsLegalTable}
-use Rattle.swim_sync.specs.declared.fault.SyncFault.{SyncFault}
 use Rattle.swim_sync.specs.Exchanging as exchanging
-use Rattle.swim_sync.specs.Fault.{sync_number}
 use Rattle.swim_c.specs.declared.form.Form.{Form}
 use Rattle.swim_c.specs.Buffers.{Copied}
 use Rattle.swim_c.specs.Exchanges.{BeginsStream, NodeTakesStream, AnswersOffer, FinishDone}
 use Rattle.swim_c.specs.Forms.{bytes_in}
-use Rattle.swim_c.proofs.Faults.{memory, finish_refused}
+use Rattle.swim_c.proofs.Faults.{memory}
 use Rattle.swim_c.proofs.WholeStreams.{begins, taken_in}
 
 -- an offer was read from the front of bytes in memory
@@ -42,28 +39,10 @@ answered form bytes inlet rest old new dump offered join status used len before 
     AnswersOffer.answered done (took bytes inlet rest offered join used before after is gone read legal all member)
     (subst (λ (b : List ℕ). Copied b old new status len) of copied)
 
--- a reply was taken in by the node's table
-pub finished : (bytes inlet rest : List ℕ) (join : Bool) (used : ℕ) (before : NodeValue) (table after : Entries)
-    → inlet ≡ bytes → used ≡ length bytes - length rest
-    → table ≡ before.table → exchanging.TakesStream (memory inlet) (memory rest) table after join
-    → FinishDone bytes 0 join used 0 before (with_table before after)
-finished bytes inlet rest join used before table after same gone is takes =
-    let taken : exchanging.TakesStream (memory bytes) (memory rest) before.table after join =
-    subst (λ (b : List ℕ). exchanging.TakesStream (memory b) (memory rest) before.table after join) same
-    (subst (λ (t : Entries). exchanging.TakesStream (memory inlet) (memory rest) t after join) is takes) in
-    FinishDone.finished refl refl (record {
-      claims = taken.claims;
-      begins = subst (λ (u : ℕ). BeginsStream bytes taken.claims join u) (sym gone) (begins bytes rest taken.claims join taken.taken);
-      taken = record { reduced = taken.reduced; all = taken.all };
-      member = record { name = refl; details = refl };
-    })
-
--- a reply was refused, and the node's table is as it was
-pub unfinished : (bytes inlet rest : List ℕ) (before : NodeValue) (table after : Entries) (fault : SyncFault) → inlet ≡ bytes
-    → table ≡ before.table → after ≡ table
-    → exchanging.IsFinishRefused (memory inlet) (memory rest) fault → FinishDone bytes (sync_number fault) false 0 0 before (with_table before after)
-unfinished bytes inlet rest before table after fault whole is same why =
-    subst (λ (t : Entries). FinishDone bytes (sync_number fault) false 0 0 before (with_table before t)) (sym (same ∙ is))
-    (FinishDone.refused fault
-    (finish_refused bytes rest fault (subst (λ (b : List ℕ). exchanging.IsFinishRefused (memory b) (memory rest) fault) whole why))
-    refl (record { no_join = refl; no_used = refl; no_len = refl }) refl)
+-- a reply was read, and joined in
+pub replied : (bytes inlet rest : List ℕ) (offered : Entries) (join : Bool) (used : ℕ) (before after : NodeValue) → inlet ≡ bytes
+    → used ≡ length bytes - length rest → exchanging.ReadsOffer (memory inlet) (memory rest) offered join → IsLegalTable before.table
+    → ((claims others : List Claim) → TableOf before.table claims → TableOf offered others → TableOf after.table (claims ++ others))
+    → SameMember before after → FinishDone bytes 0 join used 0 before after
+replied bytes inlet rest offered join used before after is gone read legal all member =
+    FinishDone.finished refl refl (took bytes inlet rest offered join used before after is gone read legal all member)

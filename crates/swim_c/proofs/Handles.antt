@@ -26,8 +26,10 @@ use Rattle.std.proofs.BoxSteps.Steps.{box_out, box_in}
 use Rattle.std.specs.contracts.alloc.Global as heap
 use Rattle.std.proofs.alloc.Global.TheLaws as heap_laws
 use Rattle.std.specs.contracts.impls.GlobalAllocator.TheImpl.{ghosts, dict}
-use Rattle.swim_table.specs.contracts.node.Node as node
-use Rattle.swim_table.proofs.node.Node.TheLaws as node_laws
+use Rattle.swim_table.specs.Node.{NodeValue}
+use Rattle.swim_table.specs.Table.{Entries}
+use Rattle.swim_c.specs.contracts.watching.Watched as node
+use Rattle.swim_c.proofs.watching.Watched.TheLaws as node_laws
 use Rattle.swim_c.specs.Handle.{handle_owns}
 use Rattle.swim_c.proofs.Drops.{node_row, node_row_laws, heap_row, heap_row_laws, heap_drops}
 use Rattle.swim_c.specs.contracts.handle.Handle as handle
@@ -72,15 +74,16 @@ module _ {M : Type 1} {𝓤 : Ura M} {𝓛 : Logic 𝓤} {K : Type 0} {Γ : List
       rewrite t 0 (λ (us : List Val). ‵ ((heap.the_row).own_val a us)) (heap_Tells a vs is) refl $ k (heap_Tells a vs is))
 
 module _ {M : Type 1} {𝓤 : Ura M} {𝓛 : Logic 𝓤} {K : Type 0} {Γ : List (Item 𝓤)} {G : Goal 𝓤 𝓛.H} where
-  pub handle_in : K → (p : Ptr) (y : Bool) (n : Option node.the_row.Denot)
-      → Step K 𝓛 (‵ ((handle.the_row).own_val (record { at = p; held = y; node = n }) (both (ptr_val p) (vbool y) ∷ [])) ∷ Γ) G (‵ (handle_owns p y n) ∷ Γ) G
-  handle_in t p y n = step (λ s. let v : Val = both (ptr_val p) (vbool y) in
+  pub handle_in : K → (p : Ptr) (y : Bool) (n : Option NodeValue) (m : Option Entries)
+      → Step K 𝓛 (‵ ((handle.the_row).own_val (record { at = p; held = y; node = n; changes = m }) (both (ptr_val p) (vbool y) ∷ [])) ∷ Γ) G
+      (‵ (handle_owns p y n m) ∷ Γ) G
+  handle_in t p y n m = step (λ s. let v : Val = both (ptr_val p) (vbool y) in
       nothing t $ feq_i t (List Val) (vbool y ∷ []) (vbool y ∷ []) refl $ fjoin t $ feq_i t (List Val) (ptr_val p ∷ []) (ptr_val p ∷ []) refl $ fjoin t $
       feq_i t (List Val) (v ∷ []) (v ∷ []) refl $ fjoin t $
       fpack t (Valss (RawPtr ∷ bool ∷ [])) (within (shape handle.the_type) (p, (y, tt)) (v ∷ [])) (ptr_val p ∷ [], (vbool y ∷ [], tt)) $ fjoin t $ s)
 
   pub handle_out : K → (h : (handle.the_row).Denot) (vs : List Val)
-      → (vs ≡ both (ptr_val h.at) (vbool h.held) ∷ [] → Seq K 𝓛 (‵ (handle_owns h.at h.held h.node) ∷ Γ) G)
+      → (vs ≡ both (ptr_val h.at) (vbool h.held) ∷ [] → Seq K 𝓛 (‵ (handle_owns h.at h.held h.node h.changes) ∷ Γ) G)
       → Seq K 𝓛 (‵ ((handle.the_row).own_val h vs) ∷ Γ) G
   handle_out t h vs k =
       fsplit t $ fpick t (λ vss. fsplit t $ feq_l t (λ ev. fsplit t $ feq_l t (λ ep. fsplit t $ feq_l t (λ eb. drop t $

@@ -6,7 +6,9 @@ pub mod Halves
 pub mod Handles
 pub mod KeptHandles
 pub mod KeyringHandles
+pub mod Known
 pub mod NodeCalls
+pub mod Noting
 pub mod Pieces
 pub mod Sayings
 pub mod Unsealing

@@ -1,8 +1,8 @@
 -- Nodes that forget a name.
-use Rattle.std.specs.Prelude.{◌≡◌, ℕ, List, None, IsSome}
+use Rattle.std.specs.Prelude.{◌≡◌, ◌≢◌, ◌↔◌, ℕ, List, Option, None, Some, IsSome}
 use Rattle.swim_claim.specs.declared.claim.Claim.{Claim}
 use Rattle.swim_table.specs.Node.{NodeValue, SameMember}
-use Rattle.swim_table.specs.Table.{get, about_others, Reduced, TableOf}
+use Rattle.swim_table.specs.Table.{Entries, get, about_others, Reduced, TableOf}
 
 -- the table had the name, and is that of the claims taken in about other names
 pub record ForgetsName (name : List ℕ) (before after : NodeValue) : Type 0 where
@@ -17,3 +17,17 @@ pub data ForgetDone (name : List ℕ) (status : ℕ) (before after : NodeValue) 
   forgotten : status ≡ 0 → ForgetsName name before after → ForgetDone name status before after
   unknown : status ≡ 67 → get before.table name ≡ None → after ≡ before
       → ForgetDone name status before after
+
+-- where names are noted, those of before are noted but for this one
+abbrev pub LeavesOut : List ℕ → Option Entries → Option Entries → Type 0
+LeavesOut name None None = Unit {0}
+LeavesOut name None (Some new) = ⊥
+LeavesOut name (Some old) None = ⊥
+LeavesOut name (Some old) (Some new) =
+    (other : List ℕ) → IsSome (get new other) ↔ (IsSome (get old other) × (other ≢ name))
+
+-- On status 0 the name is noted no longer, and the others are. Else the noted names are as they
+-- were.
+pub record LetsNameGo (name : List ℕ) (old new : Option Entries) (status : ℕ) : Type 0 where
+  pub done : status ≡ 0 → LeavesOut name old new
+  pub refused : status ≢ 0 → new ≡ old

@@ -18,3 +18,4 @@ pub mod Sealing
 pub mod Statuses
 pub mod Taking
 pub mod Unwrapping
+pub mod Watching

@@ -2,15 +2,17 @@
 
 ghost use Rattle.std.specs.Prelude.{◌≡◌, false, IfOk, IfErr, OnErr};
 ghost use Rattle.swim_c.specs.Buffers.{WrittenOr};
-ghost use Rattle.swim_c.specs.Exchanges.{AnswersOffer, LacksDump, AnswerCause, FinishDone, AnswerDone, OfferedInForm, AnsweredInForm};
+ghost use Rattle.swim_c.specs.Exchanges.{AnswersOffer, LacksDump, AnswerCause, FinishCause, FinishDone, AnswerDone, OfferedInForm, AnsweredInForm};
 ghost use Rattle.swim_c.specs.Forms.{bytes_in};
+ghost use Rattle.swim_c.specs.Watching.{Noted, TellsNews};
 
 use crate::copy::Written;
 use crate::form::Form;
 use crate::status::{BAD_FORM, DONE, TOO_SMALL};
+use crate::watching::Watched;
 use std::alloc::Global;
 use swim_pack::SliceInlet;
-use swim_sync::{SyncFault, finish, room_for_both};
+use swim_sync::{SyncFault, room_for_both};
 use swim_table::{Node, read_stream};
 
 /// What came of a stream.
@@ -20,6 +22,8 @@ pub struct Exchanged {
     pub status: u32,
     /// The stream's join flag.
     pub join: bool,
+    /// Whether the node's table changed.
+    pub news: bool,
     /// How many bytes the stream has.
     pub used: usize,
     /// The length of the reply.
@@ -28,11 +32,13 @@ pub struct Exchanged {
 
 impl Exchanged {
     pub fn refused(status: u32) -> Exchanged
-        ensures { result ≡ record { status = status; join = false; used = 0; len = 0 } }
+        ensures { result
+            ≡ record { status = status; join = false; news = false; used = 0; len = 0 } }
     {
         Exchanged {
             status,
             join: false,
+            news: false,
             used: 0,
             len: 0,
         }
@@ -72,16 +78,19 @@ fn offer_out(node: &Node, join: bool, form: Form, out: &mut [u8]) -> Written
 /// Answers a stream in the form of this number, or refuses a number that is that of none.
 pub fn answer_in_form(
     alloc: Global,
-    node: &mut Node,
+    held: &mut Watched,
     stream: &[u8],
     form: u32,
     out: &mut [u8],
 ) -> Exchanged
-    ensures { AnsweredInForm form stream.now
-        out.old out.new result.status result.join result.used result.len node.old node.new }
+    ensures answers { AnsweredInForm form stream.now out.old out.new
+        result.status result.join result.used result.len held.old.node held.new.node }
+    ensures news { TellsNews result.status result.news held.old.node held.new.node }
+    ensures noted { Noted held.old.changes held.new.changes
+        result.status held.old.node held.new.node }
 {
     match Form::of(form) {
-        Some(form) => answer_stream(alloc, node, stream, form, out),
+        Some(form) => answer_stream(alloc, held, stream, form, out),
         None => Exchanged::refused(BAD_FORM),
     }
 }
@@ -91,15 +100,18 @@ pub fn answer_in_form(
 /// No memory is asked for the dump.
 fn answer_stream(
     alloc: Global,
-    node: &mut Node,
+    held: &mut Watched,
     stream: &[u8],
     form: Form,
     out: &mut [u8],
 ) -> Exchanged
-    ensures { AnswerDone form stream.now
-        out.old out.new result.status result.join result.used result.len node.old node.new }
+    ensures answers { AnswerDone form stream.now out.old out.new
+        result.status result.join result.used result.len held.old.node held.new.node }
+    ensures news { TellsNews result.status result.news held.old.node held.new.node }
+    ensures noted { Noted held.old.changes held.new.changes
+        result.status held.old.node held.new.node }
 {
-    match try_answer(alloc, node, stream, form, out) {
+    match try_answer(alloc, held, stream, form, out) {
         Ok(exchanged) => exchanged,
         Err(fault) => Exchanged::refused(fault.number()),
     }
@@ -107,52 +119,78 @@ fn answer_stream(
 
 fn try_answer(
     alloc: Global,
-    node: &mut Node,
+    held: &mut Watched,
     stream: &[u8],
     form: Form,
     out: &mut [u8],
 ) -> Result<Exchanged, SyncFault>
     ensures answers { IfOk result (λ made. AnswersOffer form stream.now
-        out.old out.new made.status made.join made.used made.len node.old node.new) }
-    ensures unchanged { OnErr result ((node.new ≡ node.old) × (out.new ≡ out.old)) }
-    ensures refused { IfErr result (AnswerCause form stream.now node.old.table) }
+        out.old out.new made.status made.join made.used made.len held.old.node held.new.node) }
+    ensures news { IfOk result (λ made.
+        TellsNews made.status made.news held.old.node held.new.node) }
+    ensures noted { IfOk result (λ made. Noted held.old.changes held.new.changes
+        made.status held.old.node held.new.node) }
+    ensures unchanged { OnErr result ((held.new ≡ held.old) × (out.new ≡ out.old)) }
+    ensures refused { IfErr result (AnswerCause form stream.now held.old.node.table) }
 {
     let mut inlet = SliceInlet::new(stream);
     let (offered, join) = read_stream(alloc, &mut inlet)?;
-    let reply_len = form.dump_len(node.table(), join)?;
+    let reply_len = form.dump_len(held.node.table(), join)?;
     let used = stream.len() - inlet.rest().len();
     if reply_len > out.len() {
         return Ok(Exchanged {
             status: TOO_SMALL,
             join,
+            news: false,
             used,
             len: reply_len,
         });
     }
-    let room = room_for_both(alloc, node.table(), &offered)?;
-    form.dump_front(node.table(), join, reply_len, out);
-    node.join_in(room, offered);
+    let news = held.news(alloc, &offered)?;
+    let room = room_for_both(alloc, held.node.table(), &offered)?;
+    form.dump_front(held.node.table(), join, reply_len, out);
+    let news = held.join_in(room, offered, news);
     Ok(Exchanged {
         status: DONE,
         join,
+        news,
         used,
         len: reply_len,
     })
 }
 
 /// Reads a stream, and takes it in.
-pub fn finish_stream(alloc: Global, node: &mut Node, stream: &[u8]) -> Exchanged
-    ensures { FinishDone stream.now
-        result.status result.join result.used result.len node.old node.new }
+pub fn finish_stream(alloc: Global, held: &mut Watched, stream: &[u8]) -> Exchanged
+    ensures finishes { FinishDone stream.now
+        result.status result.join result.used result.len held.old.node held.new.node }
+    ensures news { TellsNews result.status result.news held.old.node held.new.node }
+    ensures noted { Noted held.old.changes held.new.changes
+        result.status held.old.node held.new.node }
 {
-    let mut inlet = SliceInlet::new(stream);
-    match finish(alloc, &mut inlet, node.table_mut()) {
-        Ok(join) => Exchanged {
-            status: DONE,
-            join,
-            used: stream.len() - inlet.rest().len(),
-            len: 0,
-        },
+    match try_finish(alloc, held, stream) {
+        Ok(exchanged) => exchanged,
         Err(fault) => Exchanged::refused(fault.number()),
     }
+}
+
+fn try_finish(alloc: Global, held: &mut Watched, stream: &[u8]) -> Result<Exchanged, SyncFault>
+    ensures finishes { IfOk result (λ made. FinishDone stream.now
+        made.status made.join made.used made.len held.old.node held.new.node) }
+    ensures news { IfOk result (λ made.
+        TellsNews made.status made.news held.old.node held.new.node) }
+    ensures noted { IfOk result (λ made. Noted held.old.changes held.new.changes
+        made.status held.old.node held.new.node) }
+    ensures unchanged { OnErr result (held.new ≡ held.old) }
+    ensures refused { IfErr result (FinishCause stream.now) }
+{
+    let mut inlet = SliceInlet::new(stream);
+    let (replied, join) = read_stream(alloc, &mut inlet)?;
+    let news = held.join(alloc, replied)?;
+    Ok(Exchanged {
+        status: DONE,
+        join,
+        news,
+        used: stream.len() - inlet.rest().len(),
+        len: 0,
+    })
 }

@@ -9,4 +9,6 @@ mod streams;
 mod table;
 #[cfg(test)]
 mod tests;
+mod version;
+mod watch;
 mod wrapped;

@@ -6,12 +6,14 @@ ghost use Rattle.swim_c.specs.Buffers.{IsNoMemory};
 ghost use Rattle.swim_c.specs.Exchanges.{AnswerCause, NodeTakesStream};
 ghost use Rattle.swim_c.specs.Forms.{bytes_in, HasTooManyIn};
 ghost use Rattle.swim_c.specs.NewBytes.{AnsweredNew, AnswersNew, FilledOr, HasBytes, OfferedNew};
+ghost use Rattle.swim_c.specs.Watching.{Noted, TellsNews};
 
 use crate::buffer::Buffer;
 use crate::exchanging::Exchanged;
 use crate::form::Form;
 use crate::kept::Kept;
 use crate::status::{BAD_FORM, DONE, MEMORY};
+use crate::watching::Watched;
 use std::alloc::{AllocError, Global};
 use swim_pack::SliceInlet;
 use swim_sync::{SyncFault, room_for_both};
@@ -47,31 +49,37 @@ fn kept_dump(alloc: Global, node: &Node, join: bool, form: Form) -> Result<Box<K
 /// takes the stream in.
 pub fn answer_new(
     alloc: Global,
-    node: &mut Node,
+    held: &mut Watched,
     stream: &[u8],
     form: u32,
     buffer: &mut Buffer,
 ) -> Exchanged
-    ensures { AnsweredNew form stream.now buffer.old buffer.new
-        result.status result.join result.used result.len node.old node.new }
+    ensures answers { AnsweredNew form stream.now buffer.old buffer.new
+        result.status result.join result.used result.len held.old.node held.new.node }
+    ensures news { TellsNews result.status result.news held.old.node held.new.node }
+    ensures noted { Noted held.old.changes held.new.changes
+        result.status held.old.node held.new.node }
 {
     match Form::of(form) {
-        Some(form) => answer_filling(alloc, node, stream, form, buffer),
+        Some(form) => answer_filling(alloc, held, stream, form, buffer),
         None => Exchanged::refused(BAD_FORM),
     }
 }
 
 fn answer_filling(
     alloc: Global,
-    node: &mut Node,
+    held: &mut Watched,
     stream: &[u8],
     form: Form,
     buffer: &mut Buffer,
 ) -> Exchanged
-    ensures { AnswersNew form stream.now buffer.old buffer.new
-        result.status result.join result.used result.len node.old node.new }
+    ensures answers { AnswersNew form stream.now buffer.old buffer.new
+        result.status result.join result.used result.len held.old.node held.new.node }
+    ensures news { TellsNews result.status result.news held.old.node held.new.node }
+    ensures noted { Noted held.old.changes held.new.changes
+        result.status held.old.node held.new.node }
 {
-    match try_answer_new(alloc, node, stream, form, buffer) {
+    match try_answer_new(alloc, held, stream, form, buffer) {
         Ok(exchanged) => exchanged,
         Err(fault) => Exchanged::refused(fault.number()),
     }
@@ -79,33 +87,39 @@ fn answer_filling(
 
 fn try_answer_new(
     alloc: Global,
-    node: &mut Node,
+    held: &mut Watched,
     stream: &[u8],
     form: Form,
     buffer: &mut Buffer,
 ) -> Result<Exchanged, SyncFault>
     ensures done { IfOk result (λ made. made.status ≡ 0) }
     ensures takes { IfOk result (λ made.
-        NodeTakesStream stream.now made.join made.used node.old node.new) }
+        NodeTakesStream stream.now made.join made.used held.old.node held.new.node) }
     ensures fills { IfOk result (λ made.
-        HasBytes (bytes_in form node.old.table made.join) buffer.new) }
+        HasBytes (bytes_in form held.old.node.table made.join) buffer.new) }
     ensures len { IfOk result (λ made.
-        made.len ≡ length (bytes_in form node.old.table made.join)) }
-    ensures unchanged { OnErr result ((node.new ≡ node.old) × (buffer.new ≡ buffer.old)) }
-    ensures refused { IfErr result (AnswerCause form stream.now node.old.table) }
+        made.len ≡ length (bytes_in form held.old.node.table made.join)) }
+    ensures news { IfOk result (λ made.
+        TellsNews made.status made.news held.old.node held.new.node) }
+    ensures noted { IfOk result (λ made. Noted held.old.changes held.new.changes
+        made.status held.old.node held.new.node) }
+    ensures unchanged { OnErr result ((held.new ≡ held.old) × (buffer.new ≡ buffer.old)) }
+    ensures refused { IfErr result (AnswerCause form stream.now held.old.node.table) }
 {
     let mut inlet = SliceInlet::new(stream);
     let (offered, join) = read_stream(alloc, &mut inlet)?;
-    let reply = form.dump(alloc, node.table(), join)?;
+    let reply = form.dump(alloc, held.node.table(), join)?;
     let used = stream.len() - inlet.rest().len();
     let len = reply.len();
     let kept = Kept::boxed(alloc, reply)?;
-    let room = room_for_both(alloc, node.table(), &offered)?;
+    let news = held.news(alloc, &offered)?;
+    let room = room_for_both(alloc, held.node.table(), &offered)?;
     buffer.fill(alloc, kept);
-    node.join_in(room, offered);
+    let news = held.join_in(room, offered, news);
     Ok(Exchanged {
         status: DONE,
         join,
+        news,
         used,
         len,
     })

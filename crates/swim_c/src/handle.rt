@@ -1,31 +1,33 @@
 //! What a program that is not Rattle holds of a node.
 
 ghost use Rattle.std.specs.Prelude.{◌≡◌, Option, Some, None, MatchOption};
-ghost use Rattle.swim_c.specs.Handle.{handle_owns, node_coded};
+ghost use Rattle.swim_c.specs.Handle.{handle_owns, node_coded, changes_coded};
 ghost use Rattle.swim_table.specs.Node.{NodeValue};
+ghost use Rattle.swim_table.specs.Table.{Entries};
 
+use crate::watching::Watched;
 use std::alloc::Global;
 use std::marker::Model;
 use std::mem;
-use swim_table::Node;
 
-/// A node, or none. All bytes zero are a handle with none.
+/// A node and the names that it noted, or none. All bytes zero are a handle with none.
 #[repr(C)]
 #[derive(Drop)]
 pub struct Handle {
     at: *mut u8,
     held: bool,
     pub ghost node: { Option NodeValue } by { node_coded },
+    pub ghost changes: { Option Entries } by { changes_coded },
 }
 
 impl Model for Handle {
-    ghost also_owns = { λ h. handle_owns h.at h.held h.node };
+    ghost also_owns = { λ h. handle_owns h.at h.held h.node h.changes };
 }
 
 impl Handle {
     /// The handle with no node.
     pub fn none() -> Handle
-        ensures { result.node ≡ None }
+        ensures { (result.node ≡ None) × (result.changes ≡ None) }
     {
         Handle {
             at: std::ptr::null_mut(),
@@ -33,42 +35,48 @@ impl Handle {
         }
     }
 
-    fn of(node: Box<Node>) -> Handle
-        ensures { result.node ≡ Some node.value }
+    fn of(watched: Box<Watched>) -> Handle
+        ensures { (result.node ≡ Some watched.value.node)
+            × (result.changes ≡ watched.value.changes) }
     {
-        let at = Box::into_raw(node);
+        let at = Box::into_raw(watched);
         Handle {
             at: at as *mut u8,
             held: true,
         }
     }
 
-    fn into_node(self, alloc: Global) -> Option<Box<Node>>
-        ensures { MatchOption result (self.node ≡ None) (λ node. self.node ≡ Some node.value) }
+    fn into_node(self, alloc: Global) -> Option<Box<Watched>>
+        ensures { MatchOption result ((self.node ≡ None) × (self.changes ≡ None))
+            (λ watched. (self.node ≡ Some watched.value.node)
+            × (self.changes ≡ watched.value.changes)) }
     {
         let Handle { at, held } = self;
         if !held {
             return None;
         }
-        Some(unsafe { Box::from_raw(alloc, at as *mut Node) })
+        Some(unsafe { Box::from_raw(alloc, at as *mut Watched) })
     }
 
     /// Takes the node out.
-    pub fn take(&mut self, alloc: Global) -> Option<Box<Node>>
-        ensures left { self.new.node ≡ None }
+    pub fn take(&mut self, alloc: Global) -> Option<Box<Watched>>
+        ensures left { (self.new.node ≡ None) × (self.new.changes ≡ None) }
         ensures taken { MatchOption result (self.old.node ≡ None)
-            (λ node. self.old.node ≡ Some node.value) }
+            (λ watched. self.old.node ≡ Some watched.value.node) }
+        ensures changes { MatchOption result (self.old.changes ≡ None)
+            (λ watched. self.old.changes ≡ watched.value.changes) }
     {
         let handle = mem::replace(self, Handle::none());
         handle.into_node(alloc)
     }
 
     /// Puts a node in.
-    pub fn put(&mut self, node: Box<Node>)
+    pub fn put(&mut self, watched: Box<Watched>)
         requires { self.old.node ≡ None }
-        ensures { self.new.node ≡ Some node.value }
+        ensures node { self.new.node ≡ Some watched.value.node }
+        ensures changes { self.new.changes ≡ watched.value.changes }
     {
-        *self = Handle::of(node);
+        *self = Handle::of(watched);
     }
 }
 

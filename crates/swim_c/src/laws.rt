@@ -1,14 +1,20 @@
 //! What holds of the definitions, apart from any code.
 
-ghost use Rattle.std.specs.Prelude.{◌≡◌, List, ℕ, [], ◌++◌};
+ghost use Rattle.std.specs.Prelude.{◌≡◌, List, ℕ, [], ◌++◌, Option, IsSome};
+ghost use Rattle.swim_claim.specs.declared.claim.Claim.{Claim};
 ghost use Rattle.memberlist_transport.specs.declared.message.Message.{Message};
 ghost use Rattle.memberlist_transport.specs.Packet.{Holds, HoldsClear};
 ghost use Rattle.memberlist_transport.specs.Reply.{IsReplyIn};
 ghost use Rattle.memberlist_transport.specs.Stream.{IsStreamIn, IsClearStream};
+ghost use Rattle.swim_table.specs.Node.{NodeValue};
+ghost use Rattle.swim_table.specs.Table.{Entries, TableOf, Reduced, get};
 ghost use Rattle.swim_c.specs.declared.progress.Progress.{Progress};
+ghost use Rattle.swim_c.specs.Forgetting.{ForgetsName, LetsNameGo};
 ghost use Rattle.swim_c.specs.Progressing.{IsProgressIn};
 ghost use Rattle.swim_c.specs.Sealing.{IsSealedPacket, IsSealedStream, IsSealedReply};
+ghost use Rattle.swim_c.specs.Taking.{TakesClaims};
 ghost use Rattle.swim_c.specs.Unwrapping.{most_stream};
+ghost use Rattle.swim_c.specs.Watching.{IsNoted, LetsGo, NotesChanges};
 
 /// The progress of a stream in bytes is one in all bytes that begin with them.
 pub fn progress_carries_on()
@@ -38,4 +44,22 @@ pub fn sealed_is_unwrapped()
         → IsSealedReply keys nonce label message bytes
         → IsClearStream most_stream message stream
         → IsReplyIn most_stream keys label bytes stream }
+{}
+
+/// A node knows each name that it noted, whatever claims it takes in and names it tells or forgets:
+/// so each is told at last.
+pub fn noted_names_are_known()
+    ensures taken { (old new : Option Entries) (before after : Entries) (claims : List Claim)
+        → TableOf before (Reduced before) → TakesClaims claims before after
+        → NotesChanges old new before after
+        → ((name : List ℕ) → IsNoted old name → IsSome (get before name))
+        → (name : List ℕ) → IsNoted new name → IsSome (get after name) }
+    ensures told { (old new : Option Entries) (table : Entries) → LetsGo old new 0
+        → ((name : List ℕ) → IsNoted old name → IsSome (get table name))
+        → (name : List ℕ) → IsNoted new name → IsSome (get table name) }
+    ensures forgotten { (gone : List ℕ) (old new : Option Entries) (before after : NodeValue)
+        → TableOf before.table (Reduced before.table) → ForgetsName gone before after
+        → LetsNameGo gone old new 0
+        → ((name : List ℕ) → IsNoted old name → IsSome (get before.table name))
+        → (name : List ℕ) → IsNoted new name → IsSome (get after.table name) }
 {}

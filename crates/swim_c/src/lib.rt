@@ -11,10 +11,13 @@
 //! | `copy` | bytes that go to a buffer of the caller |
 //! | `kept`, `kept_handle`, `buffer` | bytes in memory of the library |
 //! | `opening` | a node from its parts |
+//! | `watching` | a node, and the names of it that changed |
+//! | `next_change` | these names, told one by one |
 //! | `hearing` | a node that takes in a packet or a compound packet |
+//! | `refuting` | a node that refutes what others say of its member |
 //! | `saying` | what a member says, as packets |
 //! | `packing` | several packets as one compound packet |
-//! | `telling` | what a node tells: its listing, its members, relations and refutations |
+//! | `telling` | what a node tells: its listing, its members and relations |
 //! | `member` | a member as a table has it, in the caller's memory |
 //! | `form` | the two forms of a dump |
 //! | `exchanging` | the halves of an exchange, over the caller's memory |
@@ -41,11 +44,14 @@ mod kept_handle;
 mod keyring;
 mod laws;
 mod member;
+mod next_change;
 mod opening;
 mod packing;
 mod progress;
+mod refuting;
 mod saying;
 mod sealing;
 mod status;
 mod telling;
 mod unwrapping;
+mod watching;

@@ -1,12 +1,13 @@
 //! A node from its parts.
 
-ghost use Rattle.std.specs.Prelude.{◌≡◌, ◌∷◌, [], IfOk, IfErr};
+ghost use Rattle.std.specs.Prelude.{◌≡◌, ◌∷◌, [], None, IfOk, IfErr};
 ghost use Rattle.swim_claim.specs.declared.claim.Claim.TheVariants.{Alive};
 ghost use Rattle.swim_table.specs.Table.{TableOf};
 ghost use Rattle.swim_c.specs.Opening.{IsUnopened, open_number, told};
 ghost use Rattle.swim_c.specs.declared.opening.OpenFault.TheVariants as opening;
 
 use crate::status::MEMORY;
+use crate::watching::Watched;
 use std::alloc::{AllocError, Global};
 use swim_claim::{ClaimFault, Details, Name};
 use swim_table::Node;
@@ -57,19 +58,20 @@ impl OpenFault {
 
 /// The node of a member whose start claim is the Alive of all this. A name that is none is refused
 /// before anything else.
-pub fn open(alloc: Global, parts: Parts, inc: u32) -> Result<Box<Node>, OpenFault>
-    ensures name { IfOk result (λ node. node.value.name ≡ parts.entry.name.now) }
-    ensures details { IfOk result (λ node. node.value.details
+pub fn open(alloc: Global, parts: Parts, inc: u32) -> Result<Box<Watched>, OpenFault>
+    ensures name { IfOk result (λ held. held.value.node.name ≡ parts.entry.name.now) }
+    ensures details { IfOk result (λ held. held.value.node.details
         ≡ told parts.entry.addr.now parts.entry.port parts.entry.meta.now parts.entry.vsn.now) }
-    ensures table { IfOk result (λ node.
-        TableOf node.value.table (Alive node.value.name inc node.value.details ∷ [])) }
+    ensures table { IfOk result (λ held. TableOf held.value.node.table
+        (Alive held.value.node.name inc held.value.node.details ∷ [])) }
+    ensures changes { IfOk result (λ held. held.value.changes ≡ None) }
     ensures refused { IfErr result (IsUnopened parts.entry.name.now
         (told parts.entry.addr.now parts.entry.port parts.entry.meta.now parts.entry.vsn.now)) }
 {
     let (name, details) = copied(alloc, parts)?;
     let node = Node::new(alloc, name, details, inc)?;
-    match Box::new(alloc, node) {
-        Ok(node) => Ok(node),
+    match Box::new(alloc, Watched::new(node)) {
+        Ok(held) => Ok(held),
         Err(_) => Err(OpenFault::Memory),
     }
 }

@@ -1,12 +1,11 @@
-//! What a node tells: its listing, its members, how it relates to another, and its refutation.
+//! What a node tells: its listing, its members, and how it relates to another.
 
-ghost use Rattle.std.specs.Prelude.{◌≡◌, slice_get, false};
+ghost use Rattle.std.specs.Prelude.{slice_get};
 ghost use Rattle.swim_table.specs.Listing.{listing};
 ghost use Rattle.swim_table.specs.Table.{get};
 ghost use Rattle.swim_c.specs.Buffers.{WrittenOr, IsNoMemory};
 ghost use Rattle.swim_c.specs.Members.{MemberDone};
 ghost use Rattle.swim_c.specs.Relating.{IsRelationNumber};
-ghost use Rattle.swim_c.specs.Taking.{RefuteDone};
 
 use crate::copy::{Written, copy_out};
 use crate::member::Member;
@@ -22,45 +21,6 @@ pub fn list_out(alloc: Global, node: &Node, out: &mut [u8]) -> Written
     match list(alloc, node.table()) {
         Ok(text) => copy_out(&text, out),
         Err(_) => Written::refused(MEMORY),
-    }
-}
-
-/// What came of a refutation.
-#[repr(C)]
-#[derive(Clone, Copy)]
-pub struct Refuted {
-    pub status: u32,
-    /// Whether a refutation was due.
-    pub due: bool,
-    /// Its incarnation.
-    pub inc: u32,
-}
-
-impl Refuted {
-    /// No refutation was made.
-    pub fn unmade(status: u32) -> Refuted
-        ensures { result ≡ record { status = status; due = false; inc = 0 } }
-    {
-        Refuted {
-            status,
-            due: false,
-            inc: 0,
-        }
-    }
-}
-
-/// Refutes what others say of the member, where that is due.
-pub fn refute(node: &mut Node) -> Refuted
-    ensures { RefuteDone result.status result.due result.inc node.old node.new }
-{
-    match node.refute() {
-        Ok(Some(inc)) => Refuted {
-            status: DONE,
-            due: true,
-            inc,
-        },
-        Ok(None) => Refuted::unmade(DONE),
-        Err(fault) => Refuted::unmade(fault.number()),
     }
 }
 

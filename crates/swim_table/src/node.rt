@@ -2,7 +2,7 @@
 
 ghost use Rattle.std.specs.Borrow.{sem};
 ghost use Rattle.std.specs.Option.{option_and_then};
-ghost use Rattle.std.specs.Prelude.{◌≡◌, ◌≢◌, ◌↔◌, ◌+◌, ◌≤◌, ◌++◌, ◌∷◌, [], ℕ, List, length, IsTrue, Some, None, Ok, Err, IsSome, IsOk, IfSome, IfOk, IfErr, OnOk, OnErr};
+ghost use Rattle.std.specs.Prelude.{◌≡◌, ◌≢◌, ◌↔◌, ◌+◌, ◌≤◌, ◌++◌, ◌∷◌, [], ℕ, List, length, IsTrue, MatchBool, Some, None, Ok, Err, IsSome, IsOk, IfSome, IfOk, IfErr, OnOk, OnErr};
 ghost use Rattle.swim_claim.specs.declared.claim.Claim.{Claim};
 ghost use Rattle.swim_claim.specs.declared.claim.Claim.TheVariants.{Alive};
 ghost use Rattle.swim_claim.specs.Claim.{name_of, details_of};
@@ -253,6 +253,18 @@ impl Node {
         match self.table.take(refutation) {
             Ok(_) => Ok(Some(next)),
             Err(_) => unreachable!(),
+        }
+    }
+
+    /// Whether [`refute`](Node::refute) would take an Alive in: a refutation is due, and there is an
+    /// incarnation for it.
+    pub fn can_refute(&self) -> bool
+        ensures { MatchBool result (IsDueInRange self.now) (¬ IsDueInRange self.now) }
+    {
+        match self.word() {
+            Word::Disputed { inc } => inc < u32::MAX,
+            Word::Own => false,
+            Word::Gone { inc: _ } => false,
         }
     }
 

@@ -5,6 +5,7 @@ ghost use Rattle.swim_table.specs.Listing.{listing};
 ghost use Rattle.swim_c.specs.Buffers.{IsNoMemory};
 ghost use Rattle.swim_c.specs.NewBytes.{AnsweredNew, FilledOr, OfferedNew};
 ghost use Rattle.swim_c.specs.OnNode.{OnNode, OnSame};
+ghost use Rattle.swim_c.specs.Watching.{Noted, TellsNews};
 
 use crate::buffer::Buffer;
 use crate::exchanging::Exchanged;
@@ -32,14 +33,15 @@ pub extern "C" fn swimtab_raw_offer_new(
     form: u32,
     buffer: &mut Buffer,
 ) -> u32
-    ensures { OnSame node.old.node node.new.node
+    ensures tells { OnSame node.old.node node.new.node
         ((result ≡ 64) × (buffer.new ≡ buffer.old))
         (λ held. OfferedNew form held.table join buffer.old buffer.new result) }
+    ensures noted { node.new.changes ≡ node.old.changes }
 {
     let Some(held) = node.take(alloc) else {
         return NO_NODE;
     };
-    let status = offer_new(alloc, &held, join, form, buffer);
+    let status = offer_new(alloc, &held.node, join, form, buffer);
     node.put(held);
     status
 }
@@ -64,11 +66,16 @@ pub extern "C" fn swimtab_raw_answer_new(
     form: u32,
     buffer: &mut Buffer,
 ) -> Exchanged
-    ensures { OnNode node.old.node node.new.node
-        ((result ≡ record { status = 64; join = false; used = 0; len = 0 })
+    ensures answers { OnNode node.old.node node.new.node
+        ((result ≡ record { status = 64; join = false; news = false; used = 0; len = 0 })
         × (buffer.new ≡ buffer.old))
         (AnsweredNew form stream.now buffer.old buffer.new
         result.status result.join result.used result.len) }
+    ensures news { OnNode node.old.node node.new.node
+        (result.news ≡ false) (TellsNews result.status result.news) }
+    ensures noted { OnNode node.old.node node.new.node
+        (node.new.changes ≡ node.old.changes)
+        (Noted node.old.changes node.new.changes result.status) }
 {
     let Some(mut held) = node.take(alloc) else {
         return Exchanged::refused(NO_NODE);
@@ -89,14 +96,15 @@ pub extern "C" fn swimtab_raw_answer_new(
 /// - 10 if memory is refused.
 #[unsafe(no_mangle)]
 pub extern "C" fn swimtab_raw_list_new(alloc: Global, node: &mut Handle, buffer: &mut Buffer) -> u32
-    ensures { OnSame node.old.node node.new.node
+    ensures tells { OnSame node.old.node node.new.node
         ((result ≡ 64) × (buffer.new ≡ buffer.old))
         (λ held. FilledOr (listing held.table) buffer.old buffer.new result IsNoMemory) }
+    ensures noted { node.new.changes ≡ node.old.changes }
 {
     let Some(held) = node.take(alloc) else {
         return NO_NODE;
     };
-    let status = list_new(alloc, &held, buffer);
+    let status = list_new(alloc, &held.node, buffer);
     node.put(held);
     status
 }

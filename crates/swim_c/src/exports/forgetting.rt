@@ -1,7 +1,7 @@
 //! Names that a node forgets.
 
 ghost use Rattle.std.specs.Prelude.{◌≡◌};
-ghost use Rattle.swim_c.specs.Forgetting.{ForgetDone};
+ghost use Rattle.swim_c.specs.Forgetting.{ForgetDone, LetsNameGo};
 ghost use Rattle.swim_c.specs.OnNode.{OnNode};
 
 use crate::forgetting::forget;
@@ -9,8 +9,8 @@ use crate::handle::Handle;
 use crate::status::NO_NODE;
 use std::alloc::Global;
 
-/// Forgets a name: the table is then that of the claims taken in about other names. No memory is
-/// asked for.
+/// Forgets a name: the table is then that of the claims taken in about other names. If the name was
+/// noted as one that changed, it is noted no longer. No memory is asked for.
 ///
 /// If the name is the member's own, its own claims go too. No refutation is due then, until the
 /// table takes in a claim about the member again. What a packet or a stream says of the name later
@@ -18,14 +18,15 @@ use std::alloc::Global;
 ///
 /// # Statuses
 ///
-/// If it is not 0 the node is as it was.
+/// If it is not 0 the node and the noted names are as they were.
 ///
 /// - 64 if the handle has no node.
 /// - 67 if the table has no such name.
 #[unsafe(no_mangle)]
 pub extern "C" fn swimtab_raw_forget(alloc: Global, node: &mut Handle, name: &[u8]) -> u32
-    ensures { OnNode node.old.node node.new.node
+    ensures forgets { OnNode node.old.node node.new.node
         (result ≡ 64) (ForgetDone name.now result) }
+    ensures noted { LetsNameGo name.now node.old.changes node.new.changes result }
 {
     let Some(mut held) = node.take(alloc) else {
         return NO_NODE;

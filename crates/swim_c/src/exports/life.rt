@@ -1,6 +1,6 @@
 //! The life of a node: opened, and closed.
 
-ghost use Rattle.std.specs.Prelude.{◌≡◌, None, MatchOption};
+ghost use Rattle.std.specs.Prelude.{◌≡◌, ◌≢◌, None, MatchOption};
 ghost use Rattle.swim_c.specs.Opening.{OpenDone, told};
 
 use crate::handle::Handle;
@@ -10,7 +10,7 @@ use std::alloc::Global;
 
 /// Gives a handle without a node that of a member: its name of 1 to 1,024 bytes, its address of 4
 /// or 16 bytes, its port, its metadata of at most 512 bytes, and no versions or 6 bytes of them.
-/// Its table holds its Alive at the incarnation, 0 to 4,294,967,295 (own).
+/// Its table holds its Alive at the incarnation, 0 to 4,294,967,295 (own). It notes no names.
 ///
 /// # Statuses
 ///
@@ -31,8 +31,10 @@ pub extern "C" fn swimtab_raw_open(
     vsn: &[u8],
     inc: u32,
 ) -> u32
-    ensures { OpenDone name.now (told addr.now port meta.now vsn.now) inc
+    ensures opens { OpenDone name.now (told addr.now port meta.now vsn.now) inc
         node.old.node node.new.node result }
+    ensures unnoted { result ≡ 0 → node.new.changes ≡ None }
+    ensures noted { result ≢ 0 → node.new.changes ≡ node.old.changes }
 {
     if let Some(held) = node.take(alloc) {
         node.put(held);
@@ -62,6 +64,7 @@ pub extern "C" fn swimtab_raw_open(
 #[unsafe(no_mangle)]
 pub extern "C" fn swimtab_raw_close(alloc: Global, node: &mut Handle) -> u32
     ensures none { node.new.node ≡ None }
+    ensures unnoted { node.new.changes ≡ None }
     ensures status { MatchOption node.old.node (result ≡ 64) (λ _. result ≡ 0) }
 {
     match node.take(alloc) {

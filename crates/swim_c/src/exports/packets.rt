@@ -8,20 +8,21 @@ ghost use Rattle.swim_c.specs.Opening.{IsUnmade, told};
 ghost use Rattle.swim_c.specs.Packing.{CompoundDone};
 ghost use Rattle.swim_c.specs.Saying.{SaidOr, IsNoName, IsUnsaid};
 ghost use Rattle.swim_c.specs.Taking.{TakeDone, RefuteDone};
+ghost use Rattle.swim_c.specs.Watching.{Noted, TellsNews};
 
 use crate::copy::Written;
 use crate::handle::Handle;
-use crate::hearing::hear;
+use crate::hearing::{Taken, hear};
 use crate::opening::Parts;
 use crate::packing::compound_out;
+use crate::refuting::{Refuted, refute};
 use crate::saying::{say_alive, say_alive_of, say_confirm, say_leave, say_suspect};
 use crate::status::NO_NODE;
-use crate::telling::{Refuted, refute};
 use std::alloc::Global;
 
 /// Takes in the claims of a packet or compound packet, or none. The texts and bytes of a packet may
 /// take memory while it is read. Of a packet by itself about a name that the table knows, only
-/// newer metadata stays.
+/// newer metadata stays. Answers whether the table changed too.
 ///
 /// # Statuses
 ///
@@ -32,16 +33,21 @@ use std::alloc::Global;
 ///   (docs/PROTOCOL.md).
 /// - 10 if memory is refused, never before the length of a text or bytes is read.
 #[unsafe(no_mangle)]
-pub extern "C" fn swimtab_raw_take(alloc: Global, node: &mut Handle, bytes: &[u8]) -> u32
-    ensures { OnNode node.old.node node.new.node
-        (result ≡ 64) (TakeDone bytes.now result) }
+pub extern "C" fn swimtab_raw_take(alloc: Global, node: &mut Handle, bytes: &[u8]) -> Taken
+    ensures takes { OnNode node.old.node node.new.node
+        (result ≡ record { status = 64; news = false }) (TakeDone bytes.now result.status) }
+    ensures news { OnNode node.old.node node.new.node
+        (result.news ≡ false) (TellsNews result.status result.news) }
+    ensures noted { OnNode node.old.node node.new.node
+        (node.new.changes ≡ node.old.changes)
+        (Noted node.old.changes node.new.changes result.status) }
 {
     let Some(mut held) = node.take(alloc) else {
-        return NO_NODE;
+        return Taken::refused(NO_NODE);
     };
-    let status = hear(alloc, &mut held, bytes);
+    let heard = hear(alloc, &mut held, bytes);
     node.put(held);
-    status
+    heard
 }
 
 /// Refutes what others say of the member, where that is due: its table takes in its Alive at the
@@ -57,14 +63,17 @@ pub extern "C" fn swimtab_raw_take(alloc: Global, node: &mut Handle, bytes: &[u8
 /// - 10 where one is due, and memory is refused.
 #[unsafe(no_mangle)]
 pub extern "C" fn swimtab_raw_refute(alloc: Global, node: &mut Handle) -> Refuted
-    ensures { OnNode node.old.node node.new.node
+    ensures refutes { OnNode node.old.node node.new.node
         (result ≡ record { status = 64; due = false; inc = 0 })
         (RefuteDone result.status result.due result.inc) }
+    ensures noted { OnNode node.old.node node.new.node
+        (node.new.changes ≡ node.old.changes)
+        (Noted node.old.changes node.new.changes result.status) }
 {
     let Some(mut held) = node.take(alloc) else {
         return Refuted::unmade(NO_NODE);
     };
-    let refuted = refute(&mut held);
+    let refuted = refute(alloc, &mut held);
     node.put(held);
     refuted
 }
@@ -85,15 +94,16 @@ pub extern "C" fn swimtab_raw_alive(
     inc: u32,
     out: &mut [u8],
 ) -> Written
-    ensures { OnSame node.old.node node.new.node
+    ensures tells { OnSame node.old.node node.new.node
         ((result ≡ record { status = 64; len = 0 }) × (out.new ≡ out.old))
         (λ held. SaidOr (record { claim = Alive held.name inc held.details; from = [] })
         out.old out.new result.status result.len IsNoMemory) }
+    ensures noted { node.new.changes ≡ node.old.changes }
 {
     let Some(held) = node.take(alloc) else {
         return Written::refused(NO_NODE);
     };
-    let written = say_alive(alloc, &held, inc, out);
+    let written = say_alive(alloc, &held.node, inc, out);
     node.put(held);
     written
 }
@@ -156,15 +166,16 @@ pub extern "C" fn swimtab_raw_suspect(
     inc: u32,
     out: &mut [u8],
 ) -> Written
-    ensures { OnSame node.old.node node.new.node
+    ensures tells { OnSame node.old.node node.new.node
         ((result ≡ record { status = 64; len = 0 }) × (out.new ≡ out.old))
         (λ held. SaidOr (record { claim = Suspect name.now inc; from = held.name })
         out.old out.new result.status result.len (IsNoName name.now)) }
+    ensures noted { node.new.changes ≡ node.old.changes }
 {
     let Some(held) = node.take(alloc) else {
         return Written::refused(NO_NODE);
     };
-    let written = say_suspect(alloc, &held, name, inc, out);
+    let written = say_suspect(alloc, &held.node, name, inc, out);
     node.put(held);
     written
 }
@@ -189,15 +200,16 @@ pub extern "C" fn swimtab_raw_confirm(
     inc: u32,
     out: &mut [u8],
 ) -> Written
-    ensures { OnSame node.old.node node.new.node
+    ensures tells { OnSame node.old.node node.new.node
         ((result ≡ record { status = 64; len = 0 }) × (out.new ≡ out.old))
         (λ held. SaidOr (record { claim = Confirm name.now inc; from = held.name })
         out.old out.new result.status result.len (IsUnsaid held.name name.now)) }
+    ensures noted { node.new.changes ≡ node.old.changes }
 {
     let Some(held) = node.take(alloc) else {
         return Written::refused(NO_NODE);
     };
-    let written = say_confirm(alloc, &held, name, inc, out);
+    let written = say_confirm(alloc, &held.node, name, inc, out);
     node.put(held);
     written
 }
@@ -219,15 +231,16 @@ pub extern "C" fn swimtab_raw_leave(
     inc: u32,
     out: &mut [u8],
 ) -> Written
-    ensures { OnSame node.old.node node.new.node
+    ensures tells { OnSame node.old.node node.new.node
         ((result ≡ record { status = 64; len = 0 }) × (out.new ≡ out.old))
         (λ held. SaidOr (record { claim = Leave held.name inc; from = held.name })
         out.old out.new result.status result.len IsNoMemory) }
+    ensures noted { node.new.changes ≡ node.old.changes }
 {
     let Some(held) = node.take(alloc) else {
         return Written::refused(NO_NODE);
     };
-    let written = say_leave(alloc, &held, inc, out);
+    let written = say_leave(alloc, &held.node, inc, out);
     node.put(held);
     written
 }

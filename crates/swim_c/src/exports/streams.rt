@@ -4,6 +4,7 @@ ghost use Rattle.std.specs.Prelude.{◌≡◌, false};
 ghost use Rattle.swim_c.specs.Exchanges.{FinishDone, OfferedInForm, AnsweredInForm};
 ghost use Rattle.swim_c.specs.OnNode.{OnNode, OnSame};
 ghost use Rattle.swim_c.specs.Progressing.{IsProgressIn, WholeDone};
+ghost use Rattle.swim_c.specs.Watching.{Noted, TellsNews};
 
 use crate::copy::Written;
 use crate::exchanging::{Exchanged, answer_in_form, finish_stream, offer_in_form};
@@ -34,15 +35,16 @@ pub extern "C" fn swimtab_raw_offer(
     form: u32,
     out: &mut [u8],
 ) -> Written
-    ensures { OnSame node.old.node node.new.node
+    ensures tells { OnSame node.old.node node.new.node
         ((result ≡ record { status = 64; len = 0 }) × (out.new ≡ out.old))
         (λ held. OfferedInForm form held.table join
         out.old out.new result.status result.len) }
+    ensures noted { node.new.changes ≡ node.old.changes }
 {
     let Some(held) = node.take(alloc) else {
         return Written::refused(NO_NODE);
     };
-    let written = offer_in_form(&held, join, form, out);
+    let written = offer_in_form(&held.node, join, form, out);
     node.put(held);
     written
 }
@@ -71,10 +73,16 @@ pub extern "C" fn swimtab_raw_answer(
     form: u32,
     out: &mut [u8],
 ) -> Exchanged
-    ensures { OnNode node.old.node node.new.node
-        ((result ≡ record { status = 64; join = false; used = 0; len = 0 }) × (out.new ≡ out.old))
+    ensures answers { OnNode node.old.node node.new.node
+        ((result ≡ record { status = 64; join = false; news = false; used = 0; len = 0 })
+        × (out.new ≡ out.old))
         (AnsweredInForm form stream.now
         out.old out.new result.status result.join result.used result.len) }
+    ensures news { OnNode node.old.node node.new.node
+        (result.news ≡ false) (TellsNews result.status result.news) }
+    ensures noted { OnNode node.old.node node.new.node
+        (node.new.changes ≡ node.old.changes)
+        (Noted node.old.changes node.new.changes result.status) }
 {
     let Some(mut held) = node.take(alloc) else {
         return Exchanged::refused(NO_NODE);
@@ -96,9 +104,14 @@ pub extern "C" fn swimtab_raw_answer(
 /// - 10 where memory is refused.
 #[unsafe(no_mangle)]
 pub extern "C" fn swimtab_raw_finish(alloc: Global, node: &mut Handle, stream: &[u8]) -> Exchanged
-    ensures { OnNode node.old.node node.new.node
-        (result ≡ record { status = 64; join = false; used = 0; len = 0 })
+    ensures finishes { OnNode node.old.node node.new.node
+        (result ≡ record { status = 64; join = false; news = false; used = 0; len = 0 })
         (FinishDone stream.now result.status result.join result.used result.len) }
+    ensures news { OnNode node.old.node node.new.node
+        (result.news ≡ false) (TellsNews result.status result.news) }
+    ensures noted { OnNode node.old.node node.new.node
+        (node.new.changes ≡ node.old.changes)
+        (Noted node.old.changes node.new.changes result.status) }
 {
     let Some(mut held) = node.take(alloc) else {
         return Exchanged::refused(NO_NODE);

@@ -21,11 +21,12 @@ use std::alloc::Global;
 #[unsafe(no_mangle)]
 pub extern "C" fn swimtab_raw_count(alloc: Global, node: &mut Handle) -> usize
     ensures same { node.new.node ≡ node.old.node }
+    ensures noted { node.new.changes ≡ node.old.changes }
     ensures count { MatchOption node.old.node (result ≡ 0) (λ held. result ≡ length held.table) }
 {
     match node.take(alloc) {
         Some(held) => {
-            let count = held.table().len();
+            let count = held.node.table().len();
             node.put(held);
             count
         }
@@ -48,14 +49,15 @@ pub extern "C" fn swimtab_raw_member(
     i: usize,
     member: &mut Member,
 ) -> u32
-    ensures { OnSame node.old.node node.new.node
+    ensures tells { OnSame node.old.node node.new.node
         ((result ≡ 64) × (member.new ≡ member.old))
         (λ held. MemberDone (slice_get held.table i) member.old member.new result) }
+    ensures noted { node.new.changes ≡ node.old.changes }
 {
     let Some(held) = node.take(alloc) else {
         return NO_NODE;
     };
-    let status = member_at(&held, i, member);
+    let status = member_at(&held.node, i, member);
     node.put(held);
     status
 }
@@ -75,14 +77,15 @@ pub extern "C" fn swimtab_raw_find(
     name: &[u8],
     member: &mut Member,
 ) -> u32
-    ensures { OnSame node.old.node node.new.node
+    ensures tells { OnSame node.old.node node.new.node
         ((result ≡ 64) × (member.new ≡ member.old))
         (λ held. MemberDone (get held.table name.now) member.old member.new result) }
+    ensures noted { node.new.changes ≡ node.old.changes }
 {
     let Some(held) = node.take(alloc) else {
         return NO_NODE;
     };
-    let status = member_named(&held, name, member);
+    let status = member_named(&held.node, name, member);
     node.put(held);
     status
 }
@@ -98,15 +101,16 @@ pub extern "C" fn swimtab_raw_find(
 /// - 10 where memory is refused.
 #[unsafe(no_mangle)]
 pub extern "C" fn swimtab_raw_list(alloc: Global, node: &mut Handle, out: &mut [u8]) -> Written
-    ensures { OnSame node.old.node node.new.node
+    ensures tells { OnSame node.old.node node.new.node
         ((result ≡ record { status = 64; len = 0 }) × (out.new ≡ out.old))
         (λ held. WrittenOr (listing held.table)
         out.old out.new result.status result.len IsNoMemory) }
+    ensures noted { node.new.changes ≡ node.old.changes }
 {
     let Some(held) = node.take(alloc) else {
         return Written::refused(NO_NODE);
     };
-    let written = list_out(alloc, &held, out);
+    let written = list_out(alloc, &held.node, out);
     node.put(held);
     written
 }
@@ -133,6 +137,8 @@ pub extern "C" fn swimtab_raw_relate(
 ) -> Related
     ensures first { first.new.node ≡ first.old.node }
     ensures second { second.new.node ≡ second.old.node }
+    ensures first_noted { first.new.changes ≡ first.old.changes }
+    ensures second_noted { second.new.changes ≡ second.old.changes }
     ensures none { (first.old.node ≡ None) ⊎ (second.old.node ≡ None)
         → result ≡ record { status = 64; relation = 0 } }
     ensures relation { (left right : NodeValue)
@@ -144,7 +150,7 @@ pub extern "C" fn swimtab_raw_relate(
     };
     let related = match second.take(alloc) {
         Some(right) => {
-            let relation = relation_of(&left, &right);
+            let relation = relation_of(&left.node, &right.node);
             second.put(right);
             Related {
                 status: DONE,

@@ -3,6 +3,7 @@
 
 mod keyrings;
 mod streams;
+mod watch;
 
 use super::life::{swimtab_raw_close, swimtab_raw_open};
 use super::packets::{
@@ -48,8 +49,8 @@ fn opened(rt: &impl Abort, alloc: Global, name: &[u8]) -> Handle {
 
 /// Asserts that the node takes the bytes in.
 fn assert_takes(rt: &impl Abort, alloc: Global, node: &mut Handle, bytes: &[u8]) {
-    if swimtab_raw_take(alloc, node, bytes) == 10 {
-        assert_eq!(rt; swimtab_raw_take(alloc, node, bytes), 0);
+    if swimtab_raw_take(alloc, node, bytes).status == 10 {
+        assert_eq!(rt; swimtab_raw_take(alloc, node, bytes).status, 0);
     }
 }
 
@@ -81,7 +82,7 @@ fn a_node_is_opened_once_and_closed_once(rt: HostRuntime) {
         swimtab_raw_open(alloc, &mut node, b"", &[], 1, &[], &[], 0),
         11
     );
-    assert_eq!(rt; swimtab_raw_take(alloc, &mut node, SUSPICION), 64);
+    assert_eq!(rt; swimtab_raw_take(alloc, &mut node, SUSPICION).status, 64);
 }
 
 #[test]
@@ -97,7 +98,7 @@ fn a_suspicion_is_refuted(rt: HostRuntime) {
     assert_eq!(rt; refuted.status, 0);
     assert!(rt; refuted.due);
     assert_eq!(rt; refuted.inc, 1);
-    assert_eq!(rt; swimtab_raw_take(alloc, &mut node, b"\x09"), 16);
+    assert_eq!(rt; swimtab_raw_take(alloc, &mut node, b"\x09").status, 16);
     assert_lists(&rt, alloc, &mut node, "a alive 1 1/7f000001/7946//\n");
     assert_eq!(rt; swimtab_raw_close(alloc, &mut node), 0);
 }

@@ -14,11 +14,10 @@ returns-in_err-datagram-clause-refused c =
 
 pub returns-clause-takes : goal.returns-clause-takes
 returns-clause-takes c =
-    let took = c.in_ok-take_datagram.ensures in
     record {
       packets = packets_in c.in_ok-datagram.datagram;
       text = c.in_ok-datagram.ensures.reads;
-      taken = record { reduced = took.ok; all = took.all };
+      taken = c.in_ok-news.ensures.takes;
       member = c.take_datagram.ensures.member;
     }
 
@@ -27,5 +26,5 @@ returns-in_err-datagram-clause-memory c =
     let p = err_from_is_err_and c.from_residual.result c.from_residual.ensures.1 in
     rw (p.1, p.2) (λ is. inl (explained_memory c.args.bytes.now c.in_err-datagram.field-0.0 is c.in_err-datagram.ensures.explains))
 
-pub returns-in_err-take_datagram-clause-memory : goal.returns-in_err-take_datagram-clause-memory
-returns-in_err-take_datagram-clause-memory c = λ _. inr (packets_in c.in_ok-datagram.datagram, c.in_ok-datagram.ensures.reads)
+pub returns-in_err-news-clause-memory : goal.returns-in_err-news-clause-memory
+returns-in_err-news-clause-memory c = λ _. inr (packets_in c.in_ok-datagram.datagram, c.in_ok-datagram.ensures.reads)

@@ -40,8 +40,10 @@ use Rattle.std.specs.contracts.alloc.Global as heap
 use Rattle.std.specs.declared.alloc.Global.{Global}
 use Rattle.std.specs.contracts.boxed.Box.from_raw as g
 use Rattle.std.proofs.boxed.Box.from_raw.Met.{met}
-use Rattle.swim_table.specs.contracts.node.Node as node
+use Rattle.swim_table.specs.Node.{NodeValue}
+use Rattle.swim_table.specs.Table.{Entries}
 use Rattle.swim_c.specs.Handle.{handle_owns}
+use Rattle.swim_c.specs.declared.watching.Watched.{Watched}
 use Rattle.swim_c.specs.contracts.handle.Handle as handle
 use Rattle.swim_c.proofs.Drops.{heap_goes}
 use Rattle.swim_c.proofs.Handles.{both, E, Boxed, Tokens, tokens_in, outlived, heap_good, heap_tells, box_good, box_tells, pointer_good, handle_good, handle_out}
@@ -59,16 +61,16 @@ module _ {M : Type 1} (𝓤 : Ura M) (𝓛 : Logic 𝓤) (𝓜 : Model 𝓤 𝓛
   abbrev W : Contract 𝓤
   W = walk_of 𝓛 f.ended stayed (f.clauses 𝓛 𝓜.mem 𝓡.returns)
 
-  abbrev bound : Ptr → Bool → Option node.the_row.Denot → Global → List Val → List Val → W.Ghost
-  bound p y n a hs vs = ((tt, tt, tt, (record { at = p; held = y; node = n }, (a, tt)), (hs, (vs, tt))), tt)
+  abbrev bound : Ptr → Bool → Option NodeValue → Option Entries → Global → List Val → List Val → W.Ghost
+  bound p y n m a hs vs = ((tt, tt, tt, (record { at = p; held = y; node = n; changes = m }, (a, tt)), (hs, (vs, tt))), tt)
 
-  walk : Wired 𝓡.env code.code → (p : Ptr) (y : Bool) (n : Option node.the_row.Denot) (a : Global) (hs vs : List Val)
-      → Sq 𝓛 (‵ (handle_owns p y n) ∷ ‵ ((heap.the_row).own_val a (heap_val ∷ [])) ∷ [])
+  walk : Wired 𝓡.env code.code → (p : Ptr) (y : Bool) (n : Option NodeValue) (m : Option Entries) (a : Global) (hs vs : List Val)
+      → Sq 𝓛 (‵ (handle_owns p y n m) ∷ ‵ ((heap.the_row).own_val a (heap_val ∷ [])) ∷ [])
       (prop
       (WpFn 𝓤 𝓛.H (tables 𝓤 𝓛.H 𝓜 𝓡 𝓡.env).C (tables 𝓤 𝓛.H 𝓜 𝓡 𝓡.env).Λ code.function
-      (both (ptr_val p) (vbool y) ∷ heap_val ∷ []) (W.post (bound p y n a hs vs))))
-  walk wired p true (Some x) a hs vs =
-      let 𝓣 = tables 𝓤 𝓛.H 𝓜 𝓡 𝓡.env in let γ = 𝓡.env in let z = bound p true (Some x) a hs vs in
+      (both (ptr_val p) (vbool y) ∷ heap_val ∷ []) (W.post (bound p y n m a hs vs))))
+  walk wired p true (Some n) m a hs vs =
+      let 𝓣 = tables 𝓤 𝓛.H 𝓜 𝓡 𝓡.env in let γ = 𝓡.env in let x : Watched = record { node = n; changes = m } in let z = bound p true (Some n) m a hs vs in
       let En = g.ended E.row E.al.row E.al.g E.al.d E.al.drops in
       let G = triple_of 𝓛 En.signature (g.spec E.row E.al.row E.al.g E.al.d E.al.drops 𝓛 𝓜.mem 𝓡.returns) in
       let known = met 𝓤 𝓛 𝓜 𝓡 (code.calls-std_alloc::boxed::Box::from_raw γ wired) E.row E.al.row E.laws E.al.laws E.al.g E.al.d E.al.drops
@@ -103,10 +105,10 @@ module _ {M : Type 1} (𝓤 : Ura M) (𝓛 : Logic 𝓤) (𝓜 : Model 𝓤 𝓛
       sets ! (of_opd ! (get ! refl)) refl good $ sets ! (agg ! (and_then ! (lit ! tt) (and_then ! (get ! refl) (no_more !)))) refl good' $
       returns ! (look_at ! 0 refl) $ free_all ! refl $
       use1 𝓛 (‵ (Boxed.own_val d (u ∷ []))) (id⊢ 𝓤 _) $ use1 𝓛 (‵ (Out.own_val (Some d) (out ∷ []))) (Some-of 𝓛 Boxed d u) $
-      suffices ! _ (ends_at 𝓛 f.ended stayed (f.clauses 𝓛 𝓜.mem 𝓡.returns) z out (Some d) (tt, (tt, tt)) (tt, (tt, tt))) $ says ! (ap Some (sym same)) $
+      suffices ! _ (ends_at 𝓛 f.ended stayed (f.clauses 𝓛 𝓜.mem 𝓡.returns) z out (Some d) (tt, (tt, tt)) (tt, (tt, tt))) $ says ! (ap (λ w. Some w.node) (sym same), ap (λ w. w.changes) (sym same)) $
       nothing ! $ nothing ! $ fjoin ! $ nothing ! $ fjoin ! $ join ! $ nothing ! $ join ! $ done !)))))))
-  walk wired p false None a hs vs =
-      let 𝓣 = tables 𝓤 𝓛.H 𝓜 𝓡 𝓡.env in let z = bound p false None a hs vs in
+  walk wired p false None None a hs vs =
+      let 𝓣 = tables 𝓤 𝓛.H 𝓜 𝓡 𝓡.env in let z = bound p false None None a hs vs in
       let out : Val = live 0 vnil in let good : Good (layout Out) out = (tt, (record { fits = lit< tt }, tt)) in
       drop ! $ drop ! $ enter ! _ _ _ _ _ $ alloc_all ! (λ l. pass_all ! refl (handle_good p false, (heap_good, tt)) $
       sets ! (of_opd ! (get_in ! (fld ! refl (stop !)) (sub ! 0 refl (whole !)))) refl (pointer_good p) $
@@ -116,11 +118,12 @@ module _ {M : Type 1} (𝓤 : Ura M) (𝓛 : Logic 𝓤) (𝓜 : Model 𝓤 𝓛
       (λ none. sets ! (agg ! (and_then ! (lit ! tt) (no_more !))) refl good $
       returns_within ! (W.post z) refl (look_at ! 0 refl) $ free_all ! refl $
       use0 𝓛 (‵ (Out.own_val None (out ∷ []))) (none_of 𝓛 Boxed) $
-      suffices ! _ (ends_at 𝓛 f.ended stayed (f.clauses 𝓛 𝓜.mem 𝓡.returns) z out None (tt, (tt, tt)) (tt, (tt, tt))) $ says ! refl $
+      suffices ! _ (ends_at 𝓛 f.ended stayed (f.clauses 𝓛 𝓜.mem 𝓡.returns) z out None (tt, (tt, tt)) (tt, (tt, tt))) $ says ! (refl, refl) $
       nothing ! $ nothing ! $ fjoin ! $ nothing ! $ fjoin ! $ join ! $ nothing ! $ join ! $ done !)
       (λ held. absurd held))
-  walk wired p true None a hs vs = keep ! (0 ∷ []) $ by ! (never_e 𝓤 _)
-  walk wired p false (Some x) a hs vs = keep ! (0 ∷ []) $ by ! (never_e 𝓤 _)
+  walk wired p false None (Some x) a hs vs = keep ! (0 ∷ []) $ by ! (never_e 𝓤 _)
+  walk wired p true None m a hs vs = keep ! (0 ∷ []) $ by ! (never_e 𝓤 _)
+  walk wired p false (Some x) m a hs vs = keep ! (0 ∷ []) $ by ! (never_e 𝓤 _)
 
 pub into_node_spec : {M : Type 1} → statement M
 into_node_spec 𝓤 𝓛 𝓜 𝓡 wired =
@@ -133,4 +136,4 @@ into_node_spec 𝓤 𝓛 𝓜 𝓡 wired =
     handle_out ! h hs (λ is_h. move ! (1 ∷ []) $ fsplit ! $ heap_tells ! a vs (λ is_a. keep ! (2 ∷ 0 ∷ []) $
     regoal ! (λ (us : List Val). prop (WpFn 𝓤 𝓛.H 𝓣.C 𝓣.Λ code.function (us ++ (vs ++ [])) Post)) is_h refl $
     regoal ! (λ (us : List Val). prop (WpFn 𝓤 𝓛.H 𝓣.C 𝓣.Λ code.function (both (ptr_val h.at) (vbool h.held) ∷ (us ++ [])) Post)) is_a refl $
-    walk 𝓤 𝓛 𝓜 𝓡 wired h.at h.held h.node a hs vs)))
+    walk 𝓤 𝓛 𝓜 𝓡 wired h.at h.held h.node h.changes a hs vs)))

@@ -45,7 +45,7 @@ of_spec 𝓤 𝓛 𝓜 𝓡 wired =
     (code.calls-std_heap::GlobalAllocator::deallocate env wired) (code.calls-std_heap::GlobalAllocator::grow env wired)
     (code.calls-std_heap::GlobalAllocator::shrink env wired) _ 𝓤 𝓛 𝓜 𝓡)
     (heap_goes 𝓤 𝓛 𝓜 𝓡 (code.calls-swim_c::Destruct++none::drop env wired))
-    (node_goes 𝓤 𝓛 𝓜 𝓡 (code.calls-swim_c::swim_table++node++Node+Destruct::drop env wired)) in
+    (node_goes 𝓤 𝓛 𝓜 𝓡 (code.calls-swim_c::swim_c++watching++Watched+Destruct::drop env wired)) in
     proved_at 𝓛 f.ended stayed c 𝓜 𝓡 (Goes-dropped 𝓛 0 (plain (λ _. Boxed)) yes (λ κs x w. refl), tt)
     f.Key.name code.function (code.unfolded 𝓤 𝓛.H 𝓜 𝓡 wired) (λ z are.
     let d = z.0.3.0 in let vs = z.0.4.0 in
@@ -58,13 +58,13 @@ of_spec 𝓤 𝓛 𝓜 𝓡 wired =
     fjoin ! $ tokens_in ! $ join ! $ move ! (1 ∷ []) $ outlived ! $ move ! (1 ∷ 0 ∷ []) $ join ! $ use1 𝓛 (raw (G.pre y)) (id⊢ 𝓤 _) $
     calls_at ! (framed 𝓤 𝓛.H 𝓜 𝓣) G known y (and_then ! (get ! refl) (no_more !)) (λ u.
     use1 𝓛 (later (some (λ (p : Ptr). (Tokens 𝓤 ⊛ ‵ (RawPtr.own_val p (u ∷ []))) ⊛
-    some (λ (ws : Lasts T y.0.0 y.0.3). ‵ (lasts T y.0.0 y.0.3 ws) ⊛ ‵ (handle_owns p true (Some d.value)))))) (id⊢ 𝓤 _) $
+    some (λ (ws : Lasts T y.0.0 y.0.3). ‵ (lasts T y.0.0 y.0.3 ws) ⊛ ‵ (handle_owns p true (Some d.value.node) d.value.changes))))) (id⊢ 𝓤 _) $
     await ! tt $ pick ! (λ p. split ! $ split ! $ drop ! $ feq_l ! (λ is_p. pick ! (λ ws. split ! $ drop ! $
     lands_as ! (ap only is_p) refl (pointer_good p) $
     sets ! (of_opd ! (get ! refl)) refl (pointer_good p) $
     sets ! (agg ! (and_then ! (get ! refl) (and_then ! (true_lit !) (no_more !)))) refl (handle_good p true) $
     returns ! (look_at ! 0 refl) $ free_all ! refl $
     suffices ! _
-    (ends_at 𝓛 f.ended stayed c z (both (ptr_val p) (vbool true)) (record { at = p; held = true; node = Some d.value }) (tt, tt) (tt, tt))
-    $ says ! refl $
-    handle_in ! p true (Some d.value) $ nothing ! $ nothing ! $ fjoin ! $ join ! $ nothing ! $ join ! $ done !)))))))
+    (ends_at 𝓛 f.ended stayed c z (both (ptr_val p) (vbool true)) (record { at = p; held = true; node = Some d.value.node; changes = d.value.changes }) (tt, tt) (tt, tt))
+    $ says ! (refl, refl) $
+    handle_in ! p true (Some d.value.node) d.value.changes $ nothing ! $ nothing ! $ fjoin ! $ join ! $ nothing ! $ join ! $ done !)))))))

@@ -1,0 +1,12 @@
+//! The library's version.
+
+ghost use Rattle.std.specs.Prelude.{◌≡◌};
+
+/// The version of the library as one number: 10,000 times the major, 100 times the minor, and the
+/// patch version.
+#[unsafe(no_mangle)]
+pub extern "C" fn swimtab_raw_version() -> u32
+    ensures { result ≡ 200 }
+{
+    200
+}

@@ -1,0 +1,61 @@
+//! The names that change, noted and told.
+
+ghost use Rattle.std.specs.Prelude.{◌≡◌, MatchOption};
+ghost use Rattle.swim_c.specs.Members.{MemberDone};
+ghost use Rattle.swim_c.specs.OnNode.{OnSame};
+ghost use Rattle.swim_c.specs.Watching.{LetsGo, next_entry, start};
+
+use crate::handle::Handle;
+use crate::member::Member;
+use crate::next_change::next_change;
+use crate::status::{DONE, NO_NODE};
+use std::alloc::Global;
+
+/// Begins to note the names whose entries change, with none noted, or stops and lets the noted ones
+/// go. The node stays. No memory is asked for.
+///
+/// # Statuses
+///
+/// 64 where the handle has no node.
+#[unsafe(no_mangle)]
+pub extern "C" fn swimtab_raw_watch(alloc: Global, node: &mut Handle, on: bool) -> u32
+    ensures status { OnSame node.old.node node.new.node (result ≡ 64) (λ _. result ≡ 0) }
+    ensures changes { MatchOption node.old.node (node.new.changes ≡ node.old.changes)
+        (λ _. node.new.changes ≡ start on) }
+{
+    let Some(mut held) = node.take(alloc) else {
+        return NO_NODE;
+    };
+    held.watch(alloc, on);
+    node.put(held);
+    DONE
+}
+
+/// Copies what the node knows of the first noted name, in byte order, which is then noted no longer.
+/// No memory is asked for.
+///
+/// # Statuses
+///
+/// Where it is not 0 what is to be written and the noted names are as they were.
+///
+/// - 64 where the handle has no node.
+/// - 67 where no name is noted.
+#[unsafe(no_mangle)]
+pub extern "C" fn swimtab_raw_next_change(
+    alloc: Global,
+    node: &mut Handle,
+    member: &mut Member,
+) -> u32
+    ensures tells { OnSame node.old.node node.new.node
+        ((result ≡ 64) × (member.new ≡ member.old))
+        (λ held. MemberDone (next_entry held.table node.old.changes)
+        member.old member.new result) }
+    ensures changes { LetsGo node.old.changes node.new.changes result }
+{
+    let Some(mut held) = node.take(alloc) else {
+        return NO_NODE;
+    };
+    let status = next_change(&mut held, member);
+    node.put(held);
+    status
+}

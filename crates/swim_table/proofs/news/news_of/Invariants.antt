@@ -1,0 +1,5 @@
+use Rattle.swim_table.proofs.Changed.{IsSearching}
+use Rattle.swim_table.proofs.news.news_of.Given as goal
+
+abbrev pub invariant-loop-entry : goal.invariant-loop-entry
+invariant-loop-entry l = IsSearching l.fn.table l.fn.other l.news l.entry-iterator

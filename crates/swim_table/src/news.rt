@@ -1,0 +1,58 @@
+//! Which names a join would add or change.
+
+ghost use Rattle.std.specs.Prelude.{◌≡◌, ◌≢◌, Some, IfOk, OnOk, MatchBool};
+ghost use Rattle.swim_claim.specs.Claim.{name_of};
+ghost use Rattle.swim_table.specs.Table.{get, Reduced, TableOf};
+ghost use Rattle.swim_table.specs.Join.{joined, Join};
+ghost use Rattle.swim_table.specs.News.{AreChanges, HasAlso};
+
+use crate::entry::Entry;
+use crate::table::Table;
+use std::alloc::{AllocError, Global};
+use swim_claim::Claim;
+
+/// The names whose entries joining the other table in would add or change, as a table. What it
+/// keeps of each name is not promised. A search in the table for each name of the other one.
+///
+/// # Errors
+///
+/// Memory for the names is refused.
+pub fn news_of(alloc: Global, table: &Table, other: &Table) -> Result<Table, AllocError>
+    ensures { IfOk result (λ news. AreChanges table.now (Join table.now other.now) news) }
+{
+    // opens the invariant: the table is legal
+    let _ = table.len();
+    let mut news = Table::new(alloc);
+    for entry in other.entries() {
+        if is_news(table, entry) {
+            note(alloc, &mut news, entry)?;
+        }
+    }
+    Ok(news)
+}
+
+/// Whether the entry would add to the table, or change it.
+fn is_news(table: &Table, entry: &Entry) -> bool
+    ensures { MatchBool result
+        (joined (get table.now (name_of entry.now.top)) (Some entry.now)
+        ≢ get table.now (name_of entry.now.top))
+        (joined (get table.now (name_of entry.now.top)) (Some entry.now)
+        ≡ get table.now (name_of entry.now.top)) }
+{
+    match table.get(entry.name().bytes()) {
+        Some(own) => !own.covers(entry),
+        None => true,
+    }
+}
+
+/// Adds the entry's name to names.
+fn note(alloc: Global, names: &mut Table, entry: &Entry) -> Result<(), AllocError>
+    ensures { OnOk result (TableOf names.old (Reduced names.old)
+        → HasAlso (name_of entry.now.top) names.old names.new) }
+{
+    let name = entry.name().try_clone(alloc)?;
+    match names.take(Claim::Suspect { name, inc: 0 }) {
+        Ok(_) => Ok(()),
+        Err((_, error)) => Err(error),
+    }
+}
