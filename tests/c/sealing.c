@@ -391,14 +391,14 @@ static void what_is_sealed_is_taken_in(void) {
     WANT(sealed.status == SWIMTAB_DONE && sealed.len == said.len + 33);
     swimtab_written got = swimtab_raw_unwrap(&keyring, sent, sealed.len, read, sizeof read);
     WANT(got.status == SWIMTAB_DONE && got.len == said.len && memcmp(read, packet, said.len) == 0);
-    WANT(swimtab_take(&node, read, got.len) == SWIMTAB_DONE && swimtab_count(&node) == 2);
+    WANT(swimtab_take(&node, read, got.len).status == SWIMTAB_DONE && swimtab_count(&node) == 2);
 
-    said = swimtab_offer(&other, true, packet, sizeof packet);
+    said = swimtab_offer(&other, true, SWIMTAB_CANONICAL, packet, sizeof packet);
     sealed = swimtab_raw_seal_stream(&keyring, nonce, "dc", 2, false, packet, said.len, sent, sizeof sent);
     WANT(sealed.status == SWIMTAB_DONE && sealed.len == said.len + 38);
     got = swimtab_raw_unwrap_stream(&keyring, "", 0, sent, sealed.len, read, sizeof read);
     WANT(got.status == SWIMTAB_DONE && got.len == said.len);
-    swimtab_exchanged answered = swimtab_answer(&node, read, got.len, packet, sizeof packet);
+    swimtab_exchanged answered = swimtab_answer(&node, read, got.len, SWIMTAB_MEMBERLIST, packet, sizeof packet);
     WANT(answered.status == SWIMTAB_DONE);
 
     sealed = swimtab_raw_seal_stream(&keyring, nonce, "dc", 2, true, packet, answered.len, sent, sizeof sent);

@@ -134,7 +134,7 @@ fn help_and_version_tell_what_there_is(rt: HostRuntime) -> Result<(), Fail> {
             &["--help"],
             &["stream", "--skip", "--key-file", "hexadecimal", "encrypted"],
         ),
-        (&["--version"], &["swimunwrap 0.1.0", "rattle-kit-13f"]),
+        (&["--version"], &["swimunwrap 0.2.0", "rattle-kit-13f"]),
         (
             &["stream", "--help"],
             &[
