@@ -57,7 +57,8 @@ pub extern "C" fn swimtab_raw_offer_new(
 /// - 70 if the form is neither 0 nor 1.
 /// - 1 to 21 if no stream stands at the front: the fault at which its reading stops.
 /// - 23 if the reply has more than 131,072 records.
-/// - 10 if memory is refused, for the stream's claims, for the reply or for the join.
+/// - 10 if memory is refused, for the stream's claims, for the reply, for the names that change or
+///   for the join.
 #[unsafe(no_mangle)]
 pub extern "C" fn swimtab_raw_answer_new(
     alloc: Global,

@@ -63,8 +63,8 @@ pub extern "C" fn swimtab_raw_offer(
 /// - 1 to 21 where no stream stands at the front: the fault at which its reading stops.
 /// - 23 where the dump has more than 131,072 records.
 /// - 66 where the buffer is too small. The length is then that of the reply.
-/// - 10 where memory is refused, for the stream's claims or for the join. None is asked for the
-///   reply.
+/// - 10 where memory is refused, for the stream's claims, for the names that change or for the join.
+///   None is asked for the reply.
 #[unsafe(no_mangle)]
 pub extern "C" fn swimtab_raw_answer(
     alloc: Global,
