@@ -11,8 +11,9 @@
 #                   tries the wrong bodies of crates that changed, and of one crate more; with ANEW=1 all
 #   make bench      what a record costs, by size and by order of the names; some minutes
 #   make install    copies what make built to PREFIX: the programs to bin, their pages to share/man/man1,
-#                   the library to LIBDIR, its header to include, and what pkg-config reads to
-#                   LIBDIR/pkgconfig; it builds all of it first if nothing is there, so root needs no kit
+#                   the library to LIBDIR, its header to include, its pages to share/man/man3, and what
+#                   pkg-config reads to LIBDIR/pkgconfig; it builds all of it first if nothing is there,
+#                   so root needs no kit
 #   make install-library
 #                   the same of the library alone
 #   make uninstall  removes what install copies there
@@ -30,6 +31,7 @@ NM ?= nm
 OBJCOPY ?= objcopy
 SOURCES := $(shell find crates -type f -not -path '*/out/*') crates.txt HANDLES
 SONAME := libswimtab.so.1
+calls := $(shell sed -n 's/^static inline [a-z0-9_ ]*[ *]\(swimtab_[a-z_]*\).*/\1/p' include/swimtab.h)
 VERSION := $(shell sed -n 's/^.define SWIMTAB_VERSION "\(.*\)"/\1/p' include/swimtab.h)
 
 .PHONY: all programs library run test wrong-bodies bench install install-programs install-library uninstall \
@@ -108,6 +110,10 @@ install-library:
 	@test -f build/libswimtab.a || $(MAKE) library
 	@mkdir -p '$(libdir)/pkgconfig' '$(root)/include'
 	install -m 644 include/swimtab.h '$(root)/include/swimtab.h'
+	@mkdir -p '$(root)/share/man/man3'
+	awk -v version=$(VERSION) -f docs/swimtab.3.awk include/swimtab.h > '$(root)/share/man/man3/swimtab.3'
+	@for call in $(sort $(calls)); do \
+		echo '.so man3/swimtab.3' > '$(root)/share/man/man3/'"$$call.3" || exit 1; done
 	install -m 644 build/libswimtab.a '$(libdir)/libswimtab.a'
 	@if [ -f build/libswimtab.so ]; then \
 		install -m 755 build/libswimtab.so '$(libdir)/$(SONAME)' && \
@@ -119,7 +125,8 @@ install-library:
 		'Cflags: -I$${includedir}' > '$(libdir)/pkgconfig/swimtab.pc'
 
 uninstall:
-	rm -f $(programs:%='$(root)/bin/%') $(programs:%='$(root)/share/man/man1/%.1') '$(root)/include/swimtab.h' \
+	rm -f $(programs:%='$(root)/bin/%') $(programs:%='$(root)/share/man/man1/%.1') \
+		$(patsubst %,'$(root)/share/man/man3/%.3',swimtab $(sort $(calls))) '$(root)/include/swimtab.h' \
 		'$(libdir)/libswimtab.a' '$(libdir)/libswimtab.so' '$(libdir)/$(SONAME)' '$(libdir)/pkgconfig/swimtab.pc'
 
 help:

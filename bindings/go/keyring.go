@@ -11,7 +11,7 @@ import (
 )
 
 // nonceSize is how many bytes a nonce has.
-const nonceSize = C.SWIMTAB_NONCE
+const nonceSize = C.SWIMTAB_NONCE_LEN
 
 // Keyring holds a cluster's keys: the first one encrypts, and all are tried in order to open what was encrypted.
 // Its methods may be called from any goroutine; a lock puts them one behind another. A nil Keyring, an empty one

@@ -26,9 +26,9 @@ func (s State) String() string {
 	return "unknown"
 }
 
-// Home is the greatest Alive of a member, by incarnation and then by address, port, metadata and versions. It
+// Address is the greatest Alive of a member, by incarnation and then by address, port, metadata and versions. It
 // need not be the latest one.
-type Home struct {
+type Address struct {
 	Incarnation uint32
 	Details
 }
@@ -38,10 +38,10 @@ type Member struct {
 	Name        string
 	State       State
 	Incarnation uint32 // that of the claim that stands
-	// CameBack tells that the home has a greater incarnation than the claim that stands: a member that was
+	// CameBack tells that the address has a greater incarnation than the claim that stands: a member that was
 	// confirmed dead or left, and is heard of again.
 	CameBack bool
-	Home     *Home // nil if no Alive was seen
+	Address  *Address // nil if no Alive was seen
 }
 
 // Len is how many members the node knows of, itself among them unless it forgot itself, and 0 once it is closed.
@@ -166,9 +166,9 @@ func (n *Node) seen(name string) Member {
 		Incarnation: uint32(raw.inc),
 		CameBack:    bool(raw.came_back),
 	}
-	if raw.has_home {
+	if raw.has_address {
 		addr, _ := netip.AddrFromSlice(viewOf(&raw.addr[0], C.size_t(raw.addr_len)))
-		member.Home = &Home{Incarnation: uint32(raw.home_inc), Details: Details{
+		member.Address = &Address{Incarnation: uint32(raw.address_inc), Details: Details{
 			Addr:     addr,
 			Port:     uint16(raw.port),
 			Meta:     append([]byte(nil), viewOf(&raw.meta[0], C.size_t(raw.meta_len))...),

@@ -87,7 +87,7 @@ func TestAMemberComesBack(t *testing.T) {
 	}
 	takes(t, a, must[[]byte](t)(c.Alive(5)), true)
 	known := must[Member](t)(a.Find("c"))
-	if !known.CameBack || known.State != Confirm || known.Incarnation != 4 || known.Home.Incarnation != 5 {
+	if !known.CameBack || known.State != Confirm || known.Incarnation != 4 || known.Address.Incarnation != 5 {
 		t.Error(known)
 	}
 }
@@ -136,7 +136,7 @@ func TestEachTellsOfAllInOrder(t *testing.T) {
 func TestFindTakesLittleMemory(t *testing.T) {
 	a := opened(t, "a", 1)
 	if each := testing.AllocsPerRun(100, func() { a.Find("a") }); each > 4 {
-		t.Error(each) // the home, its metadata and its versions, and what cgo looks at
+		t.Error(each) // the address, its metadata and its versions, and what cgo looks at
 	}
 	if each := testing.AllocsPerRun(100, func() { a.Len() }); each > 0 {
 		t.Error(each)

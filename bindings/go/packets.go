@@ -6,7 +6,7 @@ import "C"
 import "unsafe"
 
 // longest is the length of Node.packet.
-const longest = C.SWIMTAB_LONGEST_PACKET
+const longest = C.SWIMTAB_MAX_PACKET_LEN
 
 // Alive is the packet by which the member says that it is alive at the incarnation: that of Open at first, later
 // those that Refute gives.

@@ -21,7 +21,7 @@ type Node struct {
 	handle C.swimtab_node
 	// what calls write, under the lock, so that no call needs memory for it
 	member C.swimtab_member_data
-	packet [C.SWIMTAB_LONGEST_PACKET]byte
+	packet [C.SWIMTAB_MAX_PACKET_LEN]byte
 	count  int    // how many members there are, or -1 if the table changed since they were counted
 	turns  uint64 // how often the table changed
 }

@@ -93,7 +93,7 @@ func TestFaultsHaveNamesAndTexts(t *testing.T) {
 	for fault, text := range map[Error]string{
 		ErrEnded:          "swimtab: fault 1 Ended: the bytes end too soon",
 		ErrMemory:         "swimtab: fault 10 Memory: out of memory",
-		ErrCipherTrailing: "swimtab: fault 57 Trailing: there are bytes after what is encrypted",
+		ErrCipherTrailing: "swimtab: fault 57 Trailing: bytes follow an encrypted stream",
 		ErrBadForm:        "swimtab: fault 70 BadForm: there is no such form of a stream",
 	} {
 		if fault.Error() != text {
@@ -119,7 +119,7 @@ func TestOpeningsAreRefused(t *testing.T) {
 	long.Meta, long.Versions = nil, make([]byte, 5)
 	_, err = Open("a", long, 0)
 	refused(t, err, ErrBadVersions)
-	if text := err.Error(); text != "swimtab: fault 15 BadVersions: the versions have neither none nor 6 bytes" {
+	if text := err.Error(); text != "swimtab: fault 15 BadVersions: the versions do not have 0 or 6 bytes" {
 		t.Error(text)
 	}
 }
@@ -175,12 +175,12 @@ func TestMembersComeInTheOrderOfTheirNames(t *testing.T) {
 			t.Error(members[i])
 		}
 	}
-	home := members[0].Home
-	if home == nil || home.Incarnation != 2 || home.Addr != details(9).Addr || home.Port != 7946 ||
-		string(home.Meta) != "m" || !bytes.Equal(home.Versions, details(9).Versions) {
-		t.Error(home)
+	address := members[0].Address
+	if address == nil || address.Incarnation != 2 || address.Addr != details(9).Addr || address.Port != 7946 ||
+		string(address.Meta) != "m" || !bytes.Equal(address.Versions, details(9).Versions) {
+		t.Error(address)
 	}
-	if members[1].State != Leave || members[1].Incarnation != 5 || members[1].Home != nil {
+	if members[1].State != Leave || members[1].Incarnation != 5 || members[1].Address != nil {
 		t.Error(members[1])
 	}
 	if at := must[Member](t)(a.At(3)); at.Name != "z" || at.State != Suspect || at.State.String() != "suspect" {

@@ -61,7 +61,7 @@ int main(void) {
     printf("a and b know the same: %s\n\n", related.relation == SWIMTAB_EQUAL ? "yes" : "no");
 
     /* b had no ack of a, says so, and a hears of it */
-    uint8_t packet[SWIMTAB_LONGEST_PACKET];
+    uint8_t packet[SWIMTAB_MAX_PACKET_LEN];
     swimtab_written suspicion = swimtab_suspect(&b, "a", 1, 1, packet, sizeof packet);
     check(suspicion.status, "suspect");
     hear(&b, packet, suspicion.len);
@@ -79,7 +79,7 @@ int main(void) {
     show("b, once a refuted it", &b);
 
     /* b leaves, and tells a by one packet of its Leave and of what it still knows of c */
-    uint8_t both[2 * SWIMTAB_LONGEST_PACKET], compound[2 * SWIMTAB_LONGEST_PACKET + 6];
+    uint8_t both[2 * SWIMTAB_MAX_PACKET_LEN], compound[2 * SWIMTAB_MAX_PACKET_LEN + 6];
     swimtab_written leave = swimtab_leave(&b, 1, both, sizeof both);
     check(leave.status, "leave");
     swimtab_written death = swimtab_confirm(&b, "c", 1, 3, both + leave.len, sizeof both - leave.len);

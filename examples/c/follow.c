@@ -36,7 +36,7 @@ static void print_member(const swimtab_member_data *member) {
         printf(c > 0x20 && c < 0x7f && c != '%' ? "%c" : "%%%02X", c);
     }
     printf(" %s ", states[member->state]);
-    if (!member->has_home) {
+    if (!member->has_address) {
         puts("-");
         return;
     }

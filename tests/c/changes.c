@@ -171,7 +171,7 @@ static void a_forgotten_name_is_heard_again(void) {
 
 static void the_own_name_is_forgotten_too(void) {
     swimtab_node node = opened("a", 7946, 0);
-    uint8_t packet[SWIMTAB_LONGEST_PACKET];
+    uint8_t packet[SWIMTAB_MAX_PACKET_LEN];
     WANT(has_news(&node, SUSPECT_B_1) && swimtab_forget(&node, "a", 1) == SWIMTAB_DONE);
     WANT(lists(&node, LIST_B_1) && !swimtab_refute(&node).due && swimtab_refute(&node).status == SWIMTAB_DONE);
     /* its name and its details are still those of the handle */

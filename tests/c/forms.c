@@ -162,12 +162,12 @@ static void a_call_that_is_refused_leaves_a_buffer(void) {
     for (size_t round = 0; round < 2; round++) {
         const swimtab_buffer before = buffer;
         WANT(swimtab_offer_new(&node, false, 2, &buffer) == SWIMTAB_BAD_FORM);
-        WANT(swimtab_offer_new(&none, false, SWIMTAB_CANONICAL, &buffer) == SWIMTAB_NO_NODE_HERE);
+        WANT(swimtab_offer_new(&none, false, SWIMTAB_CANONICAL, &buffer) == SWIMTAB_NO_NODE);
         WANT(swimtab_answer_new(&node, stream.at, stream.len, 2, &buffer).status == SWIMTAB_BAD_FORM);
         WANT(swimtab_answer_new(&node, stream.at, 9, SWIMTAB_CANONICAL, &buffer).status == SWIMTAB_ENDED);
         WANT(swimtab_answer_new(&node, NULL, 9, SWIMTAB_CANONICAL, &buffer).status == SWIMTAB_ENDED);
         WANT(swimtab_answer_new(&node, "\x03", 1, SWIMTAB_CANONICAL, &buffer).status == SWIMTAB_WRONG_TYPE);
-        WANT(swimtab_list_new(&none, &buffer) == SWIMTAB_NO_NODE_HERE);
+        WANT(swimtab_list_new(&none, &buffer) == SWIMTAB_NO_NODE);
         WANT(buffer.at == before.at && buffer.len == before.len && buffer.kept.held == before.kept.held);
         WANT(round == 0 || holds(&buffer, DUMP_A_0));
         WANT(lists(&node, LIST_A_0));

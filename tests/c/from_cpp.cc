@@ -41,7 +41,7 @@ public:
         return std::string(text.buffer.at, text.buffer.at + text.buffer.len);
     }
     std::string suspicion(const std::string &name, uint32_t inc) {
-        std::string packet(SWIMTAB_LONGEST_PACKET, ' ');
+        std::string packet(SWIMTAB_MAX_PACKET_LEN, ' ');
         swimtab_written written =
             swimtab_suspect(&handle_, name.data(), name.size(), inc, &packet[0], packet.size());
         packet.resize(written.len);

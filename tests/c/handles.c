@@ -15,7 +15,7 @@ static void versions_agree(void) {
 static void statuses_have_names(void) {
     WANT(strcmp(swimtab_fault_name(SWIMTAB_DONE), "Done") == 0);
     WANT(strcmp(swimtab_fault_name(SWIMTAB_GONE), "Gone") == 0);
-    WANT(strcmp(swimtab_fault_name(SWIMTAB_NO_NODE_HERE), "NoNode") == 0);
+    WANT(strcmp(swimtab_fault_name(SWIMTAB_NO_NODE), "NoNode") == 0);
     WANT(strcmp(swimtab_fault_name(SWIMTAB_NODE_THERE), "NodeThere") == 0);
     WANT(strcmp(swimtab_fault_name(SWIMTAB_TOO_SMALL), "TooSmall") == 0);
     WANT(strcmp(swimtab_fault_name(SWIMTAB_NO_MEMBER), "NoMember") == 0);
@@ -49,47 +49,47 @@ static void statuses_have_sentences(void) {
 static void refuses_to_look_without_a_node(swimtab_node *none) {
     swimtab_member_data member;
     WANT(swimtab_count(none) == 0);
-    WANT(swimtab_member(none, 0, &member) == SWIMTAB_NO_NODE_HERE);
-    WANT(swimtab_find(none, "a", 1, &member) == SWIMTAB_NO_NODE_HERE);
-    WANT(swimtab_watch(none, true) == SWIMTAB_NO_NODE_HERE);
-    WANT(swimtab_watch(none, false) == SWIMTAB_NO_NODE_HERE);
-    WANT(swimtab_next_change(none, &member) == SWIMTAB_NO_NODE_HERE);
-    WANT(swimtab_next_change(none, NULL) == SWIMTAB_NO_NODE_HERE);
-    WANT(swimtab_forget(none, "a", 1) == SWIMTAB_NO_NODE_HERE);
-    WANT(swimtab_forget(none, NULL, 0) == SWIMTAB_NO_NODE_HERE);
+    WANT(swimtab_member(none, 0, &member) == SWIMTAB_NO_NODE);
+    WANT(swimtab_find(none, "a", 1, &member) == SWIMTAB_NO_NODE);
+    WANT(swimtab_watch(none, true) == SWIMTAB_NO_NODE);
+    WANT(swimtab_watch(none, false) == SWIMTAB_NO_NODE);
+    WANT(swimtab_next_change(none, &member) == SWIMTAB_NO_NODE);
+    WANT(swimtab_next_change(none, NULL) == SWIMTAB_NO_NODE);
+    WANT(swimtab_forget(none, "a", 1) == SWIMTAB_NO_NODE);
+    WANT(swimtab_forget(none, NULL, 0) == SWIMTAB_NO_NODE);
 }
 
 /* Each call that fills a buffer, on what has no node. */
 static void fills_nothing_without_a_node(swimtab_node *none) {
     swimtab_buffer buffer = SWIMTAB_BUFFER_INIT;
-    WANT(swimtab_offer_new(none, true, SWIMTAB_CANONICAL, &buffer) == SWIMTAB_NO_NODE_HERE);
-    WANT(swimtab_answer_new(none, "", 0, SWIMTAB_CANONICAL, &buffer).status == SWIMTAB_NO_NODE_HERE);
-    WANT(swimtab_list_new(none, &buffer) == SWIMTAB_NO_NODE_HERE);
+    WANT(swimtab_offer_new(none, true, SWIMTAB_CANONICAL, &buffer) == SWIMTAB_NO_NODE);
+    WANT(swimtab_answer_new(none, "", 0, SWIMTAB_CANONICAL, &buffer).status == SWIMTAB_NO_NODE);
+    WANT(swimtab_list_new(none, &buffer) == SWIMTAB_NO_NODE);
     WANT(buffer.at == NULL && buffer.len == 0 && !buffer.kept.held);
-    WANT(swimtab_list_new(none, NULL) == (none ? SWIMTAB_TOO_SMALL : SWIMTAB_NO_NODE_HERE));
+    WANT(swimtab_list_new(none, NULL) == (none ? SWIMTAB_TOO_SMALL : SWIMTAB_NO_NODE));
 }
 
 /* Each call on what has no node. */
 static void refuses_without_a_node(swimtab_node *none) {
     uint8_t out[4] = {7, 7, 7, 7};
     swimtab_node other = opened("other", 1, 0);
-    WANT(swimtab_close(none) == SWIMTAB_NO_NODE_HERE);
-    WANT(swimtab_take(none, out, 4).status == SWIMTAB_NO_NODE_HERE && !swimtab_take(none, out, 4).news);
-    WANT(swimtab_refute(none).status == SWIMTAB_NO_NODE_HERE);
-    WANT(swimtab_alive(none, 1, out, 4).status == SWIMTAB_NO_NODE_HERE);
-    WANT(swimtab_suspect(none, "a", 1, 1, out, 4).status == SWIMTAB_NO_NODE_HERE);
-    WANT(swimtab_confirm(none, "a", 1, 1, out, 4).status == SWIMTAB_NO_NODE_HERE);
-    WANT(swimtab_leave(none, 1, out, 4).status == SWIMTAB_NO_NODE_HERE);
-    WANT(swimtab_offer(none, true, SWIMTAB_CANONICAL, out, 4).status == SWIMTAB_NO_NODE_HERE);
-    WANT(swimtab_dump(none, out, 4).status == SWIMTAB_NO_NODE_HERE);
-    WANT(swimtab_answer(none, "", 0, SWIMTAB_CANONICAL, out, 4).status == SWIMTAB_NO_NODE_HERE);
-    WANT(swimtab_finish(none, "", 0).status == SWIMTAB_NO_NODE_HERE);
+    WANT(swimtab_close(none) == SWIMTAB_NO_NODE);
+    WANT(swimtab_take(none, out, 4).status == SWIMTAB_NO_NODE && !swimtab_take(none, out, 4).news);
+    WANT(swimtab_refute(none).status == SWIMTAB_NO_NODE);
+    WANT(swimtab_alive(none, 1, out, 4).status == SWIMTAB_NO_NODE);
+    WANT(swimtab_suspect(none, "a", 1, 1, out, 4).status == SWIMTAB_NO_NODE);
+    WANT(swimtab_confirm(none, "a", 1, 1, out, 4).status == SWIMTAB_NO_NODE);
+    WANT(swimtab_leave(none, 1, out, 4).status == SWIMTAB_NO_NODE);
+    WANT(swimtab_offer(none, true, SWIMTAB_CANONICAL, out, 4).status == SWIMTAB_NO_NODE);
+    WANT(swimtab_dump(none, out, 4).status == SWIMTAB_NO_NODE);
+    WANT(swimtab_answer(none, "", 0, SWIMTAB_CANONICAL, out, 4).status == SWIMTAB_NO_NODE);
+    WANT(swimtab_finish(none, "", 0).status == SWIMTAB_NO_NODE);
     refuses_to_look_without_a_node(none);
     fills_nothing_without_a_node(none);
-    WANT(swimtab_list(none, out, 4).status == SWIMTAB_NO_NODE_HERE);
-    WANT(swimtab_relate(none, none).status == SWIMTAB_NO_NODE_HERE);
-    WANT(swimtab_relate(none, &other).status == SWIMTAB_NO_NODE_HERE);
-    WANT(swimtab_relate(&other, none).status == SWIMTAB_NO_NODE_HERE);
+    WANT(swimtab_list(none, out, 4).status == SWIMTAB_NO_NODE);
+    WANT(swimtab_relate(none, none).status == SWIMTAB_NO_NODE);
+    WANT(swimtab_relate(none, &other).status == SWIMTAB_NO_NODE);
+    WANT(swimtab_relate(&other, none).status == SWIMTAB_NO_NODE);
     WANT(out[0] == 7 && out[3] == 7 && lists(&other, "other alive 0 0/7f000001/1//\n"));
     WANT(swimtab_close(&other) == 0);
 }
@@ -102,7 +102,7 @@ static void a_handle_without_a_node_has_none(void) {
     refuses_without_a_node(&zeroed);
     refuses_without_a_node(&closed);
     refuses_without_a_node(NULL);
-    WANT(swimtab_open(NULL, "a", 1, local_addr, 4, 1, NULL, 0, NULL, 0, 0) == SWIMTAB_NO_NODE_HERE);
+    WANT(swimtab_open(NULL, "a", 1, local_addr, 4, 1, NULL, 0, NULL, 0, 0) == SWIMTAB_NO_NODE);
 }
 
 /* Keyrings, and packets of a cluster, with NULL for what may be left out; tests/c/sealing.c has the rest. */
@@ -110,13 +110,13 @@ static void keyrings_and_packets_may_be_null(void) {
     swimtab_keyring keyring = SWIMTAB_KEYRING_INIT;
     const uint8_t packet[2] = {7, 0};
     uint8_t out[4] = {7, 7, 7, 7};
-    WANT(swimtab_keyring_add(NULL, "0123456789abcdef", 16) == SWIMTAB_NO_NODE_HERE);
-    WANT(swimtab_keyring_close(NULL) == SWIMTAB_NO_NODE_HERE);
-    WANT(swimtab_keyring_close(&keyring) == SWIMTAB_NO_NODE_HERE);
+    WANT(swimtab_keyring_add(NULL, "0123456789abcdef", 16) == SWIMTAB_NO_NODE);
+    WANT(swimtab_keyring_close(NULL) == SWIMTAB_NO_NODE);
+    WANT(swimtab_keyring_close(&keyring) == SWIMTAB_NO_NODE);
     WANT(swimtab_keyring_add(&keyring, NULL, 16) == SWIMTAB_BAD_KEY && !keyring.held);
     WANT(swimtab_keyring_add(&keyring, "0123456789abcdef", 16) == SWIMTAB_DONE && keyring.held);
     WANT(swimtab_keyring_close(&keyring) == SWIMTAB_DONE);
-    WANT(swimtab_keyring_close(&keyring) == SWIMTAB_NO_NODE_HERE);
+    WANT(swimtab_keyring_close(&keyring) == SWIMTAB_NO_NODE);
     WANT(swimtab_unwrap(NULL, NULL, 5, out, 4).status == SWIMTAB_ENDED);
     WANT(swimtab_unwrap(NULL, packet, 2, NULL, 4).status == SWIMTAB_TOO_SMALL);
     WANT(swimtab_unwrap(NULL, packet, 2, NULL, 4).len == 2);
@@ -132,7 +132,7 @@ static void keyrings_and_packets_may_be_null(void) {
 static void a_closed_handle_opens_again(void) {
     swimtab_node node = opened("a", 1, 0);
     WANT(take_hex(&node, SUSPECT_B_1) == 0 && swimtab_count(&node) == 2);
-    WANT(swimtab_close(&node) == 0 && swimtab_close(&node) == SWIMTAB_NO_NODE_HERE);
+    WANT(swimtab_close(&node) == 0 && swimtab_close(&node) == SWIMTAB_NO_NODE);
     node = opened("b", 2, 3);
     WANT(lists(&node, "b alive 3 3/7f000001/2//\n"));
     WANT(swimtab_close(&node) == 0);
@@ -155,7 +155,7 @@ static void openings_are_refused(void) {
                      meta = bytes_of_size(cases[i].meta_len, 2), vsn = bytes_of_size(cases[i].vsn_len, 3);
         WANT(swimtab_open(&node, name.at, name.len, addr.at, addr.len, 1, meta.at, meta.len, vsn.at,
                           vsn.len, 0) == cases[i].status);
-        WANT(swimtab_close(&node) == SWIMTAB_NO_NODE_HERE);
+        WANT(swimtab_close(&node) == SWIMTAB_NO_NODE);
         free(name.at), free(addr.at), free(meta.at), free(vsn.at);
     }
     swimtab_node node = SWIMTAB_NODE_INIT;
@@ -179,7 +179,7 @@ static void the_longest_values_are_copied_out(void) {
     memset(&member, 9, sizeof member);
     WANT(swimtab_find(&node, name.at, name.len, &member) == 0);
     WANT(member.state == SWIMTAB_ALIVE && member.inc == UINT32_MAX);
-    WANT(member.has_home && member.home_inc == UINT32_MAX && member.port == 65535);
+    WANT(member.has_address && member.address_inc == UINT32_MAX && member.port == 65535);
     WANT(member.name_len == 1024 && memcmp(member.name, name.at, 1024) == 0);
     WANT(member.addr_len == 16 && memcmp(member.addr, addr.at, 16) == 0);
     WANT(member.meta_len == 512 && memcmp(member.meta, meta.at, 512) == 0);
@@ -198,12 +198,12 @@ static void members_are_found_by_place_and_by_name(void) {
     WANT(swimtab_member(&node, 0, &member) == 0);
     WANT(member.name_len == 1 && member.name[0] == 'a' && member.name[1] == 9);
     WANT(member.state == SWIMTAB_SUSPECT && member.inc == 5);
-    WANT(!member.has_home && member.home_inc == 0 && member.port == 0);
+    WANT(!member.has_address && member.address_inc == 0 && member.port == 0);
     WANT(member.addr_len == 0 && member.meta_len == 0 && member.vsn_len == 0);
     memset(&member, 9, sizeof member);
     WANT(swimtab_member(&node, 1, &member) == 0);
     WANT(member.name_len == 1 && member.name[0] == 'b' && member.state == SWIMTAB_ALIVE && member.inc == 3);
-    WANT(member.has_home && member.home_inc == 3 && member.port == 7946);
+    WANT(member.has_address && member.address_inc == 3 && member.port == 7946);
     WANT(member.addr_len == 4 && memcmp(member.addr, local_addr, 4) == 0 && member.addr[4] == 9);
     WANT(member.meta_len == 0 && member.meta[0] == 9 && member.vsn_len == 0 && member.vsn[0] == 9);
     WANT(swimtab_member(&node, 2, &member) == 0);

@@ -213,7 +213,7 @@ static void what_a_member_may_not_say_is_refused(void) {
     WANT(swimtab_close(&node) == 0);
     WANT(swimtab_open(&node, name.at, 1024, local_addr, 4, 1, NULL, 0, NULL, 0, 0) == 0);
     written = swimtab_suspect(&node, name.at, 1024, UINT32_MAX, out.at, out.len);
-    WANT(written.status == 0 && written.len == SWIMTAB_LONGEST_PACKET);
+    WANT(written.status == 0 && written.len == SWIMTAB_MAX_PACKET_LEN);
     WANT(swimtab_close(&node) == 0);
     node = opened("a", 7946, 0);
     /* a member may suspect itself, though nobody does */

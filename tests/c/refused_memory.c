@@ -124,7 +124,7 @@ static size_t sealed_len, unwrapped_len;
 static uint32_t add_key(void) { return swimtab_keyring_add(&keyring, keys[0], 32); }
 static uint32_t add_another_key(void) { return swimtab_keyring_add(&keyring, keys[1], 16); }
 static uint32_t seal(void) {
-    static const uint8_t message[] = "\x03\x82\xabIncarnation\x01\xa4Node\xa1y", nonce[SWIMTAB_NONCE] = {9};
+    static const uint8_t message[] = "\x03\x82\xabIncarnation\x01\xa4Node\xa1y", nonce[SWIMTAB_NONCE_LEN] = {9};
     uint32_t status = kept(swimtab_seal(&keyring, nonce, "dc", 2, message, sizeof message - 1, out, ROOM));
     memcpy(sealed, out, out_len);
     sealed_len = out_len;

@@ -164,8 +164,8 @@ static swimtab_keyring keyring_of(const char *const *keys) {
 /* Closes a keyring, whether it has keys or none. */
 static void closes(swimtab_keyring *keyring) {
     bool held = keyring->held;
-    WANT(swimtab_raw_keyring_close(keyring) == (held ? SWIMTAB_DONE : SWIMTAB_NO_NODE_HERE));
-    WANT(!keyring->held && swimtab_raw_keyring_close(keyring) == SWIMTAB_NO_NODE_HERE);
+    WANT(swimtab_raw_keyring_close(keyring) == (held ? SWIMTAB_DONE : SWIMTAB_NO_NODE));
+    WANT(!keyring->held && swimtab_raw_keyring_close(keyring) == SWIMTAB_NO_NODE);
 }
 
 static bool is_filled(struct bytes bytes, size_t from) {

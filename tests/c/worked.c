@@ -48,8 +48,8 @@ static void keep_node(swimtab_node *node, const char *name) {
 
 /* Keeps the packet of the member's own Alive, in hexadecimal. */
 static void keep_alive(swimtab_node *node, const char *name) {
-    uint8_t packet[SWIMTAB_LONGEST_PACKET];
-    char text[2 * SWIMTAB_LONGEST_PACKET + 2];
+    uint8_t packet[SWIMTAB_MAX_PACKET_LEN];
+    char text[2 * SWIMTAB_MAX_PACKET_LEN + 2];
     swimtab_written written = swimtab_alive(node, 0, packet, sizeof packet);
     WANT(written.status == 0);
     for (size_t i = 0; i < written.len; i++) snprintf(text + 2 * i, 3, "%02x", packet[i]);

@@ -13,7 +13,7 @@ fn show(title: &str, node: &Node) {
     println!("{title}:");
     for member in node.members() {
         let name = String::from_utf8_lossy(&member.name).into_owned();
-        let addr = member.home.map_or("-".into(), |home| format!("{}:{}", home.addr, home.port));
+        let addr = member.address.map_or("-".into(), |address| format!("{}:{}", address.addr, address.port));
         println!("  {name} {:?} {} {addr}", member.state, member.incarnation);
     }
 }

@@ -18,7 +18,7 @@ mod stream;
 
 pub use error::{Error, Result};
 pub use keyring::{Keyring, NONCE};
-pub use member::{Details, Home, Member, Members, State};
+pub use member::{Address, Details, Member, Members, State};
 pub use node::{Node, Relation};
 pub use packet::{alive_of, compound};
 pub use stream::{Answer, Form, Progress, Taken};

@@ -36,7 +36,7 @@ pub enum State {
 /// The greatest Alive of a member, by incarnation and then by address, port, metadata and versions.
 /// It need not be the latest one.
 #[derive(Clone, Debug, PartialEq, Eq)]
-pub struct Home {
+pub struct Address {
     pub incarnation: u32,
     pub addr: IpAddr,
     pub port: u16,
@@ -52,11 +52,11 @@ pub struct Member {
     pub state: State,
     /// That of the claim that stands.
     pub incarnation: u32,
-    /// Whether the home has a greater incarnation than the claim that stands: a member that was confirmed
+    /// Whether the address has a greater incarnation than the claim that stands: a member that was confirmed
     /// dead or left, and is heard of again.
     pub came_back: bool,
     /// None if no Alive was seen.
-    pub home: Option<Home>,
+    pub address: Option<Address>,
 }
 
 impl raw::Member {
@@ -64,9 +64,9 @@ impl raw::Member {
         raw::Member {
             state: 0,
             inc: 0,
-            has_home: false,
+            has_address: false,
             came_back: false,
-            home_inc: 0,
+            address_inc: 0,
             port: 0,
             name_len: 0,
             meta_len: 0,
@@ -93,8 +93,8 @@ impl From<&raw::Member> for Member {
             },
             incarnation: raw.inc,
             came_back: raw.came_back,
-            home: raw.has_home.then(|| Home {
-                incarnation: raw.home_inc,
+            address: raw.has_address.then(|| Address {
+                incarnation: raw.address_inc,
                 addr: addr_of(raw),
                 port: raw.port,
                 meta: raw.meta[..raw.meta_len.into()].to_vec(),

@@ -52,9 +52,9 @@ pub struct Related {
 pub struct Member {
     pub state: u32,
     pub inc: u32,
-    pub has_home: bool,
+    pub has_address: bool,
     pub came_back: bool,
-    pub home_inc: u32,
+    pub address_inc: u32,
     pub port: u16,
     pub name_len: u16,
     pub meta_len: u16,

@@ -24,9 +24,9 @@ fn errors_have_numbers_and_texts() {
     assert_eq!(Error::Gone.number(), 25);
     assert_eq!(Error::OwnName.number(), 68);
     assert_eq!(Error::CipherTrailing.number(), 57);
-    assert_eq!(Error::Trailing.to_string(), "there are bytes after the end");
+    assert_eq!(Error::Trailing.to_string(), "bytes follow the end");
     let error: Box<dyn std::error::Error + Send + Sync> = Error::WrongType.into();
-    assert_eq!(error.to_string(), "the message is of a type that is not read");
+    assert_eq!(error.to_string(), "the message is of another type");
 }
 
 #[test]
@@ -67,10 +67,10 @@ fn members_come_in_the_order_of_their_names() {
     let all: Vec<Member> = a.members().collect();
     let names: Vec<&[u8]> = all.iter().map(|member| &member.name[..]).collect();
     assert_eq!(names, [b"c", b"d", b"m", b"z"]);
-    assert_eq!((all[1].state, all[1].incarnation, &all[1].home), (State::Leave, 5, &None));
-    let home = all[0].home.as_ref().unwrap();
-    assert_eq!((home.incarnation, home.addr, home.port), (2, IpAddr::from([127, 0, 0, 9]), 7946));
-    assert_eq!((&home.meta[..], home.versions), (&b"m"[..], Some(VERSIONS)));
+    assert_eq!((all[1].state, all[1].incarnation, &all[1].address), (State::Leave, 5, &None));
+    let address = all[0].address.as_ref().unwrap();
+    assert_eq!((address.incarnation, address.addr, address.port), (2, IpAddr::from([127, 0, 0, 9]), 7946));
+    assert_eq!((&address.meta[..], address.versions), (&b"m"[..], Some(VERSIONS)));
     assert_eq!(all[3], a.find(b"z").unwrap());
     assert_eq!((a.find(b"none"), a.at(4)), (None, None));
 }
@@ -126,7 +126,7 @@ fn a_member_comes_back() {
     assert_eq!(a.take(&c.alive(5).unwrap()), Ok(true));
     let known = a.find(b"c").unwrap();
     assert_eq!((known.state, known.incarnation, known.came_back), (State::Confirm, 4, true));
-    assert_eq!(known.home.map(|home| home.incarnation), Some(5));
+    assert_eq!(known.address.map(|address| address.incarnation), Some(5));
 }
 
 #[test]
@@ -144,8 +144,8 @@ fn another_members_alive_is_written() {
 fn addresses_of_both_kinds_come_back() {
     let addr = IpAddr::from(Ipv6Addr::LOCALHOST);
     let node = Node::open(b"six", Details { addr, port: 1, meta: b"", versions: None }, 0).unwrap();
-    let home = node.find(b"six").unwrap().home.unwrap();
-    assert_eq!((home.addr, home.port, home.versions, home.meta.len()), (addr, 1, None, 0));
+    let address = node.find(b"six").unwrap().address.unwrap();
+    assert_eq!((address.addr, address.port, address.versions, address.meta.len()), (addr, 1, None, 0));
 }
 
 #[test]
