@@ -1,12 +1,12 @@
 //! What a member answers.
 
-ghost use Rattle.std.specs.Prelude.{IfOk};
-ghost use Rattle.swimwatch.specs.Asking.{IsAnswer, IsRead};
+ghost use Rattle.std.specs.Prelude.{◌≢◌, ◌<◌, List, ℕ, length, IfOk, IfErr};
+ghost use Rattle.memberlist_transport.specs.Reply.{IsReplyIn};
 
 use crate::carriage::{NoStream, STREAM_LIMIT, cause_of};
 use memberlist_cipher::{LABEL, LABEL_MAX_SIZE};
 use memberlist_keyring::{Keyring, behind_label};
-use memberlist_transport::{StreamFault, open_stream};
+use memberlist_transport::{StreamFault, open_reply};
 use memberlist_wrap::unwrap;
 use percent_encoding::{AsciiSet, CONTROLS, ascii_set, percent_encode};
 use std::alloc::{AllocError, Global};
@@ -39,54 +39,55 @@ impl From<AllocError> for NoAnswer {
     }
 }
 
-/// The push/pull stream that an answer is, under the first key that opens it if it is encrypted. A
+/// The push/pull stream that an answer is, under the first key that decrypts it if it is encrypted. A
 /// member writes no label before what it answers, and yet authenticates the label that it has.
 ///
 /// # Errors
 ///
-/// As [`NoAnswer`] says.
+/// As [`NoAnswer`] says. A label of more than 255 bytes is that of no cluster.
 pub(crate) fn stream_in(
     alloc: Global,
     keys: &Keyring,
     label: &[u8],
     answer: Vec<u8>,
 ) -> Result<Vec<u8>, NoAnswer>
-    ensures { IfOk result (λ stream. IsAnswer keys.now label.now answer.items stream.items) }
+    ensures ok { IfOk result (λ stream.
+        IsReplyIn 33554432 keys.now label.now answer.items stream.items) }
+    ensures none { IfErr result (λ cause. cause ≢ NoAnswer.NoStream NoStream.Memory
+        → length label.now < 256
+        → (stream : List ℕ) → ¬ IsReplyIn 33554432 keys.now label.now answer.items stream) }
 {
-    let bytes = as_read(alloc, label, answer)?;
-    match open_stream(alloc, keys, &bytes, STREAM_LIMIT) {
+    if label.len() > LABEL_MAX_SIZE {
+        return Err(NoAnswer::NoStream(NoStream::Closed));
+    }
+    match open_reply(alloc, keys, label, &answer, STREAM_LIMIT) {
         Ok(stream) => Ok(stream),
         Err(StreamFault::NoStream(ERROR_MESSAGE)) => {
-            let message = message_in(alloc, keys, &bytes)?;
+            let message = message_in(alloc, keys, label, answer)?;
             Err(NoAnswer::Error(words_of(alloc, &message)?))
         }
         Err(fault) => Err(NoAnswer::NoStream(cause_of(fault))),
     }
 }
 
-/// An answer as it is read: behind the label of the cluster, unless a label stands before it.
-fn as_read(alloc: Global, label: &[u8], answer: Vec<u8>) -> Result<Vec<u8>, NoAnswer>
-    ensures { IfOk result (λ bytes. IsRead label.now answer.items bytes.items) }
-{
-    if answer.first() == Some(&LABEL) {
-        return Ok(answer);
-    }
-    if label.len() > LABEL_MAX_SIZE {
-        return Err(NoAnswer::NoStream(NoStream::Closed));
-    }
-    let bytes = behind_label(alloc, label, answer)?;
-    Ok(bytes)
-}
-
-/// The message that the bytes hold, in the clear or encrypted; empty if there is none.
-fn message_in(alloc: Global, keys: &Keyring, bytes: &[u8]) -> Result<Vec<u8>, AllocError> {
-    let Ok(message) = unwrap(alloc, bytes, STREAM_LIMIT) else {
+/// The message that an answer holds, in the clear or encrypted; empty if there is none.
+fn message_in(
+    alloc: Global,
+    keys: &Keyring,
+    label: &[u8],
+    answer: Vec<u8>,
+) -> Result<Vec<u8>, AllocError> {
+    let bytes = match answer.first() {
+        Some(&LABEL) => answer,
+        _ => behind_label(alloc, label, answer)?,
+    };
+    let Ok(message) = unwrap(alloc, &bytes, STREAM_LIMIT) else {
         return Err(AllocError);
     };
     if message.first() != Some(&ENCRYPTED) {
         return Ok(message);
     }
-    match keys.open_stream(alloc, bytes) {
+    match keys.open_stream(alloc, &bytes) {
         Ok(inner) => match unwrap(alloc, &inner, STREAM_LIMIT) {
             Ok(message) => Ok(message),
             Err(_) => Err(AllocError),
