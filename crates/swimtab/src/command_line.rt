@@ -55,27 +55,27 @@ fn command<'a>(alloc: Global) -> Result<Command<'a>, AllocError>
 {
     let list = Page {
         name: "list",
-        about: "Lists the table of all claims in the dumps",
+        about: "Prints the merged table of push/pull streams",
         example: help::LIST,
     };
     let merge = Page {
         name: "merge",
-        about: "Prints the canonical dump of that table",
+        about: "Prints that table as one push/pull stream",
         example: help::MERGE,
     };
     let relate = Page {
         name: "relate",
-        about: "Tells how the tables of two dumps relate: equal, behind, ahead or apart",
+        about: "Compares the tables of two streams: equal, behind, ahead or apart",
         example: help::RELATE,
     };
     let exchange = Page {
         name: "loop",
-        about: "Exchanges the tables of two dumps over a socket, and lists the first",
+        about: "Exchanges the tables of two streams over a socket, and prints the first",
         example: help::LOOP,
     };
     let run = Page {
         name: "run",
-        about: "Replays the script on standard input, and lists what each node knows at its end",
+        about: "Replays a script from standard input, and prints what each node knows at the end",
         example: help::RUN,
     };
     let with_list = add_files(alloc, lone_program(alloc), list)?;

@@ -3,27 +3,29 @@
 /// The version of the program, and what it was proved with.
 pub(crate) static VERSION: &str = "0.2.0, proved with rattle-kit-13f, logic dac8208d650f15bf";
 
-pub(crate) static FILE: &str = "A dump: one push/pull stream of memberlist";
+pub(crate) static FILE: &str = "A file with one push/pull stream of memberlist";
 
 pub(crate) static PROGRAM: &str = "\
-Without a command, the packets on standard input, in hexadecimal and one a line, are
-taken in, and the table is listed: a line for each member, 'name state inc home'.
+Without a command, swimtab reads packets from standard input, in hexadecimal and one on
+each line, and prints the resulting table: name, state, incarnation and newest address
+of each member.
 
 Examples:
-  swimtab < packets.hex          lists the table of the packets
-  swimtab list a.bin b.bin       lists the table of two dumps (push/pull streams)
-  swimtab merge a.bin b.bin > c  writes one dump that says what both say
+  swimtab < packets.hex          prints the table of the packets
+  swimtab list a.bin b.bin       prints the merged table of two push/pull streams
+  swimtab merge a.bin b.bin > c  writes that table as one stream
   swimtab relate a.bin b.bin     prints equal, behind, ahead or apart
-  swimtab loop a.bin b.bin       exchanges both over a socket, and lists the first
-  swimtab run < incident.script  replays a script, and lists each node's table
+  swimtab loop a.bin b.bin       exchanges both over a socket, and prints the first
+  swimtab run < incident.script  replays a script, and prints each node's table
 
   $ echo 0383a446726f6da178ab496e6361726e6174696f6e01a44e6f6465a162 | swimtab
   b suspect 1 -
 
-Exit status: 0 done, 1 not equal, 2 words or help, 3 input refused, 4 device, 5 memory";
+Exit status: 0 done, 1 not equal, 2 bad usage or help, 3 input refused, 4 device failed,
+5 out of memory";
 
 pub(crate) static LIST: &str = "\
-The order of the files makes no difference, nor does a file that is named twice.
+The order of the files makes no difference, and neither does a file given twice.
 
 Example:
   $ swimtab list examples/three.bin
@@ -32,8 +34,8 @@ Example:
   l3 alive 1 1/7f000403/33603//010502000000";
 
 pub(crate) static MERGE: &str = "\
-The dump is a push/pull stream without the join flag. It is for swimtab: a live
-memberlist refuses all of it where it has a member that is suspected, dead or gone.
+The stream does not have the join flag. It is for swimtab: a live memberlist refuses all
+of it if it has a member that is suspected, dead or gone.
 
 Example:
   $ swimtab merge examples/three.bin examples/user-state.bin > both.bin
@@ -41,17 +43,17 @@ Example:
   6";
 
 pub(crate) static RELATE: &str = "\
-Behind is a table of which the other one knows all, and more; ahead is the opposite.
-The exit status is 1 where the tables are not equal.
+A is behind B if B knows all that A knows, and more; ahead is the opposite. The exit
+status is 1 if the tables are not equal.
 
 Example:
   $ swimtab relate examples/three.bin examples/user-state.bin
   apart";
 
 pub(crate) static LOOP: &str = "\
-A offers its table on a connection of 127.0.0.1, B answers with its own, and A takes
-the answer in. Each canonical dump has at most 16,384 bytes. The exit status is 1
-where the tables are not equal at the end.
+A sends its table over a connection of 127.0.0.1, B answers with its own, and A takes in
+the answer. The stream that merge writes of each file may have 16,384 bytes. The exit
+status is 1 if the tables are not equal at the end.
 
 Example:
   $ swimtab loop examples/three.bin examples/user-state.bin | cut -d ' ' -f 1-3
@@ -64,12 +66,12 @@ Example:
 
 pub(crate) static RUN: &str = "\
 A line of a script is one of:
-  node NAME ADDR PORT META VSN INC   a node, by number from 0; these lines come first
-  hear K HEX                         node K takes a packet or compound packet in
+  node NAME ADDR PORT META VSN INC   a node, numbered from 0; these lines come first
+  hear K HEX                         node K takes in a packet or compound packet
   exchange J K                       nodes J and K exchange their tables
   half J K                           the same, but J never gets the answer
-  refute K                           node K refutes what it knows of itself
-  level                              all nodes get to know all; the last line
+  refute K                           node K refutes what is claimed about it
+  level                              all nodes learn what any of them knows; the last line
 
 Example:
   $ swimtab run < examples/lost-reply.script

@@ -58,7 +58,7 @@ fn lone_program<'a>(alloc: Global) -> Command<'a>
     ensures { app_of result ≡ bare }
 {
     Command::new(alloc, "swimunwrap")
-        .about("Takes off what memberlist's transport wraps around messages")
+        .about("Removes what memberlist's transport wraps around messages")
         .after_help(help::PROGRAM)
         .version(help::VERSION)
         .no_binary_name(true)

@@ -147,56 +147,56 @@ struct Page {
 const PAGES: [Page; 8] = [
     Page {
         name: "members",
-        about: "Shows the members, as they are at the end of the captures",
+        about: "Prints the members as they are at the end of the captures",
         example: help::MEMBERS,
         inputs: Inputs::Captures,
         flags: &[Flag::Wait, Flag::At, Flag::Json],
     },
     Page {
         name: "timeline",
-        about: "Shows what changed, by whose word and when, as it is read",
+        about: "Prints each change as it is read: when, who said so, and where",
         example: help::TIMELINE,
         inputs: Inputs::Captures,
         flags: &[Flag::Wait, Flag::Member, Flag::Json],
     },
     Page {
         name: "claims",
-        about: "Shows each claim about a member, as it is read",
+        about: "Prints each claim about a member as it is read",
         example: help::CLAIMS,
         inputs: Inputs::Captures,
         flags: &[Flag::Wait, Flag::Member, Flag::Json],
     },
     Page {
         name: "talkers",
-        about: "Shows what each sender sent, by kind",
+        about: "Prints what each sender sent, by kind",
         example: help::TALKERS,
         inputs: Inputs::Captures,
         flags: &[Flag::Wait, Flag::Json],
     },
     Page {
         name: "dump",
-        about: "Writes the canonical dump of all claims, for swimtab",
+        about: "Writes the table of all claims as one push/pull stream, for swimtab",
         example: help::DUMP,
         inputs: Inputs::Captures,
         flags: &[Flag::Wait],
     },
     Page {
         name: "chart",
-        about: "Writes a picture (SVG) of who was in the cluster, and in what state",
+        about: "Draws who was in the cluster, and in what state (SVG)",
         example: help::CHART,
         inputs: Inputs::Captures,
         flags: &[Flag::Wait, Flag::Member],
     },
     Page {
         name: "pull",
-        about: "Asks members for their tables, and shows whether they agree",
+        about: "Asks live members for their tables, and prints whether they agree",
         example: help::PULL,
         inputs: Inputs::Hosts,
         flags: &[Flag::Timeout, Flag::Label, Flag::Json, Flag::Dump],
     },
     Page {
         name: "diff",
-        about: "Shows what changed between two captures, dumps or members",
+        about: "Prints what changed between two captures, streams or members",
         example: help::DIFF,
         inputs: Inputs::Sides,
         flags: &[Flag::Wait, Flag::Timeout, Flag::Label, Flag::Json],
@@ -206,7 +206,7 @@ const PAGES: [Page; 8] = [
 /// The program with its commands.
 fn command<'a>(alloc: Global) -> Result<Command<'a>, AllocError> {
     let mut command = Command::new(alloc, "swimwatch")
-        .about("Who is in a cluster of memberlist, and who said what when")
+        .about("Shows who is in a memberlist cluster, and who said what when")
         .after_help(help::PROGRAM)
         .version(help::VERSION)
         .no_binary_name(true)

@@ -6,32 +6,32 @@ pub(crate) const VERSION: &str = "0.2.0, proved with rattle-kit-13f, logic dac82
 pub(crate) const CAPTURE: &str = "A pcap or pcapng file; - is standard input";
 
 pub(crate) const KEY_FILE: &str =
-    "A file of the cluster's keys, for what is encrypted; may be given more than once";
+    "A file with keys of the cluster, to decrypt packets; may be given more than once";
 
 pub(crate) const WAIT: &str =
-    "Seconds after which memberlist forgets a dead member: 30 (a local network) unless said";
+    "Seconds after which memberlist forgets a dead member [default: 30, a local network]";
 
-pub(crate) const AT: &str = "Show the members as they were at this time (RFC 3339)";
+pub(crate) const AT: &str = "Print the members as they were at this time (RFC 3339)";
 
-pub(crate) const MEMBER: &str = "Show this member alone";
+pub(crate) const MEMBER: &str = "Select this member";
 
-pub(crate) const JSON: &str = "Show an object of JSON on each line";
+pub(crate) const JSON: &str = "Print one JSON object on each line";
 
 pub(crate) const HOST: &str =
-    "A member: a name or an address, and its port if it is not 7946, as in [fe80::1]:7946";
+    "A member: a name or an address, with its port if that is not 7946, as in [fe80::1]:8301";
 
 pub(crate) const SIDE: &str =
-    "A capture, a file with a dump or another push/pull stream, or a member";
+    "A capture, a file with a push/pull stream, or a member";
 
-pub(crate) const TIMEOUT: &str = "Seconds that a member may take in all: 5 unless said";
+pub(crate) const TIMEOUT: &str = "Seconds that a member may take in all [default: 5]";
 
 pub(crate) const LABEL: &str = "The label of the cluster, if it has one";
 
-pub(crate) const PULLED_DUMP: &str = "Write the canonical dump of the table, for swimtab";
+pub(crate) const PULLED_DUMP: &str = "Write the table as one push/pull stream, for swimtab";
 
 pub(crate) const PROGRAM: &str = "\
-A capture is what tcpdump writes: pcap or pcapng. Several are read side by side, by the times
-of their records. The last line on standard error says what was read, and what was left out.
+A capture is what tcpdump writes: a pcap or pcapng file. Several are read side by side, by the
+times of their records. The last line on standard error says what was read and what was left out.
 
 Examples:
   swimwatch members cluster.pcap
@@ -66,8 +66,8 @@ Examples:
   swimtab list cluster.bin";
 
 pub(crate) const PULL: &str = "\
-Asks each member as one that does not join, so that nothing changes in the cluster. Of several
-members it shows on which names they agree, and what each says of the others.
+Asks without joining, so nothing changes in the cluster. For several members it prints the names
+on which they agree, and what each of them says about the others.
 
 Examples:
   swimwatch pull web-1
@@ -75,8 +75,8 @@ Examples:
   swimwatch pull --key-file keys --dump web-1 > web-1.bin";
 
 pub(crate) const DIFF: &str = "\
-Shows which members are new, gone or changed in the second, compared with the first. What a dump
-does not tell is not compared.
+Prints which members are new, gone or changed in the second side, compared with the first.
+Details that only one side has are not compared.
 
 Examples:
   swimwatch diff before.pcap after.pcap
