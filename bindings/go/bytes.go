@@ -8,14 +8,14 @@ import "C"
 
 import "unsafe"
 
-// cgo looks into all of the memory that an argument points to, and panics if there is a pointer of Go in it. Of
-// an argument unsafe.Pointer(&b[0]) it knows that it is the bytes of b alone, though they may be part of a
-// struct. So each call has the argument in this form, and no function returns such a pointer.
+// cgo checks all of the memory that an argument points to, and panics if it holds a Go pointer. For an argument of
+// the form unsafe.Pointer(&b[0]) it checks the bytes of b alone, even if they are part of a struct. So each call
+// passes its arguments in this form, and no function returns such a pointer.
 
-// none stands for no bytes, which have no first one.
+// none is passed for no bytes, which have no first byte.
 var none [1]byte
 
-// filled is the bytes, or, if there are none, others, so that there is a first one.
+// filled returns the bytes, or none if they are empty, so that there is a first byte.
 func filled(bytes []byte) []byte {
 	if len(bytes) == 0 {
 		return none[:]
@@ -23,23 +23,23 @@ func filled(bytes []byte) []byte {
 	return bytes
 }
 
-// textOf is the bytes of a string, not copied; nobody may write to them. If there are none it is others, as for
-// filled.
+// textOf returns the bytes of a string without copying them, so nobody may write to them. If there are none, it
+// returns what filled does.
 func textOf(text string) []byte {
 	return filled(unsafe.Slice(*(**byte)(unsafe.Pointer(&text)), len(text)))
 }
 
-// viewOf is bytes in memory of C, not copied.
+// viewOf returns bytes in C memory without copying them.
 func viewOf(first *C.uint8_t, size C.size_t) []byte {
 	return unsafe.Slice((*byte)(unsafe.Pointer(first)), int(size))
 }
 
-// size is how many bytes there are.
+// size returns how many bytes there are.
 func size[B []byte | string](bytes B) C.size_t {
 	return C.size_t(len(bytes))
 }
 
-// copied is a copy of what a call wrote into `out`.
+// copied returns a copy of what a call wrote to out.
 func copied(out []byte, made C.swimtab_written) ([]byte, error) {
 	if err := done(made.status); err != nil {
 		return nil, err
@@ -47,7 +47,7 @@ func copied(out []byte, made C.swimtab_written) ([]byte, error) {
 	return append([]byte(nil), out[:made.len]...), nil
 }
 
-// written makes a call that writes bytes, and makes it again with room for as many as it told.
+// written makes a call that writes bytes, and repeats it with a larger buffer if it needs one.
 func written(guess int, call func(out []byte) C.swimtab_written) ([]byte, error) {
 	for out := make([]byte, guess); ; {
 		made := call(out)

@@ -8,11 +8,11 @@ import (
 	"strings"
 )
 
-// Error says why a call was refused: a number of docs/PROTOCOL.md. A refused call has changed nothing.
-// errors.Is(err, swimtab.ErrEnded) compares one.
+// Error says why a call was refused, by a number of docs/PROTOCOL.md. A refused call has changed nothing. Compare
+// errors with errors.Is(err, swimtab.ErrEnded).
 type Error uint32
 
-// The faults that a call can answer.
+// The errors that a call can return.
 const (
 	ErrEnded           Error = C.SWIMTAB_ENDED            // the bytes end too soon
 	ErrNotUnsigned     Error = C.SWIMTAB_NOT_UNSIGNED     // expected a number that is not negative
@@ -59,21 +59,21 @@ const (
 	ErrNoMember        Error = C.SWIMTAB_NO_MEMBER        // there is no member at this index, or of this name
 	ErrOwnName         Error = C.SWIMTAB_OWN_NAME         // a member does not declare itself dead; it leaves
 	ErrTooManyPackets  Error = C.SWIMTAB_TOO_MANY_PACKETS // there are more than 255 packets for one compound packet
-	ErrBadForm         Error = C.SWIMTAB_BAD_FORM         // a form of a stream is neither Canonical nor Memberlist
+	ErrBadForm         Error = C.SWIMTAB_BAD_FORM         // the form of a stream is neither Canonical nor MemberlistForm
 )
 
-// Name is the fault's name in docs/PROTOCOL.md: "Ended".
+// Name returns the name of the fault in docs/PROTOCOL.md: "Ended".
 func (e Error) Name() string {
 	return C.GoString(C.swimtab_fault_name(C.uint32_t(e)))
 }
 
-// Error tells the number, the name, and what is wrong: "swimtab: fault 1 Ended: the bytes end too soon".
+// Error returns the number, the name and what is wrong: "swimtab: fault 1 Ended: the bytes end too soon".
 func (e Error) Error() string {
 	text := strings.TrimSuffix(C.GoString(C.swimtab_fault_text(C.uint32_t(e))), ".")
 	return fmt.Sprintf("swimtab: fault %d %s: %s%s", uint32(e), e.Name(), strings.ToLower(text[:1]), text[1:])
 }
 
-// done is nil if a call was done, so that no Error of 0 is ever an error.
+// done returns nil if a call was done, so that Error 0 is never returned.
 func done(status C.uint32_t) error {
 	if status == C.SWIMTAB_DONE {
 		return nil

@@ -10,20 +10,21 @@ import (
 	"unsafe"
 )
 
-// nonceSize is how many bytes a nonce has.
+// nonceSize is the length of a nonce.
 const nonceSize = C.SWIMTAB_NONCE_LEN
 
-// Keyring holds a cluster's keys: the first one encrypts, and all are tried in order to open what was encrypted.
-// Its methods may be called from any goroutine; a lock puts them one behind another. A nil Keyring, an empty one
-// and a closed one have no keys: they read and write what is not encrypted.
+// Keyring holds a cluster's keys. The first key encrypts; to decrypt, all are tried in order. Its methods may be
+// called from any goroutine; a lock lets one call run at a time. A nil Keyring, an empty one and a closed one have no
+// keys: they read and write what is not encrypted.
 type Keyring struct {
 	lock   sync.Mutex
 	handle C.swimtab_keyring
 }
 
-// NewKeyring holds these keys. Close overwrites and frees them; so does the garbage collector, in its own time.
+// NewKeyring makes a keyring with these keys. Close overwrites and frees them; so does the garbage collector, at some
+// later time.
 //
-// Refused: ErrBadKey, ErrMemory.
+// Errors: ErrBadKey, ErrMemory.
 func NewKeyring(keys ...[]byte) (*Keyring, error) {
 	k := new(Keyring)
 	runtime.SetFinalizer(k, func(k *Keyring) { k.Close() })
@@ -36,9 +37,9 @@ func NewKeyring(keys ...[]byte) (*Keyring, error) {
 	return k, nil
 }
 
-// Add adds a key of 16, 24 or 32 bytes, behind those that are there.
+// Add adds a key of 16, 24 or 32 bytes after those that are there.
 //
-// Refused: ErrBadKey, ErrMemory.
+// Errors: ErrBadKey, ErrMemory.
 func (k *Keyring) Add(key []byte) error {
 	first := filled(key)
 	k.lock.Lock()
@@ -46,7 +47,7 @@ func (k *Keyring) Add(key []byte) error {
 	return done(C.swimtab_keyring_add(&k.handle, unsafe.Pointer(&first[0]), size(key)))
 }
 
-// Close overwrites the keys and frees them. Closing again does nothing.
+// Close overwrites the keys and frees them. Closing it again does nothing.
 func (k *Keyring) Close() error {
 	k.lock.Lock()
 	defer k.lock.Unlock()
@@ -54,12 +55,12 @@ func (k *Keyring) Close() error {
 	return nil
 }
 
-// Unwrap is the message of a packet, one UDP payload as a member sends it: its label, its checksum and its
-// compression are taken off, and what is encrypted is opened. Node.Take reads it.
+// Unwrap returns the message in a packet, one UDP payload as a member sends it: it removes the label, checksum and
+// compression, and decrypts the message. Node.Take reads the result.
 //
-// Refused: ErrWrongType if the message makes no claims, as a ping, and without a key if it is encrypted; ErrEnded
-// if it is empty; ErrWrapperEnded to ErrTooDeep if its wrappers are wrong; ErrWrongTag if no key opens it;
-// ErrMemory.
+// Errors: ErrWrongType if the message makes no claims, like a ping, or is not a message, and without a key also if it
+// is encrypted; ErrEnded if it is empty; ErrWrapperEnded to ErrTooDeep if its wrappers are invalid; ErrWrongTag if
+// it is encrypted and no key decrypts it; ErrMemory.
 func (k *Keyring) Unwrap(packet []byte) ([]byte, error) {
 	first := filled(packet)
 	k = k.held()
@@ -69,13 +70,14 @@ func (k *Keyring) Unwrap(packet []byte) ([]byte, error) {
 	})
 }
 
-// UnwrapStream is the push/pull stream that one direction of a TCP connection is, without wrappers. Node.Answer
-// and Node.Finish read it. The label is that of the cluster, or empty; a stream that does not begin with a label
-// is read as if this one stood before it, since the side that answers writes none.
+// UnwrapStream returns the push/pull stream in the bytes of one direction of a TCP connection, without its wrappers.
+// Node.Answer and Node.Finish read the result. The label is that of the cluster, or empty. A stream that does not
+// begin with a label is read as if it began with this one, since the side that answers writes none.
 //
-// Refused: ErrWrongType if it is no push/pull stream, and without a key if it is encrypted; ErrEnded if it is
-// empty; ErrWrapperEnded to ErrTooDeep; ErrCipherTooLong to ErrCipherTrailing, the fault of the last key, if no
-// key opens it; ErrCipherTooLong also if the label has more than 255 bytes; ErrMemory.
+// Errors: ErrWrongType if it is not a push/pull stream, and without a key also if it is encrypted; ErrEnded if it is
+// empty; ErrWrapperEnded to ErrTooDeep if its wrappers are invalid; ErrCipherTooLong to ErrCipherTrailing, the fault
+// of the last key, if it is encrypted and no key decrypts it; ErrCipherTooLong also if the label has more than 255
+// bytes; ErrMemory.
 func (k *Keyring) UnwrapStream(label string, stream []byte) ([]byte, error) {
 	text, first := textOf(label), filled(stream)
 	k = k.held()
@@ -86,12 +88,12 @@ func (k *Keyring) UnwrapStream(label string, stream []byte) ([]byte, error) {
 	})
 }
 
-// Seal is a packet with this message, as memberlist sends it: encrypted under the first key, with a nonce drawn
-// at random, behind the label, which is authenticated. No label is written if it is empty. Without a key the
-// label alone is written before the message.
+// Seal returns a packet with this message, as memberlist sends it: the label, if it is not empty, and then the
+// message, encrypted with the first key and a random nonce, which authenticates the label too. Without a key the
+// message is not encrypted.
 //
-// Refused: ErrCipherTooLong if the label has more than 255 bytes, or the message is too long; ErrMemory; and the
-// error of crypto/rand.
+// Errors: ErrCipherTooLong if the label has more than 255 bytes, or the message is too long; ErrMemory; any error of
+// crypto/rand.
 func (k *Keyring) Seal(label string, message []byte) ([]byte, error) {
 	nonce, err := draw()
 	if err != nil {
@@ -100,11 +102,11 @@ func (k *Keyring) Seal(label string, message []byte) ([]byte, error) {
 	return k.seal(nonce, label, message)
 }
 
-// SealStream is a stream with this message in the same way. reply is false on the side that opened the
-// connection, as for what Offer wrote, and true on the side that answers, as for what Answer wrote: no label is
-// written before a reply, and if it is encrypted the label is authenticated all the same.
+// SealStream returns a stream with this message in the same way. reply is false on the side that opened the
+// connection, for what Offer wrote, and true on the other side, for what Answer wrote. No label is written before a
+// reply; if the reply is encrypted it authenticates the label all the same.
 //
-// Refused: as Seal; what is encrypted has at most 268,435,427 bytes.
+// Errors: those of Seal; a message to be encrypted has at most 268,435,427 bytes.
 func (k *Keyring) SealStream(label string, reply bool, message []byte) ([]byte, error) {
 	nonce, err := draw()
 	if err != nil {
@@ -113,7 +115,7 @@ func (k *Keyring) SealStream(label string, reply bool, message []byte) ([]byte, 
 	return k.sealStream(nonce, label, reply, message)
 }
 
-// overhead is by how much the bytes that are sealed are longer at most than the label and the message.
+// overhead is the greatest length that sealing adds to the label and the message.
 const overhead = 2 + 5 + 1 + nonceSize + 16
 
 func (k *Keyring) seal(nonce []byte, label string, message []byte) ([]byte, error) {
@@ -136,14 +138,14 @@ func (k *Keyring) sealStream(nonce []byte, label string, reply bool, message []b
 	})
 }
 
-// draw is a nonce, which must not be used twice under one key.
+// draw returns a random nonce. A nonce must never be used twice with one key.
 func draw() ([]byte, error) {
 	nonce := make([]byte, nonceSize)
 	_, err := rand.Read(nonce)
 	return nonce, err
 }
 
-// held is the keyring, or an empty one in place of none, and locks it.
+// held returns the keyring, or an empty one if it is nil, and locks it.
 func (k *Keyring) held() *Keyring {
 	if k == nil {
 		k = new(Keyring)

@@ -2,7 +2,7 @@
 
 package swimtab
 
-// With the tag swimtab_static there is no pkg-config: the header and the archive are those of this repository.
+// With the tag swimtab_static, pkg-config is not used: the header and the archive are those of this repository.
 // CGO_CFLAGS and CGO_LDFLAGS come first, and may name other folders.
 
 // #cgo CFLAGS: -I${SRCDIR}/../../include

@@ -15,8 +15,8 @@ type State uint32
 const (
 	Alive   State = C.SWIMTAB_ALIVE
 	Suspect State = C.SWIMTAB_SUSPECT
-	Confirm State = C.SWIMTAB_CONFIRM // dead, by the word of others
-	Leave   State = C.SWIMTAB_LEAVE   // gone, by its own word
+	Confirm State = C.SWIMTAB_CONFIRM // declared dead by other members
+	Leave   State = C.SWIMTAB_LEAVE   // left by itself
 )
 
 func (s State) String() string {
@@ -26,32 +26,32 @@ func (s State) String() string {
 	return "unknown"
 }
 
-// Address is the greatest Alive of a member, by incarnation and then by address, port, metadata and versions. It
-// need not be the latest one.
+// Address is the newest address of a member: that of the Alive with the greatest incarnation, and then the greatest
+// address, port, metadata and versions. It need not be the Alive that came last.
 type Address struct {
 	Incarnation uint32
 	Details
 }
 
-// Member is what a node knows of a member.
+// Member is what a node knows about a member.
 type Member struct {
 	Name        string
 	State       State
-	Incarnation uint32 // that of the claim that stands
-	// CameBack tells that the address has a greater incarnation than the claim that stands: a member that was
-	// confirmed dead or left, and is heard of again.
+	Incarnation uint32 // the incarnation of that state
+	// CameBack tells whether the newest address has a greater incarnation than the state: the member was declared
+	// dead or left, and has been heard of again.
 	CameBack bool
 	Address  *Address // nil if no Alive was seen
 }
 
-// Len is how many members the node knows of, itself among them unless it forgot itself, and 0 once it is closed.
+// Len returns how many members the node knows of, itself included unless it forgot itself, and 0 after Close.
 func (n *Node) Len() int {
 	n.lock.Lock()
 	defer n.lock.Unlock()
 	return n.counted()
 }
 
-// counted counts the members, under the lock, if the table changed since.
+// counted returns how many members there are, under the lock, and counts them if the table changed.
 func (n *Node) counted() int {
 	if n.count < 0 {
 		n.count = int(C.swimtab_count(&n.handle))
@@ -59,9 +59,9 @@ func (n *Node) counted() int {
 	return n.count
 }
 
-// At is the member at a place, in the byte order of the names.
+// At returns the member at index i, from 0, in the byte order of the names.
 //
-// Refused: ErrNoMember, ErrNoNode.
+// Errors: ErrNoMember, ErrNoNode.
 func (n *Node) At(i int) (Member, error) {
 	n.lock.Lock()
 	defer n.lock.Unlock()
@@ -71,9 +71,9 @@ func (n *Node) At(i int) (Member, error) {
 	return n.seen(n.name()), nil
 }
 
-// Find is the member of a name.
+// Find returns the member of this name.
 //
-// Refused: ErrNoMember, ErrNoNode.
+// Errors: ErrNoMember, ErrNoNode.
 func (n *Node) Find(name string) (Member, error) {
 	text := textOf(name)
 	n.lock.Lock()
@@ -84,7 +84,7 @@ func (n *Node) Find(name string) (Member, error) {
 	return n.seen(name), nil
 }
 
-// Members are all members at one time, in the byte order of their names.
+// Members returns all members as they are at one moment, in the byte order of their names.
 func (n *Node) Members() []Member {
 	n.lock.Lock()
 	defer n.lock.Unlock()
@@ -96,9 +96,9 @@ func (n *Node) Members() []Member {
 	return members
 }
 
-// Each calls f for each member, in the byte order of their names, until it answers false. The node is not locked
-// while f runs, which may call its methods. A name that comes or is forgotten meanwhile may be among them or not;
-// each other one is, once.
+// Each calls f for each member, in the byte order of their names, until f returns false. The node is not locked
+// while f runs, so f may call its methods. f may or may not be called for a name that is added or forgotten
+// meanwhile; for each other name it is called once.
 func (n *Node) Each(f func(Member) bool) {
 	var last string
 	turns := uint64(0)
@@ -121,7 +121,7 @@ func (n *Node) Each(f func(Member) bool) {
 	}
 }
 
-// after is the place of the first name behind this one, under the lock.
+// after returns the index of the first name after this one, under the lock.
 func (n *Node) after(name string) int {
 	return sort.Search(n.counted(), func(i int) bool {
 		C.swimtab_member(&n.handle, C.size_t(i), &n.member)
@@ -129,17 +129,17 @@ func (n *Node) after(name string) int {
 	})
 }
 
-// Watch begins to note the names of members of which something else stands than before, with none noted, or stops
-// and lets the noted names go.
+// Watch starts to note the names of the members whose entries change, with none noted yet, or stops and drops the
+// noted names. While names are noted, any packet or stream may take memory.
 //
-// Refused: ErrNoNode.
+// Errors: ErrNoNode.
 func (n *Node) Watch(on bool) error {
 	n.lock.Lock()
 	defer n.lock.Unlock()
 	return done(C.swimtab_watch(&n.handle, C.bool(on)))
 }
 
-// NextChange is the member of the first noted name, as it is now; the name is noted no longer then. It is false if
+// NextChange returns the member of the first noted name, as it is now, and no longer notes that name. ok is false if
 // no name is noted.
 //
 //	for member, ok := node.NextChange(); ok; member, ok = node.NextChange() {
@@ -152,12 +152,12 @@ func (n *Node) NextChange() (member Member, ok bool) {
 	return n.seen(n.name()), true
 }
 
-// name is the name of the member that was just copied.
+// name returns the name of the member that was just copied.
 func (n *Node) name() string {
 	return string(viewOf(&n.member.name[0], C.size_t(n.member.name_len)))
 }
 
-// seen is the member that was just copied.
+// seen returns the member that was just copied.
 func (n *Node) seen(name string) Member {
 	raw := &n.member
 	member := Member{

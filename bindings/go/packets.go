@@ -8,10 +8,10 @@ import "unsafe"
 // longest is the length of Node.packet.
 const longest = C.SWIMTAB_MAX_PACKET_LEN
 
-// Alive is the packet by which the member says that it is alive at the incarnation: that of Open at first, later
-// those that Refute gives.
+// Alive returns the packet that says that the member is alive at this incarnation. Pass the incarnation of Open at
+// first, and later those that Refute returns.
 //
-// Refused: ErrMemory, ErrNoNode.
+// Errors: ErrMemory, ErrNoNode.
 func (n *Node) Alive(incarnation uint32) ([]byte, error) {
 	n.lock.Lock()
 	defer n.lock.Unlock()
@@ -19,10 +19,10 @@ func (n *Node) Alive(incarnation uint32) ([]byte, error) {
 	return copied(n.packet[:], made)
 }
 
-// Suspect is the packet by which the member suspects another one. The table does not change; Take the packet to
-// have it do so.
+// Suspect returns the packet by which the member suspects another one. The incarnation is that of the Alive that it no
+// longer believes. The table does not change: pass the packet to Take to add the claim to it.
 //
-// Refused: ErrNameEmpty, ErrNameTooLong, ErrMemory, ErrNoNode.
+// Errors: ErrNameEmpty, ErrNameTooLong, ErrMemory, ErrNoNode.
 func (n *Node) Suspect(name string, incarnation uint32) ([]byte, error) {
 	text := textOf(name)
 	n.lock.Lock()
@@ -32,9 +32,9 @@ func (n *Node) Suspect(name string, incarnation uint32) ([]byte, error) {
 	return copied(n.packet[:], made)
 }
 
-// Confirm is the packet by which the member confirms that another one is dead. The table does not change.
+// Confirm returns the packet by which the member declares another one dead. The table does not change.
 //
-// Refused: ErrOwnName, ErrNameEmpty, ErrNameTooLong, ErrMemory, ErrNoNode.
+// Errors: ErrOwnName, ErrNameEmpty, ErrNameTooLong, ErrMemory, ErrNoNode.
 func (n *Node) Confirm(name string, incarnation uint32) ([]byte, error) {
 	text := textOf(name)
 	n.lock.Lock()
@@ -44,9 +44,9 @@ func (n *Node) Confirm(name string, incarnation uint32) ([]byte, error) {
 	return copied(n.packet[:], made)
 }
 
-// Leave is the packet by which the member itself leaves. The table does not change.
+// Leave returns the packet by which the member itself leaves, at this incarnation. The table does not change.
 //
-// Refused: ErrMemory, ErrNoNode.
+// Errors: ErrMemory, ErrNoNode.
 func (n *Node) Leave(incarnation uint32) ([]byte, error) {
 	n.lock.Lock()
 	defer n.lock.Unlock()
@@ -54,9 +54,9 @@ func (n *Node) Leave(incarnation uint32) ([]byte, error) {
 	return copied(n.packet[:], made)
 }
 
-// AliveOf is the packet of another member's Alive, as a member that gossips passes it on.
+// AliveOf returns the packet that says that another member is alive, as a member passes it on.
 //
-// Refused: ErrNameEmpty, ErrNameTooLong, ErrBadAddress, ErrMetaTooLong, ErrBadVersions, ErrMemory.
+// Errors: ErrNameEmpty, ErrNameTooLong, ErrBadAddress, ErrMetaTooLong, ErrBadVersions, ErrMemory.
 func AliveOf(name string, details Details, incarnation uint32) ([]byte, error) {
 	text, addr := textOf(name), details.Addr.AsSlice()
 	first, meta, versions := filled(addr), filled(details.Meta), filled(details.Versions)
@@ -67,10 +67,10 @@ func AliveOf(name string, details Details, incarnation uint32) ([]byte, error) {
 	})
 }
 
-// Compound makes one compound packet of up to 255 packets.
+// Compound returns one compound packet made from up to 255 packets.
 //
-// Refused: ErrTooManyPackets, ErrMemory, and the fault of the first that is no packet, where a compound packet
-// too is ErrWrongType.
+// Errors: ErrTooManyPackets, ErrMemory, and, if one is not a packet, the fault of the first such one; a compound
+// packet is ErrWrongType.
 func Compound(packets ...[]byte) ([]byte, error) {
 	var all []byte
 	lens := make([]C.size_t, len(packets)+1)

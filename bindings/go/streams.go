@@ -5,27 +5,28 @@ import "C"
 
 import "unsafe"
 
-// Form is how a stream is written.
+// Form is the form of a stream to write.
 type Form uint32
 
 const (
 	// Canonical is all that the table keeps, in canonical bytes.
 	Canonical Form = C.SWIMTAB_CANONICAL
-	// MemberlistForm is what memberlist merges: each record has an address and versions, and names of which no
-	// Alive is known are left out.
+	// MemberlistForm is a stream that memberlist merges: each record has the newest address, port, metadata and
+	// versions of its member, and members without an address are left out.
 	MemberlistForm Form = C.SWIMTAB_MEMBERLIST
 )
 
-// Taken is what came of a stream that was taken in.
+// Taken is the result of taking in a stream.
 type Taken struct {
 	Join bool // the join flag of the stream
 	News bool // whether the table changed
-	Used int  // how many bytes the stream has; those behind it were not looked at
+	Used int  // the length of the stream; bytes after it were not read
 }
 
-// Offer is the stream that begins an exchange: the node's table. memberlist sets join when it joins.
+// Offer returns the node's table as a push/pull stream, which begins an exchange. memberlist sets join when a member
+// joins.
 //
-// Refused: ErrTooManyRecords, ErrBadForm, ErrMemory, ErrNoNode.
+// Errors: ErrTooManyRecords, ErrBadForm, ErrMemory, ErrNoNode.
 func (n *Node) Offer(join bool, form Form) ([]byte, error) {
 	n.lock.Lock()
 	defer n.lock.Unlock()
@@ -34,18 +35,18 @@ func (n *Node) Offer(join bool, form Form) ([]byte, error) {
 	return owned(&buffer, status)
 }
 
-// Dump is the bytes that `swimtab merge` prints of the table: an offer in canonical form that does not join.
+// Dump returns the bytes that `swimtab merge` prints for the table: the canonical form without the join flag.
 //
-// Refused: ErrTooManyRecords, ErrMemory, ErrNoNode.
+// Errors: ErrTooManyRecords, ErrMemory, ErrNoNode.
 func (n *Node) Dump() ([]byte, error) {
 	return n.Offer(false, Canonical)
 }
 
-// Answer answers an offer: the reply is the table of before in this form, and the stream is taken in. A suspicion
-// may have come with it, so Refute after it.
+// Answer answers an offer: it takes the stream in, and returns the table as it was before, in this form. A suspicion
+// may have come with the stream, so call Refute afterwards. After an error, nothing was taken in.
 //
-// Refused: ErrTooManyRecords, ErrBadForm, ErrMemory, ErrNoNode, and the fault at which the reading of the stream
-// stops, of which ErrEnded alone may be mended by more bytes.
+// Errors: ErrTooManyRecords, ErrBadForm, ErrMemory, ErrNoNode, and the fault at which reading the stream stops. After
+// ErrEnded, and only then, more bytes may help.
 func (n *Node) Answer(stream []byte, form Form) (reply []byte, taken Taken, err error) {
 	first := filled(stream)
 	n.lock.Lock()
@@ -57,9 +58,10 @@ func (n *Node) Answer(stream []byte, form Form) (reply []byte, taken Taken, err 
 	return reply, takenOf(made), err
 }
 
-// Finish takes in a stream: a reply, or a dump. A suspicion may have come with it, so Refute after it.
+// Finish takes in a stream: the reply to an offer, or a dump. A suspicion may have come with it, so call Refute
+// afterwards. After an error, nothing was taken in.
 //
-// Refused: ErrMemory, ErrNoNode, and the fault at which the reading of the stream stops.
+// Errors: ErrMemory, ErrNoNode, and the fault at which reading the stream stops.
 func (n *Node) Finish(stream []byte) (Taken, error) {
 	first := filled(stream)
 	n.lock.Lock()
@@ -69,9 +71,9 @@ func (n *Node) Finish(stream []byte) (Taken, error) {
 	return takenOf(made), done(made.status)
 }
 
-// List is the listing of the table, as `swimtab list` prints it.
+// List returns the listing of the table, as `swimtab list` prints it.
 //
-// Refused: ErrMemory, ErrNoNode.
+// Errors: ErrMemory, ErrNoNode.
 func (n *Node) List() (string, error) {
 	n.lock.Lock()
 	defer n.lock.Unlock()
@@ -87,7 +89,7 @@ func takenOf(made C.swimtab_exchanged) Taken {
 	return Taken{Join: bool(made.join), News: bool(made.news), Used: int(made.used)}
 }
 
-// owned is a copy of the bytes in memory of the library, which it frees.
+// owned returns a copy of bytes in memory of the library, and frees them.
 func owned(buffer *C.swimtab_buffer, status C.uint32_t) ([]byte, error) {
 	if err := done(status); err != nil {
 		return nil, err
@@ -96,8 +98,8 @@ func owned(buffer *C.swimtab_buffer, status C.uint32_t) ([]byte, error) {
 	return append([]byte(nil), held(buffer)...), nil
 }
 
-// held is the bytes of a buffer, not copied. If it has none, its pointer may be none that Go allows, and is not
-// looked at.
+// held returns the bytes of a buffer without copying them. The pointer of an empty buffer may be one that Go does not
+// allow, so it is not used.
 func held(buffer *C.swimtab_buffer) []byte {
 	if buffer.len == 0 {
 		return nil
@@ -105,18 +107,17 @@ func held(buffer *C.swimtab_buffer) []byte {
 	return viewOf(buffer.at, buffer.len)
 }
 
-// Progress is how far a stream is read that comes in pieces. The zero Progress begins one; each stream has its
-// own.
+// Progress is how far a stream that comes in pieces has been read. The zero Progress is ready to use; each stream
+// needs its own.
 type Progress struct {
 	read C.swimtab_progress
 }
 
-// Whole tells whether the bytes, all that have come so far, begin with a whole stream, and how many of them it
-// has. Each call has the bytes of the call before at the front. Each record is read once, however many pieces
-// come.
+// Whole returns whether the bytes that came so far begin with a whole stream, and the length of that stream. The bytes
+// of each later call begin with those of the last call. Each record is read once, however many pieces there are.
 //
-// Refused: ErrMemory, after which the same call may be made again, and else the fault for which the bytes begin
-// no stream.
+// Errors: ErrMemory, after which the same call may be repeated, and otherwise the fault at which reading stops: the
+// bytes do not begin with a stream, whatever follows.
 func (p *Progress) Whole(bytes []byte) (used int, whole bool, err error) {
 	first := filled(bytes)
 	switch status := C.swimtab_whole(&p.read, unsafe.Pointer(&first[0]), size(bytes)); status {

@@ -1,6 +1,6 @@
-// Package swimtab is the membership table of a SWIM cluster, over the messages of memberlist: a thin wrapper of
-// libswimtab. A Node has no sockets and no timers: the program brings it packets and streams, and sends those
-// that it writes. What each call means stands in the repository's docs/EMBEDDING.md and docs/PROTOCOL.md.
+// Package swimtab is the membership table of a SWIM cluster, over memberlist's messages: a thin wrapper around
+// libswimtab. A Node has no sockets or timers: the program passes in the packets and streams that it received, and
+// sends those that a call writes. The repository's docs/EMBEDDING.md is the guide; docs/PROTOCOL.md has the rules.
 package swimtab
 
 // #include <swimtab.h>
@@ -14,20 +14,20 @@ import (
 	"unsafe"
 )
 
-// Node is what one member of a cluster knows. Its methods may be called from any goroutine; a lock puts them one
-// behind another. A closed one answers ErrNoNode. It is made by Open, and not copied.
+// Node is what one member of a cluster knows. Its methods may be called from any goroutine; a lock lets one call
+// run at a time. The calls of a closed Node return ErrNoNode. Open makes a Node; do not copy it.
 type Node struct {
 	lock   sync.Mutex
 	handle C.swimtab_node
-	// what calls write, under the lock, so that no call needs memory for it
+	// what calls write to, under the lock, so that no call needs memory for it
 	member C.swimtab_member_data
 	packet [C.SWIMTAB_MAX_PACKET_LEN]byte
 	count  int    // how many members there are, or -1 if the table changed since they were counted
-	turns  uint64 // how often the table changed
+	turns  uint64 // how many times the table changed
 }
 
-// Details are what a member says of itself. Meta has at most 512 bytes, and Versions none or 6 (memberlist wants
-// 6 of those whom it takes in).
+// Details are what a member says about itself. Meta has at most 512 bytes, and Versions 0 or 6 (memberlist accepts
+// only members with 6).
 type Details struct {
 	Addr     netip.Addr
 	Port     uint16
@@ -35,16 +35,16 @@ type Details struct {
 	Versions []byte
 }
 
-// Version is the version of the library that is linked, as "0.2.0".
+// Version returns the version of the linked library, as "0.2.0".
 func Version() string {
 	number := uint32(C.swimtab_version())
 	return fmt.Sprintf("%d.%d.%d", number/10000, number/100%100, number%100)
 }
 
-// Open makes the node of the member of this name, who is alive at the incarnation and knows of nobody else.
-// Close frees it; so does the garbage collector, in its own time.
+// Open opens the node of the member of this name, which is alive at the incarnation and knows of nobody else yet.
+// Close frees it; so does the garbage collector, at some later time.
 //
-// Refused: ErrNameEmpty, ErrNameTooLong, ErrBadAddress, ErrMetaTooLong, ErrBadVersions, ErrMemory.
+// Errors: ErrNameEmpty, ErrNameTooLong, ErrBadAddress, ErrMetaTooLong, ErrBadVersions, ErrMemory.
 func Open(name string, details Details, incarnation uint32) (*Node, error) {
 	n := &Node{count: -1}
 	text, addr := textOf(name), details.Addr.AsSlice()
@@ -59,7 +59,7 @@ func Open(name string, details Details, incarnation uint32) (*Node, error) {
 	return n, nil
 }
 
-// Close frees the node. Closing again does nothing.
+// Close frees the node. Closing it again does nothing.
 func (n *Node) Close() error {
 	n.lock.Lock()
 	defer n.lock.Unlock()
@@ -68,7 +68,7 @@ func (n *Node) Close() error {
 	return nil
 }
 
-// changed notes that the table is another one, if there is news.
+// changed notes that the table changed, if there is news.
 func (n *Node) changed(news bool) {
 	if news {
 		n.count = -1
@@ -76,10 +76,11 @@ func (n *Node) changed(news bool) {
 	}
 }
 
-// Take takes in the claims of a packet or compound packet without wrappers, or none of them. It tells whether the
-// table changed: a program that passes packets on passes those on that have news.
+// Take takes in the claim of a packet, or all claims of a compound packet, without wrappers. It returns whether the
+// table changed: a program that gossips passes on the packets that have news. After an error, none of the claims
+// was taken in.
 //
-// Refused: ErrMemory, ErrNoNode, and the fault at which the reading of the packet stops.
+// Errors: ErrMemory, ErrNoNode, and the fault at which reading the packet stops.
 func (n *Node) Take(packet []byte) (news bool, err error) {
 	first := filled(packet)
 	n.lock.Lock()
@@ -89,9 +90,10 @@ func (n *Node) Take(packet []byte) (news bool, err error) {
 	return bool(taken.news), done(taken.status)
 }
 
-// Refute refutes what others say of the member, if that is due, and tells at which incarnation it is alive again.
+// Refute refutes what others say about the member, if there is something to refute (due), and returns the
+// incarnation at which the member is alive again.
 //
-// Refused: ErrExhausted, ErrGone, ErrMemory, ErrNoNode.
+// Errors: ErrExhausted, ErrGone, ErrMemory, ErrNoNode.
 func (n *Node) Refute() (incarnation uint32, due bool, err error) {
 	n.lock.Lock()
 	defer n.lock.Unlock()
@@ -100,11 +102,11 @@ func (n *Node) Refute() (incarnation uint32, due bool, err error) {
 	return uint32(refuted.inc), bool(refuted.due), done(refuted.status)
 }
 
-// Forget forgets a name: the table is then that of all claims that were taken in and are not about it. What is
-// heard of the name later is taken in as of a new one, also an old death; so forget a name only when the other
+// Forget forgets a name: the table is then that of all claims taken in that are not about this name. Whatever comes
+// about the name later is taken in as about a new one, even an old death; so forget a name only when the other
 // members have forgotten it.
 //
-// Refused: ErrNoMember, ErrNoNode.
+// Errors: ErrNoMember, ErrNoNode.
 func (n *Node) Forget(name string) error {
 	text := textOf(name)
 	n.lock.Lock()
@@ -114,12 +116,12 @@ func (n *Node) Forget(name string) error {
 	return done(status)
 }
 
-// comparing keeps two comparisons from locking the same two nodes in different orders.
+// comparing prevents two comparisons from locking the same two nodes in different orders.
 var comparing sync.Mutex
 
-// Relation is how the node's table relates to that of the other.
+// Relation returns how the node's table relates to that of the other node.
 //
-// Refused: ErrNoNode.
+// Errors: ErrNoNode.
 func (n *Node) Relation(other *Node) (Relation, error) {
 	comparing.Lock()
 	defer comparing.Unlock()
@@ -138,9 +140,9 @@ type Relation uint32
 
 const (
 	Equal  Relation = C.SWIMTAB_EQUAL
-	Behind Relation = C.SWIMTAB_BEHIND // the other one says more
-	Ahead  Relation = C.SWIMTAB_AHEAD  // this one says more
-	Apart  Relation = C.SWIMTAB_APART  // each says something that the other does not
+	Behind Relation = C.SWIMTAB_BEHIND // the other one has more
+	Ahead  Relation = C.SWIMTAB_AHEAD  // this one has more
+	Apart  Relation = C.SWIMTAB_APART  // each has something that the other one does not have
 )
 
 func (r Relation) String() string {

@@ -1,4 +1,4 @@
-// Two members, an exchange of their tables, and a suspicion that is refuted.
+// Command example has two members, an exchange of their tables, and a suspicion that is refuted.
 package main
 
 import (
@@ -22,13 +22,13 @@ func check(err error) {
 	}
 }
 
-// hears takes a packet in.
+// hears takes in a packet.
 func hears(node *swimtab.Node, packet []byte) {
 	_, err := node.Take(packet)
 	check(err)
 }
 
-// sent is what a call wrote, once it is sure that it was not refused.
+// sent returns what a call wrote, and ends the program if the call was refused.
 func sent(bytes []byte, err error) []byte {
 	check(err)
 	return bytes
@@ -44,14 +44,15 @@ func main() {
 	hears(a, sent(c.Alive(4)))
 	hears(a, sent(a.Suspect("c", 4)))
 
-	// b joins at a: what it offers goes out over TCP, and what a replies comes back
+	// b joins a: b's offer goes out over TCP, and a's reply comes back
 	reply, _, err := a.Answer(sent(b.Offer(true, swimtab.MemberlistForm)), swimtab.MemberlistForm)
 	check(err)
 	_, err = b.Finish(reply)
 	check(err)
 	fmt.Println("b, after an exchange with a:")
 	for _, member := range b.Members() {
-		fmt.Printf("  %s %v %d %v:%d\n", member.Name, member.State, member.Incarnation, member.Home.Addr, member.Home.Port)
+		address := member.Address
+		fmt.Printf("  %s %v %d %v:%d\n", member.Name, member.State, member.Incarnation, address.Addr, address.Port)
 	}
 
 	// b suspects a, which refutes it
