@@ -6,8 +6,8 @@ import (
 	"testing"
 )
 
-// What a real cluster sent, and what it says; the bytes are those of tests/c/sealing.c, which tells where they
-// are from.
+// What a real cluster sent, and what it says. The bytes are those of tests/c/sealing.c, which says where they come
+// from.
 const (
 	newKey      = "3b91421dae7f570e037c45dd729985efad5f7659103d10134452b9016801a83f"
 	suspectSent = "018dccbf33b5e26f3f81a65fd70ea9d69b1348813ba29bc4e9ab063156cc18dc3c55115dc87a942e07e25d6bcce8164a55ee" +

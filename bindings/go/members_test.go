@@ -5,7 +5,7 @@ import (
 	"testing"
 )
 
-// names are those of the members that a call tells of one after another.
+// names returns the names of the members that repeated calls return.
 func names(next func() (Member, bool)) string {
 	var told []string
 	for member, ok := next(); ok; member, ok = next() {
@@ -109,7 +109,7 @@ func TestEachTellsOfAllInOrder(t *testing.T) {
 	a.Each(func(member Member) bool {
 		told += member.Name
 		switch member.Name {
-		case "d": // names before it and behind it come and go
+		case "d": // names before it and after it come and go
 			a.Forget("b")
 			a.Forget("d")
 			a.Forget("q")
@@ -136,7 +136,7 @@ func TestEachTellsOfAllInOrder(t *testing.T) {
 func TestFindTakesLittleMemory(t *testing.T) {
 	a := opened(t, "a", 1)
 	if each := testing.AllocsPerRun(100, func() { a.Find("a") }); each > 4 {
-		t.Error(each) // the address, its metadata and its versions, and what cgo looks at
+		t.Error(each) // the address, its metadata and its versions, and what cgo checks
 	}
 	if each := testing.AllocsPerRun(100, func() { a.Len() }); each > 0 {
 		t.Error(each)

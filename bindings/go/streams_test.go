@@ -34,19 +34,19 @@ func TestAnExchangeLevelsTwoMembers(t *testing.T) {
 	}
 }
 
-// header is that of a stream of so many records.
+// header returns the header of a stream with this many records.
 func header(join, records byte) string {
 	return "\x06\x83\xa4Join" + string([]byte{join}) + "\xa5Nodes" + string([]byte{records}) + "\xacUserStateLen\x00"
 }
 
-// record is one with the details of 127.0.0.last.
+// record returns a record with the address 127.0.0.last.
 func record(name string, inc, state, last byte) string {
 	return "\x87\xa4Addr\xa4\x7f\x00\x00" + string([]byte{last}) + "\xabIncarnation" + string([]byte{inc}) +
 		"\xa4Meta\xa1m\xa4Name\xa1" + name + "\xa4Port\xcd\x1f\x0a\xa5State" + string([]byte{state}) +
 		"\xa3Vsn\xa6\x01\x05\x02\x00\x00\x00"
 }
 
-// bare is one without details.
+// bare returns a record without an address, metadata, a port and versions.
 func bare(name string, inc, state byte) string {
 	return "\x87\xa4Addr\xa0\xabIncarnation" + string([]byte{inc}) + "\xa4Meta\xa0\xa4Name\xa1" + name +
 		"\xa4Port\x00\xa5State" + string([]byte{state}) + "\xa3Vsn\xa0"

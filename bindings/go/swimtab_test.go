@@ -54,7 +54,7 @@ func takes(t *testing.T, node *Node, packet []byte, news bool) {
 	}
 }
 
-// unhex is the bytes of hexadecimal.
+// unhex returns the bytes that hexadecimal digits stand for.
 func unhex(text string) []byte {
 	bytes, err := hex.DecodeString(text)
 	if err != nil {
@@ -63,7 +63,7 @@ func unhex(text string) []byte {
 	return bytes
 }
 
-// same sees that bytes are those that are wanted.
+// same checks that the bytes are the wanted ones.
 func same(t *testing.T) func(got []byte, err error) func(wanted string) {
 	return func(got []byte, err error) func(wanted string) {
 		return func(wanted string) {
@@ -254,7 +254,7 @@ func TestGoroutinesShareANode(t *testing.T) {
 	}
 }
 
-// A member of a cluster as a program may have it: bytes stand beside pointers.
+// connection is a member of a cluster as a program may keep it, with bytes next to pointers.
 type connection struct {
 	node   *Node
 	others []*connection
@@ -270,7 +270,8 @@ func (c *connection) hears(bytes []byte) []byte {
 	return c.bytes[:c.length]
 }
 
-// cgo panics if it finds a pointer of Go in what is given to C, and looks beyond a slice if it is not told.
+// cgo panics if it finds a Go pointer in what is passed to C, and checks more than a slice if the call does not show
+// its bounds.
 func TestBytesMayStandBesidePointers(t *testing.T) {
 	c := &connection{node: opened(t, "a", 1), others: []*connection{{}}}
 	b := opened(t, "b", 2)

@@ -1,5 +1,5 @@
-//! Finds the library: in SWIMTAB_LIB, or else where pkg-config says, or else in the build/ of this
-//! repository.
+//! Finds the library: in the folder that SWIMTAB_LIB names or, if that is not set, where pkg-config says, or
+//! else in build/ of this repository.
 
 use std::env;
 use std::path::{Path, PathBuf};
@@ -8,13 +8,13 @@ use std::process::Command;
 /// The oldest library that has all calls.
 const OLDEST: &str = "0.2.0";
 
-/// Whether the library is linked as a shared one.
+/// Whether to link the shared library.
 fn is_shared() -> bool {
     env::var_os("CARGO_FEATURE_SHARED").is_some()
         || env::var("SWIMTAB_SHARED").is_ok_and(|shared| shared == "1")
 }
 
-/// The folder that pkg-config tells, or why there is none.
+/// The folder that pkg-config names, or why there is none.
 fn by_pkg_config() -> Result<PathBuf, String> {
     let asked = |word: &str| {
         let told = Command::new("pkg-config").args([word, "swimtab"]).output();
@@ -31,7 +31,7 @@ fn by_pkg_config() -> Result<PathBuf, String> {
     Ok(folder.into())
 }
 
-/// The folder, if the file is in it, or that it is not.
+/// The folder, if the file is in it, or a text that says that it is not.
 fn holding(file: &str, folder: PathBuf, whose: &str) -> Result<PathBuf, String> {
     if folder.join(file).exists() {
         Ok(folder)
@@ -40,7 +40,7 @@ fn holding(file: &str, folder: PathBuf, whose: &str) -> Result<PathBuf, String> 
     }
 }
 
-/// The folder of the library, or why each place that was looked at is none.
+/// The folder of the library, or why it is in none of the places that were searched.
 fn folder_of(file: &str) -> Result<PathBuf, Vec<String>> {
     if let Some(folder) = env::var_os("SWIMTAB_LIB") {
         return holding(file, folder.into(), "the folder SWIMTAB_LIB").map_err(|place| vec![place]);

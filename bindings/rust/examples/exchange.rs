@@ -26,7 +26,7 @@ fn main() -> Result<()> {
     let suspicion = a.suspect(b"c", 4)?;
     a.take(&suspicion)?;
 
-    // b joins at a: what it offers goes out over TCP, and what a replies comes back
+    // b joins a: b's offer goes out over TCP, and a's reply comes back
     let answer = a.answer(&b.offer(true, Form::Memberlist)?, Form::Memberlist)?;
     b.finish(&answer.reply)?;
     show("b, after an exchange with a", &b);

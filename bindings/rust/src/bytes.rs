@@ -1,11 +1,11 @@
-//! How bytes come out of the library.
+//! Bytes that the library writes.
 
 use crate::error::{done, Error, Result};
 use crate::raw::{self, DONE, TOO_SMALL};
 use std::net::IpAddr;
 use std::{ptr, slice};
 
-/// Makes a call that writes bytes, and makes it again with room for as many as it told.
+/// Makes a call that writes bytes, and repeats it with a larger buffer if it needs one.
 pub(crate) fn written(guess: usize, mut call: impl FnMut(*mut u8, usize) -> raw::Written) -> Result<Vec<u8>> {
     let mut out = vec![0; guess];
     loop {
@@ -37,7 +37,7 @@ impl Buffer {
         if self.0.at.is_null() {
             return &[];
         }
-        // SAFETY: the library owns so many bytes here, and nothing changes them while the buffer is borrowed.
+        // SAFETY: the library owns `len` bytes here, and nothing changes them while the buffer is borrowed.
         unsafe { slice::from_raw_parts(self.0.at, self.0.len) }
     }
 }
@@ -49,7 +49,7 @@ impl Drop for Buffer {
     }
 }
 
-/// The bytes that a call put into a buffer.
+/// The bytes that a call puts into a buffer.
 pub(crate) fn owned(call: impl FnOnce(*mut raw::Buffer) -> u32) -> Result<Vec<u8>> {
     let mut buffer = Buffer::new();
     match call(buffer.at()) {

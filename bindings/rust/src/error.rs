@@ -3,7 +3,7 @@
 use crate::raw::DONE;
 use std::fmt;
 
-/// A call's answer, or why it was refused. A refused call has changed nothing.
+/// What a call returns, or why it was refused. A refused call has changed nothing.
 pub type Result<T> = std::result::Result<T, Error>;
 
 macro_rules! errors {

@@ -7,66 +7,65 @@ use std::cell::UnsafeCell;
 use std::fmt;
 use std::ptr;
 
-/// How many bytes a nonce has.
+/// The length of a nonce in bytes.
 pub const NONCE: usize = 12;
 
-/// By how much what is sealed is longer at most than its label and its message.
+/// The greatest length that sealing adds to the label and the message.
 const OVERHEAD: usize = 2 + 5 + 1 + NONCE + 16;
 
-/// A cluster's keys, or none: the first one encrypts, and all are tried in order to open what was encrypted.
-/// Without a key it reads and writes what is not encrypted. The keys are overwritten when it is dropped.
+/// A cluster's keys, or none. The first key encrypts; to decrypt, all are tried in order. Without a key, it
+/// reads and writes what is not encrypted. The keys are overwritten when the keyring is dropped.
 ///
-/// It may go from thread to thread, and is used by one at a time: it is `Send`, and not `Sync`.
+/// It may move from thread to thread, but only one uses it at a time: it is `Send`, not `Sync`.
 pub struct Keyring {
-    // As a node's handle.
+    // Like a node's handle.
     handle: UnsafeCell<raw::Keyring>,
 }
 
-// SAFETY: the library keeps nothing for a thread, and a handle may move between calls.
+// SAFETY: the library keeps no state per thread, and a handle may move between calls.
 unsafe impl Send for Keyring {}
 
 impl Keyring {
-    /// One without keys.
+    /// A keyring without keys.
     pub fn new() -> Keyring {
         Keyring { handle: UnsafeCell::new(raw::Keyring { at: ptr::null_mut(), held: false }) }
     }
 
-    /// Adds a key of 16, 24 or 32 bytes, behind those that are there.
+    /// Adds a key of 16, 24 or 32 bytes after those that are there.
     ///
     /// # Errors
     ///
-    /// `BadKey` if it has another length, and `Memory`; the keyring is as it was.
+    /// `BadKey` if it has another length; `Memory`. Then the keyring is unchanged.
     pub fn add(&mut self, key: &[u8]) -> Result<()> {
         // SAFETY: a slice's pointer is never null, and no other call runs; so in all calls below.
         done(unsafe { raw::swimtab_raw_keyring_add(self.handle.get(), key.as_ptr(), key.len()) })
     }
 
-    /// The message of a packet, one UDP payload as a member sends it: its label, its checksum and its
-    /// compression are taken off, and what is encrypted is opened. [`Node::take`](crate::Node::take) reads
-    /// it.
+    /// The message in a packet, one UDP payload as a member sends it: removes the label, checksum and
+    /// compression, and decrypts the message. [`Node::take`](crate::Node::take) reads the result.
     ///
     /// # Errors
     ///
-    /// `WrongType` if the message makes no claims, as a ping, and without a key if it is encrypted; `Ended`
-    /// if it is empty; `WrapperEnded` to `TooDeep` if its wrappers are wrong; `WrongTag` if it is encrypted
-    /// and no key opens it; `Memory`.
+    /// `WrongType` if the message makes no claims, like a ping, or is not a message, and without a key also
+    /// if it is encrypted; `Ended` if it is empty; `WrapperEnded` to `TooDeep` if its wrappers are invalid;
+    /// `WrongTag` if it is encrypted and no key decrypts it; `Memory`.
     pub fn unwrap_packet(&self, packet: &[u8]) -> Result<Vec<u8>> {
         written(2 * packet.len(), |out, len| unsafe {
             raw::swimtab_raw_unwrap(self.handle.get(), packet.as_ptr(), packet.len(), out, len)
         })
     }
 
-    /// The push/pull stream that one direction of a TCP connection is, without wrappers.
-    /// [`Node::answer`](crate::Node::answer) and [`Node::finish`](crate::Node::finish) read it. The label is
-    /// that of the cluster, or empty; a stream that does not begin with a label is read as if this one stood
-    /// before it, since the side that answers writes none.
+    /// The push/pull stream in the bytes of one direction of a TCP connection, without its wrappers.
+    /// [`Node::answer`](crate::Node::answer) and [`Node::finish`](crate::Node::finish) read the result. The
+    /// label is that of the cluster, or empty. A stream that does not begin with a label is read as if it
+    /// began with this one, since the side that answers writes none.
     ///
     /// # Errors
     ///
-    /// `WrongType` if it is no push/pull stream, and without a key if it is encrypted; `Ended` if it is
-    /// empty; `WrapperEnded` to `TooDeep` if its wrappers are wrong; `CipherTooLong` to `CipherTrailing`, the
-    /// fault of the last key, if it is encrypted and no key opens it; `CipherTooLong` also if the label has
-    /// more than 255 bytes; `Memory`.
+    /// `WrongType` if it is not a push/pull stream, and without a key also if it is encrypted; `Ended` if it
+    /// is empty; `WrapperEnded` to `TooDeep` if its wrappers are invalid; `CipherTooLong` to
+    /// `CipherTrailing`, the fault of the last key, if it is encrypted and no key decrypts it;
+    /// `CipherTooLong` also if the label has more than 255 bytes; `Memory`.
     pub fn unwrap_stream(&self, label: &[u8], stream: &[u8]) -> Result<Vec<u8>> {
         written(2 * stream.len(), |out, len| unsafe {
             raw::swimtab_raw_unwrap_stream(
@@ -81,10 +80,10 @@ impl Keyring {
         })
     }
 
-    /// A packet with this message, as memberlist sends it: encrypted under the first key, behind the label,
-    /// which is authenticated. No label is written if it is empty. A nonce must not be used twice under one
-    /// key, be it for packets or streams: draw each at random. Without a key the label alone is written
-    /// before the message, and the nonce is not read.
+    /// A packet with this message, as memberlist sends it: the label, if it is not empty, and then the
+    /// message, encrypted with the first key and the nonce, which authenticates the label too. Never use a
+    /// nonce twice with one key, for packets or streams: draw each at random. Without a key the message is
+    /// not encrypted, and the nonce is not read.
     ///
     /// # Errors
     ///
@@ -105,13 +104,14 @@ impl Keyring {
     }
 
     /// A stream with this message in the same way. `reply` is false on the side that opened the connection,
-    /// as for what [`Node::offer`](crate::Node::offer) wrote, and true on the side that answers, as for
-    /// [`Answer::reply`](crate::Answer::reply): no label is written before a reply, and if it is encrypted
-    /// the label is authenticated all the same.
+    /// for what [`Node::offer`](crate::Node::offer) wrote, and true on the other side, for
+    /// [`Answer::reply`](crate::Answer::reply). No label is written before a reply; if the reply is encrypted
+    /// it authenticates the label all the same.
     ///
     /// # Errors
     ///
-    /// As [`seal_packet`](Keyring::seal_packet); what is encrypted has at most 268,435,427 bytes.
+    /// Those of [`seal_packet`](Keyring::seal_packet); a message to be encrypted has at most 268,435,427
+    /// bytes.
     pub fn seal_stream(
         &self,
         nonce: &[u8; NONCE],
@@ -143,7 +143,7 @@ impl Default for Keyring {
 
 impl Drop for Keyring {
     fn drop(&mut self) {
-        // SAFETY: as in add. A handle without keys is fine.
+        // SAFETY: as in add. An empty handle is fine.
         unsafe { raw::swimtab_raw_keyring_close(self.handle.get()) };
     }
 }

@@ -1,11 +1,11 @@
-//! The membership table of a SWIM cluster, over the messages of memberlist: a safe wrapper of libswimtab.
+//! The membership table of a SWIM cluster, over memberlist's messages: a safe wrapper around libswimtab.
 //!
-//! A [`Node`] is what one member of a cluster knows. It has no sockets and no timers: the program brings it
-//! packets and streams, and sends those that it writes. A [`Keyring`] takes off and puts on what a real
-//! cluster wraps them in. What each call means, and each fault, stands in the repository's
-//! `docs/EMBEDDING.md` and `docs/PROTOCOL.md`.
+//! A [`Node`] is what one member of a cluster knows. It has no sockets or timers: the program passes in the
+//! packets and streams that it received, and sends those that a call writes. A [`Keyring`] reads packets and
+//! streams as a real cluster wraps them, and wraps those to send. The repository's `docs/EMBEDDING.md` is the
+//! guide; `docs/PROTOCOL.md` has the rules and the faults.
 //!
-//! Make no call in the child of a fork of a process with threads, or in a signal handler.
+//! Make no call in a signal handler, or in the child after a fork of a process with threads.
 
 mod bytes;
 mod error;
@@ -23,9 +23,9 @@ pub use node::{Node, Relation};
 pub use packet::{alive_of, compound};
 pub use stream::{Answer, Form, Progress, Taken};
 
-/// The version of the library that is linked, as "0.2.0".
+/// The version of the linked library, as "0.2.0".
 pub fn version() -> String {
-    // SAFETY: it is given nothing.
+    // SAFETY: it takes no arguments.
     let number = unsafe { raw::swimtab_raw_version() };
     format!("{}.{}.{}", number / 10_000, number / 100 % 100, number % 100)
 }

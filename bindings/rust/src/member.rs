@@ -1,18 +1,18 @@
-//! What a node knows of a member.
+//! What a node knows about a member.
 
 use crate::node::Node;
 use crate::raw;
 use std::net::{IpAddr, Ipv4Addr, Ipv6Addr};
 
-/// What a member says of itself.
+/// What a member says about itself.
 #[derive(Clone, Copy, Debug, PartialEq, Eq)]
 pub struct Details<'a> {
     pub addr: IpAddr,
     pub port: u16,
     /// At most 512 bytes.
     pub meta: &'a [u8],
-    /// The least, greatest and current version of memberlist's protocol and of the delegate's. memberlist
-    /// wants them of those whom it takes in.
+    /// The least, greatest and current version of memberlist's protocol, and then those of the delegate's.
+    /// memberlist accepts only members that have them.
     pub versions: Option<[u8; 6]>,
 }
 
@@ -27,14 +27,14 @@ impl Details<'_> {
 pub enum State {
     Alive,
     Suspect,
-    /// Dead, by the word of others.
+    /// Declared dead by other members.
     Confirm,
-    /// Gone, by its own word.
+    /// Left by itself.
     Leave,
 }
 
-/// The greatest Alive of a member, by incarnation and then by address, port, metadata and versions.
-/// It need not be the latest one.
+/// The newest address of a member: that of the Alive with the greatest incarnation, and then the greatest
+/// address, port, metadata and versions. It need not be the Alive that came last.
 #[derive(Clone, Debug, PartialEq, Eq)]
 pub struct Address {
     pub incarnation: u32,
@@ -50,10 +50,10 @@ pub struct Member {
     /// 1 to 1,024 bytes of any values.
     pub name: Vec<u8>,
     pub state: State,
-    /// That of the claim that stands.
+    /// The incarnation of that state.
     pub incarnation: u32,
-    /// Whether the address has a greater incarnation than the claim that stands: a member that was confirmed
-    /// dead or left, and is heard of again.
+    /// Whether the newest address has a greater incarnation than the state: the member was declared dead or
+    /// left, and has been heard of again.
     pub came_back: bool,
     /// None if no Alive was seen.
     pub address: Option<Address>,

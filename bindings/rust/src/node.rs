@@ -10,42 +10,42 @@ use std::fmt;
 use std::iter;
 use std::ptr;
 
-/// What one member of a cluster knows: itself, and a table of all members of which it has heard.
+/// What one member of a cluster knows: who it is, and a table of all members that it has heard of.
 ///
-/// It may go from thread to thread, and is used by one at a time: it is `Send`, and not `Sync`.
+/// It may move from thread to thread, but only one uses it at a time: it is `Send`, not `Sync`.
 pub struct Node {
-    // A handle is given to one call at a time, also to those that only read it. The library calls nothing
+    // A handle is used by one call at a time, even by calls that only read it. The library calls nothing
     // back, and UnsafeCell keeps the node from being shared between threads, so no two calls on it overlap.
     handle: UnsafeCell<raw::Node>,
 }
 
-// SAFETY: the library keeps nothing for a thread, and a handle may move between calls.
+// SAFETY: the library keeps no state per thread, and a handle may move between calls.
 unsafe impl Send for Node {}
 
 /// How a table relates to another.
 #[derive(Clone, Copy, Debug, PartialEq, Eq, Hash)]
 pub enum Relation {
     Equal,
-    /// The other one says more.
+    /// The other one has more.
     Behind,
-    /// This one says more.
+    /// This one has more.
     Ahead,
-    /// Each says something that the other does not.
+    /// Each has something that the other one does not have.
     Apart,
 }
 
 impl Node {
-    /// The node of the member of this name, who is alive at the incarnation and knows of nobody else. The
-    /// name has 1 to 1,024 bytes of any values.
+    /// Opens the node of the member of this name, which is alive at the incarnation and knows of nobody else
+    /// yet. The name has 1 to 1,024 bytes of any values.
     ///
     /// # Errors
     ///
-    /// `NameEmpty`, `NameTooLong` and `MetaTooLong`; `Memory`.
+    /// `NameEmpty`, `NameTooLong`, `MetaTooLong`, `Memory`.
     pub fn open(name: &[u8], details: Details<'_>, incarnation: u32) -> Result<Node> {
         let node = Node { handle: UnsafeCell::new(raw::Node { at: ptr::null_mut(), held: false }) };
         let addr = Octets::of(details.addr);
         let (addr, versions) = (addr.bytes(), details.version_bytes());
-        // SAFETY: the handle is fresh, and a slice's pointer is never null.
+        // SAFETY: the handle is new, and a slice's pointer is never null.
         done(unsafe {
             raw::swimtab_raw_open(
                 node.handle.get(),
@@ -64,13 +64,12 @@ impl Node {
         Ok(node)
     }
 
-    /// Takes in the claims of a packet or compound packet without wrappers. It tells whether the table
-    /// changed: a program that passes packets on passes those on that have news.
+    /// Takes in the claim of a packet, or all claims of a compound packet, without wrappers. Returns whether
+    /// the table changed: a program that gossips passes on the packets that have news.
     ///
     /// # Errors
     ///
-    /// The fault at which the reading of the packet stops, and `Memory`; then none of its claims was taken
-    /// in.
+    /// The fault at which reading the packet stops, or `Memory`. Then none of the claims was taken in.
     pub fn take(&mut self, packet: &[u8]) -> Result<bool> {
         // SAFETY: as in open; no other call runs.
         let taken = unsafe { raw::swimtab_raw_take(self.handle.get(), packet.as_ptr(), packet.len()) };
@@ -78,13 +77,13 @@ impl Node {
         Ok(taken.news)
     }
 
-    /// Refutes what others say of the member, if that is due, and tells at which incarnation it is alive
-    /// again.
+    /// Refutes what others say about the member, if there is something to refute. Returns the incarnation at
+    /// which the member is then alive again.
     ///
     /// # Errors
     ///
-    /// `Exhausted` if no greater incarnation is left; `Gone` if the member was confirmed dead, or left;
-    /// `Memory`. Nothing has changed then.
+    /// `Exhausted` if there is no greater incarnation; `Gone` if the member was declared dead, or left;
+    /// `Memory`. Then nothing has changed.
     pub fn refute(&mut self) -> Result<Option<u32>> {
         // SAFETY: as in take.
         let refuted = unsafe { raw::swimtab_raw_refute(self.handle.get()) };
@@ -92,9 +91,9 @@ impl Node {
         Ok(refuted.due.then_some(refuted.inc))
     }
 
-    /// Forgets a name: the table is then that of all claims that were taken in and are not about it. What is
-    /// heard of the name later is taken in as of a new one, also an old death; so forget a name only when the
-    /// other members have forgotten it.
+    /// Forgets a name: the table is then that of all claims taken in that are not about this name. Whatever
+    /// comes about the name later is taken in as about a new one, even an old death; so forget a name only
+    /// when the other members have forgotten it.
     ///
     /// # Errors
     ///
@@ -104,8 +103,8 @@ impl Node {
         done(unsafe { raw::swimtab_raw_forget(self.handle.get(), name.as_ptr(), name.len()) })
     }
 
-    /// The packet by which the member says that it is alive at the incarnation: that of `open` at first,
-    /// later those that `refute` gives.
+    /// The packet that says that the member is alive at this incarnation. Pass the incarnation of `open` at
+    /// first, and later those that `refute` returns.
     ///
     /// # Errors
     ///
@@ -117,30 +116,30 @@ impl Node {
         })
     }
 
-    /// The packet by which the member suspects another one. The table does not change; `take` the packet to
-    /// have it do so.
+    /// The packet by which the member suspects another one. The incarnation is that of the Alive that it no
+    /// longer believes. The table does not change: pass the packet to `take` to add the claim to it.
     ///
     /// # Errors
     ///
-    /// `NameEmpty` and `NameTooLong`; `Memory`.
+    /// `NameEmpty`, `NameTooLong`, `Memory`.
     pub fn suspect(&self, name: &[u8], incarnation: u32) -> Result<Vec<u8>> {
         self.packet(|handle, out, len| unsafe {
             raw::swimtab_raw_suspect(handle, name.as_ptr(), name.len(), incarnation, out, len)
         })
     }
 
-    /// The packet by which the member confirms that another one is dead. The table does not change.
+    /// The packet by which the member declares another one dead. The table does not change.
     ///
     /// # Errors
     ///
-    /// `OwnName` if the name is the member's own; `NameEmpty` and `NameTooLong`; `Memory`.
+    /// `OwnName` if the name is the member's own; `NameEmpty`, `NameTooLong`, `Memory`.
     pub fn confirm(&self, name: &[u8], incarnation: u32) -> Result<Vec<u8>> {
         self.packet(|handle, out, len| unsafe {
             raw::swimtab_raw_confirm(handle, name.as_ptr(), name.len(), incarnation, out, len)
         })
     }
 
-    /// The packet by which the member itself leaves. The table does not change.
+    /// The packet by which the member itself leaves, at this incarnation. The table does not change.
     ///
     /// # Errors
     ///
@@ -149,31 +148,32 @@ impl Node {
         self.packet(|handle, out, len| unsafe { raw::swimtab_raw_leave(handle, incarnation, out, len) })
     }
 
-    /// The stream that begins an exchange: the node's table. memberlist sets `join` when it joins.
+    /// The node's table as a push/pull stream, which begins an exchange. memberlist sets `join` when a member
+    /// joins.
     ///
     /// # Errors
     ///
-    /// `TooManyRecords` if the table has more than 131,072; `Memory`.
+    /// `TooManyRecords` if the table has more than 131,072 records; `Memory`.
     pub fn offer(&self, join: bool, form: Form) -> Result<Vec<u8>> {
         owned(|buffer| unsafe { raw::swimtab_raw_offer_new(self.handle.get(), join, form.number(), buffer) })
     }
 
-    /// The bytes that `swimtab merge` prints of the table: an offer in canonical form that does not join.
+    /// The bytes that `swimtab merge` prints for the table: the canonical form without the join flag.
     ///
     /// # Errors
     ///
-    /// As `offer`.
+    /// Those of `offer`.
     pub fn dump(&self) -> Result<Vec<u8>> {
         self.offer(false, Form::Canonical)
     }
 
-    /// Answers an offer: the reply is the table of before in this form, and the stream is taken in. A
-    /// suspicion may have come with it, so `refute` after it.
+    /// Answers an offer: takes the stream in, and returns the table as it was before, in this form. A
+    /// suspicion may have come with the stream, so call `refute` afterwards.
     ///
     /// # Errors
     ///
-    /// The fault at which the reading of the stream stops, of which `Ended` alone may be mended by more
-    /// bytes; `TooManyRecords`; `Memory`. Nothing was taken in then.
+    /// The fault at which reading the stream stops; after `Ended`, and only then, more bytes may help.
+    /// `TooManyRecords`, `Memory`. Then nothing was taken in.
     pub fn answer(&mut self, stream: &[u8], form: Form) -> Result<Answer> {
         let mut buffer = Buffer::new();
         let (at, len) = (stream.as_ptr(), stream.len());
@@ -184,11 +184,12 @@ impl Node {
         Ok(Answer { reply: buffer.bytes().to_vec(), taken: made.into() })
     }
 
-    /// Takes in a stream: a reply, or a dump. A suspicion may have come with it, so `refute` after it.
+    /// Takes in a stream: the reply to an offer, or a dump. A suspicion may have come with it, so call
+    /// `refute` afterwards.
     ///
     /// # Errors
     ///
-    /// As `answer`, but not `TooManyRecords`.
+    /// Those of `answer`, except `TooManyRecords`.
     pub fn finish(&mut self, stream: &[u8]) -> Result<Taken> {
         // SAFETY: as in take.
         let made = unsafe { raw::swimtab_raw_finish(self.handle.get(), stream.as_ptr(), stream.len()) };
@@ -196,44 +197,44 @@ impl Node {
         Ok(made.into())
     }
 
-    /// Begins to note the names of members of which something else stands than before, with none noted, or
-    /// stops and lets the noted names go.
+    /// Starts to note the names of the members whose entries change, with none noted yet, or stops and drops
+    /// the noted names. While names are noted, any packet or stream may take memory.
     pub fn watch(&mut self, on: bool) {
-        // SAFETY: as in take. It is refused to a handle without a node alone, and this one has a node.
+        // SAFETY: as in take. Only an empty handle is refused, and this one has a node.
         unsafe { raw::swimtab_raw_watch(self.handle.get(), on) };
     }
 
-    /// The member of the first noted name, as it is now, or `None` if no name is noted. The name is noted no
-    /// longer then.
+    /// The member of the first noted name, as it is now, or `None` if no name is noted. The name is then no
+    /// longer noted.
     pub fn next_change(&mut self) -> Option<Member> {
         // SAFETY: as in take.
         self.member(|handle, member| unsafe { raw::swimtab_raw_next_change(handle, member) })
     }
 
-    /// The members whose names are noted, in the byte order of their names. Those that are not reached stay
-    /// noted.
+    /// The members whose names are noted, in the byte order of their names. The names that are not reached
+    /// stay noted.
     pub fn changes(&mut self) -> impl Iterator<Item = Member> + '_ {
         iter::from_fn(|| self.next_change())
     }
 
-    /// How many members it knows of, itself among them unless it forgot itself.
+    /// How many members the node knows of, itself included unless it forgot itself.
     pub fn len(&self) -> usize {
         // SAFETY: as in take.
         unsafe { raw::swimtab_raw_count(self.handle.get()) }
     }
 
-    /// Whether it knows of nobody: it forgot itself too.
+    /// Whether the node knows of nobody, which is so only if it forgot itself too.
     pub fn is_empty(&self) -> bool {
         self.len() == 0
     }
 
-    /// The member at a place, in the byte order of the names.
+    /// The member at index `i`, from 0, in the byte order of the names.
     pub fn at(&self, i: usize) -> Option<Member> {
         // SAFETY: as in take.
         self.member(|handle, member| unsafe { raw::swimtab_raw_member(handle, i, member) })
     }
 
-    /// The member of a name.
+    /// The member of this name.
     pub fn find(&self, name: &[u8]) -> Option<Member> {
         // SAFETY: as in take.
         self.member(|handle, member| unsafe {
@@ -257,12 +258,12 @@ impl Node {
             .unwrap_or_else(|text| String::from_utf8_lossy(text.as_bytes()).into_owned()))
     }
 
-    /// How its table relates to another's.
+    /// How the node's table relates to that of the other node.
     pub fn relation(&self, other: &Node) -> Relation {
         if ptr::eq(self, other) {
             return Relation::Equal;
         }
-        // SAFETY: as in take, and the two handles are not one.
+        // SAFETY: as in take, and the two handles are different.
         let related = unsafe { raw::swimtab_raw_relate(self.handle.get(), other.handle.get()) };
         match related.relation {
             0 => Relation::Equal,
@@ -290,7 +291,7 @@ impl Node {
 
 impl Drop for Node {
     fn drop(&mut self) {
-        // SAFETY: as in take. A handle without a node, as after a refused opening, is fine.
+        // SAFETY: as in take. An empty handle, as after a refused `open`, is fine.
         unsafe { raw::swimtab_raw_close(self.handle.get()) };
     }
 }

@@ -5,11 +5,11 @@ use crate::error::Result;
 use crate::member::Details;
 use crate::raw::{self, LONGEST_PACKET};
 
-/// The packet of another member's Alive, as a member that gossips passes it on.
+/// The packet that says that another member is alive, as a member passes it on.
 ///
 /// # Errors
 ///
-/// `NameEmpty`, `NameTooLong` and `MetaTooLong`; `Memory`.
+/// `NameEmpty`, `NameTooLong`, `MetaTooLong`, `Memory`.
 pub fn alive_of(name: &[u8], details: Details<'_>, incarnation: u32) -> Result<Vec<u8>> {
     let addr = Octets::of(details.addr);
     let (addr, versions) = (addr.bytes(), details.version_bytes());
@@ -32,12 +32,12 @@ pub fn alive_of(name: &[u8], details: Details<'_>, incarnation: u32) -> Result<V
     })
 }
 
-/// One compound packet of up to 255 packets.
+/// One compound packet made from up to 255 packets.
 ///
 /// # Errors
 ///
-/// `TooManyPackets`, `Memory`, and the fault of the first that is no packet, where a compound packet too is
-/// `WrongType`.
+/// `TooManyPackets`, `Memory`, and, if one is not a packet, the fault of the first such one; a compound
+/// packet is `WrongType`.
 pub fn compound<P: AsRef<[u8]>>(packets: &[P]) -> Result<Vec<u8>> {
     let lens: Vec<usize> = packets.iter().map(|packet| packet.as_ref().len()).collect();
     let bytes: Vec<u8> = packets.iter().flat_map(|packet| packet.as_ref()).copied().collect();

@@ -93,7 +93,7 @@ pub const DONE: u32 = 0;
 pub const ENDED: u32 = 1;
 pub const TOO_SMALL: u32 = 66;
 pub const NO_MEMBER: u32 = 67;
-/// No packet that the library writes by itself is longer.
+/// The length of the longest packet that the calls for single packets write.
 pub const LONGEST_PACKET: usize = 2083;
 
 extern "C" {

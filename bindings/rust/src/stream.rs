@@ -1,15 +1,15 @@
-//! Push/pull streams: their forms, what came of one, and one that comes in pieces.
+//! Push/pull streams: their forms, the results of taking one in, and streams that come in pieces.
 
 use crate::error::{Error, Result};
 use crate::raw::{self, DONE, ENDED};
 
-/// How a stream is written.
+/// The form of a stream to write.
 #[derive(Clone, Copy, Debug, PartialEq, Eq, Hash)]
 pub enum Form {
     /// All that the table keeps, in canonical bytes.
     Canonical,
-    /// What memberlist merges: each record has an address and versions, and names of which no Alive is known
-    /// are left out.
+    /// A stream that memberlist merges: each record has the newest address, port, metadata and versions of
+    /// its member, and members without an address are left out.
     Memberlist,
 }
 
@@ -22,14 +22,14 @@ impl Form {
     }
 }
 
-/// A stream that was taken in.
+/// The result of taking in a stream.
 #[derive(Clone, Copy, Debug, PartialEq, Eq)]
 pub struct Taken {
     /// The stream's join flag.
     pub join: bool,
     /// Whether the table changed.
     pub news: bool,
-    /// How many bytes it has; those behind it were not looked at.
+    /// The length of the stream; bytes after it were not read.
     pub used: usize,
 }
 
@@ -39,33 +39,33 @@ impl From<raw::Exchanged> for Taken {
     }
 }
 
-/// The reply to a stream, which was taken in.
+/// The reply to a stream, and the result of taking it in.
 #[derive(Clone, Debug, PartialEq, Eq)]
 pub struct Answer {
     pub reply: Vec<u8>,
     pub taken: Taken,
 }
 
-/// How far a stream is read that comes in pieces. Each stream has its own.
+/// How far a stream that comes in pieces has been read. Each stream needs its own.
 #[derive(Clone, Debug, Default)]
 pub struct Progress {
     read: raw::Progress,
 }
 
 impl Progress {
-    /// Nothing is read yet.
+    /// The progress of a stream of which nothing was read yet.
     pub fn new() -> Progress {
         Progress::default()
     }
 
-    /// Tells how many bytes the stream has with which these bytes, all that have come so far, begin, or
-    /// `None` if they end before it does. Each call has the bytes of the call before at the front. Each
-    /// record is read once, however many pieces come.
+    /// The length of the stream with which the bytes that came so far begin, or `None` if they end before it
+    /// does. The bytes of each later call begin with those of the last call. Each record is read once,
+    /// however many pieces there are.
     ///
     /// # Errors
     ///
-    /// `Memory`, after which the same call may be made again, and else the fault for which the bytes begin no
-    /// stream.
+    /// `Memory`, after which the same call may be repeated, and otherwise the fault at which reading stops:
+    /// the bytes do not begin with a stream, whatever follows.
     pub fn whole(&mut self, bytes: &[u8]) -> Result<Option<usize>> {
         // SAFETY: a slice's pointer is never null, and the library keeps neither.
         match unsafe { raw::swimtab_raw_whole(&mut self.read, bytes.as_ptr(), bytes.len()) } {

@@ -1,5 +1,5 @@
-//! Packets and streams as a real cluster sends them. The bytes are those of tests/c/sealing.c, which tells
-//! where they are from.
+//! Packets and streams as a real cluster sends them. The bytes are those of tests/c/sealing.c, which says
+//! where they come from.
 
 mod common;
 

@@ -1,4 +1,4 @@
-//! The wrapper over the library; the library's own tests stand in tests/c.
+//! The wrapper around the library. The library's own tests are in tests/c.
 
 mod common;
 

@@ -21,12 +21,12 @@ fn an_exchange_levels_two_members() {
     assert_eq!((a.relation(&b), a.relation(&a)), (Relation::Equal, Relation::Equal));
 }
 
-/// The header of a stream of so many records.
+/// The header of a stream with this many records.
 fn header(join: u8, records: u8, user: u8) -> Vec<u8> {
     [&b"\x06\x83\xa4Join"[..], &[join], b"\xa5Nodes", &[records], b"\xacUserStateLen", &[user]].concat()
 }
 
-/// A record with the details of 127.0.0.last.
+/// A record with the address 127.0.0.last.
 fn record(name: &[u8; 1], inc: u8, state: u8, last: u8) -> Vec<u8> {
     [
         &b"\x87\xa4Addr\xa4\x7f\0\0"[..],
@@ -42,7 +42,7 @@ fn record(name: &[u8; 1], inc: u8, state: u8, last: u8) -> Vec<u8> {
     .concat()
 }
 
-/// A record without details.
+/// A record without an address, metadata, a port and versions.
 fn bare(name: &[u8; 1], inc: u8, state: u8) -> Vec<u8> {
     [
         &b"\x87\xa4Addr\xa0\xabIncarnation"[..],

@@ -15,7 +15,7 @@ pub fn opened(name: &str, last: u8) -> Node {
     Node::open(name.as_bytes(), details(last), 0).unwrap()
 }
 
-/// The bytes of hexadecimal.
+/// The bytes that hexadecimal digits stand for.
 pub fn unhex(text: &str) -> Vec<u8> {
     (0..text.len()).step_by(2).map(|i| u8::from_str_radix(&text[i..i + 2], 16).unwrap()).collect()
 }
