@@ -1,26 +1,26 @@
 # swimwatch: who is in a memberlist cluster, from a capture; swimtab: membership tables of a SWIM
 # cluster; swimunwrap: what its members send, without wrappers.
 #
-#   make            the programs, at build/swimwatch, build/swimtab and build/swimunwrap, and the
-#                   library for C, at build/libswimtab.a and, if there is a C compiler,
-#                   build/libswimtab.so
-#   make run        a listing of examples/packets.hex within a minute or two, before any proof; then
-#                   swimtab alone is proved and built, and lists it again
-#   make test       the gate: every proof from nothing, and all tests; README says how long it takes
+#   make            builds the programs (build/swimwatch, build/swimtab and build/swimunwrap) and the
+#                   library for C (build/libswimtab.a and, if there is a C compiler, build/libswimtab.so)
+#   make run        lists examples/packets.hex within a minute or two, before any proof; then proves and
+#                   builds swimtab alone, and lists the file again
+#   make test       runs the gate: all proofs from nothing, and all tests; README says how long it takes
 #   make wrong-bodies
-#                   tries the wrong bodies of crates that changed, and of one crate more; with ANEW=1 all
-#   make bench      what a record costs, by size and by order of the names; some minutes
-#   make install    copies what make built to PREFIX: the programs to bin, their pages to share/man/man1,
-#                   the library to LIBDIR, its header to include, its pages to share/man/man3, and what
-#                   pkg-config reads to LIBDIR/pkgconfig; it builds all of it first if nothing is there,
-#                   so root needs no kit
+#                   tries the wrong bodies of the crates that changed and of one more crate; with ANEW=1,
+#                   those of all crates
+#   make bench      measures what a record costs, by size and by order of the names; takes some minutes
+#   make install    copies what make built to PREFIX: the programs to bin, their man pages to
+#                   share/man/man1, the library to LIBDIR, its header to include, its man pages to
+#                   share/man/man3, and the file for pkg-config to LIBDIR/pkgconfig; it builds everything
+#                   first if nothing is built yet, so after make, root needs no kit for it
 #   make install-library
-#                   the same of the library alone
-#   make uninstall  removes what install copies there
-#   make programs   the programs alone
-#   make library    the library alone
-#   make clean      removes what was built
-#   make help       these lines
+#                   does the same for the library alone
+#   make uninstall  removes what make install copies
+#   make programs   builds the programs alone
+#   make library    builds the library alone
+#   make clean      removes everything that was built
+#   make help       prints these lines
 
 PREFIX ?= /usr/local
 LIBDIR ?= $(prefix)/lib
@@ -50,14 +50,14 @@ library: build/libswimtab.a
 build/swimbench: words := -- check
 build/swimwatch: words := -- members ../../examples/serf.pcap
 $(programs:%=build/%) build/swimbench: build/%: $(SOURCES) | kit
-	@echo 'proving $* and the libraries that it stands on, and building it; some minutes for each the first time'
+	@echo 'proving and building $* and the libraries that it uses; the first time, each takes some minutes'
 	@.ci/prove $* rt run $(words)
 	@cp crates/$*/out/$* build/$*
 
-# the crate's archive, and the kit's few functions over malloc, realloc and free, as one object, of which
-# others see the functions of the header alone
+# One object from the crate's archive and the kit's few functions that call malloc, realloc and free. It exports
+# the functions of the header alone.
 build/libswimtab.a: $(SOURCES) | kit
-	@echo 'proving swim_c and the libraries that it stands on, and building it; some minutes for each the first time'
+	@echo 'proving and building swim_c and the libraries that it uses; the first time, each takes some minutes'
 	@.ci/prove swim_c rt lib
 	@rm -f $@ build/libswimtab.o
 	@$(LD) -r --gc-sections -o build/libswimtab.o \
@@ -75,12 +75,12 @@ build/libswimtab.so: build/libswimtab.a
 
 run: kit
 	@mkdir -p build
-	@echo 'swimtab lists examples/packets.hex, compiled with checks and before any proof, which takes about a minute:'
+	@echo 'compiling swimtab with checks, before any proof, to list examples/packets.hex; this takes about a minute:'
 	@cd crates/swimtab && rt try < ../../examples/packets.hex 2> ../../build/try.log || { cat ../../build/try.log; exit 1; }
 	@$(MAKE) --no-print-directory build/swimtab
-	@echo 'and lists it again, proved:'
+	@echo 'the listing of the proved program:'
 	@build/swimtab < examples/packets.hex
-	@echo 'next: build/swimtab list examples/three.bin'
+	@echo 'try next: build/swimtab list examples/three.bin'
 
 test: kit
 	@.ci/gate

@@ -1,9 +1,9 @@
-/* Loaded before a test. The allocation whose number, from 1, is in REFUSE is refused, and then the file
-   that REFUSED names is made. Into the file that COUNTED names go, at the end: the most bytes that one
-   allocation asked for; how many allocations were not let go; the most bytes that were held at once, as
-   they were asked for, where a block that grows counts once; and in how many blocks that were given up
-   eight bytes in a row were those of a secret. SECRETS has the secrets, in hexadecimal, with commas
-   between them. With secrets a block that grows always moves, so that what it leaves is looked at. */
+/* Preloaded into a test (LD_PRELOAD). Refuses the allocation whose number, from 1, is in REFUSE, and then
+   creates the file that REFUSED names. At the end it writes to the file that COUNTED names: the most bytes
+   that one allocation asked for; how many allocations were not freed; the most bytes that were held at
+   once, as they were asked for, with a block that grows counted once; and how many freed blocks held
+   eight consecutive bytes of a secret. SECRETS has the secrets in hexadecimal, separated by commas. If
+   there are secrets, a block that grows always moves, so that the old block is searched too. */
 #define _GNU_SOURCE
 #include <dlfcn.h>
 #include <fcntl.h>
@@ -34,7 +34,7 @@ static struct {
 } blocks[PLACES];
 static size_t known;
 
-/* Where the block stands, or the free place where it would. */
+/* The place of the block, or the free place for it. */
 static size_t place_of(void *block) {
     size_t at = ((uintptr_t)block >> 4) * 0x9e3779b97f4a7c15ul % PLACES;
     while (blocks[at].block && blocks[at].block != block) {
@@ -56,7 +56,7 @@ static void add(void *block, size_t size) {
     }
 }
 
-/* How many bytes of the block were asked for: none where it came from elsewhere. */
+/* How many bytes were asked for: 0 if the block came from elsewhere. */
 static size_t size_of(void *block) {
     size_t at = place_of(block);
     return blocks[at].block ? blocks[at].size : 0;
@@ -70,7 +70,7 @@ static void take(void *block) {
     known--;
     bytes_held -= blocks[at].size;
     blocks[at].block = NULL;
-    /* those behind it that stand where they do because of it */
+    /* move the blocks after it that this one displaced */
     for (size_t next = (at + 1) % PLACES; blocks[next].block; next = (next + 1) % PLACES) {
         void *moved = blocks[next].block;
         size_t size = blocks[next].size;
@@ -123,7 +123,7 @@ static int has_secrets(void) {
     return secret_count > 0;
 }
 
-/* Counts a block in which a part of a secret stands. */
+/* Counts the block if it holds a part of a secret. */
 static void look_at(const unsigned char *block, size_t size) {
     size_t start = 0;
     for (int i = 0; i < secret_count; i++) {
