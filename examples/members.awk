@@ -1,6 +1,6 @@
-# Turns a listing of swimtab into `name address:port state`, one member a line. Behind a member that
-# is dead or has left, and of which an Alive of a greater incarnation was seen, stands `back`: it came
-# back under its name, and the table goes by its death.
+# Turns a listing of swimtab into `name address:port state`, one member a line. `back` follows if the
+# member was declared dead or left, and an Alive with a greater incarnation was seen: it came back under
+# its name, but in the table its death or leave is final.
 
 function number(digits,    value, place) {
     value = 0

@@ -1,4 +1,4 @@
-# Turns what `tcpdump -x` prints of UDP packets, over IPv4 or IPv6 without extension headers, into their
+# Turns the output of `tcpdump -x` for UDP packets, over IPv4 or IPv6 without extension headers, into their
 # payloads: hexadecimal, one packet a line.
 
 function number(from, count,    value, place) {
@@ -8,7 +8,7 @@ function number(from, count,    value, place) {
     return value
 }
 
-# Where the UDP header begins, and the length that it has: with its own 8 bytes, and no padding of the frame.
+# Where the UDP header begins. Its length field counts its own 8 bytes, but no padding of the frame.
 function header() {
     return 1 + (packet ~ /^6/ ? 80 : 8 * number(2, 1))
 }
@@ -34,7 +34,7 @@ function show(    udp) {
     sub(/^[^:]*: */, "")
     gsub(/ /, "")
     packet = packet $0
-    # at once where it is whole, for a capture that goes on
+    # print a whole packet at once, for a live capture
     if (is_whole())
         show()
     next

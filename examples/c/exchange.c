@@ -1,5 +1,5 @@
 /* Two members of a cluster in one program: packets, an exchange of their tables, a refutation, a leave.
- * A real program sends the packets over UDP and the streams over TCP; here they are handed over.
+ * A real program sends the packets over UDP and the streams over TCP; here they are passed in memory.
  *
  *     cc exchange.c $(pkg-config --cflags --libs swimtab) */
 #include <swimtab.h>
@@ -14,7 +14,7 @@ static void check(uint32_t status, const char *call) {
     exit(1);
 }
 
-/* Takes a packet in. */
+/* Takes in a packet. */
 static void hear(swimtab_node *node, const void *packet, size_t len) {
     check(swimtab_take(node, packet, len).status, "take");
 }
@@ -26,11 +26,11 @@ static void show(const char *title, const swimtab_node *node) {
     swimtab_free(&text);
 }
 
-/* A whole exchange, as when `joining` joins at `other`. */
+/* A whole exchange, as when `joining` joins `other`. */
 static void exchange(swimtab_node *joining, swimtab_node *other) {
     swimtab_buffer offer = SWIMTAB_BUFFER_INIT, reply = SWIMTAB_BUFFER_INIT;
     check(swimtab_offer_new(joining, true, SWIMTAB_CANONICAL, &offer), "offer");
-    /* .. over TCP, to the other member, who replies with what it knew before .. */
+    /* .. over TCP, to the other member, which replies with what it knew before .. */
     check(swimtab_answer_new(other, offer.at, offer.len, SWIMTAB_CANONICAL, &reply).status, "answer");
     /* .. and back */
     check(swimtab_finish(joining, reply.at, reply.len).status, "finish");
@@ -60,7 +60,7 @@ int main(void) {
     check(related.status, "relate");
     printf("a and b know the same: %s\n\n", related.relation == SWIMTAB_EQUAL ? "yes" : "no");
 
-    /* b had no ack of a, says so, and a hears of it */
+    /* b got no ack from a and suspects it, and a hears of that */
     uint8_t packet[SWIMTAB_MAX_PACKET_LEN];
     swimtab_written suspicion = swimtab_suspect(&b, "a", 1, 1, packet, sizeof packet);
     check(suspicion.status, "suspect");
@@ -68,7 +68,7 @@ int main(void) {
     hear(&a, packet, suspicion.len);
     show("b, who suspects a", &b);
 
-    /* a refutes that, and says that it is alive */
+    /* a refutes the suspicion, and says that it is alive */
     swimtab_refuted refuted = swimtab_refute(&a);
     check(refuted.status, "refute");
     if (refuted.due) {
@@ -78,7 +78,7 @@ int main(void) {
     }
     show("b, once a refuted it", &b);
 
-    /* b leaves, and tells a by one packet of its Leave and of what it still knows of c */
+    /* b leaves, and sends a one packet with its Leave and the death of c */
     uint8_t both[2 * SWIMTAB_MAX_PACKET_LEN], compound[2 * SWIMTAB_MAX_PACKET_LEN + 6];
     swimtab_written leave = swimtab_leave(&b, 1, both, sizeof both);
     check(leave.status, "leave");

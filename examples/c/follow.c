@@ -1,13 +1,13 @@
-/* Follows a cluster: takes packets in hexadecimal, one a line, from standard input as they come, and after
- * each prints a line for every member that changed, as `name state address:port`, and `back` behind it if the
- * member was dead or had left, and is heard of again:
+/* Follows a cluster: reads packets in hexadecimal, one a line, from standard input as they come. After each it
+ * prints a line for every member that changed, as `name state address:port`, with `back` at the end if the member
+ * was declared dead or left, and has been heard of again:
  *
  *     tcpdump -l -nn -x -i eth0 udp port 7946 | gawk -f examples/payloads.awk | follow
  *
- * Packets are read as members send them, with checksums and compressed. Those of a cluster with a key are read
- * if a file of its keys is given: `follow KEYS`. It has one key a line, in base64; a keyring in JSON, as Serf and
- * Consul keep it, is not read. A packet without claims, as a ping, is passed over; without a key an encrypted one
- * is passed over too. For any other that cannot be read there is a line on standard error.
+ * It reads packets as members send them, also with checksums and compressed, and those of a cluster with a key if
+ * it is given a file of the keys: `follow KEYS`. The file has one key a line, in base64; it cannot be a JSON
+ * keyring, as Serf and Consul keep it. Packets without claims, like pings, are skipped, and without a key also
+ * encrypted ones. For any other packet that cannot be read, there is a line on standard error.
  *
  *     cc follow.c $(pkg-config --cflags --libs swimtab) -o follow */
 #include <swimtab.h>
@@ -18,17 +18,17 @@
 
 enum { LONGEST_LINE = 2 * 65536 + 4, LONGEST_MESSAGE = 1 << 20 };
 
-/* The node that listens has a name that no member has. */
+/* The name of the node that listens, which no member has. */
 static const char listener[] = "(follow)";
 
-/* Ends the program if a call was refused that has to be done. */
+/* Ends the program if a call that has to be done was refused. */
 static void check(uint32_t status, const char *what) {
     if (status == SWIMTAB_DONE) return;
     fprintf(stderr, "follow: %s: %s\n", what, swimtab_fault_text(status));
     exit(status == SWIMTAB_MEMORY ? 5 : 3);
 }
 
-/* Prints a member as a line, the name as the listing of swimtab has it. */
+/* Prints a member as a line, with the name as in a listing of swimtab. */
 static void print_member(const swimtab_member_data *member) {
     static const char *const states[] = {"alive", "suspect", "confirm", "leave"};
     for (size_t i = 0; i < member->name_len; i++) {
@@ -61,7 +61,7 @@ static int digit_of(char c) {
     return -1;
 }
 
-/* Reads a line of hexadecimal: the number of its bytes, or -1 if it is none. */
+/* Reads a line of hexadecimal. Returns the number of bytes, or -1 if it is not hexadecimal. */
 static long read_hex(const char *line, uint8_t *bytes) {
     size_t len = strcspn(line, "\r\n");
     if (len % 2) return -1;
@@ -73,7 +73,7 @@ static long read_hex(const char *line, uint8_t *bytes) {
     return (long)(len / 2);
 }
 
-/* Takes a packet in as a member sent it. */
+/* Takes in a packet as a member sent it. */
 static uint32_t take(swimtab_node *node, const swimtab_keyring *keys, const uint8_t *packet, size_t len) {
     static uint8_t message[LONGEST_MESSAGE];
     swimtab_written unwrapped = swimtab_unwrap(keys, packet, len, message, sizeof message);
@@ -81,7 +81,7 @@ static uint32_t take(swimtab_node *node, const swimtab_keyring *keys, const uint
     return swimtab_take(node, message, unwrapped.len).status;
 }
 
-/* Takes a line in, and says why not unless it is a packet without claims. */
+/* Takes in a line, or prints why it cannot, unless it is a packet without claims. */
 static void take_line(swimtab_node *node, const swimtab_keyring *keys, const char *line, unsigned long number) {
     static uint8_t packet[LONGEST_LINE];
     long len = read_hex(line, packet);
@@ -96,7 +96,7 @@ static void take_line(swimtab_node *node, const swimtab_keyring *keys, const cha
         fprintf(stderr, "follow: line %lu: %s\n", number, swimtab_fault_text(status));
 }
 
-/* Reads base64 with its padding, four characters at a time: the number of bytes, or 0 if it is none. */
+/* Reads base64 with padding, four characters at a time. Returns the number of bytes, or 0 if it is not base64. */
 static size_t read_base64(const char *text, size_t len, uint8_t *bytes) {
     static const char digits[] = "ABCDEFGHIJKLMNOPQRSTUVWXYZabcdefghijklmnopqrstuvwxyz0123456789+/";
     size_t padding = 0, made = 0;

@@ -1,10 +1,10 @@
-/* What the calls cost from C, in processor time of the process: the least of several runs.
+/* What the calls cost from C, in CPU time of the process: the least of several runs.
  *
  *     cc -O2 -D_POSIX_C_SOURCE=200809L -Iinclude tests/c/bench.c build/libswimtab.a -o bench
  *     ./bench [NAMES [METADATA]]
  *
- * A record is an Alive of a name of 11 bytes with an address of 4, six versions and no metadata but what is
- * given. */
+ * A record is an Alive with a name of 11 bytes, an address of 4, six bytes of versions and METADATA bytes of
+ * metadata, or none. */
 #include "check.h"
 
 #include <time.h>

@@ -1,16 +1,16 @@
-/* What changed in a table: the names that are noted and told in order, and names that are forgotten. */
+/* What changed in a table: names that are noted and returned in order, and names that are forgotten. */
 #include "streams.h"
 
 #define LIST_B_1 "b suspect 1 -\n"
 #define CONFIRM_B_2 "0583a446726f6da178ab496e6361726e6174696f6e02a44e6f6465a162"
 
-/* The next change is that of this name of one letter, in this state at this incarnation. */
+/* The next change is about this name of one letter, in this state at this incarnation. */
 static bool tells(swimtab_node *node, char name, uint32_t state, uint32_t inc) {
     swimtab_member_data member, found;
     memset(&member, 9, sizeof member);
     memset(&found, 9, sizeof found);
     if (swimtab_next_change(node, &member) != SWIMTAB_DONE) return false;
-    /* it is what the table has */
+    /* it is the same as in the table */
     WANT(swimtab_find(node, &name, 1, &found) == SWIMTAB_DONE && memcmp(&member, &found, sizeof member) == 0);
     return member.name_len == 1 && member.name[0] == (uint8_t)name && member.state == state && member.inc == inc;
 }
@@ -33,12 +33,12 @@ static void nothing_is_noted_without_a_watch(void) {
     swimtab_node node = opened("a", 7946, 0);
     WANT(tells_nothing(&node));
     WANT(has_news(&node, SUSPECT_B_1) && tells_nothing(&node));
-    /* what changed before is not told */
+    /* earlier changes are not returned */
     WANT(swimtab_watch(&node, true) == SWIMTAB_DONE && tells_nothing(&node));
     WANT(has_news(&node, ALIVE_A_4) && swimtab_watch(&node, false) == SWIMTAB_DONE && tells_nothing(&node));
     WANT(has_news(&node, ALIVE_A_6) && tells_nothing(&node));
     WANT(swimtab_watch(&node, true) == SWIMTAB_DONE && tells_nothing(&node));
-    /* a watch that begins again begins with none */
+    /* a watch that starts again starts with no names */
     WANT(has_news(&node, CONFIRM_A_5) && swimtab_watch(&node, true) == SWIMTAB_DONE && tells_nothing(&node));
     WANT(!has_news(&node, LEAVE_A_0) && tells_nothing(&node));
     WANT(swimtab_close(&node) == SWIMTAB_DONE);
@@ -52,7 +52,7 @@ static void changes_come_in_the_order_of_names(void) {
     swimtab_node node = watched();
     WANT(has_news(&node, SUSPECT_B_1) && has_news(&node, SUSPECT_A_5));
     WANT(tells(&node, 'a', SWIMTAB_SUSPECT, 5));
-    /* a change behind those that were told comes in its turn */
+    /* a change after those that were returned comes in its turn */
     WANT(has_news(&node, "0583a446726f6da162ab496e6361726e6174696f6e03a44e6f6465a163"));
     WANT(tells(&node, 'b', SWIMTAB_SUSPECT, 1) && tells(&node, 'c', SWIMTAB_CONFIRM, 3) && tells_nothing(&node));
     WANT(has_news(&node, CONFIRM_A_0) && tells(&node, 'a', SWIMTAB_CONFIRM, 0) && tells_nothing(&node));
@@ -93,7 +93,7 @@ static void refused_calls_note_nothing(void) {
     uint8_t out[8];
     swimtab_buffer buffer = SWIMTAB_BUFFER_INIT;
     WANT(has_news(&node, SUSPECT_A_5));
-    /* the second part of the compound packet is none, and the last record of the stream lacks its last byte */
+    /* the second part of the compound packet is not a packet, and the last record of the stream lacks its last byte */
     WANT(take_hex(&node, "0702001d0002" SUSPECT_B_1 "0380") == SWIMTAB_NAME_EMPTY);
     WANT(swimtab_finish(&node, stream.at, stream.len - 1).status == SWIMTAB_ENDED);
     WANT(swimtab_answer(&node, stream.at, stream.len, SWIMTAB_CANONICAL, out, 8).status == SWIMTAB_TOO_SMALL);
@@ -119,9 +119,9 @@ static void streams_and_refutations_are_noted(void) {
     WANT(swimtab_answer_new(&node, first.at, first.len, SWIMTAB_CANONICAL, &buffer).news);
     WANT(tells(&node, 'b', SWIMTAB_SUSPECT, 1) && tells_nothing(&node));
     WANT(swimtab_refute(&node).inc == 2 && tells(&node, 'b', SWIMTAB_ALIVE, 2) && tells_nothing(&node));
-    /* nothing is due, and nothing is noted */
+    /* there is nothing to refute, and nothing is noted */
     WANT(!swimtab_refute(&node).due && tells_nothing(&node));
-    /* a suspicion that is refuted before it is told: the member is told as it is now */
+    /* a suspicion that is refuted before it is returned: the member is returned as it is now */
     WANT(has_news(&node, "0383a446726f6da178ab496e6361726e6174696f6e09a44e6f6465a162"));
     WANT(swimtab_refute(&node).inc == 10 && tells(&node, 'b', SWIMTAB_ALIVE, 10) && tells_nothing(&node));
     WANT(has_news(&node, "0583a446726f6da178ab496e6361726e6174696f6e09a44e6f6465a162"));
@@ -160,10 +160,10 @@ static void a_forgotten_name_is_heard_again(void) {
     swimtab_node node = opened("b", 7946, 0);
     WANT(has_news(&node, ALIVE_A_6) && has_news(&node, CONFIRM_A_0) && !has_news(&node, ALIVE_A_4));
     WANT(swimtab_forget(&node, "a", 1) == SWIMTAB_DONE);
-    /* as a new one, at a lesser incarnation too */
+    /* as a new one, also at a smaller incarnation */
     WANT(has_news(&node, ALIVE_A_4));
     WANT(lists(&node, "a alive 4 4/7f000001/7947//\nb alive 0 0/7f000001/7946//\n"));
-    /* and a death that somebody still tells is taken in again */
+    /* and a death that somebody still reports is taken in again */
     WANT(has_news(&node, CONFIRM_A_0));
     WANT(lists(&node, "a confirm 0 4/7f000001/7947//\nb alive 0 0/7f000001/7946//\n"));
     WANT(swimtab_close(&node) == SWIMTAB_DONE);
@@ -174,7 +174,7 @@ static void the_own_name_is_forgotten_too(void) {
     uint8_t packet[SWIMTAB_MAX_PACKET_LEN];
     WANT(has_news(&node, SUSPECT_B_1) && swimtab_forget(&node, "a", 1) == SWIMTAB_DONE);
     WANT(lists(&node, LIST_B_1) && !swimtab_refute(&node).due && swimtab_refute(&node).status == SWIMTAB_DONE);
-    /* its name and its details are still those of the handle */
+    /* the handle still has its name, address, port, metadata and versions */
     swimtab_written written = swimtab_alive(&node, 0, packet, sizeof packet);
     WANT(written.status == SWIMTAB_DONE && swimtab_take(&node, packet, written.len).news);
     WANT(lists(&node, LIST_A_0 LIST_B_1));
@@ -192,11 +192,11 @@ static void forgetting_is_no_change_that_is_told(void) {
     WANT(has_news(&node, SUSPECT_A_5) && has_news(&node, SUSPECT_B_1) && tells(&node, 'a', SWIMTAB_SUSPECT, 5));
     WANT(swimtab_forget(&node, "a", 1) == SWIMTAB_DONE);
     WANT(tells(&node, 'b', SWIMTAB_SUSPECT, 1) && tells_nothing(&node));
-    /* a name that was noted and then forgotten is no member, and the others are told all the same */
+    /* a name that was noted and then forgotten is not returned, but the others are */
     WANT(has_news(&node, SUSPECT_A_5) && has_news(&node, CONFIRM_B_2));
     WANT(swimtab_forget(&node, "a", 1) == SWIMTAB_DONE);
     WANT(tells(&node, 'b', SWIMTAB_CONFIRM, 2) && tells_nothing(&node));
-    /* heard again it is new */
+    /* when it is heard of again, it is new */
     WANT(has_news(&node, ALIVE_A_4) && tells(&node, 'a', SWIMTAB_ALIVE, 4) && tells_nothing(&node));
     WANT(swimtab_close(&node) == SWIMTAB_DONE);
 }

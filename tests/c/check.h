@@ -1,4 +1,4 @@
-/* What the tests in C share: checks that are counted, bytes from hexadecimal, and what a node shows. */
+/* What the tests in C share: checks that are counted, bytes from hexadecimal, and the output of a node. */
 #ifndef CHECK_H
 #define CHECK_H
 
@@ -52,8 +52,8 @@ static inline unsigned digit_of(char c) {
     return 16;
 }
 
-/* The bytes that lower-case hexadecimal says, up to the first other character, in a block of exactly
- * their size, so that valgrind sees a read or write behind them. */
+/* The bytes that lower-case hexadecimal stands for, up to the first other character, in a block of exactly
+ * their size, so that valgrind sees a read or write past them. */
 static inline struct bytes hex(const char *text) {
     size_t len = 0;
     while (digit_of(text[2 * len]) < 16 && digit_of(text[2 * len + 1]) < 16) len++;
@@ -71,7 +71,7 @@ static inline struct bytes bytes_of_size(size_t len, uint8_t value) {
     return made;
 }
 
-/* Whether bytes are those that hexadecimal says. */
+/* Whether bytes are those that hexadecimal stands for. */
 static inline bool is_hex(const uint8_t *at, size_t len, const char *text) {
     struct bytes wanted = hex(text);
     bool same = wanted.len == len && memcmp(at, wanted.at, len) == 0;
@@ -97,7 +97,7 @@ static inline bool has_news(swimtab_node *node, const char *text) {
     return taken.news;
 }
 
-/* The listing of a node as text, to be freed; the empty one where it has none. */
+/* The listing of a node as text, to be freed; empty text if there is no listing. */
 static inline char *listing(const swimtab_node *node) {
     swimtab_written needed = swimtab_list(node, NULL, 0);
     size_t len = needed.status == SWIMTAB_TOO_SMALL ? needed.len : 0;
@@ -139,11 +139,11 @@ static inline swimtab_node opened(const char *name, uint16_t port, uint32_t inc)
     return node;
 }
 
-/* One way to write bytes, for the checks of buffers. */
+/* One way to write bytes, for checks of buffers. */
 typedef swimtab_written (*writing)(swimtab_node *node, uint8_t *out, size_t out_len);
 
-/* The writing gives these bytes into a buffer that just fits and into a longer one, and into a shorter
- * one nothing. */
+/* The call writes these bytes to a buffer that just fits and to a longer one, and nothing to a shorter
+ * one. */
 static inline void writes(swimtab_node *node, writing call, const char *wanted) {
     struct bytes bytes = hex(wanted);
     size_t len = bytes.len;

@@ -2,7 +2,7 @@
  * of docs/PROTOCOL.md. */
 #include "streams.h"
 
-/* Details as they stand in packets and records: an address, metadata, a port and versions. */
+/* The details in packets and records: an address, metadata, a port and versions. */
 #define VSN "a6010502000000"
 #define ADDR_A "a47f000001"
 #define ADDR_B "a40a000002"
@@ -10,8 +10,8 @@
 
 static const uint8_t versions[6] = {1, 5, 2, 0, 0, 0};
 
-/* What a heard: b was alive at 4 and is suspected at 5; of c there is a suspicion and no Alive; d was alive at 2
- * and is dead; e was alive at 3, left, and is back at 6. */
+/* What a heard: b was alive at 4 and is suspected at 5; c is suspected, without an Alive; d was alive at 2 and is
+ * dead; e was alive at 3, left, and came back at 6. */
 static const char *const heard[] = {
     "0486a441646472" ADDR_B "ab496e6361726e6174696f6e04a44d657461a3776562a44e6f6465a162a4506f727450a356736e" VSN,
     "0383a446726f6da164ab496e6361726e6174696f6e05a44e6f6465a162",
@@ -75,7 +75,7 @@ static void the_form_for_memberlist_is_read_back(void) {
     swimtab_exchanged made = swimtab_finish(&other, buffer.at, buffer.len);
     WANT(made.status == SWIMTAB_DONE && made.join && made.news && made.used == buffer.len);
     WANT(lists(&other, LIST_A LIST_B LIST_D LIST_E "z alive 0 0/7f000001/1//\n"));
-    /* it says nothing that the table does not have */
+    /* it has nothing that the table does not have */
     made = swimtab_finish(&node, buffer.at, buffer.len);
     WANT(made.status == SWIMTAB_DONE && !made.news);
     swimtab_free(&buffer);

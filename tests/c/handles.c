@@ -26,7 +26,7 @@ static void statuses_have_names(void) {
     WANT(strcmp(swimtab_fault_name(UINT32_MAX), "Unknown") == 0);
 }
 
-/* Whether a call of the library can answer this status. */
+/* Whether a call of the library can return this status. */
 static bool is_answered(uint32_t status) {
     return status <= 8 || (status >= 10 && status <= 25) || (status >= 40 && status <= 48) ||
            (status >= 50 && status <= 57) || (status >= 64 && status <= 70);
@@ -45,7 +45,7 @@ static void statuses_have_sentences(void) {
     WANT(strcmp(swimtab_fault_text(UINT32_MAX), none) == 0);
 }
 
-/* Each call that looks or changes, on what has no node. */
+/* Each call that reads or changes a node, on a handle without one. */
 static void refuses_to_look_without_a_node(swimtab_node *none) {
     swimtab_member_data member;
     WANT(swimtab_count(none) == 0);
@@ -59,7 +59,7 @@ static void refuses_to_look_without_a_node(swimtab_node *none) {
     WANT(swimtab_forget(none, NULL, 0) == SWIMTAB_NO_NODE);
 }
 
-/* Each call that fills a buffer, on what has no node. */
+/* Each call that fills a buffer, on a handle without a node. */
 static void fills_nothing_without_a_node(swimtab_node *none) {
     swimtab_buffer buffer = SWIMTAB_BUFFER_INIT;
     WANT(swimtab_offer_new(none, true, SWIMTAB_CANONICAL, &buffer) == SWIMTAB_NO_NODE);
@@ -69,7 +69,7 @@ static void fills_nothing_without_a_node(swimtab_node *none) {
     WANT(swimtab_list_new(none, NULL) == (none ? SWIMTAB_TOO_SMALL : SWIMTAB_NO_NODE));
 }
 
-/* Each call on what has no node. */
+/* Each call on a handle without a node. */
 static void refuses_without_a_node(swimtab_node *none) {
     uint8_t out[4] = {7, 7, 7, 7};
     swimtab_node other = opened("other", 1, 0);
@@ -105,7 +105,7 @@ static void a_handle_without_a_node_has_none(void) {
     WANT(swimtab_open(NULL, "a", 1, local_addr, 4, 1, NULL, 0, NULL, 0, 0) == SWIMTAB_NO_NODE);
 }
 
-/* Keyrings, and packets of a cluster, with NULL for what may be left out; tests/c/sealing.c has the rest. */
+/* Keyrings, and packets of a cluster, with NULL for each argument that may be NULL; tests/c/sealing.c has the rest. */
 static void keyrings_and_packets_may_be_null(void) {
     swimtab_keyring keyring = SWIMTAB_KEYRING_INIT;
     const uint8_t packet[2] = {7, 0};
@@ -223,7 +223,7 @@ static void members_are_found_by_place_and_by_name(void) {
     WANT(swimtab_close(&node) == 0);
 }
 
-/* Whether what is known of a is told as a member that came back. */
+/* Whether a is shown as a member that came back. */
 static bool a_came_back(const swimtab_node *node) {
     static const uint8_t zeros[32];
     swimtab_member_data member;

@@ -1,4 +1,4 @@
-/* Prints each status with its name, but for those that are unknown, to be compared with docs/PROTOCOL.md. */
+/* Prints each known status with its name, for a comparison with docs/PROTOCOL.md. */
 #include <swimtab.h>
 
 #include <stdio.h>

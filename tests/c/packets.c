@@ -11,7 +11,7 @@ static void packets_are_taken_in(void) {
     WANT(lists(&node, "a suspect 5 4/7f000001/7947//\nb alive 0 0/7f000001/7946//\n"));
     WANT(take_hex(&node, LEAVE_A_0) == 0);
     WANT(lists(&node, "a leave 0 4/7f000001/7947//\nb alive 0 0/7f000001/7946//\n"));
-    /* a compound packet: a ping that is passed over, and the suspicion of b, which is the node itself */
+    /* a compound packet: a ping, which is skipped, and the suspicion of b, which is the node itself */
     WANT(take_hex(&node, "07020003001d" "008080" SUSPECT_B_1) == 0);
     WANT(lists(&node, "a leave 0 4/7f000001/7947//\nb suspect 1 0/7f000001/7946//\n"));
     WANT(swimtab_close(&node) == 0);
@@ -20,13 +20,13 @@ static void packets_are_taken_in(void) {
 static void packets_tell_whether_they_have_news(void) {
     swimtab_node node = opened("b", 7946, 0);
     WANT(has_news(&node, SUSPECT_A_5) && !has_news(&node, SUSPECT_A_5));
-    /* the newest address of a suspected member is news, though the suspicion stands */
+    /* the newest address of a suspected member is news, though it stays suspected */
     WANT(has_news(&node, ALIVE_A_4) && !has_news(&node, ALIVE_A_4));
-    /* the same map with a longer spelling of the incarnation says nothing new */
+    /* the same map with a longer spelling of the incarnation is not news */
     WANT(!has_news(&node, "0383a446726f6da178ab496e6361726e6174696f6ecc05a44e6f6465a161"));
     WANT(has_news(&node, CONFIRM_A_0) && has_news(&node, LEAVE_A_0) && !has_news(&node, CONFIRM_A_0));
     WANT(!has_news(&node, SUSPECT_A_5));
-    /* compound packets: of nothing, of a ping alone, of what is known, and with one part that is new */
+    /* compound packets: an empty one, one with a ping alone, one that is known, and one with one new part */
     WANT(!has_news(&node, "0700") && !has_news(&node, "07010003" "008080"));
     WANT(!has_news(&node, "0702001d001d" SUSPECT_A_5 CONFIRM_A_0));
     WANT(has_news(&node, "0702001d001d" SUSPECT_A_5 SUSPECT_B_1));
@@ -35,7 +35,7 @@ static void packets_tell_whether_they_have_news(void) {
     WANT(swimtab_close(&node) == 0);
 }
 
-/* What is no packet, and its fault. */
+/* Bytes that are not a packet, and their faults. */
 static const struct {
     const char *bytes;
     uint32_t status;
@@ -111,7 +111,7 @@ static swimtab_written write_plain_alive_of(swimtab_node *node, uint8_t *out, si
     return swimtab_alive_of("a", 1, local_addr, 4, 7947, NULL, 0, NULL, 0, 4, out, out_len);
 }
 
-/* The first packet is that of a running cluster: tests/c/sealing.c has it as it was sent. */
+/* The first packet is from a running cluster: tests/c/sealing.c has it as it was sent. */
 static void anybodys_alive_is_written(void) {
     swimtab_node node = opened("a", 7946, 0);
     writes(&node, write_alive_of,
@@ -122,7 +122,7 @@ static void anybodys_alive_is_written(void) {
     WANT(swimtab_close(&node) == 0);
 }
 
-/* The first part that is invalid is named, and nothing is written. */
+/* The status names the first part that is invalid, and nothing is written. */
 static void an_alive_of_invalid_parts_is_refused(void) {
     static const struct {
         size_t name_len, addr_len, meta_len, vsn_len;
@@ -216,7 +216,7 @@ static void what_a_member_may_not_say_is_refused(void) {
     WANT(written.status == 0 && written.len == SWIMTAB_MAX_PACKET_LEN);
     WANT(swimtab_close(&node) == 0);
     node = opened("a", 7946, 0);
-    /* a member may suspect itself, though nobody does */
+    /* a member may suspect itself, though none does */
     written = swimtab_suspect(&node, "a", 1, 1, out.at, out.len);
     WANT(written.status == 0 && swimtab_take(&node, out.at, written.len).status == 0);
     WANT(swimtab_refute(&node).due);

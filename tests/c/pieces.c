@@ -1,7 +1,7 @@
-/* Streams that come in pieces: swimtab_whole says what swimtab_finish would, whatever the pieces are. */
+/* Streams that come in pieces: swimtab_whole returns what swimtab_finish would, whatever the pieces are. */
 #include "streams.h"
 
-/* Three records, of which one is spelled longer than needed, and two bytes of user state. */
+/* Three records, one with a longer spelling than needed, and two bytes of user state. */
 #define PIECES \
     "0683a44a6f696ec3ac5573657253746174654c656e02a54e6f64657303" \
     RECORD("a47f000001", "00", "a0", "a161", "cd1f0a", "00", "a0") \
@@ -15,7 +15,7 @@ static uint32_t finish_status(const uint8_t *at, size_t len) {
     return status;
 }
 
-/* What swimtab_whole says of bytes in a block of just their size, which valgrind watches. */
+/* What swimtab_whole returns for bytes in a block of exactly their size, which valgrind watches. */
 static uint32_t whole(swimtab_progress *progress, const uint8_t *at, size_t len) {
     struct bytes block = bytes_of_size(len, 0);
     memcpy(block.at, at, len);
@@ -39,7 +39,7 @@ static void a_stream_may_come_byte_by_byte(void) {
     }
     WANT(progress.has_header && progress.left == 0 && progress.user_len == 2);
     WANT(progress.at + progress.user_len == stream.len);
-    /* once it is whole, it stays so */
+    /* a whole stream stays whole */
     WANT(whole(&progress, stream.at, stream.len) == SWIMTAB_DONE && progress.at == stream.len - 2);
     free(stream.at);
 }
@@ -61,7 +61,7 @@ static void pieces_have_any_size(void) {
     free(stream.at);
 }
 
-/* A record that was read is not read again: a piece that was spoiled behind the last place is not seen. */
+/* A record that was read is not read again, so damage to bytes that were already read is not noticed. */
 static void each_record_is_read_once(void) {
     struct bytes stream = hex(PIECES);
     swimtab_progress progress = SWIMTAB_PROGRESS_INIT;
@@ -72,7 +72,7 @@ static void each_record_is_read_once(void) {
     free(stream.at);
 }
 
-/* The fault comes with the first byte at which finish has it, and stands whatever follows. */
+/* The fault comes at the same byte as that of swimtab_finish, and stays whatever follows. */
 static void what_is_no_stream_is_refused(void) {
     for (size_t i = 0; i < sizeof no_streams / sizeof *no_streams; i++) {
         struct bytes stream = hex(no_streams[i].bytes);
@@ -112,7 +112,7 @@ static void streams_without_records_are_whole(void) {
     WANT(swimtab_whole(NULL, "\x06\x80", 2) == SWIMTAB_DONE && swimtab_whole(NULL, NULL, 0) == SWIMTAB_ENDED);
 }
 
-/* With numbers that no call left there the answer says nothing, but there is one. */
+/* With numbers that no call left, the result means nothing, but the call returns. */
 static void other_numbers_are_safe(void) {
     static const size_t places[] = {0, 1, 5, 27, 28, 1000, SIZE_MAX / 2, SIZE_MAX};
     static const uint32_t counts[] = {0, 1, 2, 131073, UINT32_MAX};

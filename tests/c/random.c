@@ -1,11 +1,11 @@
-/* Random claims, in packets, compound packets and streams, taken in by a node that is watched:
+/* Random claims, in packets, compound packets and streams, taken in by a node that notes changed names:
  *
  *     random SEED FOLDER
  *
- * After each step it compares the news, and the names that swimtab_next_change tells, with how the table differs
- * from that of before. It writes to FOLDER, for a comparison with what the program swimtab makes of the same:
- * claims.hex, each packet and compound packet as a line, and each record of a stream as the packet that claims
- * the same; packets.dump, the table before any stream; 0.bin and so on, the streams; all.list and all.dump. */
+ * After each step it compares the news, and the names that swimtab_next_change returns, with how the table changed.
+ * To FOLDER it writes files to compare with what the program swimtab makes from the same claims: claims.hex, with
+ * each packet and compound packet as a line, and each record of a stream as the packet with the same claim;
+ * packets.dump, the table before any stream; 0.bin and so on, the streams; all.list and all.dump. */
 #include "check.h"
 
 enum { PACKETS = 300, STREAMS = 3, MOST_PARTS = 6, MOST_RECORDS = 12, NAMES = 12, ROOM = 1 << 16 };
@@ -14,7 +14,7 @@ static uint64_t state;
 static const char *folder;
 static FILE *lines;
 
-/* One of so many numbers, by xorshift. */
+/* A random number below this one, by xorshift. */
 static unsigned any(unsigned count) {
     state ^= state << 13;
     state ^= state >> 7;
@@ -88,7 +88,7 @@ static size_t name_of(unsigned number, uint8_t *name) {
 
 static struct claim any_claim(void) {
     static const uint32_t incs[] = {0, 1, 2, 3, 127, 128, 255, 256, 65536, UINT32_MAX - 1, UINT32_MAX};
-    /* a death is final, and therefore seldom */
+    /* a death is final, and therefore rare */
     unsigned dice = any(64);
     unsigned kind = dice == 0 ? SWIMTAB_CONFIRM + any(2) : dice < 36 ? SWIMTAB_ALIVE : SWIMTAB_SUSPECT;
     struct claim made = {kind, incs[any(8) ? any(5) : any(11)], any(NAMES), any(8)};
@@ -144,7 +144,7 @@ static void put_packet(struct text *to, const struct claim *claim) {
     }
 }
 
-/* The record of a claim. Of other states than alive the details are passed over. */
+/* The record of a claim. The details are read for the state alive alone. */
 static void put_record(struct text *to, const struct claim *claim) {
     unsigned first = any(7);
     put_byte(to, 0x87);
@@ -212,7 +212,7 @@ static bool tells_line(swimtab_node *node, const char *line) {
     return same_name(name, line);
 }
 
-/* The names that are told are those whose lines differ, in their order; a table does not shrink. */
+/* The names returned are those whose lines differ, in order; a table does not shrink. */
 static void compare(swimtab_node *node, bool news) {
     after = listing(node);
     char *kept = listing(node), *old = before, *new = after, *line;
@@ -254,7 +254,7 @@ static void take_compound(swimtab_node *node) {
         if (any(8))
             put_packet(&parts, &claim);
         else
-            put(&parts, "\x02\x80", 2); /* an ack, which is passed over */
+            put(&parts, "\x02\x80", 2); /* an ack, which is skipped */
         lens[i] = parts.len - start;
     }
     put_byte(&compound, 7);
@@ -267,7 +267,7 @@ static void take_compound(swimtab_node *node) {
     compare(node, taken.news);
 }
 
-/* A stream that comes in pieces, and is taken in by one call or another. */
+/* A stream that comes in pieces, and is taken in by one of the two calls. */
 static void take_stream(swimtab_node *node, unsigned number) {
     static struct text stream, packet;
     unsigned count = any(MOST_RECORDS + 1), user_len = any(4);

@@ -1,6 +1,6 @@
-/* Each allocation of a run refused in turn: every call is done, or answers SWIMTAB_MEMORY and has changed
- * neither a node nor a buffer nor the noted names; made again it is done; and at the end all memory was
- * let go. Linked with -Wl,--wrap=malloc,--wrap=realloc,--wrap=free. */
+/* Refuses each allocation of a run in turn. Every call is done, or returns SWIMTAB_MEMORY and has changed no
+ * node, buffer or noted name; repeated, it is done; and at the end all memory is freed. Link it with
+ * -Wl,--wrap=malloc,--wrap=realloc,--wrap=free. */
 #include "check.h"
 
 void *__real_malloc(size_t size);
@@ -10,8 +10,8 @@ void *__wrap_malloc(size_t size);
 void *__wrap_realloc(void *at, size_t size);
 void __wrap_free(void *at);
 
-static long until_refused = -1; /* how many allocations until one is refused; below 0, none is */
-static long held = 0;           /* blocks that were not let go */
+static long until_refused = -1; /* how many allocations until one is refused; none if negative */
+static long held = 0;           /* blocks that were not freed */
 static bool watching = false;   /* whether a call of the library runs */
 
 static bool is_refused(void) { return watching && until_refused >= 0 && until_refused-- == 0; }
@@ -42,9 +42,9 @@ static swimtab_keyring keyring;
 static swimtab_buffer buffer;
 static uint8_t offer[ROOM], reply[ROOM], out[ROOM];
 static size_t offer_len, reply_len;
-static size_t out_len; /* what the call before wrote to out */
+static size_t out_len; /* how many bytes the last call wrote to out */
 
-/* The calls of a run, in their order; each answers its status. */
+/* The calls of a run, in their order; each returns its status. */
 
 static const uint8_t local[4] = {127, 0, 0, 1};
 static const char long_name[] = "a name of more than thirty bytes, which takes memory";
@@ -116,7 +116,7 @@ static uint32_t answer_second(void) {
 static uint32_t say_alive_of(void) {
     return kept(swimtab_alive_of(long_name, 40, local, 4, 1, meta, sizeof meta, NULL, 0, 9, out, ROOM));
 }
-/* Two keys, and a suspicion, sealed and unwrapped again. */
+/* Two keys, and a suspicion that is sealed and unwrapped again. */
 static const uint8_t keys[2][32] = {{1, 2, 3}, {4, 5}};
 static uint8_t sealed[256], unwrapped[256];
 static size_t sealed_len, unwrapped_len;
@@ -171,7 +171,7 @@ static uint32_t (*const calls[])(void) = {
 
 enum { CALLS = sizeof calls / sizeof *calls };
 
-/* What both nodes show, without watching, and the bytes of the buffer behind it. */
+/* The output of both nodes, without watching, followed by the bytes of the buffer. */
 static size_t show(uint8_t *shown) {
     swimtab_written one = swimtab_list(&first, shown, ROOM);
     swimtab_written two = swimtab_list(&second, shown + one.len, ROOM - one.len);
@@ -179,7 +179,7 @@ static size_t show(uint8_t *shown) {
     return one.len + two.len + buffer.len;
 }
 
-/* Makes a call with the next allocations as they come, and once more where it was refused. */
+/* Makes a call with the next allocations as they come, and once more if it was refused. */
 static bool make(uint32_t (*call)(void)) {
     static uint8_t before[ROOM], after[ROOM];
     size_t len = show(before);
@@ -218,7 +218,7 @@ static void drain(char *text, size_t room) {
     }
 }
 
-/* The first calls, with the allocation of this number refused: how many calls were done. */
+/* Makes the first `count` calls with the allocation of this number refused. Returns how many were done. */
 static size_t calls_done(long number, size_t count) {
     size_t done = 0;
     until_refused = number;
@@ -233,7 +233,7 @@ static size_t calls_done(long number, size_t count) {
     return done;
 }
 
-/* After the call that was refused the noted names are those of before it. Answers whether one was. */
+/* After the refused call the noted names are the same as before it. Returns whether a call was refused. */
 static bool noted_names_stay(long number) {
     static char wanted[4096], noted[4096];
     size_t done = calls_done(number, CALLS);
@@ -251,7 +251,7 @@ static bool noted_names_stay(long number) {
     return true;
 }
 
-/* A run with the allocation of this number refused: how many calls were refused, or -1 where there
+/* Makes a run with the allocation of this number refused. Returns how many calls were refused, or -1 if there
  * was no such allocation. */
 static int run(long number) {
     static uint8_t wanted[ROOM], shown[ROOM];

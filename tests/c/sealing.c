@@ -1,13 +1,13 @@
-/* Packets and streams as a real cluster sends them: unwrapped and opened, and sealed. The bytes are those of
- * the cluster with two keys in tests/captures/sealed, opened by python's cryptography and zlib; of
- * memberlist's encryptPayload and encryptLocalState, with labels; and of Go's crypto and compress/lzw. */
+/* Packets and streams as a real cluster sends them: unwrapped, decrypted and sealed. The bytes are from the
+ * cluster with two keys in tests/captures/sealed, decrypted with python's cryptography and zlib; from
+ * memberlist's encryptPayload and encryptLocalState, with labels; and from Go's crypto and compress/lzw. */
 #include "check.h"
 
-/* The keys of the cluster that was captured: its first one was replaced by the new one. */
+/* The keys of the captured cluster: the new one replaced the first one. */
 #define OLD_KEY "0d1c51557ebaaee59ca0f5167923fc116f050e5174abc232601430cf8ead85db"
 #define NEW_KEY "3b91421dae7f570e037c45dd729985efad5f7659103d10134452b9016801a83f"
 
-/* An alive message of it, with its checksum, and as it was sent. */
+/* One of its alive messages, with its checksum, and as it was sent. */
 #define ALIVE \
     "0486a441646472b0fd000010000000000000000000000013ab496e6361726e6174696f6e01a44d657461b2ff82a4" \
     "726f6c65a26462a47261636ba27233a44e6f6465a464622d33a4506f7274cd1f0aa356736ea6010502020505"
@@ -17,7 +17,7 @@
     "4ad9c6037f43b3e873c40fd38bf6f47507d6080a6f99561a28886a0f6f5155e008482c946bf86968999941ec6287" \
     "b0c801c56af60715913e6f84c83d958d902f86873061704661c3d7844df8d0ae"
 
-/* A compound packet that was compressed, a suspicion under the new key, and a nack. */
+/* A compressed compound packet, a suspicion encrypted with the new key, and a nack. */
 #define PACKED \
     "0702005a005a0486a441646472b0fd000010000000000000000000000012ab496e6361726e6174696f6e01a44d65" \
     "7461b2ff82a47261636ba27232a4726f6c65a26462a44e6f6465a464622d32a4506f7274cd1f0aa356736ea60105" \
@@ -69,7 +69,7 @@
     "f414a8f1812b3b1fef8d2e47405458d8d4de678b796f6a8b8b9a626d8143de2ce7b20dc953823f8ede875359f043" \
     "35b2f97faed8a76767a8d9f6be31fcf870099a6c4aa8847b9c5588b216f837de53b18eb7b7d0ec48c0a7ff"
 
-/* `labelled` under a key of 16 bytes behind the label `east`. */
+/* `labelled` encrypted with a key of 16 bytes, after the label `east`. */
 #define KEY_16 "10171e252c333a41484f565d646b7279"
 #define LABELLED "6c6162656c6c6564"
 #define LABELLED_SENT \
@@ -78,7 +78,7 @@
     "f404656173740a0000002501c7baf9e8c9a5ae07b800f654274ded0e46948099ad5b4eebcc79afa0f9e1eb3928a3" \
     "09dd"
 
-/* Under a key of 32 bytes, behind the label `dc`: an alive message and a stream of one member. */
+/* Encrypted with a key of 32 bytes, after the label `dc`: an alive message and a stream of one member. */
 #define KEY_32 "000102030405060708090a0b0c0d0e0f101112131415161718191a1b1c1d1e1f"
 #define CLEAR_ALIVE \
     "0486a441646472a47f000001ab496e6361726e6174696f6e00a44d657461a0a44e6f6465a161a4506f7274cd1f0a" \
@@ -95,13 +95,13 @@
     "3ddbc40f0850f3d22ed0ccbc18544e0bf4f3d866e25a87d491ec3e0f6ad1a8bdb2950829fc54ff7279587b06cbcd" \
     "7b5e5c17e150c6feb935b8d1"
 
-/* The stream as the reply to one in the cluster `dc`, with no label before it; by python's cryptography. */
+/* The stream as a reply in the cluster `dc`, with no label before it; made with python's cryptography. */
 #define SEALED_REPLY \
     "0a00000073017265706c792d6e756d626572cac33fce2641d8d4bca9832bea86239a813d97cde094ecba0ca5c532" \
     "f86908430e42d76f5bae8aaf91d5153387d57ae1ffbd621086e929bf00f3f783854ca8be93a7e61f1a4dd7654271" \
     "1255994f2af38d89d1c698a2ae58d0d2a6d36eb14726b7c5d5c927fc"
 
-/* Under it, without a label: a byte that is no message, and an ack as a stream. */
+/* Encrypted with it, without a label: a byte that is not a message, and an ack as a stream. */
 #define SEALED_BYTE "016e6f6e63652d6e756d6265723b0b56637d80325b1ad4163cc9c2cbef66"
 #define ACK_STREAM \
     "0a0000002f016e6f6e63652d6e756d6265723f24a82c73fb6e8007e572601a4dee56ab8f2b2c23af1a5a34fd34c8" \
@@ -117,7 +117,7 @@
     "0085a44e6f6465a26433a55365714e6f01aa536f7572636541646472a47f000502aa536f757263654e6f6465a264" \
     "32aa536f75726365506f7274cd1f0a"
 
-/* What reads wrapped bytes, and what writes them. */
+/* A call that reads wrapped bytes, and one that writes them. */
 typedef swimtab_written (*unwrapping)(const swimtab_keyring *, const void *, size_t, void *, size_t);
 typedef swimtab_written (*sealing)(const swimtab_keyring *, const void *, const void *, size_t, const void *, size_t,
                                    void *, size_t);
@@ -138,7 +138,7 @@ static swimtab_written unwrap_in_east(const swimtab_keyring *keyring, const void
     return swimtab_raw_unwrap_stream(keyring, "east", 4, stream, len, out, out_len);
 }
 
-/* A stream of the side that opens a connection, and one of the side that answers. */
+/* A stream from the side that opens a connection, and one from the side that answers. */
 static swimtab_written seal_stream(const swimtab_keyring *keyring, const void *nonce, const void *label,
                                    size_t label_len, const void *message, size_t len, void *out, size_t out_len) {
     return swimtab_raw_seal_stream(keyring, nonce, label, label_len, false, message, len, out, out_len);
@@ -149,7 +149,7 @@ static swimtab_written seal_reply(const swimtab_keyring *keyring, const void *no
     return swimtab_raw_seal_stream(keyring, nonce, label, label_len, true, message, len, out, out_len);
 }
 
-/* A keyring with the keys of these texts, up to the first NULL. */
+/* A keyring with these keys in hexadecimal, up to the first NULL. */
 static swimtab_keyring keyring_of(const char *const *keys) {
     swimtab_keyring keyring = SWIMTAB_KEYRING_INIT;
     for (; *keys; keys++) {
@@ -161,7 +161,7 @@ static swimtab_keyring keyring_of(const char *const *keys) {
     return keyring;
 }
 
-/* Closes a keyring, whether it has keys or none. */
+/* Closes a keyring, with or without keys. */
 static void closes(swimtab_keyring *keyring) {
     bool held = keyring->held;
     WANT(swimtab_raw_keyring_close(keyring) == (held ? SWIMTAB_DONE : SWIMTAB_NO_NODE));
@@ -174,8 +174,8 @@ static bool is_filled(struct bytes bytes, size_t from) {
     return true;
 }
 
-/* The buffer of this length that a call was given is right: the bytes at its front and nothing behind them,
- * or, where it is too small, as it was. */
+/* The buffer of this length that was passed to a call is right: it begins with the bytes and is unchanged after
+ * them or, if it is too small, is unchanged. */
 static void is_written(swimtab_written written, struct bytes room, const char *wanted) {
     struct bytes bytes = hex(wanted);
     WANT(written.len == bytes.len);
@@ -186,7 +186,7 @@ static void is_written(swimtab_written written, struct bytes room, const char *w
     free(bytes.at);
 }
 
-/* The bytes unwrap to those that are wanted, into a buffer that fits, a longer one and shorter ones. */
+/* The bytes unwrap to the wanted ones, with a buffer that just fits, a longer one and shorter ones. */
 static void unwraps(const char *const *keys, unwrapping call, const char *sent, const char *wanted) {
     swimtab_keyring keyring = keyring_of(keys);
     struct bytes packet = hex(sent);
@@ -201,7 +201,7 @@ static void unwraps(const char *const *keys, unwrapping call, const char *sent, 
     closes(&keyring);
 }
 
-/* The bytes are refused with this status, and the buffer is as it was. */
+/* The bytes are refused with this status, and the buffer is unchanged. */
 static void refused(const char *const *keys, unwrapping call, const char *sent, uint32_t status) {
     swimtab_keyring keyring = keyring_of(keys);
     struct bytes packet = hex(sent), room = bytes_of_size(2000, 7);
@@ -212,7 +212,7 @@ static void refused(const char *const *keys, unwrapping call, const char *sent, 
     closes(&keyring);
 }
 
-/* The message is sealed as the cluster did, with the nonce of what it sent. */
+/* The message is sealed as in the cluster, with the nonce that the cluster used. */
 static void seals(const char *const *keys, sealing call, size_t nonce_at, const char *label, const char *message,
                   const char *wanted) {
     swimtab_keyring keyring = keyring_of(keys);
@@ -354,7 +354,7 @@ static void the_longest_label(sealing call, const char *const *keys) {
     closes(&keyring);
 }
 
-/* The same of the label of a reply, which is not written, and of one that is unwrapped. */
+/* The same for the label of a reply, which is not written, and for one that is unwrapped. */
 static void the_longest_label_of_a_reply(void) {
     swimtab_keyring keyring = keyring_of(key_16);
     struct bytes label = bytes_of_size(256, 'x'), room = bytes_of_size(2000, 7), read = bytes_of_size(9, 7);

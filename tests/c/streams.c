@@ -112,7 +112,7 @@ static void a_reply_is_taken_in(void) {
     WANT(swimtab_close(&node) == 0);
 }
 
-/* Puts a stream of `count` members together, each suspected; its names are numbers of six digits. */
+/* Makes a stream of `count` members, all suspected; their names are numbers of six digits. */
 static struct bytes suspects(uint32_t count) {
     static const char header[] = "\x06\x81\xa5Nodes\xce";
     struct bytes stream = bytes_of_size(sizeof header + 3 + (size_t)count * 20, 0);
@@ -142,7 +142,7 @@ static void a_table_of_too_many_records_has_no_dump(void) {
     WANT(swimtab_offer_new(&node, false, SWIMTAB_CANONICAL, &buffer) == SWIMTAB_TOO_MANY_RECORDS);
     made = swimtab_answer_new(&node, small.at, small.len, SWIMTAB_CANONICAL, &buffer);
     WANT(made.status == SWIMTAB_TOO_MANY_RECORDS && !buffer.kept.held && buffer.at == NULL);
-    /* of the suspects no Alive is known, so the form for memberlist has the member alone */
+    /* no Alive of the suspects is known, so the form for memberlist has the member alone */
     WANT(swimtab_offer_new(&node, false, SWIMTAB_MEMBERLIST, &buffer) == SWIMTAB_DONE);
     WANT(is_hex(buffer.at, buffer.len, DUMP_A_0));
     swimtab_free(&buffer);

@@ -4,13 +4,13 @@
 
 #include "check.h"
 
-/* The header of a stream without user state, and a record; each part is its value's bytes. */
+/* The header of a stream without user state, and a record; each argument has the bytes of a value. */
 #define HEADER(join, records) "0683a44a6f696e" join "a54e6f646573" records "ac5573657253746174654c656e00"
 #define RECORD(addr, inc, meta, name, port, state, vsn) \
     "87a441646472" addr "ab496e6361726e6174696f6e" inc "a44d657461" meta "a44e616d65" name "a4506f7274" port \
     "a55374617465" state "a356736e" vsn
 
-/* a node a, alive at 0; the same where it is suspected at 5 and was alive at 4; and b suspected at 1 */
+/* A node a, alive at 0; the same if it is suspected at 5 and was alive at 4; and b, suspected at 1. */
 #define DUMP_A_0 HEADER("c2", "01") RECORD("a47f000001", "00", "a0", "a161", "cd1f0a", "00", "a0")
 #define DUMP_A_4_5 \
     HEADER("c2", "02") \
@@ -18,7 +18,7 @@
     RECORD("a0", "05", "a0", "a161", "00", "01", "a0")
 #define DUMP_B_1 HEADER("c2", "01") RECORD("a0", "01", "a0", "a162", "00", "01", "a0")
 
-/* What is no stream, and its fault. */
+/* Bytes that are not a stream, and their faults. */
 static const struct {
     const char *bytes;
     uint32_t status;

@@ -1,5 +1,5 @@
-/* An exchange between a member that heard packets and one that took in a dump, with every step kept in a
- * file, so that tests/embedded can compare each with what the program swimtab makes of the same:
+/* An exchange between a member that heard packets and one that took in a dump, with every step written to a
+ * file, so that tests/embedded can compare each with what the program swimtab makes from the same input:
  *
  *     worked PACKETS.hex DUMP FOLDER */
 #include "check.h"
@@ -34,7 +34,7 @@ static struct bytes dump(swimtab_node *node) {
     return made;
 }
 
-/* Keeps a node's dump and its listing. */
+/* Writes a node's dump and listing to files. */
 static void keep_node(swimtab_node *node, const char *name) {
     char file[64];
     struct bytes bytes = dump(node);
@@ -46,7 +46,7 @@ static void keep_node(swimtab_node *node, const char *name) {
     free(bytes.at), free(text);
 }
 
-/* Keeps the packet of the member's own Alive, in hexadecimal. */
+/* Writes the packet of the member's own Alive to a file, in hexadecimal. */
 static void keep_alive(swimtab_node *node, const char *name) {
     uint8_t packet[SWIMTAB_MAX_PACKET_LEN];
     char text[2 * SWIMTAB_MAX_PACKET_LEN + 2];

@@ -1,6 +1,6 @@
-// Command live has members of libswimtab and of memberlist exchange tables over TCP and packets over UDP, on
-// loopback, in the clear and with a key. tests/embedded builds it if memberlist's source is installed. Each failed
-// check is a line; the last line is 'N passed, M failed'.
+// Command live lets members of libswimtab and of memberlist exchange tables over TCP and packets over UDP, on
+// loopback, in the clear and with a key. tests/embedded builds it if memberlist's source is installed. It prints a
+// line for each failed check; the last line is 'N passed, M failed'.
 package main
 
 import (
@@ -22,7 +22,7 @@ const patience = 20 * time.Second
 
 var (
 	passed, failed int
-	// what memberlist takes in: the protocol's least, greatest and current version, and the delegate's
+	// the versions that memberlist accepts: the protocol's least, greatest and current version, and the delegate's
 	versions = []byte{1, 5, 2, 0, 0, 0}
 )
 
@@ -35,7 +35,7 @@ func check(what string, ok bool) {
 	fmt.Println("failed:", what)
 }
 
-// must ends the test at an error of its preparation.
+// must ends the test if its setup fails.
 func must(err error) {
 	if err != nil {
 		fmt.Println("failed:", err)
@@ -44,7 +44,7 @@ func must(err error) {
 	}
 }
 
-// soon waits until it holds.
+// soon waits until the condition holds.
 func soon(what string, holds func() bool) {
 	for end := time.Now().Add(patience); time.Now().Before(end); time.Sleep(20 * time.Millisecond) {
 		if holds() {
@@ -55,7 +55,7 @@ func soon(what string, holds func() bool) {
 	check(what, false)
 }
 
-// a member of libswimtab: its node, its keys and where it hears packets
+// member is a member of libswimtab: its node, its keys and its socket for packets.
 type member struct {
 	*swimtab.Node
 	keys  *swimtab.Keyring
@@ -81,7 +81,7 @@ func join(name, addr string, port uint16, key []byte) *member {
 	return m
 }
 
-// serve answers the exchanges that others begin.
+// serve answers the exchanges that other members begin.
 func (m *member) serve(calls net.Listener) {
 	for {
 		conn, err := calls.Accept()
@@ -96,7 +96,7 @@ func (m *member) serve(calls net.Listener) {
 	}
 }
 
-// answer reads until a whole stream is there, since who began does not end its side of the connection.
+// answer reads until a whole stream is there, since the other side keeps its end of the connection open.
 func (m *member) answer(conn net.Conn) error {
 	var stream []byte
 	piece := make([]byte, 4096)
@@ -126,7 +126,7 @@ func (m *member) answer(conn net.Conn) error {
 	}
 }
 
-// listen takes in what packets say; those that make no claims, as pings, are passed over.
+// listen takes in packets, and skips those that make no claims, like pings.
 func (m *member) listen() {
 	packet := make([]byte, 65536)
 	for {
@@ -140,7 +140,7 @@ func (m *member) listen() {
 	}
 }
 
-// exchange is a push/pull with a member of memberlist.
+// exchange does a push/pull with a member of memberlist.
 func (m *member) exchange(peer string, form swimtab.Form) error {
 	offer, err := m.Offer(false, form)
 	if err != nil {
@@ -187,8 +187,8 @@ func (m *member) knows(name string, state swimtab.State) bool {
 	return err == nil && found.State == state
 }
 
-// cluster is a member of memberlist that probes nobody and begins no exchange, so that what the test does is
-// all that happens.
+// cluster starts a member of memberlist that probes nobody and begins no exchange, so that nothing happens but what
+// the test does.
 func cluster(name, addr string, port int, key []byte) *memberlist.Memberlist {
 	config := memberlist.DefaultLANConfig()
 	config.Name = name
