@@ -1,8 +1,8 @@
-# What the end-to-end tests of both programs share: running the program, which is named by $program, and
-# comparing what it left. Each failed case is a line.
+# What the end-to-end tests share: running the program that $program names, and comparing its output, its
+# text on standard error and its status. Each failed case prints a line.
 # shellcheck shell=sh disable=SC2154
 
-# whole_path FILE: its path from the root.
+# whole_path FILE: prints its absolute path.
 whole_path() {
     case $1 in
         /*) echo "$1" ;;
@@ -13,7 +13,7 @@ whole_path() {
 passed=0
 failed=0
 
-# start: goes to a folder of its own, which is gone at the end.
+# start: changes to a new folder, which is removed at the end.
 start() {
     work=$(mktemp -d) || exit 1
     trap 'rm -rf "$work"' EXIT
@@ -21,13 +21,13 @@ start() {
     cd "$work" || exit 1
 }
 
-# run WORD..: runs the program, and keeps its output, its text on standard error and its status.
+# run WORD..: runs the program with these arguments, and keeps its output, its text on standard error and its status.
 run() {
     timeout 120 "$program" "$@" > out 2> err
     status=$?
 }
 
-# feed TEXT WORD..: the same with TEXT, a format of printf, coming through a pipe.
+# feed TEXT WORD..: the same with TEXT, a printf format, as standard input through a pipe.
 feed() {
     input=$1
     shift
@@ -36,7 +36,7 @@ feed() {
     status=$?
 }
 
-# prints CASE STATUS LINE..: the run before printed these lines, and nothing on standard error.
+# prints CASE STATUS LINE..: the last run printed these lines, and nothing on standard error.
 prints() {
     case_name=$1
     wanted_status=$2
@@ -47,7 +47,7 @@ prints() {
     compare
 }
 
-# prints_file CASE FILE: the run before printed the bytes of FILE, with status 0.
+# prints_file CASE FILE: the last run printed the bytes of FILE, with status 0.
 prints_file() {
     case_name=$1
     wanted_status=0
@@ -56,7 +56,7 @@ prints_file() {
     compare
 }
 
-# refuses CASE STATUS TEXT: the run before printed nothing, and the line TEXT on standard error.
+# refuses CASE STATUS TEXT: the last run printed nothing, and the line TEXT on standard error.
 refuses() {
     case_name=$1
     wanted_status=$2
@@ -65,7 +65,7 @@ refuses() {
     compare
 }
 
-# compare: counts the case by what the run before left.
+# compare: counts the case by the results of the last run.
 compare() {
     fault=
     [ "$status" -eq "$wanted_status" ] || fault="$fault; status $status, not $wanted_status"
@@ -74,7 +74,7 @@ compare() {
     count "$case_name" "$fault"
 }
 
-# explains CASE: the run before ended with status 2 and some text on standard error alone.
+# explains CASE: the last run ended with status 2, and printed text on standard error alone.
 explains() {
     fault=
     [ "$status" -eq 2 ] || fault="$fault; status $status, not 2"
@@ -83,14 +83,14 @@ explains() {
     count "$1" "$fault"
 }
 
-# ends CASE STATUS: the run before ended with this status, whatever it printed.
+# ends CASE STATUS: the last run ended with this status, whatever it printed.
 ends() {
     fault=
     [ "$status" -eq "$2" ] || fault="; status $status, not $2"
     count "$1" "$fault"
 }
 
-# count CASE FAULT: the case passed where FAULT is empty.
+# count CASE FAULT: counts the case, which passed if FAULT is empty.
 count() {
     if [ -z "$2" ]; then
         passed=$((passed + 1))
@@ -100,7 +100,7 @@ count() {
     fi
 }
 
-# can_refuse: whether growths of memory can be refused here; it makes the library that refuses them.
+# can_refuse: succeeds if growths of memory can be refused here, and builds the library that refuses them.
 can_refuse() {
     if ! command -v cc > /dev/null; then
         echo 'skipped: refused memory: there is no cc'
@@ -109,8 +109,8 @@ can_refuse() {
     cc -shared -fPIC -O2 -o watch_memory.so "$here/../.ci/watch_memory.c" -ldl
 }
 
-# each_refused CASE INPUT WORD..: whichever growth of memory is refused, of the first 60 each and then every seventh,
-# the run with INPUT ends as it does with none refused, or prints nothing and says that there was no memory.
+# each_refused CASE INPUT WORD..: refuses a growth of memory in each run, of the first 60 each one and then every
+# seventh. The run with INPUT ends as it does with none refused, or prints nothing and reports 'out of memory'.
 each_refused() {
     case_name=$1
     given=$2
@@ -138,12 +138,12 @@ each_refused() {
     count "$case_name with each growth of memory refused" "$wrong"
 }
 
-# start_of FILE: its first bytes, on one line.
+# start_of FILE: prints its first bytes, on one line.
 start_of() {
     head -c 60 "$1" | tr '\n' '|' | tr -c '[:print:]' '?'
 }
 
-# bytes HEX: the bytes that HEX is in lower-case hexadecimal.
+# bytes HEX: prints the bytes that HEX stands for in lower-case hexadecimal.
 bytes() {
     # shellcheck disable=SC2059
     printf "$(printf '%s\n' "$1" | awk -v digits=0123456789abcdef '{
@@ -152,12 +152,12 @@ bytes() {
     }')"
 }
 
-# raw HEX: the bytes HEX as short text of MessagePack, in hexadecimal: a first byte with their number.
+# raw HEX: prints the bytes HEX as a short MessagePack string, in hexadecimal: a first byte with their number.
 raw() {
     printf '%02x%s' $((160 + ${#1} / 2)) "$1"
 }
 
-# finish: the last line, and the status.
+# finish: prints the last line, and returns the status.
 finish() {
     echo "$passed passed, $failed failed"
     [ "$failed" -eq 0 ]

@@ -1,6 +1,6 @@
 # The messages that the cases are made of, in hexadecimal, as docs/PROTOCOL.md spells them under
-# "Canonical bytes"; and the dumps that most cases read, as files. Numbers are given with their first
-# byte, as 'cd1f0a' for 7946.
+# "Canonical bytes", and the dumps that most cases read, as files. Numbers are given with their first
+# byte, such as 'cd1f0a' for 7946.
 # shellcheck shell=sh disable=SC2034
 
 # alive NAME INCARNATION ADDRESS PORT: a packet.
@@ -13,12 +13,12 @@ suspect() {
     echo "0383a446726f6da178ab496e6361726e6174696f6e$2a44e6f6465$(raw "$1")"
 }
 
-# dead NAME INCARNATION FROM: a packet; a Leave where FROM is NAME, and else a Confirm.
+# dead NAME INCARNATION FROM: a packet; a Leave if FROM is NAME, and otherwise a Confirm.
 dead() {
     echo "0583a446726f6d$(raw "$3")ab496e6361726e6174696f6e$2a44e6f6465$(raw "$1")"
 }
 
-# dump NUMBER RECORD..: a stream of so many records, with the join flag false.
+# dump NUMBER RECORD..: a stream of this many records, with the join flag false.
 dump() {
     printf '0683a44a6f696ec2a54e6f646573%sac5573657253746174654c656e00' "$1"
     shift
@@ -36,7 +36,7 @@ top_record() {
     echo "87a441646472a0ab496e6361726e6174696f6e$2a44d657461a0a44e616d65$(raw "$1")a4506f727400a55374617465$3a356736ea0"
 }
 
-# Whole messages as constants, so that what is above is not its own judge.
+# Whole messages as constants, so that the functions above are not compared with themselves alone.
 alive_a=0486a441646472a47f000001ab496e6361726e6174696f6e00a44d657461a0a44e6f6465a161a4506f7274cd1f0aa356736ea0
 suspect_b=0383a446726f6da178ab496e6361726e6174696f6e01a44e6f6465a162
 dump_p=0683a44a6f696ec2a54e6f64657301ac5573657253746174654c656e0087a441646472a47f000001ab496e6361726e6174696f6e00a44d657461a0a44e616d65a161a4506f7274cd1f0aa5537461746500a356736ea0
@@ -52,7 +52,7 @@ line_c='c leave 3 -'
 line_v='a suspect 5 4/7f000001/7947//'
 
 # p: a alive; q: b suspected; r: both; t: a suspected, without an address; c: c left; v: a suspected,
-# with an address; none: no member; cut and long: no dumps.
+# with an address; none: no member; cut and long: not dumps.
 bytes "$dump_p" > p.bin
 bytes "$dump_q" > q.bin
 bytes "$(dump 02 "$(alive_record 61 00 7f000001 cd1f0a)" "$(top_record 62 01 01)")" > r.bin

@@ -1,5 +1,5 @@
-/* Loaded before a program: each read from a socket waits a second and gives one byte, as from a
-   peer that sends little by little. */
+/* Preloaded into a program (LD_PRELOAD): each read from a socket waits a second and returns one byte, as
+   if the peer sent little by little. */
 #include <dlfcn.h>
 #include <stddef.h>
 #include <sys/types.h>
