@@ -23,7 +23,7 @@ refuses 'the fourth of five files is missing' 4 'swimtab: missing.bin: device fa
 run list p.bin/q.bin
 refuses 'a file as a folder' 4 'swimtab: p.bin/q.bin: device fault'
 
-# Files that are no plain files.
+# Files that are not plain files.
 run list /dev/null
 refuses 'an empty device as a file' 3 'swimtab: /dev/null: fault 1 Ended'
 mkfifo pipe
@@ -45,7 +45,7 @@ refuses 'standard input is closed' 4 'swimtab: input: device fault'
 : > unread
 timeout 120 "$program" 0> unread > out 2> err
 status=$?
-refuses 'standard input is open for writing alone' 4 'swimtab: input: device fault'
+refuses 'standard input is open only for writing' 4 'swimtab: input: device fault'
 timeout 120 "$program" < /dev/null > out 2> err
 status=$?
 prints 'standard input is an empty device' 0
@@ -65,15 +65,15 @@ else
 fi
 timeout 120 "$program" list p.bin q.bin <&- > out 2> err
 status=$?
-prints 'list does without standard input' 0 "$line_a" "$line_b"
+prints 'list needs no standard input' 0 "$line_a" "$line_b"
 timeout 120 "$program" relate q.bin r.bin < / > out 2> err
 status=$?
-prints 'relate does without standard input' 1 behind
+prints 'relate needs no standard input' 1 behind
 timeout 120 "$program" loop p.bin q.bin <&- > out 2> err
 status=$?
-prints 'loop does without standard input' 0 "$line_a" "$line_b"
+prints 'loop needs no standard input' 0 "$line_a" "$line_b"
 
-# Sockets that are refused: the connection, or its other end, since no more files may be open.
+# Sockets that are refused, the connection or its other end, because no more files may be open.
 for limit in 4 5; do
     (ulimit -n $limit && timeout 120 "$program" loop p.bin q.bin) > out 2> err 3>&- 4>&-
     status=$?
@@ -95,7 +95,7 @@ run list pipe
 wait
 prints 'a file in pieces' 0 "$line_a" "$line_b"
 
-# Standard output that fails: no room, a pipe that nobody reads, closed, open for reading alone.
+# Standard output that fails: no room, a pipe that nobody reads, closed, open only for reading.
 printf '%s\n%s\n' "$alive_a" "$suspect_b" > packets.hex
 output_fails() {
     timeout 120 "$program" "$@" < packets.hex > /dev/full 2> err
@@ -125,7 +125,7 @@ output_fails() {
     refuses "swimtab $*: the output is closed" 4 'swimtab: output: device fault'
     timeout 120 "$program" "$@" < packets.hex 1< p.bin 2> err
     status=$?
-    refuses "swimtab $*: the output is open for reading alone" 4 'swimtab: output: device fault'
+    refuses "swimtab $*: the output is open only for reading" 4 'swimtab: output: device fault'
 }
 : > out
 output_fails
@@ -137,7 +137,7 @@ output_fails loop p.bin q.bin
 printf 'node a 7f000001 7946 - - 0\n' > packets.hex
 output_fails run
 
-# A reader that goes before the end of a long listing, and one that is slow.
+# A slow reader of a long listing, and one that stops before its end.
 letters=$(printf '%01000d' 0)
 awk -v letters="$letters" 'BEGIN {
     digits = letters
@@ -161,9 +161,9 @@ fault=
 [ "$status" -eq 4 ] || fault="$fault; status $status, not 4"
 cmp -s out start.txt || fault="$fault; other output: $(start_of out)"
 [ "$(cat err)" = 'swimtab: output: device fault' ] || fault="$fault; other text: $(start_of err)"
-count 'a reader that goes early got a first part' "$fault"
+count 'a reader that stops early got the beginning' "$fault"
 
-# Standard error that fails leaves the status.
+# Standard error that fails does not change the status.
 timeout 120 "$program" list missing.bin > out 2> /dev/full
 status=$?
 ends 'no room for the text of a device fault' 4
@@ -177,11 +177,11 @@ timeout 120 "$program" list cut.bin > out 2>&-
 status=$?
 ends 'standard error is closed' 3
 
-# Inputs at their bound of 268,435,456 bytes, and one byte longer.
+# Inputs at the limit of 268,435,456 bytes, and one byte longer.
 dd if=/dev/null of=bound.bin bs=1 seek=268435456 2> /dev/null
 dd if=/dev/null of=over.bin bs=1 seek=268435457 2> /dev/null
 run list bound.bin
-refuses 'a file at its bound' 3 'swimtab: bound.bin: fault 16 WrongType 0'
+refuses 'a file at the limit' 3 'swimtab: bound.bin: fault 16 WrongType 0'
 run list cut.bin over.bin
 refuses 'a file that is too long is reported before a faulty one' 3 'swimtab: over.bin: fault 32 InputTooLong'
 run list over.bin missing.bin
@@ -196,16 +196,16 @@ timeout 120 "$program" < /dev/zero > out 2> err
 status=$?
 refuses 'standard input without an end' 3 'swimtab: input: fault 32 InputTooLong'
 
-# Want of memory: the program has less than the input needs.
+# Out of memory: the program has less than the input needs.
 small() {
     (ulimit -v 100000 && timeout 120 "$program" "$@" > out 2> err)
     status=$?
 }
 for verb in list merge relate loop; do
     small $verb p.bin bound.bin
-    refuses "$verb: there is no memory" 5 'swimtab: out of memory'
+    refuses "$verb: out of memory" 5 'swimtab: out of memory'
 done
 small < bound.bin
-refuses 'packets: there is no memory' 5 'swimtab: out of memory'
+refuses 'packets: out of memory' 5 'swimtab: out of memory'
 small list p.bin
 prints 'list: there is enough memory' 0 "$line_a"

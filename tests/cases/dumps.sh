@@ -1,7 +1,7 @@
-# list and merge: dumps in files that are made here. Others stand in tests/rows.
+# list and merge: dumps in files that are made here. Others are in tests/rows.
 # shellcheck shell=sh disable=SC2154
 
-# lists_files CASE FILE.. -- LINE..: the files list as these lines.
+# lists_files CASE FILE.. -- LINE..: list prints these lines for the files.
 lists_files() {
     case_name=$1
     shift
@@ -16,7 +16,7 @@ lists_files() {
     prints "$case_name" 0 "$@"
 }
 
-# merges CASE FILE FILE..: the dump of the other files is the first.
+# merges CASE FILE FILE..: the dump of the other files is the first file.
 merges() {
     case_name=$1
     merged=$2
@@ -85,13 +85,13 @@ while [ $length -lt $((${#dump_v} / 2)) ]; do
 done
 count 'each beginning of a dump is Ended' "$fault"
 
-# As many records as a dump may have: 131,072. Their parts with stand-ins for the bytes that are no
-# letters: ( is a4, ) a5, + a6, = a0, * ab, ; a3, [ 87, ~ 7f, @ 00, ! 01 and ^ d9.
+# As many records as a dump may have: 131,072. In their parts other characters stand for the bytes that are
+# not letters: ( is a4, ) a5, + a6, = a0, * ab, ; a3, [ 87, ~ 7f, @ 00, ! 01 and ^ d9.
 suspect_part='[(Addr=*Incarnation@(Meta=(Name+%06d(Port@)State!;Vsn='
 alive_part='[(Addr(~@@!*Incarnation@(Meta=(Name+%06d(Port@)State@;Vsn='
 
-# many RECORDS MEMBERS PART..: a dump of so many records, one or two for each of the members 000000,
-# 000001, ..
+# many RECORDS MEMBERS PART..: prints a dump of this many records, one or two for each of the members
+# 000000, 000001, ..
 many() {
     bytes "0683a44a6f696ec2a54e6f646573ce$(printf %08x "$1")ac5573657253746174654c656e00"
     awk -v members="$2" -v part="$3" -v other="${4-}" 'BEGIN {
@@ -118,7 +118,7 @@ run list most.bin p.bin
 { cat most.txt && echo "$line_a"; } > more.txt
 prints_file '131,073 members are listed' more.txt
 run relate p.bin most.bin
-prints '131,072 members and another one' 1 apart
+prints '131,072 members and a different one' 1 apart
 
 # The same with names of 97 bytes: a listing of 14 MB.
 long_part='[(Addr=*Incarnation@(Meta=(Name^a%097d(Port@)State!;Vsn='

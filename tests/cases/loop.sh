@@ -1,4 +1,4 @@
-# loop: an exchange of the tables of two dumps over a socket, and what the first one lists then.
+# loop: an exchange of the tables of two dumps over a socket, and what the first one then lists.
 # shellcheck shell=sh disable=SC2154
 
 # loops FIRST SECOND LINE..
@@ -36,7 +36,7 @@ prints_file 'loop of two dumps of running clusters, in the other order' wanted_f
 
 # The canonical dump of each table has at most 16,384 bytes.
 
-# suspects FIRST LAST: the records of Suspects of incarnation 0 that are named by three digits, 53 bytes each.
+# suspects FIRST LAST: prints the records of suspects at incarnation 0 with names of three digits, 53 bytes each.
 suspects() {
     awk -v first="$1" -v last="$2" 'BEGIN {
         for (i = first; i <= last; i++)
@@ -45,7 +45,7 @@ suspects() {
     }'
 }
 
-# measures FILE BYTES: the file that was made has so many bytes.
+# measures FILE BYTES: the file has this many bytes.
 measures() {
     length=$(wc -c < "$1")
     if [ "$length" -eq "$2" ]; then
@@ -55,7 +55,7 @@ measures() {
     fi
 }
 
-# too_large FILE: the file is refused in each place.
+# too_large FILE: the file is refused as either argument.
 too_large() {
     run loop "$1" p.bin
     refuses "loop $1 p.bin" 3 "swimtab: $1: fault 28 TooLargeForLoop"
@@ -82,9 +82,9 @@ awk 'BEGIN {
     print "aaaaaaaaaaaaaaaaab suspect 0 -"
 }' > wanted_limit.txt
 run loop limit.bin none.bin
-prints_file 'the longest dump, which begins' wanted_limit.txt
+prints_file 'the longest dump begins the exchange' wanted_limit.txt
 run loop none.bin limit.bin
-prints_file 'the longest dump, which answers' wanted_limit.txt
+prints_file 'the longest dump answers' wanted_limit.txt
 bytes "$(dump cd0134 "$(suspects 0 307)")" > first.bin
 measures first.bin 16355
 bytes "$(dump cd0134 "$(suspects 308 615)")" > second.bin
@@ -94,7 +94,7 @@ prints_file 'two long dumps' wanted_both.txt
 run loop second.bin first.bin
 prints_file 'two long dumps, in the other order' wanted_both.txt
 
-# It is the canonical dump that counts, and not the file.
+# The length of the canonical dump counts, not that of the file.
 { bytes 0682a54e6f64657300ac5573657253746174654c656ecd4e20 && head -c 20000 /dev/zero; } > much_user.bin
 run loop much_user.bin p.bin
 prints 'a long file with a short canonical dump' 0 "$line_a"
@@ -106,7 +106,7 @@ bytes "$(dump cd0190 "$(suspects 0 399 | sed 's/87a441646472a0ab496e6361726e6174
 measures brief.bin 6831
 too_large brief.bin
 
-# The first file is read and measured as a dump before the second one, once both are read.
+# Both files are read first; then the first one is parsed and measured before the second one.
 run loop big.bin missing.bin
 refuses 'loop: a missing file is reported before one that is too large' 4 'swimtab: missing.bin: device fault'
 run loop big.bin cut.bin
@@ -120,17 +120,17 @@ refuses 'loop: the first file is too long' 3 'swimtab: over.bin: fault 32 InputT
 run loop p.bin over.bin
 refuses 'loop: the second file is too long' 3 'swimtab: over.bin: fault 32 InputTooLong'
 
-# The exchange as a whole has 10 seconds, also if each of its reads brings a byte after a second.
+# The exchange as a whole has 10 seconds, even if each of its reads returns a byte after a second.
 if command -v cc > /dev/null; then
     cc -shared -fPIC -O2 -o slow_reads.so "$here/c/slow_reads.c" -ldl
     begun=$(date +%s)
     LD_PRELOAD=$PWD/slow_reads.so timeout 120 "$program" loop p.bin q.bin > out 2> err
     status=$?
     waited=$(($(date +%s) - begun))
-    refuses 'loop: a peer that sends little by little is given up' 4 'swimtab: loop: device fault'
+    refuses 'loop: a peer that sends little by little is abandoned' 4 'swimtab: loop: device fault'
     fault=
     [ "$waited" -ge 9 ] && [ "$waited" -le 30 ] || fault="; it took $waited seconds"
-    count 'loop: the peer is given up after 10 seconds' "$fault"
+    count 'loop: the peer is abandoned after 10 seconds' "$fault"
 else
-    echo 'skipped: a peer of loop that sends little by little, since there is no cc'
+    echo 'skipped: a peer of loop that sends little by little: there is no cc'
 fi

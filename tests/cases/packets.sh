@@ -1,7 +1,7 @@
-# Packets on standard input that are made here. Others stand in tests/rows.
+# Packets on standard input that are made here. Others are in tests/rows.
 # shellcheck shell=sh disable=SC2154
 
-# lists CASE TEXT LINE..: the packets TEXT, a format of printf, list as these lines.
+# lists CASE TEXT LINE..: the packets TEXT, a printf format, are listed as these lines.
 lists() {
     case_name=$1
     feed "$2"
@@ -35,9 +35,9 @@ prints 'the packets of a running cluster' 0 \
     'd3 leave 1 1/7f000503/7946//010502000000' \
     'd4 suspect 1 1/7f000504/7946//010502000000'
 
-# Which line.
+# Which line is reported.
 feed '03\000'
-refuses 'a byte of no letter' 3 'swimtab: line 1: fault 30 BadHex'
+refuses 'a byte that is not a hexadecimal digit' 3 'swimtab: line 1: fault 30 BadHex'
 feed '\n\r\n09'
 refuses 'empty lines are counted' 3 'swimtab: line 3: fault 16 WrongType 9'
 feed "$alive_a\n$suspect_b\n0390\n0384\n"

@@ -1,5 +1,5 @@
-# Memory that is refused, once at each growth of a run: the run prints all that it prints with enough memory, or says
-# that there was none and prints nothing.
+# Each growth of memory in a run is refused in turn: the run prints all that it prints with enough memory, or reports
+# 'out of memory' and prints nothing.
 # shellcheck shell=sh disable=SC2154
 
 if can_refuse; then
@@ -12,7 +12,7 @@ if can_refuse; then
     each_refused 'relate of tables that differ' /dev/null relate v.bin q.bin
     each_refused run events.script run
     each_refused loop /dev/null loop v.bin q.bin
-    each_refused 'list of a file that is no dump' /dev/null list p.bin cut.bin
+    each_refused 'list of a file that is not a dump' /dev/null list p.bin cut.bin
     each_refused 'list of a file that is missing' /dev/null list missing.bin
     each_refused help /dev/null --help
 fi

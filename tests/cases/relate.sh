@@ -1,4 +1,4 @@
-# relate: how the tables of two dumps relate of which one is made here. Others stand in tests/rows.
+# relate: how the tables of two dumps relate, of which one is made here. Others are in tests/rows.
 # shellcheck shell=sh disable=SC2154
 
 # relates FIRST SECOND RELATION
@@ -23,7 +23,7 @@ relates others wanted_others equal
 bytes "$(dump 03 "$(alive_record 61 00 7f000001 cd1f0a)" "$(top_record 61 00 01)" "$(alive_record 61 00 7f000001 cd1f0a)")" > twice.bin
 relates twice wanted_p_t equal
 
-# A Suspect and a Confirm of one member, and a Confirm and a Leave.
+# A Suspect and a Confirm of the same member, and a Confirm and a Leave.
 bytes "$(dump 01 "$(top_record 61 00 02)")" > confirmed.bin
 bytes "$(dump 01 "$(top_record 61 00 03)")" > left.bin
 relates t confirmed behind

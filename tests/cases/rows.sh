@@ -3,22 +3,22 @@
 
 field_end=$(printf '\037')
 
-# rows NAME: the rows of tests/rows/NAME, as the file rows. Their fields end at a byte of which read takes each
-# for an end, so that a field may be empty.
+# rows NAME: writes the rows of tests/rows/NAME to the file rows. Their fields end with a byte that is not white
+# space, so that read keeps empty fields.
 rows() {
     sed '/^#/d; /^$/d' "$here/rows/$1" | tr '\t' "$field_end" > rows
     [ -s rows ] || count "tests/rows/$1" '; there are no rows'
 }
 
-# gives TEXT WORD..: runs the program with these words on TEXT, of which printf %b makes the input.
+# gives TEXT WORD..: runs the program with these arguments on the input that printf %b makes from TEXT.
 gives() {
     printf '%b' "$1" > input
     shift
     run "$@" < input
 }
 
-# asks WORDS: runs the program with these words, between which there are spaces, on a suspect packet of b. The
-# word '' has no letters.
+# asks WORDS: runs the program with these arguments, which are separated by spaces, on a suspect packet of b. The
+# argument '' is empty.
 asks() {
     words_given=$1
     set --
@@ -30,7 +30,7 @@ asks() {
     run "$@" < input
 }
 
-# prints_text CASE STATUS TEXT: the run before printed TEXT, after printf %b, and nothing on standard error.
+# prints_text CASE STATUS TEXT: the last run printed TEXT, after printf %b, and nothing on standard error.
 prints_text() {
     case_name=$1
     wanted_status=$2
@@ -39,7 +39,7 @@ prints_text() {
     compare
 }
 
-# tells CASE STATUS TEXT: the run before printed nothing, and TEXT, after printf %b, on standard error.
+# tells CASE STATUS TEXT: the last run printed nothing, and TEXT, after printf %b, on standard error.
 tells() {
     case_name=$1
     wanted_status=$2
@@ -142,7 +142,7 @@ while IFS=$field_end read -r words part; do
     explains "swimtab $words"
     [ -n "$part" ] || continue
     case $(cat err) in
-        *"$part"*) count "swimtab $words tells of '$part'" '' ;;
-        *) count "swimtab $words tells of '$part'" '; it does not' ;;
+        *"$part"*) count "swimtab $words mentions '$part'" '' ;;
+        *) count "swimtab $words mentions '$part'" '; it does not' ;;
     esac
 done < rows

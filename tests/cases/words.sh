@@ -1,4 +1,4 @@
-# The words after the program's name. Words that are refused stand in tests/rows.
+# The arguments of the program. Arguments that are refused are in tests/rows.
 # shellcheck shell=sh disable=SC2154
 
 commands='list merge relate loop run'
@@ -13,9 +13,9 @@ for command in $commands; do
     esac
 done
 
-# Words that are not UTF-8.
+# Arguments that are not UTF-8.
 run list "$(printf '\377')"
-explains 'a word that is not UTF-8'
+explains 'an argument that is not UTF-8'
 run "$(printf 'list\377')" p.bin
 explains 'a command that is not UTF-8'
 
@@ -44,7 +44,7 @@ prints_file 'merge with --' r.bin
 run list -
 prints 'a lone - is a file' 0 "$line_b"
 run list p.bin -
-prints 'a lone - is a file, the second one too' 0 "$line_a" "$line_b"
+prints 'a lone - is a file, also as the second one' 0 "$line_a" "$line_b"
 run list -- --help
 prints 'a file named --help, after --' 0 "$line_a"
 run list list
@@ -58,21 +58,21 @@ prints 'relate of files named merge and list' 1 ahead
 run merge merge
 prints_file 'merge of a file named merge' r.bin
 run list 'two words'
-prints 'a file of two words' 0 "$line_b"
+prints 'a file with two words as its name' 0 "$line_b"
 run list "$(printf 'na\303\257ve')"
 prints 'a file whose name is not ASCII' 0 "$line_b"
 run list "$work/p.bin"
 prints 'a file by its whole path' 0 "$line_a"
 run list ''
-refuses 'an empty word as a file' 4 'swimtab: : device fault'
+refuses 'an empty file name' 4 'swimtab: : device fault'
 run relate p.bin ''
-refuses 'an empty word as the second file' 4 'swimtab: : device fault'
+refuses 'an empty name of the second file' 4 'swimtab: : device fault'
 
-# A word is printed as it was given.
+# An argument is printed as it was given.
 for word in 'no file' '%s%n' 'a\nb' "it's" './/missing' 'missing/'; do
     run list "$word"
-    refuses "the word $word" 4 "swimtab: $word: device fault"
+    refuses "the argument $word" 4 "swimtab: $word: device fault"
 done
 cp cut.bin 'cut 100%.bin'
 run merge p.bin 'cut 100%.bin'
-refuses 'a faulty file of two words' 3 'swimtab: cut 100%.bin: fault 1 Ended'
+refuses 'a faulty file with two words as its name' 3 'swimtab: cut 100%.bin: fault 1 Ended'
