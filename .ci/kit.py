@@ -1,5 +1,5 @@
-"""What our scripts use of the kit's command rt. It is a Python file, which they load as a module, so that a check of
-theirs is made as rt ci makes it."""
+"""The parts of the kit's command rt that our scripts use. rt is a Python file; the scripts load it as a module, so that
+they check as rt ci does."""
 import importlib.machinery
 import importlib.util
 import os
@@ -25,12 +25,12 @@ rt = load()
 
 
 def crates(top=TOP):
-    """The repository's crates by their names, each after those that it uses."""
+    """Returns the repository's crates by their names, each after those that it uses."""
     os.chdir(top)
     return {it.name: it for it in sorted(rt.rtlib.crates_below(top), key=lambda it: len(it.below()))}
 
 
 def logic():
-    """The part of rt version that names the prover's logic: kits of several numbers have one."""
+    """Returns the part of rt version that names the prover's logic, which several kits may share."""
     with open(f"{rt.KIT}/KIT-ID", encoding="utf-8") as it:
         return it.read().partition("logic ")[2].strip()
