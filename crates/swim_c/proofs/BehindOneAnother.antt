@@ -1,4 +1,4 @@
--- Packets that are read one behind another.
+-- Packets that are read one after another.
 use Rattle.std.proofs.Common.{◌≡◌, ◌≢◌, ℕ, suc, ◌+◌, ◌<◌, List, [], ◌∷◌, ◌++◌, ◌≤◌, length, take, drop, get_or, Err, refl, sym, ap, subst, ◌∙◌, append-nil}
 use Rattle.std.proofs.lemmas.List.{append_assoc, take_all, take_more, take-append-drop}
 use Rattle.std.proofs.Math.Seq.{split_at}
@@ -12,13 +12,13 @@ use Rattle.swim_wire.specs.Texts.{PacketText}
 use Rattle.swim_c.specs.Packing.{PacketTexts, LacksPackets, PackingAsks}
 use Rattle.swim_c.specs.Packing.PacketTexts.{none, one}
 
--- the first packets stand at the front of the bytes, and the rest is still to come
+-- the bytes begin with the first packets, and the rest is still to come
 pub record ReadTo (lens bytes : List ℕ) (i : ℕ) (packets : List PacketValue) (rest : List ℕ) : Type 0 where
   pub front : List ℕ
   pub texts : PacketTexts (take i lens) front packets
   pub parts : bytes ≡ front ++ rest
 
--- one more packet behind the others
+-- one more packet after the others
 PacketTexts-push : (lens front text : List ℕ) (packets : List PacketValue) (p : PacketValue) → PacketTexts lens front packets → PacketText text p
     → PacketTexts (lens ++ length text ∷ []) (front ++ text) (packets ++ p ∷ [])
 PacketTexts-push _ _ text _ p none is = subst (λ (b : List ℕ). PacketTexts (length text ∷ []) b (p ∷ [])) (append-nil text) (one text [] [] p [] is none)
@@ -52,7 +52,7 @@ pub cut_off : (lens bytes : List ℕ) (i len d : ℕ) (packets : List PacketValu
 cut_off lens bytes i len d packets rest in_range is read short =
     LacksPackets.cut read.front rest (take i lens) (drop (suc i) lens) len packets read.texts (around lens i len d len in_range is refl) read.parts short refl
 
--- the next one is no packet
+-- the next one is not a packet
 pub no_packet : (lens bytes : List ℕ) (i len d : ℕ) (packets : List PacketValue) (rest text behind : List ℕ)
     (fault : WireFault) → i < length lens → len ≡ get_or lens i d
     → ReadTo lens bytes i packets rest → rest ≡ text ++ behind → length text ≡ len
@@ -61,7 +61,7 @@ no_packet lens bytes i len d packets rest text behind error in_range is read par
     LacksPackets.wrong read.front text behind (take i lens) (drop (suc i) lens) packets read.texts (around lens i len d (length text) in_range is size)
     (read.parts ∙ ap (λ (r : List ℕ). read.front ++ r) parts) stops explains no_end
 
--- the next one asks for memory
+-- the next one takes memory
 pub next_asks : (lens bytes : List ℕ) (i len d : ℕ) (packets : List PacketValue) (rest text behind : List ℕ) → i < length lens → len ≡ get_or lens i d
     → ReadTo lens bytes i packets rest → rest ≡ text ++ behind → length text ≡ len → PacketAsks text → PackingAsks lens bytes
 next_asks lens bytes i len d packets rest text behind in_range is read parts size asks =
@@ -79,7 +79,7 @@ all_read lens bytes i packets rest done read empty =
     let whole : bytes ≡ read.front = read.parts ∙ ap (λ (r : List ℕ). read.front ++ r) empty ∙ append-nil read.front in
     subst (λ (b : List ℕ). PacketTexts lens b packets) (sym whole) (all_texts lens bytes i packets rest done read)
 
--- bytes are left behind all packets
+-- bytes are left after all packets
 pub left_over : (lens bytes : List ℕ) (i : ℕ) (packets : List PacketValue) (rest : List ℕ) → length lens ≤ i → ReadTo lens bytes i packets rest → rest ≢ []
     → LacksPackets lens bytes Trailing
 left_over lens bytes i packets rest done read some =

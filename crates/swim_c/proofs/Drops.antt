@@ -1,4 +1,5 @@
--- How a node, a keyring, kept bytes and the heap's handle are let go, as the functions that take a box ask to know. Assumes `Logic`.
+-- How a node, a keyring, kept bytes and the heap's handle are dropped, which the functions that
+-- take a box need to know. Assumes `Logic`.
 use Rattle.std.proofs.Common.{[], ◌∷◌, refl}
 use seplogic.Ra.Ura.{Ura}
 use mir.Syntax.{Dict, impl, method, tnil, tcons, dnil, no_args}

@@ -40,7 +40,7 @@ refused X fault = Err fault
 abbrev pub memory : List ℕ → Source
 memory bytes = record { coming = Some bytes; faults = 0 }
 
--- no stream stands at the front of bytes in memory
+-- bytes in memory that do not begin with a stream
 pub lacks : (bytes rest : List ℕ) (fault : WireFault) → exchanging.LacksStream (memory bytes) (memory rest) fault → HoldsNoStream bytes fault
 lacks bytes rest fault why =
     let no_end : fault ≢ wire.Fault = λ e. let rises = why.failed e in omega (arith, rises) in record {
@@ -50,16 +50,16 @@ lacks bytes rest fault why =
       explains = why.explains;
     }
 
--- want of memory says that the datagram asked for some
+-- if memory was refused, the datagram requested some
 pub explained_memory : {X : Type 0} (bytes : List ℕ) (fault : WireFault) → refused X fault ≡ refused X wire.Memory → ExplainsDatagram fault bytes
     → DatagramAsks bytes
 explained_memory bytes fault e why = let is : fault ≡ wire.Memory = cc in subst (λ (f : WireFault). ExplainsDatagram f bytes) is why
 
--- so of a packet
+-- the same for a packet
 pub packet_memory : {X : Type 0} (text : List ℕ) (fault : WireFault) → refused X fault ≡ refused X wire.Memory → ExplainsWhole fault text → PacketAsks text
 packet_memory text fault e why = let is : fault ≡ wire.Memory = cc in subst (λ (f : WireFault). ExplainsWhole f text) is why
 
--- a datagram was refused, for want of memory or since it is none
+-- a datagram was refused, because memory was, or because it is invalid
 pub take_done : {X : Type 0} (bytes : List ℕ) (status : ℕ) (before after : NodeValue) (fault : WireFault) → status ≡ wire_number fault → after ≡ before
     → (fault ≢ wire.Memory → IsNoDatagram bytes fault) → (refused X fault ≡ refused X wire.Memory → HearingAsks bytes) → TakeDone bytes status before after
 take_done {X} bytes status before after fault is same why memory = elim (memory_or fault) [
@@ -67,7 +67,7 @@ take_done {X} bytes status before after fault is same why memory = elim (memory_
   | inr other ↦ TakeDone.refused fault is other (why other) same
 ]
 
--- packets were refused, for want of memory or since they are none
+-- packets were refused, because memory was, or because they are invalid
 pub compound_refused : {X : Type 0} (bytes lens old new : List ℕ) (status len : ℕ) (fault : WireFault) → length lens ≤ 255
     → status ≡ wire_number fault → len ≡ 0 → new ≡ old → (fault ≢ wire.Memory → LacksPackets lens bytes fault)
     → (refused X fault ≡ refused X wire.Memory → PackingAsks lens bytes) → CompoundDone bytes lens old new status len
@@ -76,12 +76,12 @@ compound_refused {X} bytes lens old new status len fault few is no_len same why 
   | inr other ↦ CompoundDone.refused few fault is other (why other) no_len same
 ]
 
--- another fault of a stream than want of memory
+-- a fault of a stream other than a lack of memory
 is_wire : (fault : WireFault) → fault ≢ wire.Memory → fault_of_wire fault ≡ sync.Wire fault
 is_wire wire.Memory other = absurd (other refl)
 is_wire error other = refl
 
--- a reply was refused, for want of memory or since there is none
+-- a reply was refused, because memory was, or because it is invalid
 pub unread : (bytes inlet rest : List ℕ) (fault : WireFault) → inlet ≡ bytes
     → UnlessFailed (wire_cause fault) (Lacks (memory inlet) (λ b. (claims : List Claim) × (join : Bool) × StreamText b claims join))
     → ExplainsStart (ExplainsStream fault) (memory inlet) → (fault ≡ wire.Fault → Rises 0 0)
@@ -94,7 +94,7 @@ unread bytes inlet rest fault is none explains failed = elim (memory_or fault) [
       (record { no_memory = other; lacks = none; explains = explains; failed = failed })))
 ]
 
--- no stream was read, so that none is answered
+-- no stream was read, so none is answered
 pub stream_unread : (form : Form) (bytes inlet rest : List ℕ) (table : Entries) (fault : WireFault) → inlet ≡ bytes
     → UnlessFailed (wire_cause fault) (HasNone inlet) → ExplainsStream fault inlet
     → (fault ≡ wire.Fault → Rises 0 0) → AnswerCause form bytes table (fault_of_wire fault)
@@ -106,7 +106,7 @@ stream_unread form bytes inlet rest table fault is none explains failed = elim (
       (subst (λ (b : List ℕ). HoldsNoStream b fault) is (lacks inlet rest fault why))
 ]
 
--- a stream was read, and its reply is not made: it has too many records, or memory was refused
+-- a stream was read, but there is no reply: it has too many records, or memory was refused
 pub reply_refused : (form : Form) (bytes inlet rest : List ℕ) (offered table own : Entries) (join : Bool) (fault : EncodeFault) → inlet ≡ bytes → own ≡ table
     → exchanging.ReadsOffer (memory inlet) (memory rest) offered join → (fault ≡ encode.TooManyRecords → HasTooManyIn form own)
     → AnswerCause form bytes table (fault_of_encode fault)

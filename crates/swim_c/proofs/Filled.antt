@@ -1,4 +1,4 @@
--- Buffers of the library that are filled, and why one is not.
+-- Filling buffers of the library, and why one is not filled.
 use Rattle.std.proofs.Common.{◌≡◌, ℕ, List, inl, inr, refl, sym, subst}
 use Rattle.swim_table.specs.declared.fault.EncodeFault.{EncodeFault}
 use Rattle.swim_table.specs.declared.fault.EncodeFault.TheVariants as encode

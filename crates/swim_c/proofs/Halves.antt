@@ -1,4 +1,4 @@
--- Halves of an exchange over bytes in memory.
+-- The halves of an exchange over bytes in memory.
 use Rattle.std.proofs.Common.{◌≡◌, ℕ, ◌-◌, List, ◌++◌, length, Bool, refl, sym, subst}
 use Rattle.swim_claim.specs.declared.claim.Claim.{Claim}
 use Rattle.swim_table.specs.Node.{NodeValue, SameMember}
@@ -11,7 +11,7 @@ use Rattle.swim_c.specs.Forms.{bytes_in}
 use Rattle.swim_c.proofs.Faults.{memory}
 use Rattle.swim_c.proofs.WholeStreams.{begins, taken_in}
 
--- an offer was read from the front of bytes in memory
+-- an offer was read from the start of bytes in memory
 offer_read : (bytes inlet rest : List ℕ) (offered : Entries) (join : Bool) (used : ℕ) → inlet ≡ bytes → used ≡ length bytes - length rest
     → exchanging.ReadsOffer (memory inlet) (memory rest) offered join
     → (claims : List Claim) × TableOf offered claims × BeginsStream bytes claims join used
@@ -29,7 +29,7 @@ took bytes inlet rest offered join used before after is gone read legal all memb
     let offer = offer_read bytes inlet rest offered join used is gone read in
     taken_in bytes offered offer.0 join used before after offer.2 offer.1 legal all member
 
--- an answer was given, and the stream joined in
+-- a reply was written, and the stream joined in
 pub answered : (form : Form) (bytes inlet rest old new dump : List ℕ) (offered : Entries) (join : Bool) (status used len : ℕ) (before after : NodeValue)
     → inlet ≡ bytes → used ≡ length bytes - length rest → exchanging.ReadsOffer (memory inlet) (memory rest) offered join → IsLegalTable before.table
     → ((claims others : List Claim) → TableOf before.table claims → TableOf offered others → TableOf after.table (claims ++ others))

@@ -1,4 +1,4 @@
--- The machine values of a handle, and the box that it stands for. Assumes `Logic`.
+-- The machine values of a handle, and the box that it represents. Assumes `Logic`.
 use Rattle.std.proofs.Common.{◌≡◌, List, [], ◌∷◌, ◌++◌, refl, ap, ◌∙◌, ℕ, lit<, Bool, Option}
 use lib.Dec.{T}
 use seplogic.Ra.Ura.{Ura}
@@ -62,7 +62,8 @@ pub handle_good : (p : Ptr) (y : Bool) → T
 handle_good (block_ptr b o) y = (tt, (tt, (tt, tt)))
 handle_good null_ptr y = (tt, (record { fits = lit< tt }, (tt, tt)))
 
--- what a function over a box of a node asks beside its arguments: two lifetimes, for which the static one will do
+-- what a function over a box of a node takes in addition to its arguments: two lifetimes, which may
+-- be static
 abbrev pub Tokens : {M : Type 1} (𝓤 : Ura M) → Item 𝓤
 Tokens 𝓤 = ‵ (flft [] full_share) ⊛ ‵ (flft [] full_share) ⊛ ‵ ftrue
 

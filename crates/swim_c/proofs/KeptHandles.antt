@@ -1,4 +1,4 @@
--- The machine values of the handle of kept bytes, and the box that it stands for. Assumes `Logic`.
+-- The machine values of the handle of kept bytes, and the box that it represents. Assumes `Logic`.
 use Rattle.std.proofs.Common.{◌≡◌, List, [], ◌∷◌, ◌++◌, refl, ap, ◌∙◌, ℕ, lit<, Bool, Option}
 use lib.Dec.{T}
 use seplogic.Ra.Ura.{Ura}

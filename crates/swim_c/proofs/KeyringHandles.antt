@@ -1,4 +1,4 @@
--- The machine values of a keyring's handle, and the box that it stands for. Assumes `Logic`.
+-- The machine values of a keyring's handle, and the box that it represents. Assumes `Logic`.
 use Rattle.std.proofs.Common.{◌≡◌, List, [], ◌∷◌, ◌++◌, refl, ap, ◌∙◌, ℕ, lit<, Bool, Option}
 use lib.Dec.{T}
 use seplogic.Ra.Ura.{Ura}

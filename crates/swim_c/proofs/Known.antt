@@ -11,7 +11,7 @@ use Rattle.swim_c.specs.Forgetting.{ForgetsName, LeavesOut, LetsNameGo}
 use Rattle.swim_c.specs.Taking.{TakesClaims}
 use Rattle.swim_c.specs.Watching.{IsNoted, LetsGo, NotesChanges}
 
--- what was known is known
+-- what was known stays known
 stays_known : (before after : Entries) (claims : List Claim) → TableOf before (Reduced before) → TakesClaims claims before after → (name : List ℕ)
     → IsSome (get before name) → IsSome (get after name)
 stays_known before after claims own took name known = by_answer (get before name) (own.each name) known

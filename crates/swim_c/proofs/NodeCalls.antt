@@ -23,7 +23,7 @@ on_same old new Without Tells held was is told = record {
   tells = subst (λ (o : Option NodeValue). MatchOption o Without Tells) (sym was) told;
 }
 
--- a call on a node noted names of those behind the handle
+-- a call on a node noted names in the handle
 pub on_noted : (old new : Option NodeValue) (changes changed held left : Option Entries) (status : ℕ) (before after : NodeValue)
     → old ≡ Some before → new ≡ Some after → changes ≡ held → changed ≡ left → Noted held left status before after
     → OnNode old new (changed ≡ changes) (Noted changes changed status)

@@ -1,4 +1,4 @@
--- What is noted of the names that change.
+-- Noting the names that change.
 use Rattle.std.proofs.Common.{◌≡◌, ◌≢◌, ◌↔◌, ◌⊎◌, ◌∙◌, ℕ, Bool, true, false, Option, Some, None, IsSome, List, [], ◌∷◌, ◌++◌, MatchOption, MatchBool, Result, Ok, Err, IfOk, IfSome, OnOk, slice_get, refl, sym, ap, subst, inl, inr, arith}
 use Rattle.std.proofs.lemmas.List.Elements.{Contains-append_right}
 use Rattle.swim_claim.specs.declared.claim.Claim.{Claim}
@@ -27,7 +27,7 @@ some_joined None (Some t) = (λ some. inr some, λ some. refl)
 some_joined (Some s) None = (λ some. inl refl, λ some. refl)
 some_joined (Some s) (Some t) = (λ some. inl refl, λ some. refl)
 
--- names that are joined to those noted are noted too
+-- names that are joined to the noted ones are noted too
 pub joined_names : (old new names : Entries) → IsLegalTable old → IsLegalTable names → new ≡ Join old names → AddsNames (Some old) (Some new) names
 joined_names old new names h g is name =
     let gets : get new name ≡ joined (get old name) (get names name) = ap (λ t. get t name) is ∙ get-Join old names h.own g.own name in
@@ -82,11 +82,11 @@ taken before after other claims legal of all = record {
   all = λ others is. all others claims is of;
 }
 
--- the claims that the table of none takes in are its claims
+-- the claims that a table of none takes in are its claims
 pub from_none : (other : Entries) (claims : List Claim) → ((taken : List Claim) → TableOf [] taken → TableOf other (taken ++ claims)) → TableOf other claims
 from_none other claims all = all [] (TableOf-table_of [])
 
--- what joining in changed was noted, and whether there was any
+-- what the join changed was noted, and whether anything changed
 pub joined_noted : (old new : Option Entries) (before after other names : Entries) → after ≡ Join before other
     → AreChanges before (Join before other) names → AddsNames old new names → NotesChanges old new before after
 joined_noted old new before after other names is changes adds =
@@ -129,7 +129,7 @@ others_same before after inc legal by name other =
     get-append after.table before.table (standing_of alive ∷ []) (Reduced before.table) (alive ∷ []) by.taken.kept legal.own (TableOf-one alive) name
     ∙ joined_both refl (get_later (standing_of alive) [] name other) ∙ joined-none (get before.table name)
 
--- so its name alone is to be noted
+-- so only its name has to be noted
 pub own_noted : (old new : Option Entries) (before after : NodeValue) (inc : ℕ) (names : Entries) → IsLegalTable before.table
     → IsRefutedBy before after inc → ((name : List ℕ) → IsSome (get names name) ↔ (name ≡ before.name)) → AddsNames old new names
     → NotesChanges old new before.table after.table
@@ -161,7 +161,7 @@ only_one_name names c own h is name =
       λ same. also.1 (inr same),
     )
 
--- ---- the names that are told
+-- ---- the names that are returned
 
 pub next_is : (table old : Entries) (e : Standing) (name : List ℕ) → slice_get old 0 ≡ Some e → name ≡ name_of e.top → next_entry table (Some old) ≡ get table name
 next_is table [] e name is named = absurd cc
@@ -210,7 +210,7 @@ left_out old new gone h left other = (
     is_none : other ≡ gone → IsSome (get new other) → ⊥
     is_none same some = let nowhere : get new other ≡ None = ap (get new) same ∙ forgotten new (Reduced old) gone left in absurd (cc (some, nowhere))
 
--- ---- what a call tells of it
+-- ---- what a call reports about it
 
 -- a call that changed nothing has no news, and notes nothing
 pub refused_news : (status : ℕ) (before after : Watched) → after ≡ before → TellsNews status false before.node after.node
@@ -222,7 +222,7 @@ refused_noted status before after same = record {
   refused = λ other. ap (λ h. h.changes) same;
 }
 
--- the names are those of the table that they were put in
+-- the names are those of the table that they were put into
 pub all_named : {E : Type 0} (r : Result News E) (names : Entries) (own : List ℕ) → IfOk r (λ news. news.names ≡ names)
     → ((name : List ℕ) → IsSome (get names name) ↔ (name ≡ own)) → IfOk r (λ news. (name : List ℕ) → IsSome (get news.names name) ↔ (name ≡ own))
 all_named (Ok news) names own is h = subst (λ (t : Entries). (name : List ℕ) → IsSome (get t name) ↔ (name ≡ own)) (sym is) h

@@ -28,7 +28,7 @@ use Rattle.swim_c.proofs.Faults.{memory, lacks}
 
 -- ---- what is read, and what is not
 
--- what a progress says is read, as reading step by step has it
+-- what progress says was read is what reading step by step reads
 read_some : (bytes front rest : List ℕ) (header : Header) (claims : List Claim) (left : ℕ) → BeginText front header claims → bytes ≡ front ++ rest
     → length claims + left ≡ header.nodes → ReadSome (memory bytes) (memory rest) (record { header = header; left = left; table = table_of claims })
 read_some bytes front rest header claims left begun parts sum = record { claims = claims; table = TableOf-table_of claims; counted = sum; taken = (front, begun, parts) }
@@ -43,7 +43,7 @@ has_one p at left user is fresh = let begun_it : p.has_header ≡ true = ap (λ 
 has_none : (p : Progress) → p ≡ progress 0 0 0 false → p.has_header ≡ true → ⊥
 has_none p is begun_it = let fresh : p.has_header ≡ false = ap (λ (q : Progress). q.has_header) is in let both : true ≡ false = sym begun_it ∙ fresh in cc
 
--- the place behind what is read
+-- the offset after what was read
 place : (bytes front rest : List ℕ) → bytes ≡ front ++ rest → length bytes - length rest ≡ length front
 place bytes front rest parts = let sum : length bytes ≡ length front + length rest = ap length parts ∙ length-append front rest in omega (arith, sum)
 
@@ -161,7 +161,7 @@ whole_there bytes p enough begun_it over (IsProgressIn.some front rest header cl
       },
     )
 
--- ---- what a call answers
+-- ---- what a call returns
 
 pub stopped : (bytes : List ℕ) (p : Progress) (fault : WireFault) (status : ℕ) → status ≡ wire_number fault → (fault ≢ wire.Memory → HoldsNoStream bytes fault)
     → StopsAt p fault bytes → WholeDone bytes p status

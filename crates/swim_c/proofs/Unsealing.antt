@@ -1,4 +1,4 @@
--- What was sealed is unwrapped again.
+-- What was encrypted is unwrapped again.
 use Rattle.std.proofs.Common.{◌≡◌, ◌≢◌, ℕ, ◌+◌, ◌≤◌, List, [], ◌∷◌, ◌++◌, length, length-append, get_or, inl, inr, refl, sym, ap, ◌∙◌, subst, None, arith}
 use Rattle.std.specs.Int.{w32, to_be_bytes}
 use Rattle.memberlist_cipher.specs.Encryption.{sealed, encrypted, encrypted_stream, head}
@@ -16,11 +16,11 @@ use Rattle.memberlist_transport.specs.Stream.{IsClearStream, IsSealed, IsStreamI
 use Rattle.swim_c.specs.Sealing.{IsSealedPacket, IsSealedStream, IsSealedReply}
 use Rattle.swim_c.specs.Unwrapping.{most_stream}
 
--- bytes that begin with no wrapper's byte are bare
+-- bytes that do not begin with a wrapper's byte are bare
 bare_from : (bytes rest : List ℕ) (first : ℕ) → bytes ≡ first ∷ rest → ((w : Wrapper) → first ≢ kind w) → IsBare bytes
 bare_from bytes rest first is other w more begins = other w (ap (λ (b : List ℕ). get_or b 0 0) (sym is ∙ begins))
 
--- what is labelled is wrapped in the label, or in nothing
+-- what has a label is wrapped in the label, or in nothing
 label_wraps : (limit : ℕ) (bytes name rest : List ℕ) → IsLabelled bytes name rest → IsBare rest → length bytes ≤ limit → Unwraps limit bytes rest
 label_wraps limit bytes name rest (inl none) bare few = record {
   wrappers = [];
@@ -74,7 +74,7 @@ unclear keys nonce label message packet s =
       ),
     )
 
--- the same bytes are no message
+-- the same bytes are not a message
 is_none : (keys : List (List ℕ)) (nonce label message packet : List ℕ) → (s : IsSealedPacket keys nonce label message packet) → (inner : Message)
     → ¬ IsMessage (encrypted s.sends.key nonce label message) inner
 is_none keys nonce label message packet s (Claims claim copy) is =
@@ -122,9 +122,9 @@ pub stream_again : (keys : List (List ℕ)) (nonce label message bytes stream : 
     → IsClearStream most_stream message stream → IsStreamIn most_stream keys bytes stream
 stream_again keys nonce label message bytes stream s clear = IsStreamIn.opened message (is_sealed keys nonce label message bytes s) s.opens clear
 
--- ---- streams behind their label, and replies, before which none stands
+-- ---- streams after their label, and replies, which have none before them
 
--- what stands behind a label is read as it is, and so is what has none by a reader with none
+-- what follows a label is read as it is, and so is what has none by a reader with none
 read_behind : (label own bytes rest : List ℕ) → IsLabelled bytes label rest → (label ≡ [] → own ≡ []) → IsReadAs own bytes bytes
 read_behind label own bytes rest (inl none) same = inr (λ begins. none.2 begins.0 begins.1, inl (same none.0, refl, none.2))
 read_behind label own bytes rest (inr some) same = inl ((length label ∷ label ++ rest, some.1), refl)
@@ -134,12 +134,12 @@ pub behind_again : (keys : List (List ℕ)) (nonce label own message bytes strea
 behind_again keys nonce label own message bytes stream s clear same =
     (bytes, read_behind label own bytes _ s.sends.labelled same, stream_again keys nonce label message bytes stream s clear)
 
--- what is sent bare begins with no label, and is what was made
+-- what is sent bare begins with no label, and is unchanged
 is_bare : (bytes rest : List ℕ) → IsLabelled bytes [] rest → (bytes ≡ rest) × ((more : List ℕ) → bytes ≢ 244 ∷ more)
 is_bare bytes rest (inl none) = (none.1, none.2)
 is_bare bytes rest (inr some) = absurd (omega (arith, some.0))
 
--- a reply is, with its label before it, a stream that was sealed behind that
+-- a reply, with its label put before it, is a stream encrypted with that label
 sealed_behind : (keys : List (List ℕ)) (nonce label message bytes : List ℕ) → (s : IsSealedReply keys nonce label message bytes)
     → IsSealedStream keys nonce label message s.opens.0
 sealed_behind keys nonce label message bytes s = record {

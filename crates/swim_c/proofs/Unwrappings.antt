@@ -1,4 +1,4 @@
--- What the status of a call on wrapped or encrypted bytes says.
+-- The status of a call on wrapped or encrypted bytes.
 use Rattle.std.proofs.Common.{◌≡◌, ◌≢◌, ℕ, ◌<◌, List, [], length, ap, refl, sym, subst, Option, Some, None}
 use Rattle.std.specs.Prelude.{IfSome}
 use Rattle.memberlist_cipher.specs.declared.fault.CipherFault.{CipherFault}

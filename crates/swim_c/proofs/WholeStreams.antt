@@ -1,4 +1,4 @@
--- Streams that were read from the front of bytes, and taken in.
+-- Streams that were read from the start of bytes, and taken in.
 use Rattle.std.proofs.Common.{◌≡◌, ℕ, ◌+◌, ◌-◌, List, ◌++◌, length, Bool, ap, ◌∙◌, arith}
 use Rattle.std.proofs.lemmas.List.{length-append}
 use Rattle.swim_claim.specs.declared.claim.Claim.{Claim}
@@ -7,7 +7,7 @@ use Rattle.swim_table.specs.Node.{NodeValue, SameMember}
 use Rattle.swim_table.specs.Table.{Entries, Reduced, TableOf, IsLegalTable}
 use Rattle.swim_c.specs.Exchanges.{BeginsStream, NodeTakesStream}
 
--- what is gone from the front is the stream
+-- what was removed from the start is the stream
 pub begins : (bytes rest : List ℕ) (claims : List Claim) (join : Bool) → (text : List ℕ) × StreamText text claims join × (bytes ≡ text ++ rest)
     → BeginsStream bytes claims join (length bytes - length rest)
 begins bytes rest claims join gone =

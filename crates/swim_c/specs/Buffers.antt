@@ -1,20 +1,20 @@
--- Bytes that go into a buffer of the caller.
+-- Bytes that are written to a buffer of the caller.
 use Rattle.std.specs.Prelude.{◌≡◌, ℕ, ◌<◌, ◌≤◌, List, ◌++◌, length, drop}
 
--- The bytes stand at the buffer's front (status 0), or do not fit and the buffer is as it was (66).
--- The length is theirs.
+-- The bytes are at the start of the buffer (status 0), or they do not fit and the buffer is
+-- unchanged (66). The length is theirs.
 pub data Copied (bytes old new : List ℕ) (status len : ℕ) : Type 0 where
   done : status ≡ 0 → len ≡ length bytes → length bytes ≤ length old
       → new ≡ bytes ++ drop (length bytes) old → Copied bytes old new status len
   too_small : status ≡ 66 → len ≡ length bytes → length old < length bytes → new ≡ old
       → Copied bytes old new status len
 
--- want of memory has the status 10
+-- the status of a lack of memory is 10
 abbrev pub IsNoMemory : ℕ → Type 0
 IsNoMemory status = status ≡ 10
 
--- The bytes were copied or did not fit, or there are none for this reason, and the buffer is as it
--- was.
+-- The bytes were copied or did not fit, or there are none for this reason and the buffer is
+-- unchanged.
 pub data WrittenOr (bytes old new : List ℕ) (status len : ℕ) (Refused : ℕ → Type 0) : Type 0 where
   written : Copied bytes old new status len → WrittenOr bytes old new status len Refused
   refused : Refused status → len ≡ 0 → new ≡ old → WrittenOr bytes old new status len Refused

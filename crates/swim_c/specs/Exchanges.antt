@@ -1,4 +1,4 @@
--- The halves of an exchange over memory: streams that a node reads, takes in and answers.
+-- The two halves of an exchange over memory: streams that a node reads, takes in and answers.
 use Rattle.std.specs.Prelude.{◌≡◌, ◌≢◌, ℕ, List, ◌++◌, length, Bool, false}
 use Rattle.swim_claim.specs.declared.claim.Claim.{Claim}
 use Rattle.swim_wire.specs.declared.fault.WireFault.{WireFault}
@@ -15,7 +15,7 @@ use Rattle.swim_c.specs.Buffers.{Copied, WrittenOr}
 use Rattle.swim_c.specs.Forms.{form_number, bytes_in, HasTooManyIn, IsNoForm}
 use Rattle.swim_c.specs.Taking.{TakesClaims}
 
--- the bytes begin with a stream of this length and flag, of these claims
+-- the bytes begin with a stream of these claims, with this length and flag
 pub record BeginsStream (bytes : List ℕ) (claims : List Claim) (join : Bool)
     (used : ℕ) : Type 0 where
   pub text : List ℕ
@@ -24,11 +24,11 @@ pub record BeginsStream (bytes : List ℕ) (claims : List Claim) (join : Bool)
   pub used_is : used ≡ length text
   pub stream : StreamText text claims join
 
--- a stream of this length and flag stands at the front
+-- the bytes begin with a stream of this length and flag
 abbrev pub ReadsStream : List ℕ → Bool → ℕ → Type 0
 ReadsStream bytes join used = (claims : List Claim) × BeginsStream bytes claims join used
 
--- a stream of this length and flag stands at the front, whose claims the node took in
+-- the bytes begin with a stream of this length and flag, and the node took its claims in
 pub record NodeTakesStream (bytes : List ℕ) (join : Bool) (used : ℕ)
     (before after : NodeValue) : Type 0 where
   pub claims : List Claim
@@ -36,7 +36,7 @@ pub record NodeTakesStream (bytes : List ℕ) (join : Bool) (used : ℕ)
   pub taken : TakesClaims claims before.table after.table
   pub member : SameMember before after
 
--- No stream stands at the front, and the fault says why. Bytes in memory do not fail.
+-- The bytes do not begin with a stream, and the fault says why. Bytes in memory do not fail.
 pub record HoldsNoStream (bytes : List ℕ) (fault : WireFault) : Type 0 where
   pub no_memory : fault ≢ wire.Memory
   pub no_end : fault ≢ wire.Fault
@@ -44,18 +44,18 @@ pub record HoldsNoStream (bytes : List ℕ) (fault : WireFault) : Type 0 where
       → bytes ≢ text ++ rest
   pub explains : ExplainsStream fault bytes
 
--- why a table has no dump in a form: too many records (23)
+-- why a table has no dump in a form: it has too many records (23)
 abbrev pub LacksDump : Form → Entries → ℕ → Type 0
 LacksDump form table status = (status ≡ 23) × HasTooManyIn form table
 
--- why a reply is not taken in
+-- why a reply was not taken in
 abbrev pub FinishCause : List ℕ → SyncFault → Type 0
 FinishCause stream (Wire fault) = HoldsNoStream stream fault
 FinishCause stream TooManyRecords = ⊥
 FinishCause stream Push = ⊥
 FinishCause stream Memory = Unit {0}
 
--- why an offer is not answered: for too many records only where a stream stands there
+-- why an offer was not answered; too many records only if there is a stream
 abbrev pub AnswerCause : Form → List ℕ → Entries → SyncFault → Type 0
 AnswerCause form stream table (Wire fault) = HoldsNoStream stream fault
 AnswerCause form stream table TooManyRecords = HasTooManyIn form table
@@ -63,13 +63,13 @@ AnswerCause form stream table TooManyRecords = HasTooManyIn form table
 AnswerCause form stream table Push = ⊥
 AnswerCause form stream table Memory = Unit {0}
 
--- nothing is told of a stream
+-- nothing is reported about a stream
 pub record IsUntold (join : Bool) (used len : ℕ) : Type 0 where
   pub no_join : join ≡ false
   pub no_used : used ≡ 0
   pub no_len : len ≡ 0
 
--- A stream was taken in (0), or the node is as it was: none stands there, or memory was refused,
+-- A stream was taken in (0). Or the node is unchanged: there is no stream, or memory was refused,
 -- and the status is that of the fault.
 pub data FinishDone (stream : List ℕ) (status : ℕ) (join : Bool) (used len : ℕ)
     (before after : NodeValue) : Type 0 where
@@ -79,8 +79,8 @@ pub data FinishDone (stream : List ℕ) (status : ℕ) (join : Bool) (used len :
       → IsUntold join used len
       → after ≡ before → FinishDone stream status join used len before after
 
--- A stream was read, and the dump of before in the form written and the stream taken in (0), or the
--- dump does not fit and nothing has changed (66).
+-- A stream was read. Either the dump of before was written in the form and the stream taken in (0),
+-- or the dump does not fit and nothing changed (66).
 pub data AnswersOffer (form : Form) (stream old new : List ℕ) (status : ℕ) (join : Bool)
     (used len : ℕ) (before after : NodeValue) : Type 0 where
   answered : status ≡ 0 → NodeTakesStream stream join used before after
@@ -90,9 +90,9 @@ pub data AnswersOffer (form : Form) (stream old new : List ℕ) (status : ℕ) (
       → Copied (bytes_in form before.table join) old new status len → after ≡ before
       → AnswersOffer form stream old new status join used len before after
 
--- An offer was answered, or the reply does not fit; or the node and the buffer are as they were: no
--- stream stands there, and the status is that of the fault, or the node's table has too many
--- records in the form (23), or there is no memory (10).
+-- An offer was answered, or the reply does not fit. Or the node and the buffer are unchanged: there
+-- is no stream, and the status is that of the fault; the node's table has too many records in the
+-- form (23); or memory was refused (10).
 pub data AnswerDone (form : Form) (stream old new : List ℕ) (status : ℕ) (join : Bool)
     (used len : ℕ) (before after : NodeValue) : Type 0 where
   answers : AnswersOffer form stream old new status join used len before after
@@ -101,8 +101,8 @@ pub data AnswerDone (form : Form) (stream old new : List ℕ) (status : ℕ) (jo
       → status ≡ sync_number fault → IsUntold join used len
       → after ≡ before → new ≡ old → AnswerDone form stream old new status join used len before after
 
--- An offer was written in the form of this number. Or it is that of none (70), and the buffer is as
--- it was.
+-- An offer was written in the form with this number. Or there is no such form (70), and the buffer
+-- is unchanged.
 pub data OfferedInForm (number : ℕ) (table : Entries) (join : Bool) (old new : List ℕ)
     (status len : ℕ) : Type 0 where
   in_form : (form : Form) → number ≡ form_number form
@@ -111,8 +111,8 @@ pub data OfferedInForm (number : ℕ) (table : Entries) (join : Bool) (old new :
   bad_form : IsNoForm number → status ≡ 70 → len ≡ 0 → new ≡ old
       → OfferedInForm number table join old new status len
 
--- An offer was answered in the form of this number, or refused. Or it is that of none (70), and the
--- node and the buffer are as they were.
+-- An offer was answered in the form with this number, or refused. Or there is no such form (70),
+-- and the node and the buffer are unchanged.
 pub data AnsweredInForm (number : ℕ) (stream old new : List ℕ) (status : ℕ) (join : Bool)
     (used len : ℕ) (before after : NodeValue) : Type 0 where
   in_form : (form : Form) → number ≡ form_number form

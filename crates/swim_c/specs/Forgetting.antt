@@ -12,13 +12,13 @@ pub record ForgetsName (name : List ℕ) (before after : NodeValue) : Type 0 whe
       → TableOf after.table (about_others name claims)
   pub member : SameMember before after
 
--- The name was forgotten (0), or the table has no such name and the node is as it was (67).
+-- The name was forgotten (0), or the table has no such name and the node is unchanged (67).
 pub data ForgetDone (name : List ℕ) (status : ℕ) (before after : NodeValue) : Type 0 where
   forgotten : status ≡ 0 → ForgetsName name before after → ForgetDone name status before after
   unknown : status ≡ 67 → get before.table name ≡ None → after ≡ before
       → ForgetDone name status before after
 
--- where names are noted, those of before are noted but for this one
+-- if names are noted, those of before are still noted, except this one
 abbrev pub LeavesOut : List ℕ → Option Entries → Option Entries → Type 0
 LeavesOut name None None = Unit {0}
 LeavesOut name None (Some new) = ⊥
@@ -26,8 +26,8 @@ LeavesOut name (Some old) None = ⊥
 LeavesOut name (Some old) (Some new) =
     (other : List ℕ) → IsSome (get new other) ↔ (IsSome (get old other) × (other ≢ name))
 
--- On status 0 the name is noted no longer, and the others are. Else the noted names are as they
--- were.
+-- On status 0 the name is no longer noted, and the others still are. Otherwise the noted names are
+-- unchanged.
 pub record LetsNameGo (name : List ℕ) (old new : Option Entries) (status : ℕ) : Type 0 where
   pub done : status ≡ 0 → LeavesOut name old new
   pub refused : status ≢ 0 → new ≡ old

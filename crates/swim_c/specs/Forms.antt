@@ -18,15 +18,15 @@ abbrev pub bytes_in : Form → Entries → Bool → List ℕ
 bytes_in Canonical table join = dump_bytes table join
 bytes_in Memberlist table join = memberlist_dump_bytes table join
 
--- the claims of which the dump in a form has the records
+-- the claims whose records are in the dump in a form
 abbrev pub claims_in : Form → Entries → List Claim
 claims_in Canonical table = Reduced table
 claims_in Memberlist table = with_homes table
 
--- the table has more records in a form than a stream has
+-- the table has more records in a form than a stream may have
 abbrev pub HasTooManyIn : Form → Entries → Type 0
 HasTooManyIn form table = most_nodes < length (claims_in form table)
 
--- the number is that of no form
+-- no form has this number
 abbrev pub IsNoForm : ℕ → Type 0
 IsNoForm number = (form : Form) → number ≢ form_number form

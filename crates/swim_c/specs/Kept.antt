@@ -9,7 +9,7 @@ use Rattle.std.specs.contracts.impls.GlobalAllocator.TheImpl.{ghosts}
 use Rattle.swim_c.specs.contracts.kept.Kept.{the_row}
 use Rattle.swim_c.specs.Handle.{heap}
 
--- how proofs tell kept bytes from others, and from none
+-- how proofs distinguish kept bytes from others, and from none
 abbrev pub kept_coded : Coded (Option the_row.Denot)
 kept_coded = coded_option the_row.coded
 

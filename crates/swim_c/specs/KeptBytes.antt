@@ -3,12 +3,12 @@ use denote.RawPtr.{Ptr, coded_ptr}
 use Rattle.std.specs.Prelude.{ℕ, List, refl}
 use Rattle.std.specs.Coded.{Coded, code_by, coded×, coded_ℕ, coded_list}
 
--- where the first byte stands, and the bytes
+-- the address of the first byte, and the bytes
 pub record KeptBytes : Type 0 where
   pub at : Ptr
   pub bytes : List ℕ
 
--- how proofs tell kept bytes from others
+-- how proofs distinguish kept bytes from others
 abbrev pub bytes_coded : Coded KeptBytes
 bytes_coded =
     code_by (Ptr × List ℕ) (coded× coded_ptr (coded_list coded_ℕ)) (λ k. (k.at, k.bytes))

@@ -1,4 +1,4 @@
--- What a keyring's handle owns, and the keys of it.
+-- What a keyring's handle owns, and its keys.
 use base.Fml.{Fml, ftrue, ffalse}
 use base.Stored.{Coded}
 use denote.RawPtr.{Ptr}
@@ -10,7 +10,7 @@ use Rattle.memberlist_cipher.specs.Encryption.{IsKey}
 use Rattle.memberlist_keyring.specs.contracts.keyring.Keyring.{the_row}
 use Rattle.swim_c.specs.Handle.{heap}
 
--- how proofs tell a keyring from another one, and from none
+-- how proofs distinguish a keyring from another one, and from none
 abbrev pub keyring_coded : Coded (Option the_row.Denot)
 keyring_coded = coded_option the_row.coded
 
@@ -21,12 +21,12 @@ keyring_owns at false None = ftrue
 keyring_owns at true None = ffalse
 keyring_owns at false (Some keys) = ffalse
 
--- the keys of a handle: one with no keyring has none
+-- the keys of a handle; an empty handle has none
 abbrev pub keys_of : Option (List (List ℕ)) → List (List ℕ)
 keys_of None = []
 keys_of (Some keys) = keys
 
--- The key stands behind those that were there (0). Or the handle is as it was: the key has another
+-- The key comes after those that were there (0). Or the handle is unchanged: the key has another
 -- length (50), or memory was refused (10).
 pub data KeyAdded (key : List ℕ) (status : ℕ) (old new : Option (List (List ℕ))) : Type 0 where
   added : status ≡ 0 → IsKey key → new ≡ Some (keys_of old ++ key ∷ []) → KeyAdded key status old new

@@ -1,4 +1,4 @@
--- What is copied of a member.
+-- What is copied about a member.
 use Rattle.std.specs.Prelude.{◌≡◌, ◌↔◌, ◌<◌, ℕ, take, replicate, true, false, Option, Some, None, MatchOption, IsTrue}
 use Rattle.std.specs.Option.{option_map, option_and_then}
 use Rattle.swim_claim.specs.Claim.{name_of, inc_of, kind_of, details_of}
@@ -7,7 +7,7 @@ use Rattle.swim_wire.specs.Pairs.{state_number}
 use Rattle.swim_table.specs.Standing.{Standing}
 use Rattle.swim_c.specs.declared.member.Member.{Member}
 
--- what is said beside the newest Alive, and whether it came back, is as it was
+-- everything except the newest Alive and whether the member came back is unchanged
 pub record KeepsName (old new : Member) : Type 0 where
   pub state : new.state ≡ old.state
   pub inc : new.inc ≡ old.inc
@@ -23,7 +23,7 @@ pub record IsDetails (details : DetailsValue) (m : Member) : Type 0 where
   pub meta : take m.meta_len m.meta ≡ details.meta
   pub vsn : take m.vsn_len m.vsn ≡ details.vsn
 
--- what is copied of the newest Alive: where there is none all of it is 0
+-- what is copied of the newest Alive if there is none: zeros
 pub record IsNoHome (m : Member) : Type 0 where
   pub has_home : m.has_home ≡ false
   pub home_inc : m.home_inc ≡ 0
@@ -38,7 +38,7 @@ IsHome (Some inc) (Some details) m = (m.has_home ≡ true) × (m.home_inc ≡ in
 IsHome (Some inc) None m = IsNoHome m
 IsHome None details m = IsNoHome m
 
--- the newest Alive has a greater incarnation than the claim that stands
+-- the newest Alive has a greater incarnation than the member's state
 abbrev pub CameBack : Standing → Type 0
 CameBack entry = MatchOption entry.home ⊥ (λ home. inc_of entry.top < inc_of home)
 
@@ -51,7 +51,7 @@ pub record IsMember (entry : Standing) (m : Member) : Type 0 where
   pub came_back : IsTrue m.came_back ↔ CameBack entry
   pub reserved : m.reserved ≡ replicate 32 0
 
--- The entry was copied (0), or there is none (67) and the data are as they were.
+-- The entry was copied (0), or there is none and the data are unchanged (67).
 abbrev pub MemberDone : Option Standing → Member → Member → ℕ → Type 0
 MemberDone None old new status = (status ≡ 67) × (new ≡ old)
 MemberDone (Some entry) old new status = (status ≡ 0) × IsMember entry new

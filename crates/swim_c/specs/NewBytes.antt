@@ -10,23 +10,24 @@ use Rattle.swim_c.specs.Buffers.{IsNoMemory}
 use Rattle.swim_c.specs.Exchanges.{AnswerCause, IsUntold, LacksDump, NodeTakesStream}
 use Rattle.swim_c.specs.Forms.{form_number, bytes_in, IsNoForm}
 
--- The library keeps these bytes in the buffer: they stand at its pointer, and it tells how many.
+-- The library keeps these bytes in the buffer: its pointer is their address, and its length is
+-- theirs.
 pub record HasBytes (bytes : List ℕ) (b : Buffer) : Type 0 where
   pub kept : b.kept.kept ≡ Some (record { at = b.at; bytes = bytes })
   pub len : b.len ≡ length bytes
 
--- The buffer has these bytes (0), or there are none for this reason and it is as it was.
+-- The buffer has these bytes (0), or there are none for this reason and it is unchanged.
 pub data FilledOr (bytes : List ℕ) (old new : Buffer) (status : ℕ)
     (Refused : ℕ → Type 0) : Type 0 where
   filled : status ≡ 0 → HasBytes bytes new → FilledOr bytes old new status Refused
   refused : Refused status → new ≡ old → FilledOr bytes old new status Refused
 
--- why a table's dump in a form is not made: too many records (23), or memory was refused (10)
+-- why a table has no dump in a form: too many records (23), or memory was refused (10)
 abbrev pub IsUndumped : Form → Entries → ℕ → Type 0
 IsUndumped form table status = LacksDump form table status ⊎ IsNoMemory status
 
--- The buffer has the dump in the form of this number, or none is made. Or it is the number of no
--- form (70), and the buffer is as it was.
+-- The buffer has the dump in the form with this number, or there is no dump. Or there is no such
+-- form (70), and the buffer is unchanged.
 pub data OfferedNew (number : ℕ) (table : Entries) (join : Bool) (old new : Buffer)
     (status : ℕ) : Type 0 where
   in_form : (form : Form) → number ≡ form_number form
@@ -35,8 +36,8 @@ pub data OfferedNew (number : ℕ) (table : Entries) (join : Bool) (old new : Bu
   bad_form : IsNoForm number → status ≡ 70 → new ≡ old → OfferedNew number table join old new status
 
 -- A stream was taken in, and the buffer has the dump of before in the form (0). Or the node and the
--- buffer are as they were: no stream stands there, and the status is that of the fault, or the
--- node's table has too many records in the form (23), or there is no memory (10).
+-- buffer are unchanged: there is no stream, and the status is that of the fault; the node's table
+-- has too many records in the form (23); or memory was refused (10).
 pub data AnswersNew (form : Form) (stream : List ℕ) (old new : Buffer) (status : ℕ) (join : Bool)
     (used len : ℕ) (before after : NodeValue) : Type 0 where
   answered : status ≡ 0 → NodeTakesStream stream join used before after
@@ -47,8 +48,8 @@ pub data AnswersNew (form : Form) (stream : List ℕ) (old new : Buffer) (status
       → status ≡ sync_number fault → IsUntold join used len
       → after ≡ before → new ≡ old → AnswersNew form stream old new status join used len before after
 
--- So in the form of this number. Or it is that of none (70), and the node and the buffer are as they
--- were.
+-- The same in the form with this number. Or there is no such form (70), and the node and the buffer
+-- are unchanged.
 pub data AnsweredNew (number : ℕ) (stream : List ℕ) (old new : Buffer) (status : ℕ) (join : Bool)
     (used len : ℕ) (before after : NodeValue) : Type 0 where
   in_form : (form : Form) → number ≡ form_number form

@@ -2,8 +2,8 @@
 use Rattle.std.specs.Prelude.{◌≡◌, Option, Some, None, MatchOption}
 use Rattle.swim_table.specs.Node.{NodeValue}
 
--- Where the handle has a node the call does this to it, and the handle keeps it. Where it has none
--- it gets none.
+-- If the handle has a node, the call does this to it, and the handle keeps it. If it has none, it
+-- gets none.
 abbrev pub OnNode : Option NodeValue → Option NodeValue → Type 0
     → (NodeValue → NodeValue → Type 0) → Type 0
 OnNode None None Without Does = Without
@@ -11,7 +11,7 @@ OnNode None (Some after) Without Does = ⊥
 OnNode (Some before) None Without Does = ⊥
 OnNode (Some before) (Some after) Without Does = Does before after
 
--- The handle keeps its node as it was, of which the call tells this. Or it has none.
+-- The handle keeps its node unchanged, and the call says this about it. Or it has none.
 pub record OnSame (old new : Option NodeValue) (Without : Type 0)
     (Tells : NodeValue → Type 0) : Type 0 where
   pub same : new ≡ old

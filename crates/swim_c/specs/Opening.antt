@@ -1,4 +1,4 @@
--- Nodes of new members, and why there is none.
+-- Nodes of new members, and why none was made.
 use Rattle.std.specs.Prelude.{◌≡◌, ℕ, ◌<◌, ◌≤◌, List, [], ◌∷◌, length, Option, Some, None, ⊤}
 use Rattle.swim_claim.specs.declared.claim.Claim.TheVariants.{Alive}
 use Rattle.swim_claim.specs.declared.fault.ClaimFault.TheVariants.{NameEmpty, NameTooLong, BadAddress, MetaTooLong, BadVersions}
@@ -11,17 +11,17 @@ use Rattle.swim_table.specs.Table.{TableOf}
 use Rattle.swim_c.specs.declared.opening.OpenFault.{OpenFault}
 use Rattle.swim_c.specs.declared.opening.OpenFault.TheVariants.{Claim, Memory}
 
--- the number by which a status names why there is no node
+-- the status that says why no node was made
 abbrev pub open_number : OpenFault → ℕ
 open_number (Claim fault) = claim_number fault
 open_number Memory = 10
 
--- what a member says of itself beside its name
+-- what a member says about itself, except its name
 abbrev pub told : List ℕ → ℕ → List ℕ → List ℕ → DetailsValue
 told addr port meta vsn = record { addr = addr; port = port; meta = meta; vsn = vsn }
 
--- the node of a member of this name and these details, of which nothing is known but its Alive at
--- this incarnation
+-- the node of a member with this name and these details, which knows nothing but its Alive at this
+-- incarnation
 pub record IsNewMember (name : List ℕ) (details : DetailsValue) (inc : ℕ)
     (node : NodeValue) : Type 0 where
   pub name_is : node.name ≡ name
@@ -41,12 +41,12 @@ IsUnopened name details (Claim BadVersions) =
     × (¬ IsVersions details.vsn)
 IsUnopened name details Memory = ⊤
 
--- the status of the first check that fails, or of want of memory
+-- the status of the first check that fails, or that memory was refused
 abbrev pub IsUnmade : List ℕ → DetailsValue → ℕ → Type 0
 IsUnmade name details status = (fault : OpenFault) × (status ≡ open_number fault)
     × IsUnopened name details fault
 
--- A handle with a node keeps it (65). One with none has such a node (0), or still none, and the
+-- A handle with a node keeps it (65). An empty one gets such a node (0), or stays empty, and the
 -- status says why.
 abbrev pub OpenDone : List ℕ → DetailsValue → ℕ → Option NodeValue → Option NodeValue → ℕ → Type 0
 OpenDone name details inc (Some before) new status = (status ≡ 65) × (new ≡ Some before)

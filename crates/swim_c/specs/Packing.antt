@@ -1,4 +1,4 @@
--- Packets that stand one behind another, and the compound packet of them.
+-- Packets that follow one another, and the compound packet of them.
 use Rattle.std.specs.Prelude.{◌≡◌, ◌≢◌, ℕ, ◌<◌, ◌≤◌, List, [], ◌∷◌, ◌++◌, length, Err}
 use Rattle.swim_wire.specs.declared.fault.WireFault.{WireFault}
 use Rattle.swim_wire.specs.declared.fault.WireFault.TheVariants.{Ended, Fault, Memory, Trailing}
@@ -11,14 +11,14 @@ use Rattle.swim_wire.specs.Reading.{whole_packet}
 use Rattle.swim_wire.specs.Texts.{PacketText, DatagramText}
 use Rattle.swim_c.specs.Buffers.{Copied}
 
--- the bytes are these packets, one behind another, of these lengths
+-- the bytes are these packets, one after another, with these lengths
 pub data PacketTexts : List ℕ → List ℕ → List PacketValue → Type 0 where
   none : PacketTexts [] [] []
   one : (text rest lens : List ℕ) (p : PacketValue) (packets : List PacketValue) → PacketText text p
       → PacketTexts lens rest packets
       → PacketTexts (length text ∷ lens) (text ++ rest) (p ∷ packets)
 
--- Behind some packets the next one is cut, or is none; or behind all of them there are bytes left.
+-- After some packets the next one is cut, or is not a packet. Or bytes are left after all of them.
 pub data LacksPackets (lens bytes : List ℕ) (fault : WireFault) : Type 0 where
   cut : (front rest before later : List ℕ) (len : ℕ) (packets : List PacketValue)
       → PacketTexts before front packets → lens ≡ before ++ len ∷ later → bytes ≡ front ++ rest
@@ -32,7 +32,7 @@ pub data LacksPackets (lens bytes : List ℕ) (fault : WireFault) : Type 0 where
       → bytes ≡ front ++ rest → rest ≢ []
       → fault ≡ Trailing → LacksPackets lens bytes fault
 
--- Memory is asked for as the next packet behind some others is read, or once all of them are read.
+-- Memory is requested to read the next packet after some others, or once all of them are read.
 pub data PackingAsks (lens bytes : List ℕ) : Type 0 where
   next : (front text rest before later : List ℕ) (packets : List PacketValue)
       → PacketTexts before front packets
@@ -47,9 +47,9 @@ pub record IsPacked (lens bytes compound : List ℕ) : Type 0 where
   pub text : DatagramText compound packets
   pub canonical : compound ≡ packets_bytes packets
 
--- The canonical compound packet of the packets was written or did not fit; or the buffer is as it
--- was: they are more than 255 (69), or no packets, and the status is that of the fault, or memory
--- was asked for and refused (10).
+-- The canonical compound packet of the packets was written or did not fit. Or the buffer is
+-- unchanged: there are more than 255 (69); they are not packets, and the status is that of the
+-- fault; or memory was requested and refused (10).
 pub data CompoundDone (bytes lens old new : List ℕ) (status len : ℕ) : Type 0 where
   packed : (compound : List ℕ) → IsPacked lens bytes compound → Copied compound old new status len
       → CompoundDone bytes lens old new status len

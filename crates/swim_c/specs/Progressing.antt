@@ -1,4 +1,4 @@
--- A stream that comes in pieces, and how far it is read.
+-- A stream that comes in pieces, and how far it has been read.
 use Rattle.std.specs.Prelude.{◌≡◌, ℕ, ◌+◌, ◌<◌, Bool, true, false, List, ◌++◌, length, drop}
 use Rattle.swim_claim.specs.declared.claim.Claim.{Claim}
 use Rattle.swim_wire.specs.declared.fault.WireFault.{WireFault}
@@ -9,14 +9,14 @@ use Rattle.swim_table.specs.Steps.{BeginText, ExplainsBegin, ExplainsRecord, Exp
 use Rattle.swim_c.specs.declared.progress.Progress.{Progress}
 use Rattle.swim_c.specs.Exchanges.{HoldsNoStream, ReadsStream}
 
--- the place of the first byte that is not read, the records left, the length of the user state, and
--- whether the header is read
+-- the offset of the first byte that was not read, the records left, the length of the user state,
+-- and whether the header was read
 abbrev pub progress : ℕ → ℕ → ℕ → Bool → Progress
 progress at left user_len has_header =
     record { at = at; left = left; user_len = user_len; has_header = has_header }
 
--- The progress is one in these bytes: nothing of them is read, or the header of a stream and some
--- of its records, which stand at their front.
+-- This is progress in these bytes: nothing was read, or they begin with the header of a stream and
+-- some of its records, and these were read.
 pub data IsProgressIn (bytes : List ℕ) (p : Progress) : Type 0 where
   none : p ≡ progress 0 0 0 false → IsProgressIn bytes p
   some : (front rest : List ℕ) (header : Header) (claims : List Claim)
@@ -24,7 +24,7 @@ pub data IsProgressIn (bytes : List ℕ) (p : Progress) : Type 0 where
       → length claims + p.left ≡ header.nodes
       → p ≡ progress (length front) p.left header.user_len true → IsProgressIn bytes p
 
--- Reading stops with this fault at the first byte that is not read: no header stands there, or no
+-- Reading stops with this fault at the first byte that was not read: there is no header, or no
 -- further record, or the user state is cut short.
 pub data StopsAt (p : Progress) (fault : WireFault) (bytes : List ℕ) : Type 0 where
   header : p.has_header ≡ false → ExplainsBegin fault (drop p.at bytes) → StopsAt p fault bytes
@@ -33,9 +33,9 @@ pub data StopsAt (p : Progress) (fault : WireFault) (bytes : List ℕ) : Type 0 
   user_state : p.has_header ≡ true → p.left ≡ 0 → ExplainsUser p.user_len fault (drop p.at bytes)
       → StopsAt p fault bytes
 
--- A stream stands at the front, and only its user state is not read (0). Or none does: the status
--- is that of the fault at which its reading stops, which is 1 if the bytes end too soon. Or memory
--- was refused for a record (10).
+-- The bytes begin with a stream, and only its user state was not read (0). Or they do not: the
+-- status is that of the fault at which reading stops, which is 1 if the bytes end too soon. Or
+-- memory was refused for a record (10).
 pub data WholeDone (bytes : List ℕ) (p : Progress) (status : ℕ) : Type 0 where
   whole : (join : Bool) → status ≡ 0 → p.left ≡ 0 → ReadsStream bytes join (p.at + p.user_len)
       → WholeDone bytes p status

@@ -7,7 +7,7 @@ use Rattle.swim_wire.specs.Texts.{PacketText}
 use Rattle.swim_c.specs.Buffers.{Copied}
 
 -- The canonical bytes of the packet were written or did not fit. Or there is none for this reason,
--- and the buffer is as it was.
+-- and the buffer is unchanged.
 pub data SaidOr (packet : PacketValue) (old new : List ℕ) (status len : ℕ)
     (Refused : ℕ → Type 0) : Type 0 where
   said : PacketText (packet_bytes packet) packet → Copied (packet_bytes packet) old new status len
@@ -20,6 +20,6 @@ IsNoName name status =
     ((status ≡ 11) × (name ≡ [])) ⊎ ((status ≡ 12) × (longest_name < length name))
     ⊎ (status ≡ 10)
 
--- the name is the member's own (68), or none
+-- the name is the member's own (68), or invalid
 abbrev pub IsUnsaid : List ℕ → List ℕ → ℕ → Type 0
 IsUnsaid own name status = ((status ≡ 68) × (name ≡ own)) ⊎ IsNoName name status

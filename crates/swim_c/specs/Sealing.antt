@@ -10,14 +10,14 @@ use Rattle.swim_wire.specs.Claimless.{ClaimlessText}
 use Rattle.swim_c.specs.Buffers.{Copied}
 use Rattle.swim_c.specs.Unwrapping.{most_stream, IsUnwritten}
 
--- what is sent if there is no key: the message, behind its label if that has a byte
+-- what is sent if there is no key: the message, after its label if that is not empty
 abbrev pub in_the_clear : List ℕ → List ℕ → List ℕ
 in_the_clear [] message = message
 in_the_clear (first ∷ rest) message =
     244 ∷ length (first ∷ rest) ∷ (first ∷ rest) ++ message
 
--- What became of a message that is sent in the clear: it was copied or did not fit, or its label has
--- more than 255 bytes (51), or it has a label and memory was refused (10).
+-- The result of sending a message in the clear: it was copied or did not fit, its label has more
+-- than 255 bytes (51), or it has a label and memory was refused (10).
 pub data IsSentClear (label message old new : List ℕ) (status len : ℕ) : Type 0 where
   copied : length label < 256 → Copied (in_the_clear label message) old new status len
       → IsSentClear label message old new status len
@@ -26,9 +26,9 @@ pub data IsSentClear (label message old new : List ℕ) (status len : ℕ) : Typ
   memory : 0 < length label → length label < 256 → IsUnwritten 10 old new status len
       → IsSentClear label message old new status len
 
--- What became of a message that is made into bytes with the first key, which may be of such a
--- length, and which the keys open: it was copied or did not fit, or it or its label is too long
--- (51), or memory was refused (10). With no key it is sent in the clear.
+-- The result of making a message into bytes with the first key, if its length is allowed; the keys
+-- decrypt them. It was copied or did not fit, it or its label is too long (51), or memory was
+-- refused (10). Without a key it is sent in the clear.
 pub data Sealed (made : List ℕ → List ℕ) (Opened : List ℕ → Type 0) (May : Type 0)
     (keys : List (List ℕ)) (label message old new : List ℕ) (status len : ℕ) : Type 0 where
   under_key : (bytes : List ℕ) → SendsFirst made keys label bytes → Opened bytes → May
@@ -41,14 +41,14 @@ pub data Sealed (made : List ℕ → List ℕ) (Opened : List ℕ → Type 0) (M
   memory : keys ≢ [] → May → IsUnwritten 10 old new status len
       → Sealed made Opened May keys label message old new status len
 
--- what became of a message that is sent as a packet, with this nonce
+-- the result of sending a message as a packet, with this nonce
 abbrev pub PacketSealed : List (List ℕ) → List ℕ → List ℕ → List ℕ → List ℕ → List ℕ → ℕ → ℕ
     → Type 0
 PacketSealed keys nonce label message old new status len =
     Sealed (λ key. encrypted key nonce label message) (λ bytes. OpensFirst keys bytes message)
     (MaySend label message) keys label message old new status len
 
--- what became of a message that is sent as a stream, with this nonce
+-- the result of sending a message as a stream, with this nonce
 abbrev pub StreamSealed : List (List ℕ) → List ℕ → List ℕ → List ℕ → List ℕ → List ℕ → ℕ → ℕ
     → Type 0
 StreamSealed keys nonce label message old new status len =
@@ -56,8 +56,8 @@ StreamSealed keys nonce label message old new status len =
     (λ bytes. OpensStreamFirst keys bytes message)
     (MaySendStream label message) keys label message old new status len
 
--- what became of a message that is sent as the reply to a stream, with this nonce: the label is
--- associated, and not written
+-- the result of sending a message as the reply to a stream, with this nonce: the label is
+-- authenticated, but not written
 abbrev pub ReplySealed : List (List ℕ) → List ℕ → List ℕ → List ℕ → List ℕ → List ℕ → ℕ → ℕ
     → Type 0
 ReplySealed keys nonce label message old new status len =
@@ -65,10 +65,10 @@ ReplySealed keys nonce label message old new status len =
     (λ bytes. OpensReplyFirst keys label bytes message)
     (MaySendStream label message) keys [] message old new status len
 
--- ---- what is sealed, unwrapped again
+-- ---- what is encrypted, unwrapped again
 
--- Under the keys the packet was made of this message, and is no message by itself: no indirect
--- ping, whose first byte it has.
+-- With the keys the packet was made from this message, and it is not a message itself: not an
+-- indirect ping, which has the same first byte.
 pub record IsSealedPacket (keys : List (List ℕ)) (nonce label message packet : List ℕ) : Type 0
   where
     pub sends : SendsFirst (λ key. encrypted key nonce label message) keys label packet
@@ -76,14 +76,14 @@ pub record IsSealedPacket (keys : List (List ℕ)) (nonce label message packet :
     pub within : length packet ≤ most_message
     pub no_ping : (kind : Claimless) → ¬ ClaimlessText (encrypted sends.key nonce label message) kind
 
--- Under the keys the stream was made of this message.
+-- With the keys the stream was made from this message.
 pub record IsSealedStream (keys : List (List ℕ)) (nonce label message stream : List ℕ) : Type 0
   where
     pub sends : SendsFirst (λ key. encrypted_stream key nonce label message) keys label stream
     pub opens : OpensStreamFirst keys stream message
     pub within : length stream ≤ most_stream
 
--- Under the keys the reply was made of this message, with this label associated.
+-- With the keys the reply was made from this message, and authenticates this label.
 pub record IsSealedReply (keys : List (List ℕ)) (nonce label message reply : List ℕ) : Type 0
   where
     pub sends : SendsFirst (λ key. encrypted_stream key nonce label message) keys [] reply

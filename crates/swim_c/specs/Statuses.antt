@@ -1,4 +1,4 @@
--- What a status says of wrapped and encrypted bytes: the number of a fault, and 10 for any want of
+-- The statuses of wrapped and encrypted bytes: the number of a fault, and 10 for any lack of
 -- memory.
 use Rattle.std.specs.Prelude.{ℕ}
 use Rattle.memberlist_cipher.specs.declared.fault.CipherFault.{CipherFault}
@@ -20,7 +20,7 @@ abbrev pub wrap_status : WrapFault → ℕ
 wrap_status wrap.Memory = 10
 wrap_status fault = wrap_number fault
 
--- a packet that no key opens has the tag of another key (54)
+-- a packet that no key decrypts has the tag of another key (54)
 abbrev pub packet_status : PacketFault → ℕ
 packet_status (packet.Wrapped fault) = wrap_status fault
 packet_status (packet.NoMessage first) = 16

@@ -12,32 +12,32 @@ use Rattle.swim_table.specs.Node.{NodeValue, SameMember}
 use Rattle.swim_table.specs.Refuting.{IsAtRest, IsDueInRange, IsExhausted, IsGone, IsRefutedBy}
 use Rattle.swim_table.specs.Table.{Entries, Reduced, TableOf}
 
--- the table took these claims in, and no others
+-- the table took in these claims and no others
 pub record TakesClaims (claims : List Claim) (before after : Entries) : Type 0 where
   pub reduced : TableOf after (Reduced before ++ claims)
   pub all : (others : List Claim) → TableOf before others → TableOf after (others ++ claims)
 
--- the bytes are a packet or a compound packet, whose claims the node took in
+-- the bytes are a packet or a compound packet, and the node took its claims in
 pub record TakesDatagram (bytes : List ℕ) (before after : NodeValue) : Type 0 where
   pub packets : List PacketValue
   pub text : DatagramText bytes packets
   pub taken : TakesClaims (map (λ p. p.claim) packets) before.table after.table
   pub member : SameMember before after
 
--- The bytes are neither, and this is the fault at which their reading stops.
+-- The bytes are neither, and this is the fault at which reading stops.
 pub record IsNoDatagram (bytes : List ℕ) (fault : WireFault) : Type 0 where
   pub none : (packets : List PacketValue) → ¬ DatagramText bytes packets
   pub explains : ExplainsDatagram fault bytes
   pub exact : whole_datagram bytes ≡ Err fault
   pub no_end : fault ≢ Fault
 
--- Memory is asked for as the datagram is read, or once it is read, for what it claims.
+-- Memory is requested to read the datagram, or after that for its claims.
 abbrev pub HearingAsks : List ℕ → Type 0
 HearingAsks bytes = DatagramAsks bytes
     ⊎ ((packets : List PacketValue) × DatagramText bytes packets)
 
--- The claims of a datagram were taken in (0), or the node is as it was, and the status is that of
--- the bytes' fault, or 10, where memory was asked for.
+-- The claims of a datagram were taken in (0). Or the node is unchanged, and the status is that of
+-- the bytes' fault, or 10 if memory was requested.
 pub data TakeDone (bytes : List ℕ) (status : ℕ) (before after : NodeValue) : Type 0 where
   taken : status ≡ 0 → TakesDatagram bytes before after → TakeDone bytes status before after
   refused : (fault : WireFault) → status ≡ wire_number fault → fault ≢ Memory
@@ -45,8 +45,8 @@ pub data TakeDone (bytes : List ℕ) (status : ℕ) (before after : NodeValue) :
       → TakeDone bytes status before after
   memory : status ≡ 10 → HearingAsks bytes → after ≡ before → TakeDone bytes status before after
 
--- A refutation was made at this incarnation, or none is due; or one is due, and there is no
--- incarnation for it (24), or no memory (10); or the member is gone (25).
+-- A refutation was made at this incarnation, or none is due. Or one is due, and there is no
+-- incarnation for it (24), or memory was refused (10). Or the member is gone (25).
 pub data RefuteDone (status : ℕ) (due : Bool) (inc : ℕ) (before after : NodeValue) : Type 0 where
   refuted : status ≡ 0 → due ≡ true → IsRefutedBy before after inc → SameMember before after
       → RefuteDone status due inc before after

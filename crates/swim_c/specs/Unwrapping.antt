@@ -11,11 +11,11 @@ use Rattle.memberlist_transport.specs.Reply.{IsReplyIn, ExplainsReply}
 use Rattle.swim_c.specs.Buffers.{Copied}
 use Rattle.swim_c.specs.Statuses.{packet_status, stream_status}
 
--- how many bytes a stream may have, and what is compressed or encrypted in it
+-- the most bytes of a stream, and of what is compressed or encrypted in it
 abbrev pub most_stream : ℕ
 most_stream = 268435456
 
--- the call has this status, and has written nothing
+-- the call has this status, and wrote nothing
 pub record IsUnwritten (number : ℕ) (old new : List ℕ) (status len : ℕ) : Type 0 where
   pub status_is : status ≡ number
   pub no_len : len ≡ 0
@@ -28,7 +28,7 @@ GivesMessage (Claims kind bytes) old new status len = Copied bytes.items old new
 GivesMessage (Claimless kind) old new status len = IsUnwritten 16 old new status len
 GivesMessage Empty old new status len = IsUnwritten 1 old new status len
 
--- What became of a packet: its message, or the fault for which it has none, or memory was refused
+-- The result of unwrapping a packet: its message, the fault if it has none, or memory was refused
 -- (10).
 pub data PacketUnwrapped (keys : List (List ℕ)) (packet old new : List ℕ) (status len : ℕ)
     : Type 0 where
@@ -40,9 +40,9 @@ pub data PacketUnwrapped (keys : List (List ℕ)) (packet old new : List ℕ) (s
       → PacketUnwrapped keys packet old new status len
   memory : IsUnwritten 10 old new status len → PacketUnwrapped keys packet old new status len
 
--- What became of a stream in a cluster with this label: it was copied or did not fit, or the fault
--- for which there is none, or memory was refused (10). A label of more than 255 bytes is too long
--- (51).
+-- The result of unwrapping a stream in a cluster with this label: it was copied or did not fit, or
+-- the fault if there is none, or memory was refused (10). A label of more than 255 bytes is too
+-- long (51).
 pub data StreamUnwrapped (keys : List (List ℕ)) (label bytes old new : List ℕ) (status len : ℕ)
     : Type 0 where
   stream : (stream : List ℕ) → length label < 256 → IsReplyIn most_stream keys label bytes stream

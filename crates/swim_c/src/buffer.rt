@@ -1,4 +1,4 @@
-//! Bytes in memory of the library, as a program that is not Rattle holds them.
+//! Bytes in memory of the library, as a program in another language holds them.
 
 ghost use Rattle.std.specs.Prelude.{◌≡◌, None};
 ghost use Rattle.swim_c.specs.NewBytes.{HasBytes};
@@ -8,11 +8,11 @@ use crate::kept_handle::KeptHandle;
 use std::alloc::Global;
 use std::mem;
 
-/// Bytes in memory of the library. All bytes zero are an empty buffer.
+/// Bytes in memory of the library. A buffer with all bytes zero is empty.
 #[repr(C)]
 #[derive(Drop)]
 pub struct Buffer {
-    /// The first byte. In an empty buffer it is no place to read.
+    /// The address of the first byte. It must not be read if the buffer is empty.
     pub at: *const u8,
     /// How many bytes there are.
     pub len: usize,
@@ -20,7 +20,7 @@ pub struct Buffer {
 }
 
 impl Buffer {
-    /// Has the buffer keep these bytes, and frees those that it kept before.
+    /// Makes the buffer keep these bytes, and frees those that it kept before.
     pub fn fill(&mut self, alloc: Global, kept: Box<Kept>)
         ensures { HasBytes kept.value.bytes self.new }
     {

@@ -1,11 +1,11 @@
-//! Bytes that go to a buffer of the caller.
+//! Bytes that are written to a buffer of the caller.
 
 ghost use Rattle.std.specs.Prelude.{◌≡◌, ◌≤◌, ◌<◌, ◌++◌, ◌^◌, take, drop, length};
 ghost use Rattle.swim_c.specs.Buffers.{Copied};
 
 use crate::status::{DONE, TOO_SMALL};
 
-/// A status, and a length.
+/// A status and a length.
 #[repr(C)]
 #[derive(Clone, Copy)]
 pub struct Written {
@@ -21,8 +21,7 @@ impl Written {
     }
 }
 
-/// Copies the bytes to the front of the buffer, where it is long enough. Answers their length in
-/// any case.
+/// Copies the bytes to the start of the buffer if they fit. Returns their length either way.
 pub fn copy_out(bytes: &[u8], out: &mut [u8]) -> Written
     ensures { Copied bytes.now out.old out.new result.status result.len }
 {
@@ -37,7 +36,7 @@ pub fn copy_out(bytes: &[u8], out: &mut [u8]) -> Written
     Written { status: DONE, len }
 }
 
-/// Copies the bytes to the front of the buffer.
+/// Copies the bytes to the start of the buffer.
 pub fn copy_front(bytes: &[u8], out: &mut [u8])
     requires { length bytes.now ≤ length out.old }
     ensures { out.new ≡ bytes.now ++ drop (length bytes.now) out.old }

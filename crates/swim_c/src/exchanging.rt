@@ -1,4 +1,4 @@
-//! The halves of an exchange, over the caller's memory.
+//! The two halves of an exchange, over the caller's memory.
 
 ghost use Rattle.std.specs.Prelude.{◌≡◌, false, IfOk, IfErr, OnErr};
 ghost use Rattle.swim_c.specs.Buffers.{WrittenOr};
@@ -15,7 +15,7 @@ use swim_pack::SliceInlet;
 use swim_sync::{SyncFault, room_for_both};
 use swim_table::{Node, read_stream};
 
-/// What came of a stream.
+/// The result of reading a stream.
 #[repr(C)]
 #[derive(Clone, Copy)]
 pub struct Exchanged {
@@ -24,7 +24,7 @@ pub struct Exchanged {
     pub join: bool,
     /// Whether the node's table changed.
     pub news: bool,
-    /// How many bytes the stream has.
+    /// The length of the stream in bytes.
     pub used: usize,
     /// The length of the reply.
     pub len: usize,
@@ -45,8 +45,8 @@ impl Exchanged {
     }
 }
 
-/// Writes the node's dump in the form of this number to the buffer, or refuses a number that is that
-/// of none.
+/// Writes the node's dump to the buffer in the form with this number. Refuses a number that no form
+/// has.
 pub fn offer_in_form(node: &Node, join: bool, form: u32, out: &mut [u8]) -> Written
     ensures { OfferedInForm form node.now.table join out.old out.new result.status result.len }
 {
@@ -56,7 +56,7 @@ pub fn offer_in_form(node: &Node, join: bool, form: u32, out: &mut [u8]) -> Writ
     }
 }
 
-/// Writes the node's dump in the form to the buffer, if it is long enough. No memory is asked for.
+/// Writes the node's dump in this form to the buffer if it fits. It takes no memory.
 fn offer_out(node: &Node, join: bool, form: Form, out: &mut [u8]) -> Written
     ensures { WrittenOr (bytes_in form node.now.table join)
         out.old out.new result.status result.len (LacksDump form node.now.table) }
@@ -75,7 +75,7 @@ fn offer_out(node: &Node, join: bool, form: Form, out: &mut [u8]) -> Written
     Written { status: DONE, len }
 }
 
-/// Answers a stream in the form of this number, or refuses a number that is that of none.
+/// Answers a stream in the form with this number. Refuses a number that no form has.
 pub fn answer_in_form(
     alloc: Global,
     held: &mut Watched,
@@ -95,9 +95,9 @@ pub fn answer_in_form(
     }
 }
 
-/// Reads a stream, writes the node's dump of before in the form to the buffer, and takes the stream
-/// in. If the buffer is too small, nothing is taken in, and the length that the dump needs is told.
-/// No memory is asked for the dump.
+/// Reads a stream, writes the node's dump in this form, as the table was before, to the buffer, and
+/// takes the stream in. If the buffer is too small, nothing is taken in, and the length that the
+/// dump needs is returned. The dump takes no memory.
 fn answer_stream(
     alloc: Global,
     held: &mut Watched,
@@ -159,7 +159,7 @@ fn try_answer(
     })
 }
 
-/// Reads a stream, and takes it in.
+/// Reads a stream and takes it in.
 pub fn finish_stream(alloc: Global, held: &mut Watched, stream: &[u8]) -> Exchanged
     ensures finishes { FinishDone stream.now
         result.status result.join result.used result.len held.old.node held.new.node }

@@ -1,4 +1,4 @@
-//! What a status says of wrapped and encrypted bytes.
+//! The statuses of wrapped and encrypted bytes.
 
 ghost use Rattle.std.specs.Prelude.{◌≡◌};
 ghost use Rattle.swim_c.specs.Statuses.{cipher_status, wrap_status, packet_status, stream_status};
@@ -9,7 +9,7 @@ use memberlist_transport::{PacketFault, StreamFault};
 use memberlist_wrap::WrapFault;
 use swim_wire::WireFault;
 
-/// The status of bytes or keys that the cipher refuses.
+/// The status for bytes or keys that the cipher refuses.
 pub fn cipher_status(fault: CipherFault) -> u32
     ensures { result ≡ cipher_status fault }
 {
@@ -28,7 +28,7 @@ fn wrap_status(fault: WrapFault) -> u32
     }
 }
 
-/// The status of a packet that has no message.
+/// The status for a packet without a message.
 pub fn packet_status(fault: PacketFault) -> u32
     ensures { result ≡ packet_status fault }
 {
@@ -40,7 +40,7 @@ pub fn packet_status(fault: PacketFault) -> u32
     }
 }
 
-/// The status of bytes that hold no stream.
+/// The status for bytes without a stream.
 pub fn stream_status(fault: StreamFault) -> u32
     ensures { result ≡ stream_status fault }
 {

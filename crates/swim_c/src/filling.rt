@@ -1,4 +1,4 @@
-//! Buffers of the library that are filled: with a dump, a reply or a listing.
+//! Filling buffers of the library with a dump, a reply or a listing.
 
 ghost use Rattle.std.specs.Prelude.{◌≡◌, length, IfOk, IfErr, IsErrOf, OnErr};
 ghost use Rattle.swim_table.specs.Listing.{listing};
@@ -19,7 +19,7 @@ use swim_pack::SliceInlet;
 use swim_sync::{SyncFault, room_for_both};
 use swim_table::{EncodeFault, Node, list, read_stream};
 
-/// Fills the buffer with the node's dump in the form of this number. Answers a status.
+/// Fills the buffer with the node's dump in the form with this number. Returns a status.
 pub fn offer_new(alloc: Global, node: &Node, join: bool, form: u32, buffer: &mut Buffer) -> u32
     ensures { OfferedNew form node.now.table join buffer.old buffer.new result }
 {
@@ -45,8 +45,8 @@ fn kept_dump(alloc: Global, node: &Node, join: bool, form: Form) -> Result<Box<K
     Ok(kept)
 }
 
-/// Reads a stream, fills the buffer with the node's dump of before in the form of this number, and
-/// takes the stream in.
+/// Reads a stream, fills the buffer with the node's dump, as the table was before, in the form with
+/// this number, and takes the stream in.
 pub fn answer_new(
     alloc: Global,
     held: &mut Watched,
@@ -125,7 +125,7 @@ fn try_answer_new(
     })
 }
 
-/// Fills the buffer with the listing of the node's table. Answers a status.
+/// Fills the buffer with the listing of the node's table. Returns a status.
 pub fn list_new(alloc: Global, node: &Node, buffer: &mut Buffer) -> u32
     ensures { FilledOr (listing node.now.table) buffer.old buffer.new result IsNoMemory }
 {

@@ -1,4 +1,4 @@
-//! A node that forgets a name.
+//! Forgetting a name.
 
 ghost use Rattle.swim_c.specs.Forgetting.{ForgetDone, LeavesOut, LetsNameGo};
 
@@ -6,7 +6,7 @@ use crate::status::{DONE, NO_MEMBER};
 use crate::watching::Watched;
 use swim_table::Table;
 
-/// Forgets a name, if the node's table has it. It is then noted no longer. Answers a status.
+/// Forgets a name if the node's table has it, and no longer notes it. Returns a status.
 pub fn forget(held: &mut Watched, name: &[u8]) -> u32
     ensures forgets { ForgetDone name.now result held.old.node held.new.node }
     ensures noted { LetsNameGo name.now held.old.changes held.new.changes result }

@@ -13,14 +13,14 @@ use swim_table::{
 /// A form of a table's dump.
 #[derive(Clone, Copy)]
 pub enum Form {
-    /// The canonical dump, of all that the table keeps.
+    /// The canonical dump of all that the table keeps.
     Canonical,
     /// The dump that memberlist merges.
     Memberlist,
 }
 
 impl Form {
-    /// The form of a number, if it is that of one.
+    /// The form with this number, if there is one.
     pub fn of(number: u32) -> Option<Form>
         ensures { MatchOption result
             ((form : TheForm) → number ≢ form_number form)
@@ -33,7 +33,7 @@ impl Form {
         }
     }
 
-    /// The length of the table's dump in this form. No memory is asked for.
+    /// The length of the table's dump in this form. It takes no memory.
     pub fn dump_len(self, table: &Table, join: bool) -> Result<usize, EncodeFault>
         ensures len { IfOk result (λ len. len ≡ length (bytes_in self table.now join)) }
         ensures too_many { IsErr result ↔ HasTooManyIn self table.now }
@@ -50,7 +50,7 @@ impl Form {
     /// # Errors
     ///
     /// - `TooManyRecords` if it has more than 131,072 records. This is checked first.
-    /// - `Memory` if memory for the bytes is refused.
+    /// - `Memory` if out of memory for the bytes.
     pub fn dump(self, alloc: Global, table: &Table, join: bool) -> Result<Vec<u8>, EncodeFault>
         ensures bytes { IfOk result (λ bytes. bytes.items ≡ bytes_in self table.now join) }
         ensures too_many { (result ≡ Err EncodeFault.TooManyRecords)
@@ -62,8 +62,8 @@ impl Form {
         }
     }
 
-    /// Writes the table's dump in this form, which is so long, to the front of the buffer. No
-    /// memory is asked for.
+    /// Writes the table's dump in this form, which has this length, to the start of the buffer. It
+    /// takes no memory.
     pub fn dump_front(self, table: &Table, join: bool, len: usize, out: &mut [u8])
         requires few { ¬ HasTooManyIn self table.now }
         requires len { len ≡ length (bytes_in self table.now join) }

@@ -1,4 +1,4 @@
-//! What a program that is not Rattle holds of a node.
+//! The handle by which a program in another language holds a node.
 
 ghost use Rattle.std.specs.Prelude.{◌≡◌, Option, Some, None, MatchOption};
 ghost use Rattle.swim_c.specs.Handle.{handle_owns, node_coded, changes_coded};
@@ -10,7 +10,7 @@ use std::alloc::Global;
 use std::marker::Model;
 use std::mem;
 
-/// A node and the names that it noted, or none. All bytes zero are a handle with none.
+/// A node and the names that it noted, or nothing. A handle with all bytes zero is empty.
 #[repr(C)]
 #[derive(Drop)]
 pub struct Handle {
@@ -25,7 +25,7 @@ impl Model for Handle {
 }
 
 impl Handle {
-    /// The handle with no node.
+    /// The empty handle.
     pub fn none() -> Handle
         ensures { (result.node ≡ None) × (result.changes ≡ None) }
     {

@@ -1,4 +1,4 @@
-//! A node that takes in a packet or a compound packet.
+//! Taking in a packet or a compound packet.
 
 ghost use Rattle.std.specs.Prelude.{◌≡◌, ◌≢◌, false, IfOk, IfErr, OnOk, OnErr, IsErrOf};
 ghost use Rattle.swim_wire.specs.declared.fault.WireFault.TheVariants.{Memory};
@@ -10,7 +10,7 @@ use crate::watching::Watched;
 use std::alloc::Global;
 use swim_wire::{Datagram, WireFault};
 
-/// What came of bytes that were to be taken in.
+/// The result of taking in bytes.
 #[repr(C)]
 #[derive(Clone, Copy)]
 pub struct Taken {
@@ -30,7 +30,7 @@ impl Taken {
     }
 }
 
-/// Takes in the claims of a packet or compound packet, or none.
+/// Takes in all claims of a packet or compound packet, or none.
 pub fn hear(alloc: Global, held: &mut Watched, bytes: &[u8]) -> Taken
     ensures takes { TakeDone bytes.now result.status held.old.node held.new.node }
     ensures news { TellsNews result.status result.news held.old.node held.new.node }

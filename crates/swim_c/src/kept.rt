@@ -5,7 +5,7 @@ ghost use Rattle.std.specs.Prelude.{◌≡◌, length, IfOk};
 use std::alloc::{AllocError, Global};
 use std::marker::Model;
 
-/// Bytes that the library keeps. Contracts see where they stand, and the bytes.
+/// Bytes that the library keeps. Contracts see their address and the bytes.
 #[derive(Drop)]
 pub struct Kept {
     bytes: Vec<u8>,
@@ -33,7 +33,7 @@ impl Kept {
         }
     }
 
-    /// Where the first byte stands. If there is none, it is no place to read.
+    /// The address of the first byte. It must not be read if there are no bytes.
     pub fn at(&self) -> *const u8
         ensures { result ≡ self.now.at }
     {

@@ -1,4 +1,4 @@
-//! What a program that is not Rattle holds of kept bytes.
+//! The handle by which a program in another language holds kept bytes.
 
 ghost use Rattle.std.specs.Prelude.{◌≡◌, Option, Some, None, MatchOption};
 ghost use Rattle.swim_c.specs.Kept.{kept_owns, kept_coded};
@@ -8,8 +8,7 @@ use crate::kept::Kept;
 use std::alloc::Global;
 use std::marker::Model;
 
-/// Kept bytes, or none. All bytes zero are a handle with
-/// none.
+/// Kept bytes, or nothing. A handle with all bytes zero is empty.
 #[repr(C)]
 #[derive(Drop)]
 pub struct KeptHandle {
@@ -23,7 +22,7 @@ impl Model for KeptHandle {
 }
 
 impl KeptHandle {
-    /// The handle with no bytes.
+    /// The empty handle.
     pub fn none() -> KeptHandle
         ensures { result.kept ≡ None }
     {

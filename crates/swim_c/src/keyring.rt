@@ -1,4 +1,4 @@
-//! What a program that is not Rattle holds of a keyring.
+//! The handle by which a program in another language holds a keyring.
 
 ghost use Rattle.std.specs.Prelude.{◌≡◌, Option, Some, None, MatchOption};
 ghost use Rattle.memberlist_keyring.specs.contracts.keyring.Keyring.{the_row};
@@ -9,7 +9,7 @@ use std::alloc::Global;
 use std::marker::Model;
 use std::mem;
 
-/// A keyring, or none. All bytes zero are a handle with none.
+/// A keyring, or nothing. A handle with all bytes zero is empty.
 #[repr(C)]
 #[derive(Drop)]
 pub struct KeyringHandle {
@@ -23,7 +23,7 @@ impl Model for KeyringHandle {
 }
 
 impl KeyringHandle {
-    /// The handle with no keyring.
+    /// The empty handle.
     pub fn none() -> KeyringHandle
         ensures { result.keys ≡ None }
     {

@@ -1,4 +1,4 @@
-//! What holds of the definitions, apart from any code.
+//! Facts about the definitions, independent of any code.
 
 ghost use Rattle.std.specs.Prelude.{◌≡◌, List, ℕ, [], ◌++◌, Option, IsSome};
 ghost use Rattle.swim_claim.specs.declared.claim.Claim.{Claim};
@@ -16,16 +16,16 @@ ghost use Rattle.swim_c.specs.Taking.{TakesClaims};
 ghost use Rattle.swim_c.specs.Unwrapping.{most_stream};
 ghost use Rattle.swim_c.specs.Watching.{IsNoted, LetsGo, NotesChanges};
 
-/// The progress of a stream in bytes is one in all bytes that begin with them.
+/// Progress in a stream stays valid when more bytes follow.
 pub fn progress_carries_on()
     ensures { (bytes more : List ℕ) (p : Progress) → IsProgressIn bytes p
         → IsProgressIn (bytes ++ more) p }
 {}
 
-/// What is sealed is unwrapped again by the same keys: of a packet and of a stream, what is in the
-/// message. A packet gives nothing else. A stream behind a label is unwrapped whatever label the
-/// reader has, a stream without one by a reader without one, and a reply by a reader with the label
-/// that it was sealed with.
+/// The keys that encrypted a packet or stream unwrap it to what is in the message. A packet gives
+/// nothing else. A stream with a label is unwrapped whatever label the reader has, a stream without
+/// one by a reader without a label, and a reply by a reader with the label that it was encrypted
+/// with.
 pub fn sealed_is_unwrapped()
     ensures packet { (keys : List (List ℕ)) (nonce label message packet : List ℕ)
         (inner : Message) → IsSealedPacket keys nonce label message packet
@@ -46,8 +46,8 @@ pub fn sealed_is_unwrapped()
         → IsReplyIn most_stream keys label bytes stream }
 {}
 
-/// A node knows each name that it noted, whatever claims it takes in and names it tells or forgets:
-/// so each is told at last.
+/// A node knows each name that it noted, whatever claims it takes in and names it returns or
+/// forgets. So each is returned in the end.
 pub fn noted_names_are_known()
     ensures taken { (old new : Option Entries) (before after : Entries) (claims : List Claim)
         → TableOf before (Reduced before) → TakesClaims claims before after

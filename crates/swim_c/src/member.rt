@@ -8,16 +8,16 @@ use crate::copy::copy_front;
 use swim_claim::{Details, Kind};
 use swim_table::Entry;
 
-/// What a table keeps of a name, with room for the longest values.
+/// What a table keeps for a name, with room for the longest values.
 #[repr(C)]
 #[derive(Drop)]
 pub struct Member {
     /// 0 alive, 1 suspect, 2 confirm, 3 leave.
     pub state: u32,
     pub inc: u32,
-    /// Whether there was an Alive, of which the rest speaks.
+    /// Whether an Alive was ever seen. The newest one fills the fields after `came_back`.
     pub has_home: bool,
-    /// Whether that Alive has a greater incarnation than the claim that stands.
+    /// Whether that Alive has a greater incarnation than the member's state.
     pub came_back: bool,
     pub home_inc: u32,
     pub port: u16,
@@ -29,7 +29,7 @@ pub struct Member {
     pub vsn: [u8; 6],
     pub meta: [u8; 512],
     pub name: [u8; 1024],
-    /// Zeros, for what later versions tell.
+    /// Zeros, for later versions.
     pub reserved: [u8; 32],
 }
 
@@ -83,7 +83,7 @@ impl Member {
     }
 }
 
-/// Whether there is an Alive of a greater incarnation than the claim that stands.
+/// Whether there is an Alive with a greater incarnation than the member's state.
 fn came_back(entry: &Entry) -> bool
     ensures { IsTrue result ↔ CameBack entry.now }
 {

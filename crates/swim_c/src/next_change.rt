@@ -1,4 +1,4 @@
-//! The names that a node noted, told one by one.
+//! The names that a node noted, read one by one.
 
 ghost use Rattle.std.specs.Prelude.{◌≡◌, Some};
 ghost use Rattle.swim_c.specs.Members.{MemberDone};
@@ -9,7 +9,7 @@ use crate::status::{DONE, NO_MEMBER};
 use crate::watching::Watched;
 use swim_table::{Node, Table};
 
-/// Copies what the node knows of the first noted name, which is noted no longer.
+/// Copies what the node knows about the first noted name, and no longer notes that name.
 pub fn next_change(held: &mut Watched, member: &mut Member) -> u32
     ensures node { held.new.node ≡ held.old.node }
     ensures member { MemberDone (next_entry held.old.node.table held.old.changes)
@@ -22,7 +22,7 @@ pub fn next_change(held: &mut Watched, member: &mut Member) -> u32
     }
 }
 
-/// Copies what the node knows of the first of the names, which is then taken away.
+/// Copies what the node knows about the first of the names, and removes that name.
 fn next_noted(node: &Node, noted: &mut Table, member: &mut Member) -> u32
     ensures member { MemberDone (next_entry node.now.table (Some noted.old))
         member.old member.new result }

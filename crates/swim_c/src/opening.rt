@@ -12,7 +12,7 @@ use std::alloc::{AllocError, Global};
 use swim_claim::{ClaimFault, Details, Name};
 use swim_table::Node;
 
-/// What a member says of itself.
+/// What a member says about itself.
 #[derive(Clone, Copy)]
 pub struct Parts<'a> {
     pub name: &'a [u8],
@@ -22,7 +22,7 @@ pub struct Parts<'a> {
     pub vsn: &'a [u8],
 }
 
-/// Why there is no node.
+/// Why no node was made.
 #[derive(Drop)]
 pub enum OpenFault {
     Claim(ClaimFault),
@@ -56,7 +56,7 @@ impl OpenFault {
     }
 }
 
-/// The node of a member whose start claim is the Alive of all this. A name that is none is refused
+/// The node of a member whose start claim is the Alive with these parts. An invalid name is refused
 /// before anything else.
 pub fn open(alloc: Global, parts: Parts, inc: u32) -> Result<Box<Watched>, OpenFault>
     ensures name { IfOk result (λ held. held.value.node.name ≡ parts.entry.name.now) }
@@ -76,8 +76,8 @@ pub fn open(alloc: Global, parts: Parts, inc: u32) -> Result<Box<Watched>, OpenF
     }
 }
 
-/// The name and the details of these parts, which are copied. A name that is none is refused
-/// before anything else.
+/// Copies of the name and the details in these parts. An invalid name is refused before anything
+/// else.
 pub fn copied(alloc: Global, parts: Parts) -> Result<(Name, Details), OpenFault>
     ensures name { IfOk result (λ made. made.0 ≡ parts.entry.name.now) }
     ensures details { IfOk result (λ made. made.1

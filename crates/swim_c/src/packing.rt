@@ -9,8 +9,8 @@ use crate::status::TOO_MANY_PACKETS;
 use std::alloc::{AllocError, Global};
 use swim_wire::{Packet, WireFault, decode_packet, encode_compound};
 
-/// Writes the compound packet of the packets, which stand one behind another and have these
-/// lengths, to the buffer.
+/// Writes the compound packet of these packets to the buffer. The bytes hold them one after
+/// another, with these lengths.
 pub fn compound_out(alloc: Global, bytes: &[u8], lens: &[usize], out: &mut [u8]) -> Written
     ensures { CompoundDone bytes.now lens.now out.old out.new result.status result.len }
 {
@@ -23,7 +23,7 @@ pub fn compound_out(alloc: Global, bytes: &[u8], lens: &[usize], out: &mut [u8])
     }
 }
 
-/// The canonical compound packet of packets that stand one behind another and have these lengths.
+/// The canonical compound packet of packets that follow one another with these lengths.
 fn pack(alloc: Global, bytes: &[u8], lens: &[usize]) -> Result<Vec<u8>, WireFault>
     requires { length lens.now ≤ 255 }
     ensures packs { IfOk result (λ compound. IsPacked lens.now bytes.now compound.items) }
@@ -36,7 +36,7 @@ fn pack(alloc: Global, bytes: &[u8], lens: &[usize]) -> Result<Vec<u8>, WireFaul
     Ok(compound)
 }
 
-/// Reads packets that stand one behind another and have these lengths.
+/// Reads packets that follow one another with these lengths.
 fn read_packets(alloc: Global, bytes: &[u8], lens: &[usize]) -> Result<Vec<Packet>, WireFault>
     ensures reads { IfOk result (λ packets. PacketTexts lens.now bytes.now packets.items) }
     ensures refused { IfErr result (λ fault.

@@ -1,4 +1,4 @@
-//! A stream that comes in pieces, and how far it is read.
+//! A stream that comes in pieces, and how far it has been read.
 
 ghost use Rattle.std.specs.Prelude.{◌≡◌, ◌≢◌, ◌+◌, ◌<◌, ◌≤◌, true, false, length, drop, OnOk, OnErr, IfErr};
 ghost use Rattle.swim_wire.specs.declared.fault.WireFault.TheVariants.{Memory};
@@ -10,22 +10,22 @@ use std::alloc::Global;
 use swim_pack::SliceInlet;
 use swim_wire::{WireFault, read_header, read_state};
 
-/// How far a stream is read. With all numbers zero nothing of it is.
+/// How far a stream has been read. If all numbers are zero, nothing was read.
 #[repr(C)]
 #[derive(Clone, Copy)]
 pub struct Progress {
-    /// The place of the first byte that is not read.
+    /// The offset of the first byte that was not read.
     pub at: usize,
     /// How many records are still to come.
     pub left: u32,
     /// The length of the user state.
     pub user_len: u32,
-    /// Whether the header is read.
+    /// Whether the header was read.
     pub has_header: bool,
 }
 
 impl Progress {
-    /// Reads on, up to the user state or to the last whole record. Answers a status.
+    /// Reads on, up to the user state or the end of the last whole record. Returns a status.
     pub fn read_on(&mut self, alloc: Global, bytes: &[u8]) -> u32
         ensures progress { IsProgressIn bytes.now self.old → IsProgressIn bytes.now self.new }
         ensures done { IsProgressIn bytes.now self.old → WholeDone bytes.now self.new result }
@@ -93,7 +93,7 @@ impl Progress {
         Ok(())
     }
 
-    /// Whether the user state stands behind the records.
+    /// Checks that the user state follows the records.
     fn check_user_state(&self, bytes: &[u8]) -> Result<(), WireFault>
         requires header { self.now.has_header ≡ true }
         requires left { self.now.left ≡ 0 }
@@ -109,7 +109,7 @@ impl Progress {
         Ok(())
     }
 
-    /// The bytes that are not read.
+    /// The bytes that were not read.
     fn unread<'a>(&self, bytes: &'a [u8]) -> &'a [u8]
         ensures unread { result.now ≡ drop self.now.at bytes.now }
         ensures within { length result.now ≤ length bytes.now }

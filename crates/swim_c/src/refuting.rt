@@ -1,4 +1,4 @@
-//! A node that refutes what others say of its member.
+//! Refuting what others say about a node's member.
 
 ghost use Rattle.std.specs.Prelude.{◌≡◌, false};
 ghost use Rattle.swim_c.specs.Taking.{RefuteDone};
@@ -8,7 +8,7 @@ use crate::status::DONE;
 use crate::watching::Watched;
 use std::alloc::Global;
 
-/// What came of a refutation.
+/// The result of a refutation.
 #[repr(C)]
 #[derive(Clone, Copy)]
 pub struct Refuted {
@@ -32,7 +32,7 @@ impl Refuted {
     }
 }
 
-/// Refutes what others say of the member, where that is due, and notes its name.
+/// Refutes what others say about the member, if that is due, and notes its name.
 pub fn refute(alloc: Global, held: &mut Watched) -> Refuted
     ensures refutes { RefuteDone result.status result.due result.inc
         held.old.node held.new.node }

@@ -36,8 +36,7 @@ fn own_alive(alloc: Global, node: &Node, inc: u32) -> Result<Packet, AllocError>
     Ok(Packet::new(Claim::Alive { name, inc, details }, Vec::new(alloc)))
 }
 
-/// Writes the packet of the Alive of a member that says this of itself, at the incarnation, to the
-/// buffer.
+/// Writes the packet of the Alive of a member with these parts, at the incarnation, to the buffer.
 pub fn say_alive_of(alloc: Global, parts: Parts, inc: u32, out: &mut [u8]) -> Written
     ensures { SaidOr (record {
       claim = Alive parts.entry.name.now inc
@@ -75,8 +74,8 @@ fn own_leave(alloc: Global, node: &Node, inc: u32) -> Result<Packet, AllocError>
     Ok(Packet::new(Claim::Leave { name, inc }, from))
 }
 
-/// Writes the packet by which the member suspects the one of this name, at the incarnation, to the
-/// buffer.
+/// Writes the packet by which the member suspects the member of this name, at the incarnation, to
+/// the buffer.
 pub fn say_suspect(alloc: Global, node: &Node, name: &[u8], inc: u32, out: &mut [u8]) -> Written
     ensures { SaidOr (record { claim = Suspect name.now inc; from = node.now.name })
         out.old out.new result.status result.len (IsNoName name.now) }
@@ -90,8 +89,8 @@ pub fn say_suspect(alloc: Global, node: &Node, name: &[u8], inc: u32, out: &mut 
     }
 }
 
-/// Writes the packet by which the member confirms the death of the one of this name, at the
-/// incarnation, to the buffer.
+/// Writes the packet by which the member declares the member of this name dead, at the incarnation,
+/// to the buffer.
 pub fn say_confirm(alloc: Global, node: &Node, name: &[u8], inc: u32, out: &mut [u8]) -> Written
     ensures { SaidOr (record { claim = Confirm name.now inc; from = node.now.name })
         out.old out.new result.status result.len (IsUnsaid node.now.name name.now) }
@@ -108,7 +107,7 @@ pub fn say_confirm(alloc: Global, node: &Node, name: &[u8], inc: u32, out: &mut 
     }
 }
 
-/// The name of the one who is accused, and of the member, who accuses; or a status.
+/// The name of the accused, and of the member, who accuses; or a status.
 fn accusation(alloc: Global, node: &Node, name: &[u8]) -> Result<(Name, Vec<u8>), u32>
     ensures names { IfOk result (λ names.
         (names.0 ≡ name.now) × (names.1.items ≡ node.now.name)) }

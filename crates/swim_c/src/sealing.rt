@@ -1,4 +1,4 @@
-//! Messages encrypted under a keyring, or labelled in the clear, into a buffer.
+//! Messages encrypted with a keyring, or labelled in the clear, written to a buffer.
 
 ghost use Rattle.std.specs.Prelude.{MatchBool};
 ghost use Rattle.swim_c.specs.Sealing.{IsSentClear, PacketSealed, StreamSealed, ReplySealed};
@@ -10,7 +10,7 @@ use memberlist_cipher::{CipherFault, LABEL_MAX_SIZE, labelled};
 use memberlist_keyring::Keyring;
 use std::alloc::Global;
 
-/// Writes a packet with this message to the buffer: encrypted under the first key, or in the clear
+/// Writes a packet with this message to the buffer: encrypted with the first key, or in the clear
 /// if there is none.
 pub fn seal_out(
     alloc: Global,
@@ -33,8 +33,8 @@ pub fn seal_out(
     }
 }
 
-/// Writes a stream with this message to the buffer, or the reply to one: encrypted under the first
-/// key, or in the clear if there is none.
+/// Writes a stream with this message to the buffer, or a reply: encrypted with the first key, or in
+/// the clear if there is none.
 pub fn seal_stream_out(
     alloc: Global,
     keys: &Keyring,
@@ -57,7 +57,7 @@ pub fn seal_stream_out(
     }
 }
 
-/// Writes a stream behind its label.
+/// Writes a stream after its label.
 fn stream_out(
     alloc: Global,
     keys: &Keyring,
@@ -79,7 +79,7 @@ fn stream_out(
     }
 }
 
-/// Writes the reply to a stream, before which no label stands.
+/// Writes a reply, without a label before it.
 fn reply_out(
     alloc: Global,
     keys: &Keyring,
@@ -101,7 +101,7 @@ fn reply_out(
     }
 }
 
-/// Writes a message behind its label to the buffer, in the clear.
+/// Writes a message after its label to the buffer, in the clear.
 fn label_out(alloc: Global, label: &[u8], message: &[u8], out: &mut [u8]) -> Written
     ensures { IsSentClear label.now message.now out.old out.new result.status result.len }
 {

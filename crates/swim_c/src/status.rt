@@ -1,10 +1,10 @@
-//! What a call answers: 0, the number of a fault, or one of these.
+//! The statuses that calls return: 0, the number of a fault, or one of these.
 
-/// It was done.
+/// Done.
 pub const DONE: u32 = 0;
-/// A growth of memory was refused.
+/// Out of memory.
 pub const MEMORY: u32 = 10;
-/// A message that makes no claims.
+/// The message makes no claims.
 pub const WRONG_TYPE: u32 = 16;
 /// The handle has no node.
 pub const NO_NODE: u32 = 64;
@@ -12,11 +12,11 @@ pub const NO_NODE: u32 = 64;
 pub const NODE_THERE: u32 = 65;
 /// The buffer is too small.
 pub const TOO_SMALL: u32 = 66;
-/// There is no member at this place, or of this name.
+/// There is no member at this index, or of this name.
 pub const NO_MEMBER: u32 = 67;
-/// A member that confirms its own death has left.
+/// A member that declares itself dead has left.
 pub const OWN_NAME: u32 = 68;
 /// A compound packet has at most 255 packets.
 pub const TOO_MANY_PACKETS: u32 = 69;
-/// A dump has form 0 or 1.
+/// The form of a dump is 0 or 1.
 pub const BAD_FORM: u32 = 70;

@@ -1,4 +1,4 @@
-//! What a node tells: its listing, its members, and how it relates to another.
+//! What a node reports: its listing, its members, and how it relates to another.
 
 ghost use Rattle.std.specs.Prelude.{slice_get};
 ghost use Rattle.swim_table.specs.Listing.{listing};
@@ -24,7 +24,7 @@ pub fn list_out(alloc: Global, node: &Node, out: &mut [u8]) -> Written
     }
 }
 
-/// Copies what the node knows of the i-th member.
+/// Copies what the node knows about the i-th member.
 pub fn member_at(node: &Node, i: usize, member: &mut Member) -> u32
     ensures { MemberDone (slice_get node.now.table i) member.old member.new result }
 {
@@ -37,7 +37,7 @@ pub fn member_at(node: &Node, i: usize, member: &mut Member) -> u32
     }
 }
 
-/// Copies what the node knows of the member of this name.
+/// Copies what the node knows about the member of this name.
 pub fn member_named(node: &Node, name: &[u8], member: &mut Member) -> u32
     ensures { MemberDone (get node.now.table name.now) member.old member.new result }
 {

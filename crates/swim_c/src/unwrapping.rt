@@ -1,4 +1,4 @@
-//! Packets and streams as a real cluster sends them, unwrapped and opened into a buffer.
+//! Unwrapping and decrypting packets and streams, as a real cluster sends them, into a buffer.
 
 ghost use Rattle.swim_c.specs.Unwrapping.{GivesMessage, PacketUnwrapped, StreamUnwrapped};
 
@@ -35,7 +35,7 @@ fn message_out(message: &Message, out: &mut [u8]) -> Written
     }
 }
 
-/// Writes the push/pull stream that bytes hold in a cluster with this label to the buffer.
+/// Writes the push/pull stream in the bytes, in a cluster with this label, to the buffer.
 pub fn unwrap_stream_out(
     alloc: Global,
     keys: &Keyring,

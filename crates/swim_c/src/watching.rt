@@ -1,4 +1,4 @@
-//! A node, and the names of it that changed.
+//! A node, and the names in it that changed.
 
 ghost use Rattle.std.specs.Prelude.{◌≡◌, ◌≢◌, ◌+◌, ◌≤◌, ◌++◌, ◌∷◌, ◌↔◌, [], ℕ, List, length, Some, None, Ok, Err, IsSome, IfSome, IfOk, OnOk, OnErr, MatchBool};
 ghost use Rattle.swim_claim.specs.declared.claim.Claim.{Claim};
@@ -17,11 +17,11 @@ use swim_claim::Claim;
 use swim_table::{Node, RefuteFault, Room, Table, Taken, news_of};
 use swim_wire::Datagram;
 
-/// A node, and the names whose entries changed since they were told.
+/// A node, and the names whose entries changed since they were last read.
 #[derive(Drop)]
 pub struct Watched {
     pub node: Node,
-    /// The names, as a table of which no more counts. None if nothing is noted.
+    /// The names, as a table of which only the names count. None if names are not noted.
     pub changes: Option<Table>,
 }
 
@@ -33,7 +33,7 @@ pub struct News {
 }
 
 impl Watched {
-    /// The node, of which nothing is noted.
+    /// The node, without noting names.
     pub fn new(node: Node) -> Watched
         ensures { result ≡ record { node = node; changes = None } }
     {
@@ -43,7 +43,7 @@ impl Watched {
         }
     }
 
-    /// Begins to note names, with none, or stops and lets them go. It takes no memory.
+    /// Starts to note names, with none noted yet, or stops and drops them. It takes no memory.
     pub fn watch(&mut self, alloc: Global, on: bool)
         ensures node { self.new.node ≡ self.old.node }
         ensures changes { self.new.changes ≡ start on }
@@ -51,12 +51,12 @@ impl Watched {
         self.changes = if on { Some(Table::new(alloc)) } else { None };
     }
 
-    /// Takes all the claims of a datagram in, or none, and notes the names that change. Answers
-    /// whether one did.
+    /// Takes in all claims of a datagram, or none, and notes the names that change. Returns whether
+    /// one did.
     ///
     /// # Errors
     ///
-    /// Memory is refused. The datagram is dropped, and nothing changes.
+    /// If out of memory. The datagram is dropped, and nothing changes.
     pub fn take_datagram(&mut self, alloc: Global, datagram: Datagram) -> Result<bool, AllocError>
         ensures takes { OnOk result
             (TakesClaims (claims_in datagram) self.old.node.table self.new.node.table) }
@@ -76,7 +76,7 @@ impl Watched {
         }
     }
 
-    /// Takes all the claims of a datagram in, by a table of their own.
+    /// Takes in all claims of a datagram by joining a table of them.
     fn join_datagram(&mut self, alloc: Global, datagram: Datagram) -> Result<bool, AllocError>
         ensures takes { OnOk result
             (TakesClaims (claims_in datagram) self.old.node.table self.new.node.table) }
@@ -92,11 +92,11 @@ impl Watched {
         self.join(alloc, other)
     }
 
-    /// Joins a table into the node's, and notes the names that change. Answers whether one did.
+    /// Joins a table into the node's, and notes the names that change. Returns whether one did.
     ///
     /// # Errors
     ///
-    /// Memory is refused. The other table is dropped, and nothing changes.
+    /// If out of memory. The other table is dropped, and nothing changes.
     pub fn join(&mut self, alloc: Global, other: Table) -> Result<bool, AllocError>
         ensures joined { OnOk result ((claims others : List Claim)
             → TableOf self.old.node.table claims → TableOf other others
@@ -118,8 +118,8 @@ impl Watched {
         }
     }
 
-    /// Joins a table in that has these news. The room has to be for the entries of both, and no
-    /// memory is taken. Answers whether a name changed.
+    /// Joins in a table that has these news. The room must suffice for the entries of both, and no
+    /// memory is taken. Returns whether a name changed.
     pub fn join_in(&mut self, room: Room, other: Table, news: News) -> bool
         requires room { length self.old.node.table + length other ≤ room }
         requires names { AreChanges self.old.node.table (Join self.old.node.table other)
@@ -139,12 +139,12 @@ impl Watched {
         self.note(news)
     }
 
-    /// Refutes what others say of the member, as [`Node::refute`] does, and notes its name where an
+    /// Refutes what others say about the member, as [`Node::refute`] does, and notes its name if an
     /// Alive was taken in.
     ///
     /// # Errors
     ///
-    /// Those of [`Node::refute`]. Nothing changes then.
+    /// Those of [`Node::refute`]. Then nothing changes.
     pub fn refute(&mut self, alloc: Global) -> Result<Option<u32>, RefuteFault>
         ensures refuted { IfOk result
             (λ answer. IfSome answer (IsRefutedBy self.old.node self.new.node)) }
@@ -188,7 +188,7 @@ impl Watched {
     ///
     /// # Errors
     ///
-    /// Memory for the names is refused.
+    /// If out of memory for the names.
     pub fn news(&self, alloc: Global, other: &Table) -> Result<News, AllocError>
         ensures names { IfOk result (λ news. AreChanges self.now.node.table
             (Join self.now.node.table other.now) news.names) }
@@ -212,7 +212,7 @@ impl Watched {
         Ok(News { names, room })
     }
 
-    /// Notes the names, if names are noted. Answers whether there is one.
+    /// Notes the names, if names are noted. Returns whether there is one.
     fn note(&mut self, news: News) -> bool
         requires { HasRoomFor self.old.changes news.names news.room }
         ensures some { MatchBool result (news.names ≢ []) (news.names ≡ []) }
@@ -227,7 +227,7 @@ impl Watched {
     }
 }
 
-/// Adds names to those that are noted, if names are.
+/// Adds names to those that are noted, if names are noted.
 fn with_names(changes: Option<Table>, names: Table, room: Option<Room>) -> Option<Table>
     requires { HasRoomFor changes names room }
     ensures { AddsNames changes result names }
@@ -244,7 +244,7 @@ fn with_names(changes: Option<Table>, names: Table, room: Option<Room>) -> Optio
     }
 }
 
-/// Takes a claim into a node of which nothing is noted. Answers whether anything changed.
+/// Takes a claim into a node that does not note names. Returns whether anything changed.
 fn take_unnoted(node: &mut Node, claim: Claim) -> Result<bool, AllocError>
     ensures takes { OnOk result (TakesClaims (claim ∷ []) node.old.table node.new.table) }
     ensures member { SameMember node.old node.new }

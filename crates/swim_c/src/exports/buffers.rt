@@ -1,4 +1,4 @@
-//! Bytes in memory of the library: dumps, replies and listings of any length by one call.
+//! Bytes in memory of the library: dumps, replies and listings of any length in one call.
 
 ghost use Rattle.std.specs.Prelude.{◌≡◌, false, None};
 ghost use Rattle.swim_table.specs.Listing.{listing};
@@ -14,17 +14,17 @@ use crate::handle::Handle;
 use crate::status::NO_NODE;
 use std::alloc::Global;
 
-/// Has the buffer keep the dump of the node's table, with this join flag, as `swimtab_raw_offer`
-/// writes it. What the buffer kept before is freed. The node stays.
+/// Makes the buffer keep the dump of the node's table, with this join flag, as `swimtab_raw_offer`
+/// writes it. Frees what the buffer kept before. The node does not change.
 ///
 /// # Statuses
 ///
-/// If it is not 0 the buffer is as it was.
+/// If it is not 0, the buffer is unchanged.
 ///
 /// - 64 if the handle has no node.
 /// - 70 if the form is neither 0 nor 1.
 /// - 23 if the dump has more than 131,072 records.
-/// - 10 if memory is refused.
+/// - 10 if out of memory.
 #[unsafe(no_mangle)]
 pub extern "C" fn swimtab_raw_offer_new(
     alloc: Global,
@@ -46,19 +46,18 @@ pub extern "C" fn swimtab_raw_offer_new(
     status
 }
 
-/// Answers an offer as `swimtab_raw_answer` does, and has the buffer keep the reply. What the
-/// buffer kept before is freed.
+/// Answers an offer as `swimtab_raw_answer` does, and makes the buffer keep the reply. Frees what
+/// the buffer kept before.
 ///
 /// # Statuses
 ///
-/// If it is not 0 the node and the buffer are as they were.
+/// If it is not 0, the node and the buffer are unchanged.
 ///
 /// - 64 if the handle has no node.
 /// - 70 if the form is neither 0 nor 1.
-/// - 1 to 21 if no stream stands at the front: the fault at which its reading stops.
+/// - 1 to 21 if the bytes do not begin with a stream: the fault at which reading stops.
 /// - 23 if the reply has more than 131,072 records.
-/// - 10 if memory is refused, for the stream's claims, for the reply, for the names that change or
-///   for the join.
+/// - 10 if out of memory, for the stream's claims, the reply, the names that change or the join.
 #[unsafe(no_mangle)]
 pub extern "C" fn swimtab_raw_answer_new(
     alloc: Global,
@@ -86,15 +85,15 @@ pub extern "C" fn swimtab_raw_answer_new(
     exchanged
 }
 
-/// Has the buffer keep the listing of the node's table (docs/PROTOCOL.md). What the buffer kept
-/// before is freed. The node stays.
+/// Makes the buffer keep the listing of the node's table (docs/PROTOCOL.md). Frees what the buffer
+/// kept before. The node does not change.
 ///
 /// # Statuses
 ///
-/// If it is not 0 the buffer is as it was.
+/// If it is not 0, the buffer is unchanged.
 ///
 /// - 64 if the handle has no node.
-/// - 10 if memory is refused.
+/// - 10 if out of memory.
 #[unsafe(no_mangle)]
 pub extern "C" fn swimtab_raw_list_new(alloc: Global, node: &mut Handle, buffer: &mut Buffer) -> u32
     ensures tells { OnSame node.old.node node.new.node
@@ -110,7 +109,7 @@ pub extern "C" fn swimtab_raw_list_new(alloc: Global, node: &mut Handle, buffer:
     status
 }
 
-/// Frees the bytes of a buffer, which is then empty. An empty one stays so.
+/// Frees the bytes of a buffer, which is then empty. An empty buffer stays empty.
 #[unsafe(no_mangle)]
 pub extern "C" fn swimtab_raw_free(alloc: Global, buffer: &mut Buffer)
     ensures kept { buffer.new.kept.kept ≡ None }

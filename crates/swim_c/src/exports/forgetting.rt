@@ -1,4 +1,4 @@
-//! Names that a node forgets.
+//! Forgetting a name.
 
 ghost use Rattle.std.specs.Prelude.{◌≡◌};
 ghost use Rattle.swim_c.specs.Forgetting.{ForgetDone, LetsNameGo};
@@ -10,15 +10,15 @@ use crate::status::NO_NODE;
 use std::alloc::Global;
 
 /// Forgets a name: the table is then that of the claims taken in about other names. If the name was
-/// noted as one that changed, it is noted no longer. No memory is asked for.
+/// noted as changed, it is no longer noted. It takes no memory.
 ///
-/// If the name is the member's own, its own claims go too. No refutation is due then, until the
-/// table takes in a claim about the member again. What a packet or a stream says of the name later
-/// is taken in as of a new one.
+/// If the name is the member's own, its own claims go too. Then no refutation is due until the
+/// table takes in a claim about the member again. What a packet or stream says about the name later
+/// is taken in as about a new one.
 ///
 /// # Statuses
 ///
-/// If it is not 0 the node and the noted names are as they were.
+/// If it is not 0, the node and the noted names are unchanged.
 ///
 /// - 64 if the handle has no node.
 /// - 67 if the table has no such name.

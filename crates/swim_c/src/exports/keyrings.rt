@@ -1,4 +1,4 @@
-//! The life of a keyring: keys that are added, and all freed.
+//! Adding keys to a keyring, and freeing it.
 
 ghost use Rattle.std.specs.Prelude.{◌≡◌, ◌∷◌, [], None, MatchOption, IfOk, IfErr, OnOk};
 ghost use Rattle.memberlist_cipher.specs.Encryption.{IsKey};
@@ -12,15 +12,15 @@ use memberlist_cipher::CipherFault;
 use memberlist_keyring::Keyring;
 use std::alloc::Global;
 
-/// Adds a key of 16, 24 or 32 bytes to a keyring, behind those that are there. A handle without a
-/// keyring gets one. The first key encrypts; all are tried in order to open what was encrypted.
+/// Adds a key of 16, 24 or 32 bytes to a keyring, after those that are there. A handle without a
+/// keyring gets one. The first key encrypts; to decrypt, all are tried in order.
 ///
 /// # Statuses
 ///
-/// If it is not 0 the handle is as it was.
+/// If it is not 0, the handle is unchanged.
 ///
 /// - 50 if the key has another length.
-/// - 10 if memory is refused.
+/// - 10 if out of memory.
 #[unsafe(no_mangle)]
 pub extern "C" fn swimtab_raw_keyring_add(
     alloc: Global,
@@ -40,7 +40,7 @@ pub extern "C" fn swimtab_raw_keyring_add(
     }
 }
 
-/// Gives a handle without a keyring one with this key.
+/// Puts a keyring with this key into a handle without one.
 fn start_keyring(alloc: Global, keyring: &mut KeyringHandle, key: &[u8]) -> u32
     requires { keyring.old.keys ≡ None }
     ensures { KeyAdded key.now result None keyring.new.keys }
@@ -54,7 +54,7 @@ fn start_keyring(alloc: Global, keyring: &mut KeyringHandle, key: &[u8]) -> u32
     }
 }
 
-/// The keyring with this key alone.
+/// The keyring with only this key.
 fn keyring_of(alloc: Global, key: &[u8]) -> Result<Box<Keyring>, CipherFault>
     ensures keys { IfOk result (λ keyring. keyring.value ≡ key.now ∷ []) }
     ensures good { OnOk result (IsKey key.now) }
@@ -66,7 +66,7 @@ fn keyring_of(alloc: Global, key: &[u8]) -> Result<Box<Keyring>, CipherFault>
     Ok(made)
 }
 
-/// Overwrites the keys of a keyring and frees it. The handle then has none.
+/// Overwrites the keys of a keyring and frees it. The handle is then empty.
 ///
 /// # Statuses
 ///

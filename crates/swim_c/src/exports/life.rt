@@ -1,4 +1,4 @@
-//! The life of a node: opened, and closed.
+//! Opening and closing a node.
 
 ghost use Rattle.std.specs.Prelude.{◌≡◌, ◌≢◌, None, MatchOption};
 ghost use Rattle.swim_c.specs.Opening.{OpenDone, told};
@@ -8,18 +8,19 @@ use crate::opening::{Parts, open};
 use crate::status::{DONE, NO_NODE, NODE_THERE};
 use std::alloc::Global;
 
-/// Gives a handle without a node that of a member: its name of 1 to 1,024 bytes, its address of 4
-/// or 16 bytes, its port, its metadata of at most 512 bytes, and no versions or 6 bytes of them.
-/// Its table holds its Alive at the incarnation, 0 to 4,294,967,295 (own). It notes no names.
+/// Puts a new member's node into a handle without one. The member has a name of 1 to 1,024 bytes,
+/// an address of 4 or 16 bytes, a port, metadata of at most 512 bytes, and versions of 0 or 6
+/// bytes. The table holds its Alive at the incarnation, 0 to 4,294,967,295 (own). The node does not
+/// note names.
 ///
 /// # Statuses
 ///
-/// Where it is not 0 the handle is as it was.
+/// If it is not 0, the handle is unchanged.
 ///
-/// - 65 where the handle has a node.
+/// - 65 if the handle has a node.
 /// - 11 or 12 for the name, else 13 for the address, else 14 for the metadata, else 15 for the
-///   versions: the first that is refused.
-/// - 10 where memory is refused.
+///   versions: the first part that is invalid.
+/// - 10 if out of memory.
 #[unsafe(no_mangle)]
 pub extern "C" fn swimtab_raw_open(
     alloc: Global,
@@ -56,11 +57,11 @@ pub extern "C" fn swimtab_raw_open(
     }
 }
 
-/// Frees the node of a handle, which then has none.
+/// Frees the node of a handle, which is then empty.
 ///
 /// # Statuses
 ///
-/// 64 where the handle has no node.
+/// 64 if the handle has no node.
 #[unsafe(no_mangle)]
 pub extern "C" fn swimtab_raw_close(alloc: Global, node: &mut Handle) -> u32
     ensures none { node.new.node ≡ None }

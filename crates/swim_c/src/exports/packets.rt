@@ -1,4 +1,4 @@
-//! Packets that a node takes in, and packets of what it says.
+//! Packets that a node takes in, and packets that a member sends.
 
 ghost use Rattle.std.specs.Prelude.{◌≡◌, [], false};
 ghost use Rattle.swim_claim.specs.declared.claim.Claim.TheVariants.{Alive, Suspect, Confirm, Leave};
@@ -20,18 +20,17 @@ use crate::saying::{say_alive, say_alive_of, say_confirm, say_leave, say_suspect
 use crate::status::NO_NODE;
 use std::alloc::Global;
 
-/// Takes in the claims of a packet or compound packet, or none. The texts and bytes of a packet may
-/// take memory while it is read. Of a packet by itself about a name that the table knows, only
-/// newer metadata stays. Answers whether the table changed too.
+/// Takes in all claims of a packet or compound packet, or none. Reading texts and bytes of a packet
+/// may take memory. If a packet that is not part of a compound is about a known name, only newer
+/// metadata is kept. Also returns whether the table changed.
 ///
 /// # Statuses
 ///
-/// Where it is not 0 the node is as it was.
+/// If it is not 0, the node is unchanged.
 ///
-/// - 64 where the handle has no node.
-/// - 1 to 22 where the bytes are neither: the fault at which their reading stops
-///   (docs/PROTOCOL.md).
-/// - 10 if memory is refused, never before the length of a text or bytes is read.
+/// - 64 if the handle has no node.
+/// - 1 to 22 if the bytes are neither: the fault at which reading stops (docs/PROTOCOL.md).
+/// - 10 if out of memory, never before the length of a text or bytes is read.
 #[unsafe(no_mangle)]
 pub extern "C" fn swimtab_raw_take(alloc: Global, node: &mut Handle, bytes: &[u8]) -> Taken
     ensures takes { OnNode node.old.node node.new.node
@@ -50,17 +49,17 @@ pub extern "C" fn swimtab_raw_take(alloc: Global, node: &mut Handle, bytes: &[u8
     heard
 }
 
-/// Refutes what others say of the member, where that is due: its table takes in its Alive at the
-/// incarnation that follows the one that stands (SWIM paper, section 4.2; the rest is own).
+/// Refutes what others say about the member, if that is due: its table takes in its Alive at the
+/// incarnation that follows the current one (SWIM paper, section 4.2; the rest is own).
 ///
 /// # Statuses
 ///
-/// Where it is not 0 the node is as it was.
+/// If it is not 0, the node is unchanged.
 ///
-/// - 64 where the handle has no node.
-/// - 24 where one is due, and there is no greater incarnation.
-/// - 25 where the member is confirmed dead, or has left.
-/// - 10 where one is due, and memory is refused.
+/// - 64 if the handle has no node.
+/// - 24 if one is due and there is no greater incarnation.
+/// - 25 if the member was declared dead, or has left.
+/// - 10 if one is due and memory runs out.
 #[unsafe(no_mangle)]
 pub extern "C" fn swimtab_raw_refute(alloc: Global, node: &mut Handle) -> Refuted
     ensures refutes { OnNode node.old.node node.new.node
@@ -78,15 +77,16 @@ pub extern "C" fn swimtab_raw_refute(alloc: Global, node: &mut Handle) -> Refute
     refuted
 }
 
-/// Writes the packet of the member's own Alive at the incarnation to the buffer. The node stays.
+/// Writes the packet of the member's own Alive at the incarnation to the buffer. The node does not
+/// change.
 ///
 /// # Statuses
 ///
-/// Where it is not 0 the buffer is as it was.
+/// If it is not 0, the buffer is unchanged.
 ///
-/// - 64 where the handle has no node.
-/// - 66 where the buffer is too small. The length is then that of the packet.
-/// - 10 where memory is refused.
+/// - 64 if the handle has no node.
+/// - 66 if the buffer is too small. The length is then that of the packet.
+/// - 10 if out of memory.
 #[unsafe(no_mangle)]
 pub extern "C" fn swimtab_raw_alive(
     alloc: Global,
@@ -109,17 +109,17 @@ pub extern "C" fn swimtab_raw_alive(
 }
 
 /// Writes the packet of a member's Alive at the incarnation to the buffer, as another member passes
-/// it on: its name of 1 to 1,024 bytes, its address of 4 or 16 bytes, its port, its metadata of at
-/// most 512 bytes, and no versions or 6 bytes of them. No node is asked for.
+/// it on. The member has a name of 1 to 1,024 bytes, an address of 4 or 16 bytes, a port, metadata
+/// of at most 512 bytes, and versions of 0 or 6 bytes. No node is needed.
 ///
 /// # Statuses
 ///
-/// If it is not 0 the buffer is as it was.
+/// If it is not 0, the buffer is unchanged.
 ///
 /// - 11 or 12 for the name, else 13 for the address, else 14 for the metadata, else 15 for the
-///   versions: the first that is refused.
+///   versions: the first part that is invalid.
 /// - 66 if the buffer is too small. The length is then that of the packet.
-/// - 10 if memory is refused.
+/// - 10 if out of memory.
 #[unsafe(no_mangle)]
 pub extern "C" fn swimtab_raw_alive_of(
     alloc: Global,
@@ -147,17 +147,17 @@ pub extern "C" fn swimtab_raw_alive_of(
     say_alive_of(alloc, parts, inc, out)
 }
 
-/// Writes the packet by which the member suspects the one of this name, of 1 to 1,024 bytes, at the
-/// incarnation to the buffer. The node stays, and need not know the name.
+/// Writes the packet by which the member suspects the member of this name, of 1 to 1,024 bytes, at
+/// the incarnation to the buffer. The node does not change, and need not know the name.
 ///
 /// # Statuses
 ///
-/// Where it is not 0 the buffer is as it was.
+/// If it is not 0, the buffer is unchanged.
 ///
-/// - 64 where the handle has no node.
-/// - 11 where the name is empty, and 12 where it is too long.
-/// - 66 where the buffer is too small. The length is then that of the packet.
-/// - 10 where memory is refused.
+/// - 64 if the handle has no node.
+/// - 11 if the name is empty, 12 if it is too long.
+/// - 66 if the buffer is too small. The length is then that of the packet.
+/// - 10 if out of memory.
 #[unsafe(no_mangle)]
 pub extern "C" fn swimtab_raw_suspect(
     alloc: Global,
@@ -180,18 +180,18 @@ pub extern "C" fn swimtab_raw_suspect(
     written
 }
 
-/// Writes the packet by which the member confirms the death of the one of this name, of 1 to 1,024
-/// bytes, at the incarnation to the buffer. The node stays, and need not know the name.
+/// Writes the packet by which the member declares the member of this name, of 1 to 1,024 bytes,
+/// dead at the incarnation to the buffer. The node does not change, and need not know the name.
 ///
 /// # Statuses
 ///
-/// Where it is not 0 the buffer is as it was.
+/// If it is not 0, the buffer is unchanged.
 ///
-/// - 64 where the handle has no node.
-/// - 68 where the name is the member's own: a member that is dead by its own word has left.
-/// - 11 where the name is empty, and 12 where it is too long.
-/// - 66 where the buffer is too small. The length is then that of the packet.
-/// - 10 where memory is refused.
+/// - 64 if the handle has no node.
+/// - 68 if the name is the member's own: a member that declares itself dead has left.
+/// - 11 if the name is empty, 12 if it is too long.
+/// - 66 if the buffer is too small. The length is then that of the packet.
+/// - 10 if out of memory.
 #[unsafe(no_mangle)]
 pub extern "C" fn swimtab_raw_confirm(
     alloc: Global,
@@ -214,16 +214,16 @@ pub extern "C" fn swimtab_raw_confirm(
     written
 }
 
-/// Writes the packet of the member's own Leave at the incarnation to the buffer. The node stays: it
-/// has left once it takes that packet in.
+/// Writes the packet of the member's own Leave at the incarnation to the buffer. The node does not
+/// change: it has left once it takes that packet in.
 ///
 /// # Statuses
 ///
-/// Where it is not 0 the buffer is as it was.
+/// If it is not 0, the buffer is unchanged.
 ///
-/// - 64 where the handle has no node.
-/// - 66 where the buffer is too small. The length is then that of the packet.
-/// - 10 where memory is refused.
+/// - 64 if the handle has no node.
+/// - 66 if the buffer is too small. The length is then that of the packet.
+/// - 10 if out of memory.
 #[unsafe(no_mangle)]
 pub extern "C" fn swimtab_raw_leave(
     alloc: Global,
@@ -245,18 +245,18 @@ pub extern "C" fn swimtab_raw_leave(
     written
 }
 
-/// Writes packets as one compound packet to the buffer, in their canonical bytes. They stand one
-/// behind another, and have these lengths.
+/// Writes packets to the buffer as one compound packet, each in its canonical bytes. The bytes hold
+/// the packets one after another, with these lengths.
 ///
 /// # Statuses
 ///
-/// Where it is not 0 the buffer is as it was.
+/// If it is not 0, the buffer is unchanged.
 ///
-/// - 69 where there are more than 255 lengths, as many as a compound packet has parts at most.
-/// - 1 to 22 where they are no packets, for the first one that is refused: 1 too where the bytes
-///   end before its length does, and 22 where bytes follow the last.
-/// - 66 where the buffer is too small. The length is then that of the compound packet.
-/// - 10 where memory is refused.
+/// - 69 if there are more than 255 lengths, the most parts that a compound packet has.
+/// - 1 to 22 if they are not packets: the fault of the first one that is refused. Also 1 if the
+///   bytes end before its length does, and 22 if bytes follow the last.
+/// - 66 if the buffer is too small. The length is then that of the compound packet.
+/// - 10 if out of memory.
 #[unsafe(no_mangle)]
 pub extern "C" fn swimtab_raw_compound(
     alloc: Global,

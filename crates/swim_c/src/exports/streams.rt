@@ -1,4 +1,4 @@
-//! The halves of an exchange.
+//! The two halves of an exchange.
 
 ghost use Rattle.std.specs.Prelude.{◌≡◌, false};
 ghost use Rattle.swim_c.specs.Exchanges.{FinishDone, OfferedInForm, AnsweredInForm};
@@ -13,20 +13,20 @@ use crate::progress::Progress;
 use crate::status::NO_NODE;
 use std::alloc::Global;
 
-/// Writes the dump of the node's table, with this join flag, to the buffer: the offer by which an
-/// exchange begins (memberlist's `net.go`). Form 0 is the canonical dump, of all that the table
-/// keeps, and form 1 the dump that memberlist merges. The node stays.
+/// Writes the dump of the node's table, with this join flag, to the buffer: the offer that begins
+/// an exchange (memberlist's `net.go`). Form 0 is the canonical dump of all that the table keeps,
+/// and form 1 the dump that memberlist merges. The node does not change.
 ///
 /// # Statuses
 ///
-/// Where it is not 0 the buffer is as it was.
+/// If it is not 0, the buffer is unchanged.
 ///
-/// - 64 where the handle has no node.
-/// - 70 where the form is neither.
-/// - 23 where the dump has more than 131,072 records.
-/// - 66 where the buffer is too small. The length is then that of the dump.
+/// - 64 if the handle has no node.
+/// - 70 if the form is neither.
+/// - 23 if the dump has more than 131,072 records.
+/// - 66 if the buffer is too small. The length is then that of the dump.
 ///
-/// No memory is asked for.
+/// It takes no memory.
 #[unsafe(no_mangle)]
 pub extern "C" fn swimtab_raw_offer(
     alloc: Global,
@@ -49,22 +49,22 @@ pub extern "C" fn swimtab_raw_offer(
     written
 }
 
-/// Answers an offer: reads one stream from the front of the bytes, writes the dump of the node's
-/// table of before, with the stream's join flag, to the buffer, and takes the stream's claims in
-/// (memberlist's `net.go`). Form 0 is the canonical dump, and form 1 the dump that memberlist
-/// merges.
+/// Answers an offer: reads one stream from the start of the bytes, writes the dump of the node's
+/// table as it was before, with the stream's join flag, to the buffer, and takes the stream's
+/// claims in (memberlist's `net.go`). Form 0 is the canonical dump, and form 1 the dump that
+/// memberlist merges.
 ///
 /// # Statuses
 ///
-/// Where it is not 0 the node and the buffer are as they were.
+/// If it is not 0, the node and the buffer are unchanged.
 ///
-/// - 64 where the handle has no node.
-/// - 70 where the form is neither.
-/// - 1 to 21 where no stream stands at the front: the fault at which its reading stops.
-/// - 23 where the dump has more than 131,072 records.
-/// - 66 where the buffer is too small. The length is then that of the reply.
-/// - 10 where memory is refused, for the stream's claims, for the names that change or for the join.
-///   None is asked for the reply.
+/// - 64 if the handle has no node.
+/// - 70 if the form is neither.
+/// - 1 to 21 if the bytes do not begin with a stream: the fault at which reading stops.
+/// - 23 if the dump has more than 131,072 records.
+/// - 66 if the buffer is too small. The length is then that of the reply.
+/// - 10 if out of memory, for the stream's claims, the names that change or the join. The reply
+///   takes none.
 #[unsafe(no_mangle)]
 pub extern "C" fn swimtab_raw_answer(
     alloc: Global,
@@ -92,16 +92,16 @@ pub extern "C" fn swimtab_raw_answer(
     exchanged
 }
 
-/// Finishes an exchange: reads one stream, the reply, from the front of the bytes, and takes its
-/// claims in (memberlist's `net.go`). Any dump can be taken in so.
+/// Finishes an exchange: reads one stream, the reply, from the start of the bytes, and takes its
+/// claims in (memberlist's `net.go`). Any dump can be taken in this way.
 ///
 /// # Statuses
 ///
-/// Where it is not 0 the node is as it was.
+/// If it is not 0, the node is unchanged.
 ///
-/// - 64 where the handle has no node.
-/// - 1 to 21 where no stream stands at the front: the fault at which its reading stops.
-/// - 10 where memory is refused.
+/// - 64 if the handle has no node.
+/// - 1 to 21 if the bytes do not begin with a stream: the fault at which reading stops.
+/// - 10 if out of memory.
 #[unsafe(no_mangle)]
 pub extern "C" fn swimtab_raw_finish(alloc: Global, node: &mut Handle, stream: &[u8]) -> Exchanged
     ensures finishes { OnNode node.old.node node.new.node
@@ -121,20 +121,19 @@ pub extern "C" fn swimtab_raw_finish(alloc: Global, node: &mut Handle, stream: &
     exchanged
 }
 
-/// Tells whether the bytes begin with a whole stream, as bytes come in pieces. The progress is all
-/// zero for the first call. Each later call has it as the call before left it, and bytes that begin
-/// with those of the call before: it reads on from the last whole record, so that each record is
-/// read once. No node is asked for, and no memory stays.
+/// Returns whether the bytes begin with a whole stream, if they come in pieces. For the first call
+/// the progress is all zero. Each later call gets it as the last call left it, and bytes that begin
+/// with those of the last call. It resumes after the last whole record, so that each record is read
+/// once. It needs no node and keeps no memory.
 ///
-/// Where it is 0 the stream has as many bytes as the place in the progress and the length of the user
-/// state together.
-/// What is read of it is no claim of a node: the answer and the finish read it once more.
+/// If it is 0, the length of the stream is the place in the progress plus the length of the user
+/// state. Nothing is taken into a node: the answer and the finish read the stream once more.
 ///
 /// # Statuses
 ///
-/// - 1 where the bytes end before the stream does: there may be one once more of them are there.
-/// - 2 to 21 where no stream stands at the front: the fault at which its reading stops.
-/// - 10 where memory is refused for a record. The same call may be made again.
+/// - 1 if the bytes end before the stream does: with more bytes there may be one.
+/// - 2 to 21 if the bytes do not begin with a stream: the fault at which reading stops.
+/// - 10 if out of memory for a record. The same call may be made again.
 #[unsafe(no_mangle)]
 pub extern "C" fn swimtab_raw_whole(alloc: Global, progress: &mut Progress, bytes: &[u8]) -> u32
     ensures progress { IsProgressIn bytes.now progress.old

@@ -16,8 +16,7 @@ use crate::status::{DONE, NO_NODE};
 use crate::telling::{list_out, member_at, member_named, relation_of};
 use std::alloc::Global;
 
-/// The number of members that the node knows of, itself among them, or 0 where the handle has no
-/// node.
+/// The number of members that the node knows, itself included, or 0 if the handle has no node.
 #[unsafe(no_mangle)]
 pub extern "C" fn swimtab_raw_count(alloc: Global, node: &mut Handle) -> usize
     ensures same { node.new.node ≡ node.old.node }
@@ -34,14 +33,14 @@ pub extern "C" fn swimtab_raw_count(alloc: Global, node: &mut Handle) -> usize
     }
 }
 
-/// Copies what the node knows of its i-th member, from 0 and in ascending byte order of the names.
+/// Copies what the node knows about its i-th member, from 0, in ascending byte order of the names.
 ///
 /// # Statuses
 ///
-/// Where it is not 0 what is to be written is as it was.
+/// If it is not 0, `member` is unchanged.
 ///
-/// - 64 where the handle has no node.
-/// - 67 where the node knows of no more than i members.
+/// - 64 if the handle has no node.
+/// - 67 if the node knows i members or fewer.
 #[unsafe(no_mangle)]
 pub extern "C" fn swimtab_raw_member(
     alloc: Global,
@@ -62,14 +61,14 @@ pub extern "C" fn swimtab_raw_member(
     status
 }
 
-/// Copies what the node knows of the member of this name.
+/// Copies what the node knows about the member of this name.
 ///
 /// # Statuses
 ///
-/// Where it is not 0 what is to be written is as it was.
+/// If it is not 0, `member` is unchanged.
 ///
-/// - 64 where the handle has no node.
-/// - 67 where the node knows of no such member.
+/// - 64 if the handle has no node.
+/// - 67 if the node knows no such member.
 #[unsafe(no_mangle)]
 pub extern "C" fn swimtab_raw_find(
     alloc: Global,
@@ -94,11 +93,11 @@ pub extern "C" fn swimtab_raw_find(
 ///
 /// # Statuses
 ///
-/// Where it is not 0 the buffer is as it was.
+/// If it is not 0, the buffer is unchanged.
 ///
-/// - 64 where the handle has no node.
-/// - 66 where the buffer is too small. The length is then that of the listing.
-/// - 10 where memory is refused.
+/// - 64 if the handle has no node.
+/// - 66 if the buffer is too small. The length is then that of the listing.
+/// - 10 if out of memory.
 #[unsafe(no_mangle)]
 pub extern "C" fn swimtab_raw_list(alloc: Global, node: &mut Handle, out: &mut [u8]) -> Written
     ensures tells { OnSame node.old.node node.new.node
@@ -115,7 +114,7 @@ pub extern "C" fn swimtab_raw_list(alloc: Global, node: &mut Handle, out: &mut [
     written
 }
 
-/// What came of a comparison.
+/// The result of a comparison.
 #[repr(C)]
 #[derive(Clone, Copy)]
 pub struct Related {
@@ -124,11 +123,11 @@ pub struct Related {
     pub relation: u32,
 }
 
-/// How the first node's table relates to the second's. Both stay.
+/// How the first node's table relates to the second's. Neither changes.
 ///
 /// # Statuses
 ///
-/// 64 where one of the handles has no node.
+/// 64 if one of the handles has no node.
 #[unsafe(no_mangle)]
 pub extern "C" fn swimtab_raw_relate(
     alloc: Global,

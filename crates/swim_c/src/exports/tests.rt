@@ -1,5 +1,5 @@
-//! The exports, called as C calls them. Each call that asks for memory is made again where one
-//! allocation is refused, and finds what it would have found at first.
+//! The exports, called as C calls them. Each call that takes memory is repeated if one allocation
+//! is refused, and then finds what it would have found at first.
 
 mod keyrings;
 mod streams;
@@ -23,10 +23,10 @@ use std::process::Abort;
 /// `b` suspects `a` at incarnation 0.
 const SUSPICION: &[u8] = b"\x03\x83\xa4From\xa1b\xabIncarnation\x00\xa4Node\xa1a";
 
-/// `a` left by its own word at incarnation 1.
+/// `a` left at incarnation 1, by its own claim.
 const LEAVE: &[u8] = b"\x05\x83\xa4From\xa1a\xabIncarnation\x01\xa4Node\xa1a";
 
-/// `a` confirms the death of `b` at incarnation 0.
+/// `a` declares `b` dead at incarnation 0.
 const DEATH: &[u8] = b"\x05\x83\xa4From\xa1a\xabIncarnation\x00\xa4Node\xa1b";
 
 /// `a` suspects `b` at incarnation 0.
@@ -124,7 +124,7 @@ fn room() -> Member {
     }
 }
 
-/// Asserts that this is `a` as it is opened.
+/// Asserts that this is `a` as it was opened.
 fn assert_is_a(rt: &impl Abort, member: &Member) {
     assert_eq!(rt; member.state, 0);
     assert_eq!(rt; member.inc, 0);
@@ -159,7 +159,7 @@ fn a_member_is_copied_by_its_name(rt: HostRuntime) {
     assert_eq!(rt; swimtab_raw_close(alloc, &mut node), 0);
 }
 
-/// Asserts that the member says so, by these bytes.
+/// Asserts that the call wrote these bytes.
 fn assert_says(rt: &impl Abort, said: Written, out: &[u8], bytes: &[u8]) {
     if said.status == 10 {
         return;
@@ -232,7 +232,7 @@ fn an_exchange_levels_two_nodes(rt: HostRuntime) {
     assert_eq!(rt; swimtab_raw_close(alloc, &mut second), 0);
 }
 
-/// Exchanges the tables of two nodes, up to the call that lacks memory.
+/// Exchanges the tables of two nodes, up to the call that runs out of memory.
 fn exchange(rt: &impl Abort, alloc: Global, first: &mut Handle, second: &mut Handle) {
     let mut wire = [0; 200];
     let mut reply = [0; 200];

@@ -1,4 +1,4 @@
-//! The names that change, noted and told.
+//! The names that change, noted and read.
 
 ghost use Rattle.std.specs.Prelude.{◌≡◌, MatchOption};
 ghost use Rattle.swim_c.specs.Members.{MemberDone};
@@ -11,12 +11,12 @@ use crate::next_change::next_change;
 use crate::status::{DONE, NO_NODE};
 use std::alloc::Global;
 
-/// Begins to note the names whose entries change, with none noted, or stops and lets the noted ones
-/// go. The node stays. No memory is asked for.
+/// Starts to note the names whose entries change, with none noted yet, or stops and drops the noted
+/// names. The node does not change. It takes no memory.
 ///
 /// # Statuses
 ///
-/// 64 where the handle has no node.
+/// 64 if the handle has no node.
 #[unsafe(no_mangle)]
 pub extern "C" fn swimtab_raw_watch(alloc: Global, node: &mut Handle, on: bool) -> u32
     ensures status { OnSame node.old.node node.new.node (result ≡ 64) (λ _. result ≡ 0) }
@@ -31,15 +31,15 @@ pub extern "C" fn swimtab_raw_watch(alloc: Global, node: &mut Handle, on: bool) 
     DONE
 }
 
-/// Copies what the node knows of the first noted name, in byte order, which is then noted no longer.
-/// No memory is asked for.
+/// Copies what the node knows about the first noted name, in byte order, and no longer notes that
+/// name. It takes no memory.
 ///
 /// # Statuses
 ///
-/// Where it is not 0 what is to be written and the noted names are as they were.
+/// If it is not 0, `member` and the noted names are unchanged.
 ///
-/// - 64 where the handle has no node.
-/// - 67 where no name is noted.
+/// - 64 if the handle has no node.
+/// - 67 if no name is noted.
 #[unsafe(no_mangle)]
 pub extern "C" fn swimtab_raw_next_change(
     alloc: Global,

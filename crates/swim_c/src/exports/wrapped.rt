@@ -1,4 +1,4 @@
-//! Packets and streams as a real cluster sends them: unwrapped and opened, and sealed.
+//! Packets and streams as a real cluster sends them: unwrapping and decrypting, and encrypting.
 
 ghost use Rattle.std.specs.Prelude.{◌≡◌, MatchBool};
 ghost use Rattle.swim_c.specs.Keyring.{keys_of};
@@ -12,22 +12,22 @@ use crate::unwrapping::{unwrap_out, unwrap_stream_out};
 use memberlist_keyring::Keyring;
 use std::alloc::Global;
 
-/// Writes the message of a packet to the buffer, if it makes claims: its checksums, compressions
-/// and labels are taken off, and what is encrypted is opened with the keys. The message, and what
-/// is compressed or encrypted, has at most 1,048,576 bytes. The keyring stays; a handle without one
+/// Writes the message of a packet to the buffer, if it makes claims. It removes checksums,
+/// compressions and labels, and decrypts with the keys. Neither the message, nor what is compressed
+/// or encrypted, has more than 1,048,576 bytes. The keyring does not change; a handle without one
 /// has no key.
 ///
 /// # Statuses
 ///
-/// If it is not 0 the buffer is as it was.
+/// If it is not 0, the buffer is unchanged.
 ///
-/// - 16 if the message is a whole one that makes no claims, or is none; without keys, also if it is
-///   encrypted.
+/// - 16 if the message is whole but makes no claims, or is not a message; without keys, also if it
+///   is encrypted.
 /// - 1 if it is empty.
-/// - 40 to 48 if the wrappers are wrong (docs/PROTOCOL.md).
-/// - 54 if it is encrypted and no key opens it.
+/// - 40 to 48 if the wrappers are invalid (docs/PROTOCOL.md).
+/// - 54 if it is encrypted and no key decrypts it.
 /// - 66 if the buffer is too small. The length is then that of the message.
-/// - 10 if memory is refused.
+/// - 10 if out of memory.
 #[unsafe(no_mangle)]
 pub extern "C" fn swimtab_raw_unwrap(
     alloc: Global,
@@ -47,26 +47,25 @@ pub extern "C" fn swimtab_raw_unwrap(
     written
 }
 
-/// Writes the push/pull stream that bytes hold to the buffer: its checksums, compressions and labels
-/// are taken off, and what is encrypted is opened with the keys. Neither it, nor what is compressed
-/// or encrypted, has more than 268,435,456 bytes. The keyring stays; a handle without one has no
-/// key.
+/// Writes the push/pull stream in the bytes to the buffer. It removes checksums, compressions and
+/// labels, and decrypts with the keys. Neither the stream, nor what is compressed or encrypted, has
+/// more than 268,435,456 bytes. The keyring does not change; a handle without one has no key.
 ///
-/// The side that answers writes no label before its stream, and yet associates it. So bytes that do
-/// not begin with a label are read as if this one, the cluster's, stood before them; an empty one
-/// is none.
+/// The side that replies does not write the label before its stream, but authenticates it. So bytes
+/// that do not begin with a label are read as if they began with this one, the cluster's; an empty
+/// one is no label.
 ///
 /// # Statuses
 ///
-/// If it is not 0 the buffer is as it was.
+/// If it is not 0, the buffer is unchanged.
 ///
-/// - 16 if it is no push/pull stream; without keys, also if it is encrypted.
+/// - 16 if it is not a push/pull stream; without keys, also if it is encrypted.
 /// - 1 if it is empty.
-/// - 40 to 48 if the wrappers are wrong, and 51 to 57 if it is encrypted and no key opens it: the
-///   fault of the last key (docs/PROTOCOL.md).
+/// - 40 to 48 if the wrappers are invalid, and 51 to 57 if it is encrypted and no key decrypts it:
+///   the fault of the last key (docs/PROTOCOL.md).
 /// - 51 if the label has more than 255 bytes.
 /// - 66 if the buffer is too small. The length is then that of the stream.
-/// - 10 if memory is refused.
+/// - 10 if out of memory.
 #[unsafe(no_mangle)]
 pub extern "C" fn swimtab_raw_unwrap_stream(
     alloc: Global,
@@ -87,18 +86,18 @@ pub extern "C" fn swimtab_raw_unwrap_stream(
     written
 }
 
-/// Writes a packet with this message to the buffer, encrypted under the first key with this nonce.
-/// The label stands before it, and is associated with it; an empty one is not written. A nonce must
-/// not be used twice under one key, be it for packets or streams. Without a key the message is
-/// written in the clear, behind its label. The keyring stays.
+/// Writes a packet with this message to the buffer, encrypted with the first key and this nonce.
+/// The label comes before it and is authenticated with it; an empty one is not written. Never use a
+/// nonce twice with one key, for packets or streams. Without a key the message is written in the
+/// clear, after its label. The keyring does not change.
 ///
 /// # Statuses
 ///
-/// If it is not 0 the buffer is as it was.
+/// If it is not 0, the buffer is unchanged.
 ///
 /// - 51 if the label has more than 255 bytes, or what is to be encrypted more than 2^36 - 32.
 /// - 66 if the buffer is too small. The length is then that of the packet.
-/// - 10 if memory is refused.
+/// - 10 if out of memory.
 #[unsafe(no_mangle)]
 pub extern "C" fn swimtab_raw_seal(
     alloc: Global,
@@ -120,19 +119,19 @@ pub extern "C" fn swimtab_raw_seal(
     written
 }
 
-/// Writes a stream with this message to the buffer, encrypted under the first key with this nonce,
-/// as [`swimtab_raw_seal`] does a packet. The side that opens a connection writes a label before
-/// its stream. The reply to one is written without it: with a key the label is associated all the
-/// same, and without one it is not used.
+/// Writes a stream with this message to the buffer, encrypted with the first key and this nonce, as
+/// [`swimtab_raw_seal`] does a packet. The side that opens a connection writes the label before its
+/// stream. A reply is written without it: with a key the label is still authenticated, and without
+/// one it is not used.
 ///
 /// # Statuses
 ///
-/// If it is not 0 the buffer is as it was.
+/// If it is not 0, the buffer is unchanged.
 ///
-/// - 51 if the label has more than 255 bytes, unless it is not used; or what is to be encrypted has
-///   more than 268,435,427.
+/// - 51 if the label has more than 255 bytes, unless it is not used; or if what is to be encrypted
+///   has more than 268,435,427.
 /// - 66 if the buffer is too small. The length is then that of the stream.
-/// - 10 if memory is refused.
+/// - 10 if out of memory.
 #[unsafe(no_mangle)]
 pub extern "C" fn swimtab_raw_seal_stream(
     alloc: Global,

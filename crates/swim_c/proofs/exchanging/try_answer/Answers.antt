@@ -7,7 +7,7 @@ use Rattle.swim_c.proofs.Faults.{stream_unread, reply_refused}
 use Rattle.swim_c.proofs.Halves.{answered}
 use Rattle.swim_c.proofs.exchanging.try_answer.Goals as goal
 
--- a dump that fits was copied to the front
+-- a dump that fits was copied to the start
 copied : (own table third : Entries) (len : ℕ) (old new : List ℕ) (d : Entries → List ℕ) → own ≡ table → third ≡ table
     → len ≡ length (d own) → len ≤ length old → new ≡ d third ++ drop len old → Copied (d table) old new 0 len
 copied own table third len old new d is again sized fits put =

@@ -1,5 +1,5 @@
-//! Keyrings, and packets and streams that are sealed and unwrapped, against bytes that python's
-//! cryptography sealed. If an allocation is refused the call is made again.
+//! Keyrings, and packets and streams that are encrypted and unwrapped, against bytes that Python's
+//! cryptography encrypted. If an allocation is refused, the call is repeated.
 
 use crate::copy::Written;
 use crate::exports::keyrings::{swimtab_raw_keyring_add, swimtab_raw_keyring_close};
@@ -10,12 +10,12 @@ use crate::keyring::KeyringHandle;
 use std::alloc::Global;
 use std::process::Abort;
 
-/// A key of 16 bytes, and another one of 24.
+/// A key of 16 bytes, and another of 24.
 const KEY: &[u8] = b"\x10\x17\x1e\x25\x2c\x33\x3a\x41\x48\x4f\x56\x5d\x64\x6b\x72\x79";
 
 const OTHER: &[u8] = b"another key of 24 bytes.";
 
-/// An alive packet of `a`, and under `KEY` behind the label `dc`.
+/// An alive packet of `a`, in the clear and encrypted with `KEY` after the label `dc`.
 const ALIVE: &[u8] =
     b"\x04\x86\xa4Addr\xa4\x7f\x00\x00\x01\xabIncarnation\x00\xa4Meta\xa0\xa4Node\xa1a\xa4Port\
       \xcd\x1f\x0a\xa3Vsn\xa0";
@@ -25,7 +25,7 @@ const SEALED: &[u8] =
       \x15\x853\xac[\x98P\xe4M~\xed\x8a\xbdkK\x98\xa8\xb5\xfb4\xa4\xd3!\x18\x7f3r\xc0\xb7\x93\
       \x84S\x20b\xb2\xa68\x8412\x96\xf0\xbe\x0e\xf2K";
 
-/// A stream of one member, and under `KEY` without a label.
+/// A stream of one member, in the clear and encrypted with `KEY` without a label.
 const STREAM: &[u8] =
     b"\x06\x83\xa4Join\xc2\xa5Nodes\x01\xacUserStateLen\x00\x87\xa4Addr\xa4\x7f\x00\x00\x01\
       \xabIncarnation\x00\xa4Meta\xa0\xa4Name\xa1a\xa4Port\xcd\x1f\x0a\xa5State\x00\xa3Vsn\xa0";
@@ -36,7 +36,7 @@ const SEALED_STREAM: &[u8] =
       E\xc7\xb0\\\x0e\x8at\x81B\xe8\x18\x11\xa4\xcb@\xf3\xc7\x99\x06VW\xaa\xb4z\x8b\xab\x9a\
       \xfe\xbb|Q_2\xb3<\xf6\xeb\xda\xa4\xc1\xc1t\x93J\x92\xcb\x9ar\x1b\xe8\xeeY\x1a\xf8\x8f";
 
-/// The stream as the reply to one in a cluster with the label `dc`, under `KEY`.
+/// The stream as a reply in a cluster with the label `dc`, encrypted with `KEY`.
 const SEALED_REPLY: &[u8] =
     b"\x0a\x00\x00\x00s\x01nonce-number\xb0\x9d\x0f\xe2/pTc\x8d\x13\xece\xed[\xe1;\xef\xc5\x82\
       EX\x08\x8b)\xc9\xb3\xb0[\x90\xabz\x08\xa0\xb6}\x8aF\xc9\x11\xaa\xf0\x9f\xc9\x8ff\x07\xfe\
@@ -77,14 +77,14 @@ fn call(
     }
 }
 
-/// Asserts that a key of this length is taken in.
+/// Asserts that a key of this length is added.
 fn assert_adds(rt: &impl Abort, alloc: Global, keyring: &mut KeyringHandle, key: &[u8]) {
     if swimtab_raw_keyring_add(alloc, keyring, key) == 10 {
         assert_eq!(rt; swimtab_raw_keyring_add(alloc, keyring, key), 0);
     }
 }
 
-/// Asserts that the call has this status, and writes the wanted bytes and nothing behind them.
+/// Asserts that the call has this status, and writes the wanted bytes and nothing after them.
 fn assert_writes(
     rt: &impl Abort,
     alloc: Global,

@@ -1,5 +1,5 @@
-//! Dumps in both forms, streams in pieces, bytes of the library, names that are forgotten, and
-//! other members' packets. If an allocation is refused the call is made again.
+//! Dumps in both forms, streams in pieces, bytes of the library, forgotten names, and other
+//! members' packets. If an allocation is refused, the call is repeated.
 
 use super::{ALIVE, DEATH, SUSPECT, assert_says, assert_takes, opened, room};
 use crate::buffer::Buffer;
@@ -18,7 +18,7 @@ use crate::progress::Progress;
 use std::alloc::Global;
 use std::process::Abort;
 
-/// The dump of `a` alone, as it is opened.
+/// The dump of `a` alone, as it was opened.
 const STREAM: &[u8] =
     b"\x06\x83\xa4Join\xc2\xa5Nodes\x01\xacUserStateLen\x00\x87\xa4Addr\xa4\x7f\x00\x00\x01\
       \xabIncarnation\x00\xa4Meta\xa0\xa4Name\xa1a\xa4Port\xcd\x1f\x0a\xa5State\x00\xa3Vsn\xa0";
@@ -82,7 +82,7 @@ fn a_dead_member_came_back(rt: HostRuntime) {
 const ALIVE_AGAIN: &[u8] =
     b"\x04\x86\xa4Addr\xa4\x7f\0\0\x01\xabIncarnation\x01\xa4Meta\xa0\xa4Node\xa1b\xa4Port\xcd\x1f\x0a\xa3Vsn\xa0";
 
-/// How many bytes of the library the dump in the form has, or 0 if memory is refused twice.
+/// The length of the dump in the form, in memory of the library, or 0 if memory is refused twice.
 fn offered(alloc: Global, node: &mut Handle, form: u32, buffer: &mut Buffer) -> usize {
     if swimtab_raw_offer_new(alloc, node, false, form, buffer) == 10 {
         let _ = swimtab_raw_offer_new(alloc, node, false, form, buffer);
@@ -129,7 +129,7 @@ fn the_library_keeps_bytes_until_they_are_freed(rt: HostRuntime) {
     assert_eq!(rt; swimtab_raw_close(alloc, &mut node), 0);
 }
 
-/// Whether a whole stream is there.
+/// Whether the bytes begin with a whole stream.
 fn whole(alloc: Global, progress: &mut Progress, bytes: &[u8]) -> u32 {
     let status = swimtab_raw_whole(alloc, progress, bytes);
     if status == 10 {

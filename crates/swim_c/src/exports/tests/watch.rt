@@ -1,4 +1,4 @@
-//! The names that change, noted and told. If memory is refused, nothing is noted.
+//! The names that change, noted and read. If memory is refused, nothing is noted.
 
 use super::{ALIVE, SUSPECT, SUSPICION, opened, room};
 use crate::exports::forgetting::swimtab_raw_forget;
@@ -14,8 +14,8 @@ use std::process::Abort;
 const BOTH: &[u8] =
     b"\x07\x02\x00\x1d\x00\x1d\x03\x83\xa4From\xa1b\xabIncarnation\x00\xa4Node\xa1a\x03\x83\xa4From\xa1a\xabIncarnation\x00\xa4Node\xa1b";
 
-/// Packets, whether a node `b` that knows nothing else has news of them in this order, and the names
-/// that change then.
+/// Packets, whether a node `b` that knows nothing else has news from them in this order, and the
+/// names that change then.
 const HEARD: &[(&[u8], bool, &[u8])] = &[
     (ALIVE, true, b"a"),
     // the same again, and an older claim
@@ -26,7 +26,7 @@ const HEARD: &[(&[u8], bool, &[u8])] = &[
     (BOTH, false, b""),
 ];
 
-/// Asserts that these names of one byte each are told, and then no more.
+/// Asserts that these names of one byte each are returned, and then no more.
 fn assert_told(rt: &impl Abort, alloc: Global, node: &mut Handle, names: &[u8]) {
     let mut member = room();
     for name in names {
@@ -36,7 +36,8 @@ fn assert_told(rt: &impl Abort, alloc: Global, node: &mut Handle, names: &[u8]) 
     assert_eq!(rt; swimtab_raw_next_change(alloc, node, &mut member), 67);
 }
 
-/// Asserts what the node has of a packet. If memory is refused it has nothing, and hears it again.
+/// Asserts what the node takes from a packet. If memory is refused it takes nothing, and gets the
+/// packet again.
 fn assert_hears(rt: &impl Abort, alloc: Global, node: &mut Handle, row: &(&[u8], bool, &[u8])) {
     let (bytes, news, names) = *row;
     let mut heard = swimtab_raw_take(alloc, node, bytes);
@@ -80,7 +81,8 @@ fn a_forgotten_name_is_not_told(rt: HostRuntime) {
     assert_eq!(rt; swimtab_raw_close(alloc, &mut node), 0);
 }
 
-/// Asserts what the node has of a stream. If memory is refused it has nothing, and reads it again.
+/// Asserts what the node takes from a stream. If memory is refused it takes nothing, and reads it
+/// again.
 fn assert_finishes(
     rt: &impl Abort,
     alloc: Global,

@@ -1,4 +1,4 @@
--- `of` has the box taken apart by `into_raw`, and keeps the pointer with all that it stands for.
+-- `of` takes the box apart with `into_raw`, and keeps the pointer with all that it represents.
 use Rattle.std.proofs.Common.{[], ◌∷◌, ◌++◌, refl, ap, List, Some, true}
 use Rattle.std.proofs.raw_atomic.Walks.{proved_at}
 use mir.Val.{Val, vbool}
