@@ -23,7 +23,7 @@ kept_case None (Some t) P P' Q R is not f h = elim (is.0 refl) [ inl one ↦ abs
 kept_case (Some s) None P P' Q R is not f h = let some = is.1 (inl refl) in absurd (cc (some))
 kept_case (Some s) (Some t) P P' Q R is not f h = h
 
--- the join of two tables has of a name what both have
+-- the join of two tables has about a name what both have
 pub get-Join : (table other : Entries) → TableOf table (Reduced table) → TableOf other (Reduced other) → (name : List ℕ)
     → get (Join table other) name ≡ joined (get table name) (get other name)
 get-Join table other h g =
@@ -51,11 +51,11 @@ also_noted before after c h w name = elim (get_cases (standing_of c) [] name) [
     some None s o' is = subst IsSome (sym is) refl
     some (Some t) s o' is = subst IsSome (sym is) refl
 
--- what joining changes of a name: with the other table, and with one entry of it
+-- what joining changes about a name: with the other table, and with one entry of it
 abbrev pub IsChanged : Option Standing → Option Standing → Type 0
 IsChanged own theirs = joined own theirs ≢ own
 
--- the names found so far are those that change, but for what is left of the other table
+-- the names found so far are those that change, except for what is left of the other table
 pub record IsSearching (table other news rest : Entries) : Type 0 where
   pub own : TableOf news (Reduced news)
   pub ascending : IsAscending rest

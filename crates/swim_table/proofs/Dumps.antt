@@ -57,7 +57,7 @@ dump_read_back table other join flag claims legal few is text =
       same.1,
     )
 
--- tables of one dump are the same
+-- tables with the same dump are the same
 pub same_table_dumped : (table other : Entries) (join flag : Bool) → IsLegalTable table → IsLegalTable other → length
     (Reduced table) ≤ 131072 → length (Reduced other) ≤ 131072
     → dump_bytes table join ≡ dump_bytes other flag → (table ≡ other) × (join ≡ flag)

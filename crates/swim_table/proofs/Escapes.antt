@@ -14,7 +14,7 @@ abbrev agrees : Bool → Bool → Bool
 agrees true b = not b
 agrees false b = b
 
--- the bytes below n are escaped exactly where they are not visible, which computes
+-- the bytes below n are escaped exactly if they are not visible; this computes
 abbrev all_agree : ℕ → Bool
 all_agree zero = true
 all_agree (suc n) = agrees (should_percent_encode ESCAPED n) (is_visible n) && all_agree n

@@ -1,4 +1,4 @@
--- Fields of a text, with a separator between them that none of them has.
+-- Fields of a text, separated by a byte that none of them has.
 use Rattle.std.proofs.Common.{◌≡◌, ◌≢◌, ℕ, zero, suc, ◌+◌, ◌%◌, ◌^◌, ◌<◌, ◌≤◌, List, [], ◌∷◌, ◌++◌, All, true, refl, ap, arith}
 use Rattle.std.specs.Prelude.{decimal}
 use Rattle.std.proofs.lemmas.Bool.Decides.{nat_tests}
@@ -11,11 +11,11 @@ use Rattle.hex.proofs.HexLemmas.{decode_of-encode_lower, decode_of-ok}
 abbrev pub Lacks : ℕ → List ℕ → Type 0
 Lacks separator text = All (λ b. b ≢ separator) text
 
--- the bytes are a minus, a slash, or above them, up to the letter f
+-- the bytes are a minus, a slash, or those above, up to the letter f
 abbrev pub IsFieldByte : ℕ → Type 0
 IsFieldByte b = (45 ≤ b) × (b ≤ 102)
 
--- texts that are the same have the same first field, and the same after it
+-- equal texts have the same first field, and the same rest
 pub same_first : (separator : ℕ) (xs ys us vs : List ℕ) → Lacks separator xs → Lacks separator ys
     → xs ++ separator ∷ us ≡ ys ++ separator ∷ vs → (xs ≡ ys) × (us ≡ vs)
 same_first separator [] [] us vs h g same = (refl, cc)

@@ -1,4 +1,4 @@
--- What a table is without a name.
+-- A table without a name.
 use Rattle.std.proofs.Common.{◌≡◌, ◌≢◌, ℕ, zero, suc, ◌⊎◌, inl, inr, Bool, true, false, not, cond, Option, Some, None, List, [], ◌∷◌, Contains, refl, sym, ap, subst, ◌∙◌, arith, true≢false}
 use Rattle.std.specs.List.{remove}
 use Rattle.std.specs.Ordering.{is_eq}
@@ -58,11 +58,11 @@ stays name (d ∷ claims) c made other = by_test (is_other name d) refl (Contain
         absurd (true≢false (sym passes ∙ e))
     by_test false e (inr later) again = again later other
 
--- they say nothing of the name
+-- they say nothing about the name
 Says-none : (name : List ℕ) (claims : List Claim) → Says (about_others name claims) name None
 Says-none name claims = other_named name claims
 
--- and of another name what all claims say of it
+-- and about another name what all claims say about it
 IsHomeOf-others : (name n : List ℕ) (claims : List Claim) (o : Option Claim) → n ≢ name → IsHomeOf claims n o → IsHomeOf (about_others name claims) n o
 IsHomeOf-others name n claims None other h = λ c made. h c (within name claims c made)
 IsHomeOf-others name n claims (Some a) other h = (
@@ -182,7 +182,7 @@ forgotten_by old new name legal up none same =
       all = all;
     }
 
--- so it is where the entry at the place of the name was removed
+-- the same if the entry at the place of the name was removed
 pub entry_forgotten : (entries old new : Entries) (name : List ℕ) (i : ℕ) → entries ≡ old → IsLegalTable entries → IsAt entries name i
     → new ≡ remove entries i → IsForgotten old new name
 entry_forgotten entries old new name i view legal at is =
@@ -196,7 +196,7 @@ pub entry_forgotten_kept : (entries old : Entries) (name : List ℕ) (i : ℕ) �
 entry_forgotten_kept entries old name i view legal at new is =
     (entry_forgotten entries old new name i view legal at is).all (Reduced old) (subst IsLegalTable view legal).own
 
--- and where there was none
+-- and if there was none
 pub none_forgotten : (entries old : Entries) (name : List ℕ) (i : ℕ) → entries ≡ old → IsLegalTable entries → IsGapFor entries name i
     → IsForgotten old old name
 none_forgotten entries old name i view legal gap =

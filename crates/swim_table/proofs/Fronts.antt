@@ -1,4 +1,4 @@
--- The fronts of two names as numbers are ordered as the names are.
+-- The prefixes of two names, as numbers, are ordered as the names are.
 use Rattle.std.proofs.Common.{◌≡◌, ◌≢◌, ℕ, zero, suc, ◌+◌, ◌*◌, ◌^◌, ◌<◌, ◌≤◌, ◌⊎◌, inl, inr, List, [], ◌∷◌, drop, refl, sym, ap, ◌∙◌, arith, mul-le-mul_right, get_or-drop}
 use Rattle.std.specs.Prelude.{slice_index}
 use Rattle.std.specs.Ordering.{nat_cmp, ordering_then, MatchOrdering}
@@ -13,11 +13,11 @@ use Rattle.swim_table.specs.Prefix.{eight_bytes, IsPrefixOf}
 use Rattle.swim_table.specs.Table.{name_cmp}
 use Rattle.swim_table.proofs.Place.{turned}
 
--- each number of the list is a byte's
+-- each number in the list is a byte
 abbrev Bytes : List ℕ → Type 0
 Bytes xs = (k : ℕ) → slice_index xs k < 256
 
--- one number is spelt by the same bytes
+-- equal bytes spell the same number
 pub big_from-same : (i n : ℕ) (xs ys : List ℕ) → ((k : ℕ) → i ≤ k → k < i + n → slice_index xs k ≡ slice_index ys k) → big_from i n xs ≡ big_from i n ys
 big_from-same i zero xs ys same = refl
 big_from-same i (suc n) xs ys same =
@@ -38,7 +38,7 @@ nil_first : (xs : List ℕ) → name_cmp [] xs ≢ Greater
 nil_first [] = λ e. absurd (cc)
 nil_first (x ∷ xs) = λ e. absurd (cc)
 
--- of two names in order the fronts are in order, and behind fronts that are alike what follows
+-- if two names are in order, so are their prefixes, and, after equal prefixes, the rest
 rises : (n : ℕ) (xs ys : List ℕ) → Bytes xs → Bytes ys → name_cmp xs ys ≢ Greater →
     (big_from 0 n xs < big_from 0 n ys) ⊎ ((big_from 0 n xs ≡ big_from 0 n ys) × (name_cmp (drop n xs) (drop n ys) ≢ Greater))
 rises zero xs ys small small' up = inr (refl, up)
@@ -73,7 +73,7 @@ rises (suc n) (x ∷ xs) (y ∷ ys) small small' up =
         ]
     by_answer later Greater e above = absurd (up (ap (λ o. ordering_then o (name_cmp xs ys)) e))
 
--- the one prefix is below the other
+-- the first prefix is below the second
 abbrev IsBelow : Prefix → Prefix → Type 0
 IsBelow p q = (p.high < q.high) ⊎ ((p.high ≡ q.high) × (p.low < q.low))
 
@@ -108,7 +108,7 @@ ordered p q Less below xs ys h g differ = sym (below_less p q xs ys h g below)
 ordered p q Equal below xs ys h g differ = absurd (differ refl)
 ordered p q Greater below xs ys h g differ = sym (turned ys xs Less (below_less q p ys xs g h below))
 
--- by the first halves, or by the second ones where the first are alike
+-- by the first halves, or by the second ones if the first are equal
 pub by_high : (p q : Prefix) (o : Ordering) → o ≡ nat_cmp p.high q.high → MatchOrdering o (IsBelow p q) (Unit {0}) (IsBelow q p)
 by_high p q o is = by_answer o (ranked p.high q.high o is)
   where

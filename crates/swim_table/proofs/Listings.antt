@@ -1,4 +1,4 @@
--- A listing tells all that its table says.
+-- A listing shows all that its table says.
 use Rattle.std.proofs.Common.{◌≡◌, ◌≢◌, ℕ, ◌<◌, ◌≤◌, ◌^◌, Option, Some, None, List, [], ◌∷◌, ◌++◌, Contains, true, false, codes, decimal, get_or, length, length-append, append_assoc, refl, sym, ap, subst, ◌∙◌, arith}
 use Rattle.std.specs.List.{list_all}
 use Rattle.std.specs.Prelude.{IfSome, ◌==◌, not}
@@ -25,7 +25,7 @@ use Rattle.swim_table.proofs.Fields.{Lacks, same_first, All-decimal, All-encode_
 use Rattle.swim_table.proofs.Lookups.{get_contained}
 use Rattle.swim_table.proofs.Tables.{alive_top_is_home}
 
--- ---- what no field has
+-- ---- what no field contains
 
 kept_is_no_space : (b : ℕ) → should_percent_encode ESCAPED b ≡ false → b ≢ 32
 unfolding should_percent_encode
@@ -59,7 +59,7 @@ bytes_lack separator bytes low small =
 slash_lacks : (separator : ℕ) → separator < 45 → Lacks separator (codes "/")
 slash_lacks separator low = All-cons (λ b. b ≢ separator) 47 [] (λ is. absurd (omega arith)) (All-nil (λ b. b ≢ separator))
 
--- numbers of 32 bits are fewer than those of 64
+-- numbers of 32 bits fit into 64
 wider : (n : ℕ) → n < 2 ^ 32 → n < 2 ^ 64
 wider n small = omega arith
 
@@ -83,7 +83,7 @@ address_lacks separator inc d low small legal =
     (bytes_lack separator d.meta below legal.meta_bytes)) slash)
     (bytes_lack separator d.vsn below legal.vsn_bytes)
 
--- ---- what a line tells
+-- ---- what a line shows
 
 -- an Alive about the name, within its limits
 pub record IsHomeFor (name : List ℕ) (home : Claim) : Type 0 where
@@ -91,7 +91,7 @@ pub record IsHomeFor (name : List ℕ) (home : Claim) : Type 0 where
   pub about : name_of home ≡ name
   pub legal : IsLegalClaim home
 
--- an entry as those of a table are
+-- an entry like those of a table
 pub record IsSound (s : Standing) : Type 0 where
   pub top : IsLegalClaim s.top
   pub home : IfSome s.home (IsHomeFor (name_of s.top))
@@ -161,7 +161,7 @@ same_address i j d e small small' h g same =
     let same_vsn = encode_lower_injective d.vsn e.vsn h.vsn_bytes g.vsn_bytes meta.1 in
     (same_number i j small small' inc.0, λ k. record { addr = same_addr k; port = same_port k; meta = same_meta k; vsn = same_vsn k })
 
--- no address is the sign that there is none
+-- no address is the sign for none
 no_address : (i : ℕ) (d : DetailsValue) → address_text i d ≢ codes "-"
 no_address i d same =
     let long = ap length (sym (address_is i d) ∙ same) in
@@ -187,7 +187,7 @@ same_home name (Some (Alive n i d)) (Some (Alive m j e)) h g same =
     let details = parts.1 in
     cc (names, incs, details)
 
--- claims of one kind, name and incarnation, of which an Alive is the home
+-- claims with one name, kind and incarnation are the same if an Alive among them is the home
 same_top : (c d : Claim) (a b : Option Claim) → name_of c ≡ name_of d → kind_of c ≡ kind_of d → inc_of c ≡ inc_of d →
     (IsAlive c → a ≡ Some c) → (IsAlive d → b ≡ Some d) → a ≡ b → c ≡ d
 same_top (Alive n i x) (Alive m j y) a b name kinds incs h g homes =
@@ -215,7 +215,7 @@ line_is : (s : Standing) (after : List ℕ) → line s ++ after ≡ percent_enco
     (state_word (kind_of s.top) ++ 32 ∷ (decimal (inc_of s.top) ++ 32 ∷ (home_text s.home ++ 10 ∷ after)))
 line_is s after = simp append_assoc
 
--- listings that are the same have the same first entry, and the same lines after it
+-- equal listings have the same first entry, and the same lines after it
 same_line : (s t : Standing) (us vs : List ℕ) → IsSound s → IsSound t → line s ++ us ≡ line t ++ vs → (s ≡ t) × (us ≡ vs)
 same_line s t us vs h g same =
     let space : 32 < 48 = omega arith in
@@ -241,7 +241,7 @@ same_line s t us vs h g same =
     (same_number (inc_of s.top) (inc_of t.top) h.top.inc g.top.inc inc.0) h.alive g.alive homes in
     (λ k. record { top = tops k; home = homes k }, home.1)
 
--- ---- what a listing tells
+-- ---- what a listing shows
 
 -- every entry of the table is sound
 abbrev AreSound : Entries → Type 0

@@ -1,4 +1,5 @@
--- The dump that memberlist merges is a stream of the claims of the names with a home, and of no others.
+-- The dump that memberlist merges is a stream of the claims about names with a home, and of no
+-- others.
 use Rattle.std.proofs.Common.{◌≡◌, ℕ, ◌≤◌, Bool, List, [], ◌∷◌, ◌++◌, length, All, Contains, Option, Some, None, inl, inr, refl, sym, ap, subst, append_assoc, append-nil, if◌then◌else◌, arith}
 use Rattle.std.proofs.lemmas.List.Elements.{All-head, All-tail, All-weaker, All-contains, All-contains_itself, Contains-append_left, Contains-append_right, Contains-append_cases}
 use Rattle.std.specs.List.{flat_map}
@@ -68,7 +69,7 @@ kept_at_homes (entry ∷ rest) s c at known made = elim (Contains-append_cases (
 
 -- ---- its records
 
--- records beside details are the texts of their claims
+-- records with other details are the texts of their claims
 StateTexts-beside : (details : DetailsValue) (claims : List Claim) → Fits details → All IsLegalClaim claims → StateTexts
     (flat_map (state_bytes_with details) claims) claims
 StateTexts-beside details [] fits legal = none
@@ -96,7 +97,7 @@ entry_texts top (Some home) legal =
     let entry : Standing = record { top = top; home = Some home } in
     StateTexts-beside (home_details entry) (kept entry) (Fits-home home (All-contains IsLegalClaim (kept entry) home legal (0, omega arith, refl))) legal
 
--- what holds of all elements of a list holds of those of a part of it
+-- what holds for all elements of a list holds for those of a part of it
 All-part : (xs ys : List Claim) → ((c : Claim) → Contains xs c → Contains ys c) → All IsLegalClaim ys → All IsLegalClaim xs
 All-part xs ys within all = All-weaker (Contains xs) IsLegalClaim (λ c at. All-contains IsLegalClaim ys c all (within c at)) xs (All-contains_itself xs)
 

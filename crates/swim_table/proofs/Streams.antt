@@ -1,4 +1,4 @@
--- A push/pull stream of which a part is read.
+-- A push/pull stream of which a part was read.
 use Rattle.std.proofs.Common.{◌≡◌, ◌≢◌, ℕ, ◌+◌, ◌≤◌, ◌<◌, ◌⊎◌, inl, inr, Bool, List, [], ◌∷◌, ◌++◌, length, take, drop, Option, Some, None, refl, sym, ap, subst, ◌∙◌, append_assoc, append-nil, length-append, arith}
 use Rattle.std.proofs.Math.Nat.{lt_of_not-le}
 use Rattle.std.specs.Prelude.{IfSome}
@@ -24,7 +24,7 @@ use Rattle.swim_table.specs.Streaming.{Streaming}
 use Rattle.swim_table.specs.Table.{Entries, TableOf}
 use Rattle.swim_table.proofs.Tables.{TableOf-table_of}
 
--- ---- records one behind the other
+-- ---- records one after another
 
 -- one more record
 StateTexts-push : (records b : List ℕ) (claims : List Claim) (c : Claim) → StateTexts records claims → StateText b c
@@ -34,11 +34,11 @@ StateTexts-push _ b _ c (one a rest d claims first texts) text =
     subst (λ (r : List ℕ). StateTexts r (d ∷ claims ++ c ∷ [])) (sym (append_assoc a rest b))
     (one a (rest ++ b) d (claims ++ c ∷ []) first (StateTexts-push rest b claims c texts text))
 
--- texts that begin alike leave alike what follows them
+-- texts with the same start have the same rest
 behind : (a b x y : List ℕ) → a ≡ b → a ++ x ≡ b ++ y → x ≡ y
 behind a b x y same e = append_cancel_left b x y (ap (λ (z : List ℕ). z ++ x) (sym same) ∙ e)
 
--- the records that are to come, where some of them are read
+-- the records still to come, if some were read
 to_come : (a b x y : List ℕ) (claims others : List Claim) → StateTexts a claims → StateTexts b others → length claims ≤ length others → a ++ x ≡ b ++ y
     → (rest : List ℕ) × (more : List Claim) × StateTexts rest more × (length claims + length more ≡ length others) × (x ≡ rest ++ y)
 to_come _ b x y _ others none texts le e = (b, others, texts, omega arith, e)
@@ -51,7 +51,7 @@ to_come _ _ x y _ _ (one a left c claims text texts) (one b right d others text'
     let sum = rest.3 in
     (rest.0, rest.1, rest.2, omega (arith, sum), rest.4)
 
--- ---- what stands behind the part that is read
+-- ---- what follows the part that was read
 
 by_records : (reader : Streaming) (now user rest records : List ℕ) (more : List Claim) → StateTexts records more → reader.left ≡ length more
     → length user ≡ reader.header.user_len → now ≡ records ++ (user ++ rest) → (front : List ℕ) × (back : List ℕ)
@@ -80,7 +80,7 @@ wanted reader claims all join begun now text rest b counted t e =
     by_records reader now t.user rest left.0 left.1 left.2 (omega (arith, counted, nodes, promised, sum))
     (t.user_len ∙ sym (ap (λ (h : Header). h.user_len) heads.1)) left.4
 
--- ---- reads one after the other
+-- ---- reads one after another
 
 Takes-then : (a b c : Option (List ℕ)) (P Q R : List ℕ → Type 0) → ((x y : List ℕ) → P x → Q y → R (x ++ y))
     → TakesKnown a b P → TakesKnown b c Q → TakesKnown a c R
@@ -95,7 +95,8 @@ Takes-as None b P Q weaken p = tt
 Takes-as (Some xs) None P Q weaken p = absurd p
 Takes-as (Some xs) (Some ys) P Q weaken p = (p.0, weaken p.0 p.1, p.2)
 
--- What was taken since the stream began: its header, and the records of some claims, of which this is the table.
+-- What was taken since the stream began: its header, and the records of some claims, of which this
+-- is the table.
 pub record ReadSome (old new : Source) (reader : Streaming) : Type 0 where
   pub claims : List Claim
   pub table : TableOf reader.table claims
@@ -112,7 +113,7 @@ started old new reader taken fresh = record {
       Takes-as old.coming new.coming _ _ (λ b text. record { head = b; records = []; bytes = sym (append-nil b); head_text = text; record_texts = none }) taken;
 }
 
--- one more record is read
+-- one more record was read
 pub begun_more : (header : Header) (claims : List Claim) (c : Claim) (x y : List ℕ) → BeginText x header claims → StateText y c
     → BeginText (x ++ y) header (claims ++ c ∷ [])
 begun_more header claims c x y begun text = record {
@@ -145,7 +146,7 @@ stepped old mid new reader next some (steps.record_of c to is left taken table a
     subst (ReadSome old new) same (stepped_to old mid new reader to c some left taken all header)
 stepped old mid new reader next some (steps.user_state is left taken) = absurd cc
 
--- the user state is read
+-- the user state was read
 pub whole : (header : Header) (claims : List Claim) (x y : List ℕ) → length claims ≡ header.nodes → BeginText x header claims
     → length y ≡ header.user_len → StreamText (x ++ y) claims header.join
 whole header claims x y count begun long = record {
@@ -175,7 +176,7 @@ ended old mid new reader table join some (steps.user_state is left taken) =
           (Takes-then old.coming mid.coming new.coming _ _ _ (λ x y. whole reader.header some.claims x y count) some.taken taken),
     )
 
--- ---- no stream stands at the front, and why
+-- ---- the bytes do not begin with a stream, and why
 
 abbrev IsStream : List ℕ → Type 0
 IsStream b = (claims : List Claim) × (join : Bool) × StreamText b claims join
@@ -213,7 +214,7 @@ step_explains fault old mid reader some says = known old.coming mid.coming some.
 
 -- ---- which refusal
 
--- a record that was read had asked for memory
+-- a record that was read requested memory
 pub record_asks : (reader inside : Streaming) (old new : Source) (c : Claim) → inside ≡ reader → inside.left ≢ 0 → Takes old new (λ b. StateText b c)
     → IfSome old.coming (ExplainsStep reader Memory)
 record_asks reader inside old new c same some taken =
@@ -225,7 +226,7 @@ record_asks reader inside old new c same some taken =
     known (Some bytes) (Some rest) taken =
         why_step.record_of (omega (arith, some)) (subst (MapAsks state_layout) (sym taken.2) (StateText-asks taken.0 rest c taken.1), tt)
 
--- fewer bytes than n where no n of them stand at the front
+-- there are fewer than n bytes if they do not begin with n
 fewer : (bytes : List ℕ) (n : ℕ) → ((text rest : List ℕ) → length text ≡ n → bytes ≡ text ++ rest → ⊥) → length bytes < n
 fewer bytes n lacks = lt_of_not-le (λ le. lacks (take n bytes) (drop n bytes) (length-take-le n bytes le) (sym (take-append-drop n bytes)))
 

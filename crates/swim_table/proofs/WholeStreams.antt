@@ -14,7 +14,7 @@ use Rattle.swim_table.specs.Steps.ExplainsStream.{header, record_of, user_state}
 use Rattle.swim_table.specs.Table.{Entries, Reduced, TableOf, IsLegalTable}
 use Rattle.swim_table.proofs.Dumps.{dump_is_stream, dump_read_back}
 
--- no stream stands at the front of the bytes
+-- the bytes do not begin with a stream
 abbrev pub HasNone : List ℕ → Type 0
 HasNone bytes = (text rest : List ℕ) → ((claims : List Claim) × (join : Bool) × StreamText text claims join) → bytes ≡ text ++ rest → ⊥
 
@@ -24,7 +24,7 @@ refused_whole Fault bytes none no_fault no_memory claims join text = no_fault re
 refused_whole Memory bytes none no_fault no_memory claims join text = no_memory refl
 refused_whole error bytes none no_fault no_memory claims join text = none bytes [] (claims, join, text) (sym (append-nil bytes))
 
--- where a stream stands at the front the bytes are refused for want of memory alone
+-- bytes that begin with a stream are refused only if out of memory
 pub refused_front : (fault : WireFault) (bytes front rest : List ℕ) (claims : List Claim) (join : Bool) → UnlessFailed
     (wire_cause fault) (HasNone bytes) → (fault ≡ Fault → ⊥)
     → StreamText front claims join → bytes ≡ front ++ rest → fault ≡ Memory
@@ -32,7 +32,7 @@ refused_front Fault bytes front rest claims join none no_fault text parts = absu
 refused_front Memory bytes front rest claims join none no_fault text parts = refl
 refused_front error bytes front rest claims join none no_fault text parts = absurd (none front rest (claims, join, text) parts)
 
--- a stream and bytes after it are no stream
+-- a stream with bytes after it is not a stream
 pub trailing_whole : (bytes text rest : List ℕ) (claims others : List Claim) (join flag : Bool) → StreamText text claims join → bytes ≡ text ++ rest → rest ≢ []
     → ¬ StreamText bytes others flag
 trailing_whole bytes text rest claims others join flag front parts more whole =
@@ -63,7 +63,7 @@ not_trailing bytes (record_of front rest h claims begun more parts why) = why.0
 not_trailing bytes (user_state front rest h claims begun all parts (inl (is, short))) = cc
 not_trailing bytes (user_state front rest h claims begun all parts (inr is)) = cc
 
--- why no stream stands at the front is why the bytes are no dump
+-- why the bytes do not begin with a stream is why they are not a dump
 pub no_dump : (fault : WireFault) (bytes : List ℕ) → (fault ≡ Fault → ⊥) → ExplainsStream fault bytes → ExplainsDump fault bytes
 no_dump Trailing bytes no_fault why = absurd (not_trailing bytes why)
 no_dump Fault bytes no_fault why = absurd (no_fault refl)

@@ -1,4 +1,4 @@
--- A table as text, a line for each name.
+-- A table as text, with a line for each name.
 use Rattle.std.specs.Prelude.{ℕ, Option, Some, None, List, ◌++◌, codes, decimal}
 use Rattle.std.specs.List.{flat_map}
 use Rattle.hex.specs.Hex.{encode_lower}

@@ -1,4 +1,4 @@
--- The dump of a table that memberlist merges: each record of it has versions.
+-- The dump of a table that memberlist merges: each of its records has versions.
 use Rattle.std.specs.Prelude.{ℕ, Bool, List, [], ◌++◌, length, is_some, option_and_then, if◌then◌else◌}
 use Rattle.std.specs.List.{flat_map}
 use Rattle.swim_claim.specs.declared.claim.Claim.{Claim}
@@ -13,7 +13,7 @@ use Rattle.swim_table.specs.Table.{Entries, kept}
 abbrev pub kept_with_home : Standing → List Claim
 kept_with_home entry = if is_some entry.home then kept entry else []
 
--- the claims that the table keeps of the names that have a home
+-- the claims that the table keeps for the names that have a home
 abbrev pub with_homes : Entries → List Claim
 with_homes table = flat_map kept_with_home table
 

@@ -2,7 +2,7 @@
 use Rattle.std.specs.Prelude.{◌≡◌, ◌≢◌, ◌↔◌, ◌⊎◌, ℕ, List, MatchOption, IsSome}
 use Rattle.swim_table.specs.Table.{Entries, get}
 
--- the names of this table are those whose entry is another one after than before
+-- the names of this table are those whose entry changed
 abbrev pub AreChanges : Entries → Entries → Entries → Type 0
 AreChanges before after changed = (name : List ℕ) → MatchOption (get changed name)
     (get after name ≡ get before name) (λ _. get after name ≢ get before name)

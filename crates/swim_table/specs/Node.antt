@@ -9,7 +9,7 @@ pub record NodeValue : Type 0 where
   pub details : DetailsValue
   pub table : Entries
 
--- the node is still that of the same member
+-- the node still belongs to the same member
 pub record SameMember (old new : NodeValue) : Type 0 where
   pub name : new.name ≡ old.name
   pub details : new.details ≡ old.details

@@ -1,10 +1,9 @@
--- The front of a name as a number.
+-- The prefix of a name as a number.
 use Rattle.std.specs.Prelude.{◌≡◌, ℕ, ◌<◌, List, drop, slice_index}
 use Rattle.byteorder.specs.Endian.{big_number}
 use Rattle.swim_table.specs.declared.prefix.Prefix.{Prefix}
 
--- the number that the first eight bytes spell, the greatest first, with a zero for each that is not
--- there
+-- the first eight bytes as a big-endian number, with a zero for each byte that is missing
 unfoldable pub eight_bytes : List ℕ → ℕ
 eight_bytes name = big_number 8 name
 

@@ -15,7 +15,7 @@ use Rattle.swim_table.specs.declared.stream_reader.Step.TheVariants.{More, End}
 use Rattle.swim_table.specs.Streaming.{Streaming}
 use Rattle.swim_table.specs.Table.{TableOf, Reduced}
 
--- A step took the next record of the stream, whose claim is then in the table, or at the end the
+-- A step took the next record of the stream, whose claim is then in the table, or, at the end, the
 -- user state.
 pub data Steps (reader : Streaming) (old new : Source) (step : Step) : Type 0 where
   record_of : (c : Claim) (next : Streaming) → step ≡ More next → reader.left ≡ next.left + 1
@@ -26,12 +26,12 @@ pub data Steps (reader : Streaming) (old new : Source) (step : Step) : Type 0 wh
   user_state : step ≡ End reader.table reader.header.join → reader.left ≡ 0
       → Takes old new (λ b. length b ≡ reader.header.user_len) → Steps reader old new step
 
--- The bytes are what the next step wants: a record, or at the end the user state.
+-- The bytes are what the next step wants: a record, or, at the end, the user state.
 pub data IsWanted (reader : Streaming) (b : List ℕ) : Type 0 where
   record_of : (c : Claim) → 0 < reader.left → StateText b c → IsWanted reader b
   user_state : reader.left ≡ 0 → length b ≡ reader.header.user_len → IsWanted reader b
 
--- The bytes b are the beginning of a stream: its header, and the state records of these claims.
+-- The bytes b begin a stream: its header, and the state records of these claims.
 pub record BeginText (b : List ℕ) (header : Header) (claims : List Claim) : Type 0 where
   pub head : List ℕ
   pub records : List ℕ
@@ -39,33 +39,33 @@ pub record BeginText (b : List ℕ) (header : Header) (claims : List Claim) : Ty
   pub head_text : HeaderText head header
   pub record_texts : StateTexts records claims
 
--- The reading of the bytes stops with this fault, unless the inlet failed or memory ran out.
+-- Reading the bytes stops with this fault, unless the inlet failed or memory ran out.
 abbrev pub StreamStopsAt : {A : Type 0} → Reading A → WireFault → List ℕ → Type 0
 StreamStopsAt reading fault bytes = UnlessFailed (wire_cause fault) (reading bytes ≡ Err fault)
 
--- What a refusal says of bytes that begin with no header, and where the reading of one stops.
+-- What a fault says about bytes that do not begin with a header, and where reading one stops.
 abbrev pub ExplainsBegin : WireFault → List ℕ → Type 0
 ExplainsBegin fault bytes = ExplainsHeader fault bytes × StreamStopsAt header_at fault bytes
 
--- The same of a state record.
+-- The same for a state record.
 abbrev pub ExplainsRecord : WireFault → List ℕ → Type 0
 ExplainsRecord fault bytes = ExplainsState fault bytes × StreamStopsAt state_at fault bytes
 
--- What a refusal says of bytes that are to begin with so many of user state: fewer are left, or the
+-- What a fault says about bytes that should begin with this much user state: fewer are left, or the
 -- inlet failed.
 abbrev pub ExplainsUser : ℕ → WireFault → List ℕ → Type 0
 ExplainsUser user_len fault bytes = ((fault ≡ Ended) × (length bytes < user_len)) ⊎ (fault ≡ Fault)
 
--- What a refusal of a step says of the bytes: no record stands there, or the user state is cut
--- short.
+-- What a step's fault says about the bytes: they do not begin with a record, or the user state is
+-- cut short.
 pub data ExplainsStep (reader : Streaming) (fault : WireFault) (bytes : List ℕ) : Type 0 where
   record_of : 0 < reader.left → ExplainsRecord fault bytes → ExplainsStep reader fault bytes
   user_state : reader.left ≡ 0 → ExplainsUser reader.header.user_len fault bytes
       → ExplainsStep reader fault bytes
 
--- What a refusal of a stream says of the bytes: they begin with no header, behind the header and
--- some records that it promises stands no further one, or behind all of them the user state is cut
--- short.
+-- What a stream's fault says about the bytes: they do not begin with a header, or no further record
+-- follows the header and some of the records that it announces, or the user state after all of them
+-- is cut short.
 pub data ExplainsStream (fault : WireFault) (bytes : List ℕ) : Type 0 where
   header : ExplainsBegin fault bytes → ExplainsStream fault bytes
   record_of : (front rest : List ℕ) (h : Header) (claims : List Claim) → BeginText front h claims
@@ -80,8 +80,8 @@ abbrev pub HasTrailingStream : List ℕ → Type 0
 HasTrailingStream bytes = (front rest : List ℕ) × (claims : List Claim) × (join : Bool)
     × StreamText front claims join × (rest ≢ []) × (bytes ≡ front ++ rest)
 
--- What a refusal of a dump says of its bytes: something follows a stream, or they begin with none.
--- Bytes do not fail.
+-- What a dump's fault says about its bytes: something follows a stream, or they do not begin with
+-- one. Bytes do not fail.
 abbrev pub ExplainsDump : WireFault → List ℕ → Type 0
 ExplainsDump Trailing bytes = HasTrailingStream bytes
 ExplainsDump Fault bytes = ⊥

@@ -1,4 +1,4 @@
--- A stream of which some records are read.
+-- A stream of which some records were read.
 use Rattle.std.specs.Prelude.{ℕ}
 use Rattle.swim_wire.specs.declared.stream.Header.{Header}
 use Rattle.swim_table.specs.Table.{Entries}

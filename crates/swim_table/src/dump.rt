@@ -14,19 +14,18 @@ use crate::table::Table;
 use std::alloc::Global;
 use swim_wire::{Header, header_len, put_header, put_state, state_len};
 
-/// The most records of a stream.
+/// The most records in a stream.
 pub const MOST_RECORDS: u128 = 131_072;
 
-/// The canonical dump of the table: a push/pull stream with the names in ascending byte order, for
-/// each the record of its home, if there is one, and then the record of its top where that is not
-/// the home (own). It has the join flag, and no user state. Memory is asked for once, for its
+/// The canonical dump of the table: a push/pull stream with the names in ascending byte order. Each
+/// has the record of its home, if there is one, and then the record of its top if that is not the
+/// home (own). The dump has the join flag and no user state. Memory is requested once, for its
 /// length.
 ///
 /// # Errors
 ///
-/// - `TooManyRecords` exactly where the table keeps more than 131,072 records. This is checked
-///   first.
-/// - `Memory` where memory for the bytes is refused.
+/// - `TooManyRecords` exactly if the table keeps more than 131,072 records. This is checked first.
+/// - `Memory` if out of memory for the bytes.
 pub fn encode(alloc: Global, table: &Table, join: bool) -> Result<Vec<u8>, EncodeFault>
     ensures canonical { IfOk result (λ bytes. bytes.items ≡ dump_bytes table.now join) }
     ensures text { IfOk result (λ bytes. StreamText bytes.items (Reduced table.now) join) }
@@ -40,11 +39,11 @@ pub fn encode(alloc: Global, table: &Table, join: bool) -> Result<Vec<u8>, Encod
     Ok(out)
 }
 
-/// The length of the canonical dump. No memory is asked for.
+/// The length of the canonical dump. It takes no memory.
 ///
 /// # Errors
 ///
-/// `TooManyRecords`, as [`encode`], and nothing else.
+/// `TooManyRecords`, as for [`encode`], and nothing else.
 pub fn dump_len(table: &Table, join: bool) -> Result<usize, EncodeFault>
     ensures len { IfOk result (λ len. len ≡ length (dump_bytes table.now join)) }
     ensures too_many { IsErr result ↔ (most_nodes < length (Reduced table.now)) }
@@ -61,8 +60,8 @@ pub fn dump_len(table: &Table, join: bool) -> Result<usize, EncodeFault>
     Ok(len)
 }
 
-/// Writes the canonical dump into a buffer of its length, which [`dump_len`] tells. No memory is
-/// asked for.
+/// Writes the canonical dump into a buffer of its length, which [`dump_len`] returns. It takes no
+/// memory.
 pub fn encode_into(table: &Table, join: bool, out: &mut [u8])
     requires few { length (Reduced table.now) ≤ most_nodes }
     requires fits { length out.old ≡ length (dump_bytes table.now join) }
@@ -76,7 +75,7 @@ pub fn encode_into(table: &Table, join: bool, out: &mut [u8])
     }
 }
 
-/// The header of a dump of so many records.
+/// The header of a dump with this many records.
 pub(crate) fn dump_header(nodes: u32, join: bool) -> Header
     ensures { result ≡ record { nodes = nodes; user_len = 0; join = join } }
 {
@@ -104,7 +103,7 @@ fn records_len(entry: &Entry) -> usize
     home + top
 }
 
-/// Writes the records of one entry. Answers the place behind them.
+/// Writes the records of one entry. Returns the offset after them.
 fn put_records(out: &mut [u8], at: usize, entry: &Entry) -> usize
     requires { at + length (flat_map state_bytes (kept entry.now)) ≤ length out.old }
     ensures end { result ≡ at + length (flat_map state_bytes (kept entry.now)) }

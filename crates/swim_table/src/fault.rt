@@ -1,4 +1,4 @@
-//! Why a table has no dump, and why a member refutes nothing.
+//! Why a table has no dump, and why a member makes no refutation.
 
 ghost use Rattle.std.specs.Prelude.{◌≡◌};
 ghost use Rattle.swim_table.specs.declared.fault.EncodeFault.TheVariants as encode;
@@ -8,19 +8,19 @@ ghost use Rattle.swim_table.specs.Fault.{encode_number, refute_number};
 use std::alloc::AllocError;
 use thiserror::Error;
 
-/// Why a table has no dump. Each has a number, by which reports name it.
+/// Why a table has no dump. Each reason has a number, which reports use.
 #[derive(Clone, Copy, Debug, PartialEq, Eq, Error)]
 pub enum EncodeFault {
     /// The dump would have more than 131,072 records (own).
     #[error("the table has more than 131,072 records")]
     TooManyRecords,
-    /// A growth of memory was refused.
+    /// Out of memory.
     #[error("out of memory")]
     Memory,
 }
 
 impl EncodeFault {
-    /// The number by which reports name the fault: 23, or 10 for want of memory (own).
+    /// The number that reports use for the fault: 23, or 10 for out of memory (own).
     pub fn number(&self) -> u32
         ensures { result ≡ encode_number self.now }
     {
@@ -39,22 +39,23 @@ impl From<AllocError> for EncodeFault {
     }
 }
 
-/// Why a member that others accuse refutes nothing. Each has a number, by which reports name it.
+/// Why a member that others accuse makes no refutation. Each reason has a number, which reports
+/// use.
 #[derive(Clone, Copy, Debug, PartialEq, Eq, Error)]
 pub enum RefuteFault {
-    /// A refutation is due, and there is no greater incarnation than 4,294,967,295.
+    /// A refutation is due, but there is no incarnation above 4,294,967,295.
     #[error("there is no greater incarnation")]
     Exhausted,
-    /// A Confirm or a Leave of the member stands, at this incarnation. It is final.
+    /// The member's top is a Confirm or a Leave, at this incarnation. It is final.
     #[error("the member is gone since incarnation {inc}")]
     Gone { inc: u32 },
-    /// A growth of memory was refused.
+    /// Out of memory.
     #[error("out of memory")]
     Memory,
 }
 
 impl RefuteFault {
-    /// The number by which reports name the fault: 24, 25, or 10 for want of memory (own).
+    /// The number that reports use for the fault: 24, 25, or 10 for out of memory (own).
     pub fn number(&self) -> u32
         ensures { result ≡ refute_number self.now }
     {

@@ -1,4 +1,4 @@
-//! A table as text, a line for each name.
+//! A table as text, with a line for each name.
 
 ghost use Rattle.std.specs.Prelude.{◌≡◌, ◌≤◌, ◌++◌, length, decimal, IfOk, OnOk};
 ghost use Rattle.hex.specs.Hex.{encode_lower};
@@ -14,20 +14,20 @@ use percent_encoding::{AsciiSet, CONTROLS, ascii_set, percent_encode};
 use std::alloc::{AllocError, Global};
 use swim_claim::{Details, Kind, Name};
 
-/// What a listing escapes of a name beside the bytes outside ASCII: all but the visible bytes, and
-/// the sign of an escape.
+/// What a listing escapes in a name, in addition to bytes outside ASCII: all bytes that are not
+/// visible, and the escape sign.
 const ESCAPED: AsciiSet = ascii_set!(CONTROLS.add(b' ').add(b'%'));
 
-/// The table as text, a line for each name in ascending order.
+/// The table as text, with a line for each name in ascending order.
 ///
-/// A line is `name state inc home`. In a name, bytes 21 to 7e (hexadecimal) other than `%` stand
-/// as they are, and every other byte is `%XX`. The state is `alive`, `suspect`, `confirm` or
-/// `leave`, and the home is `-` where there was no Alive, or else `inc/addr/port/meta/vsn` of the
-/// newest one, with bytes in lower-case hexadecimal and numbers in decimal (own).
+/// A line is `name state inc home`. In a name, bytes 21 to 7e (hexadecimal) other than `%` are
+/// kept, and every other byte is `%XX`. The state is `alive`, `suspect`, `confirm` or `leave`. The
+/// home is `-` if there was no Alive, and otherwise `inc/addr/port/meta/vsn` of the newest one,
+/// with bytes in lower-case hexadecimal and numbers in decimal (own).
 ///
 /// # Errors
 ///
-/// Memory for the text is refused.
+/// If out of memory for the text.
 pub fn list(alloc: Global, table: &Table) -> Result<Vec<u8>, AllocError>
     ensures { IfOk result (λ text. text.items ≡ listing table.now) }
 {
@@ -39,7 +39,7 @@ pub fn list(alloc: Global, table: &Table) -> Result<Vec<u8>, AllocError>
     Ok(text)
 }
 
-/// Adds the line of one entry. The string is memory for the escaped name.
+/// Adds the line of one entry. The string is reused memory for the escaped name.
 fn write_line(text: &mut Vec<u8>, name: &mut String, entry: &Entry) -> Result<(), AllocError>
     ensures { OnOk result (text.new.items ≡ text.old.items ++ line entry.now) }
 {
@@ -54,7 +54,7 @@ fn write_line(text: &mut Vec<u8>, name: &mut String, entry: &Entry) -> Result<()
     Ok(())
 }
 
-/// Adds a name with its escapes.
+/// Adds a name, escaped.
 fn write_name(text: &mut Vec<u8>, escaped: &mut String, name: &Name) -> Result<(), AllocError>
     ensures { OnOk result
         (text.new.items ≡ text.old.items ++ percent.percent_encode ESCAPED name.now) }
@@ -76,7 +76,7 @@ fn state(kind: Kind) -> &'static str
     }
 }
 
-/// Adds the newest Alive, or the sign that there was none.
+/// Adds the newest Alive, or `-` if there was none.
 fn write_home(text: &mut Vec<u8>, entry: &Entry) -> Result<(), AllocError>
     ensures { OnOk result (text.new.items ≡ text.old.items ++ home_text entry.now.home) }
 {
@@ -89,7 +89,7 @@ fn write_home(text: &mut Vec<u8>, entry: &Entry) -> Result<(), AllocError>
     }
 }
 
-/// Adds what an Alive said of its member.
+/// Adds what an Alive said about its member.
 fn write_address(text: &mut Vec<u8>, inc: u32, details: &Details) -> Result<(), AllocError>
     ensures { OnOk result (text.new.items ≡ text.old.items ++ address_text inc details.now) }
 {

@@ -18,17 +18,17 @@ use swim_claim::Details;
 use swim_wire::{header_len, put_header, put_state_with_details, state_with_details_len};
 
 /// The dump of the table that memberlist merges: a push/pull stream with the names in ascending
-/// byte order, for each the record of its home, and then the record of its top if that is not the
-/// home, with the home's address, port, metadata and versions (own). It has the join flag, and no
-/// user state. Memory is asked for once, for its length.
+/// byte order. Each has the record of its home, and then the record of its top if that is not the
+/// home, with the home's address, port, metadata and versions (own). The dump has the join flag and
+/// no user state. Memory is requested once, for its length.
 ///
 /// memberlist refuses a whole stream if one record has no versions. So names without a home, which
-/// have none to tell, are left out. A home that told no versions is written as it is.
+/// have no versions, are left out. A home without versions is written as it is.
 ///
 /// # Errors
 ///
 /// - `TooManyRecords` exactly if there are more than 131,072 such records. This is checked first.
-/// - `Memory` if memory for the bytes is refused.
+/// - `Memory` if out of memory for the bytes.
 pub fn encode_memberlist(alloc: Global, table: &Table, join: bool) -> Result<Vec<u8>, EncodeFault>
     ensures bytes { IfOk result (λ bytes. bytes.items ≡ memberlist_dump_bytes table.now join) }
     ensures text { IfOk result (λ bytes. StreamText bytes.items (with_homes table.now) join) }
@@ -42,11 +42,11 @@ pub fn encode_memberlist(alloc: Global, table: &Table, join: bool) -> Result<Vec
     Ok(out)
 }
 
-/// The length of the dump that memberlist merges. No memory is asked for.
+/// The length of the dump that memberlist merges. It takes no memory.
 ///
 /// # Errors
 ///
-/// `TooManyRecords`, as [`encode_memberlist`], and nothing else.
+/// `TooManyRecords`, as for [`encode_memberlist`], and nothing else.
 pub fn memberlist_dump_len(table: &Table, join: bool) -> Result<usize, EncodeFault>
     ensures len { IfOk result (λ len. len ≡ length (memberlist_dump_bytes table.now join)) }
     ensures too_many { IsErr result ↔ (most_nodes < length (with_homes table.now)) }
@@ -64,7 +64,7 @@ pub fn memberlist_dump_len(table: &Table, join: bool) -> Result<usize, EncodeFau
 }
 
 /// Writes the dump that memberlist merges into a buffer of its length, which
-/// [`memberlist_dump_len`] tells. No memory is asked for.
+/// [`memberlist_dump_len`] returns. It takes no memory.
 pub fn encode_memberlist_into(table: &Table, join: bool, out: &mut [u8])
     requires few { length (with_homes table.now) ≤ most_nodes }
     requires fits { length out.old ≡ length (memberlist_dump_bytes table.now join) }
@@ -78,7 +78,7 @@ pub fn encode_memberlist_into(table: &Table, join: bool, out: &mut [u8])
     }
 }
 
-/// How many records the dump has.
+/// The number of records in the dump.
 fn records_with_homes(table: &Table) -> u128
     ensures { result ≡ length (with_homes table.now) }
 {
@@ -89,7 +89,7 @@ fn records_with_homes(table: &Table) -> u128
     records
 }
 
-/// How many records one entry has.
+/// The number of records of one entry.
 fn records_of(entry: &Entry) -> u8
     ensures kept { result ≡ length (kept_with_home entry.now) }
     ensures few { result ≤ 2 }
@@ -112,7 +112,7 @@ fn records_len(entry: &Entry) -> usize
     }
 }
 
-/// Writes the records of one entry. Answers the place behind them.
+/// Writes the records of one entry. Returns the offset after them.
 fn put_records(out: &mut [u8], at: usize, entry: &Entry) -> usize
     requires { at + length (entry_bytes entry.now) ≤ length out.old }
     ensures end { result ≡ at + length (entry_bytes entry.now) }
@@ -149,8 +149,8 @@ fn kept_len(entry: &Entry, details: &Details) -> usize
     home + top
 }
 
-/// Writes the records of the claims that an entry keeps, with these details. Answers the place
-/// behind them.
+/// Writes the records of the claims that an entry keeps, with these details. Returns the offset
+/// after them.
 fn put_kept(out: &mut [u8], at: usize, entry: &Entry, details: &Details) -> usize
     requires { at + length (flat_map (state_bytes_with details.now) (kept entry.now))
         ≤ length out.old }

@@ -1,5 +1,5 @@
-//! What holds of the dump that memberlist merges, apart from any code. Each law is the contract of
-//! a function that does nothing.
+//! Facts about the dump that memberlist merges, independent of any code. Each law is the contract
+//! of a function that does nothing.
 
 ghost use Rattle.std.specs.Prelude.{◌≡◌, ◌≤◌, Bool, List, All, Contains, IsSome, length};
 ghost use Rattle.swim_claim.specs.declared.claim.Claim.{Claim};
@@ -9,8 +9,8 @@ ghost use Rattle.swim_table.specs.MemberlistDump.{memberlist_dump_bytes, with_ho
 ghost use Rattle.swim_table.specs.Standing.{Standing};
 ghost use Rattle.swim_table.specs.Table.{Entries, Reduced, IsLegalTable, kept};
 
-/// The dump that memberlist merges tells all claims that a table keeps of a name with a home, and
-/// none that it does not keep. If each name has a home, it tells all that the table keeps.
+/// The dump that memberlist merges has all claims that a table keeps for a name with a home, and
+/// none that it does not keep. If each name has a home, it has all that the table keeps.
 pub fn homes_are_told()
     ensures all { (table : Entries) → All (λ entry. IsSome entry.home) table
         → with_homes table ≡ Reduced table }
@@ -21,7 +21,7 @@ pub fn homes_are_told()
 {}
 
 /// The dump that memberlist merges, of at most 131,072 records, is a push/pull stream of the claims
-/// of names with a home and with the join flag, and of no other claims and no other flag.
+/// about names with a home and with the join flag, and of no other claims and no other flag.
 pub fn memberlist_dump()
     ensures stream { (table : Entries) (join : Bool) → IsLegalTable table
         → length (with_homes table) ≤ most_nodes

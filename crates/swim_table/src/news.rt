@@ -11,12 +11,12 @@ use crate::table::Table;
 use std::alloc::{AllocError, Global};
 use swim_claim::Claim;
 
-/// The names whose entries joining the other table in would add or change, as a table. What it
-/// keeps of each name is not promised. A search in the table for each name of the other one.
+/// The names whose entries a join of the other table would add or change, as a table. What it keeps
+/// for each name is not promised. This searches the table for each name of the other one.
 ///
 /// # Errors
 ///
-/// Memory for the names is refused.
+/// If out of memory for the names.
 pub fn news_of(alloc: Global, table: &Table, other: &Table) -> Result<Table, AllocError>
     ensures { IfOk result (λ news. AreChanges table.now (Join table.now other.now) news) }
 {
@@ -31,7 +31,7 @@ pub fn news_of(alloc: Global, table: &Table, other: &Table) -> Result<Table, All
     Ok(news)
 }
 
-/// Whether the entry would add to the table, or change it.
+/// Whether the entry would add to the table or change it.
 fn is_news(table: &Table, entry: &Entry) -> bool
     ensures { MatchBool result
         (joined (get table.now (name_of entry.now.top)) (Some entry.now)
@@ -45,7 +45,7 @@ fn is_news(table: &Table, entry: &Entry) -> bool
     }
 }
 
-/// Adds the entry's name to names.
+/// Adds the entry's name to the names.
 fn note(alloc: Global, names: &mut Table, entry: &Entry) -> Result<(), AllocError>
     ensures { OnOk result (TableOf names.old (Reduced names.old)
         → HasAlso (name_of entry.now.top) names.old names.new) }

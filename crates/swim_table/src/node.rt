@@ -44,7 +44,7 @@ impl Model for Node {
     ghost view = { λ n. record { name = n.name; details = n.details; table = n.table } };
 }
 
-/// What stands of the member in its own table.
+/// What the member's own table says about it.
 enum Word {
     /// Nothing, or an Alive with the member's own details.
     Own,
@@ -55,13 +55,13 @@ enum Word {
 }
 
 impl Node {
-    /// The member of this name and these details. Its table holds its start claim alone: the Alive
-    /// of both at the incarnation `inc`, 0 to 4,294,967,295 (own). What grows later takes memory
-    /// from the same allocator.
+    /// The member with this name and these details. Its table holds only its start claim: its Alive
+    /// at the incarnation `inc`, 0 to 4,294,967,295 (own). Whatever grows later takes memory from
+    /// the same allocator.
     ///
     /// # Errors
     ///
-    /// Memory for the start claim is refused. The name and the details are dropped.
+    /// If out of memory for the start claim. The name and the details are dropped.
     pub fn new(alloc: Global, name: Name, details: Details, inc: u32) -> Result<Node, AllocError>
         ensures name { IfOk result (λ node. node.name ≡ name) }
         ensures details { IfOk result (λ node. node.details ≡ details) }
@@ -90,7 +90,7 @@ impl Node {
         &self.name
     }
 
-    /// What the member says of itself beside its name.
+    /// What the member says about itself, except its name.
     pub fn details(&self) -> &Details
         ensures details { result.now ≡ self.now.details }
         ensures legal { IsLegalDetails self.now.details }
@@ -100,7 +100,7 @@ impl Node {
         &self.details
     }
 
-    /// What the member has heard, its own claims among it.
+    /// What the member has heard, including its own claims.
     pub fn table(&self) -> &Table
         ensures table { result.now ≡ self.now.table }
         ensures legal { IsLegalTable self.now.table }
@@ -110,7 +110,7 @@ impl Node {
         &self.table
     }
 
-    /// The member's table, for writing. The name and the details stay.
+    /// The member's table, for writing. The name and the details do not change.
     pub fn table_mut(&mut self) -> &mut Table
         ensures* writes_back { sem 𝓛 (LendsTable self.entry result) }
         ensures table { result.now ≡ self.old.table }
@@ -118,13 +118,13 @@ impl Node {
         &mut self.table
     }
 
-    /// Takes a claim into the member's table, and tells what changed. For a name that has an entry
-    /// this takes no memory.
+    /// Takes a claim into the member's table, and returns what changed. It takes no memory for a
+    /// name that has an entry.
     ///
     /// # Errors
     ///
-    /// Memory for the entry of a new name is refused. The claim is handed back, and the table is as
-    /// it was.
+    /// If out of memory for the entry of a new name. The claim is returned, and the table is
+    /// unchanged.
     pub fn take(&mut self, claim: Claim) -> Result<Taken, (Claim, AllocError)>
         ensures ok { OnOk result (TableOf self.new.table (Reduced self.old.table ++ claim ∷ [])) }
         ensures all { OnOk result ((claims : List Claim) → TableOf self.old.table claims
@@ -146,11 +146,11 @@ impl Node {
         self.table.take(claim)
     }
 
-    /// Takes all the claims into the member's table, or none.
+    /// Takes all claims into the member's table, or none.
     ///
     /// # Errors
     ///
-    /// Memory for the claims is refused. They are dropped, and the table is as it was.
+    /// If out of memory for the claims. They are dropped, and the table is unchanged.
     pub fn take_all(&mut self, claims: Vec<Claim>) -> Result<(), AllocError>
         ensures ok { OnOk result (TableOf self.new.table (Reduced self.old.table ++ claims.items)) }
         ensures all { OnOk result ((taken : List Claim) → TableOf self.old.table taken
@@ -163,12 +163,12 @@ impl Node {
         self.table.take_all(claims)
     }
 
-    /// Takes all the claims of a datagram into the member's table, or none. For a packet by itself
-    /// about a name that has an entry this takes no memory.
+    /// Takes all claims of a datagram into the member's table, or none. It takes no memory for a
+    /// single packet about a name that has an entry.
     ///
     /// # Errors
     ///
-    /// Memory for the claims is refused. The datagram is dropped, and the table is as it was.
+    /// If out of memory for the claims. The datagram is dropped, and the table is unchanged.
     pub fn take_datagram(&mut self, datagram: Datagram) -> Result<(), AllocError>
         ensures ok { OnOk result (TableOf self.new.table
             (Reduced self.old.table ++ claims_in datagram)) }
@@ -184,8 +184,8 @@ impl Node {
         self.table.take_datagram(datagram)
     }
 
-    /// Joins another table into the member's own: it is then the table of all claims that either
-    /// took in (own). The room has to be for the entries of both, and no memory is taken.
+    /// Joins another table into the member's own, which is then the table of all claims that either
+    /// took in (own). The room must suffice for the entries of both, and no memory is taken.
     pub fn join_in(&mut self, room: Room, other: Table)
         requires { length self.old.table + length other ≤ room }
         ensures join { self.new.table ≡ Join self.old.table other }
@@ -197,10 +197,10 @@ impl Node {
         self.table.join_in(room, other);
     }
 
-    /// Forgets a name, and answers whether the member's table had an entry of it. The table is then
-    /// that of the claims taken in about other names. This takes no memory.
+    /// Forgets a name, and returns whether the member's table had an entry for it. The table is
+    /// then that of the claims taken in about other names. It takes no memory.
     ///
-    /// If the name is the member's own, its own claims go too. No refutation is due then, until the
+    /// If the name is the member's own, its own claims go too. Then no refutation is due until the
     /// table takes in a claim about the member again.
     pub fn forget(&mut self, name: &[u8]) -> bool
         ensures kept { TableOf self.new.table (about_others name.now (Reduced self.old.table)) }
@@ -215,21 +215,20 @@ impl Node {
         self.table.forget(name)
     }
 
-    /// Refutes what others say of the member (SWIM paper, section 4.2: a suspected member answers
-    /// with an Alive under an incremented incarnation; the rest is own).
+    /// Refutes what others say about the member (SWIM paper, section 4.2: a suspected member
+    /// replies with an Alive at an incremented incarnation; the rest is own).
     ///
-    /// This is due where a Suspect of the member stands, or an Alive with details that are not its
-    /// own. The table then takes in an Alive with its own details and the incarnation that follows
-    /// the one that stands, which is answered. Where nothing is due the answer is none, and nothing
-    /// changes.
+    /// This is due if the member's top is a Suspect, or an Alive with details other than its own.
+    /// The table then takes in an Alive with the member's own details and the incarnation after the
+    /// top's, which is returned. If nothing is due, the result is none, and nothing changes.
     ///
     /// # Errors
     ///
-    /// The table is then as it was.
+    /// The table is then unchanged.
     ///
-    /// - `Gone` where a Confirm or a Leave of the member stands, with its incarnation.
-    /// - `Exhausted` where a refutation is due, and 4,294,967,295 stands.
-    /// - `Memory` where a refutation is due, and memory for its claim is refused.
+    /// - `Gone` if the member's top is a Confirm or a Leave, with its incarnation.
+    /// - `Exhausted` if a refutation is due, and the top's incarnation is 4,294,967,295.
+    /// - `Memory` if a refutation is due, and memory runs out for its claim.
     pub fn refute(&mut self) -> Result<Option<u32>, RefuteFault>
         ensures refuted { IfOk result (λ answer. IfSome answer (IsRefutedBy self.old self.new)) }
         ensures range { IfOk result (λ answer. IfSome answer (λ inc. inc ≤ 4294967295)) }
@@ -256,8 +255,8 @@ impl Node {
         }
     }
 
-    /// Whether [`refute`](Node::refute) would take an Alive in: a refutation is due, and there is an
-    /// incarnation for it.
+    /// Whether [`refute`](Node::refute) would take an Alive in: a refutation is due, and there is
+    /// an incarnation for it.
     pub fn can_refute(&self) -> bool
         ensures { MatchBool result (IsDueInRange self.now) (¬ IsDueInRange self.now) }
     {
@@ -268,7 +267,7 @@ impl Node {
         }
     }
 
-    /// What stands of the member.
+    /// What the table says about the member.
     fn word(&self) -> Word
         ensures word { IsWordOf self.now result }
         ensures legal { IsLegalTable self.now.table }
@@ -291,7 +290,7 @@ impl Node {
     }
 }
 
-/// The Alive of copies of the name and the details.
+/// The Alive with copies of the name and the details.
 fn alive(alloc: Global, name: &Name, details: &Details, inc: u32) -> Result<Claim, AllocError>
     ensures { IfOk result (λ claim. claim ≡ Alive name.now inc details.now) }
 {

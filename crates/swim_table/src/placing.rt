@@ -1,4 +1,4 @@
-//! Where a name is among entries in the order of their names, and how an entry gets there.
+//! Where a name is among entries in the order of their names, and putting an entry there.
 ghost use Rattle.std.specs.Prelude.{◌≡◌, ◌+◌, ◌≤◌, ◌<◌, length, IfOk, IfErr, MatchResult, OnOk, OnErr};
 ghost use Rattle.swim_claim.specs.Claim.{name_of};
 ghost use Rattle.std.specs.List.Sorted.{IsPermutation};
@@ -14,9 +14,9 @@ use std::alloc::AllocError;
 use std::cmp::Ordering;
 use tiered_vec::{Place, TieredVec};
 
-/// Where the name is, or else where it would go. A name above the last one costs one comparison, and
-/// one below the first a second one, as each does if names come in order.
-// Inlined, LLVM makes a search without branches, which waits for each entry in turn.
+/// Where the name is, or where it would go. A name above the last one costs one comparison, and one
+/// below the first costs two; names that come in order cost no more.
+// If this is inlined, LLVM makes a search without branches, which waits for each entry in turn.
 #[inline(never)]
 pub(crate) fn find_place(entries: &TieredVec<Entry>, name: &[u8]) -> Result<Place, Place>
     requires { IsAscending (items entries.now) }
@@ -40,7 +40,7 @@ pub(crate) fn find_place(entries: &TieredVec<Entry>, name: &[u8]) -> Result<Plac
     search_place(entries, &prefix, name)
 }
 
-/// Where the name is, or else where it would go, by a binary search.
+/// Where the name is, or where it would go, by a binary search.
 fn search_place(entries: &TieredVec<Entry>, prefix: &Prefix, name: &[u8]) -> Result<Place, Place>
     requires ascending { IsAscending (items entries.now) }
     requires prefix { IsPrefixOf prefix.now name.now }
@@ -58,8 +58,8 @@ fn search_place(entries: &TieredVec<Entry>, prefix: &Prefix, name: &[u8]) -> Res
     )
 }
 
-/// Puts each entry at its place in the order of their names, so that one goes near the one before.
-/// There is memory for the order and for all entries, or nothing changes.
+/// Puts each entry at its place in the order of their names, so that each goes near the one before.
+/// If there is no memory for the order and all entries, nothing changes.
 pub(crate) fn put_sorted(
     entries: &mut TieredVec<Entry>,
     others: Vec<Entry>,
@@ -76,7 +76,7 @@ pub(crate) fn put_sorted(
     Ok(())
 }
 
-/// Puts each entry at its place, or combines it with the one that is there. There is room for all.
+/// Puts each entry at its place, or combines it with the one there. There is room for all.
 fn put_all(entries: &mut TieredVec<Entry>, others: Vec<Entry>)
     requires ascending { IsAscending (items entries.old) }
     requires room { length others.items ≤ room entries.old }
@@ -87,8 +87,8 @@ fn put_all(entries: &mut TieredVec<Entry>, others: Vec<Entry>)
     }
 }
 
-/// Puts each entry of a table at its place, or combines it with the one that is there. There is room
-/// for all.
+/// Puts each entry of a table at its place, or combines it with the one there. There is room for
+/// all.
 pub(crate) fn put_entries(entries: &mut TieredVec<Entry>, others: TieredVec<Entry>)
     requires ascending { IsAscending (items entries.old) }
     requires room { length (items others) ≤ room entries.old }
@@ -99,7 +99,7 @@ pub(crate) fn put_entries(entries: &mut TieredVec<Entry>, others: TieredVec<Entr
     }
 }
 
-/// Puts an entry, for which there is room, at its place, or combines it with the one that is there.
+/// Puts an entry, for which there is room, at its place, or combines it with the one there.
 fn put_in_room(entries: &mut TieredVec<Entry>, other: Entry)
     requires ascending { IsAscending (items entries.old) }
     requires room { 0 < room entries.old }

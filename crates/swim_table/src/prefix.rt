@@ -1,4 +1,4 @@
-//! The front of a name as a number, which is compared before the name itself.
+//! The prefix of a name as a number, which is compared before the name itself.
 
 ghost use Rattle.std.specs.Prelude.{◌≡◌, ◌≢◌, ◌<◌, ℕ, List, slice_index};
 ghost use Rattle.std.specs.declared.cmp.Ordering.TheVariants.{Equal};
@@ -8,11 +8,10 @@ ghost use Rattle.swim_table.specs.Table.{name_cmp};
 use byteorder::{BigEndian, ByteOrder};
 use std::cmp::Ordering;
 
-/// How many bytes of a name stand in a prefix.
+/// How many bytes of a name are in a prefix.
 const FRONT: usize = 16;
 
-/// The first 16 bytes of a name, with zeros behind a shorter one, as a big-endian number in two
-/// halves.
+/// The first 16 bytes of a name, padded with zeros, as a big-endian number in two halves.
 #[derive(Clone, Copy, Debug)]
 pub(crate) struct Prefix {
     high: u64,
@@ -31,7 +30,7 @@ impl Prefix {
         }
     }
 
-    /// How the names stand to one another, where their prefixes differ, and else `Equal`.
+    /// How the names compare if their prefixes differ; otherwise `Equal`.
     #[inline(always)]
     pub(crate) fn order(&self, other: &Prefix) -> Ordering
         ensures { (name another : List ℕ) → IsPrefixOf self.now name
@@ -45,7 +44,7 @@ impl Prefix {
     }
 }
 
-/// The first 16 bytes of a name, with zeros behind a shorter one.
+/// The first 16 bytes of a name, padded with zeros.
 #[inline(always)]
 fn padded(name: &[u8]) -> [u8; FRONT]
     ensures { (k : ℕ) → k < 16 → slice_index result k ≡ slice_index name.now k }

@@ -20,7 +20,7 @@ use std::marker::Model;
 use swim_pack::{Inlet, SliceInlet};
 use swim_wire::{Header, WireFault, read_header, read_state, skip_user};
 
-/// A push/pull stream of which some records are read: its header, how many records are still to
+/// A push/pull stream of which some records were read: its header, how many records are still to
 /// come, and the table of the claims read so far.
 #[derive(Drop, Debug)]
 pub struct StreamReader {
@@ -38,35 +38,35 @@ impl Model for StreamReader {
     ghost view = { λ r. record { header = r.header; left = r.left; table = r.table } };
 }
 
-/// What one step of reading a stream comes to.
+/// The result of one step of reading a stream.
 #[derive(Drop, Debug)]
 pub enum Step {
-    /// One more record is read.
+    /// One more record was read.
     More(StreamReader),
-    /// The stream is read to its end: the table of its claims, and its join flag.
+    /// The stream was read to its end: the table of its claims, and its join flag.
     End(Table, bool),
 }
 
 impl StreamReader {
-    /// Reads the header of a stream. It takes no memory: the number of records that the header
-    /// promises sizes nothing.
+    /// Reads the header of a stream. It takes no memory: nothing is sized by the number of records
+    /// that the header announces.
     ///
     /// # Errors
     ///
-    /// Those of [`read_header`], and what is left are bytes from the end of those before.
+    /// Those of [`read_header`]. Then the bytes left are a suffix of those before.
     pub fn begin<I: Inlet>(alloc: Global, inlet: &mut I) -> Result<StreamReader, WireFault>
-        // The bytes taken are the header, and no claim is read yet.
+        // The bytes taken are the header, and no claim was read yet.
         ensures takes { IfOk result (λ reader.
             Takes (I.seen inlet.old) (I.seen inlet.new) (λ b. HeaderText b reader.header)) }
         ensures fresh { IfOk result (λ reader. (reader.left ≡ reader.header.nodes)
             × (reader.table ≡ [])) }
 
-        // Also where the inlet tells no bytes.
+        // Also if the inlet does not say what its bytes are.
         ensures within { IfOk result (λ reader. (reader.header.nodes ≤ most_nodes)
             × (reader.header.user_len ≤ most_user_state)) }
 
-        // Refused for another cause than a failing end no header stands at the front, and the
-        // refusal says why.
+        // If refused, and the inlet did not fail, the bytes do not begin with a header, and the
+        // fault says why.
         ensures lacks { IfErr result (λ fault. UnlessFailed (wire_cause fault)
             (Lacks (I.seen inlet.old) (λ b. (header : Header) × HeaderText b header))) }
         ensures explains { IfErr result (λ fault.
@@ -106,20 +106,21 @@ impl StreamReader {
         &self.table
     }
 
-    /// Reads the next record, or where none is to come reads the user state and drops it.
+    /// Reads the next record, or, if none is to come, reads and drops the user state.
     ///
     /// # Errors
     ///
-    /// Those of [`read_state`], those of [`skip_user`] at the end, and `Memory` where memory for
-    /// the entry of a new name is refused. The reader is dropped, and what is left are bytes from
-    /// the end of those before.
+    /// Those of [`read_state`], those of [`skip_user`] at the end, and `Memory` if out of memory
+    /// for the entry of a new name. The reader is dropped, and the bytes left are a suffix of those
+    /// before.
     pub fn step<I: Inlet>(self, inlet: &mut I) -> Result<Step, WireFault>
-        // The bytes taken are a record, whose claim is in the table, or at the end the user state.
+        // The bytes taken are a record, whose claim is in the table, or, at the end, the user
+        // state.
         ensures takes { IfOk result (λ step.
             Steps self (I.seen inlet.old) (I.seen inlet.new) step) }
 
-        // Refused for another cause than a failing end or memory what was wanted does not stand at
-        // the front, and the refusal says why. The end takes no memory.
+        // If refused, and neither the inlet failed nor memory ran out, the bytes do not begin with
+        // what was wanted, and the fault says why. The end takes no memory.
         ensures lacks { IfErr result (λ fault.
             UnlessFailed (wire_cause fault) (Lacks (I.seen inlet.old) (IsWanted self))) }
         ensures explains { IfErr result (λ fault.
@@ -152,20 +153,20 @@ impl StreamReader {
     }
 }
 
-/// Reads one push/pull stream (memberlist's `net.go`), takes each record in, and answers the table
+/// Reads one push/pull stream (memberlist's `net.go`), takes each record in, and returns the table
 /// and the join flag. Bytes after it stay in the inlet.
 ///
 /// # Errors
 ///
-/// Those of [`StreamReader::begin`] and [`StreamReader::step`]. What is left are bytes from the end
-/// of those before.
+/// Those of [`StreamReader::begin`] and [`StreamReader::step`]. Then the bytes left are a suffix of
+/// those before.
 pub fn read_stream<I: Inlet>(alloc: Global, inlet: &mut I) -> Result<(Table, bool), WireFault>
     // The bytes taken are one stream, and the table is that of its claims.
     ensures takes { IfOk result (λ read. (claims : List Claim) × TableOf read.0 claims
         × Takes (I.seen inlet.old) (I.seen inlet.new) (λ b. StreamText b claims read.1)) }
 
-    // Refused for another cause than a failing end or memory no stream stands at the front, and the
-    // refusal says why.
+    // If refused, and neither the inlet failed nor memory ran out, the bytes do not begin with a
+    // stream, and the fault says why.
     ensures lacks { IfErr result (λ fault. UnlessFailed (wire_cause fault)
         (Lacks (I.seen inlet.old)
         (λ b. (claims : List Claim) × (join : Bool) × StreamText b claims join))) }
@@ -184,28 +185,28 @@ pub fn read_stream<I: Inlet>(alloc: Global, inlet: &mut I) -> Result<(Table, boo
     }
 }
 
-/// Reads a dump: one push/pull stream, and nothing after it. Answers the table of its claims and
+/// Reads a dump: one push/pull stream with nothing after it. Returns the table of its claims and
 /// the join flag.
 ///
 /// # Errors
 ///
-/// Those of [`read_stream`], and `Trailing` where bytes follow the stream.
+/// Those of [`read_stream`], and `Trailing` if bytes follow the stream.
 pub fn read_dump(alloc: Global, bytes: &[u8]) -> Result<(Table, bool), WireFault>
     // The bytes are one stream, and the table is that of its claims.
     ensures reads { IfOk result (λ read. (claims : List Claim) × TableOf read.0 claims
         × StreamText bytes.now claims read.1) }
 
-    // Refused for another cause than memory they are none, and the refusal says why.
+    // If refused, and memory did not run out, the bytes are not a stream, and the fault says why.
     ensures refuses { IfErr result (λ fault. fault ≢ WireFault.Memory
         → (claims : List Claim) (join : Bool) → ¬ StreamText bytes.now claims join) }
     ensures explains { IfErr result (λ fault. ExplainsDump fault bytes.now) }
 
-    // Where bytes follow a stream no other refusal comes but `Memory`.
+    // If bytes follow a stream, the only other fault is `Memory`.
     ensures after { (front rest : List ℕ) (claims : List Claim) (join : Bool)
         → StreamText front claims join → rest ≢ [] → bytes.now ≡ front ++ rest
         → IsErrOf result WireFault.Trailing ⊎ IsErrOf result WireFault.Memory }
 
-    // A canonical dump is read back, and refused for want of memory alone.
+    // A canonical dump is read back, and refused only if out of memory.
     ensures back { (table : Entries) (join : Bool) → IsLegalTable table
         → length (Reduced table) ≤ most_nodes → bytes.now ≡ dump_bytes table join
         → IfOk result (λ read. (read.0 ≡ table) × (read.1 ≡ join))

@@ -103,22 +103,22 @@ fn suspicion(rt: &impl Abort, alloc: Global, number: u32) -> Result<Claim, Alloc
     Ok(Claim::Suspect { name, inc: 1 })
 }
 
-/// That the bytes are those that are wanted.
+/// Asserts that the bytes are the wanted ones.
 fn assert_bytes(rt: &impl Abort, found: &[u8], wanted: &[u8], about: &str) {
     assert_eq!(rt; found, wanted, "{about}");
 }
 
-/// That the count is the one that is wanted.
+/// Asserts that the count is the wanted one.
 fn assert_count(rt: &impl Abort, found: usize, wanted: usize, about: &str) {
     assert_eq!(rt; found, wanted, "{about}");
 }
 
-/// That this holds.
+/// Asserts that this holds.
 fn assert_that(rt: &impl Abort, holds: bool, about: &str) {
     assert!(rt; holds, "{about}");
 }
 
-/// Takes in, at the second try, the claim that was handed back. The table has to have stayed.
+/// Takes in, at the second try, the claim that was returned. The table must be unchanged.
 fn take_back(
     rt: &impl Abort,
     alloc: Global,
@@ -130,8 +130,8 @@ fn take_back(
     Ok(table.take(claim).ok().expect(rt, "the second try"))
 }
 
-/// Takes a claim in. Where memory is refused the table has to stay, and the claim that is handed
-/// back has to be taken in at the second try.
+/// Takes a claim in. If memory is refused, the table must not change, and the returned claim must
+/// be taken in at the second try.
 fn take(
     rt: &impl Abort,
     alloc: Global,
@@ -174,7 +174,7 @@ fn claims_of(rt: &impl Abort, alloc: Global, sayings: &[Saying]) -> Result<Vec<C
     Ok(claims)
 }
 
-/// The listing of the table, at the second try where memory is refused.
+/// The listing of the table, at the second try if memory is refused.
 fn listing(alloc: Global, table: &Table) -> Result<Vec<u8>, AllocError> {
     match list(alloc, table) {
         Err(_) => list(alloc, table),
@@ -182,7 +182,7 @@ fn listing(alloc: Global, table: &Table) -> Result<Vec<u8>, AllocError> {
     }
 }
 
-/// Asserts that the table has this listing, at the second try where memory is refused.
+/// Asserts that the table has this listing, at the second try if memory is refused.
 fn assert_lists(
     rt: &impl Abort,
     alloc: Global,
@@ -203,7 +203,7 @@ const ORDERS: [[usize; 3]; 6] = [
     [2, 1, 0],
 ];
 
-/// Takes up to three claims in, which arrive in this order.
+/// Takes in up to three claims in this order.
 fn take_in_order(
     rt: &impl Abort,
     alloc: Global,
@@ -219,7 +219,7 @@ fn take_in_order(
     Ok(())
 }
 
-/// Asserts that the claims have this listing, in whatever order they arrive.
+/// Asserts that the claims have this listing in every order.
 fn assert_listing(
     rt: &impl Abort,
     alloc: Global,
@@ -234,7 +234,7 @@ fn assert_listing(
     Ok(())
 }
 
-/// Claims, in no order, and the listing of their table.
+/// Claims, in any order, and the listing of their table.
 const LISTINGS: &[(&[Saying], &str)] = &[
     // an alive is its own home
     (&[], ""),
@@ -268,7 +268,7 @@ const LISTINGS: &[(&[Saying], &str)] = &[
         &[leave!(b"a", 2), alive!(b"a", 5, LOOPBACK, 7946)],
         "a leave 2 5/7f000001/7946//\n",
     ),
-    // a leave wins over a confirm at one incarnation
+    // a leave overrides a confirm at the same incarnation
     (&[leave!(b"a", 2), confirm!(b"a", 2)], "a leave 2 -\n"),
     (
         &[leave!(b"a", 2), confirm!(b"a", 2), confirm!(b"a", 3)],
@@ -278,7 +278,7 @@ const LISTINGS: &[(&[Saying], &str)] = &[
         &[leave!(b"a", 2), leave!(b"a", 3), confirm!(b"a", 3)],
         "a leave 3 -\n",
     ),
-    // of two alives the greater details stay
+    // of two alives the one with greater details stays
     (
         &[
             alive!(b"a", 1, LOOPBACK, 255),
@@ -300,7 +300,7 @@ const LISTINGS: &[(&[Saying], &str)] = &[
         ],
         "a alive 1 1/0a000001/7946//\n",
     ),
-    // a name is listed with its escapes
+    // a name is escaped in a listing
     (&[suspect!(b"a %\n", 0)], "a%20%25%0A suspect 0 -\n"),
     (
         &[suspect!(b"!~\x7f\x80\xff\0", 0)],

@@ -10,12 +10,12 @@ use swim_wire::Datagram;
 /// A Suspect of `b` at incarnation 1.
 pub(crate) const PACKET: &[u8] = b"\x03\x83\xa4From\xa1x\xabIncarnation\x01\xa4Node\xa1b";
 
-/// A compound packet of an Alive of `a` at incarnation 0 and that Suspect.
+/// A compound packet of an Alive of `a` at incarnation 0 and the Suspect above.
 const COMPOUND: &[u8] =
     b"\x07\x02\0\x33\0\x1d\x04\x86\xa4Addr\xa4\x7f\0\0\x01\xabIncarnation\0\xa4Meta\xa0\xa4Node\xa1a\xa4Port\xcd\x1f\x0a\xa3Vsn\xa0\x03\x83\xa4From\xa1x\xabIncarnation\x01\xa4Node\xa1b";
 
-/// Takes a datagram in, at the second try where memory is refused. The table has to stay until
-/// then.
+/// Takes a datagram in, at the second try if memory is refused. Until then the table must not
+/// change.
 fn take_in(rt: &impl Abort, alloc: Global, table: &mut Table, bytes: &[u8]) -> Result<(), Fail> {
     let before = list(alloc, table)?;
     let datagram = Datagram::decode(alloc, bytes)?;

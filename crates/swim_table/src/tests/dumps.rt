@@ -1,4 +1,4 @@
-//! Canonical dumps, as bytes and read back.
+//! Canonical dumps, written and read back.
 
 use super::streams::{ALIVE, SUSPECT, SUSPECTED, reads_back};
 use super::{LOOPBACK, Saying, assert_bytes, assert_that, suspicion, table_of};
@@ -13,7 +13,7 @@ use swim_wire::WireFault;
 /// A dump of no records.
 const NO_RECORDS: &[u8] = b"\x06\x83\xa4Join\xc2\xa5Nodes\0\xacUserStateLen\0";
 
-/// A dump of an Alive of `a` at incarnation 0, at 127.0.0.1 and port 7946, sent to join.
+/// A dump of an Alive of `a` at incarnation 0, at 127.0.0.1 and port 7946, with the join flag.
 const ALIVE_JOINING: &[u8] =
     b"\x06\x83\xa4Join\xc3\xa5Nodes\x01\xacUserStateLen\0\x87\xa4Addr\xa4\x7f\0\0\x01\xabIncarnation\0\xa4Meta\xa0\xa4Name\xa1a\xa4Port\xcd\x1f\x0a\xa5State\0\xa3Vsn\xa0";
 
@@ -31,7 +31,7 @@ const DUMPS: &[(&[Saying], bool, &[u8])] = &[
     (&[alive!(b"a", 0, LOOPBACK, 7946)], true, ALIVE_JOINING),
     (&[suspect!(b"b", 1)], false, SUSPECT),
     (&[leave!(b"c", 3)], false, LEAVE),
-    // of these a table keeps the second and, as its home, the third, which is dumped first
+    // of these a table keeps the second and, as its home, the third, which comes first in the dump
     (
         &[
             alive!(b"a", 3, LOOPBACK, 7946),
@@ -48,7 +48,7 @@ pub(super) fn assert_memory(rt: &impl Abort, fault: EncodeFault) {
     assert_that(rt, memory, "want of memory is told");
 }
 
-/// The dump of the table, at the second try where the first is refused memory and says so.
+/// The dump of the table, at the second try if memory is refused and reported at the first.
 pub(super) fn dump(rt: &impl Abort, alloc: Global, table: &Table, join: bool) -> Vec<u8> {
     match encode(alloc, table, join) {
         Ok(bytes) => bytes,
@@ -97,7 +97,7 @@ fn a_table_has_its_dump_or_wants_memory_and_is_read_back(rt: HostRuntime) -> Res
     Ok(())
 }
 
-/// Writes the dump to the front of the buffer, where it fits. Answers its length.
+/// Writes the dump to the start of the buffer if it fits. Returns its length.
 fn put_in_front(table: &Table, out: &mut [u8]) -> usize {
     match dump_len(table, true) {
         Ok(len) if len <= out.len() => {
@@ -135,7 +135,7 @@ fn take_suspicion(
     }
 }
 
-/// Takes in Suspects of so many names.
+/// Takes in Suspects of this many names.
 fn take_suspicions(
     rt: &impl Abort,
     alloc: Global,
@@ -148,7 +148,7 @@ fn take_suspicions(
     Ok(())
 }
 
-/// Asserts that the table has too many records for a dump, and is listed all the same.
+/// Asserts that the table has too many records for a dump, but is listed.
 fn assert_too_many(rt: &impl Abort, alloc: Global, table: &Table) {
     let refused = encode(alloc, table, false).err();
     assert_that(rt, refused == Some(EncodeFault::TooManyRecords), "too many");
@@ -164,7 +164,7 @@ fn assert_too_many(rt: &impl Abort, alloc: Global, table: &Table) {
     assert_that(rt, list(alloc, table).is_ok(), "a listing");
 }
 
-/// Asserts that the table has a dump, and none once it has one record more.
+/// Asserts that the table has a dump, and none after one more record.
 fn assert_most(rt: &impl Abort, alloc: Global, table: &mut Table) -> Result<(), AllocError> {
     let starts = dump(rt, alloc, table, false).starts_with(MOST_RECORDS);
     assert_that(rt, starts, "the header");

@@ -1,4 +1,4 @@
-//! Names that a table forgets, and a node.
+//! Names that a table or a node forgets.
 
 use super::node::{HEARD, START, assert_member, start};
 use super::{LOOPBACK, Saying, assert_lists, assert_that, table_of, take};
@@ -6,7 +6,7 @@ use std::alloc::{AllocError, Global};
 use std::process::Abort;
 use swim_claim::Kind;
 
-/// Three names, which arrive in no order.
+/// Three names, in no order.
 const THREE: &[Saying] = &[
     suspect!(b"b", 1),
     confirm!(b"c", 2),
@@ -15,7 +15,8 @@ const THREE: &[Saying] = &[
 
 const ALL: &str = "a alive 0 0/7f000001/7946//\nb suspect 1 -\nc confirm 2 -\n";
 
-/// Claims of a table, a name that it forgets, whether that had an entry, and the listing then.
+/// Claims of a table, a name that it forgets, whether that had an entry, and the listing after
+/// that.
 const FORGOTTEN: &[(&[Saying], &[u8], bool, &str)] = &[
     // the first name, the middle one and the last
     (THREE, b"a", true, "b suspect 1 -\nc confirm 2 -\n"),
@@ -35,7 +36,7 @@ const FORGOTTEN: &[(&[Saying], &[u8], bool, &str)] = &[
     (THREE, b"", false, ALL),
     (THREE, b"ab", false, ALL),
     (THREE, b"d", false, ALL),
-    // the only name, and none
+    // the only name, and no name
     (&[suspect!(b"b", 1)], b"b", true, ""),
     (&[], b"b", false, ""),
     // a name's top and its home
@@ -76,8 +77,8 @@ fn a_forgotten_name_is_taken_in_anew(rt: HostRuntime) -> Result<(), AllocError> 
     assert_lists(&rt, rt.alloc(), &table, wanted)
 }
 
-/// A name that a node `a` forgets, which has heard of `b`, whether that had an entry, and the
-/// listing of its table then.
+/// A name that a node `a`, which has heard of `b`, forgets, whether it had an entry, and the
+/// listing of the node's table after that.
 const OF_NODE: &[(&[u8], bool, &str)] = &[
     (b"b", true, START),
     (b"c", false, HEARD),

@@ -1,4 +1,4 @@
-//! Tables of many names, for which memory is there.
+//! Tables of many names, with enough memory.
 
 use super::dumps::dump;
 use super::{assert_count, assert_that, suspicion};
@@ -7,7 +7,7 @@ use std::alloc::{AllocError, Global};
 use std::process::Abort;
 use swim_claim::Claim;
 
-/// Suspicions of three hundred names, from this number on.
+/// Suspicions of three hundred names, starting at this number.
 fn suspicions(rt: &impl Abort, alloc: Global, first: u32) -> Result<Vec<Claim>, AllocError> {
     let mut claims = Vec::new(alloc);
     for number in 0..300 {
@@ -16,8 +16,8 @@ fn suspicions(rt: &impl Abort, alloc: Global, first: u32) -> Result<Vec<Claim>, 
     Ok(claims)
 }
 
-/// Takes the claims in at once. Where memory is refused the table stays, and the repeat takes them
-/// in.
+/// Takes the claims in at once. If memory is refused, the table does not change, and the second try
+/// takes them in.
 fn take(rt: &impl Abort, alloc: Global, table: &mut Table, first: u32) -> Result<(), AllocError> {
     let before = table.len();
     if table.take_all(suspicions(rt, alloc, first)?).is_err() {
@@ -27,20 +27,20 @@ fn take(rt: &impl Abort, alloc: Global, table: &mut Table, first: u32) -> Result
     Ok(())
 }
 
-/// The table of three hundred names, from a first number on.
+/// The table of three hundred names, starting at this number.
 fn table(rt: &impl Abort, alloc: Global, first: u32) -> Result<Table, AllocError> {
     let mut table = Table::new(alloc);
     take(rt, alloc, &mut table, first)?;
     Ok(table)
 }
 
-/// How many lines the listing of the table has.
+/// The number of lines in the table's listing.
 fn lines(alloc: Global, table: &Table) -> Result<usize, AllocError> {
     let listing = list(alloc, table)?;
     Ok(listing.iter().filter(|byte| **byte == b'\n').count())
 }
 
-/// How many names the table has that is read from the dump of a table.
+/// The number of names in the table that is read from the table's dump.
 fn names_dumped(rt: &impl Abort, alloc: Global, table: &Table) -> Result<usize, AllocError> {
     match read_dump(alloc, &dump(rt, alloc, table, false)) {
         Ok((back, _)) => Ok(back.len()),
@@ -48,7 +48,7 @@ fn names_dumped(rt: &impl Abort, alloc: Global, table: &Table) -> Result<usize, 
     }
 }
 
-/// Asserts that the table has three hundred names, which are listed and dumped.
+/// Asserts that the table has three hundred names, in its listing and its dump.
 fn assert_shown(rt: &impl Abort, alloc: Global, table: &Table) -> Result<(), AllocError> {
     assert_count(rt, table.len(), 300, "names");
     assert_count(rt, lines(alloc, table)?, 300, "lines");
@@ -72,7 +72,7 @@ fn of_claims_taken_in_at_once_half_may_be_known(rt: HostRuntime) -> Result<(), A
     Ok(())
 }
 
-/// Joins the other table in, in room for both.
+/// Joins the other table in, with room for both.
 fn join_in(alloc: Global, table: &mut Table, other: Table) -> Result<(), AllocError> {
     let room = Room::new(alloc, table.len() + other.len())?;
     table.join_in(room, other);
@@ -96,7 +96,7 @@ fn table_of_one(rt: &impl Abort, alloc: Global, number: u32) -> Result<Table, Al
     }
 }
 
-/// Joins the other table in. Where memory is refused both stay, and the repeat joins it in.
+/// Joins the other table in. If memory is refused, neither changes, and the second try joins it in.
 fn join(rt: &impl Abort, table: &mut Table, other: Table) -> Result<(), AllocError> {
     let before = table.len();
     let Err((other, _)) = table.join(other) else {
@@ -120,7 +120,7 @@ fn a_table_of_one_name_is_joined_into_one_of_many(rt: HostRuntime) -> Result<(),
     Ok(())
 }
 
-/// Forgets the names that were taken in, from the number 0 on.
+/// Forgets the names that were taken in, starting at the number 0.
 fn forget(rt: &impl Abort, table: &mut Table) {
     for number in 0u32..300 {
         assert_that(rt, table.forget(&number.to_be_bytes()), "an entry");
@@ -136,7 +136,7 @@ fn three_hundred_names_are_forgotten_and_taken_in_again(rt: HostRuntime) -> Resu
     assert_shown(&rt, rt.alloc(), &table)
 }
 
-/// What the table holds is sized by the claims, and so is the room that is asked for them.
+/// The claims determine the size of the table, and of the room that is requested for them.
 #[test]
 fn a_table_of_three_hundred_claims_taken_at_once_holds_at_most_256_kib(
     rt: HostRuntime,

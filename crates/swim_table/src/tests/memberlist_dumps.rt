@@ -1,4 +1,4 @@
-//! The dumps that memberlist merges, as bytes and read back. Each is spelled as memberlist spells
+//! The dumps that memberlist merges, written and read back. Each is encoded as memberlist encodes
 //! its own push/pull streams.
 
 use super::dumps::assert_memory;
@@ -40,7 +40,7 @@ const CONFIRM_B: &[u8] =
 const CONFIRM_B_WITH_HOME: &[u8] =
     b"\x87\xa4Addr\xa4\x7f\0\0\x02\xabIncarnation\x05\xa4Meta\xa0\xa4Name\xa1b\xa4Port\x50\xa5State\x02\xa3Vsn\xa6\x01\x05\x02\0\0\0";
 
-/// Of `c` nothing is known but a suspicion.
+/// Only a suspicion is known about `c`.
 const SUSPECT_C: &[u8] =
     b"\x87\xa4Addr\xa0\xabIncarnation\x01\xa4Meta\xa0\xa4Name\xa1c\xa4Port\0\xa5State\x01\xa3Vsn\xa0";
 
@@ -58,8 +58,8 @@ const LEAVE_D_WITH_HOME: &[u8] =
 const ALIVE_E: &[u8] =
     b"\x87\xa4Addr\xa4\x7f\0\0\x05\xabIncarnation\0\xa4Meta\xa0\xa4Name\xa1e\xa4Port\xcd\x1f\x0a\xa5State\0\xa3Vsn\xa6\x01\x05\x02\0\0\0";
 
-/// A stream that is read, the dump of it that memberlist merges, its flag, and the listing of what
-/// is read back.
+/// A stream that is read, the dump of it that memberlist merges, its flag, and the listing after
+/// reading that back.
 struct Row {
     read: &'static [&'static [u8]],
     dump: &'static [&'static [u8]],
@@ -115,7 +115,7 @@ const ROWS: &[Row] = &[
     },
 ];
 
-/// The parts, one behind the other.
+/// The parts, one after another.
 fn joined(alloc: Global, parts: &[&[u8]]) -> Result<Vec<u8>, AllocError> {
     let mut bytes = Vec::new(alloc);
     for part in parts {
@@ -124,7 +124,7 @@ fn joined(alloc: Global, parts: &[&[u8]]) -> Result<Vec<u8>, AllocError> {
     Ok(bytes)
 }
 
-/// The dump of the table, at the second try if the first is refused memory and says so.
+/// The dump of the table, at the second try if memory is refused and reported at the first.
 fn dump(rt: &impl Abort, alloc: Global, table: &Table, join: bool) -> Vec<u8> {
     match encode_memberlist(alloc, table, join) {
         Ok(bytes) => bytes,
@@ -137,7 +137,7 @@ fn dump(rt: &impl Abort, alloc: Global, table: &Table, join: bool) -> Vec<u8> {
     }
 }
 
-/// Asserts that the table that is read from the stream of a row has the row's dump.
+/// Asserts that the table that is read from a row's stream has the row's dump.
 fn assert_row(rt: &impl Abort, alloc: Global, row: &Row) -> Result<(), WireFault> {
     let (table, _) = read(alloc, &joined(alloc, row.read)?)?;
     let wanted = joined(alloc, row.dump)?;
@@ -157,7 +157,7 @@ fn a_table_has_a_dump_that_memberlist_merges_or_wants_memory_and_is_read_back(
     Ok(())
 }
 
-/// Writes the dump to the front of the buffer, if it fits. Answers its length.
+/// Writes the dump to the start of the buffer if it fits. Returns its length.
 fn put_in_front(table: &Table, out: &mut [u8]) -> usize {
     match memberlist_dump_len(table, true) {
         Ok(len) if len <= out.len() => {

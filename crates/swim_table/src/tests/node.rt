@@ -12,14 +12,14 @@ use std::test::Fail;
 use swim_claim::{Claim, Kind};
 use swim_wire::Datagram;
 
-/// A node `a` at incarnation 3, or none where the node is refused memory.
+/// A node `a` at incarnation 3, or none if memory is refused.
 fn start_once(rt: &impl Abort, alloc: Global) -> Result<Option<Node>, AllocError> {
     let name = name_of(rt, alloc, b"a")?;
     let details = details_of(rt, LOOPBACK, 7946, Vec::new(alloc), b"");
     Ok(Node::new(alloc, name, details, 3).ok())
 }
 
-/// A node `a` at incarnation 3, made at the second try where memory is refused.
+/// A node `a` at incarnation 3, made at the second try if memory is refused.
 pub(super) fn start(rt: &impl Abort, alloc: Global) -> Result<Node, AllocError> {
     match start_once(rt, alloc)? {
         Some(node) => Ok(node),
@@ -38,11 +38,11 @@ pub(super) fn assert_member(rt: &impl Abort, node: &Node) {
     assert_that(rt, same, "the member is not itself");
 }
 
-/// What a node answers that is asked to refute.
+/// The result of asking a node to refute.
 type Answer = Result<Option<u32>, RefuteFault>;
 
-/// What the node answers. Where memory is refused the table has to stay, and the second try
-/// answers.
+/// The result of asking the node to refute. If memory is refused, the table must not change, and
+/// the second try gives the result.
 fn refute(rt: &impl Abort, alloc: Global, node: &mut Node) -> Result<Answer, AllocError> {
     let before = list(alloc, node.table())?;
     match node.refute() {
@@ -59,11 +59,11 @@ fn assert_answer(rt: &impl Abort, found: Answer, wanted: Answer) {
     assert_eq!(rt; found, wanted);
 }
 
-/// What a node hears, if anything, what it answers then that is asked to refute, and how its table
-/// is listed after that.
+/// What a node hears, if anything, the result of asking it to refute then, and the listing of its
+/// table after that.
 type Turn = (Option<Saying>, Answer, &'static str);
 
-/// Asserts what the node answers at this turn, and how its table is listed then.
+/// Asserts the node's result in this turn, and the listing of its table then.
 fn assert_turn(
     rt: &impl Abort,
     alloc: Global,
@@ -93,12 +93,12 @@ fn assert_turns(
     Ok(())
 }
 
-/// How a node starts, and what it has heard of `b` then.
+/// The listing of a node at its start, and then with what it has heard about `b`.
 pub(super) const START: &str = "a alive 3 3/7f000001/7946//\n";
 
 pub(super) const HEARD: &str = "a alive 3 3/7f000001/7946//\nb suspect 1 -\n";
 
-/// The turns of some nodes, each from its start.
+/// The turns of some nodes, each from the start.
 const TURNS: &[&[Turn]] = &[
     // a suspicion is refuted once
     &[
@@ -143,7 +143,7 @@ fn a_node_starts_with_its_own_claim_and_refutes_once_by_what_stands(
     Ok(())
 }
 
-/// Takes a claim in, at the second try where memory is refused. The table has to stay until then.
+/// Takes a claim in, at the second try if memory is refused. Until then the table must not change.
 fn take_one(rt: &impl Abort, node: &mut Node, claim: Claim) -> Option<Taken> {
     match node.take(claim) {
         Ok(taken) => Some(taken),
@@ -154,8 +154,8 @@ fn take_one(rt: &impl Abort, node: &mut Node, claim: Claim) -> Option<Taken> {
     }
 }
 
-/// Takes several claims in, at the second try where memory is refused. The table has to stay until
-/// then.
+/// Takes several claims in, at the second try if memory is refused. Until then the table must not
+/// change.
 fn take_several(rt: &impl Abort, alloc: Global, node: &mut Node) -> Result<(), AllocError> {
     let sayings = [suspect!(b"b", 1), alive!(b"a", 2, LOOPBACK, 1)];
     if node.take_all(claims_of(rt, alloc, &sayings)?).is_err() {
@@ -166,7 +166,7 @@ fn take_several(rt: &impl Abort, alloc: Global, node: &mut Node) -> Result<(), A
     Ok(())
 }
 
-/// Joins a table in, in room for both.
+/// Joins a table in, with room for both.
 fn join_in(
     rt: &impl Abort,
     alloc: Global,
@@ -190,7 +190,7 @@ enum Way {
     Table,
 }
 
-/// Lets the node hear a Suspect of `b` this way.
+/// Makes the node hear a Suspect of `b` in this way.
 fn hear(rt: &impl Abort, alloc: Global, node: &mut Node, way: Way) -> Result<(), Fail> {
     let saying = suspect!(b"b", 1);
     match way {
@@ -208,7 +208,7 @@ fn hear(rt: &impl Abort, alloc: Global, node: &mut Node, way: Way) -> Result<(),
     Ok(())
 }
 
-/// Asserts that the node has heard of `b` this way, and is still the member.
+/// Asserts that the node has heard of `b` in this way, and is still the same member.
 fn assert_heard(rt: &impl Abort, alloc: Global, node: &mut Node, way: Way) -> Result<(), Fail> {
     hear(rt, alloc, node, way)?;
     assert_member(rt, node);
@@ -231,7 +231,7 @@ fn a_node_hears_in_each_way_and_stays_the_member(rt: HostRuntime) -> Result<(), 
     Ok(())
 }
 
-/// Asserts the number of a fault, and its text.
+/// Asserts the number and the text of a fault.
 fn assert_fault(rt: &impl Abort, number: u32, said: &str, wanted: (u32, &str)) {
     let same = number == wanted.0 && said == wanted.1;
     assert_that(rt, same, wanted.1);

@@ -1,4 +1,4 @@
-//! Streams whose inlet fails, or gives its bytes in pieces.
+//! Streams whose inlet fails, or returns its bytes in pieces.
 
 use super::streams::{SUSPECTED, SUSPECTED_LISTING};
 use super::{assert_lists, assert_that};
@@ -10,7 +10,7 @@ use std::process::Abort;
 use swim_pack::{FromRead, Inlet, StopInlet};
 use swim_wire::WireFault;
 
-/// Reads a stream from the inlet. Where memory is refused the repeat reads it from the other one.
+/// Reads a stream from the inlet. If memory is refused, the second try reads it from the other one.
 fn read_either<I: Inlet>(
     alloc: Global,
     inlet: &mut I,
@@ -29,8 +29,8 @@ fn read_stopping(alloc: Global, calls: usize) -> Result<(Table, bool), WireFault
     read_either(alloc, &mut inlet, &mut other)
 }
 
-/// Whether the stream is read from an inlet that fails at this call. Else it has to be for the
-/// fault.
+/// Whether the stream is read from an inlet that fails at this call. If not, the fault must be the
+/// reason.
 fn is_read(rt: &impl Abort, alloc: Global, calls: usize) -> Result<bool, AllocError> {
     match read_stopping(alloc, calls) {
         Ok((table, _)) => {
@@ -54,7 +54,7 @@ fn an_inlet_that_fails_at_any_call_is_a_fault(rt: HostRuntime) -> Result<(), All
     panic!(rt; "the stream is read at no number of calls")
 }
 
-/// A reader that gives its bytes, at most so many a read.
+/// A reader that returns at most this many of its bytes in one read.
 #[derive(Drop)]
 struct Pieces<'a> {
     bytes: &'a [u8],
@@ -77,7 +77,7 @@ impl Read for Pieces<'_> {
     }
 }
 
-/// The table and the flag of a stream that comes in pieces of at most so many bytes.
+/// The table and the flag of a stream that comes in pieces of at most this many bytes.
 fn read_in_pieces(alloc: Global, most: usize) -> Result<(Table, bool), WireFault> {
     let mut inlet = FromRead::new(Pieces::new(SUSPECTED, most));
     let mut other = FromRead::new(Pieces::new(SUSPECTED, most));

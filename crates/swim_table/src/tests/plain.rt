@@ -1,4 +1,4 @@
-//! A table computed from its definition: slow, and over the list of all claims that were taken in.
+//! A table computed from its definition: slowly, over the list of all claims that were taken in.
 
 use super::{LOOPBACK, Saying, assert_lists, assert_that, claims_of, table_of};
 use crate::{Relation, Table, relation};
@@ -9,7 +9,7 @@ use swim_claim::Kind;
 const NAMES: [&[u8]; 3] = [b"a", b"b", b"c"];
 
 impl Saying {
-    /// Whether the claim overrides another one about its name, by the table of the kinds.
+    /// Whether the claim overrides another one about its name, by the table of kinds.
     fn overrides(&self, other: &Saying) -> bool {
         match (self.kind, other.kind) {
             (Kind::Alive, Kind::Alive) => (self.inc, self.port) > (other.inc, other.port),
@@ -50,7 +50,7 @@ fn first<'a>(sayings: &'a [Saying], name: &[u8], alives: bool) -> Option<&'a Say
     None
 }
 
-/// The line of a member of this top and this home.
+/// The line of a member with this top and this home.
 fn line(alloc: Global, top: &Saying, home: Option<&Saying>) -> Result<String, AllocError> {
     let letter = char::from(top.name.first().copied().unwrap_or(b'?'));
     let (word, inc) = (top.word(), top.inc);
@@ -77,7 +77,7 @@ fn listing(alloc: Global, sayings: &[Saying]) -> Result<String, AllocError> {
     Ok(text)
 }
 
-/// A claim for a number, of few names, incarnations and ports.
+/// A claim for a number, with few names, incarnations and ports.
 fn saying(number: u32) -> Saying {
     let name = NAMES[number as usize % 3];
     let inc = number / 3 % 3;
@@ -89,8 +89,8 @@ fn saying(number: u32) -> Saying {
     }
 }
 
-/// Asserts the listing of the table of the claims, the back half of which came one by one, and then
-/// the front half at once.
+/// Asserts the listing of the table of the claims, of which the second half came one by one, and
+/// then the first half at once.
 fn assert_several(
     rt: &impl Abort,
     alloc: Global,
@@ -118,7 +118,7 @@ fn joined(
     }
 }
 
-/// Asserts that all ways to the table of the claims give the one of this listing.
+/// Asserts that all ways to the table of the claims give this listing.
 fn assert_same(
     rt: &impl Abort,
     alloc: Global,
@@ -132,7 +132,7 @@ fn assert_same(
     assert_lists(rt, alloc, &table, wanted)
 }
 
-/// Seven claims, and the state from which to choose the next ones.
+/// Seven claims, and the state for choosing the next ones.
 fn choose(mut state: u32) -> ([Saying; 7], u32) {
     let mut sayings = [suspect!(b"a", 0); 7];
     for place in 0..7 {

@@ -27,7 +27,7 @@ fn assert_begun(rt: &impl Abort, reader: &StreamReader) {
     assert_that(rt, begun, "the header is read alone");
 }
 
-/// Asserts that so many records are left, and that the table is listed so.
+/// Asserts that this many records are left, and that the table has this listing.
 fn assert_read(
     rt: &impl Abort,
     alloc: Global,
@@ -39,8 +39,8 @@ fn assert_read(
     assert_lists(rt, alloc, reader.table(), listing)
 }
 
-/// The reader after a step that reads a record, after which so many are left, and the table is
-/// listed so.
+/// The reader after a step that reads a record. Asserts that this many are left then, and that the
+/// table has this listing.
 fn read_record(
     rt: &impl Abort,
     alloc: Global,
@@ -53,7 +53,8 @@ fn read_record(
     Ok(reader)
 }
 
-/// Asserts that the step is the end of a stream of no join flag, and that the table is listed so.
+/// Asserts that the step is the end of a stream without the join flag, and that the table has this
+/// listing.
 fn assert_end(rt: &impl Abort, alloc: Global, step: Step, listing: &str) -> Result<(), AllocError> {
     match step {
         Step::More(_) => panic!(rt; "a third record is read"),
@@ -78,7 +79,7 @@ fn read_by_steps(rt: &impl Abort, alloc: Global) -> Result<(), WireFault> {
     Ok(())
 }
 
-/// Where memory is refused the reader is gone, and the stream is read from its beginning.
+/// If memory is refused, the reader is gone, and the stream is read from its start.
 #[test]
 fn each_step_reads_one_record_and_the_last_one_the_end(rt: HostRuntime) -> Result<(), WireFault> {
     match read_by_steps(&rt, rt.alloc()) {

@@ -1,4 +1,4 @@
-//! Push/pull streams by their bytes, read step by step, as a whole, and as dumps.
+//! Push/pull streams as bytes, read step by step, as a whole, and as dumps.
 
 use super::dumps::dump;
 use super::{assert_count, assert_lists, assert_that};
@@ -8,8 +8,8 @@ use std::process::Abort;
 use swim_pack::SliceInlet;
 use swim_wire::WireFault;
 
-/// Of `a` an Alive at incarnation 4, at 127.0.0.1 and port 7947, and then a Suspect at incarnation
-/// 5.
+/// An Alive of `a` at incarnation 4, at 127.0.0.1 and port 7947, and then a Suspect of it at
+/// incarnation 5.
 pub(super) const SUSPECTED: &[u8] =
     b"\x06\x83\xa4Join\xc2\xa5Nodes\x02\xacUserStateLen\0\x87\xa4Addr\xa4\x7f\0\0\x01\xabIncarnation\x04\xa4Meta\xa0\xa4Name\xa1a\xa4Port\xcd\x1f\x0b\xa5State\0\xa3Vsn\xa0\x87\xa4Addr\xa0\xabIncarnation\x05\xa4Meta\xa0\xa4Name\xa1a\xa4Port\0\xa5State\x01\xa3Vsn\xa0";
 
@@ -36,10 +36,10 @@ const USER_STATE: &[u8] = b"\x06\x82\xa5Nodes\0\xacUserStateLen\x05\x01\x02\x03\
 /// No records, and the join flag.
 const JOIN: &[u8] = b"\x06\x81\xa4Join\xc3";
 
-/// One record of the state 4.
+/// One record with the state 4.
 const STATE_4: &[u8] = b"\x06\x81\xa5Nodes\x01\x82\xa4Name\xa1d\xa5State\x04";
 
-/// Reads the dump. Where memory is refused the repeat reads it.
+/// Reads the dump, at the second try if memory is refused.
 pub(super) fn read(alloc: Global, bytes: &[u8]) -> Result<(Table, bool), WireFault> {
     match read_dump(alloc, bytes) {
         Err(WireFault::Memory) => read_dump(alloc, bytes),
@@ -47,7 +47,7 @@ pub(super) fn read(alloc: Global, bytes: &[u8]) -> Result<(Table, bool), WireFau
     }
 }
 
-/// How the table that the bytes are read as relates to this one, and its flag.
+/// How the table that is read from the bytes relates to this one, and its flag.
 pub(super) fn reads_back(
     alloc: Global,
     bytes: &[u8],
@@ -57,8 +57,8 @@ pub(super) fn reads_back(
     Ok((relation(&other, table), join))
 }
 
-/// Reads a stream at the front of the bytes, and answers too how many bytes are left after it.
-/// Where memory is refused the repeat reads it.
+/// Reads a stream at the start of the bytes, and also returns how many bytes are left after it. If
+/// memory is refused, the second try reads it.
 fn read_front(alloc: Global, bytes: &[u8]) -> Result<(Table, usize), WireFault> {
     let mut inlet = SliceInlet::new(bytes);
     let answer = match read_stream(alloc, &mut inlet) {
@@ -72,8 +72,7 @@ fn read_front(alloc: Global, bytes: &[u8]) -> Result<(Table, usize), WireFault> 
     Ok((table, inlet.rest().len()))
 }
 
-/// Reads a stream from the front of the bytes step by step. Where memory is refused the repeat
-/// reads it.
+/// Reads a stream from the start of the bytes step by step, at the second try if memory is refused.
 fn read_steps(alloc: Global, bytes: &[u8]) -> Result<Table, WireFault> {
     match read_steps_once(alloc, bytes) {
         Err(WireFault::Memory) => read_steps_once(alloc, bytes),
@@ -90,7 +89,7 @@ fn read_steps_once(alloc: Global, bytes: &[u8]) -> Result<Table, WireFault> {
             Step::End(table, _) => return Ok(table),
         }
     }
-    // more steps than records and an end, which no expected cause allows for
+    // more steps than records and an end, which is no expected cause
     Err(WireFault::Fault)
 }
 
@@ -99,7 +98,7 @@ fn assert_cause(rt: &impl Abort, found: Option<WireFault>, cause: WireFault, byt
     assert_eq!(rt; found, Some(cause), "{bytes:?}");
 }
 
-/// Asserts that the bytes were refused for this cause, or for want of memory.
+/// Asserts that the bytes were refused for this cause, or because memory was.
 fn assert_cause_or_memory(
     rt: &impl Abort,
     found: Option<WireFault>,
@@ -111,15 +110,15 @@ fn assert_cause_or_memory(
     }
 }
 
-/// Asserts that the bytes are no dump, for this cause, and begin with no stream for the same one,
-/// read as a whole or step by step.
+/// Asserts that the bytes are not a dump, for this cause, and do not begin with a stream, for the
+/// same cause, read as a whole or step by step.
 fn assert_refused(rt: &impl Abort, alloc: Global, bytes: &[u8], cause: WireFault) {
     assert_cause(rt, read(alloc, bytes).err(), cause, bytes);
     assert_cause(rt, read_front(alloc, bytes).err(), cause, bytes);
     assert_cause(rt, read_steps(alloc, bytes).err(), cause, bytes);
 }
 
-/// Asserts that the bytes are a dump of this table and this flag.
+/// Asserts that the bytes are a dump of this table with this flag.
 pub(super) fn assert_dump(
     rt: &impl Abort,
     alloc: Global,
@@ -133,7 +132,7 @@ pub(super) fn assert_dump(
     Ok(())
 }
 
-/// Asserts that a stream of this table stands at the front, and so many bytes behind it.
+/// Asserts that the bytes begin with a stream of this table, with this many bytes after it.
 fn assert_front(
     rt: &impl Abort,
     alloc: Global,
@@ -193,7 +192,7 @@ fn followed_by(alloc: Global, bytes: &[u8], byte: u8) -> Result<Vec<u8>, AllocEr
     Ok(all)
 }
 
-/// Asserts that the stream, followed by the byte, is no dump, and is read from the front.
+/// Asserts that the stream, followed by the byte, is not a dump, but is read from the start.
 fn assert_followed(
     rt: &impl Abort,
     alloc: Global,
@@ -267,12 +266,12 @@ fn a_stream_is_refused_for_its_first_fault(rt: HostRuntime) {
     }
 }
 
-/// Why the header at the front of the bytes is refused.
+/// Why the header at the start of the bytes is refused.
 fn header_cause(alloc: Global, bytes: &[u8]) -> Option<WireFault> {
     StreamReader::begin(alloc, &mut SliceInlet::new(bytes)).err()
 }
 
-/// Why the step behind the header is refused.
+/// Why the step after the header is refused.
 fn step_cause(alloc: Global, bytes: &[u8]) -> Option<WireFault> {
     let mut inlet = SliceInlet::new(bytes);
     match StreamReader::begin(alloc, &mut inlet) {
@@ -297,12 +296,12 @@ fn a_header_or_a_record_is_refused_for_its_first_fault(rt: HostRuntime) {
     assert_cause_or_memory(&rt, found, WireFault::BadState { found: 4 }, STATE_4);
 }
 
-/// Why the stream at the front of the bytes is refused.
+/// Why the stream at the start of the bytes is refused.
 fn stream_cause(alloc: Global, bytes: &[u8]) -> Option<WireFault> {
     read_stream(alloc, &mut SliceInlet::new(bytes)).err()
 }
 
-/// The promised records and the promised user state take no memory before they come.
+/// The announced records and user state take no memory before they come.
 #[test]
 fn a_header_that_promises_much_asks_for_little(rt: HostRuntime) {
     for bytes in [
@@ -322,8 +321,8 @@ fn assert_dumped(rt: &impl Abort, alloc: Global, table: &Table) -> Result<(), Wi
     Ok(())
 }
 
-/// Asserts that the canonical dump of what the bytes are read as, if they are read at all, is read
-/// as an equal table.
+/// Asserts that if the bytes are read at all, the canonical dump of the table is read as an equal
+/// table.
 fn assert_dumped_alike(rt: &impl Abort, alloc: Global, bytes: &[u8]) -> Result<(), WireFault> {
     match read(alloc, bytes) {
         Ok((table, _)) => assert_dumped(rt, alloc, &table),
@@ -331,7 +330,7 @@ fn assert_dumped_alike(rt: &impl Abort, alloc: Global, bytes: &[u8]) -> Result<(
     }
 }
 
-/// Asserts that of the bytes with any other one at the place.
+/// Asserts the same for the bytes with any other byte at this place.
 fn assert_others(
     rt: &impl Abort,
     alloc: Global,
@@ -359,13 +358,13 @@ fn a_dump_with_any_other_byte_is_refused_or_read_as_a_table(
     Ok(())
 }
 
-/// A header that promises 131,072 records.
+/// A header that announces 131,072 records.
 const MOST_RECORDS: &[u8] = b"\x06\x83\xa4Join\xc2\xa5Nodes\xce\0\x02\0\0\xacUserStateLen\0";
 
-/// A header that promises no record, and 20,971,520 bytes of user state.
+/// A header that announces no records, and 20,971,520 bytes of user state.
 const MOST_USER_STATE: &[u8] = b"\x06\x83\xa4Join\xc2\xa5Nodes\0\xacUserStateLen\xce\x01\x40\0\0";
 
-/// Neither promise asks for memory, so no refused growth shows.
+/// Neither announcement requests memory, so no refused growth shows.
 #[test]
 fn a_header_with_nothing_behind_it_ends_too_early_and_asks_for_little(rt: HostRuntime) {
     for bytes in [MOST_RECORDS, MOST_USER_STATE] {

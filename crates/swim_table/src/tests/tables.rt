@@ -31,7 +31,7 @@ const TAKES: &[(Saying, Taken, &str)] = &[
     ),
 ];
 
-/// Asserts what each claim changes, and how many records the table has in the end.
+/// Asserts what each claim changes, and the number of records at the end.
 fn assert_takes(rt: &impl Abort, alloc: Global, table: &mut Table) -> Result<(), AllocError> {
     for (saying, wanted, listing) in TAKES {
         let taken = take(rt, alloc, table, *saying)?;
@@ -113,8 +113,8 @@ fn entries_are_read_by_name_and_by_place(rt: HostRuntime) -> Result<(), AllocErr
     Ok(())
 }
 
-/// Takes both claims in at once. Where memory is refused the table has to stay empty, and they have
-/// to be taken in at the second try.
+/// Takes both claims in at once. If memory is refused, the table must stay empty, and the second
+/// try must take them in.
 fn take_both(rt: &impl Abort, alloc: Global, table: &mut Table) -> Result<(), AllocError> {
     if table.take_all(claims_of(rt, alloc, SEVERAL)?).is_err() {
         assert_empty(rt, table);
@@ -131,7 +131,7 @@ fn several_claims_are_taken_in_or_none(rt: HostRuntime) -> Result<(), AllocError
     take_both(&rt, rt.alloc(), &mut table)
 }
 
-/// An Alive at incarnation 2 with all details and the longest name, of which each byte is an `n`.
+/// An Alive at incarnation 2 with all details and the longest name, which consists of `n`s.
 fn full_claim(rt: &impl Abort, alloc: Global) -> Result<Claim, AllocError> {
     let meta = b"\xab\xcd".to_vec(alloc)?;
     let details = details_of(rt, LOOPBACK, 65_535, meta, b"\x01\x02\x03\x04\x05\xff");
@@ -164,7 +164,7 @@ fn details_are_listed_in_hexadecimal(rt: HostRuntime) -> Result<(), AllocError> 
     Ok(())
 }
 
-/// Asserts that a join that was refused changed neither table.
+/// Asserts that a refused join changed neither table.
 fn assert_stayed(
     rt: &impl Abort,
     alloc: Global,
@@ -175,8 +175,7 @@ fn assert_stayed(
     assert_lists(rt, alloc, other, SUSPECT_B)
 }
 
-/// Joins the table of `b` in, at the second try, after it was handed back. Both have to have
-/// stayed.
+/// Joins the table of `b` in, at the second try, after it was returned. Neither must have changed.
 fn join_back(
     rt: &impl Abort,
     alloc: Global,
@@ -196,7 +195,7 @@ fn join(rt: &impl Abort, alloc: Global, table: &mut Table) -> Result<(), AllocEr
     }
 }
 
-/// Joins the table of `b` in, in room for both.
+/// Joins the table of `b` in, with room for both.
 fn join_in(rt: &impl Abort, alloc: Global, table: &mut Table) -> Result<(), AllocError> {
     let other = table_of(rt, alloc, OF_B)?;
     let room = Room::new(alloc, 2)?;

@@ -11,7 +11,7 @@ equal_from Less e = absurd cc
 equal_from Equal e = refl
 equal_from Greater e = absurd cc
 
--- the details are the same where their order ties them
+-- the details are the same if they compare as equal
 pub returns-then-home-other : goal.returns-then-home-other
 returns-then-home-other c = λ same.
     let home = c.in-Some-Some.home in

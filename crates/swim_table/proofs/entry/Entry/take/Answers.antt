@@ -7,7 +7,7 @@ use Rattle.swim_table.proofs.Lookups.{combined_name}
 use Rattle.swim_table.proofs.Tables.{standing_of_top}
 use Rattle.swim_table.proofs.entry.Entry.take.Goals as goal
 
--- the name stays
+-- the name does not change
 pub invariant_of-self : goal.invariant_of-self
 invariant_of-self c =
     let old = c.self.inside.contents.value in
