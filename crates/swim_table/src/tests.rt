@@ -103,12 +103,12 @@ fn suspicion(rt: &impl Abort, alloc: Global, number: u32) -> Result<Claim, Alloc
     Ok(Claim::Suspect { name, inc: 1 })
 }
 
-/// Asserts that the bytes are the wanted ones.
+/// Asserts that the bytes are the expected ones.
 fn assert_bytes(rt: &impl Abort, found: &[u8], wanted: &[u8], about: &str) {
     assert_eq!(rt; found, wanted, "{about}");
 }
 
-/// Asserts that the count is the wanted one.
+/// Asserts that the count is the expected one.
 fn assert_count(rt: &impl Abort, found: usize, wanted: usize, about: &str) {
     assert_eq!(rt; found, wanted, "{about}");
 }

@@ -1,4 +1,4 @@
--- The commands that `clap` is given.
+-- The commands that are passed to `clap`.
 use Rattle.std.proofs.Common.{◌≡◌, ◌∙◌, inl, inr, List, [], ◌∷◌, Option, Some, None, refl, true, ap, codes, sym}
 use Rattle.std.specs.Prelude.{◌≢◌, option_map, unwrap_or}
 use Rattle.clap.specs.Matches.{subcommand_name_of}
@@ -12,12 +12,12 @@ use Rattle.swim_program.proofs.Commands.{IsIn, is_command, names_agree}
 use Rattle.swimtab.specs.Chosen.{Choice}
 use Rattle.swimtab.specs.Words.{AsksFor, program, verb_of}
 
--- the words of this program are among those of which `clap` gives the matches
+-- the words of this program are among those whose matches `clap` specifies
 pub program_is_simple : is_simple program ≡ true
 unfolding clap_on_literals
 program_is_simple = refl
 
--- and of those of which it gives the faults
+-- and among those whose faults it specifies
 pub program_is_free : is_simple_and_free program ≡ true
 unfolding clap_on_literals
 program_is_free = refl

@@ -1,4 +1,4 @@
--- How many records a table has: no more than claims were made, and than its dump has bytes.
+-- The number of records of a table: at most that of the claims made, and of the bytes of its dump.
 use Rattle.std.proofs.Common.{◌≡◌, ℕ, ◌<◌, ◌≤◌, ◌+◌, Bool, true, false, if◌then◌else◌, Option, Some, None, List, [], ◌∷◌, length, refl, length-append, arith}
 use Rattle.std.specs.List.{flat_map}
 use Rattle.std.specs.Option.{option_to_list}
@@ -59,7 +59,7 @@ records_put (entry ∷ rest) s = by_place (records_put rest s) (name_cmp (name_o
         omega (arith, kept_combined entry s, length-append (kept (combined entry s)) (Reduced rest), length-append (kept entry) (Reduced rest))
     by_place later Greater = omega (arith, later, length-append (kept entry) (Reduced (put rest s)), length-append (kept entry) (Reduced rest))
 
--- each claim adds one record at most
+-- each claim adds at most one record
 records_of : (claims : List Claim) → length (Reduced (table_of claims)) ≤ length claims
 records_of [] = omega arith
 records_of (c ∷ claims) = omega (arith, records_of claims, records_put (table_of claims) (standing_of c), kept_one c)
@@ -81,7 +81,7 @@ state_some (Suspect name inc) = omega arith
 state_some (Confirm name inc) = omega arith
 state_some (Leave name inc) = omega arith
 
--- each record has a byte at least
+-- each record has at least one byte
 a_byte_each : (claims : List Claim) → length claims ≤ length (flat_map state_bytes claims)
 a_byte_each [] = omega arith
 a_byte_each (c ∷ claims) = omega (arith, state_some c, a_byte_each claims, length-append (state_bytes c) (flat_map state_bytes claims))

@@ -1,4 +1,4 @@
--- The claims of files, one file after the other.
+-- The claims of files, one file after another.
 use Rattle.std.proofs.Common.{◌≡◌, ◌≢◌, ℕ, ◌<◌, ◌≤◌, ◌⊎◌, inl, inr, Bool, List, [], ◌∷◌, ◌++◌, length, map, take, drop, get_or, refl, sym, ap, subst, ◌∙◌, append_assoc, append-nil, zero, suc, ◌+◌, arith}
 use Rattle.std.specs.Prelude.{None}
 use Rattle.std.proofs.Math.ListN.{get_or-map}
@@ -40,7 +40,7 @@ is_memory wire.TooManyNodes = inr (λ e. cc)
 is_memory wire.UserTooLong = inr (λ e. cc)
 is_memory wire.Trailing = inr (λ e. cc)
 
--- a dump is refused for want of memory, or is no stream
+-- a dump is refused because memory ran out, or because it is not a stream
 pub refused_for : (file : List ℕ) (fault : WireFault) (what : What) → what ≡ what_of fault
     → (fault ≢ wire.Memory → (claims : List Claim) (join : Bool) → ¬ StreamText file claims join) → ExplainsDump fault file
     → (what ≡ Memory) ⊎ IsNoDump file what
@@ -56,13 +56,13 @@ FilesClaims-push [] file claims own each h = (own, [], h, refl, ap (λ t. t ++ o
 FilesClaims-push (first ∷ files) file claims own each h =
     (each.0, each.1 ++ own, each.2, FilesClaims-push files file each.1 own each.3 h, ap (λ t. t ++ own) each.4 ∙ append_assoc each.0 each.1 own)
 
--- a list up to a place, what stands there, and what follows
+-- a list up to an index, the element there, and what follows
 pub parts_at : {A : Type 0} (xs : List A) (n : ℕ) (d : A) → n < length xs → xs ≡ take n xs ++ get_or xs n d ∷ drop (suc n) xs
 parts_at [] n d l = absurd (omega arith)
 parts_at (x ∷ xs) zero d l = refl
 parts_at (x ∷ xs) (suc n) d l = ap (λ t. x ∷ t) (parts_at xs n d (omega arith))
 
--- what stands at a place of the files
+-- the file at an index
 at_place : {V : Type 0} (f : V → List ℕ) (files : List V) (k : ℕ) (v : V) (file : List ℕ) → k < length files → v ≡ get_or files k v → file ≡ f v
     → map f files ≡ take k (map f files) ++ file ∷ drop (suc k) (map f files)
 at_place f files k v file l here is =
@@ -88,7 +88,7 @@ long_at f files k v file report l here is short long e = too_long k (record {
   long = long;
 }) (ap (λ r. r.place) e) (ap (λ r. r.what) e)
 
--- a file that is refused otherwise
+-- a file that is refused for another reason
 pub wrong_at : {V : Type 0} (f : V → List ℕ) (files : List V) (k : ℕ) (v : V) (file : List ℕ) (claims : List Claim)
     (report : Report) → k < length files → v ≡ get_or files k v → file ≡ f v
     → AreShortFiles (map f files) → FilesClaims (take k (map f files)) claims → report.place ≡ File k

@@ -1,4 +1,4 @@
--- The claims of the lines, one line after the other.
+-- The claims of the lines, one line after another.
 use Rattle.std.proofs.Common.{◌≡◌, ◌⊎◌, inl, inr, ℕ, ◌+◌, ◌<◌, List, [], ◌∷◌, ◌++◌, length, map, get_or, Result, Ok, Err, OnOk, IfErr, ◌≢◌, refl, sym, ap, ap₂, subst, ◌∙◌, take, length-take-le, append_assoc, append-nil, zero, suc, drop, arith}
 use Rattle.std.specs.List.{enumerate_from}
 use Rattle.std.specs.Str.Lines.{strip_carriage_return}
@@ -26,7 +26,7 @@ pub text_claims : (text bytes : List ℕ) (packets : List PacketValue) (claims :
 text_claims [] bytes packets claims some e t k = absurd (omega arith)
 text_claims (digit ∷ digits) bytes packets claims some e t k = (bytes, packets, e, t, k)
 
--- where the bytes of a text are no packets, it makes no claims
+-- if the bytes of a text are not packets, it makes no claims
 pub no_text_claims : (text bytes : List ℕ) (claims : List Claim) → 0 < length text → decode_of text ≡ Ok bytes
     → ((packets : List PacketValue) → ¬ DatagramText bytes packets) → ¬ TextClaims text claims
 no_text_claims [] bytes claims some e none t = absurd (omega arith)
@@ -35,7 +35,7 @@ no_text_claims (digit ∷ digits) bytes claims some e none t =
     let same : t.0 ≡ bytes = cc in
     none t.1 (subst (λ b. DatagramText b t.1) same t.3)
 
--- what takes the claims of the packets of a text in takes those of the text in
+-- taking in the claims of the packets of a text takes in those of the text
 pub text_taken : {X : Type 0} (text bytes : List ℕ) (old new : Entries) (result : Result X What) → 0 < length text → decode_of text ≡ Ok bytes
     → OnOk result ((packets : List PacketValue) × DatagramText bytes packets
     × ((taken : List Claim) → TableOf old taken → TableOf new (taken ++ map (λ p. p.claim) packets)))
@@ -51,14 +51,14 @@ pub text_refused : {X : Type 0} (text bytes : List ℕ) (result : Result X What)
 text_refused text bytes (Ok done) some e none = tt
 text_refused text bytes (Err what) some e none = λ seen claims. no_text_claims text bytes claims some e (none seen)
 
--- what is said of a text that is no hexadecimal
+-- what is reported about a text that is not hexadecimal
 pub text_no_hex : (text : List ℕ) (error : FromHexError) (what : What) → (error ≡ OutOfMemory) ⊎ (decode_of text ≡ Err error)
     → what ≡ what_of_hex error → what ≢ Memory → TellsText text what
 text_no_hex text OutOfMemory what why is seen = absurd (seen is)
 text_no_hex text error what (inl same) is seen = absurd cc
 text_no_hex text error what (inr none) is seen = no_hex error none is
 
--- what is said of the bytes of a text is said of the text
+-- what is reported about the bytes of a text is reported about the text
 pub text_told : {X : Type 0} (text bytes : List ℕ) (result : Result X What) → decode_of text ≡ Ok bytes
     → IfErr result (λ what. what ≢ Memory → TellsDatagram bytes what) → IfErr result (λ what. what ≢ Memory → TellsText text what)
 text_told text bytes (Ok done) e told = tt
@@ -78,7 +78,7 @@ EachLine-at [] n d claims l each = absurd (omega arith)
 EachLine-at (line ∷ lines) zero d claims l each = (each.0, each.2)
 EachLine-at (line ∷ lines) (suc n) d claims l each = EachLine-at lines n d each.1 (omega arith) each.3
 
--- a line that makes no claims, by its place among the lines
+-- a line that makes no claims, by its index
 pub no_claims_at : (lines : List (List ℕ)) (n index : ℕ) (line : List ℕ) (claims : List Claim)
     → (n < length (enumerate_from 0 lines)) × ((index, line) ≡ get_or (enumerate_from 0 lines) n (index, line))
     → ((own : List Claim) → ¬ LineClaims line own) → ¬ EachLine lines claims

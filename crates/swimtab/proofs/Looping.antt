@@ -1,4 +1,4 @@
--- Why a file is refused for a loop, why an exchange is, and whether two tables are equal.
+-- Why a file is refused for a loop, why an exchange fails, and whether two tables are equal.
 use Rattle.std.proofs.Common.{◌≡◌, ◌≢◌, ◌↔◌, ℕ, ◌≤◌, ◌⊎◌, inl, inr, List, length, refl}
 use Rattle.std.specs.Prelude.{IsTrue}
 use Rattle.swim_claim.specs.declared.claim.Claim.{Claim}
@@ -32,7 +32,7 @@ refused_reading file what short (inr wrong) = no_stream short wrong
 
 -- ---- why an exchange is refused
 
--- a fault other than too many records is told as one of a stream is
+-- a fault other than too many records is reported as one of a stream is
 pub told_as_of_stream : (fault : SyncFault) → fault ≢ sync.TooManyRecords → (error : WireFault) × (what_of_sync fault ≡ what_of error)
 told_as_of_stream (sync.Wire error) other = (error, refl)
 told_as_of_stream sync.TooManyRecords other = absurd (other refl)
@@ -47,7 +47,7 @@ alike one other claims h e =
     let itself : Below one one = (below_join one one).1 (Join-itself one (TableOf-Reduced one claims h)) in
     rw (← e) (itself, itself)
 
--- they are where the relation says so
+-- they are equal if the relation says so
 pub equal_told : (one other : Entries) (claims : List Claim) (r : Relation) → TableOf one claims → IsRelation one other r
     → IsTrue (sameb the_type r Equal) ↔ (one ≡ other)
 equal_told one other claims Equal h below = (λ t. below_both one other below.0 below.1, λ e. refl)

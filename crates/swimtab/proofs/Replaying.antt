@@ -192,7 +192,7 @@ refuses_so new lists event why.TooManyRecords h stops = (
 )
 refuses_so new lists event why.Memory h stops = tt
 
--- a stop for another cause than memory is the fault of an event
+-- a stop for a cause other than memory is the fault of an event
 pub why_of_event : (cause : Why) → what_of_why cause ≢ Memory → IsOfEvent (what_of_why cause)
 why_of_event why.NoSuchNode other = refl
 why_of_event why.SameNode other = refl

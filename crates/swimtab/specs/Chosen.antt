@@ -1,4 +1,4 @@
--- What the words of a command line ask for.
+-- What the command line asks for.
 use Rattle.std.specs.Prelude.{ℕ, List}
 use Rattle.swimtab.specs.declared.verb.Verb.{Verb}
 

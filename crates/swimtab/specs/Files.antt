@@ -24,25 +24,25 @@ bytes_of files = map (λ file. file.items) files
 abbrev pub FileClaims : List ℕ → List Claim → Type 0
 FileClaims file claims = (join : Bool) × StreamText file claims join
 
--- the files make these claims, one file after the other
+-- the files make these claims, one file after another
 abbrev pub FilesClaims : List (List ℕ) → List Claim → Type 0
 FilesClaims [] claims = claims ≡ []
 FilesClaims (file ∷ files) claims =
     (own : List Claim) × (others : List Claim) × FileClaims file own × FilesClaims files others
     × (claims ≡ own ++ others)
 
--- The file is no stream, and what is said is the fault of its bytes.
+-- The file is not a stream, and the report has the fault of its bytes.
 pub record IsNoDump (file : List ℕ) (what : What) : Type 0 where
   pub fault : WireFault
   pub none : (claims : List Claim) → ¬ FileClaims file claims
   pub why : ExplainsDump fault file
   pub told : what ≡ what_of fault
 
--- no file is longer than its bound
+-- no file is longer than allowed
 abbrev pub AreShortFiles : List (List ℕ) → Type 0
 AreShortFiles files = All (λ file. length file ≤ most_bytes) files
 
--- the file at place k is longer than its bound, and none before it is
+-- the k-th file is longer than allowed, and none before it is
 pub record IsFirstLong (files : List (List ℕ)) (k : ℕ) : Type 0 where
   pub before : List (List ℕ)
   pub file : List ℕ
@@ -52,7 +52,7 @@ pub record IsFirstLong (files : List (List ℕ)) (k : ℕ) : Type 0 where
   pub short : AreShortFiles before
   pub long : most_bytes < length file
 
--- the file at place k is no stream, as is said of it, and each before it is one
+-- the k-th file is not a stream, with this fault, and each before it is one
 pub record IsFirstNoDump (files : List (List ℕ)) (k : ℕ) (what : What) : Type 0 where
   pub before : List (List ℕ)
   pub file : List ℕ
@@ -63,7 +63,7 @@ pub record IsFirstNoDump (files : List (List ℕ)) (k : ℕ) (what : What) : Typ
   pub right : FilesClaims before claims
   pub wrong : IsNoDump file what
 
--- Why files are refused: one is too long, or else one is no stream, or there is no memory.
+-- Why files are refused: one is too long, or one is not a stream, or memory ran out.
 pub data AreRefused (files : List (List ℕ)) (report : Report) : Type 0 where
   too_long : (k : ℕ) → IsFirstLong files k → report.place ≡ File k → report.what ≡ Refused 32 None
       → AreRefused files report
@@ -71,7 +71,7 @@ pub data AreRefused (files : List (List ℕ)) (report : Report) : Type 0 where
       → report.place ≡ File k → AreRefused files report
   memory : AreShortFiles files → report.what ≡ Memory → AreRefused files report
 
--- the table of the claims of the files has more records than a dump
+-- the table of the claims in the files has more records than a dump may have
 pub record HaveTooMany (files : List (List ℕ)) (report : Report) : Type 0 where
   pub claims : List Claim
   pub table : Entries

@@ -14,7 +14,7 @@ use Rattle.swim_program.specs.Lines.{input_lines}
 use Rattle.swim_program.specs.Report.{TellsDatagram}
 
 -- a text that is not empty is the hexadecimal of a datagram whose packets make these claims; an
--- empty one makes none
+-- empty text makes none
 abbrev pub TextClaims : List ℕ → List Claim → Type 0
 TextClaims [] claims = claims ≡ []
 TextClaims (digit ∷ digits) claims =
@@ -25,7 +25,7 @@ TextClaims (digit ∷ digits) claims =
 abbrev pub LineClaims : List ℕ → List Claim → Type 0
 LineClaims line claims = TextClaims (strip_carriage_return line) claims
 
--- the lines make these claims, one line after the other
+-- the lines make these claims, one line after another
 abbrev pub EachLine : List (List ℕ) → List Claim → Type 0
 EachLine [] claims = claims ≡ []
 EachLine (line ∷ lines) claims =
@@ -36,15 +36,15 @@ EachLine (line ∷ lines) claims =
 abbrev pub PacketLines : List ℕ → List Claim → Type 0
 PacketLines input claims = EachLine (input_lines input) claims
 
--- What is said of a text that makes no claims: that it is no hexadecimal, or the fault at which the
--- reading of its bytes stops.
+-- What is reported about a text that makes no claims: it is not hexadecimal, or the fault at which
+-- reading its bytes stops.
 pub data TellsText (text : List ℕ) (what : What) : Type 0 where
   no_hex : (error : FromHexError) → decode_of text ≡ Err error → what ≡ Refused 30 None
       → TellsText text what
   no_datagram : (bytes : List ℕ) → decode_of text ≡ Ok bytes → TellsDatagram bytes what
       → TellsText text what
 
--- The place is the first line that makes no claims, counted from 1, and this is said of it.
+-- The place is the first line that makes no claims, counted from 1, and this is reported about it.
 pub record IsFirstWrong (input : List ℕ) (place : Place) (what : What) : Type 0 where
   pub before : List (List ℕ)
   pub line : List ℕ

@@ -1,4 +1,4 @@
--- Tables that are exchanged over a connection, and why they are not.
+-- Exchanging tables over a connection, and why it fails.
 use Rattle.std.specs.Prelude.{◌≡◌, ◌⊎◌, ◌↔◌, ◌<◌, ◌≤◌, ℕ, Bool, false, None, List, ◌++◌, length, IsTrue}
 use Rattle.swim_claim.specs.declared.claim.Claim.{Claim}
 use Rattle.swim_program.specs.Limits.{most_bytes}
@@ -17,7 +17,7 @@ use Rattle.swim_program.specs.Report.{what_of}
 abbrev pub FitsLoop : Entries → Type 0
 FitsLoop table = length (dump_bytes table false) ≤ 16384
 
--- The table is that of the claims of the file, and it can be sent.
+-- The table is that of the file's claims, and can be sent.
 pub record IsLoopTable (file : List ℕ) (table : Entries) : Type 0 where
   pub short : length file ≤ most_bytes
   pub claims : List Claim
@@ -25,8 +25,8 @@ pub record IsLoopTable (file : List ℕ) (table : Entries) : Type 0 where
   pub table_of : TableOf table claims
   pub fits : FitsLoop table
 
--- Why a file gives no table that can be sent: it is too long, no stream, or that of too great a
--- table, or there is no memory.
+-- Why a file has no table that can be sent: the file is too long or not a stream, the table is too
+-- large, or memory ran out.
 pub data IsLoopRefused (file : List ℕ) (what : What) : Type 0 where
   too_long : most_bytes < length file → what ≡ Refused 32 None → IsLoopRefused file what
   no_stream : length file ≤ most_bytes → IsNoDump file what → IsLoopRefused file what
@@ -40,7 +40,7 @@ pub record TakesIn (before after : Entries) (claims : List Claim) : Type 0 where
   pub reduced : TableOf after (Reduced before ++ claims)
   pub all : (known : List Claim) → TableOf before known → TableOf after (known ++ claims)
 
--- Each of two tables took some claims in; the text lists the first, and the flag tells whether both
+-- Each of two tables took some claims in; the text lists the first, and the flag is whether both
 -- are equal.
 pub record IsLooped (first second : Entries) (text : List ℕ) (equal : Bool) : Type 0 where
   pub claims : List Claim
@@ -52,8 +52,8 @@ pub record IsLooped (first second : Entries) (text : List ℕ) (equal : Bool) : 
   pub shown : text ≡ listing one
   pub told : IsTrue equal ↔ (one ≡ other)
 
--- No stream came over the connection, or it failed, or there is no memory; at the output only for
--- the listing.
+-- No stream came over the connection, or it failed, or memory ran out; at the output only for the
+-- listing.
 pub record IsLoopStopped (report : Report) : Type 0 where
   pub fault : WireFault
   pub what : report.what ≡ what_of fault

@@ -22,7 +22,7 @@ use Rattle.swim_script.specs.ScriptReading.{event_line}
 abbrev pub node_line : ℕ → List ℕ
 node_line k = codes "node " ++ decimal k ++ codes "\n"
 
--- for each table, from node k on, the line of its node and the listing
+-- for each table, starting at node k, the line of its node and the listing
 abbrev pub shown_from : ℕ → List Entries → List ℕ
 shown_from k [] = []
 shown_from k (table ∷ tables) = node_line k ++ listing table ++ shown_from (k + 1) tables
@@ -49,7 +49,7 @@ pub record Replays (input text : List ℕ) : Type 0 where
   pub each : EachTable tables (heard_after starts events)
   pub shown : text ≡ shown_from 0 tables
 
--- why an event of a script does not happen, by the number of the fault; nothing was found with it
+-- why an event of a script does not happen, by the number of the fault; no value was found with it
 abbrev pub Refuses : List (List Claim) → Event → What → Type 0
 Refuses lists event (Refused number found) =
     (number ≡ 26 → ¬ NamesNodes (length lists) event)
@@ -61,8 +61,8 @@ Refuses lists event (Refused number found) =
 Refuses lists event Device = ⊥
 Refuses lists event Memory = Unit {0}
 
--- The input is a script whose first event that does not happen is this one, and the place names the
--- line that it comes with.
+-- The input is a script whose first event that does not happen is this one, on the line that the
+-- place names.
 pub record RefusedEvent (input : List ℕ) (report : Report) : Type 0 where
   pub starts : List Start
   pub events : List Event
@@ -75,7 +75,7 @@ pub record RefusedEvent (input : List ℕ) (report : Report) : Type 0 where
   pub refuses : Refuses (heard_after starts (take done events)) event report.what
   pub line : ComesWith (input_lines input) starts events done report.place
 
--- a run of the events, which lines of these numbers tell, on the nodes stops so
+-- a run on the nodes of the events, which are on the lines of these numbers, stops with this report
 abbrev pub StopsSo : List NodeValue → List Event → List ℕ → Option ℕ → Report → Type 0
 StopsSo nodes events numbers level report =
     (new : List NodeValue) × (stop : Stop) × (number : ℕ) × Stopped nodes new events stop

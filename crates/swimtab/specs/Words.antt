@@ -1,4 +1,4 @@
--- The words of a command line, and what they ask for.
+-- The arguments of the command line, and what they ask for.
 use Rattle.std.specs.Prelude.{◌≡◌, true, List, [], Option, Some, None, codes, if◌then◌else◌, unwrap_or}
 use Rattle.std.specs.Str.{bytes_eq}
 use Rattle.clap.specs.Lexer.{usize_max}
@@ -9,7 +9,7 @@ use Rattle.swimtab.specs.Chosen.{Choice}
 
 -- ---- the commands, as `clap` sees them
 
--- the words that name files: one at least
+-- the words that name files: one or more
 abbrev pub files_rule : Rule
 files_rule = record (new_rule (codes "FILE")) {
   required = true;
@@ -28,7 +28,7 @@ files_command name = with_rule (new_app name) files_rule
 abbrev pub pair_command : Text → App
 pair_command name = with_rule (new_app name) pair_rule
 
--- the program without a command
+-- the program without any commands
 abbrev pub bare : App
 bare = record (new_app (codes "swimtab")) {
   top = record (new_app (codes "swimtab")).top {
@@ -38,11 +38,11 @@ bare = record (new_app (codes "swimtab")) {
   };
 }
 
--- a command beside those before it
+-- a command after those before it
 abbrev pub beside : App → App → App
 beside before command = with_subcommand before command.top
 
--- the commands that name files
+-- the commands that take files
 abbrev pub filing : App
 filing =
     beside (beside (beside (beside bare

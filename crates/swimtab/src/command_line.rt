@@ -1,4 +1,4 @@
-//! The words after the program's name.
+//! The command-line arguments.
 
 ghost use Rattle.std.specs.Prelude.{◌≡◌, true, [], map, string_bytes, IfOk, IfErr};
 ghost use Rattle.clap.specs.Words.{app_of, fault_of, takes, subcommand_of, new_app};
@@ -11,7 +11,7 @@ use clap::{Arg, Command};
 use std::alloc::{AllocError, Global};
 use swim_program::{WordFault, texts_of};
 
-/// The words that stand for the two files of `relate` and `loop`.
+/// The placeholders for the two files of `relate` and `loop`.
 static PAIR: [&str; 2] = ["A", "B"];
 
 /// Reads the words after the program's name: none, or `list FILE..`, `merge FILE..`, `relate A B`,
@@ -19,15 +19,16 @@ static PAIR: [&str; 2] = ["A", "B"];
 ///
 /// # Errors
 ///
-/// `Words` where they are other ones, or ask for help or the version; it has the text to print.
-/// `Memory` where a growth was refused.
+/// `Words` if they are other words, or ask for help or the version; it has the text to print.
+/// `Memory` if out of memory.
 pub fn chosen(alloc: Global, words: &[String]) -> Result<Chosen, WordFault>
     // The verb and the files are those of the command that clap finds in the words.
     ensures asks { IfOk result (AsksFor (subcommand_of program (map string_bytes words.now))) }
-    // They are taken only where clap finds no fault in them, and refused by a fault that it finds.
+    // They are accepted only if clap finds no fault in them, and otherwise refused with a fault
+    // that it finds.
     ensures faultless { IfOk result (λ _. fault_of program (map string_bytes words.now) ≡ []) }
     ensures faulty { IfErr result (IsRefusal (fault_of program (map string_bytes words.now))) }
-    // Words that clap takes are refused for want of memory alone.
+    // Words that clap accepts are refused only if out of memory.
     ensures takes { IfErr result (λ fault. takes program (map string_bytes words.now) ≡ true
         → fault ≡ WordFault.Memory) }
 {
@@ -41,7 +42,7 @@ pub fn chosen(alloc: Global, words: &[String]) -> Result<Chosen, WordFault>
     }
 }
 
-/// What help says of a command.
+/// What the help says about a command.
 #[derive(Clone, Copy)]
 struct Page<'a> {
     name: &'a str,
@@ -85,7 +86,7 @@ fn command<'a>(alloc: Global) -> Result<Command<'a>, AllocError>
     add_lone(alloc, with_loop, run)?.bin_name("swimtab")
 }
 
-/// The program without its commands.
+/// The program without any commands.
 fn lone_program<'a>(alloc: Global) -> Command<'a>
     ensures { app_of result ≡ bare }
 {
@@ -97,7 +98,7 @@ fn lone_program<'a>(alloc: Global) -> Command<'a>
         .disable_help_subcommand(true)
 }
 
-/// Adds a command whose words name one file at least.
+/// Adds a command that takes one file or more.
 fn add_files<'a>(
     alloc: Global,
     command: Command<'a>,
@@ -117,7 +118,7 @@ fn add_files<'a>(
     command.subcommand(added)
 }
 
-/// Adds a command whose words name two files.
+/// Adds a command that takes two files.
 fn add_pair<'a>(
     alloc: Global,
     command: Command<'a>,
@@ -137,7 +138,7 @@ fn add_pair<'a>(
     command.subcommand(added)
 }
 
-/// Adds a command whose words name no file.
+/// Adds a command that takes no file.
 fn add_lone<'a>(
     alloc: Global,
     command: Command<'a>,

@@ -14,14 +14,14 @@ use std::alloc::{AllocError, Global};
 use swim_program::{BOUND, Place, Report, What};
 use swim_table::{EncodeFault, Relation, Table, encode, list, read_dump, relation};
 
-/// The listing of the table of all claims of the files, each of which is a dump: one push/pull
+/// The listing of the table of all claims in the files, each of which is a dump: one push/pull
 /// stream.
 ///
-/// First the lengths of all files are checked: one of more than 268,435,456 bytes is refused
-/// (InputTooLong). Then the files are read in their order, and the first that is refused is
-/// reported with the fault of its stream.
+/// The lengths of all files are checked first: one of more than 268,435,456 bytes is refused
+/// (InputTooLong). Then the files are read in order, and the first that is refused is reported with
+/// the fault of its stream.
 pub fn listed(alloc: Global, files: &[Vec<u8>]) -> Result<Vec<u8>, Report>
-    // The text is the listing of the table of the claims that the files make.
+    // The text is the listing of the table of the claims in the files.
     ensures lists { IfOk result (λ text. (claims : List Claim) × (table : Entries)
         × AreShortFiles (bytes_of files.now)
         × FilesClaims (bytes_of files.now) claims
@@ -37,12 +37,12 @@ pub fn listed(alloc: Global, files: &[Vec<u8>]) -> Result<Vec<u8>, Report>
     }
 }
 
-/// The canonical dump of the table of all claims of the files, with the join flag false.
+/// The canonical dump of the table of all claims in the files, without the join flag.
 ///
-/// It is refused as [`listed`] is, and at the output where the table has more than 131,072 records
+/// It is refused as [`listed`] is, and at the output if the table has more than 131,072 records
 /// (TooManyRecords).
 pub fn merged(alloc: Global, files: &[Vec<u8>]) -> Result<Vec<u8>, Report>
-    // The bytes are the dump of the table of the claims that the files make.
+    // The bytes are the dump of the table of the claims in the files.
     ensures merges { IfOk result (λ bytes. (claims : List Claim) × (table : Entries)
         × AreShortFiles (bytes_of files.now)
         × FilesClaims (bytes_of files.now) claims
@@ -60,8 +60,8 @@ pub fn merged(alloc: Global, files: &[Vec<u8>]) -> Result<Vec<u8>, Report>
     }
 }
 
-/// How the table of a first dump relates to that of a second one. The join flags and the user state
-/// do not count.
+/// How the table of one dump relates to that of another. The join flags and the user state do not
+/// matter.
 ///
 /// It is refused as [`listed`] is.
 pub fn related(alloc: Global, first: &[u8], second: &[u8]) -> Result<Relation, Report>
@@ -92,7 +92,7 @@ pub fn relation_line(relation: Relation) -> &'static str
     }
 }
 
-/// The table of all claims of the files.
+/// The table of all claims in the files.
 fn joined(alloc: Global, files: &[Vec<u8>]) -> Result<Table, Report>
     ensures joins { IfOk result (λ table. (claims : List Claim)
         × AreShortFiles (bytes_of files.now)
@@ -123,7 +123,7 @@ fn check_lengths(files: &[Vec<u8>]) -> Result<(), Report>
     Ok(())
 }
 
-/// That a file is no longer than its bound.
+/// Checks that a file is not longer than allowed.
 pub(crate) fn check_length(file: &[u8], place: usize) -> Result<(), Report>
     ensures short { OnOk result (length file.now ≤ most_bytes) }
     ensures long { IfErr result (λ report. (most_bytes < length file.now)
@@ -136,7 +136,7 @@ pub(crate) fn check_length(file: &[u8], place: usize) -> Result<(), Report>
     }
 }
 
-/// The table of the claims of one file.
+/// The table of the claims in one file.
 pub(crate) fn table_of_file(alloc: Global, file: &[u8], place: usize) -> Result<Table, Report>
     ensures reads { IfOk result (λ table. (claims : List Claim) × FileClaims file.now claims
         × TableOf table claims) }

@@ -1,4 +1,4 @@
-//! Two tables that are exchanged over one connection, in one process.
+//! Exchanging two tables over one connection, in one process.
 
 ghost use Rattle.std.specs.Prelude.{◌≡◌, ◌↔◌, ◌<◌, List, length, None, IfOk, IfErr, OnOk};
 ghost use Rattle.swim_claim.specs.declared.claim.Claim.{Claim};
@@ -18,23 +18,23 @@ use swim_program::{Place, Report, Until, What};
 use swim_sync::{answer, finish, offer};
 use swim_table::{EncodeFault, Relation, Table, encode, list, relation};
 
-/// The most bytes of a canonical dump that is sent over a connection to this process itself.
+/// The most bytes of a canonical dump that is sent over a connection of this process to itself.
 const MOST_BYTES: usize = 16_384;
 
-/// How many seconds the reads and writes of one exchange wait in all.
+/// How many seconds all reads and writes of one exchange may wait in total.
 const PATIENCE: u64 = 10;
 
 /// The table of a dump for [`looped`]: a file that is one push/pull stream, and whose table has a
 /// canonical dump of at most 16,384 bytes.
 ///
-/// A report names the file by its place, and says one of these. TooManyRecords never comes, since
-/// one stream has at most 131,072 records.
+/// A report gives the file's place and one of these faults. TooManyRecords never occurs, since one
+/// stream has at most 131,072 records.
 ///
-/// - InputTooLong exactly where the file has more than 268,435,456 bytes (own).
-/// - The fault of the stream where the file is none.
-/// - TooLargeForLoop only where the table's canonical dump has more than 16,384 bytes, whatever the
+/// - InputTooLong exactly if the file has more than 268,435,456 bytes (own).
+/// - The fault of the stream if the file is not one.
+/// - TooLargeForLoop only if the table's canonical dump has more than 16,384 bytes, whatever the
 ///   length of the file (own).
-/// - Want of memory.
+/// - Memory if out of memory.
 pub fn loop_table(alloc: Global, dump: &[u8], file: usize) -> Result<Table, Report>
     // The table is that of the file's claims, and can be sent.
     ensures reads { IfOk result (IsLoopTable dump.now) }
@@ -56,8 +56,8 @@ pub fn loop_table(alloc: Global, dump: &[u8], file: usize) -> Result<Table, Repo
     Err(what.at(Place::File(file)))
 }
 
-/// A listener for [`looped`], on this machine alone and on a port that the system picks. Where
-/// there is none, that is a device fault at the loop.
+/// A listener for [`looped`], only on this machine, on a port that the system chooses. If there is
+/// none, that is a device fault at the loop.
 pub fn local_listener(rt: &HostRuntime) -> Result<TcpListener, Report>
     ensures { IfErr result (λ report. report ≡ record { place = Place.Loop; what = What.Device }) }
 {
@@ -67,19 +67,18 @@ pub fn local_listener(rt: &HostRuntime) -> Result<TcpListener, Report>
     }
 }
 
-/// Exchanges two tables over a connection to the listener and lists the first one, with whether
-/// both ended equal. The first table offers, the second answers, and the first finishes, as
-/// memberlist's push/pull does (`net.go`).
+/// Exchanges two tables over a connection to the listener. Returns the listing of the first one,
+/// and whether both ended equal. The first table offers, the second answers, and the first
+/// finishes, as in memberlist's push/pull (`net.go`).
 ///
-/// The condition is that each table's canonical dump has at most 16,384 bytes (own). The second
-/// table answers on the connection that the listener gives next: where another one was made before,
-/// that one.
+/// Each table's canonical dump must have at most 16,384 bytes (own). The second table answers on
+/// the next connection that the listener accepts: if another one was made before, on that one.
 ///
-/// The exchange may take 10 seconds in all (own), however many reads and writes that is.
+/// The exchange may take 10 seconds in total (own), however many reads and writes it needs.
 ///
-/// A report says, at the loop, that there was no connection, that it failed or was not done in time
-/// (both a device fault), with which fault no stream came over it, or that memory was refused; and
-/// at the output that there was no memory for the listing. TooManyRecords never comes.
+/// A report says, at the loop, that there was no connection, that it failed or took too long (both
+/// a device fault), which fault the stream had, or that memory ran out; and at the output that
+/// there was no memory for the listing. TooManyRecords never occurs.
 pub fn looped(
     rt: &HostRuntime,
     listener: TcpListener,
@@ -89,7 +88,8 @@ pub fn looped(
     requires first { FitsLoop first }
     requires second { FitsLoop second }
 
-    // A socket does not tell its bytes: some claims came to each table, and neither lost any.
+    // A contract cannot say which bytes come over a socket: each table took some claims in, and
+    // lost none.
     ensures loops { IfOk result (λ ended. IsLooped first second ended.0.items ended.1) }
 
     ensures stops { IfErr result IsLoopStopped }
@@ -99,7 +99,7 @@ pub fn looped(
     looped_within(rt, rt, listener, first, second, patience)
 }
 
-/// The same, where the exchange is given up after this time by the clock.
+/// The same, but the exchange is abandoned after this time by the clock.
 pub(crate) fn looped_within<C: Clock>(
     rt: &HostRuntime,
     clock: &C,
@@ -135,8 +135,8 @@ pub(crate) fn looped_within<C: Clock>(
 /// Exchanges two tables over a connection to the listener.
 ///
 /// Each side writes its whole dump before the other side reads it. Nobody waits, since a dump of at
-/// most 16,384 bytes fits the buffers of the sockets; but where the listener gives the connection
-/// of a stranger, it may keep silent, or send little by little.
+/// most 16,384 bytes fits the buffers of the sockets. But if the listener accepts a stranger's
+/// connection, the stranger may stay silent, or send slowly.
 fn exchange_over_socket<C: Clock>(
     rt: &HostRuntime,
     clock: &C,
@@ -169,8 +169,8 @@ fn exchange_over_socket<C: Clock>(
     Ok(())
 }
 
-/// Both ends of a connection to the listener, the one that connects and the one that the listener
-/// gives next, and when the patience ends.
+/// Both ends of a connection to the listener: the one that connects, and the next one that the
+/// listener accepts. Also when the time is over.
 fn connect<C: Clock>(
     rt: &HostRuntime,
     clock: &C,

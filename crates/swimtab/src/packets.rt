@@ -16,22 +16,22 @@ use swim_program::{BOUND, Place, Report, What, lines_of, without_return};
 use swim_table::{Table, list};
 use swim_wire::Datagram;
 
-/// The listing of the table of the datagrams, packets and compound packets, which are given in
-/// hexadecimal, one a line.
+/// The listing of the table of datagrams, which are packets and compound packets in hexadecimal,
+/// one per line.
 ///
-/// A line ends with a line feed, which the last may lack; one carriage return at its end is
-/// dropped, and an empty line is skipped. The first line that is refused is reported by its number
-/// from 1, with the fault of its datagram or as no hexadecimal (BadHex). An input of more than
-/// 268,435,456 bytes is refused as a whole (InputTooLong).
+/// A line ends with a line feed, which the last may lack. One carriage return at its end is
+/// dropped, and an empty line is skipped. The first line that is refused is reported by its number,
+/// from 1, with the fault of its datagram, or BadHex if it is not hexadecimal. An input of more
+/// than 268,435,456 bytes is refused as a whole (InputTooLong).
 pub fn packets(alloc: Global, input: &[u8]) -> Result<Vec<u8>, Report>
     // The text is the listing of the table of the claims that the lines make.
     ensures lists { IfOk result (λ text. (claims : List Claim) × (table : Entries)
         × PacketLines input.now claims × TableOf table claims × (text.items ≡ listing table)) }
 
-    // Refused for another cause than memory and its length, the lines make no claims.
+    // If refused, and not for memory or its length, the lines make no claims.
     ensures refuses { IfErr result (λ report. report.what ≢ What.Memory
         → length input.now ≤ most_bytes → (claims : List Claim) → ¬ PacketLines input.now claims) }
-    // And the report names the first line that makes none, and its fault.
+    // Then the report names the first line that makes none, and its fault.
     ensures line { IfErr result (λ report. report.what ≢ What.Memory → length input.now ≤ most_bytes
         → IsFirstWrong input.now report.place report.what) }
     ensures long { (most_bytes < length input.now)
@@ -82,7 +82,7 @@ fn take_text(alloc: Global, table: &mut Table, text: &[u8]) -> Result<(), What>
     take_datagram(alloc, table, &bytes)
 }
 
-/// Takes in the claim of a packet by itself, or all claims of a compound packet.
+/// Takes in the claim of a single packet, or all claims of a compound packet.
 fn take_datagram(alloc: Global, table: &mut Table, bytes: &[u8]) -> Result<(), What>
     ensures takes { OnOk result ((packets : List PacketValue) × DatagramText bytes.now packets
         × ((taken : List Claim) → TableOf table.old taken

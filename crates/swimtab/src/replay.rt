@@ -1,4 +1,4 @@
-//! Scripts that are replayed: what the nodes of a cluster list after all that happened.
+//! Replaying scripts: what the nodes of a cluster list after all events.
 
 ghost use Rattle.std.specs.Prelude.{◌≡◌, ◌≢◌, ◌↔◌, ◌<◌, ◌≤◌, ◌++◌, [], List, length, map, Some, None, IfOk, IfErr, OnOk};
 ghost use Rattle.swim_program.specs.Limits.{most_bytes};
@@ -18,20 +18,20 @@ use swim_script::{Plan, read_script};
 use swim_sync::Cluster;
 use swim_table::list;
 
-/// What the nodes of a script list at its end: for each node, from 0 on, the line `node K` and its
+/// What the nodes of a script list at its end: for each node, from 0, the line `node K` and its
 /// listing.
 ///
-/// The whole script is read first, and refused as it is read: the first line that cannot be read is
-/// reported by its number from 1, and an input of more than 268,435,456 bytes as a whole
-/// (InputTooLong). Then all that it tells of happens in turn. An event that cannot happen is
-/// reported by its line, and one of the levelling by the line `level`: NoSuchNode, SameNode or
-/// TooManyRecords.
+/// The whole script is read first: the first line that cannot be read is reported by its number,
+/// from 1, and an input of more than 268,435,456 bytes as a whole (InputTooLong). Then all its
+/// events happen in turn. An event that cannot happen is reported by its line, and one of the
+/// levelling by the line `level`: NoSuchNode, SameNode or TooManyRecords.
 pub fn script(alloc: Global, input: &[u8]) -> Result<Vec<u8>, Report>
     // The input is a script, and the text shows what its nodes have heard.
     ensures replays { IfOk result (λ text. Replays input.now text.items) }
 
-    // Refused for the fault of an event, it is a script whose first such event is on the line that
-    // the report names; else it is none, from the line on that the report names, for its fault.
+    // If refused for the fault of an event, the input is a script, and its first such event is on
+    // the reported line. Otherwise the input is not a script, because of the fault on the reported
+    // line.
     ensures events { IfErr result (λ report. IsOfEvent report.what
         → RefusedEvent input.now report) }
     ensures refuses { IfErr result (λ report. report.what ≢ What.Memory
@@ -79,7 +79,7 @@ fn played(alloc: Global, plan: Plan) -> Result<Cluster, Report>
     }
 }
 
-/// The cluster, levelled by the line of this number.
+/// The cluster after the levelling on this line.
 fn levelled(mut cluster: Cluster, line: u64) -> Result<Cluster, Report>
     requires { length cluster ≤ 2147483648 }
     ensures runs { IfOk result (λ new. Ran cluster new (level_list (length cluster))) }

@@ -1,5 +1,5 @@
-//! Each function once, and want of memory. What the program prints of many inputs stands in `tests/rows`
-//! at the top of the repository, and the built program is run on them.
+//! Each function once, and refused memory. What the program prints for many inputs is in
+//! `tests/rows` at the root of the repository, which the built program is run on.
 
 mod dumps;
 mod looping;
@@ -18,28 +18,28 @@ use swim_program::{BOUND, Place, Report, What, report_text, status};
 const PACKETS: &str =
     "0486a441646472a47f000001ab496e6361726e6174696f6e00a44d657461a0a44e6f6465a161a4506f7274cd1f0aa356736ea0\n\r\n0383A446726F6DA178AB496E6361726E6174696F6E01A44E6F6465A162\r\n";
 
-/// That the bytes are those that are wanted.
+/// Asserts that the bytes are the expected ones.
 pub(crate) fn assert_bytes(rt: &impl Abort, found: &[u8], wanted: &[u8], about: &str) {
     assert_eq!(rt; found, wanted, "{about}");
 }
 
-/// That the text is the one that is wanted.
+/// Asserts that the text is the expected one.
 pub(crate) fn assert_text(rt: &impl Abort, found: &str, wanted: &str, about: &str) {
     assert_eq!(rt; found, wanted, "{about}");
 }
 
-/// That the report is the one that is wanted.
+/// Asserts that the report is the expected one.
 pub(crate) fn assert_report(rt: &impl Abort, found: Report, wanted: Report, about: &str) {
     assert_eq!(rt; found, wanted, "{about}");
 }
 
-/// That memory was wanting.
+/// Asserts that memory was refused.
 pub(crate) fn assert_memory(rt: &impl Abort, report: Report) {
     assert_eq!(rt; report.what, What::Memory);
     assert_eq!(rt; status(&report), 5);
 }
 
-/// That the report of a run over these files has this text, and the status of a wrong input.
+/// Asserts that the report of a run over these files has this text, and the status of a bad input.
 pub(crate) fn assert_said(
     rt: &impl Abort,
     alloc: Global,
@@ -60,7 +60,7 @@ pub(crate) fn assert_said(
     Ok(())
 }
 
-/// What packets list; if memory is refused, what they list when they come again.
+/// The listing of packets; if memory is refused, that of the second try.
 fn listing(rt: &impl Abort, alloc: Global, input: &[u8]) -> Result<Vec<u8>, Report> {
     match packets(alloc, input) {
         Ok(listing) => Ok(listing),

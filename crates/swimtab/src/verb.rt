@@ -1,29 +1,29 @@
-//! What the words of a command line ask for.
+//! What the command line asks for.
 
 ghost use Rattle.std.specs.Prelude.{◌≡◌, map, string_bytes};
 ghost use Rattle.swimtab.specs.Words.{verb_of};
 
 use std::marker::Model;
 
-/// What the program is asked to do.
+/// What the program should do.
 #[derive(Clone, Copy, Debug, PartialEq, Eq)]
 pub enum Verb {
-    /// To list the table of the packets on standard input.
+    /// List the table of the packets on standard input.
     Packets,
-    /// To list the join of the tables of dumps.
+    /// List the join of the tables of dumps.
     List,
-    /// To print the canonical dump of the join of the tables of dumps.
+    /// Print the canonical dump of the join of the tables of dumps.
     Merge,
-    /// To tell how the tables of two dumps relate.
+    /// Print how the tables of two dumps relate.
     Relate,
-    /// To exchange the tables of two dumps over a socket, and to list the first.
+    /// Exchange the tables of two dumps over a socket, and list the first.
     Loop,
-    /// To replay the script on standard input.
+    /// Replay the script on standard input.
     Run,
 }
 
 impl Verb {
-    /// What the command of this name asks for.
+    /// What the command with this name asks for.
     pub(crate) fn named(name: &str) -> Option<Verb>
         ensures { result ≡ verb_of name.now }
     {
@@ -38,7 +38,7 @@ impl Verb {
     }
 }
 
-/// What the words ask for: a verb, and the words that name files, in their order.
+/// What the arguments ask for: a verb, and the words that name files, in order.
 #[derive(Debug, Drop)]
 pub struct Chosen {
     verb: Verb,
@@ -61,14 +61,14 @@ impl Chosen {
         Chosen { verb, files }
     }
 
-    /// What the program is asked to do.
+    /// What the program should do.
     pub fn verb(&self) -> Verb
         ensures { result ≡ self.now.verb }
     {
         self.verb
     }
 
-    /// The words that name files, in their order.
+    /// The words that name files, in order.
     pub fn files(&self) -> &[String]
         ensures { map string_bytes result.now ≡ self.now.files }
     {

@@ -21,19 +21,19 @@ pub(crate) const Q: &str =
 const R: &str =
     "0683a44a6f696ec2a54e6f64657302ac5573657253746174654c656e0087a441646472a47f000001ab496e6361726e6174696f6e00a44d657461a0a44e616d65a161a4506f7274cd1f0aa5537461746500a356736ea087a441646472a0ab496e6361726e6174696f6e01a44d657461a0a44e616d65a162a4506f727400a5537461746501a356736ea0";
 
-/// What the digits of a file spell.
+/// The bytes of a file from its digits.
 pub(crate) fn dump(alloc: Global, digits: &str) -> Result<Vec<u8>, Fail> {
     Ok(hex::decode(alloc, digits)?)
 }
 
-/// What two files hold.
+/// The contents of two files.
 fn pair(alloc: Global, first: &str, second: &str) -> Result<[Vec<u8>; 2], Fail> {
     let first = dump(alloc, first)?;
     let second = dump(alloc, second)?;
     Ok([first, second])
 }
 
-/// The listing of files; if memory is refused, what its repeat gives.
+/// The listing of files; if memory is refused, that of the second try.
 fn listing(rt: &impl Abort, alloc: Global, files: &[Vec<u8>]) -> Result<Vec<u8>, Report> {
     match listed(alloc, files) {
         Ok(text) => Ok(text),
@@ -44,7 +44,7 @@ fn listing(rt: &impl Abort, alloc: Global, files: &[Vec<u8>]) -> Result<Vec<u8>,
     }
 }
 
-/// The join of files; if memory is refused, what its repeat gives.
+/// The join of files; if memory is refused, that of the second try.
 fn join(rt: &impl Abort, alloc: Global, files: &[Vec<u8>]) -> Result<Vec<u8>, Report> {
     match merged(alloc, files) {
         Ok(dump) => Ok(dump),
@@ -55,7 +55,7 @@ fn join(rt: &impl Abort, alloc: Global, files: &[Vec<u8>]) -> Result<Vec<u8>, Re
     }
 }
 
-/// How two files relate; if memory is refused, what its repeat gives.
+/// How two files relate; if memory is refused, at the second try.
 fn comparison(
     rt: &impl Abort,
     alloc: Global,
@@ -71,13 +71,13 @@ fn comparison(
     }
 }
 
-/// That the bytes are those which these digits spell.
+/// Asserts that the bytes are those of these digits.
 fn assert_dump(rt: &impl Abort, alloc: Global, found: &[u8], wanted: &str) -> Result<(), Fail> {
     assert_bytes(rt, found, &dump(alloc, wanted)?, wanted);
     Ok(())
 }
 
-/// Why two files are refused: to be listed, to be merged, and to be related.
+/// Why two files are refused: by list, by merge, and by relate.
 fn refusals(alloc: Global, files: &[Vec<u8>; 2]) -> [Option<Report>; 3] {
     [
         listed(alloc, files).err(),
@@ -86,8 +86,8 @@ fn refusals(alloc: Global, files: &[Vec<u8>; 2]) -> [Option<Report>; 3] {
     ]
 }
 
-/// That the report is there, of a run over the files `a dump` and `no dump`, with this text and the
-/// status of a wrong input.
+/// Asserts that there is a report of a run over the files `a dump` and `no dump`, with this text
+/// and the status of a bad input.
 fn assert_refused(
     rt: &impl Abort,
     alloc: Global,
@@ -122,7 +122,7 @@ pub(crate) fn suspect(rt: &impl Abort, table: &mut Table, name: Vec<u8>) -> Resu
     }
 }
 
-/// The dump of so many suspected members, from a first number on.
+/// The dump of this many suspected members, starting at a number.
 fn suspects(rt: &impl Abort, alloc: Global, from: u32, count: u32) -> Result<Vec<u8>, Fail> {
     let mut table = Table::new(alloc);
     for i in from..from.saturating_add(count) {
@@ -170,7 +170,7 @@ fn a_file_that_is_no_dump_is_named(rt: HostRuntime) -> Result<(), Fail> {
     )
 }
 
-/// Zeros, of which there are 65,536 more than the bound of an input.
+/// Zeros, 65,536 more than an input may have.
 pub(crate) fn too_long(alloc: Global) -> Result<Vec<u8>, AllocError> {
     let piece = [0; 65536];
     let mut long = Vec::with_capacity(alloc, BOUND + piece.len())?;

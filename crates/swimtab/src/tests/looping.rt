@@ -1,4 +1,4 @@
-//! Tables that are exchanged over a connection of this process to itself.
+//! Exchanging tables over a connection of this process to itself.
 
 use crate::looped::{local_listener, loop_table, looped, looped_within};
 use crate::tests::dumps::{P, Q, dump, suspect};
@@ -30,8 +30,8 @@ const REFUSED: [(&str, &str, u32); 3] = [
     ),
 ];
 
-/// The dump of so many suspected members, from a first number on, whose names are their numbers in
-/// three digits.
+/// The dump of this many suspected members, starting at a number, with their numbers in three
+/// digits as names.
 fn numbered(rt: &impl Abort, alloc: Global, from: u32, count: u32) -> Result<Vec<u8>, Fail> {
     let mut table = Table::new(alloc);
     for i in from..from.saturating_add(count) {
@@ -41,7 +41,7 @@ fn numbered(rt: &impl Abort, alloc: Global, from: u32, count: u32) -> Result<Vec
     Ok(encode(alloc, &table, false)?)
 }
 
-/// Reads a table for a loop, and lets it go.
+/// Reads a table for a loop, and drops it.
 fn read(alloc: Global, dump: &[u8]) -> Result<(), Report> {
     loop_table(alloc, dump, 0)?;
     Ok(())
@@ -52,7 +52,7 @@ fn refusal(rt: &impl Abort, alloc: Global, dump: &[u8], file: usize) -> Report {
     loop_table(alloc, dump, file).err().expect(rt, "a refusal")
 }
 
-/// That the report is the one that is wanted, or else of memory.
+/// Asserts that the report is the expected one, or one of memory.
 fn assert_reported(
     rt: &impl Abort,
     found: Report,
@@ -66,7 +66,7 @@ fn assert_reported(
     Ok(())
 }
 
-/// That the dump is refused for a loop by the fault of this number, whichever file it is.
+/// Asserts that a loop refuses the dump with the fault of this number, whichever file it is.
 fn assert_refused(
     rt: &impl Abort,
     alloc: Global,
@@ -85,15 +85,15 @@ fn assert_refused(
     Ok(())
 }
 
-/// The listing in which the loop of two dumps ends, and whether both tables end equal.
+/// The listing after the loop of two dumps, and whether both tables end equal.
 fn ended(rt: &HostRuntime, first: &[u8], second: &[u8]) -> Result<(Vec<u8>, bool), Report> {
     let first = loop_table(rt.alloc(), first, 0)?;
     let second = loop_table(rt.alloc(), second, 1)?;
     looped(rt, local_listener(rt)?, first, second)
 }
 
-/// Why the loop of two tables over the listener stops, if it does. It waits as long as it does, or
-/// no longer than this by the clock.
+/// Why the loop of two tables over the listener stops, if it does. It waits until then, but no
+/// longer than this by the clock.
 fn stopped<C: Clock>(
     rt: &HostRuntime,
     listener: TcpListener,
@@ -109,7 +109,7 @@ fn stopped<C: Clock>(
     })
 }
 
-/// A clock by which each look at it takes a second.
+/// A clock that advances one second each time it is read.
 #[derive(Drop)]
 struct Hasty {
     looks: Cell<u64>,
@@ -127,8 +127,8 @@ impl Clock for Hasty {
     }
 }
 
-/// Why a loop of two tables stops that may take so many seconds, of which each look at the clock
-/// takes one.
+/// Why a loop of two tables stops that may take this many seconds, if each look at the clock takes
+/// one.
 fn stopped_in_haste(rt: &HostRuntime, seconds: u64) -> Result<Option<Report>, Fail> {
     let clock = Hasty {
         looks: Cell::new(0),
@@ -139,7 +139,7 @@ fn stopped_in_haste(rt: &HostRuntime, seconds: u64) -> Result<Option<Report>, Fa
 
 #[test]
 fn an_exchange_is_given_up_after_one_time_for_all_its_parts(rt: HostRuntime) -> Result<(), Fail> {
-    // the looks: at the start, and before each of two writes and two reads
+    // the clock is read at the start, and before each of two writes and two reads
     for seconds in 0..5 {
         assert_device(&rt, stopped_in_haste(&rt, seconds)?)?;
     }
@@ -160,7 +160,7 @@ fn two_tables_end_equal(rt: HostRuntime) -> Result<(), Fail> {
     Ok(())
 }
 
-/// Why a loop stops where a connection came before that of the loop, and was closed.
+/// Why a loop stops if another connection came before its own, and was closed.
 fn stopped_by_a_closed_one(rt: &HostRuntime) -> Result<Option<Report>, Fail> {
     let listener = local_listener(rt)?;
     let stranger = TcpStream::connect(rt, listener.local_addr()?)?;
@@ -178,8 +178,8 @@ fn the_second_table_answers_who_connected_before(rt: HostRuntime) -> Result<(), 
     assert_reported(&rt, report, ended.at(Place::Loop), "the stranger ended")
 }
 
-/// A connection to the listener that comes before that of the loop, and writes these bytes, with
-/// the report of the loop.
+/// A connection to the listener that comes before that of the loop and writes these bytes, with the
+/// report of the loop.
 fn stranger(rt: &HostRuntime, bytes: &[u8]) -> Result<(Option<Report>, TcpStream), Fail> {
     let listener = local_listener(rt)?;
     let mut stranger = TcpStream::connect(rt, listener.local_addr()?)?;
@@ -188,7 +188,7 @@ fn stranger(rt: &HostRuntime, bytes: &[u8]) -> Result<(Option<Report>, TcpStream
     Ok((report, stranger))
 }
 
-/// That the loop stopped by its connection.
+/// Asserts that the loop stopped because of its connection.
 fn assert_device(rt: &impl Abort, report: Option<Report>) -> Result<(), Fail> {
     let report = report.expect(rt, "the stranger takes part");
     assert_reported(rt, report, What::Device.at(Place::Loop), "the connection")
@@ -227,7 +227,7 @@ fn the_listener_is_of_this_machine_alone(rt: HostRuntime) -> Result<(), Fail> {
     Ok(())
 }
 
-/// The listing of so many suspected members, whose names are their numbers in three digits.
+/// The listing of this many suspected members, with their numbers in three digits as names.
 fn numbered_lines(alloc: Global, count: u32) -> Result<String, Fail> {
     let mut lines = String::new(alloc);
     for i in 0..count {
@@ -247,7 +247,8 @@ fn the_greatest_tables_of_a_loop_do_not_wait_for_each_other(rt: HostRuntime) -> 
     Ok(())
 }
 
-/// That the dump of so many members has this length, and fits into a loop or is too large for one.
+/// Asserts that the dump of this many members has this length, and fits a loop or is too large for
+/// one.
 fn assert_size(
     rt: &impl Abort,
     alloc: Global,
@@ -284,7 +285,7 @@ fn a_long_file_of_a_small_table_is_not_too_large(rt: HostRuntime) -> Result<(), 
     Ok(read(rt.alloc(), &long)?)
 }
 
-/// That the file is refused for a loop by the fault of this number.
+/// Asserts that a loop refuses the file with the fault of this number.
 fn assert_no_dump(
     rt: &impl Abort,
     alloc: Global,

@@ -6,10 +6,10 @@ use std::alloc::Global;
 use std::test::Fail;
 use swim_program::{Report, What};
 
-/// Two nodes, and an exchange of which one never gets the answer.
+/// Two nodes, and an exchange in which one never gets the reply.
 const LOST_REPLY: &[u8] = b"node a 7f000001 7946 - - 0\nnode b 7f000002 7946 - - 0\nhalf 0 1\n";
 
-/// What a script shows, or why it is refused; if memory is refused, what its repeat shows.
+/// What a script shows, or why it is refused; if memory is refused, at the second try.
 fn replayed(alloc: Global, input: &[u8]) -> Result<Vec<u8>, Report> {
     match script(alloc, input) {
         Err(report) if report.what == What::Memory => script(alloc, input),

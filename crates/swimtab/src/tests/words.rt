@@ -1,4 +1,4 @@
-//! The words of the command line.
+//! The command-line arguments.
 
 use crate::command_line::chosen;
 use crate::tests::assert_text;
@@ -16,7 +16,7 @@ fn texts(alloc: Global, words: &[&str]) -> Result<Vec<String>, AllocError> {
     Ok(texts)
 }
 
-/// What words ask for; if memory is refused, what they ask for when they come again.
+/// What words ask for; if memory is refused, at the second try.
 fn choice(alloc: Global, words: &[&str]) -> Result<Chosen, WordFault> {
     let words = texts(alloc, words)?;
     match chosen(alloc, words.as_slice()) {

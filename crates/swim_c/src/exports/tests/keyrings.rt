@@ -84,7 +84,7 @@ fn assert_adds(rt: &impl Abort, alloc: Global, keyring: &mut KeyringHandle, key:
     }
 }
 
-/// Asserts that the call has this status, and writes the wanted bytes and nothing after them.
+/// Asserts that the call has this status, and writes the expected bytes and nothing after them.
 fn assert_writes(
     rt: &impl Abort,
     alloc: Global,
