@@ -1,4 +1,4 @@
--- A push/pull stream of which some records are read.
+-- A push/pull stream of which some records were read.
 use Rattle.std.proofs.Common.{◌≡◌, ℕ, ◌-◌, ◌<◌, List, [], ◌∷◌, ◌++◌, length, Some, refl, sym, ap, ◌∙◌, append_assoc, append-nil, arith}
 use Rattle.swim_claim.specs.declared.claim.Claim.{Claim}
 use Rattle.swim_pack.specs.Composing.{UnlessFailed}
@@ -16,7 +16,7 @@ use Rattle.swim_table.specs.Streaming.{Streaming}
 use Rattle.swim_table.proofs.Streams.{begun_more, wanted, whole}
 use Rattle.swimwatch.specs.Records.{BeginsWithStream}
 
--- the header and the records of these claims are read, and now these bytes are left
+-- the header and the records of these claims were read, and these bytes are left now
 pub record ReadSome (bytes now : List ℕ) (header : Header) (claims : List Claim) : Type 0 where
   pub front : List ℕ
   pub begun : BeginText front header claims
@@ -56,13 +56,13 @@ no_rise h = omega (arith, h)
 pub no_fault : (fault : WireFault) → (wire_cause fault ≡ by_inlet → Rises 0 0) → fault ≡ Fault → ⊥
 no_fault fault rises is = no_rise (rises (ap wire_cause is))
 
--- what is told unless the inlet failed or memory ran out
+-- what is reported unless the inlet failed or memory ran out
 pub told : (fault : WireFault) {P : Type 0} → (fault ≡ Fault → ⊥) → (fault ≡ Memory → ⊥) → UnlessFailed (wire_cause fault) P → P
 told Fault other more h = absurd (other refl)
 told Memory other more h = absurd (more refl)
 told error other more h = h
 
--- ---- no stream stands at the front
+-- ---- the bytes do not begin with a stream
 
 in_parts : (head records user rest : List ℕ) → (head ++ records ++ user) ++ rest ≡ head ++ (records ++ (user ++ rest))
 in_parts head records user rest = simp append_assoc

@@ -8,7 +8,7 @@ use Rattle.memberlist_view.specs.Told.{ViewValue, view_after}
 use Rattle.swimwatch.specs.Told.{packet_told, record_told, heard_of}
 use Rattle.swimwatch.specs.Views.{after_all, heard_in_packets, heard_in_records}
 
--- the last of the things heard is heard last
+-- the last of these things is heard last
 after_all-push : (view : ViewValue) (past : List Heard) (heard : Heard) → after_all view (past ++ heard ∷ []) ≡ view_after (after_all view past) heard
 after_all-push view [] heard = refl
 after_all-push view (first ∷ past) heard = after_all-push (view_after view first) past heard

@@ -1,4 +1,4 @@
--- What is sent to a member that is asked for its table.
+-- The request for a member's table.
 use Rattle.std.specs.Prelude.{◌≡◌, ℕ, Bool, false, List}
 use Rattle.memberlist_cipher.specs.Encryption.{encrypted_stream}
 use Rattle.memberlist_cipher.specs.Label.{IsLabelled}
@@ -9,15 +9,15 @@ use Rattle.swim_table.specs.Table.{Entries, TableOf}
 use Rattle.swim_wire.specs.Canonical.{header_bytes}
 use Rattle.swimwatch.specs.Records.{BeginsWithStream}
 
--- a stream of one who has no members to tell of, no user state, and does not join
+-- a stream without members or user state, which does not join
 abbrev pub empty_offer : List ℕ
 empty_offer = header_bytes (record { nodes = 0; user_len = 0; join = false })
 
--- in the clear, behind the label, or bare if that is empty
+-- in the clear, after the label, or bare if that is empty
 abbrev pub AsksInClear : List ℕ → List ℕ → Type 0
 AsksInClear label sent = IsLabelled sent label empty_offer
 
--- encrypted under the first key, behind the label, or bare if that is empty
+-- encrypted with the first key, after the label, or bare if that is empty
 abbrev pub AsksEncrypted : List (List ℕ) → List ℕ → List ℕ → List ℕ → Type 0
 AsksEncrypted keys nonce label sent =
     SendsFirst (λ key. encrypted_stream key nonce label empty_offer) keys label sent

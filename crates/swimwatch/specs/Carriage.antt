@@ -17,14 +17,14 @@ Makes (message.Claims kind bytes) packets = DatagramText bytes.items packets
 Makes (message.Claimless kind) packets = ⊥
 Makes message.Empty packets = ⊥
 
--- the datagram has a message, in the clear or under the first key that opens it, and that makes the
--- claims of these packets
+-- the datagram has a message, in the clear or decrypted with the first key that works, and the
+-- message makes the claims of these packets
 pub data MakesClaims (keys : List (List ℕ)) (payload : List ℕ) (packets : List PacketValue) : Type 0
   where
     made : (m : Message) → Holds keys payload m → Makes m packets
         → MakesClaims keys payload packets
 
--- the datagram has a message that makes no claims, or none
+-- the datagram has a message that makes no claims, or no message
 pub data MakesNone (keys : List (List ℕ)) (payload : List ℕ) : Type 0 where
   without : (m : Message) → Holds keys payload m
       → ((packets : List PacketValue) → ¬ Makes m packets) → MakesNone keys payload
@@ -37,13 +37,13 @@ IsCarriage keys payload (carriage.Claimless kind) = MakesNone keys payload
 IsCarriage keys payload carriage.Closed = MakesNone keys payload
 IsCarriage keys payload carriage.Foreign = MakesNone keys payload
 
--- what a datagram tells: the packets whose claims it makes, or none if it makes no claims
+-- what a datagram says: the packets whose claims it makes, or none if it makes no claims
 abbrev pub IsDatagramOf : List (List ℕ) → List ℕ → List PacketValue → Type 0
 IsDatagramOf keys payload packets =
     MakesClaims keys payload packets ⊎ (MakesNone keys payload × (packets ≡ []))
 
--- the bytes are a push/pull stream, in the clear or under the first key that opens it, and it begins
--- with these claims; nothing has more than 2^25 bytes
+-- the bytes are a push/pull stream, in the clear or decrypted with the first key that works, and it
+-- begins with these claims; nothing has more than 2^25 bytes
 abbrev pub IsStreamOf : List (List ℕ) → List ℕ → List Claim → Type 0
 IsStreamOf keys bytes claims =
     (stream : List ℕ) × IsStreamIn 33554432 keys bytes stream × BeginsWithStream stream claims

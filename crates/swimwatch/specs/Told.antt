@@ -1,4 +1,4 @@
--- What a message tells of a member, and what is heard of the member then.
+-- What a message says about a member, and what is then heard about the member.
 use Rattle.std.specs.Prelude.{ℕ, Bool, true, false, if◌then◌else◌, Option, Some, None, List, [], nat_lt, nat_le, ◌&&◌, length}
 use Rattle.swim_claim.specs.declared.claim.Claim.{Claim}
 use Rattle.swim_claim.specs.declared.claim.Claim.TheVariants as claim
@@ -10,7 +10,7 @@ use Rattle.memberlist_view.specs.declared.heard.Said.TheVariants.{Alive, Suspect
 use Rattle.memberlist_view.specs.Heard.{said_in_record}
 use Rattle.swimwatch.specs.declared.told.Told.{Told}
 
--- a claim, the bytes that name who makes it, and whether a record of a stream has it
+-- a claim, the bytes that name who makes it, and whether it is in a record of a stream
 pub record ToldText : Type 0 where
   pub claim : Claim
   pub from : List ℕ
@@ -19,32 +19,34 @@ pub record ToldText : Type 0 where
 abbrev pub told_text : Told → ToldText
 told_text t = record { claim = t.claim; from = t.from.items; is_record = t.is_record }
 
--- what a packet tells
+-- what a packet says
 abbrev pub packet_told : PacketValue → ToldText
 packet_told p = record { claim = p.claim; from = p.from; is_record = false }
 
--- what a record of a stream tells: nobody is named
+-- what a record of a stream says: nobody is named
 abbrev pub record_told : Claim → ToldText
 record_told c = record { claim = c; from = []; is_record = true }
 
--- who makes a claim: somebody where the bytes are a name, of 1 to 1,024 bytes
+-- who makes a claim: somebody if the bytes are a name, of 1 to 1,024 bytes
 abbrev pub accuser_of : List ℕ → Option (List ℕ)
 accuser_of from =
     if nat_lt 0 (length from) && nat_le (length from) longest_name then Some from else None
 
--- a death is told by somebody; one that nobody tells is a suspicion (own)
+-- a death is declared by somebody; one that nobody declares is a suspicion (own)
 abbrev pub death : List ℕ → ℕ → Option (List ℕ) → Said
 death name inc None = Suspect name inc None
 death name inc (Some from) = Dead name inc from
 
--- net.go, handleAlive, handleSuspect, handleDead: what a packet says; by its own word a member left
+-- net.go, handleAlive, handleSuspect, handleDead: what a packet says; a member that declares itself
+-- dead left
 abbrev pub said_in_packet : Claim → Option (List ℕ) → Said
 said_in_packet (claim.Alive name inc details) from = Alive name inc details
 said_in_packet (claim.Suspect name inc) from = Suspect name inc from
 said_in_packet (claim.Confirm name inc) from = death name inc from
 said_in_packet (claim.Leave name inc) from = Left name inc
 
--- what is said: by a packet its own word, by a record what it says to one who merges it
+-- what is said: by a packet what it says itself, by a record what it means to a member that merges
+-- it
 abbrev pub said_of : ToldText → Said
 said_of t = if t.is_record then said_in_record t.claim else said_in_packet t.claim (accuser_of t.from)
 

@@ -1,4 +1,4 @@
-//! Names of which only an end was heard.
+//! Names for which only a suspicion, a death or a leave was heard.
 
 use crate::claims::kind_word;
 use crate::json::Object;
@@ -13,7 +13,7 @@ use std::collections::{BTreeMap, btree_map};
 use std::net::SocketAddr;
 use swim_claim::{Claim, Kind};
 
-/// What was heard of a name that the view does not show.
+/// What was heard about a name that the view does not show.
 #[derive(Clone, Copy)]
 pub(crate) struct Absent {
     pub(crate) kind: Kind,
@@ -24,8 +24,8 @@ pub(crate) struct Absent {
     pub(crate) source: SocketAddr,
 }
 
-/// The names that are suspected, dead or left, and of which no Alive was heard: they died or left
-/// before the capture began. memberlist shows them to nobody who joins later.
+/// The names that are suspected, dead or left, and for which no Alive was heard: they died or left
+/// before the capture began. memberlist does not show them to members that join later.
 #[derive(Drop)]
 pub(crate) struct Absents {
     alloc: Global,
@@ -40,8 +40,8 @@ impl Absents {
         }
     }
 
-    /// Notes a claim about a name that the view does not show. Of several of one kind and
-    /// incarnation in a row the first stays.
+    /// Notes a claim about a name that the view does not show. If several in a row have the same
+    /// kind and incarnation, the first is kept.
     pub(crate) fn note(&mut self, sent: &Sent, claim: &Claim) -> Result<(), AllocError> {
         let name = MemberName::new(claim.name().try_clone(self.alloc)?);
         let absent = Absent {
@@ -59,7 +59,7 @@ impl Absents {
         }
     }
 
-    /// Each name with what was heard of it, in ascending byte order.
+    /// Each name with what was heard about it, in ascending byte order.
     pub(crate) fn iter(&self) -> btree_map::Iter<'_, MemberName, Absent> {
         self.names.iter()
     }

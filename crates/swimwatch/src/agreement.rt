@@ -11,8 +11,8 @@ use memberlist_view::MemberName;
 use std::alloc::{AllocError, Global};
 use std::collections::BTreeMap;
 
-/// Adds what one member knows, a row for each name. Of several adds on how many names they agree,
-/// and a row for each other name and member. Answers whether they agree.
+/// Adds what one member knows, with a row for each name. For several members, adds on how many
+/// names they agree, and a row for each other name and member. Returns whether they agree.
 pub(crate) fn write_answers(text: &mut String, answers: &[Answer]) -> Result<bool, AllocError> {
     if let [answer] = answers {
         write_answer(text, answer)?;
@@ -27,7 +27,7 @@ pub(crate) fn write_answers(text: &mut String, answers: &[Answer]) -> Result<boo
     Ok(agree)
 }
 
-/// Adds an object of JSON for each name and member, and answers whether the members agree.
+/// Adds a JSON object for each name and member, and returns whether the members agree.
 pub(crate) fn write_answer_objects(
     text: &mut String,
     answers: &[Answer],
@@ -55,7 +55,7 @@ fn write_object(
     object.write(text)
 }
 
-/// All names that are told of, each with whether all tell the same of it.
+/// All names that are reported, each with whether all report the same about it.
 fn names_in(alloc: Global, answers: &[Answer]) -> Result<BTreeMap<MemberName, bool>, AllocError> {
     let mut names = BTreeMap::new(alloc);
     for answer in answers {
@@ -69,7 +69,7 @@ fn names_in(alloc: Global, answers: &[Answer]) -> Result<BTreeMap<MemberName, bo
     Ok(names)
 }
 
-/// Whether an answer tells the same of a name.
+/// Whether an answer reports the same about a name.
 fn has_same(answer: &Answer, name: &MemberName, known: &Known) -> bool {
     match answer.roster.get(name) {
         Some(own) => own.is_same(known),
@@ -122,7 +122,7 @@ fn write_answer(text: &mut String, answer: &Answer) -> Result<(), AllocError> {
     rows.write(text)
 }
 
-/// Adds what each member tells of the names on which not all agree.
+/// Adds what each member reports about the names on which not all agree.
 fn write_others(
     text: &mut String,
     answers: &[Answer],
@@ -148,7 +148,7 @@ fn write_others(
     rows.write(text)
 }
 
-/// Whether two members tell other versions of a name.
+/// Whether two members report different versions for a name.
 fn differ_in_versions(answers: &[Answer], name: &MemberName) -> bool {
     let mut told = answers.iter().filter_map(|answer| answer.roster.get(name));
     match told.next() {
@@ -157,7 +157,7 @@ fn differ_in_versions(answers: &[Answer], name: &MemberName) -> bool {
     }
 }
 
-/// What a member tells of a name, and of its versions if these are shown.
+/// What a member reports about a name, and about its versions if these are shown.
 fn row_of(
     alloc: Global,
     name: &MemberName,

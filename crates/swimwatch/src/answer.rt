@@ -12,7 +12,7 @@ use percent_encoding::{AsciiSet, CONTROLS, ascii_set, percent_encode};
 use std::alloc::{AllocError, Global};
 use swim_pack::raw_at_hand;
 
-/// The first byte of a message in which a member says what went wrong (memberlist's net.go, errMsg).
+/// The first byte of a message in which a member reports an error (memberlist's net.go, errMsg).
 const ERROR_MESSAGE: u8 = 13;
 
 /// The first byte of an encrypted stream, as in memberlist's net.go.
@@ -21,15 +21,15 @@ const ENCRYPTED: u8 = 10;
 /// The most bytes of an error message that are shown.
 const MOST_WORDS: usize = 1024;
 
-/// What a line escapes of a member's words beside the bytes outside ASCII.
+/// What a line escapes in a member's words, in addition to bytes outside ASCII.
 const ESCAPED: AsciiSet = ascii_set!(CONTROLS.add(b'%').add(b'"'));
 
-/// Why an answer tells no table.
+/// Why an answer contains no table.
 #[derive(Debug, Drop)]
 pub(crate) enum NoAnswer {
     /// The member says why, in these words.
     Error(String),
-    /// It is no push/pull stream.
+    /// It is not a push/pull stream.
     NoStream(NoStream),
 }
 
@@ -39,12 +39,12 @@ impl From<AllocError> for NoAnswer {
     }
 }
 
-/// The push/pull stream that an answer is, under the first key that decrypts it if it is encrypted. A
-/// member writes no label before what it answers, and yet authenticates the label that it has.
+/// The push/pull stream in an answer. If it is encrypted, the first key that works decrypts it. A
+/// member writes no label before its answer, but authenticates the label that it has.
 ///
 /// # Errors
 ///
-/// As [`NoAnswer`] says. A label of more than 255 bytes is that of no cluster.
+/// See [`NoAnswer`]. No cluster has a label of more than 255 bytes.
 pub(crate) fn stream_in(
     alloc: Global,
     keys: &Keyring,
@@ -70,7 +70,7 @@ pub(crate) fn stream_in(
     }
 }
 
-/// The message that an answer holds, in the clear or encrypted; empty if there is none.
+/// The message in an answer, in the clear or encrypted; empty if there is none.
 fn message_in(
     alloc: Global,
     keys: &Keyring,
@@ -96,7 +96,7 @@ fn message_in(
     }
 }
 
-/// The words of an error message: the map of one text behind its first byte (memberlist's
+/// The words of an error message: the map of one text after its first byte (memberlist's
 /// `errResp`). They are escaped.
 fn words_of(alloc: Global, message: &[u8]) -> Result<String, AllocError> {
     let words = match message.get(2..) {
@@ -109,7 +109,7 @@ fn words_of(alloc: Global, message: &[u8]) -> Result<String, AllocError> {
     Ok(text)
 }
 
-/// The value behind the key at the front of the bytes.
+/// The value after the key at the start of the bytes.
 fn text_in(bytes: &[u8]) -> Option<&[u8]> {
     let (_, value) = raw_at_hand(bytes, 16)?;
     let (text, _) = raw_at_hand(value, usize::MAX)?;

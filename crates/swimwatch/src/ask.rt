@@ -1,4 +1,4 @@
-//! A member that is asked for its table.
+//! Asking a member for its table.
 
 use crate::NAME;
 use crate::answer::{NoAnswer, stream_in};
@@ -27,13 +27,13 @@ pub(crate) struct Answer {
     pub(crate) roster: Roster,
 }
 
-/// Asks the member that the word names for its table. `or_file` is whether the word might have named
-/// a file.
+/// Asks the member that the word names for its table. `or_file` is whether the word might have
+/// named a file.
 ///
 /// # Errors
 ///
-/// What the program says then, and its status: 2 if the word names no host, 3 if the answer is no
-/// table, 4 if there is no answer, or no randomness for what is encrypted.
+/// The message to print, and the exit status: 2 if the word does not name a host, 3 if the answer
+/// is not a table, 4 if there is no answer, or no random bytes for encryption.
 pub(crate) fn ask(
     rt: &HostRuntime,
     keys: &Keyring,
@@ -73,7 +73,7 @@ pub(crate) fn ask(
     Err(no_answer(alloc, &name, len, keys.is_empty(), found))
 }
 
-/// A request that is encrypted with a nonce of the operating system's generator.
+/// A request, encrypted with a nonce from the operating system's generator.
 fn fresh_request(rt: &HostRuntime, keys: &Keyring, label: &[u8]) -> Result<Vec<u8>, Failure> {
     let mut nonce = [0; 12];
     if rt.fill_bytes(&mut nonce).is_err() {
@@ -96,7 +96,7 @@ fn no_host(alloc: Global, word: &str) -> Failure {
     )
 }
 
-/// What is said of a member that was not heard to its end.
+/// The message about a member whose answer was not received to its end.
 fn no_reply(alloc: Global, host: &str, or_file: bool, cause: NoReply) -> Failure {
     let text = match cause {
         NoReply::NoAddress(error) if or_file => format!(in alloc;
@@ -122,7 +122,7 @@ fn no_reply(alloc: Global, host: &str, or_file: bool, cause: NoReply) -> Failure
     said(text, 4)
 }
 
-/// That the time was over before the answer was whole.
+/// The message that the time was over before the answer was complete.
 fn silent(alloc: Global, host: &str, len: usize, timeout: u64) -> Failure {
     said(
         format!(in alloc;
@@ -132,7 +132,7 @@ fn silent(alloc: Global, host: &str, len: usize, timeout: u64) -> Failure {
     )
 }
 
-/// What is said of an answer that tells no table.
+/// The message about an answer that contains no table.
 fn no_answer(alloc: Global, host: &str, len: usize, is_keyless: bool, cause: NoAnswer) -> Failure {
     let text = match cause {
         NoAnswer::Error(words) => format!(in alloc;

@@ -1,4 +1,4 @@
-//! Captures that are watched to their ends.
+//! Reading captures to their ends.
 
 use crate::NAME;
 use crate::chosen::{Chosen, Verb};
@@ -10,14 +10,14 @@ use key_files::keyring_of;
 use swim_program::{Failure, What, write_out};
 use swim_table::EncodeFault;
 
-/// Shows what the words ask for of the captures, and then says what was read.
+/// Shows what the arguments ask for from the captures, and then prints what was read.
 pub(crate) fn show_captures(rt: &HostRuntime, chosen: &Chosen) -> Result<(), Failure> {
     let alloc = rt.alloc();
     let keys = keyring_of(rt, NAME, &chosen.key_files)?;
     let mut watch = Watch::new(alloc, keys, chosen)?;
     watch_captures(rt, &mut watch, &chosen.inputs, chosen.at)?;
     watch.finish()?;
-    // made before anything is printed, so that a refusal of memory prints nothing
+    // made before anything is printed, so that nothing is printed if memory runs out
     let said = watch.counts.text(alloc, watch.has_keys())?;
     flush(rt, &mut watch)?;
     if chosen.verb == Verb::Dump {
@@ -27,7 +27,7 @@ pub(crate) fn show_captures(rt: &HostRuntime, chosen: &Chosen) -> Result<(), Fai
     Ok(())
 }
 
-/// Watches the captures to their ends, or to a moment, and prints what is shown on the way.
+/// Reads the captures to their ends, or to a moment, and prints what is shown on the way.
 pub(crate) fn watch_captures(
     rt: &HostRuntime,
     watch: &mut Watch,
@@ -48,7 +48,7 @@ pub(crate) fn watch_captures(
     Ok(())
 }
 
-/// Prints what is to be printed.
+/// Prints the pending output.
 fn flush(rt: &HostRuntime, watch: &mut Watch) -> Result<(), Failure> {
     if watch.out.is_empty() {
         return Ok(());

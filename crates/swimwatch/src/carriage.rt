@@ -14,7 +14,7 @@ use std::alloc::{AllocError, Global};
 use swim_claim::Claim;
 use swim_wire::{Claimless, Datagram, Packet, WireFault};
 
-/// The most bytes of a stream without its wrappers, as of one direction of a connection.
+/// The most bytes of a stream without its wrappers, and of one direction of a connection.
 pub(crate) const STREAM_LIMIT: usize = 33_554_432;
 
 /// The first byte of an encrypted stream, as in memberlist's `net.go`.
@@ -23,22 +23,22 @@ const ENCRYPTED: u8 = 10;
 /// What a datagram carries.
 #[derive(Drop)]
 pub(crate) enum Carriage {
-    /// Packets that make claims, and the message that holds them. There may be none in a compound
-    /// packet.
+    /// Packets that make claims, and the message that contains them. A compound packet may have
+    /// none.
     Claims(Vec<Packet>, Vec<u8>),
     /// A message that makes none.
     Claimless(Claimless),
-    /// It is encrypted, and no key opens it.
+    /// It is encrypted, and no key decrypts it.
     Closed,
-    /// It is no message of memberlist.
+    /// It is not a message of memberlist.
     Foreign,
 }
 
-/// What a datagram carries, under the first key that opens it if it is encrypted.
+/// What a datagram carries. If it is encrypted, the first key that works decrypts it.
 ///
 /// # Errors
 ///
-/// Memory for it is refused.
+/// If out of memory.
 pub(crate) fn carriage_of(
     alloc: Global,
     keys: &Keyring,
@@ -63,15 +63,15 @@ pub(crate) fn carriage_of(
 /// Why one direction of a connection has no claims.
 #[derive(Clone, Copy, Debug, PartialEq, Eq)]
 pub(crate) enum NoStream {
-    /// It is encrypted, and no key opens it.
+    /// It is encrypted, and no key decrypts it.
     Closed,
-    /// Bytes of it are missing.
+    /// Some of its bytes are missing.
     Cut,
     /// It is a ping, an ack, a user message or an error, which make no claims.
     Claimless,
-    /// It is no stream of memberlist.
+    /// It is not a stream of memberlist.
     Foreign,
-    /// Memory is refused.
+    /// Out of memory.
     Memory,
 }
 
@@ -83,12 +83,12 @@ impl From<AllocError> for NoStream {
     }
 }
 
-/// The claims of the push/pull stream that one direction of a connection is, in its order, under the
-/// first key that opens it if it is encrypted.
+/// The claims of the push/pull stream in one direction of a connection, in order. If it is
+/// encrypted, the first key that works decrypts it.
 ///
 /// # Errors
 ///
-/// As [`NoStream`] says.
+/// See [`NoStream`].
 pub(crate) fn stream_claims(
     alloc: Global,
     keys: &Keyring,

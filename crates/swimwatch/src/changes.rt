@@ -1,4 +1,4 @@
-//! What changed between two rosters, a line for each name.
+//! What changed between two rosters, with a line for each name.
 
 use crate::directory::copy_of;
 use crate::json::Object;
@@ -11,7 +11,7 @@ use memberlist_view::MemberName;
 use std::alloc::{AllocError, Global};
 use std::collections::BTreeMap;
 
-/// The names of which two rosters do not say the same.
+/// The names about which two rosters differ.
 fn changed(
     alloc: Global,
     before: &Roster,
@@ -31,8 +31,8 @@ fn changed(
     Ok(names)
 }
 
-/// Adds what changed, a line for each name, as `web-5 alive 10.20.1.15:7946 -> alive
-/// 10.20.1.5:7946, tags ver=v2 -> v1`. Answers whether something did.
+/// Adds what changed, with a line for each name, such as `web-5 alive 10.20.1.15:7946 -> alive
+/// 10.20.1.5:7946, tags ver=v2 -> v1`. Returns whether something did.
 pub(crate) fn write_changes(
     text: &mut String,
     before: &Roster,
@@ -54,7 +54,7 @@ pub(crate) fn write_changes(
     Ok(!names.is_empty())
 }
 
-/// Adds the same as objects of JSON, one a line.
+/// Adds the same as JSON objects, one per line.
 pub(crate) fn write_change_objects(
     text: &mut String,
     before: &Roster,
@@ -81,7 +81,7 @@ fn object_of(alloc: Global, known: Option<&Known>) -> Result<Option<Object>, All
     Ok(Some(object))
 }
 
-/// Adds how a member is and where, or that it is absent: ` alive 10.20.1.15:7946`.
+/// Adds a member's state and address, or that it is absent: ` alive 10.20.1.15:7946`.
 fn write_side(text: &mut String, known: Option<&Known>) -> Result<(), AllocError> {
     let Some(known) = known else {
         return text.push_str(" absent");
@@ -94,7 +94,7 @@ fn write_side(text: &mut String, known: Option<&Known>) -> Result<(), AllocError
     write!(text, " {address}")
 }
 
-/// Adds how a member was and is, and what else changed.
+/// Adds a member's state and address before and after, and what else changed.
 fn write_both(text: &mut String, was: &Known, is: &Known) -> Result<(), AllocError> {
     write_side(text, Some(was))?;
     if was.kind != is.kind || was.is_elsewhere(is) {
@@ -117,7 +117,7 @@ fn write_both(text: &mut String, was: &Known, is: &Known) -> Result<(), AllocErr
     write_hex(text, is.vsn())
 }
 
-/// Adds what changed of the tags, or of other metadata.
+/// Adds what changed in the tags, or in other metadata.
 fn write_metas(text: &mut String, was: &[u8], is: &[u8]) -> Result<(), AllocError> {
     if was == is {
         return Ok(());
@@ -132,7 +132,7 @@ fn write_metas(text: &mut String, was: &[u8], is: &[u8]) -> Result<(), AllocErro
     write_hex(text, is)
 }
 
-/// The tags in metadata, which may be empty. None if they are something else.
+/// The tags in metadata, which may be empty. None if the metadata is something else.
 fn tags_or_none(alloc: Global, meta: &[u8]) -> Result<Option<Vec<Tag>>, AllocError> {
     if is_bare(meta) {
         return Ok(Some(Vec::new(alloc)));
@@ -140,7 +140,7 @@ fn tags_or_none(alloc: Global, meta: &[u8]) -> Result<Option<Vec<Tag>>, AllocErr
     tags_of(alloc, meta)
 }
 
-/// Adds the tags that changed, are gone, and are new: `, tags ver=v2 -> v1, -rack=3, +zone=a`.
+/// Adds the tags that changed, are gone, or are new: `, tags ver=v2 -> v1, -rack=3, +zone=a`.
 fn write_tags(text: &mut String, was: &[Tag], is: &[Tag]) -> Result<(), AllocError> {
     let mut before = ", tags ";
     for tag in was {
@@ -174,7 +174,7 @@ fn write_tags(text: &mut String, was: &[Tag], is: &[Tag]) -> Result<(), AllocErr
     Ok(())
 }
 
-/// The value that the key of the tag has among these.
+/// The value that these tags have for the key of the tag.
 fn value_in<'a>(tags: &[Tag<'a>], tag: &Tag) -> Option<&'a [u8]> {
     let found = tags.iter().find(|other| other.key == tag.key)?;
     Some(found.value)

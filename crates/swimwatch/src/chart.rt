@@ -1,11 +1,11 @@
-//! Who was in a cluster, and in what state, as a picture.
+//! Who was in a cluster, and in which state, as a picture.
 //!
 //! | module | subject |
 //! |---|---|
-//! | `row` | what is drawn of a member |
-//! | `span` | the moments that a picture shows, and where they are drawn |
-//! | `axis` | the times below which a line is drawn |
-//! | `page` | what stands around the rows |
+//! | `row` | what is drawn for a member |
+//! | `span` | the period that a picture shows, and where its moments are drawn |
+//! | `axis` | the times on the axis, with a line below each |
+//! | `page` | what surrounds the rows |
 //! | `drawing` | the rows |
 //! | `style` | colours, patterns and shapes |
 
@@ -44,7 +44,7 @@ impl Chart {
         }
     }
 
-    /// Notes that something was sent at this time, so that the picture shows it.
+    /// Notes that something was sent at this time, so that the picture includes it.
     pub(crate) fn reach(&mut self, time: u64) {
         self.span = match self.span {
             Some(span) => Some(span.with(time)),
@@ -52,7 +52,7 @@ impl Chart {
         };
     }
 
-    /// Takes in what changed of the member that a message tells of.
+    /// Takes in what a message changed about its member.
     pub(crate) fn take(
         &mut self,
         listener: &Listener,
@@ -73,12 +73,12 @@ impl Chart {
         Ok(())
     }
 
-    /// Adds the picture as SVG: a row for each member that has something to be drawn, in ascending
-    /// order of the names.
+    /// Adds the picture as SVG: a row for each member for which there is something to draw, in
+    /// ascending order of the names.
     ///
     /// # Errors
     ///
-    /// Memory for the text is refused.
+    /// If out of memory for the text.
     pub(crate) fn write(&self, text: &mut String) -> Result<(), AllocError> {
         let mut width = 0u64;
         for (name, _) in self.rows.iter() {

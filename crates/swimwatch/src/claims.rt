@@ -1,4 +1,4 @@
-//! Claims about members, a line each.
+//! Claims about members, one per line.
 
 use crate::listener::Listener;
 use crate::moment::write_moment;
@@ -9,7 +9,7 @@ use crate::told::Told;
 use std::alloc::AllocError;
 use swim_claim::{Claim, Kind};
 
-/// The word for a claim: what memberlist's message or record of a stream says.
+/// The word for a claim: what memberlist's message or stream record says.
 pub(crate) fn kind_word(kind: Kind) -> &'static str {
     match kind {
         Kind::Alive => "alive",
@@ -19,9 +19,9 @@ pub(crate) fn kind_word(kind: Kind) -> &'static str {
     }
 }
 
-/// Adds the line of a claim: when, of whom, what, at which incarnation, by whom or at which address,
-/// and between whom it was sent, as `2026-11-25T02:01:39.007123Z web-5 suspect 1 by web-2 (web-2 to
-/// web-3, udp)`.
+/// Adds the line of a claim: the time, the member, what is claimed, the incarnation, who said so or
+/// the address, and between whom it was sent, as in `2026-11-25T02:01:39.007123Z web-5 suspect 1 by
+/// web-2 (web-2 to web-3, udp)`.
 pub(crate) fn write_claim(
     text: &mut String,
     listener: &Listener,
@@ -41,7 +41,7 @@ pub(crate) fn write_claim(
     write_ends(text, listener, sent)
 }
 
-/// Adds who says so, or the address and the tags that an Alive has.
+/// Adds who says so, or the address and the tags of an Alive.
 fn write_cause(text: &mut String, told: &Told) -> Result<(), AllocError> {
     match &told.claim {
         Claim::Alive { details, .. } => write_place_and_meta(text, details),

@@ -1,8 +1,8 @@
-//! Rows whose columns line up.
+//! Rows with aligned columns.
 
 use std::alloc::{AllocError, Global};
 
-/// Rows of texts, a text for each column.
+/// Rows of texts, one for each column.
 #[derive(Drop)]
 pub(crate) struct Rows {
     rows: Vec<Vec<String>>,
@@ -28,9 +28,8 @@ impl Rows {
         self.rows.push(row).map_err(AllocError::from)
     }
 
-    /// Adds the rows to a text, a line each. The texts of a column begin at one place, two spaces
-    /// behind the widest text of the column before it. An empty column takes no room, and a line
-    /// has no spaces at its end.
+    /// Adds the rows to a text, one per line. A column begins two spaces after the widest text of
+    /// the column before it. An empty column takes no room, and a line has no trailing spaces.
     pub(crate) fn write(&self, text: &mut String) -> Result<(), AllocError> {
         for row in &self.rows {
             self.write_row(text, row)?;
@@ -62,7 +61,7 @@ fn push_spaces(text: &mut String, count: usize) -> Result<(), AllocError> {
     Ok(())
 }
 
-/// A row of these words.
+/// A row with these words.
 pub(crate) fn row_of_words(alloc: Global, words: &[&str]) -> Result<Vec<String>, AllocError> {
     let mut row = Vec::new(alloc);
     for word in words {

@@ -1,4 +1,4 @@
-//! The words after the program's name.
+//! The command-line arguments.
 
 use crate::chosen::{Asking, Chosen, Verb};
 use crate::help;
@@ -12,15 +12,15 @@ use swim_program::{WordFault, texts_of};
 /// memberlist's `GossipToTheDeadTime` in a local network, in seconds.
 const WAIT: u64 = 30;
 
-/// How many seconds a member may take to answer, unless the words say another number.
+/// How many seconds a member may take to answer by default.
 const TIMEOUT: u64 = 5;
 
-/// Why words ask for nothing.
+/// Why the arguments are refused.
 #[derive(Debug, Drop)]
 pub(crate) enum Refusal {
-    /// Those that clap refuses, or that ask for help.
+    /// clap refuses them, or they ask for help.
     Words(WordFault),
-    /// The value of an argument is none that it takes.
+    /// The value of an argument is invalid.
     Value(&'static str),
 }
 
@@ -83,7 +83,7 @@ fn chosen_of(alloc: Global, verb: Verb, found: &ArgMatches) -> Result<Chosen, Re
     })
 }
 
-/// How members are asked.
+/// How to ask members.
 fn asking_of(alloc: Global, found: &ArgMatches) -> Result<Asking, Refusal> {
     let timeout = match seconds_of(found.get_str("timeout"), TIMEOUT) {
         Some(seconds) if seconds > 0 => seconds,
@@ -97,7 +97,8 @@ fn asking_of(alloc: Global, found: &ArgMatches) -> Result<Asking, Refusal> {
     Ok(Asking { timeout, label })
 }
 
-/// The seconds that a word says, or these if there is none. None if it says none.
+/// The seconds that a word says, or the default if there is no word. None if the word is not a
+/// number.
 fn seconds_of(word: Option<&str>, otherwise: u64) -> Option<u64> {
     match word {
         None => Some(otherwise),
@@ -113,7 +114,7 @@ fn is_set(found: &ArgMatches, id: &str) -> bool {
     matches!(found.get_str(id), Some("true"))
 }
 
-/// An argument that some commands have, beside the files of keys.
+/// An argument that some commands have, in addition to the key files.
 #[derive(Clone, Copy)]
 enum Flag {
     At,
@@ -133,7 +134,7 @@ enum Inputs {
     Sides,
 }
 
-/// What help says of a command, and which arguments it has.
+/// What the help says about a command, and its arguments.
 #[derive(Clone, Copy)]
 struct Page {
     name: &'static str,
@@ -229,7 +230,7 @@ fn page_command<'a>(alloc: Global, page: Page) -> Result<Command<'a>, AllocError
     command.arg(input_argument(alloc, page.inputs))
 }
 
-/// The argument of the words that a command reads.
+/// The argument for the words that a command reads.
 fn input_argument<'a>(alloc: Global, inputs: Inputs) -> Arg<'a> {
     let words = Arg::new(alloc, "INPUT").required(true);
     match inputs {

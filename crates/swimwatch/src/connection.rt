@@ -1,4 +1,4 @@
-//! A connection to a member, on which it is asked once.
+//! A connection to a member, used for one request.
 
 ghost use Rattle.std.specs.Prelude.{◌≡◌, IfOk};
 ghost use Rattle.std.specs.Io.KnownBytes.{Consumes};
@@ -11,27 +11,27 @@ use std::time::{Clock, Duration, Instant};
 use swim_pack::write_whole;
 use swim_program::Until;
 
-/// The most bytes of an answer that are read.
+/// The most bytes that are read of an answer.
 pub(crate) const MOST_BYTES: usize = 33_554_432;
 
-/// How many bytes are asked for at once.
+/// How many bytes are requested at once.
 const PIECE: usize = 65_536;
 
-/// How many interrupted reads are tried again.
+/// How many interrupted reads are retried.
 const RETRIES: u32 = 1000;
 
-/// Why a member was not heard to its end.
+/// Why a member's answer was not received to its end.
 #[derive(Debug, Drop)]
 pub(crate) enum NoReply {
     /// The name has no address.
     NoAddress(Error),
-    /// None of its addresses takes a connection.
+    /// None of its addresses accepts a connection.
     NoConnection(Error),
     /// The connection failed.
     Broken(Error),
-    /// The answer is longer than is read.
+    /// The answer is too long.
     TooLong,
-    /// Memory for the answer is refused.
+    /// Out of memory for the answer.
     Memory,
 }
 
@@ -41,7 +41,7 @@ impl From<AllocError> for NoReply {
     }
 }
 
-/// What came over a connection.
+/// What was received over a connection.
 #[derive(Debug, Drop)]
 pub(crate) struct Reply {
     pub(crate) bytes: Vec<u8>,
@@ -57,12 +57,12 @@ impl Reply {
     }
 }
 
-/// Connects to the host, sends the request, and reads what comes until the other side closes the
-/// connection or the time is over. The system looks a name up without regard to that time.
+/// Connects to the host, sends the request, and reads until the other side closes the connection or
+/// the time is over. The system's name lookup is not limited by that time.
 ///
 /// # Errors
 ///
-/// As [`NoReply`] says.
+/// See [`NoReply`].
 pub(crate) fn reply_to(
     rt: &HostRuntime,
     host: &Host,
@@ -81,7 +81,7 @@ pub(crate) fn reply_to(
     read_to_end(rt.alloc(), &mut far)
 }
 
-/// When a time that begins now is over.
+/// When a period that begins now is over.
 fn end_of<C: Clock>(clock: &C, timeout: Duration) -> io::Result<Instant> {
     match Instant::now(clock)?.checked_add(timeout) {
         Some(end) => Ok(end),
@@ -89,7 +89,7 @@ fn end_of<C: Clock>(clock: &C, timeout: Duration) -> io::Result<Instant> {
     }
 }
 
-/// A connection to the first address of the host that takes one.
+/// A connection to the first address of the host that accepts one.
 fn connect(rt: &HostRuntime, host: &Host, end: Instant) -> Result<TcpStream, NoReply> {
     let addresses = match (host.name, host.port).to_socket_addrs(rt) {
         Ok(addresses) => addresses,
@@ -115,9 +115,9 @@ fn connect(rt: &HostRuntime, host: &Host, end: Instant) -> Result<TcpStream, NoR
     Err(refusal)
 }
 
-/// Reads until the end, or until a read waited too long.
+/// Reads until the end, or until a read takes too long.
 pub(crate) fn read_to_end<R: Read>(alloc: Global, reader: &mut R) -> Result<Reply, NoReply>
-    // Of a reader that tells its bytes these are the next ones.
+    // If the reader specifies its bytes, these are the next ones.
     ensures { IfOk result (λ reply.
         Consumes (R.remaining reader.old) (R.remaining reader.new) reply.bytes.items) }
 {

@@ -1,8 +1,8 @@
-//! What was read of captures, and what was left out and why.
+//! What was read from captures, and what was left out and why.
 
 use std::alloc::{AllocError, Global};
 
-/// How often each thing came.
+/// How often each thing occurred.
 #[derive(Clone, Copy, Default)]
 pub(crate) struct Counts {
     /// Records of the captures.
@@ -15,38 +15,38 @@ pub(crate) struct Counts {
     pub(crate) other_streams: u64,
     /// Push/pull streams.
     pub(crate) streams: u64,
-    /// Packets and streams that are encrypted, and that no key opened.
+    /// Packets and streams that are encrypted, and that no key decrypts.
     pub(crate) closed: u64,
-    /// Datagrams and connections that are no memberlist's.
+    /// Datagrams and connections that are not memberlist's.
     pub(crate) foreign: u64,
-    /// Connections of which bytes are missing.
+    /// Connections with missing bytes.
     pub(crate) gaps: u64,
-    /// Frames that carry nothing of IP.
+    /// Frames that do not carry IP.
     pub(crate) not_ip: u64,
     /// Fragments.
     pub(crate) fragments: u64,
     /// Packets that are neither UDP nor TCP.
     pub(crate) others: u64,
-    /// Frames that the capture cut.
+    /// Frames that the capture cut short.
     pub(crate) cut: u64,
-    /// Frames whose headers are wrong.
+    /// Frames with invalid headers.
     pub(crate) malformed: u64,
     /// Records without a time.
     pub(crate) timeless: u64,
-    /// Records after the moment that was asked for.
+    /// Records after the requested moment.
     pub(crate) later: u64,
-    /// Frames of a link that is not read.
+    /// Frames of a link type that is not read.
     pub(crate) unknown_links: u64,
 }
 
-/// One more, up to the greatest number.
+/// Adds one, up to the greatest number.
 pub(crate) fn count(number: &mut u64) {
     *number = number.saturating_add(1);
 }
 
 impl Counts {
-    /// What was read, and what was left out and why, in one line: `670 records; 640 packets, 12 with
-    /// claims; 24 streams; 3 not opened by any key; 1 fragmented`.
+    /// What was read, and what was left out and why, in one line: `670 records; 640 packets, 12
+    /// with claims; 24 streams; 3 not opened by any key; 1 fragmented`.
     pub(crate) fn text(&self, alloc: Global, has_keys: bool) -> Result<String, AllocError> {
         let records = noun(self.records, "record", "records");
         let packets = noun(self.datagrams, "packet", "packets");
@@ -63,7 +63,7 @@ impl Counts {
         Ok(text)
     }
 
-    /// How often each other thing came, with its name.
+    /// How often each other thing occurred, with its name.
     fn others(&self, has_keys: bool) -> [(u64, &'static str); 12] {
         let closed = if has_keys {
             "not opened by any key"
@@ -92,7 +92,7 @@ impl Counts {
     }
 }
 
-/// The noun for so many things.
+/// The noun for this number of things.
 fn noun(number: u64, one: &'static str, several: &'static str) -> &'static str {
     if number == 1 { one } else { several }
 }

@@ -1,4 +1,4 @@
-//! Two clusters, or one at two times, that are compared.
+//! Comparing two clusters, or one at two times.
 
 use crate::captures::print;
 use crate::changes::{write_change_objects, write_changes};
@@ -12,7 +12,7 @@ use swim_program::Failure;
 ///
 /// # Errors
 ///
-/// Those of [`roster_of`], of the first side that cannot be read.
+/// Those of [`roster_of`], for the first side that cannot be read.
 pub(crate) fn diff(rt: &HostRuntime, chosen: &Chosen) -> Result<ExitCode, Failure> {
     let [before, after] = chosen.inputs.as_slice() else {
         return Err(misused(rt.alloc(), "diff wants two captures, dumps or members"));

@@ -14,7 +14,7 @@ struct Host {
     last: MemberName,
 }
 
-/// Where the members of a view are.
+/// The endpoints of the members in a view.
 #[derive(Drop)]
 pub(crate) struct Directory {
     alloc: Global,
@@ -31,7 +31,7 @@ impl Directory {
         }
     }
 
-    /// Notes that a member is at this end now, and was at another one, if it was at one.
+    /// Notes that a member is at this endpoint now, and no longer at the one where it was, if any.
     pub(crate) fn moved(
         &mut self,
         name: &MemberName,
@@ -56,8 +56,8 @@ impl Directory {
         Ok(())
     }
 
-    /// The member that a view has at this end; or else the only one that it has at the address of
-    /// the end, since a connection comes from a port of its own.
+    /// The member that a view has at this endpoint. If there is none, the only member that it has
+    /// at the address, since a connection comes from a port of its own.
     pub(crate) fn member_at(&self, view: &View, end: SocketAddr) -> Option<&MemberName> {
         if let Some(name) = self.ends.get(&end) {
             if place_of(view, name) == Some(end) {
@@ -72,13 +72,13 @@ impl Directory {
     }
 }
 
-/// Where a view has a member.
+/// The endpoint of a member in a view.
 pub(crate) fn place_of(view: &View, name: &MemberName) -> Option<SocketAddr> {
     let entry = view.get(name)?;
     endpoint(entry.details.addr(), entry.details.port())
 }
 
-/// The same name again.
+/// A copy of the name.
 pub(crate) fn copy_of(alloc: Global, name: &MemberName) -> Result<MemberName, AllocError> {
     Ok(MemberName::new(name.name().try_clone(alloc)?))
 }

@@ -2,9 +2,9 @@
 
 use std::net::{IpAddr, SocketAddr};
 
-/// The end with these address bytes and this port, if they are an address: 4 bytes of IPv4 or 16 of
-/// IPv6. Sixteen that stand for an address of IPv4 (RFC 4291, 2.5.5.2) are that address: a member
-/// that binds all its addresses announces its own in this form.
+/// The endpoint with these address bytes and this port, if they are an address: 4 bytes of IPv4 or
+/// 16 of IPv6. Sixteen bytes that represent an IPv4 address (RFC 4291, 2.5.5.2) are that address: a
+/// member that binds all its addresses announces its own in this form.
 pub(crate) fn endpoint(addr: &[u8], port: u16) -> Option<SocketAddr> {
     if let Ok(octets) = <[u8; 4]>::try_from(addr) {
         return Some(SocketAddr::new(IpAddr::from(octets), port));

@@ -1,9 +1,9 @@
-//! Which member is asked.
+//! Which member to ask.
 
 use std::alloc::{AllocError, Global};
 use std::net::IpAddr;
 
-/// memberlist's port, unless the word says another one.
+/// memberlist's default port.
 const PORT: u16 = 7946;
 
 /// The name or address of a member, and its port.
@@ -15,9 +15,9 @@ pub(crate) struct Host<'a> {
 }
 
 impl<'a> Host<'a> {
-    /// The host that a word names: `web-1`, `10.20.1.11`, `fe80::1`, or one of these with a port
-    /// behind a colon, where an address of IPv6 is in brackets: `[fe80::1]:7946`. None if it names
-    /// none.
+    /// The host that a word names: `web-1`, `10.20.1.11`, `fe80::1`, or one of these followed by a
+    /// colon and a port, with an IPv6 address in brackets: `[fe80::1]:7946`. None if the word does
+    /// not name a host.
     pub(crate) fn parse(word: &'a str) -> Option<Host<'a>> {
         if word.parse::<IpAddr>().is_ok() {
             return Some(Host {
@@ -38,7 +38,7 @@ impl<'a> Host<'a> {
         })
     }
 
-    /// The host as it is written: `10.20.1.11:7946`, `[fe80::1]:7946`.
+    /// The host as text: `10.20.1.11:7946`, `[fe80::1]:7946`.
     pub(crate) fn text(&self, alloc: Global) -> Result<String, AllocError> {
         let Host { name, port } = *self;
         if name.contains(':') {
@@ -48,7 +48,7 @@ impl<'a> Host<'a> {
     }
 }
 
-/// What is before the last colon, and the rest with the colon. All, if there is none.
+/// What is before the last colon, and the rest with the colon. If there is no colon, all of it.
 fn name_and_port(word: &str) -> (&str, &str) {
     match word.rfind(':') {
         Some(place) => word.split_at(place),
@@ -56,7 +56,7 @@ fn name_and_port(word: &str) -> (&str, &str) {
     }
 }
 
-/// The port in `:7946`, or memberlist's in an empty text.
+/// The port in `:7946`, or memberlist's default if the text is empty.
 fn port_of(text: &str) -> Option<u16> {
     if text.is_empty() {
         return Some(PORT);

@@ -12,7 +12,7 @@ pub(crate) enum Input {
 }
 
 impl Input {
-    /// What the word names: standard input by `-`, and else a file.
+    /// What the word names: standard input if it is `-`, and otherwise a file.
     pub(crate) fn open(rt: &HostRuntime, word: &str) -> io::Result<Input> {
         if word == "-" {
             return Ok(Input::Stdin(rt.stdin()));
@@ -20,7 +20,7 @@ impl Input {
         Ok(Input::File(File::open(rt, word)?))
     }
 
-    /// Whether it is a terminal, from which no capture can come.
+    /// Whether it is a terminal, which cannot supply a capture.
     pub(crate) fn is_terminal(&self) -> bool {
         match self {
             Input::Stdin(stdin) => stdin.is_terminal(),
@@ -38,7 +38,7 @@ impl Read for Input {
     }
 }
 
-/// An inlet that counts the bytes that are pulled from it.
+/// An inlet that counts the bytes pulled from it.
 #[derive(Drop)]
 pub(crate) struct Counted<I: Inlet> {
     inlet: I,

@@ -1,4 +1,4 @@
-//! Objects of JSON, one a line.
+//! JSON objects, one per line.
 
 use crate::claims::kind_word;
 use crate::endpoint::endpoint;
@@ -13,7 +13,7 @@ use serde_json::{Map, Value, put};
 use std::alloc::{AllocError, Global};
 use swim_claim::Details;
 
-/// An object that is being made: its members by their names.
+/// An object under construction: its members by name.
 #[derive(Drop)]
 pub(crate) struct Object {
     alloc: Global,
@@ -39,7 +39,7 @@ impl Object {
         self.text(key, text)
     }
 
-    /// Adds a member whose value is a name with its escapes.
+    /// Adds a member whose value is an escaped name.
     pub(crate) fn escaped(&mut self, key: &str, name: &[u8]) -> Result<(), AllocError> {
         let mut text = String::new(self.alloc);
         write_name(&mut text, name)?;
@@ -60,7 +60,7 @@ impl Object {
         put(&mut self.members, self.alloc, key, Value::Array(list))
     }
 
-    /// Adds who accuses a member, as a list: none where it is alive or left.
+    /// Adds who accuses a member, as a list, which is empty if the member is alive or left.
     pub(crate) fn accusers(&mut self, state: &State) -> Result<(), AllocError> {
         match state {
             State::Alive | State::Left => Ok(()),
@@ -69,7 +69,7 @@ impl Object {
         }
     }
 
-    /// Adds the parts of details: address, port, metadata in hexadecimal, tags if the metadata are
+    /// Adds the parts of details: address, port, metadata in hexadecimal, tags if the metadata has
     /// some, and versions.
     pub(crate) fn details(&mut self, details: &Details) -> Result<(), AllocError> {
         let alloc = self.alloc;
@@ -84,7 +84,7 @@ impl Object {
         self.tags(details.meta())
     }
 
-    /// Adds tags as an object. A key or a value that is no UTF-8 has U+FFFD for what is wrong.
+    /// Adds tags as an object. Bytes of a key or a value that are not UTF-8 become U+FFFD.
     fn tags(&mut self, meta: &[u8]) -> Result<(), AllocError> {
         let alloc = self.alloc;
         let Some(tags) = tags_of(alloc, meta)? else {
@@ -108,7 +108,7 @@ impl Object {
         put(&mut self.members, self.alloc, key, value)
     }
 
-    /// Adds what another agent of the name says of itself, if there is a conflict.
+    /// Adds what another agent with the same name says about itself, if there is a conflict.
     pub(crate) fn rival(&mut self, entry: &Entry) -> Result<(), AllocError> {
         let Some(rival) = &entry.rival else {
             return Ok(());
@@ -118,8 +118,8 @@ impl Object {
         self.object("rival", Some(object))
     }
 
-    /// Adds when something was sent, and between which ends: the members by their names, and their
-    /// addresses.
+    /// Adds when something was sent, and between which endpoints: the names of the members, and
+    /// their addresses.
     pub(crate) fn sent(&mut self, listener: &Listener, sent: &Sent) -> Result<(), AllocError> {
         let alloc = self.alloc;
         self.text("time", moment_text(alloc, sent.time)?)?;
@@ -137,7 +137,7 @@ impl Object {
     }
 }
 
-/// Adds the object of what a view shows of a name.
+/// Adds the object for what a view shows about a name.
 pub(crate) fn write_member(
     text: &mut String,
     name: &MemberName,
@@ -155,7 +155,7 @@ pub(crate) fn write_member(
     object.write(text)
 }
 
-/// Adds the object of a change of a view.
+/// Adds the object for a change in a view.
 pub(crate) fn write_change(
     text: &mut String,
     listener: &Listener,
@@ -180,7 +180,7 @@ pub(crate) fn write_change(
     object.write(text)
 }
 
-/// Adds the object of a claim.
+/// Adds the object for a claim.
 pub(crate) fn write_told(
     text: &mut String,
     listener: &Listener,

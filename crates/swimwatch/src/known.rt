@@ -1,4 +1,4 @@
-//! What somebody says of a member.
+//! What somebody says about a member.
 
 use crate::claims::kind_word;
 use crate::json::Object;
@@ -8,7 +8,7 @@ use memberlist_view::{Entry, State};
 use std::alloc::{AllocError, Global};
 use swim_claim::{Details, Kind};
 
-/// How a member is, and where, by somebody's word.
+/// A member's state and details, as somebody reports them.
 #[derive(Debug, Drop)]
 pub(crate) struct Known {
     pub(crate) kind: Kind,
@@ -27,7 +27,7 @@ impl Known {
         })
     }
 
-    /// Whether the same is said. Details that one of the two lacks are not compared.
+    /// Whether both say the same. Details that one of the two lacks are not compared.
     pub(crate) fn is_same(&self, other: &Known) -> bool {
         let same_details = match (&self.details, &other.details) {
             (Some(own), Some(others)) => *own == *others,
@@ -36,7 +36,7 @@ impl Known {
         self.kind == other.kind && self.inc == other.inc && same_details
     }
 
-    /// Whether both say where it is, and not the same.
+    /// Whether both report an address and port, and these differ.
     pub(crate) fn is_elsewhere(&self, other: &Known) -> bool {
         match (&self.details, &other.details) {
             (Some(own), Some(others)) => {
@@ -46,7 +46,7 @@ impl Known {
         }
     }
 
-    /// The word for how it is.
+    /// The word for its state.
     pub(crate) fn state(&self) -> &'static str {
         kind_word(self.kind)
     }
@@ -80,7 +80,7 @@ impl Known {
         is_bare(self.meta())
     }
 
-    /// The metadata as people read them.
+    /// The metadata, in readable form.
     pub(crate) fn tags(&self, alloc: Global) -> Result<String, AllocError> {
         meta_text(alloc, self.meta())
     }

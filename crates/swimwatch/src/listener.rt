@@ -1,4 +1,4 @@
-//! One who hears what members say, and says nothing.
+//! A listener, which hears what members say and says nothing itself.
 
 ghost use Rattle.std.specs.Prelude.{◌≡◌, IfOk, OnOk, OnErr};
 ghost use Rattle.memberlist_view.specs.Told.{event_of, view_after};
@@ -13,8 +13,8 @@ use memberlist_view::{Entry, Event, MemberName, View};
 use std::alloc::{AllocError, Global};
 use std::net::SocketAddr;
 
-/// One who hears what members say: its view of them, where they are, and the names of which it
-/// heard only that they are gone.
+/// A listener: its view of the members, their endpoints, and the names for which it heard only a
+/// suspicion, a death or a leave.
 #[derive(Drop)]
 pub(crate) struct Listener {
     alloc: Global,
@@ -24,7 +24,7 @@ pub(crate) struct Listener {
 }
 
 impl Listener {
-    /// One who heard nothing, and forgets a dead member after a wait of so many microseconds.
+    /// A listener that has heard nothing, and forgets a dead member after this many microseconds.
     pub(crate) fn new(alloc: Global, wait: u64) -> Listener
         ensures { result.view.wait ≡ wait }
     {
@@ -36,7 +36,7 @@ impl Listener {
         }
     }
 
-    /// Hears what a message tells, and answers what changed in the view.
+    /// Hears what a message says, and returns what changed in the view.
     pub(crate) fn hear(&mut self, sent: &Sent, told: &Told) -> Result<Option<Event>, AllocError>
         ensures event { IfOk result (λ event.
             event ≡ event_of self.old.view (heard_of sent.now.time (told_text told.now))) }
@@ -55,7 +55,7 @@ impl Listener {
         Ok(event)
     }
 
-    /// Notes where a member is, that was there before.
+    /// Notes where a member is now. `before` is where it was.
     fn note_place(
         &mut self,
         name: &MemberName,
@@ -69,14 +69,14 @@ impl Listener {
         }
     }
 
-    /// What the view shows of the member that a message tells of.
+    /// What the view shows about the member in a message.
     pub(crate) fn entry_of(&self, told: &Told) -> Result<Option<&Entry>, AllocError> {
         let name = MemberName::new(told.claim.name().try_clone(self.alloc)?);
         Ok(self.view.get(&name))
     }
 
-    /// The name of the member at this end, or else its address and port, and without the port where
-    /// that is 0.
+    /// The name of the member at this endpoint, or its address and port if there is none, without
+    /// the port if that is 0.
     pub(crate) fn end_text(&self, end: SocketAddr) -> Result<String, AllocError> {
         let alloc = self.alloc;
         match self.directory.member_at(&self.view, end) {

@@ -1,22 +1,22 @@
-//! Who is in a cluster of memberlist, and who said what when, from captured traffic or from members.
+//! Who is in a memberlist cluster, and who said what when, from captured traffic or from members.
 //!
 //! | module | subject |
 //! |---|---|
-//! | `chosen`, `command_line`, `help` | the words after the program's name |
-//! | `captures`, `input`, `sources` | captures, read side by side to their ends |
+//! | `chosen`, `command_line`, `help` | the command-line arguments |
+//! | `captures`, `input`, `sources` | reading several captures together, to their ends |
 //! | `sent`, `traffic` | what crossed the network: packets and connections |
-//! | `carriage`, `records`, `parts`, `told` | what these carry, and what it tells of members |
-//! | `listener`, `directory`, `absent` | one who hears all of it |
-//! | `watch` | what listens, and shows what was asked for |
+//! | `carriage`, `records`, `parts`, `told` | what these carry, and what it says about members |
+//! | `listener`, `directory`, `absent` | a listener that hears all of it |
+//! | `watch` | listening, and showing what was asked for |
 //! | `members`, `timeline`, `claims`, `talkers` | what is shown |
-//! | `pull`, `ask`, `host`, `connection`, `request`, `answer` | members that are asked |
-//! | `roster`, `known`, `node_state` | what somebody knows of members |
+//! | `pull`, `ask`, `host`, `connection`, `request`, `answer` | asking members |
+//! | `roster`, `known`, `node_state` | what somebody knows about members |
 //! | `agreement` | what members answered, and whether they agree |
 //! | `diff`, `side`, `changes` | what changed between two captures, dumps or members |
 //! | `chart`, `svg` | what is drawn |
 //! | `moment`, `names`, `tags`, `endpoint`, `texts`, `columns`, `json` | how it is written |
 //! | `counts` | what was read, and what was left out and why |
-//! | `said` | how the program ends with a text of its own |
+//! | `said` | ending the program with a message of its own |
 #![tactic(auto)]
 
 mod absent;
@@ -75,7 +75,7 @@ use said::misused;
 use std::process::ExitCode;
 use swim_program::{Failure, words_of};
 
-/// The program's name, with which what it says on standard error begins.
+/// The program's name, with which its messages on standard error begin.
 const NAME: &str = "swimwatch";
 
 fn main(rt: HostRuntime) -> ExitCode {

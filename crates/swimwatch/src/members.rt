@@ -1,4 +1,4 @@
-//! The members of a view, a row each.
+//! The members in a view, one per row.
 
 use crate::columns::{Rows, row_of_words};
 use crate::json::write_member;
@@ -11,8 +11,9 @@ use crate::texts::{
 use memberlist_view::{Entry, MemberName, View};
 use std::alloc::{AllocError, Global};
 
-/// Adds the members that one who listens knows: a head and a row for each in ascending order of the
-/// names; a line for each conflict; and a line for each name of which only an end was heard.
+/// Adds the members that a listener knows: a header, and a row for each in ascending order of the
+/// names; a line for each conflict; and a line for each name for which only a suspicion, a death or
+/// a leave was heard.
 pub(crate) fn write_members(text: &mut String, listener: &Listener) -> Result<(), AllocError> {
     write_rows(text, &listener.view)?;
     for (name, entry) in listener.view.iter() {
@@ -26,7 +27,7 @@ pub(crate) fn write_members(text: &mut String, listener: &Listener) -> Result<()
     listener.absents.write(text, listener)
 }
 
-/// Adds the same as objects of JSON, one a line.
+/// Adds the same as JSON objects, one per line.
 pub(crate) fn write_member_objects(
     text: &mut String,
     listener: &Listener,
@@ -37,7 +38,7 @@ pub(crate) fn write_member_objects(
     listener.absents.write_objects(text, listener)
 }
 
-/// Adds a head, and a row for each name.
+/// Adds a header, and a row for each name.
 fn write_rows(text: &mut String, view: &View) -> Result<(), AllocError> {
     let alloc = *text.allocator();
     let has_tags = view.iter().any(|(_, entry)| !is_bare(entry.details.meta()));

@@ -1,16 +1,16 @@
-//! Where a member is, by a state record of a push/pull stream.
+//! The details of a member in a state record of a push/pull stream.
 
 use std::alloc::{AllocError, Global};
 use swim_claim::Details;
 use swim_pack::{SliceInlet, raw_at_hand, read_map_len, uint_at_hand};
 
-/// How many fields a record has.
+/// The number of fields in a record.
 const FIELDS: u32 = 7;
 
-/// The most bytes of a text in a record: a name's.
+/// The most bytes of a text in a record: the length of a name.
 const MOST_BYTES: usize = 1024;
 
-/// What a record says of where a member is (memberlist's `pushNodeState`).
+/// What a record says about a member's details (memberlist's `pushNodeState`).
 #[derive(Clone, Copy)]
 struct Place<'a> {
     addr: &'a [u8],
@@ -20,8 +20,7 @@ struct Place<'a> {
 }
 
 impl<'a> Place<'a> {
-    /// The place with what the pair of a key and a value at the front of the bytes says, and the
-    /// bytes behind the pair.
+    /// The place with the key and value at the start of the bytes added, and the bytes after them.
     fn with_pair(self, bytes: &'a [u8]) -> Option<(Place<'a>, &'a [u8])> {
         let (key, behind) = raw_at_hand(bytes, MOST_BYTES)?;
         let mut place = self;
@@ -43,8 +42,8 @@ impl<'a> Place<'a> {
     }
 }
 
-/// The details in the state record at the front of the bytes, whatever the state. memberlist sends
-/// those of suspected, dead and departed members too. None if it has none that a member can have.
+/// The details in the state record at the start of the bytes, in any state: memberlist also sends
+/// those of suspected, dead and departed members. None if it has no details that a member may have.
 pub(crate) fn details_in(alloc: Global, bytes: &[u8]) -> Result<Option<Details>, AllocError> {
     let Some(place) = place_in(bytes) else {
         return Ok(None);
@@ -56,7 +55,7 @@ pub(crate) fn details_in(alloc: Global, bytes: &[u8]) -> Result<Option<Details>,
     }
 }
 
-/// Where the record at the front of the bytes says that the member is.
+/// The details in the record at the start of the bytes.
 fn place_in(bytes: &[u8]) -> Option<Place> {
     let mut inlet = SliceInlet::new(bytes);
     let count = read_map_len(&mut inlet, FIELDS).ok()?;

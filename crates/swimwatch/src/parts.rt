@@ -3,7 +3,7 @@
 use std::alloc::{AllocError, Global};
 use swim_wire::{COMPOUND_MESSAGE, Claimless, WireFault, decode_claimless};
 
-/// The kinds of the parts of a compound packet that make no claims, in their order; none of another
+/// The kinds of the parts of a compound packet that make no claims, in order; none for another
 /// message (memberlist's `decodeCompoundMessage`).
 pub(crate) fn claimless_parts(alloc: Global, message: &[u8]) -> Result<Vec<Claimless>, AllocError> {
     let mut kinds = Vec::new(alloc);
@@ -35,7 +35,7 @@ fn lengths_of(message: &[u8]) -> Option<(&[u8], &[u8])> {
     rest.split_at_checked(2 * usize::from(*count))
 }
 
-/// The number that two bytes are, with the higher first.
+/// The number in two bytes, the higher first.
 fn number_of(bytes: &[u8]) -> usize {
     match bytes {
         [high, low] => usize::from(u16::from_be_bytes([*high, *low])),

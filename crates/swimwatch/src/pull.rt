@@ -1,4 +1,4 @@
-//! Members that are asked for their tables.
+//! Asking members for their tables.
 
 ghost use Rattle.std.specs.Prelude.{IfOk};
 ghost use Rattle.swimwatch.specs.Asking.{IsDumpOf};
@@ -16,12 +16,13 @@ use std::process::ExitCode;
 use swim_program::{Failure, What};
 use swim_table::{EncodeFault, Table, encode};
 
-/// Asks each member that the words name, and then shows what they answered. The status is 1 if they
+/// Asks each member that the arguments name, and then shows their answers. The status is 1 if they
 /// do not agree.
 ///
 /// # Errors
 ///
-/// Those of [`ask`], of the first member that gives no table; and if the words do not fit together.
+/// Those of [`ask`], for the first member without a table. Also if the arguments do not fit
+/// together.
 pub(crate) fn pull(rt: &HostRuntime, chosen: &Chosen) -> Result<ExitCode, Failure> {
     let alloc = rt.alloc();
     if chosen.dump && (chosen.json || chosen.inputs.len() != 1) {

@@ -9,13 +9,13 @@ use swim_claim::Claim;
 use swim_pack::SliceInlet;
 use swim_wire::{WireFault, read_header, read_state, skip_user};
 
-/// The claims of the push/pull stream that these bytes begin with, in its order. None if they begin
-/// with no whole one: members merge nothing of such a stream (memberlist's `readRemoteState`). What
-/// follows the stream is not looked at, as memberlist does not.
+/// The claims of the push/pull stream that these bytes begin with, in order. None if they do not
+/// begin with a whole stream: members do not merge such a stream (memberlist's `readRemoteState`).
+/// What follows the stream is ignored, as in memberlist.
 ///
 /// # Errors
 ///
-/// Memory for the claims is refused.
+/// If out of memory for the claims.
 pub(crate) fn claims_of_stream(
     alloc: Global,
     bytes: &[u8],

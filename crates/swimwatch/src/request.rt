@@ -1,4 +1,4 @@
-//! What is sent to a member so that it tells its table.
+//! The request that makes a member send its table.
 
 ghost use Rattle.std.specs.Prelude.{◌≡◌, ◌≢◌, ◌∷◌, [], ℕ, List, IfOk};
 ghost use Rattle.swimwatch.specs.Asking.{empty_offer, AsksInClear, AsksEncrypted};
@@ -8,13 +8,13 @@ use memberlist_keyring::{Keyring, behind_label};
 use std::alloc::{AllocError, Global};
 use swim_wire::{Header, write_header};
 
-/// A push/pull stream of one who has no members to tell of and does not join (memberlist's net.go,
-/// `sendLocalState`), behind the label, if there is one. It is encrypted under the first key, if
-/// there is one; a nonce must not be used twice under a key.
+/// A push/pull stream without members, which does not join (memberlist's net.go, `sendLocalState`),
+/// after the label, if there is one. It is encrypted with the first key, if there is one. Never use
+/// a nonce twice with one key.
 ///
 /// # Errors
 ///
-/// `TooLong` if the label has more than 255 bytes, and else `Memory` if memory is refused.
+/// `TooLong` if the label has more than 255 bytes, and otherwise `Memory` if out of memory.
 pub(crate) fn request(
     alloc: Global,
     keys: &Keyring,
@@ -35,7 +35,7 @@ pub(crate) fn request(
     }
 }
 
-/// The header of a stream without records, without user state, of one who does not join.
+/// The header of a stream without records, user state or the join flag.
 fn empty_offer(alloc: Global) -> Result<Vec<u8>, AllocError>
     ensures offer { IfOk result (λ bytes. bytes.items ≡ empty_offer) }
     ensures bare { IfOk result (λ bytes. (more : List ℕ) → bytes.items ≢ 244 ∷ more) }

@@ -12,16 +12,17 @@ use swim_claim::Claim;
 use swim_pack::SliceInlet;
 use swim_wire::{read_header, read_state};
 
-/// Names, each with what is said of it.
+/// Names, each with what is said about it.
 #[derive(Drop)]
 pub(crate) struct Roster {
     members: BTreeMap<MemberName, Known>,
 }
 
 impl Roster {
-    /// What the records of a push/pull stream say. Of two about a name the later one counts, and if
-    /// it has no details those of the earlier one: the canonical dump of a table says first where a
-    /// member is, and then how it is. None if the bytes begin with no whole stream.
+    /// What the records of a push/pull stream say. If two are about one name, the later one counts.
+    /// If that has no details, it gets those of the earlier one: the canonical dump of a table
+    /// first has a member's details, and then its state. None if the bytes do not begin with a
+    /// whole stream.
     pub(crate) fn of_stream(alloc: Global, stream: &[u8]) -> Result<Option<Roster>, AllocError> {
         let Some(claims) = claims_of_stream(alloc, stream)? else {
             return Ok(None);
@@ -35,7 +36,7 @@ impl Roster {
         };
         for claim in claims {
             let details = details_in(alloc, inlet.rest())?;
-            // it was read before, so only memory can be refused
+            // it was read before, so the only possible fault is memory
             if read_state(alloc, &mut inlet).is_err() {
                 return Err(AllocError);
             }
@@ -49,8 +50,8 @@ impl Roster {
         Ok(Some(roster))
     }
 
-    /// What one shows who listened: the members of its view, and those of which it heard only that
-    /// they are gone.
+    /// What a listener shows: the members in its view, and those for which it heard only a
+    /// suspicion, a death or a leave.
     pub(crate) fn of_listener(alloc: Global, listener: &Listener) -> Result<Roster, AllocError> {
         let mut roster = Roster {
             members: BTreeMap::new(alloc),
@@ -70,7 +71,7 @@ impl Roster {
         Ok(roster)
     }
 
-    /// Notes what is said of a name. Its details stay if none are said.
+    /// Notes what is said about a name. Its details stay if none are given.
     fn note(&mut self, name: MemberName, known: Known) -> Result<(), AllocError> {
         let mut known = known;
         if known.details.is_none() {
@@ -82,12 +83,12 @@ impl Roster {
         Ok(())
     }
 
-    /// What is said of this name, if something is.
+    /// What is said about this name, if anything.
     pub(crate) fn get(&self, name: &MemberName) -> Option<&Known> {
         self.members.get(name)
     }
 
-    /// Each name with what is said of it, in ascending byte order.
+    /// Each name with what is said about it, in ascending byte order.
     pub(crate) fn iter(&self) -> btree_map::Iter<'_, MemberName, Known> {
         self.members.iter()
     }

@@ -12,7 +12,7 @@ pub(crate) enum Proto {
 }
 
 impl Proto {
-    /// Its name in lines and in JSON.
+    /// Its name in lines and JSON.
     pub(crate) fn name(self) -> &'static str {
         match self {
             Proto::Udp => "udp",
@@ -21,7 +21,7 @@ impl Proto {
     }
 }
 
-/// When something was sent, between which ends, and how.
+/// When something was sent, between which endpoints, and how.
 #[derive(Clone, Copy)]
 pub(crate) struct Sent {
     /// Microseconds since the start of 1970.
@@ -31,7 +31,7 @@ pub(crate) struct Sent {
     pub(crate) proto: Proto,
 }
 
-/// Ends a line with the ends: ` (web-2 to web-3, udp)`.
+/// Ends a line with the two endpoints: ` (web-2 to web-3, udp)`.
 pub(crate) fn write_ends(
     text: &mut String,
     listener: &Listener,

@@ -1,4 +1,4 @@
-//! One side of a comparison: a capture, a dump, or a member that is asked.
+//! One side of a comparison: a capture, a dump, or a member to ask.
 
 use crate::NAME;
 use crate::answer::{NoAnswer, stream_in};
@@ -18,16 +18,16 @@ use swim_program::{Failure, What, read_file};
 /// What a word names.
 #[derive(Clone, Copy, Debug, PartialEq, Eq)]
 enum Source {
-    /// A file in a format of captures, or standard input.
+    /// A file in a capture format, or standard input.
     Capture,
     /// Another file.
     Stream,
-    /// No file.
+    /// Not a file.
     Host,
 }
 
-/// What the capture, the push/pull stream or the member that the word names knows: of a capture,
-/// who is in the cluster at its end.
+/// What the capture, the push/pull stream or the member that the word names knows. For a capture,
+/// that is who is in the cluster at its end.
 pub(crate) fn roster_of(
     rt: &HostRuntime,
     chosen: &Chosen,
@@ -48,7 +48,7 @@ pub(crate) fn roster_of(
     }
 }
 
-/// What the word names, by the first bytes of the file, if there is one.
+/// What the word names, judged by the first bytes of the file, if there is one.
 fn source_of(rt: &HostRuntime, word: &str) -> Result<Source, Failure> {
     if word == "-" {
         return Ok(Source::Capture);
@@ -74,8 +74,8 @@ fn source_of(rt: &HostRuntime, word: &str) -> Result<Source, Failure> {
     }
 }
 
-/// Whether a file with these first bytes is a pcap file, in either byte order and with either unit of
-/// time, or a pcapng file.
+/// Whether a file with these first bytes is a pcap file, in either byte order and with either unit
+/// of time, or a pcapng file.
 fn is_capture(magic: [u8; 4]) -> bool {
     matches!(
         magic,

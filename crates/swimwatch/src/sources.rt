@@ -1,4 +1,4 @@
-//! Captures that are read side by side, in the order of their records' times.
+//! Reading several captures together, in the order of their records' times.
 
 use crate::NAME;
 use crate::input::{Counted, Input};
@@ -14,14 +14,14 @@ struct Source {
     word: String,
     inlet: Counted<FromRead<Input>>,
     reader: CaptureReader,
-    /// The record that comes next.
+    /// The next record.
     record: Record,
     /// Its bytes.
     bytes: Vec<u8>,
 }
 
 impl Source {
-    /// Begins to read the capture that the word names. None if it has no record.
+    /// Starts to read the capture that the word names. None if it has no records.
     fn begin(rt: &HostRuntime, word: &str) -> Result<Option<Source>, Failure> {
         let alloc = rt.alloc();
         let mut inlet = open(rt, word)?;
@@ -46,7 +46,7 @@ impl Source {
         }))
     }
 
-    /// Reads the next record, and says whether there is one.
+    /// Reads the next record, and returns whether there is one.
     fn read_on(&mut self, rt: &HostRuntime) -> Result<bool, Failure> {
         let word = self.word.as_str();
         match next_record(rt, word, &mut self.reader, &mut self.inlet, &mut self.bytes)? {
@@ -58,20 +58,20 @@ impl Source {
         }
     }
 
-    /// When its next record was captured. One without a time comes first.
+    /// When the next record was captured. A record without a time comes first.
     fn time(&self) -> u64 {
         self.record.time.unwrap_or(0)
     }
 }
 
-/// The captures that have a record left. Each holds one record.
+/// The captures that have records left. Each has one record in memory.
 #[derive(Drop)]
 pub(crate) struct Sources {
     open: Vec<Source>,
 }
 
 impl Sources {
-    /// Begins to read the captures that these words name.
+    /// Starts to read the captures that these words name.
     pub(crate) fn begin(rt: &HostRuntime, words: &[String]) -> Result<Sources, Failure> {
         let mut open = Vec::new(rt.alloc());
         for word in words {
@@ -85,7 +85,8 @@ impl Sources {
         Ok(Sources { open })
     }
 
-    /// The place of the capture whose record is the earliest. Of two at one time it is the first.
+    /// The index of the capture with the earliest record. If two have the same time, it is the
+    /// first.
     fn earliest(&self) -> Option<usize> {
         let mut least = None;
         for (place, source) in self.open.iter().enumerate() {
@@ -105,7 +106,7 @@ impl Sources {
         Some((source.record, &source.bytes))
     }
 
-    /// Reads on behind the earliest record.
+    /// Moves on to the record after the earliest one.
     pub(crate) fn read_on(&mut self, rt: &HostRuntime) -> Result<(), Failure> {
         let Some(place) = self.earliest() else {
             return Ok(());
@@ -120,7 +121,7 @@ impl Sources {
     }
 }
 
-/// Opens what the word names. If it is a terminal, this is said.
+/// Opens what the word names. Prints a note if it is a terminal.
 fn open(rt: &HostRuntime, word: &str) -> Result<Counted<FromRead<Input>>, Failure> {
     match Input::open(rt, word) {
         Ok(input) => {
@@ -133,8 +134,8 @@ fn open(rt: &HostRuntime, word: &str) -> Result<Counted<FromRead<Input>>, Failur
     }
 }
 
-/// The next record, if there is one. A capture that ends in the middle of a record ends behind the
-/// record before it, and this is said.
+/// The next record, if there is one. A capture that ends in the middle of a record ends after the
+/// record before it, and a note is printed.
 fn next_record(
     rt: &HostRuntime,
     word: &str,
@@ -153,7 +154,7 @@ fn next_record(
     }
 }
 
-/// That the capture is refused at the record which begins at this byte.
+/// The failure of a capture that is refused at the record beginning at this byte.
 fn refused(alloc: Global, word: &str, start: u64, fault: CaptureFault) -> Failure {
     match fault {
         CaptureFault::Memory => Failure::Memory,
@@ -165,7 +166,7 @@ fn refused(alloc: Global, word: &str, start: u64, fault: CaptureFault) -> Failur
     }
 }
 
-/// That the capture ends before its first record could begin.
+/// The failure of a capture that ends before its first record could begin.
 fn cut_header(alloc: Global, word: &str) -> Failure {
     said(
         format!(in alloc; "{NAME}: {word}: byte 0: the header is cut short"),
@@ -173,7 +174,7 @@ fn cut_header(alloc: Global, word: &str) -> Failure {
     )
 }
 
-/// That the frames of the capture come from a link that is not read.
+/// The failure of a capture whose frames come from a link type that is not read.
 fn unknown_link(alloc: Global, word: &str, link: u32) -> Failure {
     said(
         format!(in alloc;

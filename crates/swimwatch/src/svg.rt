@@ -7,11 +7,11 @@ ghost use Rattle.swimwatch.specs.Svg.{IsInert, in_xml};
 
 use std::alloc::{AllocError, Global};
 
-/// The text as XML has it between tags and in quotes. What is no printable ASCII becomes `?`.
+/// The text, escaped for XML between tags and in quotes. What is not printable ASCII becomes `?`.
 ///
 /// # Errors
 ///
-/// Memory for the text is refused.
+/// If out of memory for the text.
 pub(crate) fn escaped(alloc: Global, plain: &str) -> Result<String, AllocError>
     ensures inert { IfOk result (λ text. All IsInert (string_bytes text)) }
     ensures exact { IfOk result (λ text. string_bytes text ≡ flat_map in_xml plain.now) }

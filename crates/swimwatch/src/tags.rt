@@ -4,13 +4,13 @@ use percent_encoding::{AsciiSet, CONTROLS, ascii_set, percent_encode};
 use std::alloc::{AllocError, Global};
 use swim_pack::{SliceInlet, raw_at_hand, read_map_len};
 
-/// The first byte of metadata that are tags, as in Serf's `encodeTags`.
+/// The first byte of metadata that contains tags, as in Serf's `encodeTags`.
 const TAGS: u8 = 0xff;
 
 /// The most bytes of a member's metadata, and so of a key or a value.
 const MOST_META: usize = 512;
 
-/// What a line escapes of a key or a value: what it escapes of a name, and what stands between keys,
+/// What a line escapes in a key or a value: what it escapes in a name, and the separators of keys,
 /// values and tags.
 const ESCAPED: AsciiSet = ascii_set!(CONTROLS.add(b' ').add(b'%').add(b'=').add(b','));
 
@@ -22,27 +22,28 @@ pub(crate) struct Tag<'a> {
 }
 
 impl Tag<'_> {
-    /// Adds the tag with its escapes, as `role=web`.
+    /// Adds the tag, escaped, such as `role=web`.
     pub(crate) fn write(&self, text: &mut String) -> Result<(), AllocError> {
         percent_encode(self.key, ESCAPED).append_to(text)?;
         text.push('=')?;
         self.write_value(text)
     }
 
-    /// Adds its value with its escapes.
+    /// Adds its value, escaped.
     pub(crate) fn write_value(&self, text: &mut String) -> Result<(), AllocError> {
         percent_encode(self.value, ESCAPED).append_to(text)
     }
 }
 
-/// The tag at the front of the bytes, and the bytes behind it.
+/// The tag at the start of the bytes, and the bytes after it.
 fn tag_at_hand(bytes: &[u8]) -> Option<(Tag, &[u8])> {
     let (key, rest) = raw_at_hand(bytes, MOST_META)?;
     let (value, rest) = raw_at_hand(rest, MOST_META)?;
     Some((Tag { key, value }, rest))
 }
 
-/// The tags in metadata: `ff`, and one MessagePack map of texts. None where it is something else.
+/// The tags in metadata: `ff`, and one MessagePack map of texts. None if the metadata is something
+/// else.
 pub(crate) fn tags_of(alloc: Global, meta: &[u8]) -> Result<Option<Vec<Tag>>, AllocError> {
     let Some((&TAGS, body)) = meta.split_first() else {
         return Ok(None);
@@ -55,7 +56,7 @@ pub(crate) fn tags_of(alloc: Global, meta: &[u8]) -> Result<Option<Vec<Tag>>, Al
     tags_in(alloc, &body[start..], count)
 }
 
-/// So many tags, which are all that the bytes are.
+/// This many tags, which make up all the bytes.
 fn tags_in(alloc: Global, bytes: &[u8], count: u32) -> Result<Option<Vec<Tag>>, AllocError> {
     let mut tags = Vec::new(alloc);
     let mut bytes = bytes;
@@ -77,7 +78,7 @@ pub(crate) fn is_bare(meta: &[u8]) -> bool {
     matches!(meta, [] | [TAGS, 0x80])
 }
 
-/// Adds metadata as people read them: tags as `role=web,dc=east`, and else the bytes in
+/// Adds metadata in readable form: tags as `role=web,dc=east`, and anything else as bytes in
 /// hexadecimal.
 pub(crate) fn write_meta(text: &mut String, meta: &[u8]) -> Result<(), AllocError> {
     let alloc = *text.allocator();

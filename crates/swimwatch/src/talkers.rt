@@ -30,7 +30,7 @@ pub(crate) enum Kind {
 /// How many kinds there are.
 const KINDS: usize = 11;
 
-/// The heads of the columns, and the names in JSON, of each kind.
+/// The column header and the name in JSON of each kind.
 const HEADS: [(&str, &str); KINDS] = [
     ("PING", "pings"),
     ("PING-REQ", "indirect_pings"),
@@ -46,7 +46,7 @@ const HEADS: [(&str, &str); KINDS] = [
 ];
 
 impl Kind {
-    /// That of a message that makes no claims.
+    /// The kind of a message that makes no claims.
     pub(crate) fn of_claimless(message: Claimless) -> Kind {
         match message {
             Claimless::Ping => Kind::Ping,
@@ -58,7 +58,7 @@ impl Kind {
         }
     }
 
-    /// That of a packet with a claim of this kind.
+    /// The kind of a packet with a claim of this kind.
     pub(crate) fn of_claim(kind: swim_claim::Kind) -> Kind {
         match kind {
             swim_claim::Kind::Alive => Kind::Alive,
@@ -68,7 +68,7 @@ impl Kind {
         }
     }
 
-    /// Its place among the columns.
+    /// Its index among the columns.
     fn place(self) -> usize
         ensures { result < 11 }
     {
@@ -118,7 +118,7 @@ impl Talkers {
         }
     }
 
-    /// Counts a message of a sender.
+    /// Counts a message from a sender.
     pub(crate) fn said(&mut self, sender: SocketAddr, kind: Kind) -> Result<(), AllocError> {
         let mut tally = self.tally(sender);
         count(&mut tally.counts[kind.place()]);
@@ -126,7 +126,7 @@ impl Talkers {
         Ok(())
     }
 
-    /// Counts bytes of a sender.
+    /// Counts bytes from a sender.
     pub(crate) fn sent(&mut self, sender: SocketAddr, bytes: usize) -> Result<(), AllocError> {
         let mut tally = self.tally(sender);
         tally.bytes = tally.bytes.saturating_add(bytes as u64);
@@ -141,8 +141,8 @@ impl Talkers {
         }
     }
 
-    /// What each sender sent, by the text that shows it: a member by its name, with all its
-    /// connections, and another sender by its address.
+    /// What each sender sent, by the text that identifies it: the name of a member, with all its
+    /// connections, and the address of another sender.
     fn by_text(
         &self,
         alloc: Global,
@@ -207,7 +207,7 @@ fn head(alloc: Global) -> Result<Vec<String>, AllocError> {
     Ok(row)
 }
 
-/// The end without its port: a connection comes from a port of its own.
+/// The endpoint without its port, since a connection comes from a port of its own.
 pub(crate) fn host_of(end: SocketAddr) -> SocketAddr {
     SocketAddr::new(end.ip(), 0)
 }

@@ -1,4 +1,4 @@
-//! What clauses do not say: texts, moments, addresses, and each call on its happy path.
+//! What contracts do not cover: texts, moments, addresses, and each call in the normal case.
 
 mod asked;
 mod charted;

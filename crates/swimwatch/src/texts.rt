@@ -1,4 +1,4 @@
-//! Texts of what lines and objects show.
+//! Texts in lines and objects.
 
 use crate::endpoint::endpoint;
 use crate::moment::write_moment;
@@ -34,14 +34,14 @@ pub(crate) fn event_words(event: Event) -> &'static str {
     }
 }
 
-/// A name with its escapes.
+/// An escaped name.
 pub(crate) fn name_text(alloc: Global, name: &MemberName) -> Result<String, AllocError> {
     let mut text = String::new(alloc);
     write_name(&mut text, name.name().bytes())?;
     Ok(text)
 }
 
-/// Names with their escapes, and commas between them.
+/// Escaped names, separated by commas.
 pub(crate) fn names_text(alloc: Global, names: &[MemberName]) -> Result<String, AllocError> {
     let mut text = String::new(alloc);
     let mut between = "";
@@ -53,7 +53,7 @@ pub(crate) fn names_text(alloc: Global, names: &[MemberName]) -> Result<String, 
     Ok(text)
 }
 
-/// The address and port as people write them: `10.20.1.11:7946`, `[fe80::1]:7946`.
+/// The address and port in readable form: `10.20.1.11:7946`, `[fe80::1]:7946`.
 pub(crate) fn address_text(alloc: Global, details: &Details) -> Result<String, AllocError> {
     match endpoint(details.addr(), details.port()) {
         Some(end) => format!(in alloc; "{end}"),
@@ -61,7 +61,7 @@ pub(crate) fn address_text(alloc: Global, details: &Details) -> Result<String, A
     }
 }
 
-/// The moment, as RFC 3339 writes it.
+/// The moment in the format of RFC 3339.
 pub(crate) fn moment_text(alloc: Global, micros: u64) -> Result<String, AllocError> {
     let mut text = String::new(alloc);
     write_moment(&mut text, micros)?;
@@ -75,7 +75,7 @@ pub(crate) fn meta_text(alloc: Global, meta: &[u8]) -> Result<String, AllocError
     Ok(text)
 }
 
-/// By whose word a member is as it is: its own, or that of its accusers.
+/// Who says that a member is in this state: the member itself, or its accusers.
 pub(crate) fn by_text(
     alloc: Global,
     name: &MemberName,
@@ -88,7 +88,7 @@ pub(crate) fn by_text(
     }
 }
 
-/// Adds an address and, if there are some, metadata: ` at 10.20.1.11:7946 role=web`.
+/// Adds an address and, if there is some, metadata: ` at 10.20.1.11:7946 role=web`.
 pub(crate) fn write_place_and_meta(text: &mut String, details: &Details) -> Result<(), AllocError> {
     let alloc = *text.allocator();
     let address = address_text(alloc, details)?;

@@ -1,4 +1,4 @@
-//! What changed in a view, a line each.
+//! What changed in a view, one change per line.
 
 use crate::listener::Listener;
 use crate::moment::write_moment;
@@ -10,8 +10,8 @@ use memberlist_view::{Entry, Event, MemberName};
 use std::alloc::AllocError;
 use swim_claim::{Claim, Kind, Name};
 
-/// Adds the line of an event: when, of whom, what, at which incarnation, by whose word or at which
-/// address, and between whom it was heard, as `2026-11-25T02:01:43.010456Z web-5 dead 1 by web-3
+/// Adds the line of an event: the time, the member, the event, the incarnation, who said so or the
+/// address, and between whom it was sent, as in `2026-11-25T02:01:43.010456Z web-5 dead 1 by web-3
 /// (web-3 to web-5, udp)`.
 pub(crate) fn write_event(
     text: &mut String,
@@ -31,7 +31,7 @@ pub(crate) fn write_event(
     write_ends(text, listener, sent)
 }
 
-/// Adds by whose word it is so, or the address and the tags that are new.
+/// Adds who said so, or the new address and tags.
 fn write_cause(
     text: &mut String,
     told: &Told,

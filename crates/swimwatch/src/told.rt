@@ -1,4 +1,4 @@
-//! What a message says of members.
+//! What a message says about members.
 
 ghost use Rattle.std.specs.Prelude.{◌≡◌, Some, None, IfOk, map, [], true};
 ghost use Rattle.swimwatch.specs.Told.{told_text, packet_told, record_told, said_in_packet, accuser_of, heard_of};
@@ -8,20 +8,20 @@ use std::alloc::{AllocError, Global};
 use swim_claim::{Claim, Name};
 use swim_wire::Packet;
 
-/// A claim, who made it, and in what kind of message it came.
+/// A claim, who made it, and in which kind of message it came.
 #[derive(Drop)]
 pub(crate) struct Told {
     pub(crate) claim: Claim,
     /// Who says so; empty if nobody is named.
     pub(crate) from: Vec<u8>,
-    /// Whether it came in a record of a push/pull stream, and not in a packet.
+    /// Whether it came in a record of a push/pull stream, rather than a packet.
     pub(crate) is_record: bool,
 }
 
 impl Told {
     ghost use Rattle.swimwatch.specs.Told.{told_text, packet_told, record_told, heard_of};
 
-    /// What a packet tells.
+    /// What a packet says.
     pub(crate) fn of_packet(alloc: Global, packet: Packet) -> Result<Told, AllocError>
         ensures { IfOk result (λ told. told_text told ≡ packet_told packet) }
     {
@@ -33,7 +33,7 @@ impl Told {
         })
     }
 
-    /// What a record of a stream tells.
+    /// What a record of a stream says.
     pub(crate) fn of_record(alloc: Global, claim: Claim) -> Told
         ensures { told_text result ≡ record_told claim }
     {
@@ -44,7 +44,7 @@ impl Told {
         }
     }
 
-    /// What is heard of the member, at this time.
+    /// What is heard about the member at this time.
     pub(crate) fn heard(&self, alloc: Global, time: u64) -> Result<Heard, AllocError>
         ensures { IfOk result (λ heard. heard ≡ heard_of time (told_text self.now)) }
     {

@@ -1,4 +1,4 @@
-//! From the frames of captures to what members sent.
+//! What members sent, from the frames of captures.
 
 use crate::counts::{Counts, count};
 use crate::endpoint::endpoint;
@@ -10,21 +10,21 @@ use capture::{
 use std::alloc::{AllocError, Global};
 use std::collections::BTreeMap;
 
-/// How far one direction of a connection was read.
+/// How far one direction of a connection has been read.
 #[derive(Clone, Copy)]
 struct Progress {
-    /// When the last of its bytes was captured.
+    /// When the last of its bytes were captured.
     time: u64,
     /// Whether it was taken in.
     is_read: bool,
-    /// How often it was tried to be read before its end.
+    /// How often reading it was tried before its end.
     tries: u8,
-    /// The sequence number behind the furthest byte of it that is known of.
+    /// The sequence number after its furthest known byte.
     reach: Option<u32>,
 }
 
 impl Progress {
-    /// Of a flow of which nothing was read, at this time.
+    /// The progress of a flow of which nothing was read, at this time.
     fn new(time: u64) -> Progress {
         Progress {
             time,
@@ -34,8 +34,8 @@ impl Progress {
         }
     }
 
-    /// Notes a segment: where it ends (RFC 9293, 3.4: sequence numbers are compared modulo 2^32), and
-    /// when it brought bytes.
+    /// Notes a segment: where it ends (RFC 9293, 3.4: sequence numbers are compared modulo 2^32),
+    /// and when it brought bytes.
     fn note(&mut self, time: u64, taken: Option<Taken>, segment: &Segment) {
         if taken == Some(Taken::Joined) {
             self.time = time;
@@ -54,7 +54,7 @@ impl Progress {
         }
     }
 
-    /// Whether bytes are known of that the flow does not have.
+    /// Whether there are known bytes that the flow lacks.
     fn has_gap(&self, flow: &Flow) -> bool {
         match self.reach {
             Some(reach) => flow.bytes().len() < reach.wrapping_sub(flow.start()) as usize,
@@ -66,7 +66,7 @@ impl Progress {
 /// The most tries to read a stream before its end.
 const MOST_TRIES: u8 = 8;
 
-/// The connections that are open.
+/// The open connections.
 #[derive(Drop)]
 pub(crate) struct Traffic {
     alloc: Global,
@@ -155,8 +155,8 @@ impl Traffic {
         }
     }
 
-    /// Takes in a segment, and what the flow carried that it completes. A stream is taken in as soon
-    /// as it is there, at a segment that its sender pushes, since members take it in then.
+    /// Takes in a segment, and what the flow carried if the segment completes it. A stream is taken
+    /// in as soon as it is complete, at a segment with the PSH flag, since members take it in then.
     fn segment(
         &mut self,
         watch: &mut Watch,
@@ -166,7 +166,7 @@ impl Traffic {
     ) -> Result<(), AllocError> {
         let Heard { taken, complete } = self.flows.take(self.alloc, ends, segment)?;
         let mut progress = self.progress_of(&ends, time);
-        // a SYN that completes a flow is of another one
+        // if a SYN completes a flow, it belongs to another one
         let is_of_it = complete.is_none() || !segment.syn;
         if is_of_it {
             progress.note(time, taken, segment);
@@ -191,7 +191,7 @@ impl Traffic {
         }
     }
 
-    /// Takes in a stream that is pushed, if it is whole.
+    /// Takes in a pushed stream, if it is complete.
     fn try_reading(
         &self,
         watch: &mut Watch,
@@ -220,7 +220,7 @@ impl Traffic {
     }
 }
 
-/// What is sent between these ends.
+/// What was sent between these endpoints.
 fn sent_at(time: u64, ends: Ends) -> Sent {
     Sent {
         time,
@@ -230,7 +230,7 @@ fn sent_at(time: u64, ends: Ends) -> Sent {
     }
 }
 
-/// Takes in what a flow carried, if it was not taken in before.
+/// Takes in what a flow carried, unless it was taken in before.
 fn told(watch: &mut Watch, progress: Progress, ends: Ends, flow: &Flow) -> Result<(), AllocError> {
     let bytes = flow.bytes();
     watch.count_bytes(ends.source, bytes.len())?;
@@ -246,7 +246,7 @@ fn told(watch: &mut Watch, progress: Progress, ends: Ends, flow: &Flow) -> Resul
     Ok(())
 }
 
-/// Counts a frame that carries nothing that is used.
+/// Counts a frame with nothing to read.
 fn leave_out(counts: &mut Counts, cause: NotCarried) {
     match cause {
         NotCarried::NotIp => count(&mut counts.not_ip),

@@ -1,4 +1,4 @@
-//! What listens to packets and streams, and shows what was asked for.
+//! Listening to packets and streams, and showing what was asked for.
 
 ghost use Rattle.std.specs.Prelude.{◌≡◌, List, Bool, IfOk, OnOk};
 ghost use Rattle.std.specs.Option.{is_none};
@@ -38,13 +38,13 @@ pub(crate) struct Watch {
     listener: Listener,
     verb: Verb,
     json: bool,
-    /// The only name that is shown, if there is one.
+    /// The only name to show, if there is one.
     member: Option<Vec<u8>>,
     talkers: Talkers,
     chart: Chart,
     table: Table,
     pub(crate) counts: Counts,
-    /// What is to be printed.
+    /// The output that was not printed yet.
     pub(crate) out: String,
 }
 
@@ -141,7 +141,7 @@ impl Watch {
     }
 
     /// Takes in one direction of a connection that may still grow, if it is a whole push/pull
-    /// stream, and says whether it is.
+    /// stream, and returns whether it is.
     pub(crate) fn whole_stream(&mut self, sent: Sent, bytes: &[u8]) -> Result<bool, AllocError>
         ensures hears { IfOk result (λ whole. HearsStream self.old.keys bytes.now sent.time whole
             self.old.listener.view self.new.listener.view) }
@@ -179,7 +179,7 @@ impl Watch {
         self.talkers.said(host_of(sent.source), counted)
     }
 
-    /// Hears the push/pull stream that one direction of a connection is, or says why it is none.
+    /// Hears the push/pull stream in one direction of a connection, or returns why there is none.
     fn take_stream(&mut self, sent: Sent, bytes: &[u8]) -> Result<Option<NoStream>, AllocError>
         ensures { IfOk result (λ cause. HearsStream self.old.keys bytes.now sent.time
             (is_none cause) self.old.listener.view self.new.listener.view) }
@@ -209,7 +209,7 @@ impl Watch {
         Ok(())
     }
 
-    /// Hears what a message tells, and shows it.
+    /// Hears what a message says, and shows it.
     fn hear(&mut self, sent: Sent, told: &Told) -> Result<(), AllocError>
         ensures view { OnOk result (self.new.listener.view
             ≡ view_after self.old.listener.view (heard_of sent.time (told_text told.now))) }
@@ -219,7 +219,7 @@ impl Watch {
         self.show(&sent, told, event)
     }
 
-    /// Shows what a message told, or what it changed.
+    /// Shows what a message said, or what it changed.
     fn show(&mut self, sent: &Sent, told: &Told, event: Option<Event>) -> Result<(), AllocError>
         ensures listener { self.new.listener ≡ self.old.listener }
         ensures keys { self.new.keys ≡ self.old.keys }
@@ -236,7 +236,7 @@ impl Watch {
         }
     }
 
-    /// Whether what is said of this member is shown.
+    /// Whether to show what is said about this member.
     fn is_shown(&self, told: &Told) -> bool {
         match &self.member {
             Some(name) => name.as_slice() == told.claim.name().bytes(),
@@ -267,7 +267,7 @@ impl Watch {
         }
     }
 
-    /// Shows what changed of the member that a message tells of.
+    /// Shows what a message changed about its member.
     fn show_event(&mut self, sent: &Sent, told: &Told, event: Event) -> Result<(), AllocError>
         ensures listener { self.new.listener ≡ self.old.listener }
         ensures keys { self.new.keys ≡ self.old.keys }
@@ -279,7 +279,7 @@ impl Watch {
         }
     }
 
-    /// Shows at the end what is shown only then.
+    /// Shows what is shown only at the end.
     pub(crate) fn finish(&mut self) -> Result<(), AllocError> {
         match (self.verb, self.json) {
             (Verb::Members, false) => write_members(&mut self.out, &self.listener),
@@ -291,7 +291,7 @@ impl Watch {
         }
     }
 
-    /// The members, as one shows them who listened.
+    /// The members, as a listener shows them.
     pub(crate) fn roster(&self) -> Result<Roster, AllocError> {
         Roster::of_listener(self.alloc, &self.listener)
     }

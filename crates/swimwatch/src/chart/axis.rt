@@ -1,4 +1,4 @@
-//! The times below which a line is drawn.
+//! The times on the axis, with a line below each.
 
 ghost use Rattle.std.specs.Prelude.{◌<◌};
 
@@ -13,10 +13,10 @@ const MINUTE: u64 = 60 * SECOND;
 
 const HOUR: u64 = 60 * MINUTE;
 
-/// The most times on an axis but one.
+/// One less than the most times on an axis.
 const MOST: u64 = 9;
 
-/// The steps between round times, in microseconds.
+/// The possible steps between round times, in microseconds.
 const STEPS: [u64; 59] = [
     1,
     2,
@@ -79,7 +79,7 @@ const STEPS: [u64; 59] = [
     50_000_000 * DAY,
 ];
 
-/// Round times of a span.
+/// Round times in a span.
 #[derive(Drop)]
 pub(crate) struct Ticks {
     step: u64,
@@ -87,7 +87,7 @@ pub(crate) struct Ticks {
 }
 
 impl Ticks {
-    /// The multiples of the least step of which at most ten are in the span.
+    /// The multiples of the smallest step for which the span contains at most ten.
     pub(crate) fn of(alloc: Global, span: Span) -> Result<Ticks, AllocError> {
         let step = step_of(span.micros());
         let mut times = Vec::new(alloc);
@@ -105,8 +105,8 @@ impl Ticks {
         Ok(Ticks { step, times })
     }
 
-    /// How a time of the axis is written: by its date where a day begins, and else by what of the
-    /// time of day changes from one to the next.
+    /// The format of a time on the axis: the date if a day begins, and otherwise the part of the
+    /// time of day that changes between steps.
     pub(crate) fn format(&self, time: u64) -> &'static str {
         if time % DAY == 0 {
             "%Y-%m-%d"
@@ -122,7 +122,7 @@ impl Ticks {
     }
 }
 
-/// The least step by which so many microseconds have at most ten multiples.
+/// The smallest step that has at most ten multiples in this many microseconds.
 fn step_of(micros: u64) -> u64
     ensures { 0 < result }
 {

@@ -9,10 +9,10 @@ use crate::texts::{event_words, name_text};
 use memberlist_view::MemberName;
 use std::alloc::{AllocError, Global};
 
-/// The most characters of a name that are seen.
+/// The most characters of a name that are shown.
 const LABEL: usize = 32;
 
-/// Adds a row that begins so many pixels below the top.
+/// Adds a row that begins this many pixels below the top.
 pub(crate) fn write_row(
     text: &mut String,
     page: &Page,
@@ -77,7 +77,7 @@ fn write_marks(
             text,
             "<path class=\"mark\" d=\"M{} {}{}\"><title>{title}</title></path>\n",
             page.left().saturating_add(page.span().place(mark.time)),
-            // at the upper edge of the bars, so that a short one is seen below it
+            // at the upper edge of the bars, so that a short bar is visible below it
             top.saturating_add(5),
             shape(mark.event)
         )?;
@@ -85,8 +85,8 @@ fn write_marks(
     Ok(())
 }
 
-/// What a bar shows: `web-5 suspect 1 at 10.20.1.15:7946 from 02:01:39.007123 to 02:01:43.010456 by
-/// web-2, web-4`.
+/// The title of a bar: `web-5 suspect 1 at 10.20.1.15:7946 from 02:01:39.007123 to 02:01:43.010456
+/// by web-2, web-4`.
 fn bar_title(page: &Page, name: &str, bar: &Bar, until: u64) -> Result<String, AllocError> {
     let mut title = String::from_str(*bar.place.allocator(), name)?;
     write!(title, " {} {}", bar.state, bar.first_inc)?;
@@ -104,7 +104,7 @@ fn bar_title(page: &Page, name: &str, bar: &Bar, until: u64) -> Result<String, A
     Ok(title)
 }
 
-/// What a mark shows: `web-4 back 2 at 10.20.1.14:7946, 02:02:11.096432`.
+/// The title of a mark: `web-4 back 2 at 10.20.1.14:7946, 02:02:11.096432`.
 fn mark_title(page: &Page, name: &str, mark: &Mark, alloc: Global) -> Result<String, AllocError> {
     let mut title = String::from_str(alloc, name)?;
     write!(
@@ -118,7 +118,7 @@ fn mark_title(page: &Page, name: &str, mark: &Mark, alloc: Global) -> Result<Str
     Ok(title)
 }
 
-/// The name with its escapes, and its first characters alone if it is long.
+/// The escaped name, or its first characters if it is long.
 fn label(alloc: Global, name: &MemberName) -> Result<String, AllocError> {
     let whole = name_text(alloc, name)?;
     if whole.len() <= LABEL {
@@ -126,7 +126,7 @@ fn label(alloc: Global, name: &MemberName) -> Result<String, AllocError> {
     }
     let mut label = String::new(alloc);
     for byte in name.name().bytes() {
-        // room for an escape and for what stands behind it
+        // room for an escape and for what follows it
         if LABEL < label.len().saturating_add(6) {
             break;
         }
@@ -136,7 +136,7 @@ fn label(alloc: Global, name: &MemberName) -> Result<String, AllocError> {
     Ok(label)
 }
 
-/// How many pixels wide a name is, at most, in the common fonts.
+/// The width of a name in pixels, at most, in the common fonts.
 pub(crate) fn label_width(alloc: Global, name: &MemberName) -> Result<u64, AllocError> {
     let mut width = 0u64;
     for byte in label(alloc, name)?.bytes() {

@@ -1,4 +1,4 @@
-//! What stands around the rows.
+//! What surrounds the rows.
 
 use crate::chart::axis::Ticks;
 use crate::chart::span::{Span, WIDTH};
@@ -10,18 +10,18 @@ use std::alloc::AllocError;
 /// Where the first row begins, in pixels from the top.
 const TOP: u64 = 92;
 
-/// How high a row is, in pixels.
+/// The height of a row, in pixels.
 const ROW: u64 = 22;
 
-/// From how many rows on the axis stands below them too.
+/// The number of rows from which on the axis is also drawn below them.
 const MANY: usize = 20;
 
-/// A time with its date, and one without.
+/// The format of a time with its date, and without it.
 const DATED: &str = "%Y-%m-%d %H:%M:%S.%6f";
 
 const OF_THE_DAY: &str = "%H:%M:%S.%6f";
 
-/// A picture: the moments that it shows, how many rows it has, and where these begin.
+/// A picture: the period that it shows, its number of rows, and where they begin.
 #[derive(Clone, Copy)]
 pub(crate) struct Page {
     span: Option<Span>,
@@ -30,7 +30,7 @@ pub(crate) struct Page {
 }
 
 impl Page {
-    /// A picture of so many rows, with names at most so many pixels wide.
+    /// A picture with this many rows, and names at most this many pixels wide.
     pub(crate) fn new(span: Option<Span>, count: usize, names: u64) -> Page {
         Page {
             span,
@@ -39,7 +39,7 @@ impl Page {
         }
     }
 
-    /// The moments that it shows.
+    /// The period that it shows.
     pub(crate) fn span(&self) -> Span {
         match self.span {
             Some(span) => span,
@@ -57,7 +57,7 @@ impl Page {
         TOP
     }
 
-    /// Where the row below one begins.
+    /// Where the row after one begins.
     pub(crate) fn below(&self, top: u64) -> u64 {
         top.saturating_add(ROW)
     }
@@ -67,13 +67,13 @@ impl Page {
         (self.count as u64).saturating_mul(ROW).saturating_add(TOP)
     }
 
-    /// Adds a time: without its date if the title has it.
+    /// Adds a time, without its date if the title has it.
     pub(crate) fn write_time(&self, text: &mut String, time: u64) -> Result<(), AllocError> {
         let is_of_one_day = self.span().is_of_one_day();
         write_as(text, time, if is_of_one_day { OF_THE_DAY } else { DATED })
     }
 
-    /// Adds all that stands before the rows.
+    /// Adds all that comes before the rows.
     pub(crate) fn write_head(&self, text: &mut String) -> Result<(), AllocError> {
         let width = self.left.saturating_add(WIDTH).saturating_add(40);
         let below = if self.count < MANY { 16 } else { 36 };
@@ -100,7 +100,7 @@ impl Page {
         self.write_axis(text)
     }
 
-    /// Adds how many members are shown.
+    /// Adds the number of members shown.
     fn write_what(&self, text: &mut String) -> Result<(), AllocError> {
         match self.count {
             0 => text.push_str("Nothing was heard of any member"),
@@ -109,7 +109,7 @@ impl Page {
         }
     }
 
-    /// Adds from when to when, if something was sent.
+    /// Adds the start and the end, if something was sent.
     fn write_range(&self, text: &mut String) -> Result<(), AllocError> {
         let Some(span) = self.span else {
             return Ok(());
@@ -120,7 +120,7 @@ impl Page {
         write_moment(text, span.last)
     }
 
-    /// Adds the title that is seen.
+    /// Adds the visible title.
     fn write_title(&self, text: &mut String) -> Result<(), AllocError> {
         text.push_str("<text class=\"title\" x=\"16\" y=\"28\">")?;
         self.write_what(text)?;
@@ -134,7 +134,8 @@ impl Page {
         text.push_str("</text>\n")
     }
 
-    /// Adds round times above the rows, and below many, with lines through them.
+    /// Adds round times above the rows, and also below them if there are many, with lines through
+    /// them.
     fn write_axis(&self, text: &mut String) -> Result<(), AllocError> {
         let bottom = self.bottom();
         let ticks = Ticks::of(*text.allocator(), self.span())?;

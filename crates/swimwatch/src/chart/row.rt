@@ -1,4 +1,4 @@
-//! What is drawn of a member.
+//! What is drawn for a member.
 
 use crate::names::write_name;
 use crate::texts::{address_text, state_word, write_rivals};
@@ -6,20 +6,20 @@ use crate::told::Told;
 use memberlist_view::{Entry, Event};
 use std::alloc::{AllocError, Global};
 
-/// How a member was, from one moment on.
+/// The state of a member from one moment on.
 #[derive(Drop)]
 pub(crate) struct Bar {
-    /// The word for it.
+    /// The word for the state.
     pub(crate) state: &'static str,
-    /// Since when, in microseconds since the start of 1970.
+    /// When it began, in microseconds since the start of 1970.
     pub(crate) since: u64,
-    /// At which incarnation it began.
+    /// The incarnation at which it began.
     pub(crate) first_inc: u32,
-    /// At which one it ended.
+    /// The incarnation at which it ended.
     pub(crate) last_inc: u32,
-    /// Where the member was: ` at 10.20.1.11:7946`.
+    /// The member's address: ` at 10.20.1.11:7946`.
     pub(crate) place: String,
-    /// Who said so, with commas between.
+    /// Who said so, separated by commas.
     pub(crate) by: String,
 }
 
@@ -27,14 +27,14 @@ pub(crate) struct Bar {
 #[derive(Drop)]
 pub(crate) struct Mark {
     pub(crate) event: Event,
-    /// When, in microseconds since the start of 1970.
+    /// When it happened, in microseconds since the start of 1970.
     pub(crate) time: u64,
     pub(crate) inc: u32,
-    /// Where the member was, and of a conflict both places.
+    /// The member's address, or both addresses if there is a conflict.
     pub(crate) place: String,
 }
 
-/// What is drawn of a member, in the order in which it was heard.
+/// What is drawn for a member, in the order in which it was heard.
 #[derive(Drop)]
 pub(crate) struct Row {
     alloc: Global,
@@ -51,7 +51,7 @@ impl Row {
         }
     }
 
-    /// Takes in what a message changed, after which the view shows this entry.
+    /// Takes in what a message changed. The view now shows this entry.
     pub(crate) fn take(
         &mut self,
         time: u64,
@@ -106,7 +106,7 @@ impl Row {
         self.marks.push(mark).map_err(AllocError::from)
     }
 
-    /// Notes that somebody, if one is named, says what the last bar shows.
+    /// Notes who said what the last bar shows, if somebody is named.
     fn accuse(&mut self, from: &[u8]) -> Result<(), AllocError> {
         if from.is_empty() {
             return Ok(());
@@ -127,7 +127,7 @@ impl Row {
         }
     }
 
-    /// Until when a bar lasts: until the next one begins, or until the last moment.
+    /// When a bar ends: when the next one begins, or at the last moment.
     pub(crate) fn until(&self, index: usize, last: u64) -> u64 {
         let until = match self.bars.get(index.saturating_add(1)) {
             Some(next) => next.since,

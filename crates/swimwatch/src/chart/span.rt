@@ -1,4 +1,4 @@
-//! The moments that a picture shows, and where they are drawn.
+//! The period that a picture shows, and where its moments are drawn.
 
 ghost use Rattle.std.specs.Prelude.{◌≡◌, ◌<◌, ◌≤◌, ◌-◌, ◌*◌, ◌/◌, ◌+◌};
 ghost use Rattle.swimwatch.specs.Chart.{place_of};
@@ -6,10 +6,10 @@ ghost use Rattle.swimwatch.specs.Chart.{place_of};
 /// A day, in microseconds.
 pub(crate) const DAY: u64 = 86_400_000_000;
 
-/// How many pixels wide the rows are.
+/// The width of the rows, in pixels.
 pub(crate) const WIDTH: u64 = 1_000;
 
-/// The moments from a first to a last one, in microseconds since the start of 1970.
+/// A period from a first to a last moment, in microseconds since the start of 1970.
 #[derive(Clone, Copy, Debug, PartialEq, Eq)]
 pub(crate) struct Span {
     pub(crate) first: u64,
@@ -17,7 +17,7 @@ pub(crate) struct Span {
 }
 
 impl Span {
-    /// One moment alone.
+    /// A single moment.
     pub(crate) fn at(time: u64) -> Span {
         Span {
             first: time,
@@ -25,7 +25,7 @@ impl Span {
         }
     }
 
-    /// The moments up to this one too.
+    /// The period, extended to include this moment.
     pub(crate) fn with(self, time: u64) -> Span {
         Span {
             first: self.first.min(time),
@@ -33,20 +33,20 @@ impl Span {
         }
     }
 
-    /// Whether all of them are of one day.
+    /// Whether the whole period is in one day.
     pub(crate) fn is_of_one_day(self) -> bool {
         self.first / DAY == self.last / DAY
     }
 
-    /// How many microseconds they last.
+    /// The length in microseconds.
     pub(crate) fn micros(self) -> u64
         ensures { result ≡ self.last - self.first }
     {
         self.last.saturating_sub(self.first)
     }
 
-    /// How many pixels right of the first moment this one is drawn: 0 if it is the first or before
-    /// it, and the whole width if it is the last or behind it.
+    /// How many pixels to the right of the first moment this one is drawn: 0 if it is the first or
+    /// earlier, and the whole width if it is the last or later.
     pub(crate) fn place(self, time: u64) -> u64
         ensures exact { result ≡ place_of self.first self.last time }
         ensures within { result ≤ 1000 }
@@ -60,8 +60,8 @@ impl Span {
         share(time.min(self.last).saturating_sub(self.first), whole)
     }
 
-    /// From where to where a bar between two moments is drawn, behind one that ends at an edge: at
-    /// least a pixel, and at most a pixel right of its place.
+    /// From where to where a bar between two moments is drawn, after one that ends at this edge: at
+    /// least one pixel wide, and at most one pixel right of its place.
     pub(crate) fn stretch(self, since: u64, until: u64, edge: u64) -> (u64, u64)
         ensures wide { result.0 < result.1 }
         ensures within { result.1 ≤ 1002 }
@@ -77,7 +77,7 @@ impl Span {
     }
 }
 
-/// As much of the width as a part is of the whole.
+/// The share of the width that a part has of the whole.
 fn share(part: u64, whole: u64) -> u64
     requires whole { 0 < whole }
     requires part { part ≤ whole }

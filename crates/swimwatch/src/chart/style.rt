@@ -1,9 +1,9 @@
-//! Colours, patterns and shapes. The colours are those of Okabe and Ito, which the colour-blind can
-//! tell apart; each has a pattern beside it, so that it can be told in grey too.
+//! Colours, patterns and shapes. The colours are those of Okabe and Ito, which colour-blind people
+//! can distinguish. Each also has a pattern, so that it can be distinguished in grey.
 
 use memberlist_view::Event;
 
-/// Rules for light and for dark surroundings, and the patterns.
+/// Rules for light and dark backgrounds, and the patterns.
 pub(crate) const STYLE: &str = "\
 <style>
 text{font:12px sans-serif;fill:#222}
@@ -36,7 +36,7 @@ text{fill:#ddd}
 </defs>
 ";
 
-/// The states of the legend: the words for them, and how many pixels from the left they stand.
+/// The states in the legend: the words for them, and how many pixels from the left they are.
 pub(crate) const STATES: [(&str, u64); 4] = [
     ("alive", 16),
     ("suspect", 96),
@@ -44,14 +44,14 @@ pub(crate) const STATES: [(&str, u64); 4] = [
     ("left", 272),
 ];
 
-/// The marks of the legend, in the same way.
+/// The marks in the legend, in the same way.
 pub(crate) const MARKS: [(Event, u64); 3] = [
     (Event::Conflict, 352),
     (Event::Refuted, 448),
     (Event::Back, 544),
 ];
 
-/// The shape of a mark, as a path from its middle.
+/// The shape of a mark, as a path from its centre.
 pub(crate) fn shape(event: Event) -> &'static str {
     match event {
         // a diamond

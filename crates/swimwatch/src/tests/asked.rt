@@ -1,4 +1,4 @@
-//! Members that are asked, and what they answer.
+//! Asking members, and their answers.
 
 use crate::agreement::write_answers;
 use crate::answer::{NoAnswer, stream_in};
@@ -15,7 +15,7 @@ use std::alloc::{AllocError, Global};
 use std::process::Abort;
 use std::test::Fail;
 
-/// Words, and the host and the port that each names.
+/// Words, and the host and port that each names.
 const HOSTS: [(&str, &str, u16); 6] = [
     ("web-1", "web-1", 7946),
     ("10.20.1.11", "10.20.1.11", 7946),
@@ -25,7 +25,7 @@ const HOSTS: [(&str, &str, u16); 6] = [
     ("[fe80::1]:8301", "fe80::1", 8301),
 ];
 
-/// Words that name no host.
+/// Words that do not name a host.
 const NO_HOSTS: [&str; 8] = [
     "",
     ":7946",
@@ -47,7 +47,7 @@ fn words_name_hosts(rt: HostRuntime) {
     }
 }
 
-/// The empty offer, and the same behind the label `dc1`, in memberlist's bytes.
+/// The empty offer, and the same after the label `dc1`, as memberlist writes it.
 const REQUESTS: [(&[u8], &str); 2] = [
     (
         b"",
@@ -70,7 +70,7 @@ fn a_member_is_asked_in_the_clear(rt: HostRuntime) -> Result<(), Fail> {
     Ok(())
 }
 
-/// A member's error: the map of one text, `no: "x"` and a byte that is no UTF-8.
+/// A member's error: the map of one text, `no: "x"` and a byte that is not UTF-8.
 const ERROR: &str = "0d81a54572726f72a86e6f3a2022782280";
 
 #[test]
@@ -85,7 +85,7 @@ fn a_member_says_why_it_answers_nothing(rt: HostRuntime) -> Result<(), Fail> {
     Ok(())
 }
 
-/// The answer of a member, which is this stream in hexadecimal.
+/// The answer of a member, with this stream in hexadecimal.
 fn answer(alloc: Global, host: &str, stream: &str) -> Result<Answer, Fail> {
     let stream = hex::decode(alloc, stream)?;
     let Some(roster) = Roster::of_stream(alloc, &stream)? else {

@@ -6,7 +6,8 @@ use crate::chart::span::Span;
 use std::process::Abort;
 use std::test::Fail;
 
-/// From when to when, in microseconds, and how many round times an axis has then, from which on.
+/// The first and the last moment, in microseconds, how many round times an axis has between them,
+/// and the first of these.
 const AXES: [(u64, u64, usize, u64); 9] = [
     (7, 7, 1, 7),
     (1, 12, 6, 2),

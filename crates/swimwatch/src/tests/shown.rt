@@ -1,4 +1,4 @@
-//! What is shown of packets and streams.
+//! What is shown for packets and streams.
 
 use crate::chosen::{Asking, Chosen, Verb};
 use crate::sent::{Proto, Sent};
@@ -10,7 +10,7 @@ use std::net::{IpAddr, SocketAddr};
 use std::process::Abort;
 use std::test::Fail;
 
-/// An alive packet of `a`, a suspicion of it by `b`, and its death by `c`.
+/// An alive packet of `a`, a suspicion of it by `b`, and its declaration of death by `c`.
 const PACKETS: [&str; 3] = [
     "0486a441646472a47f000001ab496e6361726e6174696f6e01a44d657461a0a44e6f6465a161a4506f7274cd1f0aa356736ea0",
     "0383a446726f6da162ab496e6361726e6174696f6e01a44e6f6465a161",
@@ -53,7 +53,7 @@ fn sent(second: u64, proto: Proto) -> Sent {
     }
 }
 
-/// What is shown once the packets were heard, one a second.
+/// What is shown after the packets were heard, one per second.
 fn after_packets(alloc: Global, verb: Verb, json: bool) -> Result<String, Fail> {
     let mut watch = watch(alloc, verb, json)?;
     let mut second = 0u64;
@@ -65,7 +65,7 @@ fn after_packets(alloc: Global, verb: Verb, json: bool) -> Result<String, Fail> 
     Ok(watch.out)
 }
 
-/// That this is shown.
+/// Asserts that this is shown.
 fn assert_shows(rt: &impl Abort, shown: &str, wanted: &str) {
     assert_eq!(rt; shown, wanted);
 }
@@ -128,7 +128,7 @@ fn a_stream_is_heard_when_it_is_whole(rt: HostRuntime) -> Result<(), Fail> {
     Ok(())
 }
 
-/// A header that promises 131,072 records and 20,971,520 bytes of user state, and one record.
+/// A header that announces 131,072 records and 20,971,520 bytes of user state, and one record.
 #[test]
 fn a_stream_that_promises_much_asks_for_little(rt: HostRuntime) -> Result<(), Fail> {
     let stream = hex::decode(

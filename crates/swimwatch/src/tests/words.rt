@@ -1,4 +1,4 @@
-//! The words of the command line.
+//! The command-line arguments.
 
 use crate::chosen::{Chosen, Verb};
 use crate::command_line::{Refusal, chosen};
@@ -20,7 +20,7 @@ fn choice(alloc: Global, words: &[&str]) -> Result<Chosen, Refusal> {
     chosen(alloc, words.as_slice())
 }
 
-/// Words, what they ask for, and how many captures and files of keys they name.
+/// Words, what they ask for, and how many captures and key files they name.
 const TAKEN: [(&[&str], Verb, bool, usize, usize); 9] = [
     (&["members", "x"], Verb::Members, false, 1, 0),
     (&["members", "--json", "-", "x"], Verb::Members, true, 2, 0),
@@ -79,7 +79,7 @@ fn words_ask_for_a_verb(rt: HostRuntime) -> Result<(), Fail> {
     Ok(())
 }
 
-/// Words whose values are none that the arguments take.
+/// Words with invalid values for arguments.
 const REFUSED: [(&[&str], &str); 6] = [
     (&[], "a command is wanted; --help lists them"),
     (

@@ -63,7 +63,7 @@ fn names_are_written_with_escapes_and_read_back(rt: HostRuntime) -> Result<(), F
     Ok(())
 }
 
-/// The end with these address bytes, in text.
+/// The endpoint with these address bytes, as text.
 fn end_text(alloc: Global, addr: &[u8]) -> Result<String, AllocError> {
     match endpoint(addr, 7946) {
         Some(end) => format!(in alloc; "{end}"),
