@@ -7,7 +7,7 @@ use Rattle.swim_wire.specs.Pairs.{state_number}
 use Rattle.swim_table.specs.Standing.{Standing}
 use Rattle.swim_c.specs.declared.member.Member.{Member}
 
--- everything except the newest Alive and whether the member came back is unchanged
+-- everything except the newest Alive, and also whether the member came back, is unchanged
 pub record KeepsName (old new : Member) : Type 0 where
   pub state : new.state ≡ old.state
   pub inc : new.inc ≡ old.inc

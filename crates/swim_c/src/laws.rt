@@ -22,10 +22,10 @@ pub fn progress_carries_on()
         → IsProgressIn (bytes ++ more) p }
 {}
 
-/// The keys that encrypted a packet or stream unwrap it to what is in the message. A packet gives
-/// nothing else. A stream with a label is unwrapped whatever label the reader has, a stream without
-/// one by a reader without a label, and a reply by a reader with the label that it was encrypted
-/// with.
+/// The keys that encrypted a packet or stream unwrap it to what is in the message. A packet unwraps
+/// to nothing else. A stream with a label is unwrapped whatever label the reader has, a stream
+/// without one by a reader without a label, and a reply by a reader with the label that it was
+/// encrypted with.
 pub fn sealed_is_unwrapped()
     ensures packet { (keys : List (List ℕ)) (nonce label message packet : List ℕ)
         (inner : Message) → IsSealedPacket keys nonce label message packet

@@ -15,7 +15,7 @@ pub struct Member {
     /// 0 alive, 1 suspect, 2 confirm, 3 leave.
     pub state: u32,
     pub inc: u32,
-    /// Whether an Alive was ever seen. The newest one fills the fields after `came_back`.
+    /// Whether an Alive was ever seen. The fields below are those of the newest, except the name.
     pub has_home: bool,
     /// Whether that Alive has a greater incarnation than the member's state.
     pub came_back: bool,

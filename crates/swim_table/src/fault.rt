@@ -20,7 +20,7 @@ pub enum EncodeFault {
 }
 
 impl EncodeFault {
-    /// The number that reports use for the fault: 23, or 10 for out of memory (own).
+    /// The number that reports use for the fault: 23, or 10 if out of memory (own).
     pub fn number(&self) -> u32
         ensures { result ≡ encode_number self.now }
     {
@@ -55,7 +55,7 @@ pub enum RefuteFault {
 }
 
 impl RefuteFault {
-    /// The number that reports use for the fault: 24, 25, or 10 for out of memory (own).
+    /// The number that reports use for the fault: 24, 25, or 10 if out of memory (own).
     pub fn number(&self) -> u32
         ensures { result ≡ refute_number self.now }
     {

@@ -38,7 +38,7 @@ death name inc None = Suspect name inc None
 death name inc (Some from) = Dead name inc from
 
 -- net.go, handleAlive, handleSuspect, handleDead: what a packet says; a member that declares itself
--- dead left
+-- dead has left
 abbrev pub said_in_packet : Claim → Option (List ℕ) → Said
 said_in_packet (claim.Alive name inc details) from = Alive name inc details
 said_in_packet (claim.Suspect name inc) from = Suspect name inc from

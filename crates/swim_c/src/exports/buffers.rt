@@ -19,7 +19,7 @@ use std::alloc::Global;
 ///
 /// # Statuses
 ///
-/// If it is not 0, the buffer is unchanged.
+/// If the status is not 0, the buffer is unchanged.
 ///
 /// - 64 if the handle has no node.
 /// - 70 if the form is neither 0 nor 1.
@@ -51,7 +51,7 @@ pub extern "C" fn swimtab_raw_offer_new(
 ///
 /// # Statuses
 ///
-/// If it is not 0, the node and the buffer are unchanged.
+/// If the status is not 0, the node and the buffer are unchanged.
 ///
 /// - 64 if the handle has no node.
 /// - 70 if the form is neither 0 nor 1.
@@ -90,7 +90,7 @@ pub extern "C" fn swimtab_raw_answer_new(
 ///
 /// # Statuses
 ///
-/// If it is not 0, the buffer is unchanged.
+/// If the status is not 0, the buffer is unchanged.
 ///
 /// - 64 if the handle has no node.
 /// - 10 if out of memory.

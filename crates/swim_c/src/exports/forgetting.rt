@@ -18,7 +18,7 @@ use std::alloc::Global;
 ///
 /// # Statuses
 ///
-/// If it is not 0, the node and the noted names are unchanged.
+/// If the status is not 0, the node and the noted names are unchanged.
 ///
 /// - 64 if the handle has no node.
 /// - 67 if the table has no such name.

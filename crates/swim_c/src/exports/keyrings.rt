@@ -17,7 +17,7 @@ use std::alloc::Global;
 ///
 /// # Statuses
 ///
-/// If it is not 0, the handle is unchanged.
+/// If the status is not 0, the handle is unchanged.
 ///
 /// - 50 if the key has another length.
 /// - 10 if out of memory.

@@ -15,7 +15,7 @@ use std::alloc::Global;
 ///
 /// # Statuses
 ///
-/// If it is not 0, the handle is unchanged.
+/// If the status is not 0, the handle is unchanged.
 ///
 /// - 65 if the handle has a node.
 /// - 11 or 12 for the name, else 13 for the address, else 14 for the metadata, else 15 for the

@@ -21,12 +21,12 @@ use crate::status::NO_NODE;
 use std::alloc::Global;
 
 /// Takes in all claims of a packet or compound packet, or none. Reading texts and bytes of a packet
-/// may take memory. If a packet that is not part of a compound is about a known name, only newer
-/// metadata is kept. Also returns whether the table changed.
+/// may take memory. If a single packet is about a known name, only newer metadata is kept. Also
+/// returns whether the table changed.
 ///
 /// # Statuses
 ///
-/// If it is not 0, the node is unchanged.
+/// If the status is not 0, the node is unchanged.
 ///
 /// - 64 if the handle has no node.
 /// - 1 to 22 if the bytes are neither: the fault at which reading stops (docs/PROTOCOL.md).
@@ -54,7 +54,7 @@ pub extern "C" fn swimtab_raw_take(alloc: Global, node: &mut Handle, bytes: &[u8
 ///
 /// # Statuses
 ///
-/// If it is not 0, the node is unchanged.
+/// If the status is not 0, the node is unchanged.
 ///
 /// - 64 if the handle has no node.
 /// - 24 if one is due and there is no greater incarnation.
@@ -82,7 +82,7 @@ pub extern "C" fn swimtab_raw_refute(alloc: Global, node: &mut Handle) -> Refute
 ///
 /// # Statuses
 ///
-/// If it is not 0, the buffer is unchanged.
+/// If the status is not 0, the buffer is unchanged.
 ///
 /// - 64 if the handle has no node.
 /// - 66 if the buffer is too small. The length is then that of the packet.
@@ -114,7 +114,7 @@ pub extern "C" fn swimtab_raw_alive(
 ///
 /// # Statuses
 ///
-/// If it is not 0, the buffer is unchanged.
+/// If the status is not 0, the buffer is unchanged.
 ///
 /// - 11 or 12 for the name, else 13 for the address, else 14 for the metadata, else 15 for the
 ///   versions: the first part that is invalid.
@@ -152,7 +152,7 @@ pub extern "C" fn swimtab_raw_alive_of(
 ///
 /// # Statuses
 ///
-/// If it is not 0, the buffer is unchanged.
+/// If the status is not 0, the buffer is unchanged.
 ///
 /// - 64 if the handle has no node.
 /// - 11 if the name is empty, 12 if it is too long.
@@ -185,7 +185,7 @@ pub extern "C" fn swimtab_raw_suspect(
 ///
 /// # Statuses
 ///
-/// If it is not 0, the buffer is unchanged.
+/// If the status is not 0, the buffer is unchanged.
 ///
 /// - 64 if the handle has no node.
 /// - 68 if the name is the member's own: a member that declares itself dead has left.
@@ -219,7 +219,7 @@ pub extern "C" fn swimtab_raw_confirm(
 ///
 /// # Statuses
 ///
-/// If it is not 0, the buffer is unchanged.
+/// If the status is not 0, the buffer is unchanged.
 ///
 /// - 64 if the handle has no node.
 /// - 66 if the buffer is too small. The length is then that of the packet.
@@ -250,7 +250,7 @@ pub extern "C" fn swimtab_raw_leave(
 ///
 /// # Statuses
 ///
-/// If it is not 0, the buffer is unchanged.
+/// If the status is not 0, the buffer is unchanged.
 ///
 /// - 69 if there are more than 255 lengths, the most parts that a compound packet has.
 /// - 1 to 22 if they are not packets: the fault of the first one that is refused. Also 1 if the

@@ -19,7 +19,7 @@ use std::alloc::Global;
 ///
 /// # Statuses
 ///
-/// If it is not 0, the buffer is unchanged.
+/// If the status is not 0, the buffer is unchanged.
 ///
 /// - 64 if the handle has no node.
 /// - 70 if the form is neither.
@@ -56,7 +56,7 @@ pub extern "C" fn swimtab_raw_offer(
 ///
 /// # Statuses
 ///
-/// If it is not 0, the node and the buffer are unchanged.
+/// If the status is not 0, the node and the buffer are unchanged.
 ///
 /// - 64 if the handle has no node.
 /// - 70 if the form is neither.
@@ -97,7 +97,7 @@ pub extern "C" fn swimtab_raw_answer(
 ///
 /// # Statuses
 ///
-/// If it is not 0, the node is unchanged.
+/// If the status is not 0, the node is unchanged.
 ///
 /// - 64 if the handle has no node.
 /// - 1 to 21 if the bytes do not begin with a stream: the fault at which reading stops.
@@ -126,8 +126,8 @@ pub extern "C" fn swimtab_raw_finish(alloc: Global, node: &mut Handle, stream: &
 /// with those of the last call. It resumes after the last whole record, so that each record is read
 /// once. It needs no node and keeps no memory.
 ///
-/// If it is 0, the length of the stream is the place in the progress plus the length of the user
-/// state. Nothing is taken into a node: the answer and the finish read the stream once more.
+/// If the status is 0, the length of the stream is the place in the progress plus the length of the
+/// user state. Nothing is taken into a node: the answer and the finish read the stream once more.
 ///
 /// # Statuses
 ///

@@ -37,7 +37,7 @@ pub extern "C" fn swimtab_raw_count(alloc: Global, node: &mut Handle) -> usize
 ///
 /// # Statuses
 ///
-/// If it is not 0, `member` is unchanged.
+/// If the status is not 0, `member` is unchanged.
 ///
 /// - 64 if the handle has no node.
 /// - 67 if the node knows i members or fewer.
@@ -65,7 +65,7 @@ pub extern "C" fn swimtab_raw_member(
 ///
 /// # Statuses
 ///
-/// If it is not 0, `member` is unchanged.
+/// If the status is not 0, `member` is unchanged.
 ///
 /// - 64 if the handle has no node.
 /// - 67 if the node knows no such member.
@@ -93,7 +93,7 @@ pub extern "C" fn swimtab_raw_find(
 ///
 /// # Statuses
 ///
-/// If it is not 0, the buffer is unchanged.
+/// If the status is not 0, the buffer is unchanged.
 ///
 /// - 64 if the handle has no node.
 /// - 66 if the buffer is too small. The length is then that of the listing.

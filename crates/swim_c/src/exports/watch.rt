@@ -36,7 +36,7 @@ pub extern "C" fn swimtab_raw_watch(alloc: Global, node: &mut Handle, on: bool) 
 ///
 /// # Statuses
 ///
-/// If it is not 0, `member` and the noted names are unchanged.
+/// If the status is not 0, `member` and the noted names are unchanged.
 ///
 /// - 64 if the handle has no node.
 /// - 67 if no name is noted.

@@ -19,7 +19,7 @@ use std::alloc::Global;
 ///
 /// # Statuses
 ///
-/// If it is not 0, the buffer is unchanged.
+/// If the status is not 0, the buffer is unchanged.
 ///
 /// - 16 if the message is whole but makes no claims, or is not a message; without keys, also if it
 ///   is encrypted.
@@ -57,7 +57,7 @@ pub extern "C" fn swimtab_raw_unwrap(
 ///
 /// # Statuses
 ///
-/// If it is not 0, the buffer is unchanged.
+/// If the status is not 0, the buffer is unchanged.
 ///
 /// - 16 if it is not a push/pull stream; without keys, also if it is encrypted.
 /// - 1 if it is empty.
@@ -93,7 +93,7 @@ pub extern "C" fn swimtab_raw_unwrap_stream(
 ///
 /// # Statuses
 ///
-/// If it is not 0, the buffer is unchanged.
+/// If the status is not 0, the buffer is unchanged.
 ///
 /// - 51 if the label has more than 255 bytes, or what is to be encrypted more than 2^36 - 32.
 /// - 66 if the buffer is too small. The length is then that of the packet.
@@ -126,7 +126,7 @@ pub extern "C" fn swimtab_raw_seal(
 ///
 /// # Statuses
 ///
-/// If it is not 0, the buffer is unchanged.
+/// If the status is not 0, the buffer is unchanged.
 ///
 /// - 51 if the label has more than 255 bytes, unless it is not used; or if what is to be encrypted
 ///   has more than 268,435,427.

@@ -301,7 +301,7 @@ fn stream_cause(alloc: Global, bytes: &[u8]) -> Option<WireFault> {
     read_stream(alloc, &mut SliceInlet::new(bytes)).err()
 }
 
-/// The announced records and user state take no memory before they come.
+/// The announced records and user state take no memory before they arrive.
 #[test]
 fn a_header_that_promises_much_asks_for_little(rt: HostRuntime) {
     for bytes in [

@@ -13,7 +13,7 @@ const TOP: u64 = 92;
 /// The height of a row, in pixels.
 const ROW: u64 = 22;
 
-/// The number of rows from which on the axis is also drawn below them.
+/// From this number of rows on, the axis is also drawn below them.
 const MANY: usize = 20;
 
 /// The format of a time with its date, and without it.
