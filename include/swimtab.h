@@ -330,7 +330,7 @@ static inline uint32_t swimtab_close(swimtab_node *node) {
 /* Takes in the claim of a packet, or all claims of a compound packet: one UDP payload without wrappers,
  * as swimtab_unwrap writes it. `news` is whether the table changed; a program that gossips passes on the
  * packets that have news. Reading the texts and bytes of a packet may take memory. If the name is known,
- * only newer metadata and addresses keep some of it.
+ * only newer metadata keeps some of it.
  *
  * SWIMTAB_DONE, even if there is no news; SWIMTAB_NO_NODE; SWIMTAB_MEMORY; if the bytes are not a packet
  * or compound packet, the fault at which reading stops: .._ENDED to .._MAP_COUNT, .._NAME_EMPTY,

@@ -3,7 +3,7 @@
 use crate::bytes::{owned, written, Buffer, Octets};
 use crate::error::{done, Result};
 use crate::member::{Details, Member, Members};
-use crate::raw::{self, DONE, LONGEST_PACKET, NO_MEMBER};
+use crate::raw::{self, DONE, MAX_PACKET_LEN, NO_MEMBER};
 use crate::stream::{Answer, Form, Taken};
 use std::cell::UnsafeCell;
 use std::fmt;
@@ -274,7 +274,7 @@ impl Node {
     }
 
     fn packet(&self, call: impl Fn(*const raw::Node, *mut u8, usize) -> raw::Written) -> Result<Vec<u8>> {
-        written(LONGEST_PACKET, |out, len| call(self.handle.get(), out, len))
+        written(MAX_PACKET_LEN, |out, len| call(self.handle.get(), out, len))
     }
 
     fn member(&self, call: impl FnOnce(*mut raw::Node, *mut raw::Member) -> u32) -> Option<Member> {

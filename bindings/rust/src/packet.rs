@@ -3,7 +3,7 @@
 use crate::bytes::{written, Octets};
 use crate::error::Result;
 use crate::member::Details;
-use crate::raw::{self, LONGEST_PACKET};
+use crate::raw::{self, MAX_PACKET_LEN};
 
 /// The packet that says that another member is alive, as a member passes it on.
 ///
@@ -13,7 +13,7 @@ use crate::raw::{self, LONGEST_PACKET};
 pub fn alive_of(name: &[u8], details: Details<'_>, incarnation: u32) -> Result<Vec<u8>> {
     let addr = Octets::of(details.addr);
     let (addr, versions) = (addr.bytes(), details.version_bytes());
-    written(LONGEST_PACKET, |out, len| unsafe {
+    written(MAX_PACKET_LEN, |out, len| unsafe {
         // SAFETY: a slice's pointer is never null, and `out` has room for `len` bytes.
         raw::swimtab_raw_alive_of(
             name.as_ptr(),

@@ -94,7 +94,7 @@ pub const ENDED: u32 = 1;
 pub const TOO_SMALL: u32 = 66;
 pub const NO_MEMBER: u32 = 67;
 /// The length of the longest packet that the calls for single packets write.
-pub const LONGEST_PACKET: usize = 2083;
+pub const MAX_PACKET_LEN: usize = 2083;
 
 extern "C" {
     pub fn swimtab_raw_version() -> u32;
