@@ -1,4 +1,4 @@
--- What calls in turn do to an end.
+-- What a sequence of calls does to an end.
 use Rattle.std.proofs.Common.{◌++◌, arith}
 use Rattle.std.proofs.KnownBytes.{Consumes-trans}
 use Rattle.swim_pack.specs.Ends.{Source, Draws, Skips}

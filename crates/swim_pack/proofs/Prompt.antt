@@ -1,4 +1,4 @@
--- Readings that take no more than settles what they give.
+-- Readings that consume no more than determines their value.
 use Rattle.std.proofs.Common.{◌≡◌, ℕ, ◌-◌, ◌*◌, ◌^◌, ◌<◌, Bool, true, false, ltb, nat_lt, List, [], ◌∷◌, ◌++◌, length, take, drop, Option, Some, None, Result, Ok, Err, refl, sym, ap, ◌∙◌, append_assoc, length-append, if◌then◌else◌, arith}
 use Rattle.std.proofs.lemmas.Bool.{lt-ltb, le-ltb, ltb-false}
 use Rattle.std.proofs.lemmas.List.{take-append-drop, length-take-le, take_at, drop_at}
@@ -10,7 +10,7 @@ use Rattle.swim_pack.specs.Composing.{Reading, then_read, ◌>>=◌, gives, refu
 use Rattle.swim_pack.specs.Reading.{cause_of, next_bytes, next_byte, big_at, positive_at, after_form, head_at, number_form, raw_form, count_form, uint_at, count_at, raw_len_at, raw_at, flag_of_byte, flag_at}
 use Rattle.swim_pack.proofs.Composing.{TakesText, TakesNoMore-then, TakesNoMore-lift, none_shorter}
 
--- where the reading gives a value, what it took settles that, and no shorter front does
+-- if the reading returns a value, what it consumed determines it, and no shorter prefix does
 pub record IsPrompt {E V : Type 0} (cause : E → Cause) (reading : Reading E V) : Type 0 where
   pub by : (bytes : List ℕ) (value : V) (rest : List ℕ) → reading bytes ≡ Ok (value, rest) → TakesText
       (TakesNoMore {X = V} cause same reading (Ok value)) bytes rest

@@ -1,7 +1,7 @@
-//! Values at the front of bytes that are at hand.
+//! Values at the start of bytes that are at hand.
 //!
-//! A value that is found is what a read of the same bytes gives. If none is found, a read may still
-//! give one, or it tells why there is none.
+//! If a value is found, it is what a read of the same bytes returns. If none is found, a read may
+//! still return one, or it says why there is none.
 
 ghost use Rattle.std.specs.Prelude.{◌≡◌, ◌≤◌, length, IfSome, Ok};
 ghost use Rattle.swim_pack.specs.Reading.{FormFits, big_at, after_form, uint_at, raw_len_at, raw_at, flag_at};
@@ -34,8 +34,8 @@ fn number_behind_form(bytes: &[u8], form: Form) -> Option<(u64, &[u8])>
     }
 }
 
-/// The number of at most `max` at the front of the bytes, and the bytes behind it, as `read_uint`
-/// reads them of bytes in memory. A number that is spelled as a signed one is not looked for.
+/// The number of at most `max` at the start of the bytes, and the bytes after it, as `read_uint`
+/// reads them from bytes in memory. A number that is spelled as a signed one is not looked for.
 #[tactic(auto, unfolding(crate::specs::Reading::uint_at))]
 #[inline(always)]
 pub fn uint_at_hand(bytes: &[u8], max: u64) -> Option<(u64, &[u8])>
@@ -65,8 +65,8 @@ fn len_at_hand(bytes: &[u8], limit: usize) -> Option<(usize, &[u8])>
     Some((len as usize, rest))
 }
 
-/// The bytes or text of at most `limit` bytes at the front of the bytes, and the bytes behind them,
-/// as `read_raw` reads them of bytes in memory.
+/// The bytes or text of at most `limit` bytes at the start of the bytes, and the bytes after them,
+/// as `read_raw` reads them from bytes in memory.
 #[tactic(auto, unfolding(crate::specs::Reading::raw_at))]
 #[inline(always)]
 pub fn raw_at_hand(bytes: &[u8], limit: usize) -> Option<(&[u8], &[u8])>
@@ -78,8 +78,8 @@ pub fn raw_at_hand(bytes: &[u8], limit: usize) -> Option<(&[u8], &[u8])>
     rest.split_at_checked(len)
 }
 
-/// The truth value at the front of the bytes, and the bytes behind it, as `read_bool` reads them of
-/// bytes in memory.
+/// The truth value at the start of the bytes, and the bytes after it, as `read_bool` reads them
+/// from bytes in memory.
 #[tactic(auto, unfolding(crate::specs::Reading::flag_at))]
 pub fn bool_at_hand(bytes: &[u8]) -> Option<(bool, &[u8])>
     ensures { IfSome result (λ found. flag_at bytes.now ≡ Ok (found.0, found.1.now)) }

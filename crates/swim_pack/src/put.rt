@@ -1,7 +1,7 @@
-//! Values into room that is there, each in its one canonical spelling, and how long they are.
+//! Values into a buffer that has room, each in its one canonical spelling, and how long they are.
 //!
-//! What a call writes stands before the place that it answers. What stood behind that is left, and
-//! may be written over by the next call.
+//! A call writes before the place that it returns. The bytes from there on are left as they are,
+//! and the next call may overwrite them.
 
 ghost use Rattle.std.specs.Prelude.{◌≡◌, ◌+◌, ◌^◌, ◌<◌, ◌≤◌, ◌++◌, ◌∷◌, take, length};
 ghost use Rattle.swim_pack.specs.Spelling.{number_text, raw_text, flag_text, count_text};
@@ -37,7 +37,7 @@ pub fn raw_len(bytes: &[u8]) -> usize
     }
 }
 
-/// Writes bytes as they are. Answers the place behind them.
+/// Writes bytes as they are. Returns the place after them.
 #[inline(always)]
 pub fn put_bytes(out: &mut [u8], at: usize, bytes: &[u8]) -> usize
     requires { at + length bytes.now ≤ length out.old }
@@ -49,7 +49,7 @@ pub fn put_bytes(out: &mut [u8], at: usize, bytes: &[u8]) -> usize
     end
 }
 
-/// Writes a first byte, and bytes behind it.
+/// Writes a first byte, and bytes after it.
 #[inline(always)]
 fn put_behind(out: &mut [u8], at: usize, first: u8, bytes: &[u8]) -> usize
     requires { at + (1 + length bytes.now) ≤ length out.old }
@@ -60,8 +60,8 @@ fn put_behind(out: &mut [u8], at: usize, first: u8, bytes: &[u8]) -> usize
     put_bytes(out, next, bytes)
 }
 
-/// Writes a number in the fewest bytes: a fixint below 128, else an unsigned number of 1, 2, 4 or
-/// 8 bytes. Answers the place behind it.
+/// Writes a number in the fewest bytes: a fixint below 128, else an unsigned number of 1, 2, 4 or 8
+/// bytes. Returns the place after it.
 #[inline(always)]
 #[tactic(auto, unfolding(crate::specs::Spelling::number_text))]
 pub fn put_uint(out: &mut [u8], at: usize, value: u64) -> usize
@@ -78,7 +78,7 @@ pub fn put_uint(out: &mut [u8], at: usize, value: u64) -> usize
     }
 }
 
-/// Writes a truth value, in one byte. Answers the place behind it.
+/// Writes a truth value, in one byte. Returns the place after it.
 #[inline(always)]
 pub fn put_bool(out: &mut [u8], at: usize, value: bool) -> usize
     requires { at + length (flag_text value) ≤ length out.old }
@@ -89,7 +89,7 @@ pub fn put_bool(out: &mut [u8], at: usize, value: bool) -> usize
 }
 
 /// Writes bytes or text, at most 65,535 bytes, both as text: a fixstr below 32 bytes, else a str
-/// with 2 bytes of length. Answers the place behind them.
+/// with 2 bytes of length. Returns the place after them.
 #[inline(always)]
 #[tactic(auto, unfolding(crate::specs::Spelling::raw_text))]
 pub fn put_raw(out: &mut [u8], at: usize, bytes: &[u8]) -> usize
@@ -106,7 +106,7 @@ pub fn put_raw(out: &mut [u8], at: usize, bytes: &[u8]) -> usize
     put_bytes(out, next, bytes)
 }
 
-/// Writes the count of pairs of a map, at most 15, as a fixmap. Answers the place behind it.
+/// Writes the count of pairs of a map, at most 15, as a fixmap. Returns the place after it.
 #[inline(always)]
 pub fn put_map_len(out: &mut [u8], at: usize, count: u32) -> usize
     requires few { count < 16 }

@@ -1,11 +1,11 @@
-//! Values at the front of bytes at hand, and bytes at hand that are passed.
+//! Values at the start of bytes at hand, and bytes at hand that are skipped.
 
 use crate::tests::fakes::Pieces;
 use crate::tests::{assert_answer, assert_bytes, assert_pull};
 use crate::{FromRead, Inlet, SliceInlet, StopInlet, bool_at_hand, raw_at_hand, uint_at_hand};
 use std::process::Abort;
 
-/// That a value is found before an exclamation mark, or none, which is told as fault 1.
+/// Asserts that a value is found before an exclamation mark, or none, which counts as fault 1.
 fn assert_found(rt: &impl Abort, bytes: &[u8], found: Option<(u64, &[u8])>, wanted: (u32, u64)) {
     let answer = match found {
         Some((value, rest)) => {
@@ -40,7 +40,8 @@ fn a_number_at_hand_is_found_with_what_is_behind_it(rt: HostRuntime) {
     }
 }
 
-/// That bytes of this length or less are found, and are the front of `ab`, or that there are none.
+/// Asserts that bytes of this length or less are found, and are a prefix of `ab`, or that there are
+/// none.
 fn assert_raw(rt: &impl Abort, bytes: &[u8], limit: u8, fault: u32) {
     let found = match raw_at_hand(bytes, usize::from(limit)) {
         Some((text, rest)) => {
@@ -73,7 +74,7 @@ fn bytes_at_hand_are_found_with_what_is_behind_them(rt: HostRuntime) {
     assert_raw(&rt, b"\x02ab", 2, 1);
 }
 
-/// That a truth value is found, 1 or 0, or none.
+/// Asserts that a truth value is found, 1 or 0, or none.
 fn assert_bool(rt: &impl Abort, bytes: &[u8], wanted: (u32, u64)) {
     let found = match bool_at_hand(bytes) {
         Some((flag, rest)) => Some((u64::from(flag), rest)),
@@ -92,7 +93,8 @@ fn a_truth_value_at_hand_is_found_with_what_is_behind_it(rt: HostRuntime) {
     assert_bool(&rt, b"\xc1", (1, 0));
 }
 
-/// That these bytes are pulled, then so many are passed, or are not, and what is at hand then.
+/// Asserts that these bytes are pulled, then this many are skipped, or are not, and what is at hand
+/// then.
 fn assert_passes(rt: &impl Abort, inlet: &mut impl Inlet, steps: &[(&[u8], usize, bool, &[u8])]) {
     for (pulled, count, passes, at_hand) in steps {
         assert_pull(rt, inlet, pulled, 0);

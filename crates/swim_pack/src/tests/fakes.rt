@@ -1,9 +1,9 @@
-//! A reader and a writer that do as they are told.
+//! A reader and a writer with scripted behavior.
 
 use std::io;
 use std::io::{Error, ErrorKind, Read, Write};
 
-/// Every kind of error but an interruption, which alone is tried again.
+/// Every kind of error except an interruption, the only one that is retried.
 pub const BROKEN: [ErrorKind; 41] = [
     ErrorKind::NotFound,
     ErrorKind::PermissionDenied,
@@ -48,17 +48,17 @@ pub const BROKEN: [ErrorKind; 41] = [
     ErrorKind::Uncategorized,
 ];
 
-/// Gives its bytes, at most so many a read, after it was interrupted so many times, and before each
-/// further read so many times again.
+/// Returns its bytes, at most `most` in each read. The first read is interrupted `interruptions`
+/// times before, and each further read `again` times.
 #[derive(Drop)]
 pub struct Pieces<'a> {
     pub bytes: &'a [u8],
     pub most: usize,
     pub interruptions: u32,
     pub again: u32,
-    /// Behind its bytes it fails so, and does not end.
+    /// After its bytes it fails with this error, and does not end.
     pub fails: Option<ErrorKind>,
-    /// How often it was asked.
+    /// How often it was read.
     pub reads: u32,
 }
 
@@ -74,7 +74,8 @@ impl<'a> Pieces<'a> {
         }
     }
 
-    /// One byte a read, after it was interrupted so many times, and before each further one again.
+    /// One byte in each read, after `interruptions` interruptions, and `again` before each further
+    /// one.
     pub fn interrupted(bytes: &'a [u8], interruptions: u32, again: u32) -> Pieces<'a> {
         let mut pieces = Pieces::new(bytes, 1);
         (pieces.interruptions, pieces.again) = (interruptions, again);
@@ -107,15 +108,15 @@ impl Read for Pieces<'_> {
     }
 }
 
-/// What the write does that a `Taker` does not take.
+/// What the write does that a `Taker` refuses.
 #[derive(Clone, Copy)]
 pub enum Refusal {
     Nothing,
     Error(ErrorKind),
 }
 
-/// Takes up to 8 bytes, at most so many a write, after it was interrupted so many times, and before
-/// each further write so many times again.
+/// Takes up to 8 bytes, at most `most` in each write. The first write is interrupted
+/// `interruptions` times before, and each further write `again` times.
 #[derive(Drop)]
 pub struct Taker {
     pub taken: [u8; 8],
@@ -123,7 +124,7 @@ pub struct Taker {
     pub most: usize,
     pub interruptions: u32,
     pub again: u32,
-    /// It refuses the write of this number, counted from 1, and takes those behind it.
+    /// It refuses the write of this number, counted from 1, and takes those after it.
     pub refuses_at: u32,
     pub refusal: Refusal,
 }
@@ -141,7 +142,7 @@ impl Taker {
         }
     }
 
-    /// One byte a write, so many of them, and then this refusal.
+    /// One byte in each write, `good` of them, and then this refusal.
     pub fn refusing(refusal: Refusal, good: u32) -> Taker {
         let mut taker = Taker::new(1);
         taker.refuses_at = good.saturating_add(1);
@@ -149,7 +150,8 @@ impl Taker {
         taker
     }
 
-    /// One byte a write, after it was interrupted so many times, and before each further one again.
+    /// One byte in each write, after `interruptions` interruptions, and `again` before each further
+    /// one.
     pub fn interrupted(interruptions: u32, again: u32) -> Taker {
         let mut taker = Taker::new(1);
         (taker.interruptions, taker.again) = (interruptions, again);

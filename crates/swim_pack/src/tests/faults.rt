@@ -37,7 +37,7 @@ fn shown<T: Display>(alloc: Global, fault: &T) -> Result<String, AllocError> {
     format!(in alloc; "{fault}")
 }
 
-/// That the fault is shown by this text, tried once more where memory is refused.
+/// Asserts that the fault is displayed as this text, tried once more if out of memory.
 fn assert_shows<T: Display>(
     rt: &impl Abort,
     alloc: Global,

@@ -1,7 +1,7 @@
-//! Inlets over memory and over readers, where they give, end and fail.
+//! Inlets over memory and over readers: what they return, where they end and where they fail.
 //!
-//! A pull stands as the bytes that it has to give and 0, or as so many bytes and its fault's number:
-//! 1 at an end, 9 at a failure.
+//! A pull is written as the bytes that it has to return and 0, or as a number of bytes and the
+//! number of its fault: 1 at an end, 9 at a failure.
 
 use crate::tests::fakes::{BROKEN, Pieces};
 use crate::tests::{assert_answer, assert_bytes, assert_pull, assert_pulls, pull_number};
@@ -17,8 +17,8 @@ fn bytes_in_memory_come_in_order_and_then_end(rt: HostRuntime) {
     assert_pulls(&rt, &mut inlet, &[(b"c", 0), (b".", 1), (b"", 0)]);
 }
 
-/// That an inlet which fails from this call on gives the bytes before, each behind a pull of
-/// nothing.
+/// Asserts that an inlet which fails from this call on returns the bytes before, each after a pull
+/// of nothing.
 fn assert_stops(rt: &impl Abort, calls: usize, good: &[u8]) {
     let mut inlet = StopInlet::new(b"abcd", calls);
     for byte in good {
@@ -36,8 +36,8 @@ fn a_stop_inlet_fails_from_its_call_on(rt: HostRuntime) {
     assert_pull(&rt, &mut StopInlet::new(b"a", 2), b"..", 1);
 }
 
-/// That an inlet over a reader gives pulls while it is unbroken, and then more, which leave it
-/// unbroken or do not. Answers how often the reader was asked.
+/// Asserts that an inlet over a reader answers pulls while it is unbroken, and then more, which
+/// leave it unbroken or do not. Returns how often the reader was read.
 fn asked(
     rt: &impl Abort,
     mut reader: Pieces<'_>,
@@ -54,7 +54,7 @@ fn asked(
     reader.reads
 }
 
-/// That the reader was asked so often.
+/// Asserts that the reader was read this often.
 fn assert_asked(rt: &impl Abort, found: u32, wanted: u64) {
     assert_answer(rt, (0, u64::from(found)), (0, wanted), b"asked");
 }
@@ -111,7 +111,7 @@ fn each_other_error_of_a_reader_is_a_fault_at_once(rt: HostRuntime) {
 #[test]
 fn a_reader_that_fails_in_mid_stream_is_a_fault(rt: HostRuntime) {
     let pulls = [(b"a".as_slice(), 0), (b"...", 9), (b"", 0), (b".", 9)];
-    // Broken it is at the fault, and it stays so.
+    // It is broken at the fault, and it stays so.
     for end in [2, 4] {
         let reader = Pieces::failing(b"abc", 2, ErrorKind::ConnectionReset);
         let _ = asked(&rt, reader, &pulls[..1], &pulls[1..end], false);

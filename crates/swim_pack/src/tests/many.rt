@@ -1,4 +1,4 @@
-//! Long values, for which memory is there.
+//! Long values, for which there is memory.
 
 use crate::tests::{assert_answer, assert_bytes};
 use crate::{PackFault, SliceInlet, read_raw, write_raw};

@@ -1,6 +1,7 @@
-//! Outlets into memory and over writers, where they take and fail.
+//! Outlets into memory and over writers: what they take and where they fail.
 //!
-//! What a push answers stands as its fault's number: 10 without memory, 29 at a failure.
+//! The result of a push is written as the number of its fault: 10 if out of memory, 29 at a
+//! failure.
 
 use crate::tests::fakes::{BROKEN, Refusal, Taker};
 use crate::tests::{assert_answer, assert_bytes};
@@ -15,13 +16,13 @@ fn push_number(pushed: Result<(), PushFault>) -> u32 {
     }
 }
 
-/// What pushing the bytes has to answer.
+/// The result that pushing the bytes has to have.
 fn assert_pushes(rt: &impl Abort, outlet: &mut impl Outlet, bytes: &[u8], fault: u32) {
     let found = push_number(outlet.push(bytes));
     assert_answer(rt, (found, 0), (fault, 0), bytes);
 }
 
-/// Pushes three bytes, once more where memory was refused.
+/// Pushes three bytes, once more if out of memory.
 fn assert_takes(rt: &impl Abort, outlet: &mut VecOutlet) {
     let fault = push_number(outlet.push(b"abc"));
     if fault != 0 {
@@ -37,7 +38,7 @@ fn a_push_that_is_refused_memory_writes_nothing(rt: HostRuntime) {
     assert_takes(&rt, &mut VecOutlet::new(rt.alloc()));
 }
 
-/// Pushes a byte, and answers 1 where memory was refused for it, in which case nothing is pushed.
+/// Pushes a byte, and returns 1 if out of memory, in which case nothing is pushed.
 fn refusals(rt: &impl Abort, outlet: &mut StopOutlet) -> u64 {
     let len = outlet.bytes().len();
     let fault = push_number(outlet.push(b"a"));
@@ -47,7 +48,7 @@ fn refusals(rt: &impl Abort, outlet: &mut StopOutlet) -> u64 {
     u64::from(fault != 0)
 }
 
-/// That the outlet fails, and takes nothing.
+/// Asserts that the outlet fails, and takes nothing.
 fn assert_stopped(rt: &impl Abort, outlet: &mut StopOutlet) {
     let len = outlet.bytes().len() as u64;
     assert_pushes(rt, outlet, b"a", 29);
@@ -55,8 +56,8 @@ fn assert_stopped(rt: &impl Abort, outlet: &mut StopOutlet) {
     assert_answer(rt, (0, outlet.bytes().len() as u64), (0, len), b"a");
 }
 
-/// That an outlet which fails from this call on takes so many bytes before. Answers how often
-/// memory was refused for one.
+/// Asserts that an outlet which fails from this call on takes `good` bytes before. Returns for how
+/// many of them memory was refused.
 fn refusals_before(rt: &impl Abort, alloc: Global, calls: usize, good: u32) -> u64 {
     let mut outlet = StopOutlet::new(alloc, calls);
     let mut count = 0u64;
@@ -73,11 +74,11 @@ fn a_stop_outlet_fails_from_its_call_on(rt: HostRuntime) {
     for (calls, good) in [(0, 0), (1, 0), (2, 1), (3, 2)] {
         count = count.saturating_add(refusals_before(&rt, rt.alloc(), calls, good));
     }
-    // A run refuses one growth at most.
+    // A run refuses at most one growth.
     assert_answer(&rt, (0, count.saturating_sub(1)), (0, 0), b"refusals");
 }
 
-/// That a writer which takes at most so many bytes a write gets all of them.
+/// Asserts that a writer which takes at most `most` bytes in each write gets all of them.
 fn assert_gets_all(rt: &impl Abort, most: usize) {
     let mut writer = Taker::new(most);
     let mut outlet = ToWrite::new(&mut writer);
@@ -95,14 +96,14 @@ fn a_writer_gets_all_bytes_however_few_it_takes(rt: HostRuntime) {
     }
 }
 
-/// That a push to the writer has this fault. Answers how many bytes the writer got.
+/// Asserts that a push to the writer has this fault. Returns how many bytes the writer got.
 fn taken(rt: &impl Abort, mut writer: Taker, bytes: &[u8], fault: u32) -> u64 {
     assert_pushes(rt, &mut ToWrite::new(&mut writer), bytes, fault);
     writer.len as u64
 }
 
-/// That a push to a writer with this refusal takes so many bytes before and is then a fault, and so
-/// is a write of all the bytes at once.
+/// Asserts that a push to a writer with this refusal takes `good` bytes before and then fails, and
+/// so does a write of all the bytes at once.
 fn assert_refused(rt: &impl Abort, refusal: Refusal, good: u32) {
     let len = taken(rt, Taker::refusing(refusal, good), b"abcde", 29);
     assert_answer(rt, (0, len), (0, u64::from(good)), b"pushed");

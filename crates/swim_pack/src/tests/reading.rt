@@ -1,7 +1,7 @@
 //! Values by their spellings, as they are read or refused.
 //!
-//! Faults stand as their numbers: 1 where the bytes end, 2 for no number, 3 out of range, 4 no truth
-//! value, 5 no bytes, 6 too long, 7 no map, 8 too many pairs, 9 where the inlet fails.
+//! Faults are written as their numbers: 1 if the bytes end, 2 not a number, 3 out of range, 4 not a
+//! truth value, 5 not bytes, 6 too long, 7 not a map, 8 too many pairs, 9 if the inlet fails.
 
 use crate::tests::fakes::Pieces;
 use crate::tests::{answer, assert_answer, assert_bytes};
@@ -40,7 +40,7 @@ fn key<I: Inlet>(inlet: &mut I) -> Result<u64, PackFault> {
     Ok(read_key(inlet, &mut [0; 12])? as u64)
 }
 
-/// Reads a value of this kind, of at most `max` where it is a number or a count. Gives the number of
+/// Reads a value of this kind, of at most `max` if it is a number or a count. Returns the number of
 /// the fault, and the value.
 pub fn read<I: Inlet>(kind: Kind, inlet: &mut I, max: u64) -> (u32, u64) {
     answer(match kind {
@@ -56,15 +56,15 @@ fn assert_read(rt: &impl Abort, kind: Kind, bytes: &[u8], max: u64, wanted: (u32
     assert_answer(rt, found, wanted, bytes);
 }
 
-/// That each of these bytes is read as such a value: the bytes, the greatest number that is
-/// wanted, the number of the fault, and the value.
+/// Asserts that each of these bytes is read as such a value: the bytes, the maximum, the number of
+/// the fault, and the value.
 fn assert_reads(rt: &impl Abort, kind: Kind, rows: &[(&[u8], u64, u32, u64)]) {
     for (bytes, max, fault, value) in rows {
         assert_read(rt, kind, bytes, *max, (*fault, *value));
     }
 }
 
-/// Each is read where it is the greatest that is wanted.
+/// Each is read if it is the maximum.
 const NUMBERS: &[(&[u8], u64, u32, u64)] = &[
     (b"\x00", 0, 0, 0),
     (b"\x7f", 127, 0, 127),
@@ -96,7 +96,7 @@ fn every_spelling_of_a_number_is_read(rt: HostRuntime) {
     assert_reads(&rt, Kind::Number, NUMBERS);
 }
 
-/// What begins no number, is negative, is too great, or ends too early.
+/// What does not start a number, is negative, is too large, or ends too early.
 const NO_NUMBERS: &[(&[u8], u64, u32, u64)] = &[
     (b"\x80", 5, 2, 0),
     (b"\xa0", 5, 2, 0),
@@ -180,7 +180,7 @@ fn keys_are_read_or_refused_by_number(rt: HostRuntime) {
     assert_reads(&rt, Kind::Key, KEYS);
 }
 
-/// That the four bytes of a key are `Node`.
+/// Asserts that the four bytes of a key are `Node`.
 fn assert_node(rt: &impl Abort, inlet: &mut impl Inlet) {
     let mut key = [0; 12];
     let found = match read_key(inlet, &mut key) {
@@ -197,7 +197,7 @@ fn the_bytes_of_a_key_are_given(rt: HostRuntime) {
     assert_node(&rt, &mut SliceInlet::new(b"\xc4\x04Node"));
 }
 
-/// What `read_raw` answers; where it is refused memory, what its repeat answers.
+/// The result of `read_raw`; if out of memory, the result of calling it again.
 fn raw_of(alloc: Global, bytes: &[u8], limit: usize) -> Result<Vec<u8>, PackFault> {
     match read_raw(alloc, &mut SliceInlet::new(bytes), limit) {
         Err(PackFault::Memory) => read_raw(alloc, &mut SliceInlet::new(bytes), limit),
@@ -205,7 +205,7 @@ fn raw_of(alloc: Global, bytes: &[u8], limit: usize) -> Result<Vec<u8>, PackFaul
     }
 }
 
-/// That the bytes of this length or less are this text, or have this fault.
+/// Asserts that the bytes of this length or less are this text, or have this fault.
 fn assert_raw(rt: &impl Abort, alloc: Global, bytes: &[u8], limit: usize, text: &[u8], fault: u32) {
     let found = match raw_of(alloc, bytes, limit) {
         Ok(read) => {
@@ -249,13 +249,13 @@ fn bytes_within_the_limit_are_read_and_others_refused_by_number(rt: HostRuntime)
     }
 }
 
-/// That a reading of an inlet that fails at this call answers so.
+/// Asserts that a reading of an inlet that fails at this call has this result.
 fn assert_stops(rt: &impl Abort, kind: Kind, bytes: &[u8], calls: usize, wanted: (u32, u64)) {
     let found = read(kind, &mut StopInlet::new(bytes, calls), 7946);
     assert_answer(rt, found, wanted, bytes);
 }
 
-/// That a reading of bytes is the fault of an inlet that fails at the first call.
+/// Asserts that a reading of bytes is the fault of an inlet that fails at the first call.
 fn assert_raw_stops(rt: &impl Abort, alloc: Global) {
     let found = match read_raw(alloc, &mut StopInlet::new(b"\xa1a", 1), 1) {
         Ok(_) => 0,
@@ -276,7 +276,7 @@ fn a_reading_stops_at_the_first_fault_of_its_inlet(rt: HostRuntime) {
     assert_raw_stops(&rt, rt.alloc());
 }
 
-/// That values are read from an inlet over a reader, one behind the other.
+/// Asserts that values are read from an inlet over a reader, one after the other.
 fn assert_values(rt: &impl Abort, inlet: &mut impl Inlet) {
     assert_answer(rt, read(Kind::Number, inlet, 65535), (0, 7946), b"number");
     assert_answer(rt, read(Kind::Truth, inlet, 0), (0, 1), b"truth");

@@ -1,4 +1,4 @@
-//! What a refusal has taken: no more than tells it.
+//! What a refusal has consumed: no more than decides it.
 
 use crate::tests::reading::{Kind, read};
 use crate::tests::{assert_answer, assert_bytes};
@@ -6,7 +6,7 @@ use crate::{SliceInlet, read_raw};
 use std::alloc::Global;
 use std::process::Abort;
 
-/// That the bytes are refused for this fault, and what is left behind them.
+/// Asserts that the bytes are refused with this fault, and what is left after them.
 fn assert_left(rt: &impl Abort, kind: Kind, bytes: &[u8], max: u64, fault: u32, rest: &[u8]) {
     let mut inlet = SliceInlet::new(bytes);
     assert_answer(rt, read(kind, &mut inlet, max), (fault, 0), bytes);
@@ -30,8 +30,8 @@ fn a_refused_number_or_truth_value_leaves_what_is_behind_it(rt: HostRuntime) {
     assert_left(&rt, Kind::Truth, b"\x00!", 0, 4, b"!");
 }
 
-/// That the bytes of this length or less are refused for the fault, or for want of memory, and what
-/// is left behind them.
+/// Asserts that the bytes of this length or less are refused with the fault, or because memory runs
+/// out, and what is left after them.
 fn assert_raw_left(
     rt: &impl Abort,
     alloc: Global,

@@ -29,7 +29,7 @@ impl Value<'_> {
     }
 }
 
-/// Puts it behind the first byte of the buffer, where there is room. Answers the place behind it.
+/// Puts it after the first byte of the buffer, which has room. Returns the place after it.
 fn put(value: Value<'_>, out: &mut [u8]) -> usize {
     match value {
         Value::Number(number) if uint_len(number) < out.len() => put_uint(out, 1, number),
@@ -42,7 +42,7 @@ fn put(value: Value<'_>, out: &mut [u8]) -> usize {
     }
 }
 
-/// That the value is put behind a byte, and nothing behind it is touched.
+/// Asserts that the value is put after a byte, and nothing after it is changed.
 fn assert_put(rt: &impl Abort, value: Value<'_>, text: &[u8]) {
     let mut out = [9; 48];
     let end = put(value, &mut out);
@@ -52,7 +52,7 @@ fn assert_put(rt: &impl Abort, value: Value<'_>, text: &[u8]) {
     assert!(rt; back.iter().all(|byte| *byte == 9));
 }
 
-/// Writes it. Where memory is refused the vector stays as it was, and the repeat writes it.
+/// Writes it. If out of memory the vector stays as it was, and the second call writes it.
 fn written(value: Value<'_>, out: &mut Vec<u8>) -> Result<(), AllocError> {
     let len = out.len();
     match value.write(out) {
@@ -61,7 +61,7 @@ fn written(value: Value<'_>, out: &mut Vec<u8>) -> Result<(), AllocError> {
     }
 }
 
-/// That the value is written as the head and then the tail.
+/// Asserts that the value is written as the head and then the tail.
 fn assert_written(
     rt: &impl Abort,
     alloc: Global,
@@ -77,7 +77,7 @@ fn assert_written(
     Ok(())
 }
 
-/// Values with their spellings, but for long bytes.
+/// Values with their spellings, except long bytes.
 const VALUES: &[(Value<'static>, &[u8])] = &[
     (Value::Number(0), b"\x00"),
     (Value::Number(127), b"\x7f"),
@@ -119,7 +119,7 @@ fn each_value_has_its_canonical_spelling(rt: HostRuntime) -> Result<(), Fail> {
     Ok(())
 }
 
-/// Four values, one behind the other.
+/// Four values, one after the other.
 fn four_values(alloc: Global) -> Result<Vec<u8>, AllocError> {
     let mut out = Vec::new(alloc);
     for value in [
@@ -133,12 +133,12 @@ fn four_values(alloc: Global) -> Result<Vec<u8>, AllocError> {
     Ok(out)
 }
 
-/// Reads bytes, and answers how many they are.
+/// Reads bytes, and returns how many there are.
 fn raw_read(alloc: Global, inlet: &mut SliceInlet<'_>) -> Result<u64, PackFault> {
     Ok(read_raw(alloc, inlet, 0)?.len() as u64)
 }
 
-/// That the four values are read back, and nothing is left behind them.
+/// Asserts that the four values are read back, and nothing is left after them.
 fn assert_read_back(rt: &impl Abort, alloc: Global, bytes: &[u8]) -> Result<(), PackFault> {
     let mut inlet = SliceInlet::new(bytes);
     assert_answer(rt, read(Kind::Number, &mut inlet, 65535), (0, 7946), bytes);
@@ -159,7 +159,7 @@ fn written_values_are_read_back(rt: HostRuntime) -> Result<(), Fail> {
 
 #[test]
 fn a_refused_tail_takes_its_head_back(rt: HostRuntime) -> Result<(), Fail> {
-    // There is room for the three bytes of the head, and for no byte behind them.
+    // There is room for the three bytes of the head, and for no byte after them.
     let mut out = match Vec::with_capacity(rt.alloc(), 3) {
         Ok(out) => out,
         Err(_) => return Ok(()),
