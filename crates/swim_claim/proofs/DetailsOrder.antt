@@ -1,4 +1,4 @@
--- The order of details tells all details apart.
+-- The order of details distinguishes all details.
 use Rattle.std.specs.Prelude.{◌≡◌, ℕ, List}
 use Rattle.std.specs.declared.cmp.Ordering.TheVariants.{Equal}
 use Rattle.std.proofs.Common.{ap}

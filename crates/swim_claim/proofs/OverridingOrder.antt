@@ -1,5 +1,5 @@
--- What overrides is what is greater by rank, and so a strict total order among the claims about one
--- name.
+-- A claim overrides if its rank is greater, so overriding is a strict total order among the claims
+-- about one name.
 use Rattle.std.specs.Prelude.{◌≡◌, ◌≢◌, ◌⊎◌}
 use Rattle.std.specs.Cmp.{IsTotalOrder}
 use Rattle.std.specs.Ordering.{ordering_reverse}
@@ -61,7 +61,7 @@ overrides_from_greater (Leave n i) (Suspect m j) h = tt
 overrides_from_greater (Leave n i) (Confirm m j) h = grind (arith, nat_tests)
 overrides_from_greater (Leave n i) (Leave m j) h = grind (arith, nat_tests)
 
--- claims about one name of one rank are the same claim
+-- claims about one name with one rank are the same claim
 pub claim_cmp_exact : (c d : Claim) → name_of c ≡ name_of d → claim_cmp c d ≡ Equal → c ≡ d
 claim_cmp_exact (Alive n i x) (Alive m j y) name h =
     let same_inc : i ≡ j = grind (arith, nat_tests) in

@@ -5,6 +5,6 @@ use Rattle.std.specs.Prelude.{ℕ}
 abbrev pub longest_name : ℕ
 longest_name = 1024
 
--- what the program of a member adds, as in memberlist
+-- what the member's program adds, as in memberlist
 abbrev pub longest_meta : ℕ
 longest_meta = 512

@@ -1,4 +1,4 @@
-//! Bytes, a few of them held in place.
+//! Bytes, stored inline if they are few.
 ghost use Rattle.std.specs.Prelude.{◌≡◌, IfOk};
 ghost use Rattle.swim_claim.specs.Held.{held_bytes};
 
@@ -6,17 +6,18 @@ use crate::short::Short;
 use std::alloc::{AllocError, Global};
 use std::marker::Model;
 
-/// The most bytes that are held in place.
+/// The most bytes that are stored inline.
 const IN_PLACE: usize = 30;
 
-/// Bytes, of which at most 30 take no memory of their own.
+/// Bytes, of which up to 30 take no memory of their own.
 ///
-/// It is no enum of both forms, since each of those is a case of its own wherever a name is let go.
+/// It is not an enum of both forms, since each form would be a case of its own wherever a name is
+/// dropped.
 #[derive(Drop, Debug)]
 pub(crate) struct Held {
-    // empty where the bytes are apart
+    // empty if the bytes are on the heap
     in_place: Short<IN_PLACE>,
-    // empty, and then without memory, where they are in place
+    // empty, and then without memory, if the bytes are inline
     apart: Vec<u8>,
 }
 
@@ -47,7 +48,7 @@ impl Held {
         }
     }
 
-    /// These bytes, copied.
+    /// A copy of these bytes.
     #[inline(always)]
     pub(crate) fn copied(alloc: Global, bytes: &[u8]) -> Result<Held, AllocError>
         ensures { IfOk result (λ held. held ≡ bytes.now) }

@@ -17,10 +17,10 @@ pub fn overrides(first: &Claim, second: &Claim) -> bool
 
 /// Whether a claim with the first facts overrides one about the same name with the second.
 ///
-/// | first | second | where | source |
+/// | first | second | if | source |
 /// |---|---|---|---|
 /// | alive | alive | the first has the greater incarnation | SWIM paper, section 4.2, rule 1 |
-/// | alive | alive | one incarnation, and the first has the greater details | own |
+/// | alive | alive | same incarnation, and the first has the greater details | own |
 /// | alive | suspect | the first has the greater incarnation | SWIM paper, section 4.2, rule 1 |
 /// | suspect | suspect | the first has the greater incarnation | SWIM paper, section 4.2, rule 2 |
 /// | suspect | alive | the first has no smaller incarnation | SWIM paper, section 4.2, rule 2 |
@@ -30,7 +30,7 @@ pub fn overrides(first: &Claim, second: &Claim) -> bool
 /// | leave | leave | the first has the greater incarnation | own |
 /// | leave | confirm | the first has no smaller incarnation | own |
 ///
-/// No other claim overrides another one. Facts have details exactly where the kind is alive.
+/// No other claim overrides another one. Facts have details if and only if the kind is alive.
 pub fn outranks(first: Facts, second: Facts) -> bool
     requires first { IsLegalFacts first }
     requires second { IsLegalFacts second }

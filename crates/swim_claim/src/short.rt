@@ -1,4 +1,4 @@
-//! A few bytes, held in place.
+//! A few bytes, stored inline.
 ghost use Rattle.std.specs.Prelude.{◌≡◌, ◌≤◌, length};
 
 use std::marker::Model;
@@ -41,7 +41,7 @@ impl<const N: usize> Short<N> {
         &self.bytes[..usize::from(self.len)]
     }
 
-    /// The same bytes again.
+    /// A copy of the bytes.
     pub(crate) fn again(&self) -> Short<N>
         ensures { result ≡ self.now }
     {

@@ -1,6 +1,6 @@
 //! Worked examples of names, details, claims and overriding.
 //!
-//! A helper answers in plain values what the owned values in it tell, and the tests compare those.
+//! A helper returns plain values for the owned ones, and the tests compare those.
 ghost use Rattle.std.specs.Prelude.{◌≡◌, IfOk};
 ghost use Rattle.swim_claim.specs.Claim.{name_of};
 
@@ -43,7 +43,7 @@ fn claim_of(alloc: Global, name: &[u8], kind: Kind, inc: u32, details: Parts) ->
     })
 }
 
-/// The name again. Where a growth is refused, the next call finds memory.
+/// A copy of the name. If a growth is refused, the next call finds memory.
 fn name_again(alloc: Global, name: &Name) -> Result<Name, AllocError> {
     match name.try_clone(alloc) {
         Ok(copy) => Ok(copy),
@@ -51,8 +51,8 @@ fn name_again(alloc: Global, name: &Name) -> Result<Name, AllocError> {
     }
 }
 
-/// The number of the fault for which the bytes are no name. It is 0 where they are one, and it and
-/// its copy give them.
+/// The number of the fault with which the bytes are not a name. It is 0 if they are one, and it and
+/// its copy return them.
 fn name_fault(alloc: Global, bytes: &[u8]) -> Result<u32, AllocError> {
     match Name::new(bytes.to_vec(alloc)?) {
         Ok(name) => {
@@ -79,7 +79,7 @@ fn a_name_has_1_to_1024_bytes_and_gives_them(rt: HostRuntime) -> Result<(), Fail
     Ok(())
 }
 
-/// The number of the fault for which there are no details of so many bytes, or 0.
+/// The number of the fault for parts of these lengths, or 0.
 fn details_fault(
     alloc: Global,
     addr_len: usize,
@@ -155,7 +155,7 @@ fn a_fault_has_its_number_and_its_text(rt: HostRuntime) -> Result<(), Fail> {
     Ok(())
 }
 
-/// Whether the claim overrides another one about its name, and its facts outrank those of that one.
+/// Whether the claim overrides another one about its name, and its facts outrank the other's.
 fn overrides_another(
     alloc: Global,
     claim: &Claim,
@@ -168,7 +168,7 @@ fn overrides_another(
     ])
 }
 
-/// What `overrides_another` answers of two claims about `a`.
+/// The result of `overrides_another` for two claims about `a`.
 fn overriding(
     alloc: Global,
     first: (Kind, u32, Parts),
@@ -178,7 +178,7 @@ fn overriding(
     overrides_another(alloc, &first, second)
 }
 
-/// What `overriding` answers where the incarnation of the first claim is below, at and above that of
+/// The results of `overriding` with the incarnation of the first claim below, at and above that of
 /// the second.
 fn overriding_around(alloc: Global, kind: Kind, other: Kind) -> Result<[[bool; 2]; 3], Fail> {
     let details = (IPV4.as_slice(), 7946, b"".as_slice(), b"".as_slice());
@@ -193,7 +193,7 @@ fn overriding_around(alloc: Global, kind: Kind, other: Kind) -> Result<[[bool; 2
 #[test]
 fn overriding_follows_the_table_of_kinds(rt: HostRuntime) -> Result<(), Fail> {
     use Kind::{Alive, Confirm, Leave, Suspect};
-    // whether the first overrides where its incarnation is below, at and above that of the second
+    // whether the first overrides with its incarnation below, at and above that of the second
     for (kind, other, below, at, above) in [
         (Alive, Alive, false, false, true),
         (Alive, Suspect, false, false, true),
@@ -232,7 +232,7 @@ fn less_than(alloc: Global, lesser: &Details, greater: Parts) -> Result<bool, Fa
     Ok(are_less(lesser, &greater))
 }
 
-/// Whether details of the first parts are less than those of the second.
+/// Whether details with the first parts are less than those with the second.
 fn less(alloc: Global, lesser: Parts, greater: Parts) -> Result<bool, Fail> {
     let lesser = details_of(alloc, lesser)?;
     less_than(alloc, &lesser, greater)
@@ -271,7 +271,7 @@ fn of_two_alives_of_one_incarnation_the_greater_details_override(
     Ok(())
 }
 
-/// Which readers of details give these parts.
+/// Which readers of details return these parts.
 fn parts_given(details: &Details, parts: Parts) -> [bool; 4] {
     let (addr, port, meta, vsn) = parts;
     [
@@ -282,7 +282,7 @@ fn parts_given(details: &Details, parts: Parts) -> [bool; 4] {
     ]
 }
 
-/// The details again. Where a growth is refused, the next call finds memory.
+/// A copy of the details. If a growth is refused, the next call finds memory.
 fn details_again(alloc: Global, details: &Details) -> Result<Details, AllocError> {
     match details.try_clone(alloc) {
         Ok(copy) => Ok(copy),
@@ -290,7 +290,7 @@ fn details_again(alloc: Global, details: &Details) -> Result<Details, AllocError
     }
 }
 
-/// Which readers of details, and of their copy, give their parts.
+/// Which readers of details, and of their copy, return their parts.
 fn details_given(alloc: Global, parts: Parts) -> Result<[[bool; 4]; 2], Fail> {
     let details = details_of(alloc, parts)?;
     let copy = details_again(alloc, &details)?;
@@ -305,7 +305,7 @@ fn details_give_their_parts_and_so_do_their_copies(rt: HostRuntime) -> Result<()
     Ok(())
 }
 
-/// The claim again. Where a growth is refused, the next call finds memory.
+/// A copy of the claim. If a growth is refused, the next call finds memory.
 fn claim_again(alloc: Global, claim: &Claim) -> Result<Claim, AllocError> {
     match claim.try_clone(alloc) {
         Ok(copy) => Ok(copy),
@@ -313,7 +313,7 @@ fn claim_again(alloc: Global, claim: &Claim) -> Result<Claim, AllocError> {
     }
 }
 
-/// Whether these are details of the parts, or there are none, and should be none.
+/// Whether the details have these parts, or there are none and none are expected.
 fn are(details: Option<&Details>, parts: Option<Parts>) -> bool {
     match (details, parts) {
         (Some(details), Some(parts)) => parts_given(details, parts) == [true; 4],
@@ -322,7 +322,7 @@ fn are(details: Option<&Details>, parts: Option<Parts>) -> bool {
     }
 }
 
-/// Which readers of a claim about `a`, and of its facts, give its parts.
+/// Which readers of a claim about `a`, and of its facts, return its parts.
 fn claim_parts_given(claim: &Claim, kind: Kind, inc: u32, details: Option<Parts>) -> [bool; 7] {
     let facts = claim.facts();
     [
@@ -347,7 +347,7 @@ fn copy_given(
     Ok(claim_parts_given(&copy, kind, inc, details))
 }
 
-/// Which readers of a claim about `a`, and of its copy, give its parts.
+/// Which readers of a claim about `a`, and of its copy, return its parts.
 fn claim_given(
     alloc: Global,
     kind: Kind,
