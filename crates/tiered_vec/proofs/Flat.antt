@@ -1,4 +1,4 @@
--- Blocks one after another, and what an edit of a block is among all elements.
+-- Blocks one after another, and what an edit of a block does to the list of all elements.
 use Rattle.std.proofs.Common.{◌≡◌, ℕ, max, min, ◌/◌, zero, suc, ◌+◌, ◌-◌, ◌*◌, ◌<◌, ◌≤◌, List, [], ◌∷◌, ◌++◌, All, Some, slice_get, length, get_or, set, take, drop, refl, sym, ap, subst, ◌∙◌, arith, length-append, append_assoc}
 use Rattle.std.specs.List.{insert}
 use Rattle.std.proofs.lemmas.Option.{slice_get-get_or}
@@ -14,7 +14,7 @@ use Rattle.tiered_vec.specs.Place.{Position}
 use Rattle.tiered_vec.specs.Tiers.{Tiers, room, with_item_at, flatten, start, block_at, cut, overfull, load, IsBlock, IsGap, IsPlace, IsOpened, index_of, block_size, half_size}
 
 module _ {X : Type 0} where
-  -- the elements are those before a block, of it, and after it
+  -- the elements are those before a block, those in it, and those after it
   pub flatten-parts : (s : List (List X)) (k : ℕ) → k < length s → flatten s ≡ flatten (take k s) ++ (block_at s k ++ flatten (drop (suc k) s))
   flatten-parts [] k h = absurd (omega arith)
   flatten-parts (b ∷ s) zero h = refl
@@ -27,7 +27,7 @@ module _ {X : Type 0} where
   flatten-set (b ∷ s) (suc k) c h =
       ap (λ xs. b ++ xs) (flatten-set s k c (omega arith)) ∙ sym (append_assoc b (flatten (take k s)) (c ++ flatten (drop (suc k) s)))
 
-  -- to put an element into a block is to put it among all
+  -- putting an element into a block puts it into the whole list
   pub flatten-put : (s : List (List X)) (k at : ℕ) (x : X) → k < length s → at ≤ length (block_at s k) → flatten
       (set s k (insert (block_at s k) at x)) ≡ insert (flatten s) (start s k + at) x
   flatten-put s k at x h a =
@@ -40,7 +40,7 @@ module _ {X : Type 0} where
       ∙ sym (insert-append_right front (block_at s k ++ rest) (length front) (length front + at) x refl (omega arith))
       ∙ ap (λ xs. insert xs (start s k + at) x) (sym (flatten-parts s k h))
 
-  -- an element of a block among all
+  -- an element of a block in the whole list
   pub placed : (s : List (List X)) (k j : ℕ) (d : X) → k < length s → j < length (block_at s k) → get_or (flatten s)
       (start s k + j) d ≡ get_or (block_at s k) j d
   placed s k j d h l = get_or-flat_map (λ (b : List X). b) s k j [] d h l
@@ -73,7 +73,7 @@ module _ {X : Type 0} where
       (ap (λ c. get_or c (length b - 1) d) e ∙ sym (placed s k (length b - 1) d within (omega (arith, ap length e, h))) ∙ ap (λ i. get_or (flatten s) i d) at)
       ∙ sym (slice_get-get_or (flatten s) (length (flatten s) - 1) d (omega (arith, long, ap length e, h)))
 
-  -- to cut a block is to leave its lower half and to insert the upper one after it
+  -- cutting a block keeps its lower half and inserts the upper one after it
   pub cut-insert : (s : List (List X)) (k : ℕ) → k < length s → insert (set s k (take half_size (block_at s k))) (k + 1)
       (drop half_size (block_at s k)) ≡ cut s k
   cut-insert s k h =
@@ -176,7 +176,7 @@ module _ {X : Type 0} (s t : List (List X)) (k : ℕ) (h : k < length s) (full :
         each = λ b good. All-set IsBlock (cut s k) (suc k) b good (All-cut s k h full each);
       }))
 
--- what an element put at an opened place makes
+-- the result of putting an element at an opened place
 module _ {X : Type 0} (s t : List (List X)) (n : ℕ) (p : Position) (x : X) (o : IsOpened s t n p) where
   pub put_flatten : flatten (set t p.block (insert (block_at t p.block) p.at x)) ≡ insert (flatten s) n x
   unfolding index_of
@@ -194,7 +194,7 @@ none_before : (X : Type 0) (k : ℕ) → length (flatten {T = X} (take k [])) �
 none_before X zero = refl
 none_before X (suc k) = refl
 
--- a place that is no end is in range among all
+-- a place that is not the end is in range in the whole list
 module _ {X : Type 0} (s : List (List X)) (p : Position) where
   pub index_in_range : IsPlace s p → index_of s p < length (flatten s)
   unfolding index_of
@@ -241,7 +241,7 @@ module _ {X : Type 0} where
   load-most [] a = omega arith
   load-most (b ∷ s) a = omega (arith, overfull-most (b ∷ s) a)
 
-  -- the element that a read of a block's front gives
+  -- the element that a read of a block's start returns
   pub first_of : (s : List (List X)) (k : ℕ) (b : List X) (x : X) → k < length s → b ≡ block_at s k → 0 < length b
       → x ≡ get_or b 0 x → (d : X) → x ≡ get_or (flatten s) (start s k) d
   first_of s k b x h e l r d =
@@ -275,13 +275,13 @@ module _ {X : Type 0} where
         each = λ b good. subst (All IsBlock) (sym (set_at s [] [] b n (sym m))) (All-push IsBlock s b a good);
       })
 
--- so many blocks are enough for n insertions wherever
+-- this many blocks are enough for n insertions anywhere
 pub room_enough : (n spares filled len : ℕ) → filled ≤ half_size * len + half_size → min n (len + n / half_size + 2) ≤ spares
     → n ≤ max spares (half_size * spares - filled)
 room_enough n spares filled len h e = omega arith
 
 module _ {X : Type 0} where
-  -- to change an element of a block is to change it among all
+  -- changing an element of a block changes it in the whole list
   pub flatten-set_at : (s : List (List X)) (k at : ℕ) (x : X) → k < length s → at < length (block_at s k) → flatten
       (set s k (set (block_at s k) at x)) ≡ set (flatten s) (start s k + at) x
   flatten-set_at s k at x h a =
@@ -338,7 +338,7 @@ module _ {X : Type 0} where
   load-set_same (b ∷ s) zero c e = overfull-set_same (b ∷ s) zero c e
   load-set_same (b ∷ s) (suc k) c e = overfull-set_same (b ∷ s) (suc k) c e
 
-  -- nor does it change the room
+  -- it does not change the room
   pub room-with_item_at : (v : Tiers X) (p : Position) (x : X) → room (with_item_at v p x) ≡ room v
   unfolding room with_item_at
   room-with_item_at v p x =

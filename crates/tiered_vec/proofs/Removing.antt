@@ -1,4 +1,4 @@
--- What the removal of an element from a block is among all elements.
+-- What removing an element from a block does to the list of all elements.
 use Rattle.std.proofs.Common.{◌≡◌, ℕ, zero, suc, ◌+◌, ◌-◌, ◌<◌, ◌≤◌, List, [], ◌∷◌, ◌++◌, All, length, set, take, drop, refl, sym, ap, subst, ◌∙◌, arith, get_or-set_same}
 use Rattle.std.specs.List.{remove}
 use Rattle.std.proofs.lemmas.List.{length-set}
@@ -12,7 +12,7 @@ module _ {X : Type 0} where
   nothing [] e = refl
   nothing (x ∷ xs) e = absurd (omega (arith, e))
 
-  -- to take an element out of a block is to remove it from all
+  -- taking an element out of a block removes it from the whole list
   flatten-without : (s : List (List X)) (k at : ℕ) → k < length s → at < length (block_at s k) → flatten (without s k at) ≡ remove
       (flatten s) (start s k + at)
   flatten-without s k at h a =
@@ -36,7 +36,7 @@ module _ {X : Type 0} where
   remove-set (b ∷ s) zero c = refl
   remove-set (b ∷ s) (suc k) c = ap (λ t. b ∷ t) (remove-set s k c)
 
-  -- the blocks that are left, with the one from which it was taken or without it
+  -- the blocks that are left, with or without the one from which it was taken
   each-without : (s : List (List X)) (k at : ℕ) → at < length (block_at s k) → 1 < length (block_at s k) → length (block_at s k) ≤ block_size
       → All IsBlock s → All IsBlock (without s k at)
   each-without s k at a more fits each =
@@ -126,7 +126,7 @@ module _ {X : Type 0} (s t : List (List X)) (k at : ℕ) (h : k < length s) (a :
         end_room = end_room-without s k at n a;
       })
 
-  -- it is, and becomes a spare one
+  -- the block is empty, and becomes a spare one
   pub block_spared : (u : List (List X)) (n m : ℕ) → length (block_at t k) ≡ 0 → u ≡ remove t k → m ≡ n + 1 → IsTakenOut s u n m k at
   block_spared u n m none is more =
       let is' : u ≡ remove (without s k at) k = is ∙ ap (λ v. remove v k) e in

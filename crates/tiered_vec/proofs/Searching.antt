@@ -26,13 +26,13 @@ is_Greater Less h = absurd (true≢false (sym h))
 is_Greater Equal h = absurd (true≢false (sym h))
 is_Greater Greater h = refl
 
--- one call of a closure that always returns so
+-- one call of a closure that always returns a result with P
 pub answers_next : {F X R : Type 0} (g : Mut F X R) (P : X → R → Type 0) (f : F) (a : X) (r : R) (f' : F) → Called g f a r f'
     → AlwaysReturns g P f → P a r × AlwaysReturns g P f'
 answers_next g P f a r f' c h = ((h.at (a ∷ []) r f' c).0, record { at = λ xs. (h.at (a ∷ xs) r f' c).1 })
 
 module _ {X : Type 0} (ord : X → Ordering) (s : List (List X)) where
-  -- what is looked for is in a block from low on and before high, if anywhere
+  -- what is searched for is in a block from low on and before high, if anywhere
   pub record Narrowed (low high : ℕ) : Type 0 where
     pub above : (low ≡ 0) ⊎ HoldsAt (λ y. is_gt (ord y) ≡ false) (flatten s) (start s low)
     pub below : (high ≡ length s) ⊎ HoldsAt (λ y. is_gt (ord y) ≡ true) (flatten s) (start s high)

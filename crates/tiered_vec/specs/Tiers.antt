@@ -1,4 +1,4 @@
--- What a vector in blocks is seen as.
+-- How a vector in blocks is seen.
 use Rattle.std.specs.Prelude.{◌≡◌, ℕ, zero, suc, ◌+◌, ◌-◌, ◌*◌, ◌/◌, ◌<◌, ◌≤◌, max, List, [], ◌∷◌, length, take, drop, slice_index_or, slice_set, All, Result, Ok, Err, refl}
 use Rattle.std.specs.List.{flat_map, insert, remove}
 use Rattle.std.specs.Coded.{Coded, code_by, coded×, coded_ℕ, coded_list}
@@ -9,14 +9,14 @@ pub record Tiers (T : Type 0) : Type 0 where
   pub blocks : List (List T)
   pub spares : ℕ
 
--- how proofs tell such values apart: by the pair of their fields
+-- how proofs distinguish such values: by the pair of their fields
 abbrev pub tiers_code : {T : Type 0} → Coded T → Coded (Tiers T)
 tiers_code {T} code =
     code_by (List (List T) × ℕ) (coded× (coded_list (coded_list code)) coded_ℕ)
     (λ v. (v.blocks, v.spares))
     (λ p. record { blocks = p.0; spares = p.1 }) (λ _. refl)
 
--- the most elements of a block
+-- the most elements in a block
 abbrev pub block_size : ℕ
 block_size = 128
 
@@ -34,7 +34,7 @@ module _ {T : Type 0} where
   abbrev pub flatten : List (List T) → List T
   flatten blocks = flat_map (λ b. b) blocks
 
-  -- how many elements stand before a block
+  -- how many elements are before a block
   abbrev pub start : List (List T) → ℕ → ℕ
   start blocks k = length (flatten (take k blocks))
 
@@ -46,7 +46,7 @@ module _ {T : Type 0} where
   abbrev pub with_put : List (List T) → ℕ → ℕ → T → List (List T)
   with_put blocks k at x = slice_set blocks k (insert (block_at blocks k) at x)
 
-  -- the blocks with an element taken out of one of them
+  -- the blocks with an element removed from one of them
   abbrev pub without : List (List T) → ℕ → ℕ → List (List T)
   without blocks k at = slice_set blocks k (remove (block_at blocks k) at)
 
@@ -61,7 +61,7 @@ module _ {T : Type 0} where
   overfull [] = 0
   overfull (b ∷ blocks) = (length b - half_size) + overfull blocks
 
-  -- the same, where the first block is still to be added
+  -- the same, if the first block is still to be added
   abbrev pub load : List (List T) → ℕ
   load [] = half_size
   load (b ∷ blocks) = overfull (b ∷ blocks)
@@ -71,11 +71,11 @@ module _ {T : Type 0} where
   left_in_last blocks = block_size * length blocks
       - (block_size * (length blocks - 1) + length (block_at blocks (length blocks - 1)))
 
-  -- so many insertions, at whatever places, fit where each spare block takes half of a full one
+  -- this many insertions, at any places, fit if each spare block takes half of a full one
   abbrev pub cut_room : List (List T) → ℕ → ℕ
   cut_room blocks spares = half_size * spares - load blocks
 
-  -- so many elements fit at the end
+  -- this many elements fit at the end
   abbrev pub end_room : List (List T) → ℕ → ℕ
   end_room blocks spares = left_in_last blocks + block_size * spares
 
@@ -83,15 +83,15 @@ module _ {T : Type 0} where
   abbrev pub items : Tiers T → List T
   items v = flatten v.blocks
 
-  -- so many insertions, at whatever places, take no memory
+  -- this many insertions, at any places, take no memory
   unfoldable pub room : Tiers T → ℕ
   room v = max v.spares (cut_room v.blocks v.spares)
 
-  -- and so many pushes
+  -- and this many pushes
   unfoldable pub tail_room : Tiers T → ℕ
   tail_room v = end_room v.blocks v.spares
 
-  -- how many elements stand before a place
+  -- how many elements are before a place
   unfoldable pub index_of : List (List T) → Position → ℕ
   index_of blocks p = start blocks p.block + p.at
 
@@ -111,7 +111,7 @@ module _ {T : Type 0} where
     pub index : index_of blocks p ≡ n
     pub element : n < length (flatten blocks) → IsPlace blocks p
 
-  -- the answer of a search as one about the elements
+  -- the result of a search as one about the elements
   abbrev pub index_result : List (List T) → Result Position Position → Result ℕ ℕ
   index_result blocks (Ok p) = Ok (index_of blocks p)
   index_result blocks (Err p) = Err (index_of blocks p)
@@ -122,7 +122,7 @@ module _ {T : Type 0} where
     blocks = slice_set v.blocks p.block (slice_set (block_at v.blocks p.block) p.at x);
   }
 
-  -- The n-th place was made ready for an element: where that is then.
+  -- The n-th place was made ready for an element: where it is then.
   pub record IsOpened (old new : List (List T)) (n : ℕ) (p : Position) : Type 0 where
     pub in_block : p.block < length new
     pub in_range : p.at ≤ length (block_at new p.block)

@@ -1,4 +1,4 @@
-//! What is done to the vectors of a vector in blocks.
+//! Operations on the vectors that hold the blocks.
 ghost use Rattle.std.specs.Prelude.{◌≡◌, ◌+◌, ◌<◌, ◌≤◌, ◌++◌, ◌∷◌, [], All, max, length, take, drop, vec_capacity, slice_index_or, OnOk, OnErr, IfOk, IsOk, MatchResult};
 ghost use Rattle.std.specs.Fn.{ComputesKey};
 ghost use Rattle.std.specs.List.{remove};
@@ -10,7 +10,7 @@ use crate::place::Place;
 use std::alloc::{AllocError, Global};
 use std::cmp::Ordering;
 
-/// The most elements of a block. The specs name it too, as `block_size`: change both together.
+/// The most elements in a block. The specs name it too, as `block_size`: change both together.
 pub(crate) const BLOCK: usize = 128;
 
 /// Where a full block is cut.
@@ -20,12 +20,12 @@ pub(crate) const HALF: usize = BLOCK / 2;
 const MOST: usize = 1 << 54;
 
 /// Makes empty blocks until there are n, with a place for each among the blocks, and for each block
-/// among the empty ones. Where there are n it takes no memory.
+/// among the empty ones. If there are n already it takes no memory.
 ///
 /// # Errors
 ///
-/// Memory is refused, or there would be more than MOST blocks. The blocks are as they were, and no
-/// spare one is lost.
+/// If there is not enough memory, or there would be more than MOST blocks. The blocks are as they
+/// were, and no spare one is lost.
 pub(crate) fn make_spares<T>(
     alloc: Global,
     blocks: &mut Vec<Vec<T>>,
@@ -120,7 +120,7 @@ pub(crate) fn put<T>(blocks: &mut Vec<Vec<T>>, block: usize, at: usize, x: T)
     }
 }
 
-/// Takes an element out of a block, which may leave it empty.
+/// Removes an element from a block, which may leave it empty.
 pub(crate) fn take_from<T>(blocks: &mut Vec<Vec<T>>, block: usize, at: usize) -> T
     requires rooms { All HasRoom blocks.old.items }
     requires block { block < length blocks.old.items }
@@ -149,7 +149,7 @@ pub(crate) fn spare_block<T>(blocks: &mut Vec<Vec<T>>, spares: &mut Vec<Vec<T>>,
     spares.push_reserved(empty);
 }
 
-/// Takes the element at a place out of the blocks. A block that is then empty becomes a spare one.
+/// Removes the element at a place from the blocks. A block that is then empty becomes a spare one.
 #[tactic(auto, unfolding(crate::specs::Tiers::index_of))]
 pub(crate) fn take_out<T>(blocks: &mut Vec<Vec<T>>, spares: &mut Vec<Vec<T>>, place: Place) -> T
     requires rooms { HasRooms blocks.old spares.old }
@@ -175,12 +175,12 @@ pub(crate) fn take_out<T>(blocks: &mut Vec<Vec<T>>, spares: &mut Vec<Vec<T>>, pl
     x
 }
 
-/// Makes a place ready for an element: a full block there is cut first. Answers where the place is
+/// Makes a place ready for an element: a full block there is cut first. Returns where the place is
 /// then.
 ///
 /// # Errors
 ///
-/// There is no spare block, and memory for one is refused. The blocks are as they were.
+/// If there is no spare block and not enough memory for one. The blocks are as they were.
 #[tactic(auto, unfolding(crate::specs::Tiers::index_of))]
 pub(crate) fn open<T>(
     alloc: Global,
@@ -220,12 +220,12 @@ pub(crate) fn open<T>(
     })
 }
 
-/// Makes the end ready for an element: where the last block is full, another one is added. Answers
+/// Makes the end ready for an element: if the last block is full, another one is added. Returns
 /// where the end is then.
 ///
 /// # Errors
 ///
-/// There is no spare block, and memory for one is refused. The blocks are as they were.
+/// If there is no spare block and not enough memory for one. The blocks are as they were.
 #[tactic(auto, unfolding(crate::specs::Tiers::index_of))]
 pub(crate) fn open_end<T>(
     alloc: Global,
@@ -278,7 +278,7 @@ pub(crate) fn end_of<T>(blocks: &[Vec<T>]) -> Place
     }
 }
 
-/// The place before which so many elements stand.
+/// The place that has this many elements before it.
 #[tactic(auto, unfolding(crate::specs::Tiers::index_of))]
 pub(crate) fn place_of<T>(blocks: &[Vec<T>], index: usize) -> Place
     requires { index ≤ length (flatten (shape blocks.now)) }
@@ -296,7 +296,7 @@ pub(crate) fn place_of<T>(blocks: &[Vec<T>], index: usize) -> Place
     Place { block, at }
 }
 
-/// The place after that of an element.
+/// The place after the one of an element.
 #[tactic(auto, unfolding(crate::specs::Tiers::index_of))]
 pub(crate) fn place_after<T>(blocks: &[Vec<T>], place: Place) -> Place
     requires place { IsPlace (shape blocks.now) place }
@@ -315,7 +315,7 @@ pub(crate) fn place_after<T>(blocks: &[Vec<T>], place: Place) -> Place
     }
 }
 
-/// A binary search among the first elements of the blocks, and then in a block.
+/// A binary search over the first elements of the blocks, and then in a block.
 #[tactic(auto, unfolding(crate::specs::Tiers::index_of))]
 pub(crate) fn find_among<T, F: FnMut(&T) -> Ordering>(
     blocks: &[Vec<T>],

@@ -38,7 +38,7 @@ impl<T: Drop> IntoIter<T> {
         }
     }
 
-    /// The next element, or none where all were given. It takes no memory.
+    /// The next element, or `None` after the last. It takes no memory.
     pub fn next(&mut self) -> Option<T>
         ensures items { self.old ≡ option_to_list result ++ self.new }
         ensures variant { IsSome result ↔ (0 < length self.old) }

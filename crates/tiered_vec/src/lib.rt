@@ -5,7 +5,7 @@
 //! |---|---|
 //! | `tiered_vec` | the vector, as its callers see it |
 //! | `place` | where an element is among the blocks |
-//! | `blocks` | what is done to the vectors of the blocks |
+//! | `blocks` | operations on the vectors that hold the blocks |
 //! | `iter` | the iterators |
 #![tactic(auto)]
 

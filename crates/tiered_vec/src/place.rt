@@ -1,8 +1,8 @@
 //! Where an element is among the blocks.
 use std::marker::Model;
 
-/// Where an element is, or would go: in which block, and where in it. It is got from the list in
-/// which it is used, and holds until an insertion or a push there succeeds, or the next removal.
+/// Where an element is, or would go: in which block, and where in it. Use it only with the list
+/// that returned it, until an insertion or a push there succeeds, or the next removal.
 #[derive(Clone, Copy, Debug)]
 pub struct Place {
     pub(crate) block: usize,

@@ -1,5 +1,5 @@
-//! A vector in blocks beside a plain vector, on both sides of each border of a block, and with
-//! memory refused.
+//! A vector in blocks compared with a plain vector, on both sides of each border of a block, and
+//! with memory refused.
 ghost use Rattle.std.specs.Prelude.{◌≡◌, ◌+◌, ◌≤◌, ◌<◌, ◌++◌, ◌∷◌, [], IfOk};
 ghost use Rattle.tiered_vec.specs.Tiers.{items, tail_room};
 
@@ -8,10 +8,10 @@ use std::alloc::{AllocError, Global};
 use std::process::Abort;
 use std::test::Fail;
 
-/// Numbers of elements round the size of a block, and one of many blocks.
+/// Numbers of elements around the size of a block, and one of many blocks.
 const LENGTHS: [u32; 6] = [0, 1, 127, 128, 129, 1000];
 
-/// Where the next element goes among so many: to the front, the middle or the end.
+/// Where the next element goes among `len`: to the start, the middle or the end.
 fn spot(side: u8, len: usize) -> usize
     ensures { result ≤ len }
 {
@@ -33,8 +33,8 @@ fn assert_same(rt: &impl Abort, list: &TieredVec<u32>, model: &[u32]) {
     }
 }
 
-/// Puts an element into both. Where memory for it is refused nothing has changed, and the same call
-/// is made again.
+/// Puts an element into both. If out of memory nothing has changed, and the same call is made
+/// again.
 fn insert(
     rt: &impl Abort,
     list: &mut TieredVec<u32>,
@@ -162,7 +162,7 @@ fn a_removed_element_is_given_back_and_the_others_stay(rt: HostRuntime) -> Resul
     Ok(())
 }
 
-/// Two thousand elements fill sixteen blocks at least, which take two thousand again.
+/// Two thousand elements fill at least sixteen blocks, which can take another two thousand.
 #[test]
 fn elements_removed_down_to_none_leave_room_for_as_many(rt: HostRuntime) -> Result<(), Fail> {
     for side in [0, 1, 2] {
@@ -269,7 +269,7 @@ fn places_are_read_written_and_stepped(rt: HostRuntime) -> Result<(), Fail> {
     Ok(())
 }
 
-/// Elements of 32 bytes, so that a block of 128 of them is the most that may be asked for.
+/// Elements of 32 bytes, so that a block of 128 of them is the largest allowed allocation.
 #[test]
 fn one_pushed_element_asks_for_little(rt: HostRuntime) -> Result<(), Fail> {
     let mut list = TieredVec::new(rt.alloc());
@@ -288,7 +288,7 @@ fn one_inserted_element_asks_for_little(rt: HostRuntime) -> Result<(), Fail> {
 }
 
 /// Room for 1,000 insertions of 4 bytes: blocks of 512 bytes for each 64 of them and three more,
-/// and 32 bytes for each block twice.
+/// and twice 32 bytes for each block.
 #[test]
 fn room_for_a_thousand_insertions_holds_at_most_12_kib(rt: HostRuntime) -> Result<(), Fail> {
     let mut list = TieredVec::new(rt.alloc());

@@ -20,8 +20,8 @@ use std::marker::Model;
 /// A list of elements, kept in blocks of bounded size, so that an insertion or a removal in the
 /// middle moves the elements of one block and not all that follow (own).
 ///
-/// An element is reached by its `Place`, or by how many stand before it. A place holds until the
-/// next insertion or push that succeeds, or the next removal.
+/// An element is reached by its `Place`, or by the number of elements before it. A place is valid
+/// until the next insertion or push that succeeds, or the next removal.
 #[derive(Drop, Debug)]
 pub struct TieredVec<T> {
     alloc: Global,
@@ -51,8 +51,7 @@ impl<T> TieredVec<T> {
     ghost use Rattle.std.specs.Borrow.{sem};
     ghost use Rattle.tiered_vec.specs.Lending.{lends_item};
 
-    /// The list of no elements, which takes memory from the allocator as it grows. It takes none
-    /// now.
+    /// An empty list, which takes memory from the allocator as it grows. It takes none now.
     pub fn new(alloc: Global) -> TieredVec<T>
         ensures items { items result ≡ [] }
         ensures spares { result.spares ≡ 0 }
@@ -65,7 +64,7 @@ impl<T> TieredVec<T> {
         }
     }
 
-    /// The number of elements, which is kept: the time does not depend on it.
+    /// The number of elements. It is stored, so the time does not depend on it.
     pub fn len(&self) -> usize
         ensures len { result ≡ length (items self.now) }
         ensures small { result < 2 ^ 63 }
@@ -73,7 +72,7 @@ impl<T> TieredVec<T> {
         self.len
     }
 
-    /// Whether there is no element.
+    /// Whether there are no elements.
     pub fn is_empty(&self) -> bool
         ensures { IsTrue result ↔ (items self.now ≡ []) }
     {
@@ -112,13 +111,13 @@ impl<T> TieredVec<T> {
     }
 
     /// Puts an element at a place: those from there on come after it. While there is room this
-    /// takes no memory. At most one block of elements is moved, and where a full block is cut in
-    /// two, one word for each block that follows it.
+    /// takes no memory. At most one block of elements is moved, and if a full block is cut in two,
+    /// one word for each block that follows it.
     ///
     /// # Errors
     ///
-    /// Memory for a block is refused, or there are 2^54 blocks. The element is handed back, and the
-    /// others and their places are as they were.
+    /// If there is not enough memory for a block, or there are 2^54 blocks. The element is
+    /// returned, and the others and their places are as they were.
     #[tactic(auto, unfolding(crate::specs::Tiers::room))]
     pub fn insert_at(&mut self, place: Place, x: T) -> Result<(), AllocFailed<T>>
         requires { IsGap self.old.blocks place }
@@ -139,9 +138,9 @@ impl<T> TieredVec<T> {
         }
     }
 
-    /// Removes the element at a place and gives it back. Each element after it then stands one
-    /// earlier. This takes no memory. At most one block of elements is moved. A block that is then
-    /// empty is kept as a spare one, and three words are moved for each block that followed it.
+    /// Removes and returns the element at a place. The index of each element after it drops by one.
+    /// This takes no memory. At most one block of elements is moved. A block that is then empty is
+    /// kept as a spare one, and three words are moved for each block that followed it.
     #[tactic(auto, unfolding(crate::specs::Tiers::room, crate::specs::Tiers::tail_room))]
     pub fn remove_at(&mut self, place: Place) -> T
         requires { IsPlace self.old.blocks place }
@@ -156,11 +155,11 @@ impl<T> TieredVec<T> {
         x
     }
 
-    /// The list of no elements, to which n can be pushed with no more memory.
+    /// An empty list, to which n elements can be pushed with no more memory.
     ///
     /// # Errors
     ///
-    /// Memory for them is refused, or they need more than 2^54 blocks.
+    /// If there is not enough memory for them, or they need more than 2^54 blocks.
     #[tactic(auto, unfolding(crate::specs::Tiers::tail_room))]
     pub fn with_capacity(alloc: Global, n: usize) -> Result<TieredVec<T>, AllocError>
     where
@@ -174,14 +173,14 @@ impl<T> TieredVec<T> {
         Ok(made)
     }
 
-    /// Makes room for n insertions, at whatever places: those then take no memory. As each of them
-    /// may cut a full block, this keeps a spare block for each half block of them and for each
-    /// block that is there, and at most n.
+    /// Makes room for n insertions, at any places: those then take no memory. As each of them may
+    /// cut a full block, this keeps a spare block for each half block of them and for each block
+    /// that is there, and at most n.
     ///
     /// # Errors
     ///
-    /// Memory for them is refused, or they need more than 2^54 blocks. The elements and their
-    /// places are as they were, and no room is lost.
+    /// If there is not enough memory for them, or they need more than 2^54 blocks. The elements and
+    /// their places are as they were, and no room is lost.
     pub fn reserve(&mut self, n: usize) -> Result<(), AllocError>
         ensures blocks { self.new.blocks ≡ self.old.blocks }
         ensures spares { self.old.spares ≤ self.new.spares }
@@ -194,13 +193,13 @@ impl<T> TieredVec<T> {
         make_spares(self.alloc, &mut self.blocks, &mut self.spares, n.min(most))
     }
 
-    /// Adds an element at the end, in constant time but for memory. It cuts no block, so that
+    /// Adds an element at the end, in constant time except for memory. It cuts no block, so
     /// elements that come in order fill the blocks.
     ///
     /// # Errors
     ///
-    /// Memory for a block is refused, or there are 2^54 blocks. The element is handed back, and the
-    /// others and their places are as they were.
+    /// If there is not enough memory for a block, or there are 2^54 blocks. The element is
+    /// returned, and the others and their places are as they were.
     #[tactic(auto, unfolding(crate::specs::Tiers::tail_room))]
     pub fn push(&mut self, x: T) -> Result<(), AllocFailed<T>>
         ensures ok { OnOk result (items self.new ≡ items self.old ++ x ∷ []) }
@@ -219,7 +218,7 @@ impl<T> TieredVec<T> {
         }
     }
 
-    /// The place before which so many elements stand: that of an element, or the end. This counts
+    /// The place that has this many elements before it: that of an element, or the end. This counts
     /// block by block, so its time is the number of blocks.
     pub fn place(&self, index: usize) -> Place
         requires { index ≤ length (items self.now) }
@@ -228,7 +227,7 @@ impl<T> TieredVec<T> {
         place_of(&self.blocks, index)
     }
 
-    /// The place after that of an element: that of the next one, or the end. In constant time.
+    /// The place after the one of an element: that of the next one, or the end. In constant time.
     pub fn after(&self, place: Place) -> Place
         requires { IsPlace self.now.blocks place }
         ensures { IsPlaceOf self.now.blocks (index_of self.now.blocks place + 1) result }
@@ -236,8 +235,8 @@ impl<T> TieredVec<T> {
         place_after(&self.blocks, place)
     }
 
-    /// The element before which so many others stand, or none past the last. Its time is the number
-    /// of blocks, as that of `place`.
+    /// The element that has this many others before it, or `None` past the last. Its time is the
+    /// number of blocks, as for `place`.
     pub fn get(&self, index: usize) -> Option<&T>
         ensures { option_copied result ≡ slice_get (items self.now) index }
     {
@@ -248,7 +247,7 @@ impl<T> TieredVec<T> {
         }
     }
 
-    /// The last element, or none where the list is empty. In constant time.
+    /// The last element, or `None` if the list is empty. In constant time.
     pub fn last(&self) -> Option<&T>
         ensures { option_copied result ≡ slice_get (items self.now) (length (items self.now) - 1) }
     {
@@ -266,9 +265,10 @@ impl<T> TieredVec<T> {
         end_of(&self.blocks)
     }
 
-    /// A binary search, by a comparison that says how an element relates to what is looked for.
+    /// A binary search, with a comparison that says how an element relates to the one searched for.
     /// `Ok` is the place of an element that is `Equal`, and `Err` the place before which every
-    /// element is `Less` and from which on every one is `Greater`, if the elements rise by it.
+    /// element is `Less` and from which on every one is `Greater`, if the elements are sorted by
+    /// it.
     pub fn find_by<F: FnMut(&T) -> Ordering>(&self, f: F) -> Result<Place, Place>
         requires { F.IsAlwaysCallable f }
         ensures range { MatchResult result (IsPlace self.now.blocks) (IsGap self.now.blocks) }
@@ -286,8 +286,8 @@ impl<T> TieredVec<T> {
         Iter::new(&self.blocks)
     }
 
-    /// The elements by value, in order. The spare blocks are let go at once, and each block as soon
-    /// as the next one is begun.
+    /// The elements by value, in order. The spare blocks are freed at once, and each block as soon
+    /// as the next one is started.
     pub fn into_iter(self) -> IntoIter<T>
     where
         T: Drop,
