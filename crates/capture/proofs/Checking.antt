@@ -1,4 +1,4 @@
--- Checks of numbers, as readings that take nothing.
+-- Checks of numbers, as readings that consume nothing.
 use Rattle.std.proofs.Common.{◌≡◌, ◌≢◌, ℕ, ◌+◌, ◌-◌, ◌%◌, ◌<◌, ◌≤◌, true, false, ltb, eqb, eq-eqb, Ok, Err, refl}
 use Rattle.std.proofs.lemmas.Bool.{lt-ltb, le-ltb, ne_eqb}
 use Rattle.swim_pack.specs.Composing.{ReadsAs, same}

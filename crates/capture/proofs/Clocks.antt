@@ -34,7 +34,7 @@ options-cut (suc n) order options clock some long code cut =
     let h : ltb (length options) (option_len order options) ≡ true = lt-ltb _ _ cut in
     rw (e, f, h) refl
 
--- an option, and those behind it
+-- an option, and those after it
 pub options-more : (n : ℕ) (order : Order) (options : List ℕ) (clock : Clock) → length options < n → 4 ≤ length options
     → option_code order options ≢ 0 → option_len order options ≤ length options
     → (m : ℕ) × (length (drop (option_len order options) options) < m)
@@ -68,6 +68,6 @@ pub nanos-two : (resolution count : ℕ) → 128 ≤ resolution → nanos_of res
 unfolding nanos_of
 nanos-two resolution count great = let e : ltb resolution 128 ≡ false = le-ltb _ _ great in rw e refl
 
--- one division by ten more
+-- one more division by ten
 pub tenth : (m k : ℕ) → m / 10 ^ k / 10 ≡ m / 10 ^ (k + 1)
 tenth m k = div-div-eq-div-mul m (10 ^ k) 10 ∙ ap (λ d. m / d) (sym (pow-suc 10 k) ∙ ap (λ e. 10 ^ e) (sym (add-one k)))

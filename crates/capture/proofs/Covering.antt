@@ -14,7 +14,7 @@ pub lt_tells : (a b : ℕ) → ((nat_lt a b ≡ true) × (a < b)) ⊎ ((nat_lt a
 lt_tells a b =
     elim (which (nat_lt a b)) [ inl is ↦ inl (is, ltb-true a b is) | inr isnt ↦ inr (isnt, ltb-false a b isnt) ]
 
--- what is less than a lesser number
+-- less than a lesser number
 ≤_through : {a b c : ℕ} → a ≤ b → b ≤ c → a ≤ c
 ≤_through low high = omega (arith, low, high)
 
@@ -48,7 +48,7 @@ covers_not k s isnt low =
     let over : nat_lt k (end_of s) ≡ false = rw begun at isnt in
     ltb-false k (end_of s) over
 
--- what does not cover a place covers none behind it before it begins
+-- what does not cover a place covers none after it until it starts
 pub covers_later : (here k : ℕ) (s : Placed) → here ≤ k → covers here s ≡ false → (here < s.at → k < s.at)
     → covers k s ≡ false
 covers_later here k s low isnt near =
@@ -128,7 +128,7 @@ found_covers k (s ∷ rest) p found =
       | inr isnt ↦ (let others : find (covers k) rest ≡ Some p = rw isnt at found in found_covers k rest p others)
     ]
 
--- where a segment does not cover a place, it does not help to reach it
+-- a segment that does not cover a place does not help to reach it
 pub reached_le : (here k : ℕ) (s : Placed) → here ≤ k → covers k s ≡ false → reached here s ≤ k
 reached_le here k s low off =
     elim (which (covers here s)) [
@@ -151,7 +151,7 @@ reach_covers here k (s ∷ rest) low near =
           (later.0, rw off later.1))
     ]
 
--- the places behind a gap of which the segments that begin before it say nothing
+-- the segments that start before a gap give no byte after it
 pub find_filtered : (here k : ℕ) (segments : List Placed) → here ≤ k → find (covers here) segments ≡ None
     → find (covers k) (filter (λ s. nat_lt here s.at) segments) ≡ find (covers k) segments
 find_filtered here k [] low none = refl

@@ -1,4 +1,4 @@
--- What a segment makes of the flow between its ends, by whether it begins a flow.
+-- What a segment does to the flow between its endpoints, by whether it starts a flow.
 use Rattle.std.proofs.Common.{◌≡◌, ℕ, true, false, Option, Some, None, IsSome, IfSome, Result, Ok, Err, OnErr, if◌then◌else◌, sym, ap}
 use Rattle.std.proofs.Math.Path.{subst}
 use Rattle.std.specs.Option.{option_map}
@@ -14,7 +14,7 @@ on_err (Ok x) f h = tt
 on_err (Err e) f h = f h
 
 module _ (s : TcpText) (taken : Option Taken) (complete : Option FlowText) (new : Option OpenText) where
-  -- a flow begins
+  -- a flow starts
   pub hears_begun : (old : Option OpenText) (first : ℕ) → first ≡ first_of s → begins old s ≡ true
       → Leaves (option_map (λ o. o.flow) old) (begun first) first s taken complete new
       → Hears old s taken complete new
@@ -24,7 +24,7 @@ module _ (s : TcpText) (taken : Option Taken) (complete : Option FlowText) (new 
       (sym (ap (λ b. if b then option_map (λ o. o.flow) old else None) new_one))
       (subst (λ n. Leaves (option_map (λ o. o.flow) old) (begun n) n s taken complete new) is l))
 
-  -- the open flow goes on
+  -- the open flow continues
   pub hears_own : (old : Option OpenText) (first : ℕ) → first ≡ first_of s → begins old s ≡ false → IsSome old
       → IfSome old (λ o. Leaves None o first s taken complete new)
       → Hears old s taken complete new

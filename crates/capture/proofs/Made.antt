@@ -1,4 +1,4 @@
--- Values that are made of the numbers in a header.
+-- Values made from the numbers in a header.
 use Rattle.std.proofs.Common.{◌≡◌, ℕ, ◌+◌, ◌*◌, List, Option, Some, refl}
 use Rattle.capture.specs.declared.clock.Clock.{Clock}
 use Rattle.capture.specs.declared.interface.Interface.{Interface}
@@ -17,7 +17,7 @@ record_made time link original = record { time = time; link = link; original = o
 abbrev text_made : List ℕ → Record → RecordText
 text_made bytes head = (head, bytes)
 
--- a record of pcap by equal numbers
+-- a record of pcap with equal numbers
 pub record_same : (bytes : List ℕ) (link s t f h o q : ℕ) → s ≡ t → f ≡ h → o ≡ q
     → text_made bytes (record_made (Some (s * 1000000000 + f)) link o) ≡ text_made bytes (record_made (Some (t * 1000000000 + h)) link q)
 record_same bytes link s t f h o q seconds fraction original = rw (seconds, fraction, original) refl

@@ -1,4 +1,4 @@
--- Parts of a record that are taken from an inlet, whole or piece by piece.
+-- Parts of a record that are consumed from an inlet, whole or piece by piece.
 use Rattle.std.proofs.Common.{◌≡◌, ℕ, ◌+◌, ◌<◌, ◌≤◌, true, false, ltb, List, [], ◌∷◌, ◌++◌, length, Option, Some, None, Result, Ok, Err, refl, sym, ap, subst, ◌∙◌, append_assoc, length-append, arith}
 use Rattle.std.proofs.lemmas.Bool.{lt-ltb, le-ltb}
 use Rattle.std.proofs.KnownBytes.{Consumes-trans}
@@ -29,7 +29,7 @@ next_part-front n text front more long parts some =
     let lengths = length-append front more in
     rw (next_part-cut n front (omega (arith, sum, lengths))) refl
 
--- a text is taken that settles the value
+-- a text is consumed that determines the value
 pub Reads-text : {E X V : Type 0} {cause : E → Cause} {view : X → V} {reading : Reading E V} {a b : Source} {x : X} (text : List ℕ)
     → TakesNoMore cause view reading (Ok x) text → Consumes a.coming b.coming text → a.faults ≤ b.faults
     → ReadsAs cause view reading a b (Ok x)
@@ -68,7 +68,7 @@ first-taken {X} {view} {a} {b} {x} got one is gone stay = Reads-text got (record
         let lengths = length-append (byte ∷ front) more in
         absurd (omega (arith, sum, lengths, one))
 
--- a whole part is taken
+-- a whole part is consumed
 pub part-taken : {X : Type 0} {view : X → List ℕ} {a b : Source} {x : X} (n : ℕ) (got : List ℕ) → length got ≡ n → view x ≡ got
     → Consumes a.coming b.coming got → a.faults ≤ b.faults → ReadsAs stop_cause view (next_part n) a b (Ok x)
 part-taken {X} {view} {a} {b} {x} n got long is gone stay =
@@ -78,7 +78,7 @@ part-taken {X} {view} {a} {b} {x} n got long is gone stay =
     })
     gone stay
 
--- ---- pieces were taken, and then no more
+-- ---- pieces were consumed, and then no more
 
 takes-over : (x y z : Option (List ℕ)) (got more : List ℕ) (P : List ℕ → Type 0) (Q : Option (List ℕ) → Type 0)
     → Consumes x y got → Consumes y z more
@@ -135,7 +135,7 @@ part-failed {X} {view} {a} {b} m n got gone before rise over after = record {
     no_more : TakesNoMore {X = X} stop_cause view (next_part n) (Err (Fault Device)) (got ++ over.0)
     no_more = record { settles = λ by more. absurd cc; waits = λ free front more parts some. absurd (free refl) }
 
--- there is no memory for a piece that was read
+-- not enough memory for a piece that was read
 pub part-memory : {X : Type 0} {view : X → List ℕ} {a b : Source} (n : ℕ) (got : List ℕ) → length got ≤ n
     → Consumes a.coming b.coming got → a.faults ≤ b.faults → ReadsAs {X = X} stop_cause view (next_part n) a b (Err (Fault Memory))
 part-memory {X} {view} {a} {b} n got long gone stay = record {
@@ -164,7 +164,7 @@ pub part-stopped : {X : Type 0} {view : X → List ℕ} {a b : Source} (m : Sour
 part-stopped m n k got pulls.Ended long gone before ended failed over after = part-cut m n k got long gone before (ended refl) over after
 part-stopped m n k got pulls.Fault long gone before ended failed over after = part-failed m n got gone before (failed refl) over after
 
--- ---- what is made of a value that was read
+-- ---- what is made from a value that was read
 
 pub Reads-is : {E X V : Type 0} {cause : E → Cause} {view : X → V} {a : Source} (x : X) (value : V) → view x ≡ value
     → ReadsAs cause view (gives value) a a (Ok x)

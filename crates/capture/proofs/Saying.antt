@@ -1,4 +1,4 @@
--- What segments say at a place, and a flow that says the same.
+-- The bytes that segments give at a place, and a flow that gives the same.
 use Rattle.std.proofs.Common.{◌≡◌, ℕ, ◌+◌, ◌-◌, ◌^◌, ◌<◌, ◌≤◌, inl, inr, true, false, nat_lt, List, [], ◌∷◌, ◌++◌, length, take, drop, get_or, refl, sym, ◌∙◌, arith, length-append, length-take, length-drop, get_or-take, get_or-drop}
 use Rattle.std.specs.Prelude.{Option, Some, None, find, fold, filter}
 use Rattle.std.specs.Option.{option_or}
@@ -26,24 +26,24 @@ or_gap : (o p : Option Placed) → option_or o p ≡ None → (o ≡ None) × (p
 or_gap None p none = (refl, none)
 or_gap (Some s) p none = (let wrong : Some s ≡ None = none in cc)
 
--- a place of which nothing is said is not covered
+-- a place without a byte is not covered
 pub gap_of : (k : ℕ) (o : Option Placed) → byte_in k o ≡ None → o ≡ None
 gap_of k None none = refl
 gap_of k (Some s) none = (let wrong : Some (get_or s.bytes (k - s.at) 0) ≡ None = none in cc)
 
--- what the first segments say, all of them say
+-- a byte that the first segments give is given by all of them
 pub said_append : (k : ℕ) (xs ys : List Placed) (b : ℕ) → byte_at k xs ≡ Some b → byte_at k (xs ++ ys) ≡ Some b
 said_append k xs ys b said =
     rw (find-append (covers k) xs ys) (or_some k (find (covers k) xs) (find (covers k) ys) b said)
 
--- the same segments behind those that say the same
+-- the same segments after those that give the same bytes
 pub same_append : (k : ℕ) (xs ys zs : List Placed) → byte_at k xs ≡ byte_at k ys
     → byte_at k (xs ++ zs) ≡ byte_at k (ys ++ zs)
 same_append k xs ys zs same =
     rw (find-append (covers k) xs zs, find-append (covers k) ys zs) (
     or_same k (find (covers k) xs) (find (covers k) ys) (find (covers k) zs) same)
 
--- segments that do not cover a place say nothing there
+-- segments that do not cover a place give no byte there
 pub unsaid_append : (k : ℕ) (xs ys : List Placed) → find (covers k) ys ≡ None → byte_at k (xs ++ ys) ≡ byte_at k xs
 unsaid_append k xs ys none = rw (find-append (covers k) xs ys, none, or_none (find (covers k) xs)) refl
 
@@ -80,7 +80,7 @@ next_part whole p here stop part low more high small each part_is =
           rw (found, same) refl;
     }
 
--- a part of the first segment that covers a place, up to where another one begins
+-- a part of the first segment that covers a place, up to where another one starts
 pub next_found : (segments : List Placed) (seg p : Placed) (here stop : ℕ) (part : List ℕ)
     → find (covers here) segments ≡ Some p → stop ≡ fold (closer here) (end_of p) segments → end_of p ≤ 2 ^ 25
     → part ≡ take ((stop - p.at) - (here - p.at)) (drop (here - p.at) p.bytes)
@@ -97,7 +97,7 @@ next_found segments seg p here stop part found stop_is small part_is =
     rw (find-append (covers k) segments (seg ∷ []), same) refl)
     part_is
 
--- a part of the last segment, where no other one covers a place, up to where another one begins
+-- a part of the last segment, if no other one covers a place, up to where another one starts
 pub next_fresh : (segments : List Placed) (seg : Placed) (here stop : ℕ) (part : List ℕ)
     → find (covers here) segments ≡ None → seg.at ≤ here → here < end_of seg
     → stop ≡ fold (closer here) (end_of seg) segments → end_of seg ≤ 2 ^ 25
@@ -114,7 +114,7 @@ next_fresh segments seg here stop part none low high stop_is small part_is =
     rw (find-append (covers k) segments (seg ∷ []), clear, on) refl)
     part_is
 
--- the same, as the code cuts them off
+-- the same, as the code slices them
 pub next_found_cut : (segments : List Placed) (seg p : Placed) (here at : ℕ) (bytes part : List ℕ)
     → find (covers here) segments ≡ Some p → end_of p ≤ 2 ^ 25 → at ≡ p.at → bytes ≡ p.bytes
     → part ≡ take ((fold (closer here) (at + length bytes) segments - at) - (here - at)) (drop (here - at) bytes)
@@ -154,7 +154,7 @@ pub says_assembled : (segments : List Placed) (f : FlowText) → byte_at (length
 says_assembled segments f tight says =
     record { covered = says.front; longest = says.behind (length f.text) (omega arith) ∙ tight }
 
--- a segment of which all that stands behind the text is there
+-- a segment whose bytes after the text are all there
 says_known : (segments : List Placed) (f : FlowText) (seg : Placed)
     → ((k : ℕ) → length f.text ≤ k → covers k seg ≡ true → (b : ℕ) × (byte_at k f.waiting ≡ Some b))
     → Says segments f → Says (segments ++ seg ∷ []) f
@@ -184,7 +184,7 @@ says_old segments f seg old says =
     says_known segments f seg
     (λ k far on. let high = covers_high k seg on in absurd (omega (arith, far, high, old))) says
 
--- a segment whose places those that wait reach
+-- a segment whose places the waiting segments reach
 pub says_reached : (segments : List Placed) (f : FlowText) (seg : Placed)
     → end_of seg ≤ fold reached seg.at f.waiting → Says segments f → Says (segments ++ seg ∷ []) f
 says_reached segments f seg all says =
@@ -251,7 +251,7 @@ joined_tight waiting kept seg gap none kept_is =
     find_filtered gap gap waiting (omega arith) apart.0 in
     rw (kept_is, same, apart.0) refl
 
--- a segment that begins behind the gap leaves it
+-- a segment that starts after the gap leaves it
 pub held_tight : (waiting : List Placed) (seg : Placed) (gap : ℕ) → byte_at gap waiting ≡ None → gap < seg.at
     → byte_at gap (waiting ++ seg ∷ []) ≡ None
 held_tight waiting seg gap none above =
@@ -266,7 +266,7 @@ no_longer segments a b first second =
       | inr p ↦ p.1
     ]
 
--- the segments of a flow say one text
+-- the segments of a flow determine one text
 pub one_text : (segments : List Placed) (a b : List ℕ) → Assembled segments a → Assembled segments b → a ≡ b
 one_text segments a b first second =
     let short = no_longer segments a b first second in

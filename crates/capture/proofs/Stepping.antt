@@ -1,4 +1,4 @@
--- One step of the definitions that go over tags and extension headers.
+-- One step of the definitions that iterate over tags and extension headers.
 use Rattle.std.proofs.Common.{◌≡◌, ℕ, zero, suc, ◌-◌, ◌<◌, ◌≤◌, List, [], ◌∷◌, length, drop, take, true, false, nat_lt, refl, sym, arith, length-drop}
 use Rattle.std.specs.Prelude.{Some, None, Ok, Err}
 use Rattle.std.proofs.lemmas.Bool.Decides.{nat_tests}
@@ -24,7 +24,7 @@ type_found (a ∷ b ∷ []) v long is = rw is refl
 type_found (a ∷ b ∷ c ∷ []) v long is = rw is refl
 type_found (a ∷ b ∷ c ∷ d ∷ rest) v long is = rw is refl
 
--- the same, as the code cuts it off
+-- the same, as the code slices it
 pub type_cut_off : (bytes : List ℕ) (v : Version) → 2 ≤ length bytes → version_of (field 0 2 bytes) ≡ Some v
     → behind_type bytes ≡ Ok (v, take (length bytes - 2) (drop 2 bytes))
 type_cut_off bytes v long is = rw (take_rest bytes 2) (type_found bytes v long is)
@@ -49,7 +49,7 @@ tag_short (a ∷ b ∷ []) long short none is = rw (none, is) refl
 tag_short (a ∷ b ∷ c ∷ []) long short none is = rw (none, is) refl
 tag_short (a ∷ b ∷ c ∷ d ∷ rest) long short none is = absurd (omega (arith, short))
 
--- a tag is passed over
+-- a tag is skipped
 pub tag_step : (bytes : List ℕ) → 4 ≤ length bytes → version_of (field 0 2 bytes) ≡ None
     → is_tag (field 0 2 bytes) ≡ true → behind_type bytes ≡ behind_type (drop 4 bytes)
 unfolding behind_type
@@ -59,13 +59,13 @@ tag_step (a ∷ b ∷ []) long none is = absurd (omega (arith, long))
 tag_step (a ∷ b ∷ c ∷ []) long none is = absurd (omega (arith, long))
 tag_step (a ∷ b ∷ c ∷ d ∷ rest) long none is = rw (none, is) refl
 
--- the same, as the code cuts it off
+-- the same, as the code slices it
 pub tag_cut_off : (bytes : List ℕ) → 4 ≤ length bytes → version_of (field 0 2 bytes) ≡ None
     → is_tag (field 0 2 bytes) ≡ true
     → behind_type bytes ≡ behind_type (take (length bytes - 4) (drop 4 bytes))
 tag_cut_off bytes long none is = rw (take_rest bytes 4) (tag_step bytes long none is)
 
--- an extension header has 8 bytes at least
+-- an extension header has at least 8 bytes
 extension_long : (next : ℕ) (body : List ℕ) → 8 ≤ extension_len next body
 extension_long next body = grind (arith, nat_tests)
 
@@ -84,7 +84,7 @@ headers_enough (suc n) (suc m) next (x ∷ rest) some other =
     headers_enough n m x (drop len (x ∷ rest)) (omega arith) (omega arith) in
     rw same refl
 
--- an extension header is passed over
+-- an extension header is skipped
 pub extension_step : (next : ℕ) (body : List ℕ) → is_extension next ≡ true → 8 ≤ length body
     → is_ip6_fragment next body ≡ false → extension_len next body ≤ length body
     → behind_extensions next body ≡ behind_extensions (byte 0 body) (drop (extension_len next body) body)
@@ -99,7 +99,7 @@ extension_step next body is long whole all =
     headers_enough (length body) (suc (length rest)) (byte 0 body) rest (omega arith) (omega arith) in
     rw (is, eight, whole, inside) same
 
--- the same, as the code cuts it off
+-- the same, as the code slices it
 pub extension_cut_off : (next : ℕ) (body : List ℕ) (len : ℕ) → len ≡ extension_len next body → is_extension next ≡ true
     → 8 ≤ length body → is_ip6_fragment next body ≡ false → len ≤ length body
     → behind_extensions next body ≡ behind_extensions (byte 0 body) (take (length body - len) (drop len body))
@@ -111,7 +111,7 @@ pub extension_none : (next : ℕ) (body : List ℕ) → is_extension next ≡ fa
 unfolding behind_headers
 extension_none next body none = rw none refl
 
--- an extension header that is shorter than each of them
+-- an extension header that is shorter than any of them can be
 pub extension_short : (next : ℕ) (body : List ℕ) → is_extension next ≡ true → length body < 8
     → behind_extensions next body ≡ Err Malformed
 unfolding behind_headers

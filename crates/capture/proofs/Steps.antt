@@ -17,18 +17,18 @@ use Rattle.capture.specs.Pcapng.{SectionText, block_at, block_of, next_other}
 use Rattle.capture.proofs.Parts.{Reads-is}
 use Rattle.capture.specs.Taking.{stop_cause, field, next_header}
 
--- the layer above knows what a fault comes from
+-- the layer above knows what causes a fault
 pub causes : (stop : Stop) → fault_cause (fault_of stop) ≡ stop_cause stop
 causes End = refl
 causes (Fault fault) = refl
 
--- what a step gave, as the step of the definition
+-- the result of a step, as the step of the definition
 pub step-seen : {a b : Source} (at next : CaptureState) (bytes : List ℕ) (found : Option Record)
     → ReadsAs stop_cause (step_text next bytes) (step_at at) a b (Ok found)
     → ReadsAs {X = Step} stop_cause same (step_at at) a b (Ok (step_text next bytes found))
 step-seen at next bytes found h = Reads-seen _ refl h
 
--- a block is taken into the section, or there is no memory for it
+-- a block is added to the section, or there is no memory for it
 pub block-step : {a b : Source} (now next : SectionText) (bytes : List ℕ) (block : Block) (r : Result (Option Record) Stop)
     → ((bytes : List ℕ) → IfOk r (λ found. step_text (pcapng next) bytes found ≡ behind_block now (block_text bytes block)))
     → IfErr r (λ refusal. refusal ≡ Fault Memory) → ReadsAs stop_cause (block_text bytes) (block_at now) a b (Ok block)
@@ -37,7 +37,7 @@ unfolding step_at
 block-step now next bytes block (Ok found) taken refused h = Reads-then _ h (Reads-is found _ (taken bytes))
 block-step now next bytes block (Err stop) taken refused h = rw refused (Reads-memory _ (Fault Memory) refl h)
 
--- the first four bytes are those of no capture
+-- the first four bytes are not those of a capture
 pub file-unknown : {a : Source} (magic : ℕ) → magic ≢ 0xa1b2c3d4 → magic ≢ 0xd4c3b2a1 → magic ≢ 0xa1b23c4d → magic ≢ 0x4d3cb2a1
     → magic ≢ 0x0a0d0d0a → ReadsAs {X = CaptureState} stop_cause same (file_of magic) a a (Err (Fault NotCapture))
 file-unknown magic n1 n2 n3 n4 n5 =

@@ -67,7 +67,7 @@ tcp_back source destination seq ack words flags window sum urgent options payloa
     drop-append-add (take 20 bytes) (options ++ payload) (length options) ∙ drop-append_seam options payload in
     rw (long, header, enough, all, from, to, number, rest) refl
 
--- a packet, whatever stands behind it
+-- a packet, whatever follows it
 pub ip4_back : (service id flags life protocol sum source destination : ℕ) (body padding : List ℕ)
     → flags < 2 ^ 16 → flags % 2 ^ 14 ≡ 0 → 20 + length body < 2 ^ 16
     → ip4_of (ip4_bytes service id flags life protocol sum source destination body ++ padding)

@@ -20,7 +20,7 @@ use Rattle.capture.specs.Pcapng.{SectionText, BlockText, section_at, block_at}
 use Rattle.capture.specs.Pcapng.BlockText.{section, interface, packet, other}
 use Rattle.capture.specs.Taking.{Reading, stop_cause, field, next_part, next_header}
 
--- what a capture has said so far
+-- what a capture has described so far
 pub data CaptureState : Type 0 where
   pcap : Pcap → CaptureState
   pcapng : SectionText → CaptureState
@@ -33,13 +33,13 @@ state_of (formats.Pcapng now) = pcapng (section_text now)
 abbrev pub new_section : Order → CaptureState
 new_section order = pcapng (record { order = order; interfaces = [] })
 
--- a pcap file behind its magic number
+-- a pcap file after its magic number
 unfoldable pub pcap_file : Order → Precision → Reading CaptureState
 pcap_file order precision = do
   file ← pcap_behind order precision
   gives (pcap file)
 
--- a pcapng file behind its first four bytes
+-- a pcapng file after its first four bytes
 unfoldable pub pcapng_file : Reading CaptureState
 pcapng_file = do
   claimed ← next_part 4
@@ -55,13 +55,13 @@ file_of magic =
     if magic == 0x4d3cb2a1 then pcap_file Little Nanoseconds else
     if magic == 0x0a0d0d0a then pcapng_file else refuses (Fault NotCapture)
 
--- what a capture begins with
+-- the start of a capture
 unfoldable pub begin_at : Reading CaptureState
 begin_at = do
   magic ← next_header 4
   file_of (field Big 0 4 magic)
 
--- what a section has said behind a block, and the record that the block holds
+-- what a section has described after a block, and the record in the block
 abbrev pub behind_block : SectionText → BlockText → CaptureState × Option RecordText
 behind_block now (section order) = (new_section order, None)
 behind_block now (interface on) =
@@ -78,21 +78,21 @@ step_at (pcapng now) = do
   block ← block_at now
   gives (behind_block now block)
 
--- what a step gave
+-- the result of a step
 abbrev pub step_text : CaptureState → List ℕ → Option Record → CaptureState × Option RecordText
 step_text next bytes None = (next, None)
 step_text next bytes (Some head) = (next, Some (head, bytes))
 
--- the fault of a stop, where more had to come
+-- the fault of a stop at which more had to come
 abbrev pub fault_of : Stop → CaptureFault
 fault_of End = Cut
 fault_of (Fault fault) = fault
 
--- what a fault comes from
+-- what causes a fault
 abbrev pub fault_cause : CaptureFault → Cause
 fault_cause fault = stop_cause (Fault fault)
 
--- what a step gives
+-- the result of a step
 abbrev pub Step : Type 0
 Step = CaptureState × Option RecordText
 

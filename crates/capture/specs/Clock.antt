@@ -4,12 +4,12 @@ use Rattle.capture.specs.declared.clock.Clock.{Clock}
 use Rattle.capture.specs.declared.order.Order.{Order}
 use Rattle.capture.specs.Taking.{field}
 
--- if_tsresol: a second has so many units. A power of ten, or of two where the highest bit is set.
+-- if_tsresol: the units in a second. A power of ten, or of two if the highest bit is set.
 abbrev pub units : ℕ → ℕ
 units resolution = if nat_lt resolution 128 then 10 ^ resolution else 2 ^ (resolution - 128)
 
--- if_tsoffset: seconds that are added, in two's complement of 64 bits. A time before 1970 is told
--- as 0 (own).
+-- if_tsoffset: seconds that are added, in two's complement with 64 bits. A time before 1970 becomes
+-- 0 (own).
 abbrev pub moved : ℕ → ℕ → ℕ
 moved offset nanos =
     if nat_lt offset (2 ^ 63)
@@ -20,7 +20,7 @@ moved offset nanos =
 unfoldable pub nanos_of : ℕ → ℕ → ℕ
 nanos_of resolution count = count * 1000000000 / units resolution
 
--- the time in nanoseconds since 1970, and 2 ^ 64 - 1 where it does not fit into 64 bits (own)
+-- the time in nanoseconds since 1970, or 2 ^ 64 - 1 if it does not fit into 64 bits (own)
 unfoldable pub time_of : Clock → ℕ → ℕ
 time_of clock count = min (moved clock.offset (nanos_of clock.resolution count)) (2 ^ 64 - 1)
 
@@ -37,7 +37,7 @@ option_value order options = take (value_len order options) (drop 4 options)
 abbrev pub option_len : Order → List ℕ → ℕ
 option_len order options = 4 + (value_len order options + 3) / 4 * 4
 
--- the clock with this option. One of another length than its own is passed over (own).
+-- the clock with this option. An option of the wrong length is skipped (own).
 abbrev pub with_option : Order → ℕ → List ℕ → Clock → Clock
 with_option order code value clock =
     if (code == 9) && (length value == 1)
@@ -46,8 +46,8 @@ with_option order code value clock =
     then record clock { offset = field order 0 8 value }
     else clock
 
--- The clock with the first of these options, n at most. They end with the bytes, or with an option
--- of code 0. There is none where an option does not fit.
+-- The clock with the first of these options, at most n. They end with the bytes, or with an option
+-- of code 0. There is none if an option does not fit.
 unfoldable pub with_options : ℕ → Order → List ℕ → Clock → Option Clock
 with_options zero order options clock = None
 with_options (suc n) order options clock =
@@ -61,6 +61,6 @@ with_options (suc n) order options clock =
 abbrev pub default_clock : Clock
 default_clock = record { resolution = 6; offset = 0 }
 
--- the clock that the options of an interface tell
+-- the clock given by the options of an interface
 abbrev pub clock_of : Order → List ℕ → Option Clock
 clock_of order options = with_options (suc (length options)) order options default_clock

@@ -1,4 +1,4 @@
--- Flows as their clauses see them, and what taking a segment answers.
+-- Flows as clauses see them, and the result of taking a segment.
 use Rattle.std.specs.Prelude.{ℕ, ◌-◌, ◌^◌, ◌<◌, ◌⊎◌, ◌||◌, Bool, true, false, nat_le, if◌then◌else◌, length, Option, Some, None}
 use Rattle.std.specs.Option.{option_or}
 use Rattle.capture.specs.declared.flow.Flow.{Flow}
@@ -18,23 +18,23 @@ counts Waits = true
 counts Beyond = false
 counts Crowded = false
 
--- the segment has bytes behind those that are there, and ends more than 2^24 bytes behind them, or
+-- the segment has bytes after those that are there, and ends more than 2^24 bytes after them, or
 -- the flow would have more than 2^25
 abbrev pub IsBeyond : FlowText → Placed → Type 0
 IsBeyond f s = (0 < length s.bytes) × (length f.text < end_of s)
     × ((2 ^ 24 < end_of s - length f.text) ⊎ (2 ^ 25 < end_of s))
 
--- a flow that is not complete: how many bytes it has, if that is known, and whether it was broken off
+-- a flow that is not complete: how many bytes it has, if that is known, and whether it was reset
 pub record OpenText : Type 0 where
   pub flow : FlowText
   pub end : Option ℕ
   pub reset : Bool
 
--- how many bytes it has after a segment: the first FIN counts, and stands behind the payload
+-- how many bytes it has after a segment: the first FIN counts, and is after the payload
 abbrev pub end_after : Option ℕ → Bool → Placed → Option ℕ
 end_after end fin s = if fin then option_or end (Some (end_of s)) else end
 
--- a flow is over when it was broken off, or all bytes before its FIN are there
+-- a flow is over when it was reset, or all bytes before its FIN are there
 abbrev pub is_there : Option ℕ → ℕ → Bool
 is_there None count = false
 is_there (Some end) count = nat_le end count

@@ -1,4 +1,4 @@
--- What the segments of a flow say, in the order in which they were captured.
+-- The bytes that the segments of a flow give, in the order in which they were captured.
 use Rattle.std.specs.Prelude.{◌≡◌, ℕ, ◌+◌, ◌-◌, ◌%◌, ◌^◌, ◌<◌, ◌≤◌, Bool, false, nat_lt, min, if◌then◌else◌, List, length, drop, slice_index, find, Option, Some, None}
 
 -- the bytes of a segment, and the place of the first of them in the flow
@@ -9,15 +9,15 @@ pub record Placed : Type 0 where
 abbrev pub placed : ℕ → List ℕ → Placed
 placed at bytes = record { at = at; bytes = bytes }
 
--- RFC 9293, 3.4: a byte stands at its sequence number, modulo 2^32. Less than half of them lie ahead
--- of the flow's first byte; what a segment has before it is no part of the flow.
+-- RFC 9293, 3.4: a byte is at its sequence number, modulo 2^32. Less than half of them lie ahead of
+-- the flow's first byte; what a segment has before that is not part of the flow.
 abbrev pub placed_at : ℕ → ℕ → List ℕ → Placed
 placed_at start seq payload =
     if nat_lt ((seq + 2 ^ 32 - start) % 2 ^ 32) (2 ^ 31)
     then placed ((seq + 2 ^ 32 - start) % 2 ^ 32) payload
     else placed 0 (drop (2 ^ 32 - (seq + 2 ^ 32 - start) % 2 ^ 32) payload)
 
--- the place behind a segment
+-- the place after a segment
 abbrev pub end_of : Placed → ℕ
 end_of s = s.at + length s.bytes
 
@@ -49,20 +49,20 @@ pub record Assembled (segments : List Placed) (text : List ℕ) : Type 0 where
   pub covered : SaysFirst segments text
   pub longest : byte_at (length text) segments ≡ None
 
--- a flow that is put together: the sequence number of its first byte, its bytes up to the first gap,
--- and the segments that wait behind it
+-- a flow that is reassembled: the sequence number of its first byte, its bytes up to the first gap,
+-- and the segments that wait after it
 pub record FlowText : Type 0 where
   pub start : ℕ
   pub text : List ℕ
   pub waiting : List Placed
 
--- the flow says at each place what the segments say
+-- the flow has at each place the byte that the segments give
 pub record Says (segments : List Placed) (flow : FlowText) : Type 0 where
   pub front : SaysFirst segments flow.text
   pub behind : (place : ℕ) → length flow.text ≤ place
       → byte_at place segments ≡ byte_at place flow.waiting
 
--- the lesser of a place and where a segment begins, if it begins above another place
+-- the lesser of a place and where a segment starts, if it starts above another place
 abbrev pub closer : ℕ → ℕ → Placed → ℕ
 closer place stop s = if nat_lt place s.at then min s.at stop else stop
 

@@ -1,4 +1,4 @@
--- What the bytes of a captured frame carry. All numbers stand with their highest byte first.
+-- What the bytes of a captured frame carry. All numbers have their highest byte first.
 use Rattle.std.specs.Prelude.{ℕ, zero, suc, ◌+◌, ◌-◌, ◌*◌, ◌/◌, ◌%◌, ◌==◌, ◌||◌, ◌&&◌, Bool, nat_lt, if◌then◌else◌, List, [], ◌∷◌, length, take, drop, slice_index, Result, Ok, Err, Option, Some, None}
 use Rattle.byteorder.specs.Endian.{big_number, little_number}
 use Rattle.capture.specs.declared.fault.NotCarried.{NotCarried}
@@ -57,8 +57,8 @@ udp_of bytes =
       payload = part 8 (field 4 2 bytes) bytes;
     })
 
--- RFC 9293, 3.1: two ports, the sequence number, an acknowledgement, the header's length in words of
--- 4 bytes, flags (FIN 1, SYN 2, RST 4, PSH 8), and what follows options is the payload.
+-- RFC 9293, 3.1: two ports, the sequence number, an acknowledgement, the header's length in words
+-- of 4 bytes, flags (FIN 1, SYN 2, RST 4, PSH 8), and after the options the payload.
 pub record TcpText : Type 0 where
   pub source : ℕ
   pub destination : ℕ
@@ -108,15 +108,15 @@ pub record IpText : Type 0 where
   pub body : List ℕ
 
 -- RFC 791, 3.1: the header's length in words of 4 bytes, and the total length. A total length of 0
--- stands in what a host caught before its network card cut it up: all the bytes are the packet's.
+-- is in packets captured before the network card segmented them: all the bytes are the packet's.
 abbrev pub ip4_header : List ℕ → ℕ
 ip4_header bytes = byte 0 bytes % 16 * 4
 
 abbrev pub ip4_total : List ℕ → ℕ
 ip4_total bytes = if field 2 2 bytes == 0 then length bytes else field 2 2 bytes
 
--- RFC 791, 3.1: above an offset of 13 bits stands whether more fragments follow, and above that
--- whether it may be fragmented. It is a fragment where more follow or the offset is not 0.
+-- RFC 791, 3.1: above the 13 bits of the offset is the bit for more fragments, and above that the
+-- one for don't-fragment. It is a fragment if more follow or the offset is not 0.
 abbrev pub is_ip4_fragment : List ℕ → Bool
 is_ip4_fragment bytes = nat_lt 0 (field 6 2 bytes % 16384)
 
@@ -153,13 +153,13 @@ abbrev pub extension_len : ℕ → List ℕ → ℕ
 extension_len next body =
     if next == 44 then 8 else if next == 51 then (byte 1 body + 2) * 4 else (byte 1 body + 1) * 8
 
--- RFC 8200, 4.5: an offset of 13 bits, two bits that are reserved, and whether more fragments follow.
--- Where the offset is 0 and no more follow, the packet is whole (RFC 6946).
+-- RFC 8200, 4.5: an offset of 13 bits, two bits that are reserved, and whether more fragments
+-- follow. If the offset is 0 and no more follow, the packet is whole (RFC 6946).
 abbrev pub is_ip6_fragment : ℕ → List ℕ → Bool
 is_ip6_fragment next body =
     next == 44 && (nat_lt 0 (field 2 2 body / 8) || field 2 2 body % 2 == 1)
 
--- the protocol and the bytes behind at most n extension headers
+-- the protocol and the bytes after at most n extension headers
 unfoldable pub behind_headers : ℕ → ℕ → List ℕ → Result (ℕ × List ℕ) NotCarried
 behind_headers zero next body = Err Malformed
 behind_headers (suc n) next body =
@@ -170,7 +170,8 @@ behind_headers (suc n) next body =
     else behind_headers n (byte 0 body) (drop (extension_len next body) body))
     else Ok (next, body)
 
--- the protocol and the bytes behind all extension headers, which are fewer than the bytes and one
+-- the protocol and the bytes after all extension headers, of which there are at most as many as
+-- bytes
 abbrev pub behind_extensions : ℕ → List ℕ → Result (ℕ × List ℕ) NotCarried
 behind_extensions next body = behind_headers (suc (length body)) next body
 
@@ -195,8 +196,8 @@ ip6_of bytes =
       body = found.1;
     }))
 
--- A packet of IP, its version in the first four bits (RFC 791, 3.1; RFC 8200, 3). Where the frame
--- says which version it is, it is that one or malformed.
+-- A packet of IP, its version in the first four bits (RFC 791, 3.1; RFC 8200, 3). If the frame
+-- gives the version, the packet has that one or is malformed.
 unfoldable pub ip_of : Version → List ℕ → Result IpText NotCarried
 ip_of Ip4 bytes =
     if nat_lt (length bytes) 1 then Err Cut
@@ -216,18 +217,18 @@ ip_of Either bytes =
 abbrev pub version_of : ℕ → Option Version
 version_of kind = if kind == 0x800 then Some Ip4 else if kind == 0x86dd then Some Ip6 else None
 
--- the types of tags: IEEE 802.1Q (customer tag 8100, service tag 88a8), and 9100 as of old
+-- the EtherTypes of tags: IEEE 802.1Q (customer tag 8100, service tag 88a8), and the older 9100
 abbrev pub is_tag : ℕ → Bool
 is_tag kind = kind == 0x8100 || kind == 0x88a8 || kind == 0x9100
 
--- the rest is a packet of this version, or there is another answer
+-- the rest is a packet of this version, or there is another result
 abbrev pub packet_or : Option Version → List ℕ → Result (Version × List ℕ) NotCarried
     → Result (Version × List ℕ) NotCarried
 packet_or (Some version) rest other = Ok (version, rest)
 packet_or None rest other = other
 
--- The packet behind a type, or behind any number of tags. IEEE 802.1Q, 9: behind the type of a tag
--- stand two bytes of it, and the next type.
+-- The packet after an EtherType, or after any number of tags. IEEE 802.1Q, 9: the type of a tag is
+-- followed by two bytes of the tag, and the next type.
 unfoldable pub behind_type : List ℕ → Result (Version × List ℕ) NotCarried
 behind_type [] = Err Cut
 behind_type (a ∷ []) = Err Cut
@@ -241,7 +242,7 @@ behind_type (a ∷ b ∷ c ∷ d ∷ rest) =
     packet_or (version_of (field 0 2 (a ∷ b ∷ c ∷ d ∷ rest))) (c ∷ d ∷ rest)
     (if is_tag (field 0 2 (a ∷ b ∷ c ∷ d ∷ rest)) then behind_type rest else Err NotIp)
 
--- the numbers of the address families of IP: 2 is IPv4 everywhere, and IPv6 has one on each system
+-- the numbers of the address families of IP: 2 is IPv4 everywhere, and IPv6 depends on the system
 abbrev pub family_of : ℕ → Option Version
 family_of number =
     if number == 2 then Some Ip4
@@ -249,8 +250,8 @@ family_of number =
     else None
 
 -- The packet in a frame of this link, and which version it has to be. Loopback: the family in four
--- bytes of either order. Ethernet (IEEE 802.3): two addresses of 6 bytes, and a type. Cooked: 14 bytes
--- and a type. Cooked 2: a type, and 18 bytes.
+-- bytes of either order. Ethernet (IEEE 802.3): two addresses of 6 bytes, and a type. Cooked: 14
+-- bytes and a type. Cooked 2: a type, and 18 bytes.
 unfoldable pub packet_in : Link → List ℕ → Result (Version × List ℕ) NotCarried
 packet_in Raw bytes = Ok (Either, bytes)
 packet_in Loopback bytes =
@@ -293,7 +294,7 @@ carried_text c = record {
   transport = transport_text c.transport;
 }
 
--- what a frame of this link carries, or why it carries nothing that is used
+-- what a frame of this link carries, or why it carries nothing of interest
 unfoldable pub carried_of : Link → List ℕ → Result CarriedText NotCarried
 carried_of link bytes =
     onward (packet_in link bytes) (λ packet.

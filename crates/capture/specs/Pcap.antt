@@ -17,7 +17,7 @@ abbrev pub fraction_of : Precision → ℕ → ℕ
 fraction_of Microseconds fraction = fraction * 1000
 fraction_of Nanoseconds fraction = fraction
 
--- Section 4, File Header, behind its magic number: a major and a minor version, two reserved
+-- Section 4, File Header, after its magic number: a major and a minor version, two reserved
 -- numbers, the snap length, and a number whose lower 16 bits are the link type.
 unfoldable pub pcap_behind : Order → Precision → Reading Pcap
 pcap_behind order precision = do

@@ -11,12 +11,12 @@ use Rattle.capture.specs.declared.stop.Stop.TheVariants.{Fault}
 use Rattle.capture.specs.Clock.{clock_of, time_of}
 use Rattle.capture.specs.Taking.{Reading, order_of, field, next_part, next_header, skipped, captured_at, checked_version}
 
--- what a section has said so far
+-- what a section has described so far
 pub record SectionText : Type 0 where
   pub order : Order
   pub interfaces : List Interface
 
--- what a block says
+-- what a block holds
 pub data BlockText : Type 0 where
   section : Order → BlockText
   interface : Interface → BlockText
@@ -24,30 +24,30 @@ pub data BlockText : Type 0 where
   other : BlockText
 
 -- Section 3.1, General Block Structure: the total length is a multiple of 4, and has room for the
--- fields of the block's kind. So many bytes are left behind them.
+-- fields of the block's kind. The result is the number of bytes after them.
 abbrev pub room_in : ℕ → ℕ → Reading ℕ
 room_in fields total =
     if total % 4 == 0
     then (if nat_lt total (fields + 12) then refuses (Fault BadBlock) else gives (total - (fields + 12)))
     else refuses (Fault BadBlock)
 
--- the total length stands again at the end
+-- the total length is repeated at the end
 abbrev pub same_total : ℕ → ℕ → Reading (Unit {0})
 same_total again total = if again == total then gives tt else refuses (Fault BadBlock)
 
--- so many bytes that are passed over, and then the end of a block of this total length
+-- this many bytes that are skipped, and then the end of a block of this total length
 unfoldable pub closed : Order → ℕ → ℕ → Reading (Unit {0})
 closed order n total = do
   gone ← skipped n
   again ← next_part 4
   same_total (field order 0 4 again) total
 
--- Section 4.1, Section Header Block: the byte-order magic tells the order of all the section's
+-- Section 4.1, Section Header Block: the byte-order magic gives the order of all the section's
 -- numbers.
 abbrev pub order_in : ℕ → Reading Order
 order_in magic = some_or (Fault NotCapture) (order_of magic)
 
--- a section header block behind its first 8 bytes, of which the last 4 tell its total length
+-- a section header block after its first 8 bytes, of which the last 4 give its total length
 unfoldable pub section_at : List ℕ → Reading Order
 section_at claimed = do
   magic ← next_part 4
@@ -58,7 +58,7 @@ section_at claimed = do
   gone ← closed order room (field order 0 4 claimed)
   gives order
 
--- the clock that the options of an interface tell
+-- the clock given by the options of an interface
 abbrev pub clock_in : Order → List ℕ → Reading Clock
 clock_in order options = some_or (Fault BadBlock) (clock_of order options)
 
@@ -82,11 +82,11 @@ interface_at now total = do
     clock = clock;
   })
 
--- the interface of this number
+-- the interface with this number
 abbrev pub described : SectionText → ℕ → Reading Interface
 described now number = some_or (Fault (UnknownInterface number)) (slice_get now.interfaces number)
 
--- how many bytes of the room are left behind the captured ones
+-- how many bytes of the room are left after the captured ones
 abbrev pub room_behind : ℕ → ℕ → Reading ℕ
 room_behind captured room =
     if nat_lt room captured then refuses (Fault BadBlock) else gives (room - captured)
@@ -99,8 +99,8 @@ packet_at order total room captured head = do
   gone ← closed order left total
   gives (packet head bytes)
 
--- what the fields of a packet with a time say: the upper and the lower half of the time, and the
--- original length
+-- the fields of a packet with a time: the upper and the lower half of the time, and the original
+-- length
 abbrev pub timed_head : Order → Interface → List ℕ → Record
 timed_head order on fields = record {
   time = Some (time_of on.clock (field order 4 4 fields * 2 ^ 32 + field order 8 4 fields));
@@ -109,7 +109,7 @@ timed_head order on fields = record {
 }
 
 -- Section 4.3, Enhanced Packet Block, and Appendix A, Packet Block: the interface in n bytes (the
--- Packet Block has a count of drops behind its 2), the time, and the captured and the original
+-- Packet Block has a count of drops after its 2), the time, and the captured and the original
 -- length.
 unfoldable pub timed_packet : ℕ → SectionText → ℕ → Reading BlockText
 timed_packet n now total = do
@@ -118,7 +118,7 @@ timed_packet n now total = do
   on ← described now (field now.order 0 n fields)
   packet_at now.order total room (field now.order 12 4 fields) (timed_head now.order on fields)
 
--- so many bytes, cut by the snap length; 0 cuts nothing
+-- this many bytes, cut by the snap length; 0 cuts nothing
 abbrev pub snapped : ℕ → ℕ → ℕ
 snapped snap original = if snap == 0 then original else min original snap
 
@@ -134,7 +134,7 @@ simple_packet now total = do
     original = field now.order 0 4 fields;
   })
 
--- any other block, behind its type and its total length
+-- any other block, after its type and its total length
 unfoldable pub other_at : Order → ℕ → Reading (Unit {0})
 other_at order total = do
   room ← room_in 0 total
@@ -167,7 +167,7 @@ block_of now kind total claimed =
     if kind == 3 then simple_packet now total else
     if kind == 6 then timed_packet 4 now total else next_other now.order total
 
--- Section 3.1: the type and the total length, and then what the type says
+-- Section 3.1: the type and the total length, and then what the type requires
 unfoldable pub block_at : SectionText → Reading BlockText
 block_at now = do
   head ← next_header 8

@@ -1,4 +1,4 @@
--- What is taken from the front of a capture's bytes.
+-- What is consumed from a capture's bytes.
 use Rattle.std.specs.Prelude.{ℕ, ◌-◌, nat_lt, ◌==◌, if◌then◌else◌, List, [], ◌∷◌, ◌++◌, length, take, drop, Option, Some, None, Ok, Err}
 use Rattle.byteorder.specs.Endian.{big_number, little_number}
 use Rattle.swim_pack.specs.declared.fault.PullFault.{PullFault}
@@ -16,7 +16,7 @@ use Rattle.capture.specs.declared.stop.Stop.TheVariants.{End, Fault}
 abbrev pub Reading : Type 0 → Type 0
 Reading V = composing.Reading Stop V
 
--- what a stop comes from
+-- what causes a stop
 abbrev pub stop_cause : Stop → Cause
 stop_cause End = by_end
 stop_cause (Fault Cut) = by_end
@@ -24,7 +24,7 @@ stop_cause (Fault Device) = by_inlet
 stop_cause (Fault Memory) = by_memory
 stop_cause (Fault fault) = by_bytes
 
--- bytes that an inlet does not give in the middle of a record
+-- the stop if an inlet does not return bytes in the middle of a record
 abbrev pub stop_of_pull : PullFault → Stop
 stop_of_pull pulls.Ended = Fault Cut
 stop_of_pull pulls.Fault = Fault Device
@@ -38,7 +38,7 @@ number Little n bytes = little_number n bytes
 abbrev pub field : Order → ℕ → ℕ → List ℕ → ℕ
 field order o n bytes = number order n (drop o bytes)
 
--- the order that the byte-order magic of a pcapng section tells (draft-ietf-opsawg-pcapng, 4.1)
+-- the order given by the byte-order magic of a pcapng section (draft-ietf-opsawg-pcapng, 4.1)
 abbrev pub order_of : ℕ → Option Order
 order_of magic =
     if magic == 0x1a2b3c4d then Some Big else
@@ -49,19 +49,19 @@ abbrev pub next_part : ℕ → Reading (List ℕ)
 next_part n bytes =
     if nat_lt (length bytes) n then Err (Fault Cut) else Ok (take n bytes, drop n bytes)
 
--- the first byte of a record, where the capture does not end before it
+-- the first byte of a record, if the capture does not end before it
 abbrev pub first_byte : Reading (List ℕ)
 first_byte [] = Err End
 first_byte (byte ∷ bytes) = Ok (byte ∷ [], bytes)
 
--- a header of n bytes, where the capture does not end before it
+-- a header of n bytes, if the capture does not end before it
 unfoldable pub next_header : ℕ → Reading (List ℕ)
 next_header n = do
   first ← first_byte
   rest ← next_part (n - 1)
   gives (first ++ rest)
 
--- passes over n bytes
+-- skips n bytes
 unfoldable pub skipped : ℕ → Reading (Unit {0})
 skipped n = do
   bytes ← next_part n

@@ -1,4 +1,4 @@
--- Datagrams, packets and frames as their standards lay them out, byte after byte.
+-- Datagrams, packets and frames as their standards lay them out, byte by byte.
 use Rattle.std.specs.Prelude.{◌≡◌, ℕ, ◌+◌, ◌*◌, ◌/◌, ◌%◌, ◌==◌, ◌^◌, ◌<◌, List, [], ◌∷◌, ◌++◌, length, Ok}
 use Rattle.byteorder.specs.Endian.{big_bytes}
 use Rattle.capture.specs.declared.link.Link.TheVariants.{Ethernet}
@@ -18,8 +18,9 @@ tcp_bytes source destination seq ack words flags window sum urgent options paylo
     ++ (words * 16 ∷ flags ∷ []) ++ big_bytes 2 window ++ big_bytes 2 sum ++ big_bytes 2 urgent
     ++ options ++ payload
 
--- RFC 791, 3.1: version 4 and a header of 5 words, the type of service, the length of header and body,
--- an identification, flags and offset, the time to live, the protocol, a checksum, two addresses
+-- RFC 791, 3.1: version 4 and a header of 5 words, the type of service, the length of header and
+-- body, an identification, flags and offset, the time to live, the protocol, a checksum, two
+-- addresses
 abbrev pub ip4_bytes : ℕ → ℕ → ℕ → ℕ → ℕ → ℕ → ℕ → ℕ → List ℕ → List ℕ
 ip4_bytes service id flags life protocol sum source destination body =
     (0x45 ∷ service ∷ []) ++ big_bytes 2 (20 + length body) ++ big_bytes 2 id ++ big_bytes 2 flags
@@ -30,7 +31,8 @@ abbrev pub frame_bytes : ℕ → ℕ → List ℕ → List ℕ → List ℕ
 frame_bytes destination source packet padding =
     big_bytes 6 destination ++ big_bytes 6 source ++ big_bytes 2 0x800 ++ packet ++ padding
 
--- a datagram in a packet that is no fragment, in a frame with any padding, is what the frame carries
+-- a datagram in a packet that is not a fragment, in a frame with any padding, is what the frame
+-- carries
 abbrev pub DatagramReadBack : Type 0
 DatagramReadBack =
     (to from service id flags life sum source destination source_port destination_port check : ℕ)
@@ -46,7 +48,7 @@ DatagramReadBack =
       transport = udp (record { source = source_port; destination = destination_port; payload = payload });
     })
 
--- and so is a segment with any options: FIN is 1, SYN is 2, and RST is 4 of its flags
+-- and so is a segment with any options: of its flags, FIN is 1, SYN is 2, and RST is 4
 abbrev pub SegmentReadBack : Type 0
 SegmentReadBack =
     (to from service id bits life check source destination : ℕ)

@@ -20,7 +20,7 @@ use swim_pack::Inlet;
 /// The type of a section header block, which is the same in both orders.
 pub(crate) const SECTION_HEADER: u32 = 0x0a0d_0d0a;
 
-/// What a block says.
+/// What a block holds.
 #[derive(Clone, Copy, Debug)]
 pub(crate) enum Block {
     Section(Order),
@@ -40,7 +40,7 @@ struct Lengths {
     captured: u32,
 }
 
-/// Passes over so many bytes, and reads the total length again.
+/// Skips `count` bytes, and reads the total length again.
 fn read_closed<I: Inlet>(inlet: &mut I, order: Order, count: u32, total: u32) -> Result<(), Stop>
     ensures { ReadsAs stop_cause (λ _. tt) (closed order count total)
         (I.seen inlet.old) (I.seen inlet.new) result }
@@ -52,7 +52,7 @@ fn read_closed<I: Inlet>(inlet: &mut I, order: Order, count: u32, total: u32) ->
     check_total(again, total)
 }
 
-/// Reads a section header block behind its type and these bytes of its total length.
+/// Reads a section header block after its type and these bytes of its total length.
 pub(crate) fn read_section<I: Inlet>(inlet: &mut I, claimed: &[u8]) -> Result<Order, Stop>
     requires { length claimed.now ≡ 4 }
     ensures { ReadsAs stop_cause same (section_at claimed.now)
@@ -72,7 +72,7 @@ pub(crate) fn read_section<I: Inlet>(inlet: &mut I, claimed: &[u8]) -> Result<Or
     Ok(order)
 }
 
-/// Reads an interface description block behind its type and its total length.
+/// Reads an interface description block after its type and its total length.
 fn read_interface<I: Inlet>(
     section: &Section,
     inlet: &mut I,
@@ -100,7 +100,7 @@ fn read_interface<I: Inlet>(
     })
 }
 
-/// What the fields of a packet with a time say.
+/// The record in the fields of a packet with a time.
 fn timed(order: Order, on: &Interface, fields: &[u8]) -> Record
     requires { length fields.now ≡ 20 }
     ensures { result ≡ timed_head order on.now fields.now }
@@ -138,7 +138,7 @@ fn read_packet<I: Inlet>(
     Ok(Block::Packet(head))
 }
 
-/// Reads an enhanced packet block behind its type and its total length.
+/// Reads an enhanced packet block after its type and its total length.
 fn read_enhanced<I: Inlet>(
     section: &Section,
     inlet: &mut I,
@@ -165,7 +165,7 @@ fn read_enhanced<I: Inlet>(
     read_packet(inlet, bytes, order, lengths, head)
 }
 
-/// Reads an obsolete packet block behind its type and its total length.
+/// Reads an obsolete packet block after its type and its total length.
 fn read_obsolete<I: Inlet>(
     section: &Section,
     inlet: &mut I,
@@ -192,7 +192,7 @@ fn read_obsolete<I: Inlet>(
     read_packet(inlet, bytes, order, lengths, head)
 }
 
-/// Reads a simple packet block behind its type and its total length.
+/// Reads a simple packet block after its type and its total length.
 fn read_simple<I: Inlet>(
     section: &Section,
     inlet: &mut I,
@@ -223,7 +223,7 @@ fn read_simple<I: Inlet>(
     read_packet(inlet, bytes, order, lengths, head)
 }
 
-/// Passes over another block behind its type and its total length.
+/// Skips another block after its type and its total length.
 fn read_other<I: Inlet>(inlet: &mut I, order: Order, total: u32) -> Result<(), Stop>
     ensures { ReadsAs stop_cause (λ _. tt) (other_at order total)
         (I.seen inlet.old) (I.seen inlet.new) result }

@@ -1,4 +1,4 @@
-//! What is checked of a capture's numbers, without a look at further bytes.
+//! Checks of a capture's numbers that read no further bytes.
 
 ghost use Rattle.std.specs.Prelude.{◌≡◌, ◌≤◌};
 ghost use Rattle.swim_pack.specs.Composing.{ReadsAs, same};
@@ -14,7 +14,7 @@ use crate::stop::Stop;
 /// The most interfaces of a section.
 const MOST_INTERFACES: usize = 4096;
 
-/// The major version of a format has to be this one.
+/// Checks that the major version of a format is this one.
 pub(crate) fn check_version(wanted: u16, major: u16) -> Result<(), Stop>
     ensures { (at : Source) → ReadsAs stop_cause (λ _. tt) (checked_version wanted major)
         at at result }
@@ -26,14 +26,14 @@ pub(crate) fn check_version(wanted: u16, major: u16) -> Result<(), Stop>
     }
 }
 
-/// The order that a byte-order magic, the highest byte first, tells.
+/// The order given by a byte-order magic, read with the highest byte first.
 pub(crate) fn order_in(magic: u32) -> Result<Order, Stop>
     ensures { (at : Source) → ReadsAs stop_cause same (order_in magic) at at result }
 {
     Order::told_by(magic).ok_or(Stop::Fault(CaptureFault::NotCapture))
 }
 
-/// How many bytes a block of this total length has behind so many bytes of fields.
+/// How many bytes a block of this total length has after `fields` bytes of fields.
 pub(crate) fn room_in(fields: u32, total: u32) -> Result<u32, Stop>
     requires { fields ≤ 20 }
     ensures { (at : Source) → ReadsAs stop_cause same (room_in fields total) at at result }
@@ -49,7 +49,7 @@ pub(crate) fn room_in(fields: u32, total: u32) -> Result<u32, Stop>
     Ok(total - least)
 }
 
-/// How many bytes of the room of a block are left behind the captured ones.
+/// How many bytes of the room of a block are left after the captured ones.
 pub(crate) fn room_behind(captured: u32, room: u32) -> Result<u32, Stop>
     ensures { (at : Source) → ReadsAs stop_cause same (room_behind captured room) at at result }
 {
@@ -59,7 +59,7 @@ pub(crate) fn room_behind(captured: u32, room: u32) -> Result<u32, Stop>
     Ok(room - captured)
 }
 
-/// The total length of a block stands again at its end.
+/// Checks that the total length of a block is repeated at its end.
 pub(crate) fn check_total(again: u32, total: u32) -> Result<(), Stop>
     ensures { (at : Source) → ReadsAs stop_cause (λ _. tt) (same_total again total)
         at at result }
@@ -71,7 +71,7 @@ pub(crate) fn check_total(again: u32, total: u32) -> Result<(), Stop>
     }
 }
 
-/// A section that has so many interfaces has place for one more.
+/// Checks that a section with this many interfaces has room for one more.
 pub(crate) fn check_place(count: usize) -> Result<(), Stop>
     ensures { (at : Source) → ReadsAs stop_cause (λ _. tt) (has_place count) at at result }
 {
@@ -82,7 +82,7 @@ pub(crate) fn check_place(count: usize) -> Result<(), Stop>
     }
 }
 
-/// The clock that the options of an interface tell.
+/// The clock given by the options of an interface.
 pub(crate) fn clock_in(order: Order, options: &[u8]) -> Result<Clock, Stop>
     ensures { (at : Source) → ReadsAs stop_cause same (clock_in order options.now) at at result }
 {

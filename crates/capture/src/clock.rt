@@ -14,13 +14,13 @@ const OFFSET: u16 = 14;
 /// From here on, an offset in two's complement is negative.
 const NEGATIVE: u64 = 9_223_372_036_854_775_808;
 
-/// What two's complement of 64 bits adds to a negative number.
+/// What two's complement with 64 bits adds to a negative number.
 const WRAPPED: u128 = 18_446_744_073_709_551_616;
 
 /// How an interface counts time.
 #[derive(Clone, Copy, Debug, PartialEq, Eq)]
 pub(crate) struct Clock {
-    /// The power of ten, or of two where the highest bit is set, by which a second is divided.
+    /// The power of ten, or of two if the highest bit is set, by which a second is divided.
     pub(crate) resolution: u8,
     /// Seconds that are added, in two's complement.
     pub(crate) offset: u64,
@@ -72,7 +72,7 @@ impl Clock {
     }
 }
 
-/// The time with so many seconds added, in two's complement, and 0 where that is before 1970.
+/// The time with this many seconds added, in two's complement, or 0 if that is before 1970.
 fn moved(nanos: u128, offset: u64) -> u128
     requires { nanos < 2 ^ 64 * 1000000000 }
     ensures { result ≡ moved offset nanos }
@@ -84,7 +84,7 @@ fn moved(nanos: u128, offset: u64) -> u128
     nanos.saturating_sub((WRAPPED - seconds) * 1_000_000_000)
 }
 
-/// The clock that the options of an interface tell. There is none where an option does not fit.
+/// The clock given by the options of an interface. `None` if an option does not fit.
 pub(crate) fn clock_of(order: Order, options: &[u8]) -> Option<Clock>
     ensures { result ≡ clock_of order options.now }
 {

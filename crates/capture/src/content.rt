@@ -14,9 +14,9 @@ pub enum Transport<'a> {
 /// What a frame carries, and between which addresses, as parts of the frame's bytes.
 #[derive(Clone, Copy)]
 pub struct Carried<'a> {
-    /// The address that it comes from, of 4 or 16 bytes.
+    /// The source address, 4 or 16 bytes.
     pub source: &'a [u8],
-    /// The address that it goes to.
+    /// The destination address.
     pub destination: &'a [u8],
     /// What it carries.
     pub transport: Transport<'a>,

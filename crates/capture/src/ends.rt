@@ -1,4 +1,4 @@
-//! Both ends of a flow.
+//! Both endpoints of a flow.
 
 ghost use Rattle.std.specs.Prelude.{◌≡◌, ◌⊎◌, ◌↔◌, length, IsSome};
 
@@ -6,12 +6,12 @@ use crate::Segment;
 use byteorder::{BigEndian, ByteOrder};
 use std::net::{IpAddr, Ipv4Addr, Ipv6Addr, SocketAddr};
 
-/// Both ends of one direction of a TCP connection.
+/// Both endpoints of one direction of a TCP connection.
 #[derive(Clone, Copy, PartialEq, Eq, PartialOrd, Ord)]
 pub struct Ends {
-    /// Where it comes from.
+    /// The source.
     pub source: SocketAddr,
-    /// Where it goes to.
+    /// The destination.
     pub destination: SocketAddr,
 }
 
@@ -27,7 +27,8 @@ fn address(bytes: &[u8]) -> Option<IpAddr>
 }
 
 impl Ends {
-    /// The ends of a segment between these addresses. `None` where one has neither 4 nor 16 bytes.
+    /// The endpoints of a segment between these addresses. `None` if one has neither 4 nor 16
+    /// bytes.
     pub fn of(source: &[u8], destination: &[u8], segment: &Segment) -> Option<Ends> {
         Some(Ends {
             source: SocketAddr::new(address(source)?, segment.source),

@@ -1,4 +1,4 @@
-//! One direction of a TCP connection, put together.
+//! One direction of a TCP connection, reassembled.
 
 ghost use Rattle.std.specs.Prelude.{◌≡◌, ◌+◌, ◌-◌, ◌<◌, ◌≤◌, ◌^◌, ◌⊎◌, ◌++◌, ◌∷◌, [], List, length, true, false, None, Ok, OnOk, OnErr, IfOk, MatchBool};
 ghost use Rattle.capture.specs.Flows.{Placed, placed, placed_at, byte_at, Assembled, Says};
@@ -7,7 +7,7 @@ use crate::Taken;
 use crate::piece::{Piece, gathered, place, reach};
 use std::alloc::{AllocError, Global};
 
-/// How far behind the first gap a segment may end, in bytes.
+/// How far after the first gap a segment may end, in bytes.
 const WINDOW: usize = 16_777_216;
 
 /// The most bytes of a flow.
@@ -16,7 +16,7 @@ const MOST_BYTES: usize = 33_554_432;
 /// The most segments that wait.
 const MOST_WAITING: usize = 4096;
 
-/// Whether a segment that ends behind these bytes ends too far behind them.
+/// Whether a segment that ends at `end` ends too far after the first `len` bytes.
 fn is_beyond(len: usize, end: usize) -> bool
     requires { len < end }
     ensures { MatchBool result ((2 ^ 24 < end - len) ⊎ (2 ^ 25 < end))
@@ -27,9 +27,10 @@ fn is_beyond(len: usize, end: usize) -> bool
 
 /// One direction of a TCP connection: the bytes from a sequence number on.
 ///
-/// A byte stands at its sequence number, modulo 2^32 (RFC 9293, 3.4). Of two segments that cover
-/// one byte the first that was given counts. Bytes behind a gap are no part of the flow until it closes.
-/// Memory is held for the bytes and for the segments that wait behind the gap, at most 4,096.
+/// A byte is at its sequence number, modulo 2^32 (RFC 9293, 3.4). Of two segments that cover one
+/// byte the first that was added counts. Bytes after a gap are not part of the flow until it
+/// closes. Memory is used for the bytes and for the segments that wait after the gap, at most
+/// 4,096.
 #[derive(Drop)]
 pub struct Flow {
     start: u32,
@@ -73,14 +74,14 @@ impl Flow {
         &self.text
     }
 
-    /// Takes a segment, or leaves it out and says why.
+    /// Adds a segment, or leaves it out and says why.
     ///
-    /// `seq` is the sequence number of the first byte of the payload. A segment whose bytes are there
-    /// takes no memory; one whose bytes wait, and came from the last to the first, may wait again.
+    /// `seq` is the sequence number of the first byte of the payload. A segment with no new bytes
+    /// takes no memory, but one whose bytes wait already, and came last to first, may wait again.
     ///
     /// # Errors
     ///
-    /// `AllocError` where memory is refused: the flow is as it was.
+    /// `AllocError` if out of memory: the flow is as it was.
     pub fn take(&mut self, alloc: Global, seq: u32, payload: &[u8]) -> Result<Taken, AllocError>
         ensures counts { IfOk result (λ taken. counts taken ≡ true
             → (segments : List Placed) → Says segments (flow_text self.old)
@@ -126,7 +127,7 @@ impl Flow {
         Ok(Taken::Waits)
     }
 
-    /// Takes bytes that begin where the flow has its gap, or before.
+    /// Adds bytes that start at or before the flow's gap.
     fn join(&mut self, alloc: Global, at: usize, bytes: &[u8]) -> Result<(), AllocError>
         requires touches { at ≤ length self.old.text.items }
         requires behind { length self.old.text.items < at + length bytes.now }
@@ -143,7 +144,7 @@ impl Flow {
         Ok(())
     }
 
-    /// Holds bytes that begin behind the gap.
+    /// Holds bytes that start after the gap.
     fn hold(&mut self, alloc: Global, at: usize, bytes: &[u8]) -> Result<(), AllocError>
         requires apart { length self.old.text.items < at }
         requires room { length self.old.waiting.items < 4096 }

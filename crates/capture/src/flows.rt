@@ -19,19 +19,19 @@ use std::marker::Model;
 /// What a segment did to the flows.
 #[derive(Drop)]
 pub struct Heard {
-    /// What became of it; nothing where it carries no byte of a flow that is open, and begins none.
+    /// What became of it; `None` if it carries no byte of an open flow and starts none.
     pub taken: Option<Taken>,
-    /// The flow between its ends that it completed. Where a SYN completed an older flow, the newer
-    /// one stays open until a further segment at least.
+    /// The flow between its endpoints that it completed. If a SYN completed an older flow, the
+    /// newer one stays open at least until a further segment.
     pub complete: Option<Flow>,
 }
 
 /// The flows of a capture that are not complete.
 ///
-/// A flow begins behind its SYN, or with the first segment that has a payload where the capture has
-/// no SYN (RFC 9293, 3.5). It is complete when all bytes before its FIN are there, at a RST, at a SYN
-/// with another sequence number, and at the end of the capture. What comes again after that begins
-/// another flow.
+/// A flow starts after its SYN, or with the first segment that has a payload if the capture has no
+/// SYN (RFC 9293, 3.5). It is complete when all bytes before its FIN are there, at a RST, at a SYN
+/// with another sequence number, and at the end of the capture. Segments after that start another
+/// flow.
 #[derive(Drop)]
 pub struct Flows {
     open: BTreeMap<Ends, Open>,
@@ -55,11 +55,11 @@ impl Flows {
         }
     }
 
-    /// Takes a segment between these ends.
+    /// Takes a segment between these endpoints.
     ///
     /// # Errors
     ///
-    /// `AllocError` where memory is refused: no flow is changed.
+    /// `AllocError` if out of memory: no flow is changed.
     pub fn take(
         &mut self,
         alloc: Global,
@@ -86,7 +86,7 @@ impl Flows {
         })
     }
 
-    /// Whether a segment between these ends begins a flow.
+    /// Whether a segment between these endpoints starts a flow.
     fn begins(&self, ends: &Ends, segment: &Segment) -> bool
         ensures { result ≡ begins (flow_at self.now ends.now) (tcp_text segment.now) }
     {
@@ -96,7 +96,7 @@ impl Flows {
         }
     }
 
-    /// Whether a flow between these ends is open.
+    /// Whether a flow between these endpoints is open.
     fn is_open(&self, ends: &Ends) -> bool
         ensures { MatchBool result (IsSome (flow_at self.now ends.now))
             (flow_at self.now ends.now ≡ None) }
@@ -104,7 +104,7 @@ impl Flows {
         self.open.get(ends).is_some()
     }
 
-    /// The open flow takes a segment, and is taken out if it is complete then.
+    /// The open flow takes a segment, and is removed if it is then complete.
     fn go_on(
         &mut self,
         alloc: Global,
@@ -126,7 +126,7 @@ impl Flows {
         Ok(Heard { taken, complete })
     }
 
-    /// Gives a segment to the open flow.
+    /// Adds a segment to the open flow.
     fn give(
         &mut self,
         alloc: Global,
@@ -150,7 +150,7 @@ impl Flows {
         }
     }
 
-    /// Begins a flow, and completes the older one between its ends.
+    /// Starts a flow, and completes the older one between its endpoints.
     fn begin(
         &mut self,
         alloc: Global,
@@ -176,7 +176,7 @@ impl Flows {
         Ok(Heard { taken, complete })
     }
 
-    /// Takes out the flow between these ends, if it is complete.
+    /// Removes the flow between these endpoints, if it is complete.
     fn take_out(&mut self, ends: &Ends) -> Option<Flow>
         ensures out { IfSome (flow_at self.old ends.now) (λ o.
             (option_map flow_text result, flow_at self.new ends.now) ≡ settled None o) }
@@ -191,7 +191,7 @@ impl Flows {
         }
     }
 
-    /// The flow between these ends, as far as it is put together, if one is open.
+    /// The flow between these endpoints, as far as it is reassembled, if one is open.
     pub fn get(&self, ends: &Ends) -> Option<&Flow>
         ensures { option_map (λ flow. flow_text flow.now) result
             ≡ option_map (λ o. o.flow) (flow_at self.now ends.now) }
@@ -199,7 +199,8 @@ impl Flows {
         Some(self.open.get(ends)?.flow())
     }
 
-    /// At the end of the capture, takes out one of the flows that are left, the least by its ends.
+    /// At the end of the capture, removes one of the flows that are left, the least by its
+    /// endpoints.
     pub fn finish(&mut self) -> Option<(Ends, Flow)>
         ensures none { IsNone result ↔ (self.old ≡ []) }
         ensures takes_out { IfSome result (λ p. (o : OpenText)
@@ -218,8 +219,8 @@ impl Flows {
     }
 }
 
-/// The sequence number of the first byte of a segment's payload: a SYN has one of its own
-/// (RFC 9293, 3.4).
+/// The sequence number of the first byte of a segment's payload: a SYN has one of its own (RFC
+/// 9293, 3.4).
 fn first_byte(segment: &Segment) -> u32
     ensures { result ≡ first_of (tcp_text segment.now) }
 {

@@ -8,7 +8,7 @@ use crate::transport::{read_tcp, read_udp};
 use crate::{Carried, Link, NotCarried, Transport};
 use byteorder::{BigEndian, ByteOrder, LittleEndian};
 
-/// The version of IP that a type stands for.
+/// The IP version of an EtherType.
 fn version(kind: u16) -> Option<Version>
     ensures { result ≡ version_of kind }
 {
@@ -19,14 +19,14 @@ fn version(kind: u16) -> Option<Version>
     }
 }
 
-/// Whether a type is that of a tag.
+/// Whether an EtherType is that of a tag.
 fn is_type_of_tag(kind: u16) -> bool
     ensures { result ≡ is_tag kind }
 {
     kind == 0x8100 || kind == 0x88a8 || kind == 0x9100
 }
 
-/// The version of IP that an address family stands for.
+/// The IP version of an address family.
 fn family(number: u32) -> Option<Version>
     ensures { result ≡ family_of number }
 {
@@ -37,7 +37,7 @@ fn family(number: u32) -> Option<Version>
     }
 }
 
-/// The packet behind a type, or behind any number of tags.
+/// The packet after an EtherType, or after any number of tags.
 fn read_type(bytes: &[u8]) -> Result<(Version, &[u8]), NotCarried>
     ensures ok { IfOk result (λ packet. behind_type bytes.now
         ≡ Ok (packet.0, packet.1.now)) }
@@ -62,7 +62,7 @@ fn read_type(bytes: &[u8]) -> Result<(Version, &[u8]), NotCarried>
     }
 }
 
-/// The packet behind an address family, in either order of bytes.
+/// The packet after an address family, in either byte order.
 #[tactic(auto, unfolding(crate::specs::Packets::packet_in))]
 fn read_family(bytes: &[u8]) -> Result<(Version, &[u8]), NotCarried>
     ensures ok { IfOk result (λ packet. packet_in Link.Loopback bytes.now
@@ -128,22 +128,22 @@ fn read_transport(protocol: u8, body: &[u8]) -> Result<Transport, NotCarried>
     }
 }
 
-/// What a frame of this link carries, and between which addresses. No memory is taken, and no
-/// checksum is looked at.
+/// What a frame of this link carries, and between which addresses. It takes no memory and checks no
+/// checksum.
 ///
-/// Ethernet has any number of tags (IEEE 802.1Q), IPv4 any options and its total length, or 0 for all
-/// of the frame (RFC 791, 3.1), IPv6 any number of extension headers (RFC 8200, 4), and UDP its own
-/// length within IP's (RFC 768).
+/// Ethernet has any number of tags (IEEE 802.1Q), IPv4 any options and its total length, or 0 for
+/// all of the frame (RFC 791, 3.1), IPv6 any number of extension headers (RFC 8200, 4), and UDP its
+/// own length within IP's (RFC 768).
 ///
 /// # Errors
 ///
-/// - `Cut` where the bytes end before the link's header, IP's header or the length that IP says.
-/// - `NotIp` where the link says something else than IP, or nothing and the version is not 4 or 6.
-/// - `Fragment` where the packet is not whole: more fragments follow or its offset is not 0
-///   (RFC 791, 3.1; RFC 8200, 4.5). A fragment header of a whole packet is passed over (RFC 6946).
-/// - `OtherProtocol` where IP carries neither UDP nor TCP.
-/// - `Malformed` where the version is not the one that the link says, or a header is longer than
-///   what it stands in or shorter than it can be.
+/// - `Cut` if the bytes end before the link's header, IP's header or the length in IP's header.
+/// - `NotIp` if the link names another protocol than IP, or none and the version is not 4 or 6.
+/// - `Fragment` if the packet is not whole: more fragments follow or its offset is not 0
+///   (RFC 791, 3.1; RFC 8200, 4.5). A fragment header of a whole packet is skipped (RFC 6946).
+/// - `OtherProtocol` if IP carries neither UDP nor TCP.
+/// - `Malformed` if the version is not the one that the link names, or a header is longer than
+///   what contains it or shorter than it can be.
 #[tactic(auto, unfolding(crate::specs::Packets::carried_of))]
 pub fn carried(link: Link, bytes: &[u8]) -> Result<Carried, NotCarried>
     ensures ok { IfOk result (λ c. carried_of link bytes.now ≡ Ok (carried_text c)) }

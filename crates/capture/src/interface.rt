@@ -10,14 +10,14 @@ use crate::clock::Clock;
 pub(crate) struct Interface {
     /// The number of the link.
     pub(crate) link: u32,
-    /// How many bytes of a packet were captured at most. 0 is no limit.
+    /// The most bytes of a packet that were captured. 0 means no limit.
     pub(crate) snap: u32,
-    /// How times count.
+    /// How its times are counted.
     pub(crate) clock: Clock,
 }
 
 impl Interface {
-    /// How many of so many bytes are captured.
+    /// How many bytes of a packet of this length are captured.
     pub(crate) fn snapped(&self, original: u32) -> u32
         ensures { result ≡ snapped self.now.snap original }
     {

@@ -2,27 +2,27 @@
 //!
 //! | module | subject |
 //! |---|---|
-//! | `capture_fault` | why a capture was not read on |
-//! | `stop` | why a reader gives no record: the capture's end, or a fault |
-//! | `order` | the two orders of a number's bytes |
+//! | `capture_fault` | why reading a capture stopped |
+//! | `stop` | why a reader returns no record: the capture's end, or a fault |
+//! | `order` | the two byte orders |
 //! | `taking` | the next bytes of a record, in bounded memory |
 //! | `record` | a record of a capture |
-//! | `checks` | what is checked of a capture's numbers |
+//! | `checks` | checks of a capture's numbers |
 //! | `pcap` | the header and the records of a pcap file |
-//! | `section`, `interface`, `clock` | what a section of a pcapng capture has said so far |
+//! | `section`, `interface`, `clock` | what a section of a pcapng capture has described so far |
 //! | `blocks` | the blocks of a pcapng capture |
 //! | `reader` | the reader of both formats |
-//! | `fault` | why a frame carries nothing that is used |
+//! | `fault` | why a frame carries nothing of interest |
 //! | `link` | the kinds of link that frames come from |
 //! | `transport` | datagrams of UDP and segments of TCP |
 //! | `network` | packets of IP |
 //! | `content` | what a frame carries |
 //! | `frame` | frames, and what they carry |
-//! | `laws` | what holds of the definitions |
+//! | `laws` | what holds for the definitions |
 //! | `taken` | what became of a segment |
 //! | `piece` | segments at their places in a flow |
-//! | `flow` | one direction of a TCP connection, put together |
-//! | `ends` | both ends of a flow |
+//! | `flow` | one direction of a TCP connection, reassembled |
+//! | `ends` | both endpoints of a flow |
 //! | `open` | a flow that is not complete |
 //! | `flows` | the flows of a capture |
 #![tactic(auto)]

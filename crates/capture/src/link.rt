@@ -19,8 +19,8 @@ pub enum Link {
 }
 
 impl Link {
-    /// The kind of link with this number in captures, if it is one that is read: 0 and 108
-    /// (loopback), 1 (Ethernet), 12, 14, 101, 228 and 229 (IP alone), 113 and 276 (Linux cooked).
+    /// The kind of link with this number in captures, if it is supported: 0 and 108 (loopback), 1
+    /// (Ethernet), 12, 14, 101, 228 and 229 (IP alone), 113 and 276 (Linux cooked).
     pub fn from_number(number: u32) -> Option<Link>
         ensures { result ≡ link_of number }
     {

@@ -6,31 +6,31 @@ ghost use Rattle.capture.specs.Packets.{ip4_of, ip6_of, ip_of, ip_text, ip4_tota
 use crate::NotCarried;
 use byteorder::{BigEndian, ByteOrder};
 
-/// Which version of IP a frame says that its packet has.
+/// The IP version that a frame gives for its packet.
 #[derive(Clone, Copy)]
 pub(crate) enum Version {
     /// IPv4.
     Ip4,
     /// IPv6.
     Ip6,
-    /// It does not say.
+    /// The frame gives none.
     Either,
 }
 
 /// A packet of IP.
 #[derive(Clone, Copy)]
 pub(crate) struct Packet<'a> {
-    /// The address that it comes from, of 4 or 16 bytes.
+    /// The source address, 4 or 16 bytes.
     pub(crate) source: &'a [u8],
-    /// The address that it goes to.
+    /// The destination address.
     pub(crate) destination: &'a [u8],
     /// The protocol of its body.
     pub(crate) protocol: u8,
-    /// What stands behind its headers.
+    /// What follows its headers.
     pub(crate) body: &'a [u8],
 }
 
-/// The length of a packet of IPv4 that is at the front of the bytes.
+/// The length of the IPv4 packet at the start of the bytes.
 fn total_len(bytes: &[u8]) -> usize
     requires { 20 ≤ length bytes.now }
     ensures { result ≡ ip4_total bytes.now }
@@ -41,7 +41,7 @@ fn total_len(bytes: &[u8]) -> usize
     }
 }
 
-/// The packet of IPv4 at the front of the bytes.
+/// The IPv4 packet at the start of the bytes.
 #[tactic(auto, unfolding(crate::specs::Packets::ip4_of))]
 fn read_ip4(bytes: &[u8]) -> Result<Packet, NotCarried>
     ensures ok { IfOk result (λ p. ip4_of bytes.now ≡ Ok (ip_text p)) }
@@ -79,7 +79,7 @@ fn extends(next: u8) -> bool
     next == 0 || next == 43 || next == 44 || next == 51 || next == 60
 }
 
-/// Whether the extension header with this number, at the front of the bytes, is one of a fragment
+/// Whether the extension header with this number, at the start of the bytes, belongs to a fragment
 /// that is not the whole packet.
 fn divides(next: u8, body: &[u8]) -> bool
     requires { 8 ≤ length body.now }
@@ -89,7 +89,7 @@ fn divides(next: u8, body: &[u8]) -> bool
     next == 44 && (0 < place / 8 || place % 2 == 1)
 }
 
-/// The length of the extension header with this number at the front of the bytes.
+/// The length of the extension header with this number at the start of the bytes.
 fn header_len(next: u8, body: &[u8]) -> usize
     requires { 8 ≤ length body.now }
     ensures { result ≡ extension_len next body.now }
@@ -102,7 +102,7 @@ fn header_len(next: u8, body: &[u8]) -> usize
     }
 }
 
-/// The protocol and the bytes behind any number of extension headers.
+/// The protocol and the bytes after any number of extension headers.
 fn read_extensions(mut next: u8, body: &[u8]) -> Result<(u8, &[u8]), NotCarried>
     ensures ok { IfOk result (λ found. behind_extensions next body.now
         ≡ Ok (found.0, found.1.now)) }
@@ -126,7 +126,7 @@ fn read_extensions(mut next: u8, body: &[u8]) -> Result<(u8, &[u8]), NotCarried>
     Ok((next, rest))
 }
 
-/// The packet of IPv6 at the front of the bytes.
+/// The IPv6 packet at the start of the bytes.
 #[tactic(auto, unfolding(crate::specs::Packets::ip6_of))]
 fn read_ip6(bytes: &[u8]) -> Result<Packet, NotCarried>
     ensures ok { IfOk result (λ p. ip6_of bytes.now ≡ Ok (ip_text p)) }
@@ -148,7 +148,7 @@ fn read_ip6(bytes: &[u8]) -> Result<Packet, NotCarried>
     })
 }
 
-/// The packet of IP at the front of the bytes, which the frame says to be of this version.
+/// The IP packet at the start of the bytes, whose version the frame gives.
 #[tactic(auto, unfolding(crate::specs::Packets::ip_of))]
 pub(crate) fn read_ip(version: Version, bytes: &[u8]) -> Result<Packet, NotCarried>
     ensures ok { IfOk result (λ p. ip_of version bytes.now ≡ Ok (ip_text p)) }

@@ -51,7 +51,7 @@ impl Open {
         self.flow.start() == first
     }
 
-    /// Takes a segment whose payload begins at a sequence number.
+    /// Takes a segment whose payload starts at a sequence number.
     pub(crate) fn take(
         &mut self,
         alloc: Global,
@@ -92,7 +92,7 @@ impl Open {
         Ok(taken)
     }
 
-    /// Whether all its bytes are there, or it was broken off.
+    /// Whether all its bytes are there, or it was reset.
     pub(crate) fn is_complete(&self) -> bool
         ensures { result ≡ is_over self.now }
     {
@@ -103,14 +103,14 @@ impl Open {
         self.reset || there
     }
 
-    /// The flow as far as it is put together.
+    /// The flow as far as it is reassembled.
     pub(crate) fn flow(&self) -> &Flow
         ensures { flow_text result.now ≡ self.now.flow }
     {
         &self.flow
     }
 
-    /// The flow as far as it is put together.
+    /// The flow as far as it is reassembled.
     pub(crate) fn into_flow(self) -> Flow
         ensures { flow_text result ≡ self.flow }
     {

@@ -1,11 +1,11 @@
-//! The two orders of a number's bytes.
+//! The two byte orders.
 
 ghost use Rattle.std.specs.Prelude.{◌≡◌, ◌+◌, ◌≤◌, length};
 ghost use Rattle.capture.specs.Taking.{field, order_of};
 
 use byteorder::{BigEndian, ByteOrder, LittleEndian};
 
-/// The order of a number's bytes.
+/// The byte order of a number.
 #[derive(Clone, Copy, Debug, PartialEq, Eq)]
 pub(crate) enum Order {
     /// The highest byte first.
@@ -15,7 +15,7 @@ pub(crate) enum Order {
 }
 
 impl Order {
-    /// The order that the byte-order magic of a pcapng section tells.
+    /// The order given by the byte-order magic of a pcapng section.
     pub(crate) fn told_by(magic: u32) -> Option<Order>
         ensures { result ≡ order_of magic }
     {

@@ -12,7 +12,7 @@ use crate::stop::Stop;
 use crate::taking::{fill, fill_header, read_captured};
 use swim_pack::Inlet;
 
-/// What the fraction of a record's time counts.
+/// The unit of the fraction in a record's time.
 #[derive(Clone, Copy, Debug, PartialEq, Eq)]
 pub(crate) enum Precision {
     Microseconds,
@@ -32,7 +32,7 @@ impl Precision {
     }
 }
 
-/// What a pcap file says of all its records.
+/// What the header of a pcap file gives for all its records.
 #[derive(Clone, Copy, Debug, PartialEq, Eq)]
 pub(crate) struct Pcap {
     pub(crate) order: Order,
@@ -40,7 +40,7 @@ pub(crate) struct Pcap {
     pub(crate) link: u32,
 }
 
-/// Reads what stands behind the magic number of a pcap file.
+/// Reads what follows the magic number of a pcap file.
 pub(crate) fn read_pcap<I: Inlet>(
     inlet: &mut I,
     order: Order,

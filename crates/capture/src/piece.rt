@@ -7,7 +7,7 @@ ghost use Rattle.capture.specs.Flows.{Placed, placed, placed_at, end_of, covers,
 use std::alloc::{AllocError, Global};
 use std::marker::Model;
 
-/// As many sequence numbers as there are (RFC 9293, 3.4).
+/// How many sequence numbers there are (RFC 9293, 3.4).
 const NUMBERS: u64 = 0x1_0000_0000;
 
 /// The bytes of a segment, and the place of the first of them in the flow.
@@ -26,7 +26,7 @@ impl Model for Piece {
 }
 
 impl Piece {
-    /// These bytes at this place, copied.
+    /// A copy of these bytes at this place.
     pub(crate) fn new(alloc: Global, at: usize, bytes: &[u8]) -> Result<Piece, AllocError>
         requires { at + length bytes.now ≤ 2 ^ 25 }
         ensures { IfOk result (λ piece. piece ≡ placed at bytes.now) }
@@ -52,7 +52,7 @@ impl Piece {
         &self.bytes
     }
 
-    /// The place behind the last byte.
+    /// The place after the last byte.
     pub(crate) fn end(&self) -> usize
         ensures is { result ≡ end_of self.now }
         ensures small { result ≤ 2 ^ 25 }
@@ -72,8 +72,8 @@ impl Piece {
     }
 }
 
-/// The place of a segment in the flow whose first byte has the sequence number `start`, and what of
-/// its payload does not stand before that.
+/// The place of a segment in the flow whose first byte has the sequence number `start`, and the
+/// part of its payload that is not before that.
 pub(crate) fn place(start: u32, seq: u32, payload: &[u8]) -> (usize, &[u8])
     ensures is { placed result.0 result.1.now ≡ placed_at start seq payload.now }
     ensures small { result.0 < 2 ^ 31 }
@@ -97,7 +97,7 @@ pub(crate) fn covering(pieces: &[Piece], place: usize) -> Option<&Piece>
     pieces.iter().find(|piece| piece.covers(place))
 }
 
-/// The first place above `place` at which a piece begins, at most `end`.
+/// The first place above `place` at which a piece starts, at most `end`.
 fn nearest(pieces: &[Piece], place: usize, end: usize) -> usize
     ensures { result ≡ fold (closer place) end pieces.now }
 {
@@ -120,7 +120,7 @@ fn next_start(pieces: &[Piece], place: usize, end: usize) -> usize
     nearest(pieces, place, end)
 }
 
-/// How far the pieces reach from a place on, where they are in order.
+/// How far the pieces reach from a place on, if they are in order.
 pub(crate) fn reach(pieces: &[Piece], place: usize) -> usize
     ensures { result ≡ fold reached place pieces.now }
 {
@@ -129,7 +129,7 @@ pub(crate) fn reach(pieces: &[Piece], place: usize) -> usize
     })
 }
 
-/// Those of the bytes at `at` that stand from `here` on, up to where a piece begins.
+/// Those of the bytes at `at` that are from `here` on, up to where a piece starts.
 fn until_next<'a>(pieces: &[Piece], at: usize, bytes: &'a [u8], here: usize) -> &'a [u8]
     requires begun { at ≤ here }
     requires inside { here < at + length bytes.now }
@@ -141,7 +141,7 @@ fn until_next<'a>(pieces: &[Piece], at: usize, bytes: &'a [u8], here: usize) -> 
     &bytes[here - at..stop - at]
 }
 
-/// Some bytes from `here` on, where the pieces are followed by the bytes at `at`.
+/// Some bytes from `here` on, with the bytes at `at` after the pieces.
 fn stretch<'a>(pieces: &'a [Piece], at: usize, bytes: &'a [u8], here: usize) -> Option<&'a [u8]>
     requires { at + length bytes.now ≤ 2 ^ 25 }
     ensures some { IfSome result (λ part.
@@ -161,7 +161,7 @@ fn stretch<'a>(pieces: &'a [Piece], at: usize, bytes: &'a [u8], here: usize) -> 
     Some(until_next(pieces, at, bytes, here))
 }
 
-/// All bytes from `here` on up to the first gap, where the pieces are followed by the bytes at `at`.
+/// All bytes from `here` on up to the first gap, with the bytes at `at` after the pieces.
 pub(crate) fn gathered(
     alloc: Global,
     pieces: &[Piece],

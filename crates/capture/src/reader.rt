@@ -20,7 +20,7 @@ use std::alloc::Global;
 use std::marker::Model;
 use swim_pack::Inlet;
 
-/// What a capture of each format has said so far.
+/// What a capture of each format has described so far.
 #[derive(Drop)]
 enum Format {
     Pcap(Pcap),
@@ -28,10 +28,10 @@ enum Format {
 }
 
 /// A reader of a capture's records, pcap (draft-ietf-opsawg-pcap) or pcapng
-/// (draft-ietf-opsawg-pcapng). Contracts see it as what the capture has said so far.
+/// (draft-ietf-opsawg-pcapng). Contracts see it as what the capture has described so far.
 ///
-/// It reads from its inlet as far as the record that it gives, and no further. It keeps the
-/// interfaces of a section, and of a record nothing.
+/// It reads from its inlet up to the end of the record that it returns, and no further. It keeps
+/// the interfaces of a section, and nothing of a record.
 #[derive(Drop)]
 pub struct CaptureReader {
     format: Format,
@@ -43,7 +43,7 @@ impl Model for CaptureReader {
     ghost view = { λ reader. state_of reader.format };
 }
 
-/// Reads what stands behind the magic number of a pcap file.
+/// Reads what follows the magic number of a pcap file.
 fn read_pcap_file<I: Inlet>(
     inlet: &mut I,
     order: Order,
@@ -58,7 +58,7 @@ fn read_pcap_file<I: Inlet>(
     })
 }
 
-/// Reads the first section header block of a pcapng file, behind its type.
+/// Reads the first section header block of a pcapng file, after its type.
 fn read_pcapng_file<I: Inlet>(alloc: Global, inlet: &mut I) -> Result<CaptureReader, Stop>
     ensures { ReadsAs stop_cause same pcapng_file (I.seen inlet.old) (I.seen inlet.new) result }
 {
@@ -84,7 +84,7 @@ fn read_file<I: Inlet>(alloc: Global, inlet: &mut I, magic: u32) -> Result<Captu
     }
 }
 
-/// Reads what a capture begins with.
+/// Reads the start of a capture.
 fn read_begin<I: Inlet>(alloc: Global, inlet: &mut I) -> Result<CaptureReader, Stop>
     ensures { ReadsAs stop_cause same begin_at (I.seen inlet.old) (I.seen inlet.new) result }
 {
@@ -94,7 +94,7 @@ fn read_begin<I: Inlet>(alloc: Global, inlet: &mut I) -> Result<CaptureReader, S
     read_file(alloc, inlet, magic)
 }
 
-/// The fault of a stop, where more had to come.
+/// The fault of a stop at which more had to come.
 fn fault_of(stop: Stop) -> CaptureFault
     ensures { result ≡ fault_of stop }
 {
@@ -104,7 +104,7 @@ fn fault_of(stop: Stop) -> CaptureFault
     }
 }
 
-/// Takes into the section what a block says, and gives the record that it holds.
+/// Adds what a block describes to the section, and returns the record in the block.
 fn take_block(section: &mut Section, block: Block) -> Result<Option<Record>, Stop>
     ensures taken { (bytes : List ℕ) → IfOk result (λ found.
         step_text (pcapng (section_text section.new)) bytes found
@@ -157,17 +157,17 @@ fn step_pcapng<I: Inlet>(
 }
 
 impl CaptureReader {
-    /// Reads what the capture begins with: the header of a pcap file, or the first section header
-    /// block of a pcapng file. It takes no memory.
+    /// Reads the start of the capture: the header of a pcap file, or the first section header block
+    /// of a pcapng file. It takes no memory.
     ///
     /// # Errors
     ///
-    /// The first of these that holds: `NotCapture` where the first four bytes are those of neither
-    /// format, or the byte-order magic of a section is none; `BadBlock` where a section header
-    /// block has a wrong length; `Version` where the major version is not 2 of pcap or 1 of pcapng.
-    /// `Cut` where the bytes end before that, and `Device` where the inlet failed.
+    /// The first of these that holds: `NotCapture` if the first four bytes are those of neither
+    /// format, or the byte-order magic of a section is invalid; `BadBlock` if a section header
+    /// block has a wrong length; `Version` if the major version is not 2 of pcap or 1 of pcapng.
+    /// `Cut` if the bytes end before that, and `Device` if the inlet failed.
     pub fn begin<I: Inlet>(alloc: Global, inlet: &mut I) -> Result<CaptureReader, CaptureFault>
-        // The bytes taken are what a capture begins with, or the fault says why not.
+        // The consumed bytes are the start of a capture, or the fault says why not.
         ensures exact { ReadsAs fault_cause same (lift fault_of begin_at)
             (I.seen inlet.old) (I.seen inlet.new) result }
     {
@@ -189,20 +189,20 @@ impl CaptureReader {
         }
     }
 
-    /// Reads the next record, and puts its captured bytes in place of what `bytes` held. There is
-    /// none where the capture ends. It reads no further than the record's end, and asks for memory
+    /// Reads the next record, and replaces the contents of `bytes` with its captured bytes. `None`
+    /// at the end of the capture. It reads no further than the record's end, and allocates memory
     /// only for captured bytes, options and interfaces that were read.
     ///
     /// # Errors
     ///
-    /// The first fault of the first record or block that has one. `Cut` where the bytes end in the
-    /// middle of it. `TooLong` above 262,144 captured bytes, or where the options of an interface
-    /// have more. Of pcapng: `BadBlock` where the total lengths of a block differ, are no multiple
-    /// of 4 or leave no room for what the block holds; `UnknownInterface`; `TooManyInterfaces`
-    /// above 4,096 of a section; `NotCapture` and `Version` at a further section header block.
-    /// `NoRecord` where 2^64 - 1 blocks in a row hold no record. `Device` where the inlet failed,
-    /// and `Memory` where there is none. What the reader knows of the capture then stays, and what
-    /// `bytes` holds is left open.
+    /// The first fault of the first record or block that has one. `Cut` if the bytes end in the
+    /// middle of it. `TooLong` above 262,144 captured bytes, or if the options of an interface have
+    /// more. For pcapng: `BadBlock` if the total lengths of a block differ, are not a multiple of 4
+    /// or leave no room for what the block holds; `UnknownInterface`; `TooManyInterfaces` above
+    /// 4,096 in a section; `NotCapture` and `Version` at a further section header block. `NoRecord`
+    /// if 2^64 - 1 blocks in a row contain no record. `Device` if the inlet failed, and `Memory` if
+    /// out of memory. What the reader knows of the capture then stays, and the contents of `bytes`
+    /// are unspecified.
     pub fn next<I: Inlet>(
         &mut self,
         inlet: &mut I,

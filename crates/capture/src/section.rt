@@ -1,4 +1,4 @@
-//! What a section of a pcapng capture has said so far.
+//! What a section of a pcapng capture has described so far.
 
 ghost use Rattle.std.specs.Prelude.{◌≡◌, [], length, slice_get};
 ghost use Rattle.std.specs.Option.{option_copied};
@@ -14,7 +14,7 @@ use crate::order::Order;
 use crate::stop::Stop;
 use std::alloc::Global;
 
-/// What a section has said so far.
+/// What a section has described so far.
 #[derive(Drop)]
 pub(crate) struct Section {
     pub(crate) order: Order,
@@ -39,14 +39,14 @@ impl Section {
         self.interfaces.len()
     }
 
-    /// The interface of this number, if the section has described it.
+    /// The interface with this number, if the section has described it.
     fn interface(&self, number: u32) -> Option<&Interface>
         ensures { option_copied result ≡ slice_get self.now.interfaces.items number }
     {
         self.interfaces.get(number as usize)
     }
 
-    /// The interface of this number, which the section has to have described.
+    /// The interface with this number, which the section has to have described.
     pub(crate) fn described(&self, interface: u32) -> Result<Interface, Stop>
         ensures { (at : Source) → ReadsAs stop_cause same
             (described (section_text self.now) interface) at at result }

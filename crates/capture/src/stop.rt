@@ -1,4 +1,4 @@
-//! Why a reader gives no record.
+//! Why a reader returns no record.
 
 ghost use Rattle.std.specs.Prelude.{◌≡◌};
 ghost use Rattle.capture.specs.declared.stop.Stop.TheVariants as stop;
@@ -9,12 +9,12 @@ use crate::CaptureFault;
 use std::alloc::AllocError;
 use swim_pack::PullFault;
 
-/// Why a reader gives no record.
+/// Why a reader returns no record.
 #[derive(Clone, Copy, Debug, PartialEq, Eq)]
 pub(crate) enum Stop {
-    /// The capture ends behind its last record.
+    /// The capture ends after its last record.
     End,
-    /// The capture is not read on.
+    /// Reading the capture stopped.
     Fault(CaptureFault),
 }
 

@@ -20,7 +20,7 @@ pub(crate) fn fill<I: Inlet>(inlet: &mut I, part: &mut [u8]) -> Result<(), Stop>
     Ok(())
 }
 
-/// Fills the buffer of one byte with the first byte of a record, if there is one more record.
+/// Fills the buffer of one byte with the first byte of a record, if there is another record.
 fn fill_first<I: Inlet>(inlet: &mut I, first: &mut [u8]) -> Result<(), Stop>
     requires { length first.old ≡ 1 }
     ensures { ReadsAs stop_cause (λ _. first.new) first_byte
@@ -33,7 +33,7 @@ fn fill_first<I: Inlet>(inlet: &mut I, first: &mut [u8]) -> Result<(), Stop>
     }
 }
 
-/// Fills the buffer with the header of a record, if there is one more record.
+/// Fills the buffer with the header of a record, if there is another record.
 pub(crate) fn fill_header<I: Inlet>(inlet: &mut I, header: &mut [u8]) -> Result<(), Stop>
     requires { 0 < length header.old }
     ensures { ReadsAs stop_cause (λ _. header.new) (next_header (length header.old))
@@ -44,8 +44,8 @@ pub(crate) fn fill_header<I: Inlet>(inlet: &mut I, header: &mut [u8]) -> Result<
     fill(inlet, rest)
 }
 
-/// Reads so many captured bytes in place of what `bytes` held, in pieces of at most 4,096 bytes:
-/// memory is asked for only for bytes that were read.
+/// Replaces the contents of `bytes` with that many captured bytes, in pieces of at most 4,096
+/// bytes: memory is allocated only for bytes that were read.
 pub(crate) fn read_part<I: Inlet>(
     inlet: &mut I,
     bytes: &mut Vec<u8>,
@@ -67,7 +67,7 @@ pub(crate) fn read_part<I: Inlet>(
     Ok(())
 }
 
-/// Reads the captured bytes of a record in place of what `bytes` held.
+/// Replaces the contents of `bytes` with the captured bytes of a record.
 pub(crate) fn read_captured<I: Inlet>(
     inlet: &mut I,
     bytes: &mut Vec<u8>,
@@ -82,7 +82,7 @@ pub(crate) fn read_captured<I: Inlet>(
     read_part(inlet, bytes, length as usize)
 }
 
-/// Passes over so many bytes, in pieces of at most 4,096 bytes. It takes no memory.
+/// Skips `len` bytes, in pieces of at most 4,096 bytes. It takes no memory.
 pub(crate) fn skip<I: Inlet>(inlet: &mut I, len: usize) -> Result<(), Stop>
     ensures { ReadsAs stop_cause (λ _. tt) (skipped len)
         (I.seen inlet.old) (I.seen inlet.new) result }

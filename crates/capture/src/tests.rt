@@ -1,4 +1,4 @@
-//! What captures of real clusters, and bytes made by hand, are read as.
+//! How captures of real clusters, and handmade bytes, are read.
 
 mod captures;
 mod flows;

@@ -9,9 +9,9 @@ use byteorder::{BigEndian, ByteOrder};
 /// A datagram of UDP.
 #[derive(Clone, Copy)]
 pub struct Datagram<'a> {
-    /// The port that it comes from.
+    /// The source port.
     pub source: u16,
-    /// The port that it goes to.
+    /// The destination port.
     pub destination: u16,
     /// What it carries.
     pub payload: &'a [u8],
@@ -20,9 +20,9 @@ pub struct Datagram<'a> {
 /// A segment of TCP.
 #[derive(Clone, Copy)]
 pub struct Segment<'a> {
-    /// The port that it comes from.
+    /// The source port.
     pub source: u16,
-    /// The port that it goes to.
+    /// The destination port.
     pub destination: u16,
     /// The sequence number of its first byte, or of its SYN.
     pub seq: u32,
@@ -32,13 +32,13 @@ pub struct Segment<'a> {
     pub fin: bool,
     /// Whether its sender pushes what it has sent so far, as at the end of a message.
     pub psh: bool,
-    /// Whether it breaks the flow off.
+    /// Whether it resets the flow.
     pub rst: bool,
     /// What it carries.
     pub payload: &'a [u8],
 }
 
-/// The datagram that the body of a packet is.
+/// The datagram in the body of a packet.
 #[tactic(auto, unfolding(crate::specs::Packets::udp_of))]
 pub(crate) fn read_udp(bytes: &[u8]) -> Result<Datagram, NotCarried>
     ensures ok { IfOk result (λ d. udp_of bytes.now ≡ Ok (udp_text d)) }
@@ -61,7 +61,7 @@ pub(crate) fn read_udp(bytes: &[u8]) -> Result<Datagram, NotCarried>
     })
 }
 
-/// The segment that the body of a packet is.
+/// The segment in the body of a packet.
 #[tactic(auto, unfolding(crate::specs::Packets::tcp_of))]
 pub(crate) fn read_tcp(bytes: &[u8]) -> Result<Segment, NotCarried>
     ensures ok { IfOk result (λ s. tcp_of bytes.now

@@ -1,4 +1,4 @@
-//! Captures made by hand, by the bytes that the formats' drafts show.
+//! Handmade captures, with the bytes that the formats' drafts show.
 
 use crate::{CaptureFault, CaptureReader, Record};
 use std::alloc::{AllocError, Global};
@@ -22,7 +22,8 @@ struct Wanted {
     bytes: &'static [u8],
 }
 
-/// That the parts, one behind the other, are a capture of these records, and then end so.
+/// Asserts that the parts, one after the other, are a capture of these records, and then end as
+/// expected.
 fn assert_capture(
     rt: &impl Abort,
     alloc: Global,
@@ -193,7 +194,7 @@ fn what_is_no_record_is_refused_by_its_fault(rt: HostRuntime) -> Result<(), Fail
     Ok(())
 }
 
-/// Why these bytes begin no capture.
+/// Why these bytes do not start a capture.
 fn begin_fault(alloc: Global, bytes: &[u8]) -> Option<CaptureFault> {
     CaptureReader::begin(alloc, &mut SliceInlet::new(bytes)).err()
 }

@@ -5,7 +5,7 @@ use std::alloc::Global;
 use std::process::Abort;
 use std::test::Fail;
 
-/// That a flow from this sequence number on that is given these segments has these bytes.
+/// Asserts that a flow from this sequence number on that is given these segments has these bytes.
 fn assert_bytes(
     rt: &impl Abort,
     alloc: Global,
@@ -32,7 +32,7 @@ fn segments_come_in_any_order(rt: HostRuntime) -> Result<(), Fail> {
         &[(13, b"ef"), (11, b"cd"), (11, b"cd"), (9, b"ab")],
         b"abcdef",
     )?;
-    // of two that cover a byte the first counts
+    // the first of two that cover a byte counts
     assert_bytes(
         &rt,
         alloc,
@@ -47,9 +47,9 @@ fn segments_come_in_any_order(rt: HostRuntime) -> Result<(), Fail> {
         &[(12, b"DE"), (11, b"cdef"), (9, b"ab")],
         b"abcDEf",
     )?;
-    // behind a gap, and before the first byte
+    // after a gap, and before the first byte
     assert_bytes(&rt, alloc, 9, &[(7, b"yzab"), (12, b"d")], b"ab")?;
-    // sequence numbers go on at 0
+    // sequence numbers continue at 0
     assert_bytes(
         &rt,
         alloc,
@@ -86,7 +86,7 @@ fn segment<'a>(seq: u32, flags: &str, payload: &'a [u8]) -> Segment<'a> {
     }
 }
 
-/// That of these segments the last one, and no other, completes a flow with these bytes.
+/// Asserts that the last of these segments, and no other, completes a flow with these bytes.
 fn assert_completes(
     rt: &impl Abort,
     alloc: Global,
@@ -108,10 +108,10 @@ fn assert_completes(
 fn flows_begin_and_end(rt: HostRuntime) -> Result<(), Fail> {
     let alloc = rt.alloc();
     let syn = segment(99, "SYN", b"");
-    // the FIN comes before what stands before it
+    // the FIN comes before the bytes that precede it
     let early = segment(102, "FIN", b"cd");
     assert_completes(&rt, alloc, &[syn, early, segment(100, "", b"ab")], b"abcd")?;
-    // the same SYN again changes nothing, another one begins another flow
+    // the same SYN again changes nothing, another one starts another flow
     let other = segment(7, "SYN", b"");
     assert_completes(
         &rt,
@@ -119,7 +119,7 @@ fn flows_begin_and_end(rt: HostRuntime) -> Result<(), Fail> {
         &[syn, segment(100, "", b"ab"), syn, other],
         b"ab",
     )?;
-    // without a SYN, and broken off
+    // without a SYN, and reset
     assert_completes(
         &rt,
         alloc,

@@ -1,4 +1,4 @@
-//! Frames of a running Serf agent, as tshark reads them, and refusals.
+//! Frames of a running Serf agent, as tshark decodes them, and refusals.
 
 use crate::{Carried, Link, NotCarried, Transport, carried};
 use std::process::Abort;
@@ -11,7 +11,7 @@ fn content<'a>(rt: &impl Abort, link: Link, frame: &'a [u8]) -> Carried<'a> {
     }
 }
 
-/// That the Ethernet frame carries this datagram.
+/// Asserts that the Ethernet frame carries this datagram.
 fn assert_udp(rt: &impl Abort, frame: &[u8], from: (&[u8], u16), to: (&[u8], u16), payload: &[u8]) {
     let content = content(rt, Link::Ethernet, frame);
     assert_eq!(rt; content.source, from.0);
@@ -25,7 +25,8 @@ fn assert_udp(rt: &impl Abort, frame: &[u8], from: (&[u8], u16), to: (&[u8], u16
     }
 }
 
-/// That the Ethernet frame carries this segment, with its sequence number, SYN, FIN and RST.
+/// Asserts that the Ethernet frame carries this segment, with its sequence number, SYN, FIN and
+/// RST.
 fn assert_tcp(
     rt: &impl Abort,
     frame: &[u8],
@@ -90,7 +91,7 @@ fn frames_of_serf_carry_what_tshark_says(rt: HostRuntime) {
     );
 }
 
-/// That the frame carries the datagram `hi` from port 1 to port 2.
+/// Asserts that the frame carries the datagram `hi` from port 1 to port 2.
 fn assert_hi(rt: &impl Abort, link: Link, frame: &[u8]) {
     match content(rt, link, frame).transport {
         Transport::Udp(datagram) => {
@@ -108,7 +109,7 @@ const IP4: &[u8] =
 fn each_link_is_taken_off(rt: HostRuntime) {
     let rt = &rt;
     assert_hi(rt, Link::Raw, IP4);
-    // padding behind the total length is no payload
+    // padding after the total length is not payload
     assert_hi(
         rt,
         Link::Raw,
@@ -159,7 +160,7 @@ fn each_link_is_taken_off(rt: HostRuntime) {
         Link::Raw,
         b"\x60\0\0\0\0\x1e\0\x40\0\0\0\0\0\0\0\0\0\0\0\0\0\0\0\x01\0\0\0\0\0\0\0\0\0\0\0\0\0\0\0\x02\x33\0\x01\x04\0\0\0\0\x11\x01\0\0\0\0\0\0\0\0\0\0\0\x01\0\x02\0\x0a\0\0hi",
     );
-    // IPv6 with the header of a fragment that is all of the packet
+    // IPv6 with a fragment header of a whole packet
     assert_hi(
         rt,
         Link::Raw,
@@ -167,7 +168,7 @@ fn each_link_is_taken_off(rt: HostRuntime) {
     );
 }
 
-/// That the frame carries nothing that is used, for this reason.
+/// Asserts that the frame carries nothing of interest, for this reason.
 fn assert_refused(rt: &impl Abort, link: Link, frame: &[u8], reason: NotCarried) {
     match carried(link, frame) {
         Ok(_) => panic!(rt; "{frame:?}"),
@@ -201,7 +202,7 @@ fn what_is_not_used_is_told_by_kind(rt: HostRuntime) {
         b"\x45\0\0\x1e\0\0\x40\0\x40\x11\0\0\x0a\0\0\x01\x0a\0\0\x02\0\x01\0\x02\0\x0b\0\0hi",
         NotCarried::Malformed,
     );
-    // a type of IPv6 before a packet of IPv4
+    // the EtherType of IPv6 before a packet of IPv4
     assert_refused(
         rt,
         Link::Ethernet,
