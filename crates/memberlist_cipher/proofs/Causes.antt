@@ -1,4 +1,4 @@
--- A cause of a refusal other than want of memory leaves no message.
+-- A cause of a refusal other than running out of memory leaves no message.
 use Rattle.std.proofs.Common.{IfErr, Result, Ok, Err, ◌≡◌, ◌≢◌, ℕ, ◌+◌, ◌<◌, ◌≤◌, inl, inr, List, [], ◌∷◌, ◌++◌, length, slice_index, refl, sym, ap, subst, ◌∙◌, arith, length-append}
 use Rattle.std.proofs.lemmas.Nat.{from_be_bytes-to_be_bytes_4}
 use Rattle.memberlist_cipher.specs.declared.fault.CipherFault.{CipherFault}
@@ -104,7 +104,7 @@ append_head (p ∷ a) (q ∷ b) x y size e =
     let tails : a ++ x ≡ b ++ y = cc in
     append_head a b x y (omega arith) tails
 
--- a stream has one inside
+-- a stream has one content
 pub one_inner : (bytes x y : List ℕ) → IsStream bytes x → IsStream bytes y → x ≡ y
 one_inner bytes x y a b =
     append_head (head (length x)) (head (length y)) x y (length-head (length x) ∙ sym (length-head (length y))) (sym a.text ∙ b.text)

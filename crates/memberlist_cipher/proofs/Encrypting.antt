@@ -9,7 +9,7 @@ use Rattle.memberlist_cipher.proofs.Refusing.{length-tag}
 use Rattle.memberlist_cipher.proofs.Sealing.{good_sizes}
 use Rattle.memberlist_cipher.proofs.Twice.{length-ctr}
 
--- an encryption whose parts were added one after another
+-- an encryption whose parts were appended one after another
 pub parts_are : (key nonce associated message old w a b c d inner mark : List ℕ) (n start : ℕ) → cipher w n ≡ aes key → a ≡ old ++ 1 ∷ []
     → b ≡ a ++ nonce → start ≡ length b → c ≡ b ++ ctr (cipher w n) nonce message → inner ≡ drop start c
     → mark ≡ tag (cipher w n) nonce associated inner → d ≡ c ++ mark → d ≡ old ++ encrypted key nonce associated message
@@ -66,7 +66,7 @@ is_stream_encryption key nonce label bytes message good size may is =
       encryption = subst P len (is_encryption key nonce (h ++ label) inner message good size (short, fits) refl);
     }
 
--- a stream whose parts were added one after another
+-- a stream whose parts were appended one after another
 pub stream_is : (key nonce label message start h associated view a d : List ℕ) → start ≡ [] → h ≡ head (29 + length message) → a ≡ start ++ h
     → associated ≡ h ++ label → view ≡ associated → d ≡ a ++ encrypted key nonce view message → d ≡ encrypted_stream key nonce label message
 unfolding encrypted_stream

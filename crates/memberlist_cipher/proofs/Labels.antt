@@ -1,4 +1,4 @@
--- Bytes have one label, and none where it is refused.
+-- Bytes have one label, and none if they are refused.
 use Rattle.std.proofs.Common.{◌≡◌, inl, inr, ℕ, List, ◌∷◌, ◌++◌, length, sym, ap, ◌∙◌, arith}
 use Rattle.std.proofs.lemmas.List.{length-append}
 use Rattle.memberlist_cipher.specs.declared.label.LabelFault.{LabelFault}

@@ -1,4 +1,4 @@
--- What the tables of columns hold, and the sum of one entry of each.
+-- The contents of the tables of columns, and the sum of one entry of each.
 use Rattle.std.proofs.Common.{◌≡◌, ℕ, ◌+◌, ◌*◌, ◌^◌, ◌<◌, Bool, true, false, ◌&&◌, eqb, nat_lt, List, [], ◌∷◌, length, get_or, ◌/◌, ◌%◌, refl, ap, ap₂, ◌∙◌, subst, arith, bit_xor, bit_or, zero, suc}
 use Rattle.std.specs.Int.{w32, to_be_bytes, from_be_bytes, rotate_right}
 use Rattle.std.specs.Int.Bits.{xor_assoc}
@@ -79,7 +79,7 @@ all_bytes = refl
 small_sub : (k : ℕ) → k < 256 → Small (sub k)
 small_sub k below = let P : ℕ → Type 0 = λ s. Small s in subst P (SBOX_at k below) (small_at SBOX k all_bytes below)
 
--- ---- words turned
+-- ---- rotated words
 
 turned_8 : (x t : ℕ) → x < 2 ^ 24 → t < 2 ^ 8 → rotate_right w32 (x * 2 ^ 8 + t) 8 ≡ t * 2 ^ 24 + x
 turned_8 x t hx ht =

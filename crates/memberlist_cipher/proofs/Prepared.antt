@@ -1,4 +1,4 @@
--- What a prepared key's parts are by its bytes.
+-- How the parts of a prepared key follow from its bytes.
 use Rattle.std.proofs.Common.{◌≡◌, inl, inr, ℕ, ◌+◌, ◌-◌, ◌*◌, ◌/◌, ◌<◌, ◌≤◌, List, length, replicate, subst, sym, ap, ap₂, ◌∙◌, arith}
 use Rattle.std.specs.Int.{w128, from_be_bytes}
 use Rattle.memberlist_cipher.specs.Block.{cipher, schedule, aes}

@@ -29,7 +29,7 @@ across p q r s =
 
 -- ---- a sum, times x
 
--- what a bit that fell off adds
+-- what a shifted-out bit adds
 fallen : ℕ → ℕ
 fallen b = if b == 1 then 0xe1 * 2 ^ 120 else 0
 
@@ -83,7 +83,7 @@ shifted_whole q =
     let d = times_x_even q (2 * q) refl in
     ap (λ (v : ℕ). times_x (times_x (times_x v))) a ∙ ap (λ (v : ℕ). times_x (times_x v)) b ∙ ap times_x c ∙ d
 
--- the four bits at the right fall off
+-- the four bits at the right are shifted out
 pub shifted_is : (z : ℕ) → bit_xor (z / 2 ^ 4) (shifted 4 (z % 2 ^ 4)) ≡ shifted 4 z
 shifted_is z =
     let q = z / 2 ^ 4 in
@@ -143,7 +143,7 @@ nothing : shifted 4 0 ≡ 0
 unfolding shifted times_x
 nothing = refl
 
--- four bits more, above those that were taken
+-- four more bits, above those that were consumed
 pub four_more : (m x v : ℕ) → steps (m + 4) x 0 v ≡ bit_xor (shifted 4 (steps m x 0 v)) (steps 4 (x / 2 ^ m % 16) 0 v)
 four_more m x v =
     let e : m + 4 ≡ 4 + m = omega arith in
@@ -197,7 +197,7 @@ row_at d v within =
     let e : 0 + d ≡ d = omega arith in
     row_from 16 0 d v within ∙ ap (λ (k : ℕ). steps 4 k 0 v) e
 
--- four bits of which the highest is set stand for 1
+-- four bits with only the highest set mean 1
 one : (v : ℕ) → steps 4 8 0 v ≡ v
 unfolding steps
 one v = xor_zero_l v

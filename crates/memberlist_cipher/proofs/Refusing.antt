@@ -1,4 +1,4 @@
--- Sealed bytes are cut in one way.
+-- Encrypted bytes have parts in one way.
 use Rattle.std.proofs.Common.{◌≡◌, ◌≢◌, ℕ, ◌<◌, inl, inr, List, [], ◌∷◌, ◌++◌, length, refl, sym, ap, ap₂, ◌∙◌, arith, length-append}
 use Rattle.memberlist_cipher.specs.Block.{aes}
 use Rattle.memberlist_cipher.specs.Gcm.{ctr, tag, counter_block}
@@ -19,7 +19,7 @@ pub length-tag : (f : List ℕ → List ℕ) → ((s : List ℕ) → length (f s
 unfolding tag
 length-tag f sizes nonce associated c = length-plus _ (f (counter_block nonce 1)) (omega (arith, sizes (counter_block nonce 1)))
 
--- what sealed bytes are made of
+-- the parts of encrypted bytes
 pub record Made (key associated bytes message : List ℕ) : Type 0 where
   pub version : ℕ
   pub nonce : List ℕ

@@ -67,7 +67,7 @@ length-schedule key (inl e) = length-expanded (length key / 4) (28 + 3 * (length
 length-schedule key (inr (inl e)) = length-expanded (length key / 4) (28 + 3 * (length key / 4)) key ∙ omega arith
 length-schedule key (inr (inr e)) = length-expanded (length key / 4) (28 + 3 * (length key / 4)) key ∙ omega arith
 
--- a schedule begins with the key
+-- a schedule starts with the key
 expanded_front : (nk n : ℕ) (w : List ℕ) → (more : List ℕ) × (expanded nk n w ≡ w ++ more)
 unfolding expanded
 expanded_front nk zero w = ([], sym (append-nil w))

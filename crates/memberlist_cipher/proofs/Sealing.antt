@@ -1,4 +1,4 @@
--- What was sealed and is opened, and padding.
+-- Decrypting what was encrypted, and padding.
 use Rattle.std.proofs.Common.{◌≡◌, ℕ, ◌+◌, ◌-◌, ◌*◌, ◌/◌, ◌%◌, ◌<◌, ◌≤◌, List, ◌++◌, length, get_or, take, drop, sym, ap, ap₂, ◌∙◌, arith}
 use Rattle.std.proofs.Math.ListN.{replicate}
 use Rattle.std.proofs.Math.Seq.{drop-append_seam, get_or-append_right}
@@ -16,7 +16,7 @@ aes_sizes key size s = length-cipher (schedule key) (length key / 4 + 5) s (omeg
 pub good_sizes : (key : List ℕ) → IsKey key → (s : List ℕ) → length (aes key s) ≡ 16
 good_sizes key good = aes_sizes key (length-schedule key good)
 
--- a tag and a text by the words are those by the key
+-- a tag and a text by the schedule are those by the key
 pub tag_is : (key w words nonce associated inner t : List ℕ) → w ≡ words → words ≡ schedule key
     → t ≡ tag (cipher w (length key / 4 + 5)) nonce associated inner → t ≡ tag (aes key) nonce associated inner
 unfolding aes
@@ -27,7 +27,7 @@ pub ctr_is : (key w words nonce inner t : List ℕ) → w ≡ words → words �
 unfolding aes
 ctr_is key w words nonce inner t same is e = e ∙ ap (λ (x : List ℕ). ctr (cipher x (length key / 4 + 5)) nonce inner) (same ∙ is)
 
--- bytes with their tag are the sealed message
+-- bytes with their tag are the encrypted message
 pub seal_again : (key nonce associated c t m : List ℕ) → ((s : List ℕ) → length (aes key s) ≡ 16)
     → t ≡ tag (aes key) nonce associated c → m ≡ ctr (aes key) nonce c → c ++ t ≡ sealed key nonce associated m
 unfolding sealed

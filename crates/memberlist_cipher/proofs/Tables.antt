@@ -1,4 +1,4 @@
--- The tables of the S-box, of powers and of reductions have what their definitions say.
+-- The tables of the S-box, of powers and of reductions agree with their definitions.
 use Rattle.std.proofs.Common.{◌≡◌, ℕ, zero, suc, ◌+◌, ◌<◌, Bool, true, false, ◌&&◌, eqb, List, [], ◌∷◌, length, get_or, refl, ap, ◌∙◌, arith}
 use Rattle.std.proofs.lemmas.Bool.{eqb-true}
 use Rattle.memberlist_cipher.specs.Field.{carryless, modulo, product, inverse_up_to, inverse, affine_bit, affine, sub, x_to}

@@ -8,7 +8,7 @@ plus_bytes [] bs = []
 plus_bytes (a ∷ as_) [] = []
 plus_bytes (a ∷ as_) (b ∷ bs) = bit_xor a b ∷ plus_bytes as_ bs
 
--- row r is turned by r places (5.1.2)
+-- row r is rotated by r places (5.1.2)
 unfoldable pub shift_rows : List ℕ → List ℕ
 shift_rows s =
     map (slice_index s) (0 ∷ 5 ∷ 10 ∷ 15 ∷ 4 ∷ 9 ∷ 14 ∷ 3 ∷ 8 ∷ 13 ∷ 2 ∷ 7 ∷ 12 ∷ 1 ∷ 6 ∷ 11 ∷ [])
@@ -23,7 +23,7 @@ mix_columns (a ∷ b ∷ c ∷ d ∷ s) =
     mix a b c d ∷ mix b c d a ∷ mix c d a b ∷ mix d a b c ∷ mix_columns s
 mix_columns _ = []
 
--- the key of round n, of these words
+-- the key of round n, in this key schedule
 unfoldable pub round_key : List ℕ → ℕ → List ℕ
 round_key words n = slice_range words (16 * n) (16 * n + 16)
 
@@ -65,7 +65,7 @@ next_word nk words =
     let n = length words in
     plus_bytes (word words (n - 4 * nk)) (added nk (n / 4) (word words (n - 4)))
 
--- n words more
+-- n more words
 unfoldable pub expanded : ℕ → ℕ → List ℕ → List ℕ
 expanded nk zero words = words
 expanded nk (suc n) words = expanded nk n (words ++ next_word nk words)

@@ -13,16 +13,16 @@ IsKey key = (length key ≡ 16) ⊎ (length key ≡ 24) ⊎ (length key ≡ 32)
 abbrev pub IsWithin : List ℕ → List ℕ → Type 0
 IsWithin associated bytes = (length bytes ≤ 2 ^ 36 - 3) × (length associated < 2 ^ 61)
 
--- so many bytes may be encrypted, within these limits
+-- this many bytes may be encrypted, within these limits
 abbrev pub MayEncrypt : List ℕ → List ℕ → Type 0
 MayEncrypt associated message = (length message ≤ 2 ^ 36 - 32) × (length associated < 2 ^ 61)
 
--- the enciphered text and its tag (7.1)
+-- the ciphertext and its tag (7.1)
 unfoldable pub sealed : List ℕ → List ℕ → List ℕ → List ℕ → List ℕ
 sealed key nonce associated text =
     let c = ctr (aes key) nonce text in c ++ tag (aes key) nonce associated c
 
--- 1 to 16 bytes more, each their count, up to a multiple of 16 (PKCS #7)
+-- 1 to 16 bytes more, each the count of them, up to a multiple of 16 (PKCS #7)
 unfoldable pub padded : List ℕ → List ℕ
 padded message = let more = 16 - length message % 16 in message ++ replicate more more
 
@@ -31,7 +31,7 @@ unfoldable pub encrypted : List ℕ → List ℕ → List ℕ → List ℕ → L
 encrypted key nonce associated message = 1 ∷ nonce ++ sealed key nonce associated message
 
 -- The bytes are an encryption of this message under the key, with these associated bytes: a
--- version, a nonce of 12 bytes, the enciphered text and its tag. In version 0 the text is the
+-- version, a nonce of 12 bytes, the ciphertext and its tag. In version 0 the plaintext is the
 -- padded message, in version 1 the message.
 pub record Encryption (key associated bytes message : List ℕ) : Type 0 where
   pub good_key : IsKey key
@@ -46,7 +46,7 @@ abbrev pub HoldsOnly : (List ℕ → Type 0) → List ℕ → Type 0
 HoldsOnly Holds message =
     Holds message × ((other : List ℕ) → Holds other → other ≡ message)
 
--- the head of a stream of which n bytes follow
+-- the head of a stream in which n bytes follow
 unfoldable pub head : ℕ → List ℕ
 head n = 10 ∷ to_be_bytes w32 n
 
@@ -55,7 +55,7 @@ pub record IsStream (bytes inner : List ℕ) : Type 0 where
   pub few : length inner ≤ 2 ^ 28
   pub text : bytes ≡ head (length inner) ++ inner
 
--- a stream may hold so many bytes, and its head and the label may be associated
+-- a stream may hold this many bytes, and its head and the label may be associated
 abbrev pub MayEncryptStream : List ℕ → List ℕ → Type 0
 MayEncryptStream label message =
     (length message ≤ 2 ^ 28 - 29) × (length label < 2 ^ 61 - 5)

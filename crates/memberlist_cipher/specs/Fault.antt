@@ -3,7 +3,7 @@ use Rattle.std.specs.Prelude.{ℕ}
 use Rattle.memberlist_cipher.specs.declared.fault.CipherFault.{CipherFault}
 use Rattle.memberlist_cipher.specs.declared.fault.CipherFault.TheVariants.{BadKey, TooLong, TooShort, WrongVersion, WrongTag, BadPadding, NotEncrypted, Trailing, Memory}
 
--- the number by which reports name a fault
+-- the number of a fault in reports
 abbrev pub cipher_number : CipherFault → ℕ
 cipher_number BadKey = 50
 cipher_number TooLong = 51

@@ -8,7 +8,7 @@ unfoldable pub carryless : ℕ → ℕ → ℕ → ℕ
 carryless zero a b = 0
 carryless (suc n) a b = bit_xor (a % 2 * b) (2 * carryless n (a / 2) b)
 
--- what is left of a polynomial with 8 + n coefficients when it is divided by x ^ 8 + x ^ 4 + x ^ 3
+-- the remainder of a polynomial with 8 + n coefficients when it is divided by x ^ 8 + x ^ 4 + x ^ 3
 -- + x + 1
 unfoldable pub modulo : ℕ → ℕ → ℕ
 modulo zero p = p
@@ -23,7 +23,7 @@ unfoldable pub inverse_up_to : ℕ → ℕ → ℕ
 inverse_up_to zero a = 0
 inverse_up_to (suc n) a = if product a (suc n) == 1 then suc n else inverse_up_to n a
 
--- the inverse of a byte, and of 0 the byte 0
+-- the inverse of a byte; for 0 the byte 0
 unfoldable pub inverse : ℕ → ℕ
 inverse a = inverse_up_to 255 a
 
@@ -33,7 +33,7 @@ affine_bit b i =
     (bit_at b i + bit_at b ((i + 4) % 8) + bit_at b ((i + 5) % 8) + bit_at b ((i + 6) % 8)
     + bit_at b ((i + 7) % 8) + bit_at 0x63 i) % 2
 
--- the n lowest bits of it
+-- its n lowest bits
 unfoldable pub affine : ℕ → ℕ → ℕ
 affine zero b = 0
 affine (suc n) b = affine n b + affine_bit b n * 2 ^ n

@@ -1,11 +1,11 @@
--- What is made of a key once, for as many messages as are decrypted under it.
+-- What is computed once for a key, for any number of messages that are decrypted under it.
 use Rattle.std.specs.Prelude.{◌≡◌, ℕ, ◌-◌, ◌/◌, List, length, take}
 use Rattle.memberlist_cipher.specs.Block.{schedule, aes}
 use Rattle.memberlist_cipher.specs.Gcm.{hash_key}
 use Rattle.memberlist_cipher.specs.Encryption.{IsKey}
 
--- The key that a schedule was made of: its first bytes. A schedule has 112 bytes and four times as
--- many as the key.
+-- The key that a schedule was made from: its first bytes. A schedule has 112 bytes and four times
+-- as many as the key.
 unfoldable pub scheduled_key : List ℕ → List ℕ
 scheduled_key words = take (length words / 4 - 28) words
 

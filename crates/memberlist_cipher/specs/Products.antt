@@ -1,4 +1,4 @@
--- What the code keeps of a block to multiply others by it: its products with four bits.
+-- What the code stores of a block to multiply others by it: its products with four bits.
 use Rattle.std.specs.Prelude.{ℕ, zero, suc, List, [], ◌∷◌}
 use Rattle.memberlist_cipher.specs.Gcm.{times_x, steps}
 

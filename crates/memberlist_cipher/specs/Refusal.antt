@@ -1,5 +1,4 @@
--- Why bytes are refused, fault by fault. Each case repeats what was found to be right before it is
--- looked at.
+-- Why bytes are refused, fault by fault. Each case repeats what was found to be right before.
 use Rattle.std.specs.Prelude.{◌≡◌, ◌≢◌, ℕ, ◌+◌, ◌^◌, ◌<◌, ◌≤◌, ◌⊎◌, List, ◌∷◌, ◌++◌, length, drop, slice_index}
 use Rattle.std.specs.Int.{w32, from_be_bytes}
 use Rattle.memberlist_cipher.specs.declared.fault.CipherFault.{CipherFault}
@@ -8,8 +7,8 @@ use Rattle.memberlist_cipher.specs.Block.{aes}
 use Rattle.memberlist_cipher.specs.Gcm.{ctr, tag}
 use Rattle.memberlist_cipher.specs.Encryption.{IsKey, IsWithin, padded, head, IsStream}
 
--- the bytes taken apart: a version, a nonce of 12 bytes, enciphered bytes, and 16 bytes where the
--- tag stands
+-- the bytes in parts: a version, a nonce of 12 bytes, the ciphertext, and 16 bytes at the place of
+-- the tag
 pub record PacketParts (bytes : List ℕ) : Type 0 where
   pub version : ℕ
   pub nonce : List ℕ
@@ -24,11 +23,11 @@ pub record PacketParts (bytes : List ℕ) : Type 0 where
 abbrev pub IsTagged : (key associated bytes : List ℕ) → PacketParts bytes → Type 0
 IsTagged key associated bytes l = l.mark ≡ tag (aes key) l.nonce associated l.inner
 
--- the deciphered bytes are no padded message
+-- the plaintext is not a padded message
 abbrev pub IsUnpadded : (key bytes : List ℕ) → PacketParts bytes → Type 0
 IsUnpadded key bytes l = (message : List ℕ) → padded message ≢ ctr (aes key) l.nonce l.inner
 
--- the causes by which bytes have no layout
+-- why bytes do not have the layout
 abbrev pub FormCause : CipherFault → List ℕ → Type 0
 FormCause TooShort bytes = length bytes < 29
 FormCause WrongVersion bytes = (29 ≤ length bytes) × (1 < slice_index bytes 0)
@@ -40,7 +39,7 @@ FormCause NotEncrypted bytes = ⊥
 FormCause Trailing bytes = ⊥
 FormCause Memory bytes = ⊥
 
--- the causes by which a key is not prepared
+-- why a key is not prepared
 abbrev pub KeyCause : CipherFault → List ℕ → Type 0
 KeyCause BadKey key = ¬ IsKey key
 KeyCause Memory key = IsKey key
@@ -52,7 +51,7 @@ KeyCause BadPadding key = ⊥
 KeyCause NotEncrypted key = ⊥
 KeyCause Trailing key = ⊥
 
--- the causes of a refusal by decrypt
+-- why decrypt refuses
 abbrev pub PacketCause : CipherFault → List ℕ → List ℕ → List ℕ → Type 0
 PacketCause BadKey key associated bytes = ¬ IsKey key
 PacketCause TooLong key associated bytes = IsKey key × ¬ IsWithin associated bytes
@@ -74,11 +73,11 @@ PacketCause Trailing key associated bytes = ⊥
 abbrev pub announced : List ℕ → ℕ
 announced bytes = from_be_bytes w32 (drop 1 bytes)
 
--- the bytes begin with a head
+-- the bytes start with a head
 abbrev pub HasHead : List ℕ → Type 0
 HasHead bytes = (5 ≤ length bytes) × (slice_index bytes 0 ≡ 10)
 
--- the causes by which bytes are no stream
+-- why bytes are not a stream
 abbrev pub HeadCause : CipherFault → List ℕ → Type 0
 HeadCause TooShort bytes =
     (length bytes < 5)
@@ -93,14 +92,14 @@ HeadCause WrongTag bytes = ⊥
 HeadCause BadPadding bytes = ⊥
 HeadCause Memory bytes = ⊥
 
--- the causes of a refusal by decrypt_stream
+-- why decrypt_stream refuses
 abbrev pub StreamCause : CipherFault → List ℕ → List ℕ → List ℕ → Type 0
 StreamCause fault key label bytes =
     HeadCause fault bytes
     ⊎ ((inner : List ℕ) × IsStream bytes inner
     × ((fault ≡ Memory) ⊎ PacketCause fault key (head (length inner) ++ label) inner))
 
--- the causes of a refusal to encrypt what may or may not be encrypted
+-- why encryption is refused, for bytes that may or may not be encrypted
 abbrev pub EncryptCause : Type 0 → CipherFault → Type 0
 EncryptCause May TooLong = ¬ May
 EncryptCause May Memory = May

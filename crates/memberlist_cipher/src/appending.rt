@@ -1,9 +1,9 @@
-//! Bytes added to a vector that has room for them.
+//! Appending to a vector that has room.
 
 ghost use Rattle.std.specs.Prelude.{◌≡◌, ◌+◌, ◌≤◌, ◌++◌, length, vec_len, vec_capacity};
 
-/// Adds bytes at the end. There is room for them, so those before them do not move, and no copy of a
-/// secret is left behind.
+/// Appends bytes. There is room for them, so the bytes before them do not move, and no copy of a
+/// secret is left in old memory.
 pub(crate) fn append(to: &mut Vec<u8>, bytes: &[u8])
     requires { vec_len to.old + length bytes.now ≤ vec_capacity to.old }
     ensures items { to.new.items ≡ to.old.items ++ bytes.now }

@@ -6,7 +6,7 @@ ghost use Rattle.memberlist_cipher.specs.Block.{plus_bytes, scrambled, mix_colum
 use crate::columns::column;
 use crate::field::sub;
 
-/// The state's bytes through the S-box, each row turned.
+/// SubBytes and ShiftRows.
 fn scrambled(s: [u8; 16]) -> [u8; 16]
     ensures { result ≡ scrambled s }
 {
@@ -30,7 +30,7 @@ fn scrambled(s: [u8; 16]) -> [u8; 16]
     ]
 }
 
-/// The state's bytes through the S-box, each row turned, and each column mixed.
+/// SubBytes, ShiftRows and MixColumns.
 fn mixed(s: [u8; 16]) -> [u8; 16]
     ensures { result ≡ mix_columns (scrambled s) }
 {
@@ -44,7 +44,7 @@ fn mixed(s: [u8; 16]) -> [u8; 16]
     ]
 }
 
-/// The state and a key, added.
+/// The sum of the state and a round key.
 pub(crate) fn plus_key(s: [u8; 16], key: &[u8]) -> [u8; 16]
     requires { length key.now ≡ 16 }
     ensures { result ≡ plus_bytes s key.now }
@@ -69,7 +69,7 @@ pub(crate) fn plus_key(s: [u8; 16], key: &[u8]) -> [u8; 16]
     ]
 }
 
-/// The block after `count` rounds and the last one, under these words.
+/// The block after `count` rounds and the last one, with this key schedule.
 pub(crate) fn cipher(words: &[u8], count: usize, block: [u8; 16]) -> [u8; 16]
     requires few { count < 14 }
     requires words { 16 * count + 32 ≤ length words.now }

@@ -4,8 +4,8 @@ ghost use Rattle.std.specs.Prelude.{◌≡◌, [], ◌∷◌};
 ghost use Rattle.memberlist_cipher.specs.Field.{sub};
 ghost use Rattle.memberlist_cipher.specs.Block.{mix_columns};
 
-/// What each byte adds to its column as the first of it: what the S-box makes of it, times 2, 1, 1
-/// and 3. As the second, third and fourth it adds the same, turned by as many bytes.
+/// What each byte adds to its column as the first of it: its S-box value times 2, 1, 1 and 3. As
+/// the second, third and fourth it adds the same, rotated by that many bytes.
 const FIRST: [u32; 256] = [
     0xc66363a5, 0xf87c7c84, 0xee777799, 0xf67b7b8d, 0xfff2f20d, 0xd66b6bbd, 0xde6f6fb1, 0x91c5c554,
     0x60303050, 0x02010103, 0xce6767a9, 0x562b2b7d, 0xe7fefe19, 0xb5d7d762, 0x4dababe6, 0xec76769a,
@@ -41,7 +41,7 @@ const FIRST: [u32; 256] = [
     0x824141c3, 0x299999b0, 0x5a2d2d77, 0x1e0f0f11, 0x7bb0b0cb, 0xa85454fc, 0x6dbbbbd6, 0x2c16163a,
 ];
 
-/// A column of these bytes, through the S-box and mixed.
+/// The column of these bytes, through the S-box and mixed.
 pub(crate) fn column(a: u8, b: u8, c: u8, d: u8) -> [u8; 4]
     ensures { result ≡ mix_columns (sub a ∷ sub b ∷ sub c ∷ sub d ∷ []) }
 {

@@ -20,7 +20,7 @@ pub(crate) fn counter_block(nonce: &[u8], counter: u32) -> [u8; 16]
     ]
 }
 
-/// Adds the sum of up to 16 bytes and a block at the end. There is room for it.
+/// Appends the sum of up to 16 bytes and a block. There is room for it.
 fn append_sum(out: &mut Vec<u8>, front: &[u8], mask: [u8; 16])
     requires few { length front.now ≤ 16 }
     requires room { vec_len out.old + length front.now ≤ vec_capacity out.old }
@@ -33,7 +33,7 @@ fn append_sum(out: &mut Vec<u8>, front: &[u8], mask: [u8; 16])
     }
 }
 
-/// Adds the bytes at the end, enciphered or deciphered. There is room for them.
+/// Appends the bytes, encrypted or decrypted. There is room for them.
 pub(crate) fn append_ctr(to: &mut Vec<u8>, words: &[u8], count: usize, nonce: &[u8], bytes: &[u8])
     requires few { count < 14 }
     requires words { 16 * count + 32 ≤ length words.now }
@@ -55,7 +55,7 @@ pub(crate) fn append_ctr(to: &mut Vec<u8>, words: &[u8], count: usize, nonce: &[
     }
 }
 
-/// The bytes, enciphered or deciphered.
+/// The bytes, encrypted or decrypted.
 pub(crate) fn ctr(
     alloc: Global,
     words: &[u8],

@@ -1,4 +1,4 @@
-//! Messages encrypted, as packets and streams.
+//! Encrypts messages, as packets and streams.
 
 ghost use Rattle.std.specs.Prelude.{◌≡◌, ◌+◌, ◌<◌, ◌≤◌, ◌^◌, ◌++◌, length, vec_len, vec_capacity, IfOk, IfErr, OnOk, MatchBool};
 ghost use Rattle.memberlist_cipher.specs.Encryption.{IsKey, MayEncrypt, MayEncryptStream, encrypted, encrypted_stream, head, Encryption, StreamEncryption};
@@ -13,20 +13,20 @@ use crate::stream::{MOST_BYTES as MOST_STREAM_BYTES, associated_bytes};
 use crate::tagging::tag;
 use std::alloc::Global;
 
-/// How many bytes an encryption has more than its message: its version, its nonce and its tag.
+/// How many bytes longer an encryption is than its message: its version, its nonce and its tag.
 const MORE: usize = 29;
 
 impl Key {
-    /// The encryption of a message under this key, in version 1, which has no padding: the byte 1,
-    /// the nonce, the enciphered message and the tag. [`Key::decrypt`] gives the message back.
+    /// Encrypts a message under this key, in version 1, which has no padding. The result is the
+    /// byte 1, the nonce, the ciphertext and the tag. [`Key::decrypt`] returns the message.
     ///
-    /// A nonce must not be used twice under one key: who has two messages under one nonce has their
-    /// sum, and can make tags. memberlist draws each at random.
+    /// Never use a nonce twice under one key: anyone who has two messages under one nonce has their
+    /// sum, and can forge tags. memberlist draws each nonce at random.
     ///
     /// # Errors
     ///
-    /// `TooLong` where the message has more than 2^36 - 32 bytes, or 2^61 are associated or more;
-    /// and else `Memory`, where a growth of memory is refused.
+    /// `TooLong` if the message has more than 2^36 - 32 bytes, or 2^61 or more are associated; and
+    /// else `Memory`, if out of memory.
     ///
     /// Source: `encryptPayload` in memberlist's security.go; SP 800-38D.
     pub fn encrypt(
@@ -52,19 +52,18 @@ impl Key {
         Ok(bytes)
     }
 
-    /// The stream that holds the encryption of a message under this key: the byte 10, a length of
-    /// four bytes, the highest first, and so many bytes as [`Key::encrypt`] gives. The stream's
-    /// first five bytes are associated, and after them the label. [`Key::decrypt_stream`] gives the
-    /// message back.
+    /// Encrypts a message under this key as a stream: the byte 10, a length of four bytes, the
+    /// highest first, and that many bytes as [`Key::encrypt`] returns them. The stream's first five
+    /// bytes are associated, followed by the label. [`Key::decrypt_stream`] returns the message.
     ///
-    /// A nonce must not be used twice under one key, be it of packets or streams.
+    /// Never use a nonce twice under one key, whether for packets or streams.
     ///
     /// # Errors
     ///
-    /// `TooLong` where the stream would announce more than 268,435,456 bytes, or the label has
-    /// 2^61 - 5 or more; and else `Memory`, where a growth of memory is refused.
+    /// `TooLong` if the stream would announce more than 268,435,456 bytes, or the label has 2^61 -
+    /// 5 or more; and else `Memory`, if out of memory.
     ///
-    /// Source: `encryptLocalState` in memberlist's net.go; the limit is own.
+    /// Source: `encryptLocalState` in memberlist's net.go; the limit is this project's.
     pub fn encrypt_stream(
         &self,
         alloc: Global,
@@ -93,7 +92,7 @@ impl Key {
     }
 }
 
-/// Whether the standard allows so many bytes.
+/// Whether the standard allows this many bytes.
 fn may_encrypt(associated: &[u8], message: &[u8]) -> bool
     ensures { MatchBool result (MayEncrypt associated.now message.now)
         (¬ MayEncrypt associated.now message.now) }
@@ -101,7 +100,7 @@ fn may_encrypt(associated: &[u8], message: &[u8]) -> bool
     message.len() <= MOST_BYTES - MORE && associated.len() <= MOST_ASSOCIATED
 }
 
-/// Whether a stream may hold so many bytes.
+/// Whether a stream may hold this many bytes.
 fn may_encrypt_stream(label: &[u8], message: &[u8]) -> bool
     ensures { MatchBool result (MayEncryptStream label.now message.now)
         (¬ MayEncryptStream label.now message.now) }
@@ -109,7 +108,7 @@ fn may_encrypt_stream(label: &[u8], message: &[u8]) -> bool
     message.len() <= MOST_STREAM_BYTES - MORE && label.len() <= MOST_ASSOCIATED - 5
 }
 
-/// The head of a stream in which so many bytes follow.
+/// The head of a stream in which `len` bytes follow.
 fn head_of(len: usize) -> [u8; 5]
     requires { len < 2 ^ 32 }
     ensures { result ≡ head len }
@@ -118,7 +117,7 @@ fn head_of(len: usize) -> [u8; 5]
     [10, digits[0], digits[1], digits[2], digits[3]]
 }
 
-/// Adds the encryption of a message at the end. There is room for it.
+/// Appends the encryption of a message. There is room for it.
 fn append_encrypted(
     to: &mut Vec<u8>,
     key: &Key,

@@ -7,14 +7,14 @@ ghost use Rattle.memberlist_cipher.specs.Fault.{cipher_number};
 use std::alloc::{AllocError, AllocFailed};
 use thiserror::Error;
 
-/// Why bytes hold no message, or why it is not known what they hold (own).
+/// Why bytes contain no message, or why that is not known (own).
 #[derive(Clone, Copy, Debug, PartialEq, Eq, Error)]
 pub enum CipherFault {
-    /// The key has another length than 16, 24 or 32 bytes.
+    /// The key does not have 16, 24 or 32 bytes.
     #[error("a key has 16, 24 or 32 bytes")]
     BadKey,
     /// The bytes, or the associated bytes, are more than the standard allows, or a stream announces
-    /// more than 268,435,456 bytes; or what is to be encrypted, or a label, would be too long.
+    /// more than 268,435,456 bytes; or the bytes to be encrypted, or a label, are too long.
     #[error("the encrypted bytes are too many")]
     TooLong,
     /// The bytes end before a message or a stream can end.
@@ -23,25 +23,25 @@ pub enum CipherFault {
     /// The version byte is neither 0 nor 1.
     #[error("the version of encryption is neither 0 nor 1")]
     WrongVersion,
-    /// The tag is not that of these bytes and associated bytes under this key.
+    /// The tag does not match these bytes and associated bytes under this key.
     #[error("the tag is that of another key or of other bytes")]
     WrongTag,
-    /// The tag is right, the version is 0, and what was encrypted ends in no padding.
+    /// The tag is right, the version is 0, and the plaintext does not end in padding.
     #[error("the decrypted bytes have no padding")]
     BadPadding,
     /// A stream's first byte is not 10.
     #[error("the stream is not encrypted")]
     NotEncrypted,
-    /// Bytes follow the length that a stream announces.
+    /// Bytes follow after the length that a stream announces.
     #[error("bytes follow the encrypted stream")]
     Trailing,
-    /// A growth of memory was refused.
+    /// Out of memory.
     #[error("out of memory")]
     Memory,
 }
 
 impl CipherFault {
-    /// The number by which reports name the fault: 50 to 58 (own).
+    /// The number of the fault in reports: 50 to 58 (own).
     pub fn number(&self) -> u32
         ensures { result ≡ cipher_number self.now }
     {

@@ -19,7 +19,7 @@ fn times_x(v: u128) -> u128
     }
 }
 
-/// z, and v where x has a bit at this place.
+/// z, plus v if x has a bit at this place.
 fn plus_at(x: u128, place: u32, z: u128, v: u128) -> u128
     requires { place < 128 }
     ensures { result ≡ (if bit_at x place == 1 then bit_xor z v else z) }
@@ -27,7 +27,7 @@ fn plus_at(x: u128, place: u32, z: u128, v: u128) -> u128
     if (x >> place) & 1 == 1 { z ^ v } else { z }
 }
 
-/// The product of four bits and a block. The highest of the bits stands for the lowest power of x.
+/// The product of four bits and a block. The highest bit is the lowest power of x.
 fn times_digit(digit: u128, v: u128) -> u128
     ensures { result ≡ steps 4 digit 0 v }
 {
@@ -40,7 +40,7 @@ fn times_digit(digit: u128, v: u128) -> u128
     plus_at(digit, 0, three, fourth)
 }
 
-/// What four bits that fall off at the right add at the left.
+/// What four bits shifted out at the right add at the left.
 const REDUCE: [u128; 16] = [
     0x0000_0000_0000_0000_0000_0000_0000_0000,
     0x1c20_0000_0000_0000_0000_0000_0000_0000,
@@ -60,15 +60,15 @@ const REDUCE: [u128; 16] = [
     0xb5e0_0000_0000_0000_0000_0000_0000_0000,
 ];
 
-/// The block times x to the 4.
+/// The block times x to the power of 4.
 fn times_x_4(z: u128) -> u128
     ensures { result ≡ shifted 4 z }
 {
     (z >> 4) ^ REDUCE[(z % 16) as usize]
 }
 
-/// A block by which others are multiplied, as its products with each four bits. They are
-/// overwritten before their memory is given back, and never move. Contracts see the block.
+/// A block that others are multiplied by, as its products with all values of four bits. They are
+/// overwritten before their memory is freed, and never move. Contracts see the block.
 pub(crate) struct Factor {
     products: Vec<u128>,
 }
@@ -76,7 +76,7 @@ pub(crate) struct Factor {
 impl Model for Factor {
     ghost Value = { ℕ };
 
-    // the four bits that stand for 1
+    // the four bits that mean 1
     ghost view = { λ factor. slice_index factor.products.items 8 };
 
     ghost invariant = { λ factor.
@@ -85,7 +85,7 @@ impl Model for Factor {
 }
 
 impl Factor {
-    /// A block, made ready to multiply others.
+    /// A block, prepared as a factor.
     pub(crate) fn new(alloc: Global, block: u128) -> Result<Factor, AllocError>
         ensures { IfOk result (λ made. made ≡ block) }
     {
@@ -102,14 +102,14 @@ impl Drop for Factor {
     }
 }
 
-/// Writes 0 over each block.
+/// Overwrites each block with 0.
 fn overwrite(blocks: &mut [u128])
     ensures { blocks.new ≡ replicate (length blocks.old) 0 }
 {
     blocks.fill(0);
 }
 
-/// Adds the products of each four bits and a block at the end. There is room for them.
+/// Appends the products of a block with all values of four bits. There is room for them.
 fn append_row(products: &mut Vec<u128>, v: u128)
     requires { vec_len products.old + 16 ≤ vec_capacity products.old }
     ensures items { products.new.items ≡ products.old.items ++ row 16 0 v }
@@ -141,7 +141,7 @@ fn at(bytes: &[u8], i: usize) -> u8
     if i < bytes.len() { bytes[i] } else { 0 }
 }
 
-/// The first block, with zeros where the bytes end.
+/// The first block, padded with zeros if the bytes end.
 fn block(bytes: &[u8]) -> u128
     ensures { result ≡ block bytes.now }
 {

@@ -1,4 +1,4 @@
-//! A key, made ready to decrypt and to encrypt.
+//! A key, prepared for decrypting and encrypting.
 
 ghost use Rattle.std.specs.Prelude.{◌≡◌, ℕ, List, MatchBool, IfOk, IfErr, OnOk};
 ghost use Rattle.memberlist_cipher.specs.Encryption.{IsKey};
@@ -12,10 +12,10 @@ use crate::schedule::{RoundKeys, round_keys};
 use std::alloc::{AllocError, Global};
 use std::marker::Model;
 
-/// A key, made ready for as many messages as are tried or written. Contracts see its bytes.
+/// A key, prepared once for any number of messages. Contracts see its bytes.
 ///
-/// Of the key it keeps the round keys, and products of the block by which the hash multiplies. They
-/// are overwritten before their memory is given back, and stay where they are if the `Key` moves.
+/// It keeps the round keys, and products of the block that the hash multiplies by. They are
+/// overwritten before their memory is freed, and stay in place if the `Key` moves.
 #[derive(Drop)]
 pub struct Key {
     pub(crate) round_keys: RoundKeys,
@@ -32,11 +32,11 @@ impl Model for Key {
 }
 
 impl Key {
-    /// Makes a key ready, of 16, 24 or 32 bytes.
+    /// Prepares a key of 16, 24 or 32 bytes.
     ///
     /// # Errors
     ///
-    /// `BadKey` if the bytes are more or fewer, and else `Memory` if a growth of memory is refused.
+    /// `BadKey` if it has another length, and else `Memory` if out of memory.
     ///
     /// Source: FIPS 197, SP 800-38D.
     pub fn new(alloc: Global, bytes: &[u8]) -> Result<Key, CipherFault>
@@ -52,7 +52,7 @@ impl Key {
     }
 }
 
-/// A key, made ready.
+/// Prepares a key.
 pub(crate) fn prepared(alloc: Global, bytes: &[u8]) -> Result<Key, AllocError>
     requires { IsKey bytes.now }
     ensures { IfOk result (λ key. key ≡ bytes.now) }
@@ -64,7 +64,7 @@ pub(crate) fn prepared(alloc: Global, bytes: &[u8]) -> Result<Key, AllocError>
     Ok(Key { round_keys, factor })
 }
 
-/// Whether bytes may be a key, that is, are 16, 24 or 32 (FIPS 197; memberlist's security.go).
+/// Whether bytes can be a key, that is, are 16, 24 or 32 (FIPS 197; memberlist's security.go).
 pub fn is_key(key: &[u8]) -> bool
     ensures { MatchBool result (IsKey key.now) (¬ IsKey key.now) }
 {

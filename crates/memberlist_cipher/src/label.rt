@@ -13,7 +13,7 @@ pub const LABEL: u8 = 244;
 /// The most bytes of a label (memberlist's label.go).
 pub const LABEL_MAX_SIZE: usize = 255;
 
-/// Why bytes that begin as a label have none (own).
+/// Why bytes that start as a label have none (own).
 #[derive(Clone, Copy, Debug, PartialEq, Eq, Error)]
 pub enum LabelFault {
     /// The bytes end before the label does.
@@ -24,13 +24,13 @@ pub enum LabelFault {
     Empty,
 }
 
-/// The label of bytes, and what it labels: 244, its length, from 1 on, so many bytes, and the rest.
-/// Where the first byte is another one there is no label: it is empty then, and all the bytes are
-/// left.
+/// The label of bytes, and the bytes after it: 244, its length, at least 1, that many bytes, and
+/// the rest. If the first byte is not 244 there is no label: it is then empty, and the rest is all
+/// the bytes.
 ///
 /// # Errors
 ///
-/// `Ended` where the bytes end before the label does, `Empty` where its length is 0.
+/// `Ended` if the bytes end before the label does, `Empty` if its length is 0.
 ///
 /// Source: `RemoveLabelHeaderFromPacket` in memberlist's label.go.
 pub fn split_label(bytes: &[u8]) -> Result<(&[u8], &[u8]), LabelFault>
@@ -58,7 +58,7 @@ pub fn split_label(bytes: &[u8]) -> Result<(&[u8], &[u8]), LabelFault>
     Ok(labelled.split_at(len))
 }
 
-/// The bytes with a label before them, of 1 to 255 bytes.
+/// The bytes after a label of 1 to 255 bytes.
 ///
 /// Source: `AddLabelHeaderToPacket` in memberlist's label.go.
 pub fn labelled(alloc: Global, label: &[u8], bytes: &[u8]) -> Result<Vec<u8>, AllocError>

@@ -5,7 +5,7 @@ ghost use Rattle.std.specs.Prelude.{◌≡◌, List, ℕ, length};
 ghost use Rattle.memberlist_cipher.specs.Encryption.{IsKey, MayEncrypt, MayEncryptStream, encrypted, encrypted_stream, HoldsOnly, Encryption, StreamEncryption};
 ghost use Rattle.memberlist_cipher.specs.Label.{IsLabelled, IsLabelText};
 
-/// For one key and the same associated bytes, bytes are the encryption of one message.
+/// For one key and the same associated bytes, bytes are the encryption of at most one message.
 pub fn one_message()
     ensures packet { (key associated bytes x y : List ℕ) → Encryption key associated bytes x
         → Encryption key associated bytes y → x ≡ y }

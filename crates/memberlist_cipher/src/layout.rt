@@ -1,11 +1,11 @@
-//! Encrypted bytes taken apart: a version, a nonce, the enciphered bytes and a tag.
+//! The parts of encrypted bytes: a version, a nonce, the ciphertext and a tag.
 
 ghost use Rattle.std.specs.Prelude.{◌≡◌, ◌+◌, ◌<◌, ◌≤◌, ◌∷◌, ◌++◌, length, slice_index, IfOk, IfErr};
 ghost use Rattle.memberlist_cipher.specs.Refusal.{FormCause};
 
 use crate::CipherFault;
 
-/// Encrypted bytes taken apart.
+/// The parts of encrypted bytes.
 #[derive(Drop)]
 pub(crate) struct Parts<'a> {
     pub(crate) version: u8,
@@ -14,11 +14,11 @@ pub(crate) struct Parts<'a> {
     pub(crate) mark: &'a [u8],
 }
 
-/// The parts of encrypted bytes.
+/// Splits encrypted bytes into their parts.
 ///
 /// # Errors
 ///
-/// `TooShort` where there are fewer than 29 bytes, `WrongVersion` where the first byte is above 1.
+/// `TooShort` if there are fewer than 29 bytes, `WrongVersion` if the first byte is above 1.
 pub(crate) fn parts_of(bytes: &[u8]) -> Result<Parts<'_>, CipherFault>
     ensures nonce { IfOk result (λ parts. length parts.nonce.now ≡ 12) }
     ensures mark { IfOk result (λ parts. length parts.mark.now ≡ 16) }

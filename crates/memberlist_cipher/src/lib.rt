@@ -1,4 +1,4 @@
-//! What memberlist encrypts under its cluster's key, decrypted and encrypted, and its labels.
+//! Encrypts and decrypts what memberlist sends under its cluster's key, and reads its labels.
 //!
 //! | module | subject |
 //! |---|---|
@@ -6,19 +6,19 @@
 //! | `field` | bytes as polynomials, and the S-box |
 //! | `columns` | columns of a state, through the S-box and mixed |
 //! | `block` | AES on one block |
-//! | `appending` | bytes added to a vector that has room |
-//! | `schedule` | the words of a key |
+//! | `appending` | appending to a vector that has room |
+//! | `schedule` | the key schedule |
 //! | `hashing` | the product and the hash of blocks |
 //! | `counting` | counter mode |
 //! | `tagging` | the tag |
-//! | `encrypt` | a message encrypted, as a packet or a stream |
-//! | `unpadding` | padding taken off |
-//! | `key` | a key, made ready |
+//! | `encrypt` | encrypts a message, as a packet or a stream |
+//! | `unpadding` | removes padding |
+//! | `key` | a prepared key |
 //! | `label` | the label of a packet or a stream |
-//! | `layout` | encrypted bytes taken apart |
+//! | `layout` | the parts of encrypted bytes |
 //! | `opening` | the message of a packet |
 //! | `stream` | the message of a stream |
-//! | `laws` | what holds of the definitions, apart from any code |
+//! | `laws` | what holds for the definitions, apart from any code |
 #![tactic(auto)]
 
 mod appending;

@@ -13,25 +13,25 @@ use crate::tagging::{is_same, tag};
 use crate::unpadding::unpadded;
 use std::alloc::Global;
 
-/// The greatest number of bytes: 2^36 - 32 of text (SP 800-38D, 5.2.1.1), and 29 more.
+/// The most bytes: 2^36 - 32 of text (SP 800-38D, 5.2.1.1), and 29 more.
 pub(crate) const MOST_BYTES: usize = 0xf_ffff_fffd;
 
-/// The greatest number of associated bytes (SP 800-38D, 5.2.1.1).
+/// The most associated bytes (SP 800-38D, 5.2.1.1).
 pub(crate) const MOST_ASSOCIATED: usize = 0x1fff_ffff_ffff_ffff;
 
-/// The message that encrypted bytes hold under the key, of 16, 24 or 32 bytes.
+/// Decrypts bytes under the key, of 16, 24 or 32 bytes, and returns the message.
 ///
-/// The bytes are those of a packet, without what stands before the version byte. The associated
-/// bytes are none where the cluster has no label, and else the label's.
+/// The bytes are those of a packet from the version byte on. The associated bytes are empty if the
+/// cluster has no label, and else the label's.
 ///
 /// # Errors
 ///
-/// In this order: `BadKey`, `TooLong` (more than 2^36 - 3 bytes, or 2^61 associated ones and more),
+/// In this order: `BadKey`, `TooLong` (more than 2^36 - 3 bytes, or 2^61 or more associated ones),
 /// `TooShort` (fewer than 29 bytes), `WrongVersion` (the first byte is above 1), `WrongTag`,
-/// `BadPadding` (in version 0). `Memory` comes after `WrongVersion`, where a growth of memory is
-/// refused.
+/// `BadPadding` (in version 0). `Memory` comes after `WrongVersion`, if out of memory.
 ///
-/// Source: memberlist's security.go, FIPS 197, SP 800-38D, and PKCS #7; the order is own.
+/// Source: memberlist's security.go, FIPS 197, SP 800-38D, and PKCS #7; the order is this
+/// project's.
 pub fn decrypt(
     alloc: Global,
     key: &[u8],
@@ -60,7 +60,7 @@ fn opened(
     if !is_key(key) {
         return Err(CipherFault::BadKey);
     }
-    // memory is asked for only for bytes that may be a packet
+    // memory is allocated only for bytes that may be a packet
     if !is_within(associated, bytes) {
         return Err(CipherFault::TooLong);
     }
@@ -70,12 +70,12 @@ fn opened(
 }
 
 impl Key {
-    /// The message that encrypted bytes hold under this key. Memory is asked for the message alone,
-    /// and only if the tag is right.
+    /// Decrypts bytes under this key and returns the message. Memory is allocated only for the
+    /// message, and only if the tag is right.
     ///
     /// # Errors
     ///
-    /// As those of [`decrypt`], without `BadKey`. `Memory` comes after `WrongTag`.
+    /// Those of [`decrypt`], without `BadKey`. `Memory` comes after `WrongTag`.
     pub fn decrypt(
         &self,
         alloc: Global,
@@ -132,7 +132,7 @@ fn opened_under(
     Ok(message)
 }
 
-/// Whether the standard allows so many bytes.
+/// Whether the standard allows this many bytes.
 fn is_within(associated: &[u8], bytes: &[u8]) -> bool
     ensures { MatchBool result (IsWithin associated.now bytes.now)
         (¬ IsWithin associated.now bytes.now) }

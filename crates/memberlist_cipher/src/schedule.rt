@@ -1,4 +1,4 @@
-//! The words that a key is expanded to, FIPS-197, 5.2.
+//! The key schedule, FIPS-197, 5.2.
 
 ghost use Rattle.std.specs.Prelude.{◌≡◌, ◌+◌, ◌*◌, ◌/◌, ◌%◌, ◌<◌, ◌≤◌, ◌⊎◌, length, replicate, vec_capacity, IfOk};
 ghost use Rattle.memberlist_cipher.specs.Block.{word, added, next_word, schedule};
@@ -8,7 +8,7 @@ use crate::appending::append;
 use crate::field::{sub, x_to};
 use std::alloc::{AllocError, Global};
 
-/// What is added to the word a key's length before.
+/// What is added to the word one key length before.
 fn added(key_words: usize, i: usize, t: [u8; 4]) -> [u8; 4]
     requires key { (key_words ≡ 4) ⊎ (key_words ≡ 6) ⊎ (key_words ≡ 8) }
     requires low { key_words ≤ i }
@@ -50,7 +50,7 @@ fn next_word(key_words: usize, words: &[u8]) -> [u8; 4]
     ]
 }
 
-/// The words of a key. They are overwritten before their memory is given back, and never move.
+/// The words of a key. They are overwritten before their memory is freed, and never move.
 pub(crate) struct RoundKeys {
     pub(crate) words: Vec<u8>,
 }
@@ -62,7 +62,7 @@ impl Drop for RoundKeys {
     }
 }
 
-/// Writes 0 over each byte.
+/// Overwrites each byte with 0.
 fn overwrite(bytes: &mut [u8])
     ensures { bytes.new ≡ replicate (length bytes.old) 0 }
 {

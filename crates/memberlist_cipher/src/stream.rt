@@ -11,23 +11,23 @@ use crate::key::Key;
 use crate::opening::decrypt;
 use std::alloc::{AllocError, Global};
 
-/// The greatest length that a stream may announce (own).
+/// The most bytes that a stream may announce (own).
 pub(crate) const MOST_BYTES: usize = 268_435_456;
 
-/// The message of an encrypted stream: the byte 10, a length of four bytes, the highest first, and
-/// so many bytes as [`decrypt`] takes.
+/// Decrypts a stream and returns its message. A stream is the byte 10, a length of four bytes, the
+/// highest first, and that many bytes as [`decrypt`] takes them.
 ///
-/// The stream's first five bytes are associated, and after them the label, which is empty where
-/// the cluster has none.
+/// The stream's first five bytes are associated, followed by the label, which is empty if the
+/// cluster has none.
 ///
 /// # Errors
 ///
 /// In this order: `TooShort` (fewer than five bytes), `NotEncrypted` (the first is not 10),
 /// `TooLong` (a length above 268,435,456), `TooShort` (fewer bytes than announced), `Trailing`
-/// (more bytes than announced), and then as [`decrypt`]. `Memory` comes after `Trailing`, where a
-/// growth of memory is refused.
+/// (more bytes than announced), and then those of [`decrypt`]. `Memory` comes after `Trailing`, if
+/// out of memory.
 ///
-/// Source: memberlist's net.go and security.go; the limit and the order are own.
+/// Source: memberlist's net.go and security.go; the limit and the order are this project's.
 pub fn decrypt_stream(
     alloc: Global,
     key: &[u8],
@@ -60,12 +60,12 @@ fn opened_stream(
 }
 
 impl Key {
-    /// The message that an encrypted stream holds under this key. Memory is asked for the message
-    /// and for what is associated.
+    /// Decrypts a stream under this key and returns its message. Memory is allocated for the
+    /// message and for the associated bytes.
     ///
     /// # Errors
     ///
-    /// As those of [`decrypt_stream`], without `BadKey`.
+    /// Those of [`decrypt_stream`], without `BadKey`.
     pub fn decrypt_stream(
         &self,
         alloc: Global,
@@ -98,7 +98,7 @@ fn opened_stream_under(
     Ok(message)
 }
 
-/// What is associated: a stream's head, and the label.
+/// The associated bytes: a stream's head, and the label.
 pub(crate) fn associated_bytes(
     alloc: Global,
     head: &[u8],

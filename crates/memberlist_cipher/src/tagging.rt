@@ -1,4 +1,4 @@
-//! The tag of enciphered bytes, SP 800-38D, 7.1.
+//! The tag of a ciphertext, SP 800-38D, 7.1.
 
 ghost use Rattle.std.specs.Prelude.{◌≡◌, ◌≢◌, ◌+◌, ◌*◌, ◌<◌, ◌≤◌, ◌^◌, length, MatchBool};
 ghost use Rattle.memberlist_cipher.specs.Block.{cipher};
@@ -8,7 +8,7 @@ use crate::block::{cipher, plus_key};
 use crate::counting::counter_block;
 use crate::hashing::{Factor, hash, times};
 
-/// The tag of enciphered bytes and associated ones; the hash multiplies by `h`.
+/// The tag of a ciphertext and associated bytes; the hash multiplies by `h`.
 pub(crate) fn tag(
     words: &[u8],
     count: usize,
@@ -32,7 +32,7 @@ pub(crate) fn tag(
     plus_key(s.to_be_bytes(), &mask)
 }
 
-/// Whether the bytes are the same.
+/// Whether the bytes are equal.
 pub(crate) fn is_same(a: &[u8], b: &[u8]) -> bool
     ensures { MatchBool result (a.now ≡ b.now) (a.now ≢ b.now) }
 {

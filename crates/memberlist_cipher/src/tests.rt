@@ -1,4 +1,4 @@
-//! What no clause says: the standards' vectors, real messages, and the texts of faults.
+//! What no clause covers: the standards' vectors, real messages, and the texts of faults.
 
 use crate::{CipherFault, decrypt, decrypt_stream};
 use std::alloc::Global;
@@ -12,7 +12,7 @@ mod messages;
 mod refusals;
 mod standards;
 
-/// Decrypts a packet. Where memory is refused the repeat does.
+/// Decrypts a packet, once more if out of memory.
 fn open(
     alloc: Global,
     key: &[u8],
@@ -25,7 +25,7 @@ fn open(
     }
 }
 
-/// Decrypts a stream. Where memory is refused the repeat does.
+/// Decrypts a stream, once more if out of memory.
 fn open_stream(
     alloc: Global,
     key: &[u8],
@@ -38,7 +38,7 @@ fn open_stream(
     }
 }
 
-/// That the packet holds this message.
+/// Asserts that the packet decrypts to this message.
 fn assert_opens(
     rt: &impl Abort,
     alloc: Global,
@@ -52,7 +52,7 @@ fn assert_opens(
     Ok(())
 }
 
-/// That the stream holds this message.
+/// Asserts that the stream decrypts to this message.
 fn assert_opens_stream(
     rt: &impl Abort,
     alloc: Global,
@@ -66,7 +66,7 @@ fn assert_opens_stream(
     Ok(())
 }
 
-/// That the packet is refused, and why.
+/// Asserts that the packet is refused, and why.
 fn assert_refused(
     rt: &impl Abort,
     alloc: Global,
@@ -79,7 +79,7 @@ fn assert_refused(
     assert_eq!(rt; answer, Some(fault), "{bytes:?}");
 }
 
-/// That the stream is refused, and why.
+/// Asserts that the stream is refused, and why.
 fn assert_refused_stream(
     rt: &impl Abort,
     alloc: Global,

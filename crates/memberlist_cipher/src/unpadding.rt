@@ -1,4 +1,4 @@
-//! Padding taken off, PKCS #7 with blocks of 16 bytes.
+//! Removes padding, PKCS #7 with blocks of 16 bytes.
 
 ghost use Rattle.std.specs.Prelude.{◌≡◌, ◌≢◌, ◌-◌, ◌≤◌, ℕ, List, length, replicate, take, MatchBool, IfSome, IfNone, IfOk, IfErr};
 ghost use Rattle.memberlist_cipher.specs.declared.fault.CipherFault.TheVariants.{BadPadding};
@@ -19,7 +19,7 @@ fn all_are(bytes: &[u8], b: u8) -> bool
     true
 }
 
-/// How many bytes were added: the last bytes, 1 to 16, are each their count.
+/// How many bytes were added: the last bytes, 1 to 16, each hold their count.
 fn padding_len(text: &[u8]) -> Option<usize>
     ensures some { IfSome result (λ more. (more ≤ length text.now)
         × (padded (take (length text.now - more) text.now) ≡ text.now)) }

@@ -1,5 +1,5 @@
-//! Messages encrypted: the standards' vectors, and what memberlist wrote, under the nonces that it
-//! drew. Python's `cryptography` makes the same of each.
+//! Encrypted messages: the standards' vectors, and what memberlist wrote, with the nonces that it
+//! drew. Python's `cryptography` computes the same for each.
 
 use super::messages::{
     EMPTY_STREAMS, KEY, KEY_24, KEY_32, LABELLED, LABELLED_STREAMS, MESSAGE, PACKETS, STREAMS,
@@ -16,7 +16,7 @@ use std::test::Fail;
 /// The nonce of the cases that have one.
 const NONCE: [u8; 12] = *b"\xca\xfe\xba\xbe\xfa\xce\xdb\xad\xde\xca\xf8\x88";
 
-/// That the message is encrypted so, as a packet. Where memory is refused the repeat does it.
+/// Asserts that the message is encrypted as these bytes, as a packet, once more if out of memory.
 fn assert_encrypts(
     rt: &impl Abort,
     alloc: Global,
@@ -35,7 +35,7 @@ fn assert_encrypts(
     Ok(())
 }
 
-/// That the message is encrypted so, as a stream.
+/// Asserts that the message is encrypted as these bytes, as a stream.
 fn assert_encrypts_stream(
     rt: &impl Abort,
     alloc: Global,

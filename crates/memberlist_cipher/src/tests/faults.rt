@@ -5,7 +5,7 @@ use std::alloc::{AllocError, Global};
 use std::process::Abort;
 use std::test::Fail;
 
-/// The text that is shown for it, tried once more where memory is refused.
+/// Its text, tried once more if out of memory.
 fn text_of(alloc: Global, fault: &CipherFault) -> Result<String, AllocError> {
     match format!(in alloc; "{fault}") {
         Err(_) => format!(in alloc; "{fault}"),

@@ -1,4 +1,4 @@
-//! Labels, by the layout that memberlist's label.go gives.
+//! Labels, with the layout in memberlist's label.go.
 
 use crate::{LabelFault, labelled, split_label};
 use std::process::Abort;

@@ -1,4 +1,4 @@
-//! Messages that memberlist encrypted: made once by encryptPayload and encryptLocalState of its
+//! Messages that memberlist encrypted: made once with encryptPayload and encryptLocalState of its
 //! version 0.2.2.
 
 use super::{assert_opens, assert_opens_stream, open};
@@ -18,7 +18,7 @@ pub(super) const KEY_24: &[u8] =
 pub(super) const KEY_32: &[u8] =
     b"\x20\x27\x2e\x35\x3c\x43\x4a\x51\x58\x5f\x66\x6d\x74\x7b\x82\x89\x90\x97\x9e\xa5\xac\xb3\xba\xc1\xc8\xcf\xd6\xdd\xe4\xeb\xf2\xf9";
 
-/// What each packet and stream of a greater length holds.
+/// The message of each longer packet and stream.
 pub(super) const MESSAGE: &[u8] = b"a message of more than two blocks, as gossip is";
 
 /// Packets of each length of key, in version 0 and in version 1.
@@ -83,7 +83,7 @@ pub(super) const EMPTY_STREAMS: [&[u8]; 2] = [
     b"\x0a\x00\x00\x00\x1d\x01\xd5\x05\x32\xc4\x5e\x81\xc6\xe5\xcb\xa9\x33\x9d\x82\x74\xcb\x48\x32\x90\xbf\xaa\xea\xfa\xbb\x60\xca\xa0\x22\xec",
 ];
 
-/// Packets of version 0 with the first 0 to 15 bytes of the message, and so 16 to 1 bytes of
+/// Packets of version 0 with the first 0 to 15 bytes of the message, so with 16 to 1 bytes of
 /// padding.
 const SHORT: [&[u8]; 16] = [
     b"\x00\xf0\x91\x4f\xc5\xa7\x58\x49\x9e\x51\xcb\x1b\xb4\xfb\x26\x29\xe2\xd0\xfb\xdc\x41\x50\xbb\x8f\x62\x9d\x94\xe9\x61\x64\xbb\xf1\x3c\x23\xee\x27\x1a\xce\x4f\x7b\x22\x7a\x76\x01\xaf",
@@ -108,20 +108,20 @@ const SHORT: [&[u8]; 16] = [
 const EMPTY: &[u8] =
     b"\x01\xdf\xbc\x8f\x52\x4e\x25\xee\x38\xfa\xfc\xf2\xd5\x4c\x08\x8b\xa3\xbb\x2e\x66\x0e\x03\xb7\x51\xd5\xd7\x2b\x9d\xc3";
 
-/// Packets with the label `east`, in version 0 and in version 1: as later versions of memberlist
-/// have it, the label is what encryptPayload was given to authenticate.
+/// Packets with the label `east`, in version 0 and in version 1: as in later versions of
+/// memberlist, the label is what encryptPayload was given to authenticate.
 pub(super) const LABELLED: [&[u8]; 2] = [
     b"\x00\x14\x8c\x53\x25\x5e\x70\x88\x87\xce\x67\x3f\xd0\x8c\x2f\x82\xe4\x32\x66\xa4\x32\xc5\x6e\xfb\x76\xff\xae\x7e\xf1\x38\x07\xd1\x91\xc6\x91\xf3\xd5\xaf\x78\x3d\xcb\x00\x45\x45\x7c",
     b"\x01\x05\x18\xb6\xed\xa9\xae\x85\xb3\x03\x2d\x0a\x4f\xce\x82\xef\x02\x50\x99\xab\xc4\xd5\xe6\x8f\x21\xa9\xfc\x9e\xb5\x46\x69\x61\x5b\x14\x9f\xf2\x95",
 ];
 
-/// Streams with this label, whose head and label encryptPayload was given.
+/// Streams with this label: encryptPayload was given their head and the label.
 pub(super) const LABELLED_STREAMS: [&[u8]; 2] = [
     b"\x0a\x00\x00\x00\x2d\x00\x00\xb5\xc5\x18\x5a\x41\x52\x80\xfd\xb0\xca\xc8\xcd\xe9\xda\x24\xaa\xef\x8d\x61\x16\x3a\xae\xb6\x20\x4d\xef\x89\x21\x8d\x62\xcd\x20\xdd\xab\xb6\x74\xf2\x71\x42\xb9\xf2\x6b\x56",
     b"\x0a\x00\x00\x00\x25\x01\xc7\xba\xf9\xe8\xc9\xa5\xae\x07\xb8\x00\xf6\x54\x27\x4d\xed\x0e\x46\x94\x80\x99\xad\x5b\x4e\xeb\xcc\x79\xaf\xa0\xf9\xe1\xeb\x39\x28\xa3\x09\xdd",
 ];
 
-/// That it is a packet of the first bytes of the message.
+/// Asserts that it is a packet with the first bytes of the message.
 fn assert_opens_to(
     rt: &impl Abort,
     alloc: Global,
@@ -133,7 +133,7 @@ fn assert_opens_to(
     Ok(())
 }
 
-/// That a key, once made ready, decrypts each packet and stream that is under it.
+/// Asserts that a prepared key decrypts each packet and stream that is under it.
 fn assert_is_ready(rt: &impl Abort, alloc: Global, bytes: &[u8]) -> Result<(), CipherFault> {
     let key = Key::new(alloc, bytes)?;
     for (under, packet) in PACKETS {
