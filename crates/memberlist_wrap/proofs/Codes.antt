@@ -1,4 +1,4 @@
--- Codes and the bytes that they stand for, as they are read.
+-- Codes and the bytes that they mean, as they are read.
 use Rattle.std.proofs.Common.{◌≡◌, ℕ, ◌+◌, ◌^◌, ◌<◌, ◌≤◌, List, [], ◌∷◌, ◌++◌, length, refl, sym, ap, subst, ◌∙◌, arith, append_assoc, inl, inr, get_or, drop, cond, ltb, Bool, true, false}
 use Rattle.std.proofs.lemmas.List.{append-nil, length-append, at_drop_more, get_or_default, drop_more}
 use Rattle.memberlist_wrap.specs.Bits.{bits, bits_of}
@@ -6,7 +6,7 @@ use Rattle.memberlist_wrap.specs.Lzw.{NextCode, kept_words, width, StandsFor, Re
 use Rattle.memberlist_wrap.specs.Lzw.StandsFor.{literal, again as repeated}
 use Rattle.memberlist_wrap.proofs.Polynomials.{length-bits}
 
--- ---- codes behind codes
+-- ---- codes after codes
 
 pub Reads-then : (words : List (List ℕ)) (codes all out : List ℕ) (after : List (List ℕ)) (rest codes' out' : List ℕ) (after' : List (List ℕ)) (rest' : List ℕ)
     → ReadsCodes words codes all out after rest → ReadsCodes after codes' rest out' after' rest'
@@ -35,7 +35,7 @@ Reads-then words (code ∷ codes) all out after rest codes' out' after' rest' fi
 pub CodesGive-start : (bytes : List ℕ) → CodesGive bytes [] [] (bits_of bytes)
 CodesGive-start bytes = record { codes = []; reads = (refl, refl, refl) }
 
--- a clear code more
+-- one more clear code
 pub CodesGive-clear : (bytes out : List ℕ) (words : List (List ℕ)) (rest more : List ℕ) (code : ℕ)
     → CodesGive bytes out words rest → NextCode words rest code more → code ≡ 256
     → CodesGive bytes out [] more
@@ -48,7 +48,7 @@ CodesGive-clear bytes out words rest more code reaches next clear = record {
       (more, next.is, next.below, inl (clear, (refl, refl, refl))));
 }
 
--- a word more
+-- one more word
 pub CodesGive-word : (bytes out : List ℕ) (words : List (List ℕ)) (rest more word : List ℕ) (code : ℕ)
     → CodesGive bytes out words rest → NextCode words rest code more → StandsFor words code word
     → CodesGive bytes (out ++ word) (kept_words words word) more
@@ -59,7 +59,7 @@ CodesGive-word bytes out words rest more word code reaches next stands = record 
       (more, next.is, next.below, inr (word, [], stands, (refl, refl, refl), sym (append-nil word)));
 }
 
--- ---- the two signs are no words
+-- ---- the two control codes are not words
 
 pub no_clear : (words : List (List ℕ)) (word : List ℕ) (code : ℕ) → code ≡ 256 → StandsFor words code word → ⊥
 no_clear words word code is (literal c e) = omega arith
@@ -75,7 +75,7 @@ wide_by false true c = omega arith
 wide_by false false true = omega arith
 wide_by false false false = omega arith
 
--- every code has room for the two signs
+-- every code has room for the two control codes
 pub wide : (n : ℕ) → 257 < 2 ^ width n
 wide n = wide_by (ltb n 255) (ltb n 767) (ltb n 1791)
 
@@ -89,9 +89,9 @@ width_low_by false false false = (omega arith, omega arith, omega arith)
 pub width_between : (n : ℕ) → (9 ≤ width n) × (width n ≤ 12) × (2 ^ width n ≤ 4096)
 width_between n = width_low_by (ltb n 255) (ltb n 767) (ltb n 1791)
 
--- ---- a byte at a time
+-- ---- one byte at a time
 
--- a byte passes from the bytes to the bits that are held
+-- a byte moves from the bytes to the held bits
 pub taken_in : (bytes held held' : List ℕ) (i b : ℕ) → i < length bytes → b ≡ get_or bytes i 0 → held' ≡ held ++ bits 8 b
     → held ++ bits_of (drop i bytes) ≡ held' ++ bits_of (drop (i + 1) bytes)
 taken_in bytes held held' i b within is more =
@@ -100,7 +100,7 @@ taken_in bytes held held' i b within is more =
     ∙ sym (append_assoc held (bits 8 b) (bits_of (drop (i + 1) bytes)))
     ∙ ap (λ h. h ++ bits_of (drop (i + 1) bytes)) (sym more)
 
--- a code passes from the bits that are held
+-- a code moves out of the held bits
 next_code : (words : List (List ℕ)) (coming held' held'' rest : List ℕ) (w code : ℕ) → coming ≡ held' ++ rest → w ≡ width
     (length words) → code < 2 ^ w → held' ≡ bits w code ++ held''
     → NextCode words coming code (held'' ++ rest)
@@ -117,7 +117,7 @@ pub read_code : (bytes : List ℕ) (words : List (List ℕ)) (held held' held'' 
 read_code bytes words held held' held'' i w code within more e taken =
     next_code words _ held' held'' _ w code (taken_in bytes held held' i (get_or bytes i 0) within refl more) e taken.0 taken.1
 
--- few bits are left behind a code
+-- few bits are left after a code
 pub few_left : (held held' held'' : List ℕ) (b w code : ℕ) → length held < w → held' ≡ held ++ bits 8 b → held' ≡ bits w code ++ held'' → length held'' < 8
 few_left held held' held'' b w code short more taken =
     omega (arith, ap length more, ap length taken, length-append held (bits 8 b), length-append (bits w code) held'', length-bits 8 b, length-bits w code)
@@ -131,7 +131,7 @@ bits_of_some bytes i within =
       length-bits 8 (get_or bytes i 0),
     )
 
--- the bits that are held are few again
+-- the held bits are few again
 pub few_again : (held held' held'' : List ℕ) (b w code n : ℕ) → length held < w → held' ≡ held ++ bits 8 b
     → held' ≡ bits w code ++ held'' → length held'' < width n
 few_again held held' held'' b w code n short more taken = omega (arith, few_left held held' held'' b w code short more taken, (width_between n).0)

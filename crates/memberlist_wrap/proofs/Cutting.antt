@@ -1,4 +1,4 @@
--- Words as parts of what came out.
+-- Words as parts of the output.
 use Rattle.std.proofs.Common.{◌≡◌, ℕ, zero, suc, ◌+◌, ◌-◌, ◌<◌, ◌≤◌, List, [], ◌∷◌, ◌++◌, length, get_or, take, drop, refl, sym, ap, subst, ◌∙◌, arith, append_assoc, add-one, inl, inr}
 use Rattle.std.specs.Bool.{⊤}
 use Rattle.std.specs.List.{concat}
@@ -45,7 +45,7 @@ next_grown output v (e ∷ r) = refl
 same_cons : (a b : List ℕ) (p q : List (List ℕ)) → a ≡ b → p ≡ q → a ∷ p ≡ b ∷ q
 same_cons a b p q e f = cc
 
--- a word more
+-- one more word
 pub words_at_grown : (output v starts : List ℕ) → AreStarts (length output) starts
     → words_at (output ++ v) (starts ++ length output ∷ []) ≡ words_at output starts ++ v ∷ []
 words_at_grown output v [] are =
@@ -119,7 +119,7 @@ word_at output (s ∷ r) (suc place) are within =
       after_is = w.after_is;
     }
 
--- ---- what a code stands for
+-- ---- what a code means
 
 -- no word is empty
 abbrev pub AreFull : List (List ℕ) → Type 0
@@ -150,7 +150,7 @@ split_once words before old after before' old' after' e f same =
     (sym (drop_at before (old ∷ after) (length before) refl) ∙ ap (drop (length before)) (sym e ∙ f)
     ∙ ap (λ n. drop n (before' ++ old' ∷ after')) same ∙ drop_at before' (old' ∷ after') (length before') refl)
 
--- the byte after a word does not depend on what comes behind
+-- the byte after a word does not depend on what follows it
 next_of : (old : List ℕ) (after : List (List ℕ)) (word : List ℕ) → 0 < length old → word ≡ old ++ take 1
     (concat after ++ word) → take 1 (concat after ++ word) ≡ take 1 (concat after ++ old)
 next_of old after word full e =
@@ -215,12 +215,12 @@ Stands-again output starts place are within =
     (ap (λ l. part ++ l) (sym (ap (λ l. take 1 (l ++ (part ++ x ∷ []))) w.after_is ∙ next_byte output part to x ends.1 full refl))
     ∙ ap (λ l. l ++ take 1 (concat w.after ++ (part ++ x ∷ []))) (sym w.old_is))
 
--- a place behind the last word stands for nothing
+-- a place after the last word means nothing
 pub none_there : (words : List (List ℕ)) (place : ℕ) (word : List ℕ) → length words ≤ place → ¬ StandsFor words (258 + place) word
 none_there words place word behind (literal c e) = absurd (omega arith)
 none_there words place word behind (repeated before old after p q r) = omega (arith, ap length p, length-append before (old ∷ after))
 
--- places stay places where more came out
+-- places stay places if the output grows
 pub AreStarts-longer : (end more : ℕ) (starts : List ℕ) → AreStarts end starts → end ≤ more → AreStarts more starts
 AreStarts-longer end more starts are up = record {
   ascending = are.ascending;
@@ -232,7 +232,7 @@ length-again output from to some within =
     let part = take (to - from) (drop from output) in
     omega (arith, length-append part (get_or (output ++ part) to 0 ∷ []), length-take (to - from) (drop from output), length-drop from output)
 
--- what the ends of a part are, as the code reads them
+-- the ends of a part, as the code reads them
 pub record ReadEnds (out starts : List ℕ) (place from to : ℕ) : Type 0 where
   pub from_is : from ≡ get_or starts place 0
   pub to_is : to ≡ next_start (length out) (drop (suc place) starts)
@@ -269,7 +269,7 @@ AreFull-take zero (w ∷ words) full = tt
 AreFull-take (suc n) [] full = tt
 AreFull-take (suc n) (w ∷ words) full = (full.0, AreFull-take n words full.1)
 
--- the words before the last do not change where more comes out
+-- the words before the last do not change if the output grows
 words_at_longer : (n : ℕ) (output v starts : List ℕ) → AreStarts (length output) starts → n < length starts → take n
     (words_at (output ++ v) starts) ≡ take n (words_at output starts)
 words_at_longer n output v [] are within = absurd (omega arith)
@@ -280,7 +280,7 @@ words_at_longer (suc n) output v (s ∷ e ∷ r) are within =
     let last = are.inside 1 (omega arith) in
     same_cons _ _ _ _ (part_grown output v s e (omega arith) (omega arith)) (words_at_longer n output v (e ∷ r) (AreStarts-tail _ s (e ∷ r) are) (omega arith))
 
--- the words that are kept, once one more came out
+-- the words that are kept, after one more was output
 pub words_at_kept : (n : ℕ) (output v starts : List ℕ) → AreStarts (length output) starts → length starts ≤ suc n
     → take n (words_at (output ++ v) (take (suc n) (starts ++ length output ∷ []))) ≡ take n (take n (words_at output starts) ++ v ∷ [])
 words_at_kept n output v starts are few = elim (cases_lt (length starts) (suc n)) [
@@ -323,7 +323,7 @@ take_split (suc m) (w ∷ before) old after within =
     let same : suc m - suc (suc (length before)) ≡ m - suc (length before) = omega arith in
     ap (λ l. w ∷ l) (take_split m before old after (omega arith)) ∙ ap (λ k. w ∷ before ++ old ∷ take k after) (sym same)
 
--- the byte behind a word is the first of the next word
+-- the byte after a word is the first of the next word
 first_kept : (k : ℕ) (after : List (List ℕ)) (word : List ℕ) → AreFull after → 0 < k → take 1 (concat after ++ word) ≡ take 1 (concat (take k after) ++ word)
 first_kept zero after word full some = absurd (omega arith)
 first_kept (suc k) [] word full some = refl
@@ -334,7 +334,7 @@ full_after : (before : List (List ℕ)) (old : List ℕ) (after : List (List ℕ
 full_after [] old after full = full.1
 full_after (w ∷ before) old after full = full_after before old after full.1
 
--- a code stands for the same word after the words that are kept
+-- a code means the same word after the words that are kept
 Stands-kept : (m : ℕ) (words : List (List ℕ)) (place : ℕ) (word : List ℕ) → AreFull words → place + 2 ≤ m → StandsFor words
     (258 + place) word → StandsFor (take m words) (258 + place) word
 Stands-kept m words place word full room (literal c e) = absurd (omega arith)

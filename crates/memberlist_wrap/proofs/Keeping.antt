@@ -1,4 +1,4 @@
--- What was made, once one word more came out.
+-- The state of the decoder after one more word.
 use Rattle.std.proofs.Common.{◌≡◌, ℕ, ◌<◌, ◌≤◌, inl, inr, false, ltb, le-ltb, List, [], ◌∷◌, ◌++◌, length, take, refl, sym, ap, ◌∙◌, arith}
 use Rattle.std.proofs.lemmas.Bool.{cases_lt}
 use Rattle.std.proofs.lemmas.List.{length-append, length-take}
@@ -9,7 +9,7 @@ use Rattle.memberlist_wrap.proofs.Cutting.{AreStarts-kept, AreStarts-longer, wor
 abbrev of : List ℕ → List (List ℕ) → Made
 of output words = record { output = output; words = words }
 
--- what is seen once a word and its place were put behind
+-- what is seen after a word and its place were appended
 pub made_kept : (output starts v output' starts' : List ℕ) (n : ℕ) (now : Made) → n ≡ length output → made output starts ≡ now → AreKept (length output) starts
     → output' ≡ output ++ v → starts' ≡ take 3840 (starts ++ n ∷ []) → made output' starts' ≡ of (now.output ++ v) (kept_words now.words v)
 made_kept output starts v output' starts' n now end seen are e f =
@@ -27,7 +27,7 @@ AreKept-kept output v output' starts starts' n end are e some f =
     let up : length output < length output' = omega (arith, ap length e, length-append output v) in
     rw places (AreStarts-kept 3840 (length output) (length output') starts are.0 up, omega (arith, length-take 3840 (starts ++ length output ∷ [])))
 
--- they stay where only bytes came out
+-- they stay if only bytes are output
 pub AreKept-longer : (end more : ℕ) (starts starts' : List ℕ) → AreKept end starts → end ≤ more → starts' ≡ starts → AreKept more starts'
 AreKept-longer end more starts starts' are up same = rw same (AreStarts-longer end more starts are.0 up, are.1)
 
@@ -47,7 +47,7 @@ width_most n many =
     let third : ltb n 1791 ≡ false = le-ltb _ _ (omega arith) in
     rw (first, second, third) refl
 
--- a code is as wide behind all places as behind the words that are kept
+-- a code is as wide after all places as after the words that are kept
 pub width_kept : (output starts : List ℕ) (now : Made) → made output starts ≡ now → width (length starts) ≡ width (length now.words)
 width_kept output starts now seen =
     let size : length now.words ≡ length (take 3839 (words_at output starts)) = ap (λ (m : Made). length m.words) (sym seen) in

@@ -1,4 +1,4 @@
--- Wrappers that were taken off, and what is left to be taken off.
+-- Wrappers that were removed, and those that are left.
 use Rattle.std.proofs.Common.{◌≡◌, ℕ, ◌+◌, ◌-◌, ◌<◌, ◌≤◌, List, [], ◌∷◌, ◌++◌, length, drop, Err, refl, sym, ap, subst, ◌∙◌, arith, append_assoc, inl, inr}
 use Rattle.std.proofs.lemmas.List.{length-append, drop_at}
 use Rattle.swim_wire.specs.declared.fault.WireFault.{WireFault}
@@ -19,7 +19,7 @@ use Rattle.memberlist_wrap.proofs.Unwrapping.{Wrapped-then}
 pub EndsWith-then : (a b c : List ℕ) → EndsWith a b → EndsWith b c → EndsWith a c
 EndsWith-then a b c p q = (p.0 ++ q.0, p.1 ∙ ap (λ (x : List ℕ). p.0 ++ x) q.1 ∙ sym (append_assoc p.0 q.0 c))
 
--- the last bytes are those behind all others
+-- a suffix is what follows the bytes before it
 pub behind_front : (a b : List ℕ) → EndsWith a b → drop (length a - length b) a ≡ b
 behind_front a b p =
     let size : length p.0 ≡ length a - length b = omega (arith, ap length p.1, length-append p.0 b) in
@@ -28,12 +28,12 @@ behind_front a b p =
 pub no_longer : (a b : List ℕ) → EndsWith a b → length b ≤ length a
 no_longer a b p = omega (arith, ap length p.1, length-append p.0 b)
 
--- what is labelled stands behind its label
+-- what is labelled follows its label
 pub off_label : (bytes rest name inner : List ℕ) → bytes ≡ 244 ∷ rest → IsLabelled bytes name inner → EndsWith bytes inner × WrapText 0 label rest inner
 off_label bytes rest name inner begins (inl none) = absurd (none.2 rest begins)
 off_label bytes rest name inner begins (inr some) = ((244 ∷ length name ∷ name, some.1), (name, (some.0, sym begins ∙ some.1)))
 
--- ---- one wrapper more round what is left
+-- ---- one more wrapper around what is left
 
 pub Holds-more : (depth : ℕ) (bytes inner : List ℕ) (w : Wrapper) (rest : List ℕ) (core : Core) → 0 < depth → EndsWith bytes inner → bytes ≡ kind w ∷ rest
     → ((limit : ℕ) → WrapText limit w rest inner) → Holds (depth - 1) inner core → Holds depth bytes core

@@ -1,4 +1,4 @@
--- Bytes are a compression of one list of bytes, and of none where the reading of their codes stops.
+-- Bytes are a compression of one list of bytes, and of none if the reading of their codes stops.
 use Rattle.std.proofs.Common.{◌≡◌, ◌≢◌, ℕ, ◌^◌, ◌<◌, List, [], ◌∷◌, ◌++◌, length, refl, sym, ap, ◌∙◌, arith, append_assoc, inl, inr}
 use Rattle.std.proofs.lemmas.List.{append-nil, length-append}
 use Rattle.memberlist_wrap.specs.Bits.{bits, bits_of}
@@ -17,12 +17,12 @@ AreFull-push (w ∷ words) word full some = (full.0, AreFull-push words word ful
 AreFull-kept : (words : List (List ℕ)) (code : ℕ) (word : List ℕ) → AreFull words → StandsFor words code word → AreFull (kept_words words word)
 AreFull-kept words code word full stands = AreFull-take 3839 (words ++ word ∷ []) (AreFull-push words word full (full_word words code word full stands))
 
--- bits behind words begin with one code
+-- bits after words start with one code
 one_code : (words : List (List ℕ)) (all more more' : List ℕ) (code code' : ℕ) → all ≡ bits (width (length words)) code ++ more → code < 2 ^ width (length words)
     → all ≡ bits (width (length words)) code' ++ more' → code' < 2 ^ width (length words) → (code ≡ code') × (more ≡ more')
 one_code words all more more' code code' e below e' below' = bits_once (width (length words)) code code' more more' below below' (sym e ∙ e')
 
--- What the bits say behind these words up to their end.
+-- What the bits mean after these words up to their end.
 pub record Says (words : List (List ℕ)) (rest out : List ℕ) : Type 0 where
   pub codes : List ℕ
   pub after : List (List ℕ)
@@ -30,7 +30,7 @@ pub record Says (words : List (List ℕ)) (rest out : List ℕ) : Type 0 where
   pub reads : ReadsCodes words codes rest out after left
   pub ends : Ends after left
 
--- what begins with these codes goes on behind them
+-- what starts with these codes continues after them
 pub record GoesOn (words : List (List ℕ)) (rest out whole : List ℕ) : Type 0 where
   pub tail : List ℕ
   pub says : Says words rest tail
@@ -81,7 +81,7 @@ goes_on words (code ∷ codes) all out after rest (code' ∷ codes') whole after
       ]
     ]
 
--- what the bytes are a compression of goes on where the codes have come to
+-- what the bytes are a compression of continues where the codes have come to
 pub Lzw-goes_on : (bytes out : List ℕ) (words : List (List ℕ)) (rest whole : List ℕ) → CodesGive bytes out words rest
     → Lzw bytes whole → GoesOn words rest out whole
 Lzw-goes_on bytes out words rest whole reaches lzw =
@@ -107,7 +107,7 @@ one_lzw bytes a b l m =
 
 -- ---- where the reading stops
 
--- bits that say something begin with a code
+-- bits that mean something start with a code
 says_code : (words : List (List ℕ)) (rest : List ℕ) (codes out : List ℕ) (after : List (List ℕ)) (left : List ℕ)
     → ReadsCodes words codes rest out after left → Ends after left
     → (code : ℕ) × (more : List ℕ) × NextCode words rest code more
@@ -128,7 +128,7 @@ too_few words rest out few says =
     let code = says_code words rest says.codes out says.after says.left says.reads says.ends in
     omega (arith, ap length code.2.is, length-append (bits (width (length words)) code.0) code.1, length-bits (width (length words)) code.0)
 
--- the first code is the last, and few bits follow; or it begins anew; or it stands for a word
+-- the first code is the last, and few bits follow; or it resets the dictionary; or it means a word
 first : (words : List (List ℕ)) (rest : List ℕ) (codes out : List ℕ) (after : List (List ℕ)) (left : List ℕ) (code : ℕ) (more : List ℕ)
     → NextCode words rest code more → ReadsCodes words codes rest out after left → Ends after left → (P : Type 0)
     → (code ≡ 257 → length more < 8 → P) → (code ≡ 256 → P) → ((word : List ℕ) → StandsFor words code word → P) → P
@@ -193,7 +193,7 @@ within_large limit fault bytes why is out lzw =
     let past = too_large limit fault bytes why is in
     omega (arith, ap length on.is, length-append why.out on.tail)
 
--- what is refused is no compression within the limit
+-- what is refused is not a compression within the limit
 pub no_lzw_within : (limit : ℕ) (fault : WrapFault) (bytes : List ℕ) → ExplainsLzw limit fault bytes → (out : List ℕ) → Lzw bytes out → limit < length out
 no_lzw_within limit TooLarge bytes why out lzw = within_large limit TooLarge bytes why refl out lzw
 no_lzw_within limit Ended bytes why out lzw = absurd (no_lzw limit Ended bytes why (λ e. cc) out lzw)

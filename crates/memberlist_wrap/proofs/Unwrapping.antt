@@ -1,4 +1,4 @@
--- Wrappers round bytes: that there is one way to take them off, and what refusals rule out.
+-- Wrappers around bytes: there is one way to remove them, and what refusals rule out.
 use Rattle.std.proofs.Common.{◌≡◌, ◌≢◌, ℕ, ◌+◌, ◌-◌, ◌≤◌, List, [], ◌∷◌, ◌++◌, length, take, drop, refl, sym, ap, subst, ◌∙◌, arith, inl, inr}
 use Rattle.std.proofs.lemmas.List.{length-append, take_at, drop_at}
 use Rattle.swim_wire.proofs.Compressions.{one_compression, whole_lacks}
@@ -37,7 +37,7 @@ same_kind label compression e = absurd (omega arith)
 same_kind label checksum e = absurd (omega arith)
 same_kind label label e = refl
 
--- bytes that begin with a wrapper begin with no other one
+-- bytes that start with a wrapper start with no other one
 pub one_wrapper : (w v : Wrapper) (bytes rest rest' : List ℕ) → bytes ≡ kind w ∷ rest → bytes ≡ kind v ∷ rest' → (w ≡ v) × (rest ≡ rest')
 one_wrapper w v bytes rest rest' e f =
     let parts = number_heads (kind w) (kind v) rest rest' (sym e ∙ f) in
@@ -50,7 +50,7 @@ pub Wrapped-then : (limit : ℕ) (ws vs : List Wrapper) (bytes mid inner : List 
 Wrapped-then limit [] vs bytes mid inner p q = rw p q
 Wrapped-then limit (w ∷ ws) vs bytes mid inner p q = (p.0, p.1, p.2, p.3, Wrapped-then limit ws vs p.1 mid inner p.4 q)
 
--- What wraps a message goes on where the wrappers have come to.
+-- What wraps a message continues where the wrappers have come to.
 pub record GoesOn (n : ℕ) (ws : List Wrapper) (inner : List ℕ) (all : List Wrapper) (message : List ℕ) : Type 0 where
   pub others : List Wrapper
   pub is : all ≡ ws ++ others
@@ -88,7 +88,7 @@ one_message m n bytes ws vs a b p q =
     append-nil [] = refl
     append-nil (w ∷ l) = ap (λ (o : List Wrapper). w ∷ o) (append-nil l)
 
--- ---- what stands in no wrapper
+-- ---- what is in no wrapper
 
 no_checksum : (fault : WrapFault) (rest inner : List ℕ) → ChecksumFails fault rest → CheckedText rest inner → ⊥
 no_checksum Ended rest inner fails text = omega (arith, ap length text.text, length-append text.digits inner, text.size)
@@ -110,7 +110,7 @@ no_checksum Memory rest inner fails text = fails
 no_label : (fault : WrapFault) (rest inner : List ℕ) → LabelFails fault rest → WrapText 0 label rest inner → ⊥
 no_label fault rest inner fails text = lacks_text fails.0 (244 ∷ rest) text.0 inner fails.1 text.1
 
--- a wrapper that fails within a limit stands round nothing within it
+-- a wrapper that fails within a limit contains nothing within it
 no_inner : (limit : ℕ) (fault : WrapFault) (w : Wrapper) (rest inner : List ℕ) → WrapperFails limit fault w rest → WrapText limit w rest inner → ⊥
 no_inner limit fault compression rest inner (inl no_map) text = whole_lacks rest no_map.0 no_map.1 text.packed text.map
 no_inner limit fault compression rest inner (inr no_lzw_in) text =
@@ -120,7 +120,7 @@ no_inner limit fault compression rest inner (inr no_lzw_in) text =
 no_inner limit fault checksum rest inner fails text = no_checksum fault rest inner fails text
 no_inner limit fault label rest inner fails text = no_label fault rest inner fails text
 
--- one that fails for another cause than the limit stands round nothing
+-- one that fails for another cause than the limit contains nothing
 no_inner_at_all : (limit any : ℕ) (fault : WrapFault) (w : Wrapper) (rest inner : List ℕ) → fault ≢ TooLarge
     → WrapperFails limit fault w rest → WrapText any w rest inner → ⊥
 no_inner_at_all limit any fault compression rest inner other (inl no_map) text = whole_lacks rest no_map.0 no_map.1 text.packed text.map
@@ -132,7 +132,7 @@ no_inner_at_all limit any fault label rest inner other fails text = no_label fau
 
 -- ---- what a refusal rules out
 
--- a message in so many wrappers has none that fails
+-- a message in this many wrappers has none that fails
 fails_within : (depth limit : ℕ) (fault : WrapFault) (inner : List ℕ) (others : List Wrapper) (message : List ℕ) → FailsHere depth limit fault inner
     → length others ≤ depth → Wrapped limit others inner message → IsBare message → length message ≤ limit → ⊥
 fails_within depth limit fault inner [] message (deep w rest is none name) few wrapped bare short = bare w rest (sym wrapped ∙ is)

@@ -1,4 +1,4 @@
--- What a refusal says of bytes in wrappers.
+-- What a refusal says about bytes in wrappers.
 use Rattle.std.specs.Prelude.{◌≡◌, ◌⊎◌, ℕ, ◌-◌, ◌<◌, ◌≤◌, List, ◌∷◌, ◌++◌, length, Err}
 use Rattle.byteorder.specs.Endian.{big_number}
 use Rattle.swim_wire.specs.declared.fault.WireFault.{WireFault}
@@ -14,8 +14,8 @@ use Rattle.memberlist_wrap.specs.Fault.{ExplainsLzw}
 use Rattle.memberlist_wrap.specs.Wrapping.{Wrapper, kind, Wrapped, IsBare}
 use Rattle.memberlist_wrap.specs.Wrapping.Wrapper.{compression, checksum, label}
 
--- Why the map of a compression is none. Its one number is `Algo`, and its `Buf` may be as long as
--- all the bytes.
+-- Why the map of a compression is invalid. Its one number is `Algo`, and its `Buf` may be as long
+-- as all the bytes.
 abbrev pub fault_of_map : WireFault → WrapFault
 fault_of_map wire.Ended = Ended
 fault_of_map wire.TooLong = Ended
@@ -24,7 +24,8 @@ fault_of_map wire.OutOfRange = BadAlgo
 fault_of_map wire.Memory = Memory
 fault_of_map cause = BadMap
 
--- the map is none, for this cause, or it has something else than a compression within the limit
+-- the map is invalid, for this cause, or it holds something else than a compression within the
+-- limit
 abbrev pub CompressionFails : ℕ → WrapFault → List ℕ → Type 0
 CompressionFails limit fault bytes =
     ((cause : WireFault) × (whole_compression bytes ≡ Err cause) × (fault ≡ fault_of_map cause))
@@ -37,25 +38,25 @@ ChecksumFails BadChecksum bytes = (digits : List ℕ) × (inner : List ℕ) × (
     × (bytes ≡ digits ++ inner) × (¬ IsCrc inner (big_number 4 digits))
 ChecksumFails fault bytes = ⊥
 
--- how it is told that a label is none
+-- how an invalid label is reported
 abbrev pub fault_of_label : LabelFault → WrapFault
 fault_of_label labels.Ended = Ended
 fault_of_label labels.Empty = BadLabel
 
--- with its first byte it is no label, for this cause
+-- with its first byte it is not a label, for this cause
 abbrev pub LabelFails : WrapFault → List ℕ → Type 0
 LabelFails fault bytes =
     (cause : LabelFault) × LabelCause cause (kind label ∷ bytes) × (fault ≡ fault_of_label cause)
 
--- what stands behind the first byte of the wrapper is not its, for this reason
+-- what follows the first byte of the wrapper does not belong to it, for this reason
 abbrev pub WrapperFails : ℕ → WrapFault → Wrapper → List ℕ → Type 0
 WrapperFails limit fault compression bytes = CompressionFails limit fault bytes
 WrapperFails limit fault checksum bytes = ChecksumFails fault bytes
 WrapperFails limit fault label bytes = LabelFails fault bytes
 
--- Why the bytes are no message where so many wrappers more are taken off: there is a wrapper, and
--- none is taken off; there is one, and what stands behind its first byte is not its; or there is
--- none, and they are too long.
+-- Why bytes are not a message if this many more wrappers may be removed: there is a wrapper, and
+-- none may be removed; there is one, and what follows its first byte does not belong to it; or
+-- there is none, and the bytes are too long.
 pub data FailsHere (depth limit : ℕ) (fault : WrapFault) (bytes : List ℕ) : Type 0 where
   deep : (w : Wrapper) (rest : List ℕ) → bytes ≡ kind w ∷ rest → depth ≡ 0 → fault ≡ TooDeep
       → FailsHere depth limit fault bytes
@@ -63,7 +64,7 @@ pub data FailsHere (depth limit : ℕ) (fault : WrapFault) (bytes : List ℕ) : 
       → WrapperFails limit fault w rest → FailsHere depth limit fault bytes
   large : IsBare bytes → limit < length bytes → fault ≡ TooLarge → FailsHere depth limit fault bytes
 
--- What a refusal says of bytes: they are wrappers, at most depth, round bytes that fail so.
+-- What a refusal says about bytes: they are wrappers, at most depth, around bytes that fail so.
 pub record ExplainsIn (depth limit : ℕ) (fault : WrapFault) (bytes : List ℕ) : Type 0 where
   pub wrappers : List Wrapper
   pub inner : List ℕ
@@ -71,8 +72,8 @@ pub record ExplainsIn (depth limit : ℕ) (fault : WrapFault) (bytes : List ℕ)
   pub wrapped : Wrapped limit wrappers bytes inner
   pub fails : FailsHere (depth - length wrappers) limit fault inner
 
--- Where memory is asked for: behind wrappers, at most depth, stands a message within the limit, or
--- a compression that may be taken off.
+-- When memory is allocated: after wrappers, at most depth, there is a message within the limit, or
+-- a compression that may be removed.
 pub record AsksMemory (depth limit : ℕ) (bytes : List ℕ) : Type 0 where
   pub wrappers : List Wrapper
   pub inner : List ℕ

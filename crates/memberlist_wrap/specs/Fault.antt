@@ -4,7 +4,7 @@ use Rattle.memberlist_wrap.specs.declared.fault.WrapFault.{WrapFault}
 use Rattle.memberlist_wrap.specs.declared.fault.WrapFault.TheVariants.{Ended, Trailing, BadCode, BadChecksum, BadMap, BadAlgo, BadLabel, TooLarge, TooDeep, Memory}
 use Rattle.memberlist_wrap.specs.Lzw.{NextCode, width, StandsFor, CodesGive}
 
--- the number by which reports name a fault
+-- the number of a fault in reports
 abbrev pub wrap_number : WrapFault → ℕ
 wrap_number Ended = 40
 wrap_number Trailing = 41
@@ -19,8 +19,8 @@ wrap_number Memory = 49
 
 -- ---- a compression
 
--- Where the reading of codes stops: too few bits for one more; the last code and 8 bits or more
--- behind it; a code that stands for nothing; or more bytes than the limit.
+-- Where the reading of codes stops: too few bits for another one; the last code and 8 bits or more
+-- after it; a code that is not in the dictionary; or more bytes than the limit.
 abbrev pub CodesStopAt : ℕ → WrapFault → List ℕ → List (List ℕ) → List ℕ → Type 0
 CodesStopAt limit Ended out words rest = length rest < width (length words)
 CodesStopAt limit Trailing out words rest = (more : List ℕ) × NextCode words rest 257 more
@@ -31,7 +31,7 @@ CodesStopAt limit BadCode out words rest =
 CodesStopAt limit TooLarge out words rest = limit < length out
 CodesStopAt limit fault out words rest = ⊥
 
--- what a refusal says of bytes that are no compression within the limit
+-- what a refusal says about bytes that are not a compression within the limit
 pub record ExplainsLzw (limit : ℕ) (fault : WrapFault) (bytes : List ℕ) : Type 0 where
   pub out : List ℕ
   pub words : List (List ℕ)

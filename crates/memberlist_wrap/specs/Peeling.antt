@@ -1,4 +1,4 @@
--- What is left once the outer wrapper, or all up to a compression, are taken off.
+-- What is left once the outer wrapper, or all up to a compression, are removed.
 use Rattle.std.specs.Prelude.{◌≡◌, ℕ, ◌+◌, ◌<◌, ◌≤◌, List, ◌∷◌, ◌++◌, length}
 use Rattle.memberlist_wrap.specs.declared.fault.WrapFault.{WrapFault}
 use Rattle.memberlist_wrap.specs.declared.outer.Outer.{Outer}
@@ -10,11 +10,11 @@ use Rattle.memberlist_wrap.specs.Fault.{ExplainsLzw}
 use Rattle.memberlist_wrap.specs.Lzw.{Lzw}
 use Rattle.memberlist_wrap.specs.Wrapping.{Wrapper, kind, WrapText, Wrapped, IsBare, UnwrapsIn}
 
--- these bytes are the last of those
+-- the second bytes are a suffix of the first
 abbrev pub EndsWith : List ℕ → List ℕ → Type 0
 EndsWith bytes back = (front : List ℕ) × (bytes ≡ front ++ back)
 
--- what the outer wrapper stands round, where there is one and it may be taken off
+-- what the outer wrapper contains, if there is one and it may be removed
 abbrev pub Shows : ℕ → List ℕ → Outer → Type 0
 Shows depth bytes outers.Nothing = IsBare bytes
 Shows depth bytes (outers.Layer inner) =
@@ -23,7 +23,7 @@ Shows depth bytes (outers.Layer inner) =
     × ((limit : ℕ) → WrapText limit w rest inner.now))
 Shows depth bytes (outers.Compression map) = (0 < depth) × (bytes ≡ 9 ∷ map.now)
 
--- what the wrappers up to the first compression stand round
+-- what the wrappers up to the first compression contain
 abbrev pub Holds : ℕ → List ℕ → Core → Type 0
 Holds depth bytes (cores.Message message) =
     EndsWith bytes message.now × IsBare message.now
@@ -40,7 +40,7 @@ pub record PackedUnwraps (depth limit : ℕ) (packed message : List ℕ) : Type 
   pub within : length inner ≤ limit
   pub unwraps : UnwrapsIn depth limit inner message
 
--- The compressed bytes are no compression within the limit, or one of bytes that fail so.
+-- The compressed bytes are not a compression within the limit, or one of bytes that fail so.
 pub data PackedFails (depth limit : ℕ) (fault : WrapFault) (packed : List ℕ) : Type 0 where
   here : ExplainsLzw limit fault packed → PackedFails depth limit fault packed
   inside : (inner : List ℕ) → Lzw packed inner → length inner ≤ limit

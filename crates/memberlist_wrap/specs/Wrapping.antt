@@ -1,4 +1,4 @@
--- Wrappers round messages: checksums, compressions and labels.
+-- Wrappers around messages: checksums, compressions and labels.
 use Rattle.std.specs.Prelude.{◌≡◌, ◌≢◌, ℕ, ◌≤◌, List, [], ◌∷◌, ◌++◌, length}
 use Rattle.byteorder.specs.Endian.{big_number}
 use Rattle.swim_wire.specs.Compression.{CompressionText}
@@ -6,11 +6,11 @@ use Rattle.memberlist_cipher.specs.Label.{IsLabelText}
 use Rattle.memberlist_wrap.specs.Crc.{IsCrc}
 use Rattle.memberlist_wrap.specs.Lzw.{Lzw}
 
--- What stands round a message: a compression, a checksum or a label.
+-- A wrapper around a message: a compression, a checksum or a label.
 pub data Wrapper : Type 0 where
   compression checksum label : Wrapper
 
--- the byte that a wrapper begins with
+-- the byte that a wrapper starts with
 abbrev pub kind : Wrapper → ℕ
 kind compression = 9
 kind checksum = 12
@@ -30,13 +30,13 @@ pub record CheckedText (bytes inner : List ℕ) : Type 0 where
   pub crc : IsCrc inner (big_number 4 digits)
   pub text : bytes ≡ digits ++ inner
 
--- what stands behind a wrapper's first byte, round these bytes
+-- what follows a wrapper's first byte, around these bytes
 abbrev pub WrapText : ℕ → Wrapper → List ℕ → List ℕ → Type 0
 WrapText limit compression rest inner = CompressedText limit rest inner
 WrapText limit checksum rest inner = CheckedText rest inner
 WrapText limit label rest inner = (name : List ℕ) × IsLabelText (kind label ∷ rest) name inner
 
--- The bytes are these wrappers, the outer one first, round the inner bytes. Nothing compressed has
+-- The bytes are these wrappers, the outer one first, around the inner bytes. Nothing compressed has
 -- more bytes than the limit.
 abbrev pub Wrapped : ℕ → List Wrapper → List ℕ → List ℕ → Type 0
 Wrapped limit [] bytes inner = bytes ≡ inner
@@ -44,11 +44,11 @@ Wrapped limit (w ∷ ws) bytes inner =
     (rest : List ℕ) × (mid : List ℕ) × (bytes ≡ kind w ∷ rest) × WrapText limit w rest mid
     × Wrapped limit ws mid inner
 
--- the bytes begin with no wrapper
+-- the bytes do not start with a wrapper
 abbrev pub IsBare : List ℕ → Type 0
 IsBare bytes = (w : Wrapper) (rest : List ℕ) → bytes ≢ kind w ∷ rest
 
--- The bytes are these wrappers round the message, and neither it nor anything compressed is longer
+-- The bytes are these wrappers around the message, and neither it nor anything compressed is longer
 -- than the limit.
 pub record Wraps (limit : ℕ) (ws : List Wrapper) (bytes message : List ℕ) : Type 0 where
   pub wrapped : Wrapped limit ws bytes message

@@ -10,7 +10,7 @@ use std::alloc::{AllocError, AllocFailed};
 use swim_wire::WireFault;
 use thiserror::Error;
 
-/// Why wrapped bytes were refused. Each has a number, by which reports name it.
+/// Why wrapped bytes were refused. Each reason has a number, which reports show.
 #[derive(Clone, Copy, Debug, PartialEq, Eq, Error)]
 pub enum WrapFault {
     /// The bytes of a wrapper or of a compression end too soon.
@@ -19,34 +19,34 @@ pub enum WrapFault {
     /// There are bytes after the end of a compression or of its map.
     #[error("there are bytes after the end")]
     Trailing,
-    /// A code of a compression stands for no word yet.
+    /// A code of a compression is not in the dictionary yet.
     #[error("a code stands for nothing")]
     BadCode,
-    /// The bytes behind a checksum have another one.
+    /// The bytes after a checksum have a different one.
     #[error("the checksum is another")]
     BadChecksum,
-    /// What stands behind the first byte of a compression is not its map.
+    /// The first byte of a compression is not followed by its map.
     #[error("not the map of a compression")]
     BadMap,
     /// A compression that is not LZW.
     #[error("an unknown compression")]
     BadAlgo,
-    /// A label without a byte.
+    /// A label of no bytes.
     #[error("the label is empty")]
     BadLabel,
-    /// What comes out is longer than the limit.
+    /// The result is longer than the limit.
     #[error("what is wrapped is too large")]
     TooLarge,
-    /// There are more wrappers around each other than are taken off.
+    /// There are more nested wrappers than are removed.
     #[error("too many wrappers around each other")]
     TooDeep,
-    /// A growth of memory was refused.
+    /// Out of memory.
     #[error("out of memory")]
     Memory,
 }
 
 impl WrapFault {
-    /// The number by which reports name the fault.
+    /// The number of the fault in reports.
     pub fn number(&self) -> u32
         ensures { result ≡ wrap_number self.now }
     {

@@ -1,15 +1,15 @@
-//! What memberlist's transport wraps around messages, taken off: checksums, compression, labels.
+//! Removes what memberlist's transport wraps around messages: checksums, compression, labels.
 //!
 //! | module | subject |
 //! |---|---|
 //! | `fault` | why bytes are refused |
 //! | `crc` | the checksum before a packet |
-//! | `held_bits` | bits that were read and not yet used |
-//! | `words` | the words that codes stand for |
+//! | `held_bits` | bits that were read and are not used yet |
+//! | `words` | the dictionary |
 //! | `lzw` | compressed bytes |
 //! | `outer` | the outer wrapper of bytes |
-//! | `wrappers` | wrappers around each other |
-//! | `laws` | what holds of the definitions |
+//! | `wrappers` | nested wrappers |
+//! | `laws` | what holds for the definitions |
 #![tactic(auto)]
 
 mod crc;

@@ -1,4 +1,4 @@
-//! Bytes that were compressed as Go's compress/lzw does, the lowest bit first and 8 bits a literal.
+//! Decompresses what Go's compress/lzw writes, the lowest bit first and literals of 8 bits.
 
 ghost use Rattle.std.specs.Prelude.{◌≡◌, ◌≢◌, ◌<◌, ◌≤◌, List, ℕ, length, IfOk, IfErr};
 ghost use Rattle.memberlist_wrap.specs.Fault.{ExplainsLzw};
@@ -9,33 +9,35 @@ use crate::held_bits::HeldBits;
 use crate::words::Words;
 use std::alloc::Global;
 
-/// The code after which the words begin anew.
+/// The code that resets the dictionary.
 const CLEAR: u32 = 256;
 
 /// The last code.
 const END: u32 = 257;
 
-/// What the bytes are a compression of, if that has at most `limit` bytes. Beside it the decoder
-/// takes 30,720 bytes of memory, for the places of 3,840 words.
+/// Decompresses the bytes, if the result has at most `limit` bytes. Besides the result the decoder
+/// takes 30,720 bytes of memory, for the places of 3,840 words of the dictionary.
 ///
-/// Source: Go's compress/lzw, order LSB and 8 bits a literal; that nothing may follow is own.
+/// Source: Go's compress/lzw, order LSB and literals of 8 bits; that nothing may follow is this
+/// project's rule.
 ///
 /// # Errors
 ///
-/// The first of these that comes as the codes are read: `Ended` where the bits end before the last
-/// code, `Trailing` where a byte follows it, `BadCode` where a code stands for no word, `TooLarge`
-/// where its word does not fit within the limit. `Memory` where a growth was refused.
+/// The first of these as the codes are read: `Ended` if the bits end before the last code,
+/// `Trailing` if a byte follows it, `BadCode` if a code is not in the dictionary, `TooLarge` if its
+/// word does not fit within the limit. `Memory` if out of memory.
 pub fn lzw_decode(alloc: Global, bytes: &[u8], limit: usize) -> Result<Vec<u8>, WrapFault>
     ensures decodes { IfOk result (λ out. Lzw bytes.now out.items) }
     ensures within { IfOk result (λ out. length out.items ≤ limit) }
 
-    // Refused for another cause than memory they are no compression within the limit, and the
-    // refusal says why.
+    // If they are refused, and not because memory ran out, they are not a compression within the
+    // limit, and the refusal says why.
     ensures limits { IfErr result (λ fault. fault ≢ WrapFault.Memory
         → (out : List ℕ) → Lzw bytes.now out → limit < length out) }
     ensures explains { IfErr result (λ fault. fault ≢ WrapFault.Memory
         → ExplainsLzw limit fault bytes.now) }
-    // Refused for another cause than memory and the limit, they are no compression at all.
+    // If they are refused, and not because of memory or the limit, they are not a compression at
+    // all.
     ensures refuses { IfErr result (λ fault. fault ≢ WrapFault.Memory → fault ≢ WrapFault.TooLarge
         → (out : List ℕ) → ¬ Lzw bytes.now out) }
 {

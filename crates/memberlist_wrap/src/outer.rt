@@ -15,18 +15,18 @@ const COMPRESSION: u8 = 9;
 /// The first byte of a checksum.
 const CHECKSUM: u8 = 12;
 
-/// What the outer wrapper of bytes stands round.
+/// What the outer wrapper of bytes contains.
 #[derive(Clone, Copy)]
 pub(crate) enum Outer<'a> {
     /// There is no wrapper.
     Nothing,
-    /// What a checksum or a label stands round.
+    /// What a checksum or a label contains.
     Layer(&'a [u8]),
     /// The map of a compression.
     Compression(&'a [u8]),
 }
 
-/// What the outer wrapper of the bytes stands round, if so many wrappers may be taken off.
+/// What the outer wrapper of the bytes contains, if `depth` allows removing it.
 pub(crate) fn take_off(bytes: &[u8], depth: u8) -> Result<Outer, WrapFault>
     ensures ok { IfOk result (Shows depth bytes.now) }
     ensures err { IfErr result (λ fault. (limit : ℕ) → FailsHere depth limit fault bytes.now) }
@@ -52,14 +52,14 @@ pub(crate) fn take_off(bytes: &[u8], depth: u8) -> Result<Outer, WrapFault>
     }
 }
 
-/// Whether a wrapper begins with this byte.
+/// Whether a wrapper starts with this byte.
 fn is_kind(first: u8) -> bool
     ensures { IsTrue result ↔ ((first ≡ 9) ⊎ (first ≡ 12) ⊎ (first ≡ 244)) }
 {
     first == COMPRESSION || first == CHECKSUM || first == LABEL
 }
 
-/// What stands behind a checksum, if it is that checksum's.
+/// The bytes after a checksum, if the checksum is theirs.
 fn checked(bytes: &[u8]) -> Result<&[u8], WrapFault>
     ensures ok { IfOk result (λ inner. CheckedText bytes.now inner.now) }
     ensures err { IfErr result (λ fault. ChecksumFails fault bytes.now) }

@@ -1,4 +1,4 @@
-//! What clauses do not say: outside vectors, texts, and each public call on its happy path.
+//! What clauses do not cover: outside vectors, texts, and each public call on its happy path.
 
 mod compressions;
 mod faults;
@@ -8,14 +8,14 @@ use std::alloc::Global;
 use std::process::Abort;
 use std::test::Fail;
 
-/// A gossip packet of a running memberlist, a checksum round a compression, and the compound in it.
+/// A gossip packet of a running memberlist, a checksum around a compression around a compound.
 const GOSSIP: &[u8] =
     b"\x0c\"&\x9e\xec\x09\x82\xa4Algo\x00\xa3Buf\xda\x00i\x00\x0f\x08\x00\xa0\x83 \x01C\xa4\x82\x90!#\x87\xd4\x1f\x00\x05\x04\xacJ\xe2fL\x189n\xc2\xd0I\xf3\xc6M\x00RM\xca\xd0\x09\x03\x8c\x94\x937d\xca\x88\"#\x83\x14\x947r\xe84\xfb\xa0`\x94\x959nL\x05\x88\x08\xa0\xe7\xc1\x84\x0b\x1b>,\x10`b\xc5\x8b\x197v\xfc\x18rd\xc9\x93)W\xc6p\x09S&M\x9b8u\xf2\xec\x19\x10";
 
 const COMPOUND: &[u8] =
     b"\x07\x02\x00:\x00:\x04\x86\xa4Addr\xa4\x7f\x00\x05\x02\xabIncarnation\x01\xa4Meta\xc0\xa4Node\xa2d2\xa4Port\xcd\x1f\x0a\xa3Vsn\xa6\x01\x05\x02\x00\x00\x00\x04\x86\xa4Addr\xa4\x7f\x00\x05\x01\xabIncarnation\x01\xa4Meta\xc0\xa4Node\xa2d1\xa4Port\xcd\x1f\x0a\xa3Vsn\xa6\x01\x05\x02\x00\x00\x00";
 
-/// A gossip packet of it with a checksum alone.
+/// A gossip packet from it with only a checksum.
 const DEAD: &[u8] = b"\x0c\xbfj\x091\x05\x83\xa4From\xa2d3\xabIncarnation\x01\xa4Node\xa2d3";
 
 /// `banana bandana` as Go's compress/lzw writes it, in memberlist's map.
@@ -82,7 +82,7 @@ fn four_wrappers_are_taken_off_and_no_five(rt: HostRuntime) -> Result<(), Fail> 
     let mut bytes = b"\xf4\x01x\xf4\x01x\xf4\x01x\xf4\x01x".to_vec(rt.alloc())?;
     bytes.push(4)?;
     assert_eq!(rt; unwrap(rt.alloc(), &bytes, 1)?.as_slice(), [4].as_slice());
-    // A label that is cut short is not looked at where it is the fifth wrapper.
+    // A label that is cut short is not checked if it is the fifth wrapper.
     bytes[12] = 244;
     assert_eq!(rt; refusal(&rt, rt.alloc(), &bytes, 1)?, WrapFault::TooDeep);
     // Three labels and two layers of compression.

@@ -1,4 +1,4 @@
-//! The words that codes stand for.
+//! The dictionary.
 
 ghost use Rattle.std.specs.Prelude.{◌≡◌, ℕ, List, [], ◌∷◌, ◌++◌, ◌+◌, ◌-◌, ◌<◌, ◌≤◌, ◌⊎◌, length, take, drop, IfOk, IfErr, IsErrOf, IsOkUnless, OnOk, OnErr, vec_len};
 ghost use Rattle.memberlist_wrap.specs.Lzw.{kept_words, width, StandsFor};
@@ -8,14 +8,14 @@ use crate::WrapFault;
 use std::alloc::Global;
 use std::marker::Model;
 
-/// The first code that stands for a word.
+/// The first code of a word of the dictionary.
 const FIRST_WORD: u32 = 258;
 
-/// The most places of words: those of the 3,838 words for which a code may stand, of the word whose
-/// first byte ends the last of them, and of what comes behind it.
+/// The most places of words: those of the 3,838 words that a code can name, of the word whose first
+/// byte ends the last of them, and of what follows it.
 const MOST_STARTS: usize = 3840;
 
-/// What came out so far, and where in it the words since the last clear code begin.
+/// The output so far, and where in it the words since the last clear code start.
 #[derive(Drop)]
 pub(crate) struct Words {
     output: Vec<u8>,
@@ -31,7 +31,7 @@ impl Model for Words {
 }
 
 impl Words {
-    /// Nothing came out, and there are no words.
+    /// No output, and no words.
     pub(crate) fn new(alloc: Global) -> Words
         ensures { result ≡ record { output = []; words = [] } }
     {
@@ -48,14 +48,14 @@ impl Words {
         width_after(self.starts.len())
     }
 
-    /// Forgets the words.
+    /// Resets the dictionary.
     pub(crate) fn clear(&mut self)
         ensures { self.new ≡ record self.old { words = [] } }
     {
         self.starts.clear();
     }
 
-    /// What came out.
+    /// The output.
     pub(crate) fn into_output(self) -> Vec<u8>
         ensures { result.items ≡ self.output }
     {
@@ -63,7 +63,7 @@ impl Words {
         output
     }
 
-    /// Appends the word that the code stands for.
+    /// Appends the word of the code.
     pub(crate) fn append(&mut self, code: u32, limit: usize) -> Result<(), WrapFault>
         requires no_sign { (code < 256) ⊎ (258 ≤ code) }
         requires narrow { code < 4096 }
@@ -156,7 +156,7 @@ fn width_after(words: usize) -> u32
     }
 }
 
-/// Where the word after this place begins, or the end.
+/// Where the word after this place starts, or the end.
 fn start_after(starts: &[usize], place: usize, end: usize) -> usize
     requires { place < length starts.now }
     ensures { result ≡ next_start end (drop (place + 1) starts.now) }
@@ -167,7 +167,7 @@ fn start_after(starts: &[usize], place: usize, end: usize) -> usize
     }
 }
 
-/// Puts a place behind those that are kept, as long as they are not the most.
+/// Appends a place to those that are kept, unless they are the most already.
 fn keep_start(starts: &mut Vec<usize>, start: usize) -> Result<(), WrapFault>
     requires { vec_len starts.old ≤ 3840 }
     ensures ok { OnOk result (starts.new.items ≡ take 3840 (starts.old.items ++ start ∷ [])) }
@@ -180,7 +180,7 @@ fn keep_start(starts: &mut Vec<usize>, start: usize) -> Result<(), WrapFault>
     Ok(())
 }
 
-/// Appends a part and the byte after it.
+/// Appends a copy of a part and the byte after it.
 fn copy_again(output: &mut Vec<u8>, from: usize, to: usize) -> Result<(), WrapFault>
     requires some { from < to }
     requires inside { to ≤ vec_len output.old }

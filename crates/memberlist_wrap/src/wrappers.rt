@@ -1,4 +1,4 @@
-//! Wrappers around each other, taken off.
+//! Removes nested wrappers.
 
 ghost use Rattle.std.specs.Prelude.{◌≡◌, ◌≢◌, ◌≤◌, ℕ, List, length, drop, IfSome, IfOk, IfErr, IsErrOf};
 ghost use Rattle.memberlist_wrap.specs.Explaining.{ExplainsIn, AsksMemory};
@@ -10,61 +10,60 @@ use crate::{WrapFault, lzw_decode};
 use std::alloc::Global;
 use swim_wire::decode_compression;
 
-/// The most wrappers around each other that are taken off.
+/// The most nested wrappers that are removed.
 pub const MAX_DEPTH: u8 = 4;
 
-/// What checksums and labels stand round.
+/// What checksums and labels contain.
 #[derive(Clone, Copy)]
 enum Core<'a> {
     /// A message.
     Message(&'a [u8]),
-    /// A compression: its map, and how many wrappers may stand in it.
+    /// A compression: its map, and how many wrappers may be in it.
     Compression(&'a [u8], u8),
 }
 
-/// The message that the bytes wrap: their checksums, labels and compressions taken off, in whatever
-/// order they stand. Bytes that begin with no wrapper are the message. Neither the message nor
-/// anything compressed has more than `limit` bytes. Each layer's memory is freed before that of the
-/// next is asked for.
+/// The message in the wrapped bytes: checksums, labels and compressions are removed, in any order.
+/// Bytes that do not start with a wrapper are the message. Neither the message nor anything
+/// compressed has more than `limit` bytes. Each layer's memory is freed before the next one's is
+/// allocated.
 ///
 /// Source: memberlist's net.go, util.go and label.go; the limits, and that nothing may follow, are
-/// own.
+/// this project's rules.
 ///
 /// # Errors
 ///
-/// The first of these that holds, from the outer wrapper on: `TooDeep` where there are more than 4
-/// wrappers, `Ended` where one is cut short, `BadChecksum` where a checksum is another one's,
-/// `BadLabel` where a label is empty, `BadMap`, `BadAlgo` and `Trailing` where the map of a
-/// compression is none, is of an unknown one or is followed by bytes, and those of `lzw_decode`.
-/// `TooLarge` where what is compressed, or the message, has more than `limit` bytes. `Memory` where
-/// a growth was refused: memory is asked for once the wrappers up to a compression, or to the
-/// message, are taken off.
+/// The first of these that holds, from the outer wrapper on: `TooDeep` if there are more than 4
+/// wrappers, `Ended` if one is cut short, `BadChecksum` if a checksum does not match, `BadLabel` if
+/// a label is empty, `BadMap`, `BadAlgo` and `Trailing` if the map of a compression is invalid,
+/// names an unknown compression or is followed by bytes, and those of `lzw_decode`. `TooLarge` if
+/// what is compressed, or the message, has more than `limit` bytes. `Memory` if out of memory:
+/// memory is allocated once the wrappers up to a compression, or to the message, are removed.
 pub fn unwrap(alloc: Global, bytes: &[u8], limit: usize) -> Result<Vec<u8>, WrapFault>
     ensures unwraps { IfOk result (λ message. Unwraps limit bytes.now message.items) }
 
-    // Refused for another cause than memory, they wrap nothing within the limits, and the refusal
-    // says why.
+    // If they are refused, and not because memory ran out, they wrap nothing within the limits, and
+    // the refusal says why.
     ensures limits { IfErr result (λ fault. fault ≢ WrapFault.Memory
         → (message : List ℕ) → ¬ Unwraps limit bytes.now message) }
     ensures explains { IfErr result (λ fault. fault ≢ WrapFault.Memory
         → ExplainsIn 4 limit fault bytes.now) }
-    // Refused for another cause than memory and the limits, they wrap nothing at all.
+    // If they are refused, and not because of memory or the limits, they wrap nothing at all.
     ensures refuses { IfErr result (λ fault. fault ≢ WrapFault.Memory → fault ≢ WrapFault.TooLarge
         → fault ≢ WrapFault.TooDeep
         → (any : ℕ) (ws : List Wrapper) (message : List ℕ) → ¬ Wraps any ws bytes.now message) }
-    // Memory is asked for once the wrappers up to a compression, or to the message, are taken off.
+    // Memory is allocated once the wrappers up to a compression, or to the message, are removed.
     ensures memory { IsErrOf result WrapFault.Memory → AsksMemory 4 limit bytes.now }
 {
     unwrap_slice(alloc, bytes, limit)
 }
 
-/// The message that the bytes wrap, where it stands in them: their checksums and labels taken off.
-/// None where a compression stands among these. It takes no memory.
+/// The message in the wrapped bytes, as a part of them: checksums and labels are removed. `None` if
+/// a compression is among the wrappers. It takes no memory.
 ///
 /// # Errors
 ///
 /// The first of these that holds, from the outer wrapper on: those of [`unwrap`] up to the first
-/// compression, and `TooLarge` where the message has more than `limit` bytes.
+/// compression, and `TooLarge` if the message has more than `limit` bytes.
 pub fn unwrap_in_place(bytes: &[u8], limit: usize) -> Result<Option<&[u8]>, WrapFault>
     ensures unwraps { IfOk result (λ found. IfSome found (λ message.
         Unwraps limit bytes.now message.now)) }
@@ -97,9 +96,8 @@ fn unwrap_slice(alloc: Global, bytes: &[u8], limit: usize) -> Result<Vec<u8>, Wr
     }
 }
 
-/// The message in compressed bytes. These are freed before more is read, and so is what they are a
-/// compression of, if it has another compression in it; if not, it becomes the message where it
-/// stands.
+/// The message in compressed bytes. These are freed before more is read, and so is what they
+/// decompress to, if it contains another compression; if not, it becomes the message in place.
 fn unwrap_packed(
     alloc: Global,
     packed: Vec<u8>,
@@ -125,7 +123,7 @@ fn unwrap_packed(
     }
 }
 
-/// What checksums and labels stand round, at most so many.
+/// What checksums and labels contain, at most `depth` of them.
 fn peel(bytes: &[u8], depth: u8) -> Result<Core, WrapFault>
     ensures ok { IfOk result (Holds depth bytes.now) }
     ensures err { IfErr result (λ fault. (limit : ℕ) → ExplainsIn depth limit fault bytes.now) }

@@ -1,4 +1,4 @@
-//! Checksums and compressed bytes, as Go's hash/crc32 and compress/lzw have them.
+//! Checksums and compressed bytes, as in Go's hash/crc32 and compress/lzw.
 
 use super::BANANA;
 use crate::{WrapFault, crc32, lzw_decode, unwrap};
@@ -36,7 +36,7 @@ fn what_go_compressed_is_decompressed(rt: HostRuntime) -> Result<(), Fail> {
     Ok(())
 }
 
-/// Codes in 9 to 12 bits, as many as there are codes since the last clear code.
+/// Codes of 9 to 12 bits, depending on how many came since the last clear code.
 #[derive(Drop)]
 struct Codes {
     bytes: Vec<u8>,
@@ -94,8 +94,8 @@ fn codes_behind_the_greatest_stand_for_no_more_words(rt: HostRuntime) -> Result<
     Ok(())
 }
 
-/// Words that each have a byte more than the one before, and then the longest again and again:
-/// 100 KB that stand for more than 100 MB.
+/// Words that each have a byte more than the one before, and then the longest again and again: 100
+/// KB that decompress to more than 100 MB.
 #[test]
 fn a_bomb_is_refused_at_the_limit(rt: HostRuntime) -> Result<(), Fail> {
     let mut codes = Codes::new(rt.alloc());
@@ -121,7 +121,7 @@ fn a_great_limit_asks_for_little(rt: HostRuntime) -> Result<(), Fail> {
     Ok(())
 }
 
-/// Codes that begin with 52,000 clear codes: 58,500 bytes that stand for nothing.
+/// Codes that start with 52,000 clear codes: 58,500 bytes that decompress to nothing.
 fn clear_codes(alloc: Global) -> Result<Codes, AllocError> {
     let mut codes = Codes::new(alloc);
     for _ in 0..52_000u32 {
@@ -163,8 +163,9 @@ fn nested(alloc: Global) -> Result<Vec<u8>, AllocError> {
     compression(alloc, codes)
 }
 
-/// While the letters come out, 262,144 bytes are held for them at most, 30,720 for the places of
-/// words, the second compression's 59,300 and the input's 147,000, and nothing else of the first.
+/// While the letters are decompressed, at most 262,144 bytes are used for them, 30,720 for the
+/// places of words, the second compression's 59,300 and the input's 147,000, and nothing else of
+/// the first.
 #[test]
 fn a_compression_in_a_compression_holds_at_most_490_kib(rt: HostRuntime) -> Result<(), Fail> {
     let bytes = nested(rt.alloc())?;

@@ -1,4 +1,4 @@
--- What came out is what the codes so far stand for, and the bits that are held are fewer than the next code has.
+-- The output is what the codes so far mean, and the held bits are fewer than the next code has.
 use Rattle.std.proofs.Common.{◌<◌, ◌≤◌, ◌++◌, length, drop}
 use Rattle.memberlist_wrap.specs.Bits.{bits_of}
 use Rattle.memberlist_wrap.specs.Lzw.{width, CodesGive}
