@@ -1,4 +1,4 @@
--- The one message that a packet has, in the clear or behind a key.
+-- The one message of a packet, in the clear or encrypted under a key.
 use Rattle.std.proofs.Common.{◌≡◌, ◌⊎◌, ◌∙◌, inl, inr, ℕ, List, [], ◌∷◌, Result, Ok, Err, IfErr, refl, ap, sym, subst, get_or, length, length-append, arith}
 use Rattle.std.specs.List.{Contains}
 use Rattle.std.specs.Prelude.{◌≢◌}
@@ -14,7 +14,7 @@ use Rattle.memberlist_transport.specs.declared.message.Message.TheVariants.{Clai
 use Rattle.memberlist_transport.specs.Message.{IsMessage, IsNoMessage}
 use Rattle.memberlist_transport.specs.Packet.{HoldsClear, FailsClear, IsUnclear, Holds, Holds as held, Fails, Fails as failing, IsUnclearResult, HoldsOpened, FailsOpened}
 
--- bytes that are a message are not none
+-- bytes that are a message are not also none
 is_no_other : (bytes : List ℕ) (message : Message) (first : ℕ) → IsMessage bytes message → ¬ IsNoMessage bytes first
 is_no_other bytes (Claims kind copy) first is other = let some = is.0 in let none = other.1 in cc (some, none)
 is_no_other bytes (Claimless kind) first is other = other.2 kind is
@@ -23,12 +23,12 @@ is_no_other bytes Empty first is other = absurd (omega (arith, ap length (sym is
 same_message : (bytes a b : List ℕ) → Unwraps 1048576 bytes a → Unwraps 1048576 bytes b → a ≡ b
 same_message bytes a b one other = (one_message 1048576 1048576 bytes one.wrappers other.wrappers a b one.wraps other.wraps).1
 
--- bytes round no message hold none
+-- bytes around something that is not a message hold none
 pub none_inside : (bytes inner : List ℕ) (fault : PacketFault) → Unwraps 1048576 bytes inner
     → (first : ℕ) × (fault ≡ NoMessage first) × IsNoMessage inner first → FailsClear bytes fault
 none_inside bytes inner fault wraps none = rw none.1 (inner, wraps, none.2)
 
--- bytes that hold no message hold no other
+-- bytes that are said to hold no message hold none
 no_clear : (bytes : List ℕ) (fault : PacketFault) → FailsClear bytes fault → (message : Message) → ¬ HoldsClear bytes message
 no_clear bytes (Wrapped cause) is message holds = is.1 holds.0 holds.1
 no_clear bytes (NoMessage first) is message holds =
@@ -41,7 +41,7 @@ no_clear bytes Memory is message holds = absurd is
 no_unclear : (bytes : List ℕ) → IsUnclear bytes → (message : Message) → ¬ HoldsClear bytes message
 no_unclear bytes unclear message holds = no_clear bytes (NoMessage unclear.0) unclear.2 message holds
 
--- where the result is unclear the bytes are
+-- if the result is unclear, so are the bytes
 pub unclear_bytes : (bytes : List ℕ) (result : Result Message PacketFault) → IfErr result (λ fault. fault ≢ Memory → FailsClear bytes fault)
     → IsUnclearResult result → IsUnclear bytes
 unclear_bytes bytes (Ok message) fails unclear = absurd unclear
@@ -50,7 +50,7 @@ unclear_bytes bytes (Err (NoMessage first)) fails unclear = (first, unclear, fai
 unclear_bytes bytes (Err NoKeyFits) fails unclear = absurd unclear
 unclear_bytes bytes (Err Memory) fails unclear = absurd unclear
 
--- and where it is not they are not
+-- and if it is not, they are not
 clear_bytes : (bytes : List ℕ) (fault : PacketFault) → FailsClear bytes fault → ¬ IsUnclearResult (Err fault) → ¬ IsUnclear bytes
 clear_bytes bytes (Wrapped cause) is clear unclear = is.1 unclear.2.0 unclear.2.1
 clear_bytes bytes (NoMessage first) is clear unclear =
@@ -59,9 +59,9 @@ clear_bytes bytes (NoMessage first) is clear unclear =
 clear_bytes bytes NoKeyFits is clear unclear = absurd is
 clear_bytes bytes Memory is clear unclear = absurd is
 
--- ---- what is answered
+-- ---- the result
 
--- where there is no key, or the bytes are clear
+-- if there is no key, or the bytes are clear
 pub kept : (keys : List (List ℕ)) (bytes : List ℕ) (result : Result Message PacketFault) → (keys ≡ []) ⊎ (¬ IsUnclearResult result)
     → IfErr result (λ fault. fault ≢ Memory → FailsClear bytes fault) → IfErr result (λ fault. fault ≢ Memory → Fails keys bytes fault)
 kept keys bytes (Ok message) plain fails = tt
@@ -69,7 +69,7 @@ kept keys bytes (Err fault) (inl none) fails = λ other. failing.clear (fails ot
 kept keys bytes (Err fault) (inr clear) fails = λ other.
     failing.clear (fails other) (λ unclear. absurd (clear_bytes bytes fault (fails other) clear unclear))
 
--- where a key is tried
+-- if a key is tried
 pub opened : (keys : List (List ℕ)) (bytes : List ℕ) (message : Message) → IsUnclear bytes → HoldsOpened keys bytes message → Holds keys bytes message
 opened keys bytes message unclear holds = held.opened holds.0 unclear holds.1 holds.2
 
@@ -81,7 +81,7 @@ closed keys bytes fault unclear some fails = elim fails [
 
 -- ---- a refused packet has no message
 
--- a keyring without keys opens nothing
+-- a keyring without keys decrypts nothing
 no_keys : (keys : List (List ℕ)) (bytes inner : List ℕ) → keys ≡ [] → ¬ OpensFirst keys bytes inner
 no_keys keys bytes inner none opens =
     absurd (omega (arith, ap length (sym opens.first.parts ∙ none), length-append opens.first.before (opens.first.key ∷ opens.first.after)))

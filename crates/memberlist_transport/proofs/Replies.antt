@@ -1,4 +1,4 @@
--- What a reply is read as.
+-- How a reply is read.
 use Rattle.std.proofs.Common.{◌≡◌, ◌∙◌, inl, inr, ℕ, List, [], ◌∷◌, length, Result, Ok, Err, IfErr, refl, sym, ap, subst, arith}
 use Rattle.std.specs.Prelude.{◌≢◌}
 use Rattle.memberlist_cipher.specs.Label.{IsLabelled}

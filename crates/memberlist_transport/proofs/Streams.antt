@@ -1,4 +1,4 @@
--- The one message that bytes wrap, and whether it is a push/pull stream, in the clear or behind a key.
+-- The one message that bytes wrap, and whether it is a push/pull stream, in the clear or encrypted.
 use Rattle.std.proofs.Common.{◌≡◌, ◌⊎◌, ◌∙◌, inl, inr, ℕ, List, [], ◌∷◌, length, Result, Ok, Err, IfErr, get_or, ap, subst, sym, length-append, arith}
 use Rattle.std.specs.Prelude.{◌≢◌}
 use Rattle.memberlist_cipher.specs.declared.fault.CipherFault.{CipherFault}
@@ -15,7 +15,7 @@ use Rattle.memberlist_transport.specs.Stream.{BeginsAsStream, BeginsAsSealed, Is
 same_message : (m n : ℕ) (bytes a b : List ℕ) → Unwraps m bytes a → Unwraps n bytes b → a ≡ b
 same_message m n bytes a b one other = (one_message m n bytes one.wrappers other.wrappers a b one.wraps other.wraps).1
 
--- no message begins as both
+-- no message starts as both
 not_both : (message : List ℕ) → BeginsAsStream message → ¬ BeginsAsSealed message
 not_both message stream sealed = let six : 6 ≡ 10 = ap (λ l. get_or l 0 0) (sym stream.1 ∙ sealed.1) in absurd (omega (arith, six))
 
@@ -32,20 +32,20 @@ one_stream m n keys bytes a b (streams.opened inner sealed opens is) (streams.op
     same_message m n second a b (subst (λ x. Unwraps m x a) (one_opened_stream keys bytes inner second opens opened) is.0) other.0
 
 module _ (limit : ℕ) where
-  -- ---- refused bytes are no stream
+  -- ---- refused bytes are not a stream
 
-  -- bytes of which a refusal says that they are no stream in the clear are none
+  -- bytes that a refusal says are not a stream in the clear are none
   no_clear : (bytes : List ℕ) (fault : StreamFault) → ExplainsClear limit bytes fault → (stream : List ℕ) → ¬ IsClearStream limit bytes stream
   no_clear bytes fault (plainly.broken cause explains same) stream is = no_message 4 limit cause bytes explains stream is.0
   no_clear bytes fault (plainly.other message wraps begins same) stream is =
       begins (subst BeginsAsStream (same_message limit limit bytes stream message is.0 wraps) is.1)
 
-  -- a keyring without keys opens nothing
+  -- a keyring without keys decrypts nothing
   no_keys : (keys : List (List ℕ)) (bytes inner : List ℕ) → keys ≡ [] → ¬ OpensStreamFirst keys bytes inner
   no_keys keys bytes inner none opens =
       absurd (omega (arith, ap length (sym opens.first.parts ∙ none), length-append opens.first.before (opens.first.key ∷ opens.first.after)))
 
-  -- bytes of which a refusal says that they are no stream are none
+  -- bytes that a refusal says are not a stream are none
   pub no_stream : (keys : List (List ℕ)) (bytes : List ℕ) (fault : StreamFault) → Explains limit keys bytes fault → (stream : List ℕ) → ¬ IsStreamIn limit keys bytes stream
   no_stream keys bytes fault (why.clear explains none) stream (streams.clear is) = no_clear bytes fault explains stream is
   no_stream keys bytes fault (why.clear explains none) stream (streams.opened inner sealed opens is) = no_keys keys bytes inner (none sealed) opens
@@ -63,7 +63,7 @@ module _ (limit : ℕ) where
   clear_refused bytes message (Ok stream) wraps other = tt
   clear_refused bytes message (Err fault) wraps other = λ seen. plainly.other message wraps other.0 other.1
 
-  -- where there is no key, or the message is not encrypted
+  -- if there is no key, or the message is not encrypted
   pub untried : {X : Type 0} (keys : List (List ℕ)) (bytes message : List ℕ) (result : Result X StreamFault) → Unwraps limit bytes message
       → (keys ≡ []) ⊎ (¬ BeginsAsSealed message)
       → IfErr result (λ fault. (¬ BeginsAsStream message) × (fault ≡ fault_of_start message))
@@ -74,7 +74,7 @@ module _ (limit : ℕ) where
       why.clear (plainly.other message wraps other.0 other.1)
       (λ sealed. absurd (clear (subst BeginsAsSealed (same_message limit limit bytes sealed.0 message sealed.1 wraps) sealed.2)))
 
-  -- where a key is tried
+  -- if a key is tried
   pub tried : {X : Type 0} (keys : List (List ℕ)) (bytes : List ℕ) (result : Result X StreamFault) → IsSealed limit bytes
       → IfErr result (λ fault. fault ≢ Memory → ((cause : CipherFault) × ((inner : List ℕ) → ¬ OpensStream keys bytes inner)
       × IsRefused StreamCause keys bytes cause × (fault ≡ Closed cause))

@@ -1,4 +1,4 @@
--- The message of a packet: in the clear, or behind a key.
+-- The message of a packet: in the clear, or encrypted under a key.
 use Rattle.std.specs.Prelude.{◌≡◌, ◌≢◌, ◌⊎◌, ◌<◌, ℕ, List, [], Result, Err}
 use Rattle.memberlist_keyring.specs.Opening.{Opens, OpensFirst}
 use Rattle.memberlist_wrap.specs.Explaining.{ExplainsIn}
@@ -19,7 +19,7 @@ abbrev pub HoldsClear : List ℕ → Message → Type 0
 HoldsClear bytes message =
     (inner : List ℕ) × Unwraps most_message bytes inner × IsMessage inner message
 
--- why the bytes hold no message: they wrap nothing, or what they wrap is none
+-- why the bytes hold no message: they wrap nothing, or the unwrapped bytes are not a message
 abbrev pub FailsClear : List ℕ → PacketFault → Type 0
 FailsClear bytes (Wrapped fault) = ExplainsIn 4 most_message fault bytes
     × ((message : List ℕ) → ¬ Unwraps most_message bytes message)
@@ -29,18 +29,18 @@ FailsClear bytes fault = ⊥
 
 -- ---- with keys
 
--- the bytes hold no message, and what they wrap begins with a version of encryption
+-- the bytes hold no message, and the unwrapped bytes start with a version of encryption
 abbrev pub IsUnclear : List ℕ → Type 0
 IsUnclear bytes = (first : ℕ) × (first < 2) × FailsClear bytes (NoMessage first)
 
--- The packet has the message: in the clear, or under the first key that opens it.
+-- The packet has the message: in the clear, or under the first key that decrypts it.
 pub data Holds (keys : List (List ℕ)) (bytes : List ℕ) (message : Message) : Type 0 where
   clear : HoldsClear bytes message → Holds keys bytes message
   opened : (inner : List ℕ) → IsUnclear bytes → OpensFirst keys bytes inner
       → HoldsClear inner message → Holds keys bytes message
 
--- Why the packet has none: in the clear, where no key is tried; because no key opens it; or behind
--- the key that opens it.
+-- Why the packet has none: in the clear, if no key is tried; because no key decrypts it; or in what
+-- the key decrypts.
 pub data Fails (keys : List (List ℕ)) (bytes : List ℕ) (fault : PacketFault) : Type 0 where
   clear : FailsClear bytes fault → (IsUnclear bytes → keys ≡ []) → Fails keys bytes fault
   closed : IsUnclear bytes → keys ≢ [] → ((inner : List ℕ) → ¬ Opens keys bytes inner)
@@ -48,19 +48,19 @@ pub data Fails (keys : List (List ℕ)) (bytes : List ℕ) (fault : PacketFault)
   opened : (inner : List ℕ) → IsUnclear bytes → OpensFirst keys bytes inner
       → FailsClear inner fault → Fails keys bytes fault
 
--- ---- on the way
+-- ---- intermediate steps
 
--- it says that a version of encryption is no message
+-- it says that there is a version of encryption and no message
 abbrev pub IsUnclearResult : Result Message PacketFault → Type 0
 IsUnclearResult (Err (NoMessage first)) = first < 2
 IsUnclearResult result = ⊥
 
--- the message in what a key opens
+-- the message in what a key decrypts
 abbrev pub HoldsOpened : List (List ℕ) → List ℕ → Message → Type 0
 HoldsOpened keys bytes message =
     (inner : List ℕ) × OpensFirst keys bytes inner × HoldsClear inner message
 
--- why there is none in what a key may open
+-- why there is none in what a key may decrypt
 abbrev pub FailsOpened : List (List ℕ) → List ℕ → PacketFault → Type 0
 FailsOpened keys bytes fault =
     (((inner : List ℕ) → ¬ Opens keys bytes inner) × (fault ≡ NoKeyFits))

@@ -1,4 +1,4 @@
--- The push/pull stream that one direction of a connection holds.
+-- The push/pull stream in one direction of a connection.
 use Rattle.std.specs.Prelude.{◌≡◌, ℕ, List, [], ◌∷◌}
 use Rattle.memberlist_cipher.specs.declared.fault.CipherFault.{CipherFault}
 use Rattle.memberlist_cipher.specs.Refusal.{StreamCause}
@@ -10,24 +10,24 @@ use Rattle.memberlist_wrap.specs.Wrapping.{Unwraps}
 use Rattle.memberlist_transport.specs.declared.fault.StreamFault.{StreamFault}
 use Rattle.memberlist_transport.specs.declared.fault.StreamFault.TheVariants.{Wrapped, Closed, NoStream, Empty}
 
--- the byte that push/pull streams begin with
+-- the first byte of push/pull streams
 abbrev pub BeginsAsStream : List ℕ → Type 0
 BeginsAsStream bytes = (rest : List ℕ) × (bytes ≡ 6 ∷ rest)
 
--- the byte that encrypted streams begin with
+-- the first byte of encrypted streams
 abbrev pub BeginsAsSealed : List ℕ → Type 0
 BeginsAsSealed bytes = (rest : List ℕ) × (bytes ≡ 10 ∷ rest)
 
--- the bytes wrap this message in the clear, and it begins as a push/pull stream does
+-- the bytes wrap this message in the clear, and it starts as a push/pull stream does
 abbrev pub IsClearStream : ℕ → List ℕ → List ℕ → Type 0
 IsClearStream limit bytes stream = Unwraps limit bytes stream × BeginsAsStream stream
 
--- what the bytes wrap begins as an encrypted stream does
+-- the unwrapped bytes start as an encrypted stream does
 abbrev pub IsSealed : ℕ → List ℕ → Type 0
 IsSealed limit bytes = (message : List ℕ) × Unwraps limit bytes message × BeginsAsSealed message
 
--- The bytes are the stream, in wrappers, or encrypted under the first key that opens them, and in
--- wrappers in there. Nothing has more bytes than the limit.
+-- The bytes are the stream, in wrappers, or encrypted under the first key that decrypts them, and
+-- in wrappers in there. Nothing has more bytes than the limit.
 pub data IsStreamIn (limit : ℕ) (keys : List (List ℕ)) (bytes stream : List ℕ) : Type 0 where
   clear : IsClearStream limit bytes stream → IsStreamIn limit keys bytes stream
   opened : (inner : List ℕ) → IsSealed limit bytes → OpensStreamFirst keys bytes inner
@@ -35,22 +35,22 @@ pub data IsStreamIn (limit : ℕ) (keys : List (List ℕ)) (bytes stream : List 
 
 -- ---- refusals
 
--- what is said of a message that begins as no push/pull stream does: that it has no byte, or its
--- first
+-- what is said about a message that does not start as a push/pull stream does: that it is empty, or
+-- its first byte
 abbrev pub fault_of_start : List ℕ → StreamFault
 fault_of_start [] = Empty
 fault_of_start (first ∷ rest) = NoStream first
 
--- What a refusal says of bytes in the clear: why they wrap no message, or how the message in them
--- begins.
+-- What a refusal says about bytes in the clear: why they wrap no message, or how the message in
+-- them starts.
 pub data ExplainsClear (limit : ℕ) (bytes : List ℕ) (fault : StreamFault) : Type 0 where
   broken : (cause : WrapFault) → ExplainsIn 4 limit cause bytes → fault ≡ Wrapped cause
       → ExplainsClear limit bytes fault
   other : (message : List ℕ) → Unwraps limit bytes message → ¬ BeginsAsStream message
       → fault ≡ fault_of_start message → ExplainsClear limit bytes fault
 
--- What a refusal says of bytes: what it says of them in the clear, where no key is tried; that no
--- key opens them, and the keyring's fault; or what it says of what a key opens.
+-- What a refusal says about bytes: what it says about them in the clear, if no key is tried; that
+-- no key decrypts them, and the keyring's fault; or what it says about what a key decrypts.
 pub data Explains (limit : ℕ) (keys : List (List ℕ)) (bytes : List ℕ) (fault : StreamFault) : Type 0
   where
     clear : ExplainsClear limit bytes fault → (IsSealed limit bytes → keys ≡ [])

@@ -14,14 +14,14 @@ pub enum PacketFault {
     /// It wraps nothing.
     #[error("{0}")]
     Wrapped(WrapFault),
-    /// What it wraps begins with this byte, and is no message that packets have: it is encrypted,
-    /// or broken, or of another kind.
+    /// The unwrapped bytes start with this byte, and are not a message of packets: they are
+    /// encrypted, broken, or of another kind.
     #[error("no message (first byte {0:02x})")]
     NoMessage(u8),
-    /// It is encrypted, and none of the keys opens it.
+    /// It is encrypted, and none of the keys decrypts it.
     #[error("encrypted, no key fits")]
     NoKeyFits,
-    /// A growth of memory was refused.
+    /// Out of memory.
     #[error("out of memory")]
     Memory,
 }
@@ -40,16 +40,16 @@ pub enum StreamFault {
     /// It wraps nothing.
     #[error("{0}")]
     Wrapped(WrapFault),
-    /// It is encrypted, and none of the keys opens it: this is the fault of the last one.
+    /// It is encrypted, and none of the keys decrypts it: this is the fault of the last one.
     #[error("{0}")]
     Closed(CipherFault),
-    /// What it wraps begins with this byte, and is no push/pull stream.
+    /// The unwrapped bytes start with this byte, and are not a push/pull stream.
     #[error("no push/pull stream (first byte {0:02x})")]
     NoStream(u8),
-    /// It wraps no byte.
+    /// It wraps no bytes.
     #[error("the stream is empty")]
     Empty,
-    /// A growth of memory was refused.
+    /// Out of memory.
     #[error("out of memory")]
     Memory,
 }

@@ -1,9 +1,9 @@
-//! What holds of the definitions, apart from any code.
+//! What holds for the definitions, apart from any code.
 
 ghost use Rattle.std.specs.Prelude.{◌≡◌, ℕ, List};
 ghost use Rattle.memberlist_transport.specs.Stream.{IsStreamIn};
 
-/// Under keys in one order bytes hold one stream, whatever the limit.
+/// With keys in one order bytes hold at most one stream, whatever the limit.
 pub fn one_stream()
     ensures { (m n : ℕ) (keys : List (List ℕ)) (bytes a b : List ℕ) → IsStreamIn m keys bytes a
         → IsStreamIn n keys bytes b → a ≡ b }

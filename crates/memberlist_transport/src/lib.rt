@@ -1,13 +1,13 @@
-//! What memberlist's transport sends, opened and unwrapped: one packet, or one stream.
+//! Decrypts and unwraps what memberlist's transport sends: one packet, or one stream.
 //!
 //! | module | subject |
 //! |---|---|
 //! | `packet` | the message of a packet |
 //! | `message` | what a message is |
 //! | `stream` | the push/pull stream of a connection |
-//! | `reply` | the push/pull stream that answers one |
+//! | `reply` | the push/pull stream that replies to one |
 //! | `fault` | why a packet or a stream is refused |
-//! | `laws` | what holds of the definitions, apart from any code |
+//! | `laws` | what holds for the definitions, apart from any code |
 #![tactic(auto)]
 
 mod fault;

@@ -5,7 +5,7 @@ ghost use Rattle.memberlist_transport.specs.Message.{claiming_kind};
 
 use swim_wire::{ALIVE_MESSAGE, COMPOUND_MESSAGE, Claimless, DEAD_MESSAGE, SUSPECT_MESSAGE};
 
-/// A message that makes claims, by what it is.
+/// The kinds of messages that make claims.
 #[derive(Clone, Copy, Debug, PartialEq, Eq)]
 pub enum Claiming {
     /// Says that a member may have failed.
@@ -21,16 +21,15 @@ pub enum Claiming {
 /// The message of a packet.
 #[derive(Debug, Drop)]
 pub enum Message {
-    /// These bytes, which begin as a message that makes claims. What stands behind their first byte
-    /// was not read.
+    /// These bytes, which start as a message that makes claims. Only their first byte was read.
     Claims(Claiming, Vec<u8>),
-    /// A whole message that makes none.
+    /// A whole message that makes no claims.
     Claimless(Claimless),
     /// No bytes.
     Empty,
 }
 
-/// The kind of message that makes claims and begins with this byte, as in memberlist's `net.go`.
+/// The kind of message that makes claims and starts with this byte, as in memberlist's `net.go`.
 pub(crate) fn kind_that_claims(first: u8) -> Option<Claiming>
     ensures { result ≡ claiming_kind first }
 {

@@ -16,23 +16,24 @@ use swim_wire::{WireFault, decode_claimless};
 /// The most bytes of a packet's message (own).
 pub const MESSAGE_LIMIT: usize = 1_048_576;
 
-/// The message of a packet: its checksums, compressions and labels taken off, as in memberlist's
-/// `net.go` (`handleCommand`), `util.go` and `label.go`. What is no message in the clear and begins
-/// as an encrypted packet is first opened with the keys, where there are some. Neither a message
-/// nor anything compressed or encrypted has more than 1,048,576 bytes.
+/// The message of a packet: checksums, compressions and labels are removed, as in memberlist's
+/// `net.go` (`handleCommand`), `util.go` and `label.go`. Bytes that are not a message in the clear
+/// and start as an encrypted packet are first decrypted with the keys, if there are any. Neither a
+/// message nor anything compressed or encrypted has more than 1,048,576 bytes.
 ///
 /// # Errors
 ///
-/// `Wrapped` where the bytes wrap nothing, with the cause. `NoMessage`, with its first byte, where
-/// what they wrap is neither empty, nor begins as a suspect, alive or dead message or a compound
-/// packet, nor is a whole message of a kind that makes no claims. Where that byte is below 2, a
-/// version of encryption, and there are keys: `NoKeyFits` where none opens the bytes, and else
-/// these of what was encrypted. `Memory` where a growth was refused.
+/// `Wrapped` if the bytes wrap nothing, with the cause. `NoMessage`, with the first unwrapped byte,
+/// if the unwrapped bytes are not empty, do not start as a suspect, alive or dead message or a
+/// compound packet, and are not a whole message of a kind that makes no claims. If that byte is
+/// below 2, a version of encryption, and there are keys: `NoKeyFits` if none decrypts the bytes,
+/// and else these errors for the decrypted bytes. `Memory` if out of memory.
 pub fn open_packet(alloc: Global, keys: &Keyring, bytes: &[u8]) -> Result<Message, PacketFault>
-    // It is the message that the packet has.
+    // It is the message of the packet.
     ensures holds { IfOk result (Holds keys.now bytes.now) }
 
-    // Refused for another cause than memory, it has none, and the refusal says why.
+    // If it is refused, and not because memory ran out, it has no message, and the refusal says
+    // why.
     ensures refuses { IfErr result (λ fault. fault ≢ PacketFault.Memory
         → (message : Message) → ¬ Holds keys.now bytes.now message) }
     ensures explains { IfErr result (λ fault. fault ≢ PacketFault.Memory
@@ -53,7 +54,7 @@ fn message_of_packet(alloc: Global, keys: &Keyring, bytes: &[u8]) -> Result<Mess
     opened_message(alloc, keys, bytes)
 }
 
-/// Whether a version of encryption stands where a message should (memberlist's `security.go`).
+/// Whether there is a version of encryption in place of a message (memberlist's `security.go`).
 fn is_unclear(clear: &Result<Message, PacketFault>) -> bool
     ensures { MatchBool result (IsUnclearResult clear.now) (¬ IsUnclearResult clear.now) }
 {
@@ -63,7 +64,7 @@ fn is_unclear(clear: &Result<Message, PacketFault>) -> bool
     }
 }
 
-/// The message in bytes that a key may open.
+/// The message in bytes that a key may decrypt.
 fn opened_message(alloc: Global, keys: &Keyring, bytes: &[u8]) -> Result<Message, PacketFault>
     ensures holds { IfOk result (HoldsOpened keys.now bytes.now) }
     ensures explains { IfErr result (λ fault. fault ≢ PacketFault.Memory
@@ -89,7 +90,7 @@ fn clear_message(alloc: Global, bytes: &[u8]) -> Result<Message, PacketFault>
     }
 }
 
-/// The same where a compression is to be taken off.
+/// The same if a compression has to be removed.
 fn decompressed_message(alloc: Global, bytes: &[u8]) -> Result<Message, PacketFault>
     ensures holds { IfOk result (HoldsClear bytes.now) }
     ensures explains { IfErr result (λ fault. fault ≢ PacketFault.Memory
@@ -102,7 +103,7 @@ fn decompressed_message(alloc: Global, bytes: &[u8]) -> Result<Message, PacketFa
     }
 }
 
-/// What the bytes in a packet's wrappers are.
+/// The message in a packet's unwrapped bytes.
 fn message_of(alloc: Global, bytes: &[u8]) -> Result<Message, PacketFault>
     ensures holds { IfOk result (IsMessage bytes.now) }
     ensures explains { IfErr result (λ fault. fault ≢ PacketFault.Memory

@@ -1,4 +1,4 @@
-//! The push/pull stream that answers another one.
+//! The push/pull stream that replies to another one.
 
 ghost use Rattle.std.specs.Prelude.{◌≢◌, ◌<◌, List, ℕ, length, IfOk, IfErr, MatchBool};
 ghost use Rattle.memberlist_transport.specs.Reply.{BeginsAsLabel, IsReplyIn, ExplainsReply};
@@ -9,15 +9,15 @@ use memberlist_cipher::{LABEL, labelled};
 use memberlist_keyring::Keyring;
 use std::alloc::Global;
 
-/// The push/pull stream by which a member of a cluster with this label answers one, opened and
-/// unwrapped as [`open_stream`] does it. In memberlist only the side that opens a connection writes
-/// the label, but the side that answers authenticates it too. So bytes that do not begin with a
-/// label are read as if the cluster's stood before them; an empty one is none. The label has at most
-/// 255 bytes.
+/// The push/pull stream with which a member of a cluster with this label replies to one, decrypted
+/// and unwrapped like [`open_stream`] does. In memberlist only the side that opens a connection
+/// writes the label, but the side that replies authenticates it too. So bytes that do not start
+/// with a label are read as if the cluster's came first; an empty one means no label. The label has
+/// at most 255 bytes.
 ///
 /// # Errors
 ///
-/// As [`open_stream`] has them, of the bytes with the label before them.
+/// Those of [`open_stream`], for the bytes with the label before them.
 ///
 /// Source: `encryptLocalState` and `sendLocalState` in memberlist's net.go, and
 /// `labelWrappedTransport` in its transport.go.
@@ -30,11 +30,12 @@ pub fn open_reply(
 ) -> Result<Vec<u8>, StreamFault>
     requires few { length label.now < 256 }
 
-    // It is the stream that the bytes hold behind the label.
+    // It is the stream in the bytes after the label.
     ensures unwraps { IfOk result (λ stream.
         IsReplyIn limit keys.now label.now bytes.now stream.items) }
 
-    // Refused for another cause than memory, they hold none, and the refusal says why.
+    // If they are refused, and not because memory ran out, they hold none, and the refusal says
+    // why.
     ensures refuses { IfErr result (λ fault. fault ≢ StreamFault.Memory
         → (stream : List ℕ) → ¬ IsReplyIn limit keys.now label.now bytes.now stream) }
     ensures explains { IfErr result (λ fault. fault ≢ StreamFault.Memory
@@ -49,7 +50,7 @@ pub fn open_reply(
     }
 }
 
-/// Whether the bytes begin as a label does.
+/// Whether the bytes start as a label does.
 fn begins_as_label(bytes: &[u8]) -> bool
     ensures { MatchBool result (BeginsAsLabel bytes.now) (¬ BeginsAsLabel bytes.now) }
 {

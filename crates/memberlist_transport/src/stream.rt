@@ -18,28 +18,29 @@ use swim_wire::PUSH_PULL_MESSAGE;
 /// The first byte of an encrypted stream, as in memberlist's `net.go`.
 const ENCRYPTED: u8 = 10;
 
-/// The push/pull stream that one direction of a TCP connection is, without its wrappers, and opened
-/// with the keys where it is encrypted and there are some, as in memberlist's `net.go`
-/// (`readStream`). That its first byte is that of such a stream is all that is looked at. Neither
-/// it nor anything compressed or encrypted has more than `limit` bytes.
+/// The push/pull stream in one direction of a TCP connection, unwrapped, and decrypted with the
+/// keys if it is encrypted and there are any, as in memberlist's `net.go` (`readStream`). Only its
+/// first byte is checked to be that of such a stream. Neither it nor anything compressed or
+/// encrypted has more than `limit` bytes.
 ///
 /// # Errors
 ///
-/// `Wrapped`, with the fault of [`memberlist_wrap::unwrap`], where the bytes wrap nothing within
-/// the limit; `NoStream`, with its first byte, where what they wrap is no push/pull stream, and
-/// `Empty` where it has no byte. Where it is encrypted and there are keys: `Closed` with the fault
-/// by which the last of them is refused, and else these of what was encrypted. `Memory` where a
-/// growth was refused.
+/// `Wrapped`, with the fault of [`memberlist_wrap::unwrap`], if the bytes wrap nothing within the
+/// limit; `NoStream`, with the first unwrapped byte, if the unwrapped bytes are not a push/pull
+/// stream, and `Empty` if there are none. If it is encrypted and there are keys: `Closed` with the
+/// fault of the last of them, and else these errors for the decrypted bytes. `Memory` if out of
+/// memory.
 pub fn open_stream(
     alloc: Global,
     keys: &Keyring,
     bytes: &[u8],
     limit: usize,
 ) -> Result<Vec<u8>, StreamFault>
-    // It is the stream that the bytes hold.
+    // It is the stream in the bytes.
     ensures unwraps { IfOk result (λ stream. IsStreamIn limit keys.now bytes.now stream.items) }
 
-    // Refused for another cause than memory, they hold none, and the refusal says why.
+    // If they are refused, and not because memory ran out, they hold none, and the refusal says
+    // why.
     ensures refuses { IfErr result (λ fault. fault ≢ StreamFault.Memory
         → (stream : List ℕ) → ¬ IsStreamIn limit keys.now bytes.now stream) }
     ensures explains { IfErr result (λ fault. fault ≢ StreamFault.Memory
@@ -65,7 +66,7 @@ fn stream_in(
     }
 }
 
-/// The same of bytes that wrap this message.
+/// The same for bytes that wrap this message.
 fn stream_behind(
     alloc: Global,
     keys: &Keyring,
@@ -85,7 +86,7 @@ fn stream_behind(
     opened_stream(alloc, keys, bytes, limit)
 }
 
-/// Whether the message begins as an encrypted stream.
+/// Whether the message starts as an encrypted stream.
 fn is_sealed(message: &[u8]) -> bool
     ensures { MatchBool result (BeginsAsSealed message.now) (¬ BeginsAsSealed message.now) }
 {
@@ -95,7 +96,7 @@ fn is_sealed(message: &[u8]) -> bool
     }
 }
 
-/// The stream in bytes that a key opens.
+/// The stream in bytes that a key decrypts.
 fn opened_stream(
     alloc: Global,
     keys: &Keyring,

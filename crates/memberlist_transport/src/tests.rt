@@ -1,5 +1,5 @@
-//! Packets and streams as memberlist sends them, over Go's hash/crc32, compress/lzw, crypto/aes and
-//! crypto/cipher.
+//! Packets and streams as memberlist sends them, made with Go's hash/crc32, compress/lzw,
+//! crypto/aes and crypto/cipher.
 
 use crate::*;
 use memberlist_cipher::CipherFault;
@@ -15,7 +15,7 @@ const KEY: &str = "AAECAwQFBgcICQoLDA0ODxAREhMUFRYXGBkaGxwdHh8=";
 
 const OTHER_KEY: &str = "AAAAAAAAAAAAAAAAAAAAAAAAAAAAAAAA";
 
-/// An alive packet of `a`, with a checksum, and with a checksum round a compression.
+/// An alive packet of `a`, with a checksum, and with a checksum around a compression.
 const ALIVE: &[u8] =
     b"\x04\x86\xa4Addr\xa4\x7f\x00\x00\x01\xabIncarnation\x00\xa4Meta\xa0\xa4Node\xa1a\xa4Port\
       \xcd\x1f\x0a\xa3Vsn\xa0";
@@ -34,7 +34,7 @@ const PING: &[u8] =
     b"\x00\x85\xa4Node\xa2d3\xa5SeqNo\x01\xaaSourceAddr\xa4\x7f\x00\x05\x02\xaaSourceNode\xa2d\
       2\xaaSourcePort\xcd\x1f\x0a";
 
-/// The alive packet under the key, and behind the label `dc`.
+/// The alive packet under the key, and after the label `dc`.
 const SEALED: &[u8] =
     b"\x01nonce-number9 \xab=v\xe6pK\x19\x81\xb2\xc4\xe2a\xf1{\xa5\xfc?\x13\x0f\xf8\xcd\x1df\
       \xbc\x91V\xe8D\xb4\xb8\xbc0TlP\x9bg7j\xc0\xf3\xe3\x91 \xcd\"re$\xf5\xfa\xf2\xfb\x12\xe1\
@@ -45,14 +45,14 @@ const LABELLED: &[u8] =
       \xcd\x1df\xbc\x91V\xe8D\xb4\xb8\xbc0TlP\x9bg7j\xc0\xf3\xe3\x91 \xcd\"re$#\xe5T\xe1\xf1\
       \x09q\xfe\xec\xd5\xfe\xda\x8d=\x8c\xea";
 
-/// An ack, and a byte that is no message, under the key.
+/// An ack, and a byte that is not a message, under the key.
 const SEALED_ACK: &[u8] =
     b"\x01nonce-number?$\xa8,s\xfbn\x80\x07\xe5r`\x1aM\xeeV\xab\x8f\xa7\x11\xb7nP5\xcd\xe6\xa8\
       \x7f\x9b\x0c\xe9\xd7'\x05";
 
 const SEALED_BYTE: &[u8] = b"\x01nonce-number;\x0bVc}\x802[\x1a\xd4\x16<\xc9\xc2\xcb\xeff";
 
-/// A stream of one member, under the key, behind the label `dc` too, and an ack as a stream.
+/// A stream of one member, under the key, after the label `dc` too, and an ack as a stream.
 const STREAM: &[u8] =
     b"\x06\x83\xa4Join\xc2\xa5Nodes\x01\xacUserStateLen\x00\x87\xa4Addr\xa4\x7f\x00\x00\x01\
       \xabIncarnation\x00\xa4Meta\xa0\xa4Name\xa1a\xa4Port\xcd\x1f\x0a\xa5State\x00\xa3Vsn\xa0";
@@ -71,8 +71,8 @@ const LABELLED_STREAM: &[u8] =
       \xdb\xc4\x0f\x08P\xf3\xd2.\xd0\xcc\xbc\x18TN\x0b\xf4\xf3\xd8f\xe2Z\x87\xd4\x91\xec>\x0fj\
       \xd1\xa8\xbd\xb2\x95\x08)\xfcT\xffryX{\x06\xcb\xcd{^\\\x17\xe1P\xc6\xfe\xb95\xb8\xd1";
 
-/// The stream as the reply to one in a cluster with the label `dc`, under the key, by python's
-/// cryptography.
+/// The stream as the reply to one in a cluster with the label `dc`, under the key, made with
+/// python's cryptography.
 const SEALED_REPLY: &[u8] =
     b"\x0a\x00\x00\x00s\x01nonce-number;%\xab6}\xebl-\xc3\xcf\xdd\xa1,[\x9e\xb4\x91\xfd4\
       \x00(\xe5\xc3\x07\x03T\xb9]\x9c\xa2\xb0]\x96;B\xad\x8e\xfa\xc3f\xae\xfb\xe9M\xefX\
@@ -83,14 +83,14 @@ const ACK_STREAM: &[u8] =
     b"\x0a\x00\x00\x00/\x01nonce-number?$\xa8,s\xfbn\x80\x07\xe5r`\x1aM\xeeV\xab\x8f+,#\xaf\
       \x1aZ4\xfd4\xc8\xc1\xce)\xaa\x11\xed";
 
-/// The keys of a file of these lines.
+/// The keys in a file of these lines.
 fn keyring(alloc: Global, text: &str) -> Result<Keyring, Fail> {
     let mut keys = Keyring::new(alloc);
     keys.add_file(alloc, text.as_bytes())?;
     Ok(keys)
 }
 
-/// What the packet has under these keys. Where a growth is refused, the next call finds memory.
+/// The message of the packet under these keys. If a growth is refused, the next call finds memory.
 fn opened(alloc: Global, keys: &str, bytes: &[u8]) -> Result<Result<Message, PacketFault>, Fail> {
     let keys = keyring(alloc, keys)?;
     match open_packet(alloc, &keys, bytes) {
@@ -99,7 +99,7 @@ fn opened(alloc: Global, keys: &str, bytes: &[u8]) -> Result<Result<Message, Pac
     }
 }
 
-/// That the packet has a message of this kind that makes claims, in these bytes.
+/// Asserts that the packet has a message of this kind that makes claims, in these bytes.
 fn assert_claims(
     rt: &impl Abort,
     alloc: Global,
@@ -141,7 +141,7 @@ fn what_makes_claims_is_opened(rt: HostRuntime) -> Result<(), Fail> {
     Ok(())
 }
 
-/// That the packet has a message of this kind that makes none, or none at all.
+/// Asserts that the packet has a message of this kind that makes none, or none at all.
 fn assert_none(
     rt: &impl Abort,
     alloc: Global,
@@ -198,8 +198,8 @@ fn what_has_no_message_is_refused_by_its_cause(rt: HostRuntime) -> Result<(), Fa
     Ok(())
 }
 
-/// What the bytes hold under these keys, as a stream of at most so many bytes. Where a growth is
-/// refused, the next call finds memory.
+/// The stream in the bytes under these keys, of at most `limit` bytes. If a growth is refused, the
+/// next call finds memory.
 fn stream_in(
     alloc: Global,
     keys: &str,
@@ -213,7 +213,7 @@ fn stream_in(
     }
 }
 
-/// That the bytes hold the stream of one member.
+/// Asserts that the bytes hold the stream of one member.
 fn assert_stream(rt: &impl Abort, alloc: Global, keys: &str, bytes: &[u8]) -> Result<(), Fail> {
     match stream_in(alloc, keys, bytes, 999)? {
         Ok(stream) => assert_eq!(rt; stream.as_slice(), STREAM, "{bytes:?}"),
@@ -268,8 +268,8 @@ fn what_holds_no_stream_is_refused_by_its_cause(rt: HostRuntime) -> Result<(), F
     Ok(())
 }
 
-/// What the bytes hold as a reply in a cluster with this label. Where a growth is refused, the next
-/// call finds memory.
+/// The stream in the bytes as a reply in a cluster with this label. If a growth is refused, the
+/// next call finds memory.
 fn reply_in(
     alloc: Global,
     keys: &str,
