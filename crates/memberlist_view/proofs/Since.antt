@@ -52,7 +52,7 @@ module _ (time : ℕ) (entry : Entry) where
   abbrev pub Is : Entry × Event → Type 0
   Is p = IsSince (Some entry) time p.0
 
-  -- where the state is as it was, whatever the rest is
+  -- if the state is as it was, whatever the rest is
   kept_as : (s : State) (e : Entry) → entry.state ≡ s → is_same_kind s e.state ≡ true → e.since ≡ entry.since → IsSince (Some entry) time e
   kept_as s e here same when = since.kept entry refl (ap (λ t. is_same_kind t e.state) here ∙ same) when
 

@@ -1,4 +1,4 @@
--- One that is dead or left stays so until it is brought back.
+-- A member that is dead or left stays so until it is brought back.
 use Rattle.std.proofs.Common.{◌≡◌, ℕ, ◌<◌, Bool, true, false, ◌&&◌, nat_lt, nat_le, Option, Some, None, IfSome, List, [], ◌∷◌, ◌++◌, Contains, if◌then◌else◌, refl, sym, ap, ◌∙◌, arith}
 use Rattle.std.specs.Ordering.{is_eq}
 use Rattle.std.specs.declared.cmp.Ordering.{Ordering}
@@ -32,7 +32,7 @@ is_below i j h = grind (arith, nat_tests)
 is_above : (i j : ℕ) → nat_le i j ≡ false → j < i
 is_above i j h = grind (arith, nat_tests)
 
--- nothing but the rival is another
+-- nothing but the rival changes
 abbrev pub IsStill : Entry → Entry → Type 0
 IsStill entry after = (rival : Option DetailsValue) × (after ≡ record entry { rival = rival })
 

@@ -8,11 +8,11 @@ use crate::member_name::MemberName;
 use std::alloc::{AllocError, Global};
 use std::marker::Model;
 
-/// The most accusers of a member that are noted (own), so that a list of them costs little to copy
+/// The most accusers of a member that are noted (own), so that a list of them is cheap to copy
 /// whoever accuses.
 const MOST: usize = 255;
 
-/// Who suspects a member, at most 255, in the order in which their words were heard.
+/// Who suspects a member, at most 255, in the order in which they were heard.
 #[derive(Drop, Debug)]
 pub struct Accusers {
     names: Vec<MemberName>,
@@ -27,7 +27,7 @@ impl Model for Accusers {
 }
 
 impl Accusers {
-    /// The one that is named, if one is.
+    /// The given one, if there is one.
     pub(crate) fn new(alloc: Global, first: Option<&MemberName>) -> Result<Accusers, AllocError>
         ensures { IfOk result (λ accusers. accusers ≡ option_to_list (option_copied first.entry)) }
     {
@@ -38,7 +38,7 @@ impl Accusers {
         Ok(Accusers { names })
     }
 
-    /// Their names, in the order in which their words were heard.
+    /// Their names, in the order in which they were heard.
     pub fn names(&self) -> &[MemberName]
         ensures { result.now ≡ self.now }
     {
@@ -59,7 +59,7 @@ impl Accusers {
         MOST <= self.names.len()
     }
 
-    /// The same again.
+    /// A copy.
     pub(crate) fn try_clone(&self, alloc: Global) -> Result<Accusers, AllocError>
         ensures { IfOk result (λ accusers. accusers ≡ self.now) }
     {
@@ -70,7 +70,7 @@ impl Accusers {
         Ok(Accusers { names })
     }
 
-    /// These, and one more behind them.
+    /// These, followed by one more.
     pub(crate) fn with(&self, alloc: Global, name: &MemberName) -> Result<Accusers, AllocError>
         ensures { IfOk result (λ accusers. accusers ≡ self.now ++ name.now ∷ []) }
     {

@@ -12,10 +12,10 @@ use crate::member_name::MemberName;
 use std::alloc::{AllocError, Global};
 use swim_claim::Details;
 
-/// The entry after a change, and what changed. None where nothing does.
+/// The entry after a change, and what changed. `None` if nothing does.
 type Change = Option<(Entry, Event)>;
 
-/// What something heard changes of the entry of its name.
+/// How something heard changes the entry of its name.
 pub(crate) fn change(
     alloc: Global,
     wait: u64,
@@ -168,7 +168,7 @@ fn alive_here(
     }
 }
 
-/// What an Alive that is believed is told as, where the member was alive.
+/// The event of a believed Alive about a member that was alive.
 fn alive_still(old: &Details, new: &Details) -> Event
     ensures { result ≡ alive_still old.now new.now }
 {

@@ -1,4 +1,4 @@
-//! What a view shows of a name.
+//! What a view shows for a name.
 
 ghost use Rattle.std.specs.Prelude.{◌≡◌, Some, IfOk};
 ghost use Rattle.std.specs.Option.{option_copied};
@@ -9,33 +9,33 @@ use crate::member_name::MemberName;
 use std::alloc::{AllocError, Global};
 use swim_claim::Details;
 
-/// How a member is.
+/// The state of a member.
 #[derive(Drop, Debug)]
 pub enum State {
     /// Alive.
     Alive,
     /// Suspected by these members. Records of streams name nobody.
     Suspect { by: Accusers },
-    /// Dead by the word of this member.
+    /// Declared dead by this member.
     Dead { by: MemberName },
-    /// It left by its own word.
+    /// It left on its own.
     Left,
 }
 
-/// What a view shows of a name.
+/// What a view shows for a name.
 #[derive(Drop, Debug)]
 pub struct Entry {
-    /// How the member is.
+    /// The state of the member.
     pub state: State,
-    /// The incarnation of which that was said, 0 to 4,294,967,295.
+    /// The incarnation of that state, 0 to 4,294,967,295.
     pub inc: u32,
     /// The details of the newest Alive that was believed.
     pub details: Details,
-    /// Since when the state is so, in microseconds since the start of 1970. A further accuser, new
+    /// When the state began, in microseconds since the start of 1970. A further accuser, new
     /// details and a conflict do not change it.
     pub since: u64,
-    /// What another agent of this name, at another address, said of itself since the newest Alive
-    /// that was believed.
+    /// What another agent of this name, at another address, said about itself since the newest
+    /// Alive that was believed.
     pub rival: Option<Details>,
 }
 
@@ -68,7 +68,7 @@ impl State {
         }
     }
 
-    /// The same again.
+    /// A copy.
     fn try_clone(&self, alloc: Global) -> Result<State, AllocError>
         ensures { IfOk result (λ state. state ≡ self.now) }
     {
@@ -85,7 +85,7 @@ impl State {
     }
 }
 
-/// The same again, or none.
+/// A copy, or none.
 fn clone_of_rival(alloc: Global, rival: Option<&Details>) -> Result<Option<Details>, AllocError>
     ensures { IfOk result (λ copy. copy ≡ option_copied rival.entry) }
 {
@@ -96,7 +96,7 @@ fn clone_of_rival(alloc: Global, rival: Option<&Details>) -> Result<Option<Detai
 }
 
 impl Entry {
-    /// Whether it is dead for longer than the wait.
+    /// Whether it has been dead for longer than the wait.
     pub(crate) fn is_forgotten(&self, wait: u64, time: u64) -> bool
         ensures { result ≡ is_forgotten wait time self.now }
     {

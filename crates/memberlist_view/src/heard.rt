@@ -6,10 +6,10 @@ ghost use Rattle.memberlist_view.specs.Heard.{about, said_in_record};
 use crate::member_name::MemberName;
 use swim_claim::{Claim, Details};
 
-/// What was said of a member.
+/// What was said about a member.
 #[derive(Drop, Debug)]
 pub enum Said {
-    /// memberlist's alive: the member is alive at these details.
+    /// memberlist's alive: the member is alive with these details.
     Alive {
         name: MemberName,
         inc: u32,
@@ -21,7 +21,7 @@ pub enum Said {
         inc: u32,
         from: Option<MemberName>,
     },
-    /// memberlist's dead, from the member that says so: where that is the member itself, it left.
+    /// memberlist's dead, from the member that says so: if that is the member itself, it left.
     Dead {
         name: MemberName,
         inc: u32,
@@ -37,15 +37,15 @@ pub enum Said {
 /// What was heard, and when.
 #[derive(Drop, Debug)]
 pub struct Heard {
-    /// When, in microseconds since the start of 1970.
+    /// The time, in microseconds since the start of 1970.
     pub time: u64,
-    /// What.
+    /// What was said.
     pub said: Said,
 }
 
 impl Said {
-    /// What a record of a push/pull stream says (memberlist's `mergeState`): one that is suspect or
-    /// dead there is suspected, and nobody is named.
+    /// What a record of a push/pull stream says (memberlist's `mergeState`): a member that is
+    /// suspect or dead there is suspected, and nobody is named.
     pub fn of_record(claim: Claim) -> Said
         ensures { result ≡ said_in_record claim }
     {
@@ -67,7 +67,7 @@ impl Said {
         }
     }
 
-    /// The member of whom it was said.
+    /// The member it was said about.
     pub fn name(&self) -> &MemberName
         ensures { result.now ≡ about self.now }
     {

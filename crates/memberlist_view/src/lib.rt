@@ -1,15 +1,15 @@
-//! What a member of a cluster that hears these messages at these times shows of each name.
+//! What a member of a cluster that hears these messages at these times shows for each name.
 //!
 //! | module | subject |
 //! |---|---|
-//! | `member_name` | the name of a member, by which a view finds what it shows |
+//! | `member_name` | the name of a member, as a key of a view |
 //! | `heard` | what was heard, and when |
-//! | `entry` | what a view shows of a name |
+//! | `entry` | what a view shows for a name |
 //! | `accusers` | who suspects a member |
 //! | `event` | what changed |
 //! | `change` | the rules, one name at a time |
 //! | `view` | the view of all names |
-//! | `laws` | what holds of every view, apart from any code |
+//! | `laws` | what holds for every view, apart from any code |
 #![tactic(auto)]
 
 mod accusers;

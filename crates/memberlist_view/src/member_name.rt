@@ -1,4 +1,4 @@
-//! The name of a member, by which a view finds what it shows.
+//! The name of a member, as a key of a view.
 
 ghost use Rattle.std.specs.Prelude.{◌≡◌, IfOk, refl};
 ghost use Rattle.std.specs.Ordering.{eq_by_cmp, as_partial_cmp, nat_cmp};
@@ -11,7 +11,7 @@ use std::cmp::Ordering;
 use std::marker::Model;
 use swim_claim::Name;
 
-/// The name of a member, by which a view finds what it shows.
+/// The name of a member, as a key of a view.
 ///
 /// Names are ordered byte by byte, and a proper prefix is less.
 #[derive(Drop, Debug)]
@@ -42,7 +42,7 @@ impl MemberName {
         &self.name
     }
 
-    /// The same again.
+    /// A copy.
     pub(crate) fn try_clone(&self, alloc: Global) -> Result<MemberName, AllocError>
         ensures { IfOk result (λ copy. copy ≡ self.now) }
     {

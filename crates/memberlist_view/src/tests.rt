@@ -1,6 +1,5 @@
-//! What is told of one member as it is heard: in captures of real clusters of Serf, whose
-//! `serf members` said what is shown in the end, and by the rules of memberlist's `state.go` that no
-//! capture shows.
+//! The events of one member: from captures of real clusters of Serf, whose `serf members` printed
+//! what is shown in the end, and for the rules of memberlist's `state.go` that no capture shows.
 
 use crate::*;
 use std::alloc::{AllocError, Global};
@@ -11,33 +10,33 @@ use swim_claim::{Claim, Details, Kind, Name};
 /// memberlist's `GossipToTheDeadTime` in a local network, in microseconds.
 const LOCAL: u64 = 30_000_000;
 
-/// In a wide one.
+/// In a wide area network.
 const WIDE: u64 = 60_000_000;
 
 /// On loopback.
 const LOOPBACK: u64 = 15_000_000;
 
-/// The member of which everything is said.
+/// The member that everything is about.
 const NAME: &str = "web-4";
 
-/// What is said of it.
+/// What is said about it.
 #[derive(Clone, Copy)]
 enum Word {
     /// It is alive at this incarnation at 10.20.1.x, for the last number.
     Alive(u32, u8),
-    /// So, with another tag.
+    /// The same, with another tag.
     Tagged(u32, u8),
-    /// So, with these least, greatest and present versions of the protocol.
+    /// The same, with these least, greatest and present versions of the protocol.
     Speaking(u32, u8, [u8; 3]),
     /// This member suspects it.
     Suspect(u32, &'static str),
     /// This member says that it is dead.
     Dead(u32, &'static str),
-    /// A record of a stream says so. One that is alive is so at 10.20.1.14.
+    /// A record of a stream says so. An alive one is at 10.20.1.14.
     Record(Kind, u32),
 }
 
-/// At which millisecond, what is said, and what is told of it.
+/// At which millisecond, what is said, and the event.
 type Step = (u32, Word, Option<Event>);
 
 fn name(alloc: Global, text: &str) -> Result<Name, Fail> {
@@ -107,7 +106,7 @@ fn said(alloc: Global, word: Word) -> Result<Said, Fail> {
     }
 }
 
-/// What is told of it. Where a growth is refused, the next call finds memory.
+/// The event of it. If a growth is refused, the next call finds memory.
 fn told(view: &mut View, heard: &Heard) -> Result<Option<Event>, AllocError> {
     match view.hear(heard) {
         Ok(event) => Ok(event),
@@ -115,8 +114,8 @@ fn told(view: &mut View, heard: &Heard) -> Result<Option<Event>, AllocError> {
     }
 }
 
-/// Serf's word for a state, to which a member that is suspected is alive, and the last number of
-/// the address.
+/// Serf's word for a state, where a suspected member counts as alive, and the last number of the
+/// address.
 fn shown(alloc: Global, view: &View) -> Result<(&'static str, u8), Fail> {
     let name = MemberName::new(name(alloc, NAME)?);
     let Some(entry) = view.get(&name) else {
@@ -130,7 +129,7 @@ fn shown(alloc: Global, view: &View) -> Result<(&'static str, u8), Fail> {
     Ok((status, entry.details.addr()[3]))
 }
 
-/// One who forgets after the wait hears these, tells what they say, and shows this in the end.
+/// A view with this wait that hears these has these events, and shows this in the end.
 fn assert_tells(
     rt: &impl Abort,
     alloc: Global,
@@ -155,7 +154,7 @@ fn assert_tells(
     Ok(())
 }
 
-// Milliseconds since 02:01:00 at web-1. The member was killed at 36,117 and started again at 80,946.
+// Milliseconds since 02:01:00 at web-1. The member was killed at 36,117 and restarted at 80,946.
 #[test]
 fn one_that_died_comes_back_at_its_first_incarnation(rt: HostRuntime) -> Result<(), Fail> {
     let steps = [
@@ -221,7 +220,7 @@ fn records_of_streams_accuse_in_nobodys_name(rt: HostRuntime) -> Result<(), Fail
     assert_tells(&rt, rt.alloc(), LOCAL, &steps, ("left", 14))
 }
 
-// aliveNode takes the address of one that left, whatever the incarnation.
+// aliveNode takes over the address of a member that left, whatever the incarnation.
 #[test]
 fn the_address_of_one_that_left_is_free(rt: HostRuntime) -> Result<(), Fail> {
     let steps = [
@@ -233,7 +232,7 @@ fn the_address_of_one_that_left_is_free(rt: HostRuntime) -> Result<(), Fail> {
     assert_tells(&rt, rt.alloc(), LOCAL, &steps, ("alive", 24))
 }
 
-// aliveNode: a name that is new, or forgotten, stands at incarnation 0.
+// aliveNode: a name that is new, or forgotten, is at incarnation 0.
 #[test]
 fn an_alive_at_incarnation_0_is_none(rt: HostRuntime) -> Result<(), Fail> {
     let steps = [
@@ -265,7 +264,7 @@ fn an_alive_with_unsound_versions_is_none(rt: HostRuntime) -> Result<(), Fail> {
     assert_tells(&rt, rt.alloc(), LOCAL, &steps, ("alive", 14))
 }
 
-// moveDeadNodes passes over one that left.
+// moveDeadNodes skips a member that left.
 #[test]
 fn one_that_left_is_never_forgotten(rt: HostRuntime) -> Result<(), Fail> {
     let steps = [
@@ -301,7 +300,7 @@ fn one_that_died_is_forgotten_after_more_than_the_wait(rt: HostRuntime) -> Resul
     Ok(())
 }
 
-// Each rival is told where it is not the one that was told last.
+// Each rival is reported unless it is the one that was reported last.
 #[test]
 fn each_further_rival_is_told(rt: HostRuntime) -> Result<(), Fail> {
     let steps = [

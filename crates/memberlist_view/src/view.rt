@@ -14,8 +14,8 @@ use std::alloc::{AllocError, Global};
 use std::collections::{BTreeMap, btree_map};
 use std::marker::Model;
 
-/// What a member of a cluster that heard these messages at these times would show, as memberlist's
-/// `state.go` has it, of one who listens and says nothing.
+/// What a member of a cluster that heard these messages at these times would show, by memberlist's
+/// `state.go`, if it only listens and says nothing.
 #[derive(Drop, Debug)]
 pub struct View {
     alloc: Global,
@@ -32,7 +32,7 @@ impl Model for View {
 }
 
 impl View {
-    /// The view of one who heard nothing, and who forgets a dead member after a wait of so many
+    /// The view of a member that heard nothing, and that forgets a dead member after this wait in
     /// microseconds (memberlist's `GossipToTheDeadTime`: 30 seconds in a local network, 60 in a
     /// wide one). What grows later takes memory from the allocator.
     pub fn new(alloc: Global, wait: u64) -> View
@@ -47,12 +47,12 @@ impl View {
         }
     }
 
-    /// Takes in what was heard, and tells what changed. None where nothing did, and then it takes
-    /// no memory.
+    /// Adds what was heard, and returns what changed. `None` if nothing did, and then it takes no
+    /// memory.
     ///
     /// # Errors
     ///
-    /// `AllocError` where memory for what changes is refused. The view is as it was.
+    /// `AllocError` if there is not enough memory for the change. The view is as it was.
     pub fn hear(&mut self, heard: &Heard) -> Result<Option<Event>, AllocError>
         ensures event { IfOk result (λ event. event ≡ event_of self.old heard.now) }
         ensures step { OnOk result (self.new ≡ view_after self.old heard.now) }
@@ -81,21 +81,21 @@ impl View {
         Ok(Some(event))
     }
 
-    /// After how many microseconds a dead member is forgotten.
+    /// How many microseconds after its death a member is forgotten.
     pub fn wait(&self) -> u64
         ensures { result ≡ self.now.wait }
     {
         self.wait
     }
 
-    /// What the view shows of a name, or none where it shows nothing.
+    /// What the view shows for a name, or `None` if it shows nothing.
     pub fn get(&self, name: &MemberName) -> Option<&Entry>
         ensures { option_copied result ≡ entry_of self.now name.now }
     {
         self.entries.get(name)
     }
 
-    /// Each name that the view shows with what it shows, in ascending byte order of the names.
+    /// Each name that the view shows, with its entry, in ascending byte order of the names.
     pub fn iter(&self) -> btree_map::Iter<'_, MemberName, Entry>
         ensures { result ≡ self.now.entries }
     {
