@@ -1,4 +1,4 @@
-//! The keys of a cluster, from the files that a command line names.
+//! The keys of a cluster, from the files on a command line.
 #![tactic(auto)]
 
 ghost use Rattle.std.specs.Prelude.{◌≤◌, length, IfOk};
@@ -8,13 +8,13 @@ use memberlist_keyring::{KeyFileFault, Keyring};
 use std::alloc::{AllocError, Global};
 use swim_program::{BOUND, Failure, Place, What, read_file};
 
-/// The keys in the files that these words name, in the order of the words.
+/// The keys in these files, in the order of the arguments.
 ///
 /// # Errors
 ///
-/// What the program then says and its status: a file that cannot be read is a device fault, one of
-/// more than 268,435,456 bytes is too long, and one that holds something else than keys is refused
-/// with the place of the first line or text that is no key.
+/// The message and the exit status of the program: a file that cannot be read is a device fault,
+/// one of more than 268,435,456 bytes is too long, and one that holds something else than keys is
+/// refused with the place of the first line or text that is not a key.
 pub fn keyring_of(rt: &HostRuntime, program: &str, files: &[String]) -> Result<Keyring, Failure> {
     let mut keys = Keyring::new(rt.alloc());
     for (index, file) in files.iter().enumerate() {
@@ -42,7 +42,7 @@ fn text_of(rt: &HostRuntime, file: &str) -> Result<Vec<u8>, What>
     Ok(text)
 }
 
-/// That the file holds something else than keys.
+/// The failure for a file that holds something else than keys.
 fn refused(alloc: Global, program: &str, file: &str, fault: KeyFileFault) -> Failure {
     match refusal_text(alloc, program, file, fault) {
         Ok(Some(text)) => Failure::Refused { text, status: 3 },
@@ -50,7 +50,7 @@ fn refused(alloc: Global, program: &str, file: &str, fault: KeyFileFault) -> Fai
     }
 }
 
-/// What is said of it, or nothing if memory ran out: `swimunwrap: keys: line 2: fault 50 BadKey`.
+/// Its message, or nothing if out of memory: `swimunwrap: keys: line 2: fault 50 BadKey`.
 fn refusal_text(
     alloc: Global,
     program: &str,
