@@ -9,17 +9,17 @@ use Rattle.swimunwrap.specs.Chosen.{Choice}
 use Rattle.swimunwrap.specs.declared.verb.Verb.TheVariants as verb
 use Rattle.swimunwrap.specs.Words.{AsksFor, at_most_one, key_words, program, verb_of_flag}
 
--- the words of this program are among those of which `clap` gives the matches
+-- this program is one whose matches `clap` specifies
 pub program_is_simple : is_simple program ≡ true
 unfolding clap_on_literals
 program_is_simple = refl
 
--- and of those of which it gives the faults
+-- and one whose faults it specifies
 pub program_is_free : is_simple_and_free program ≡ true
 unfolding clap_on_literals
 program_is_free = refl
 
--- what is chosen is what the words ask for, where they name the command
+-- the choice is what the arguments ask for, if they name the command
 pub asks_stream : (o : Option (Text × List Row)) (flags rows : List Row) (choice : Choice) → Some rows ≡ option_map (λ p. p.1) o → choice.verb ≡ verb.Stream
     → choice.files ≡ at_most_one (first_of (codes "FILE") rows) → choice.key_files ≡ key_words flags ++ key_words rows → AsksFor o flags choice
 asks_stream None flags rows choice found verb files keys = absurd cc
@@ -27,13 +27,13 @@ asks_stream (Some p) flags rows choice found verb files keys =
     let same : rows ≡ p.1 = cc in
     (verb, files ∙ ap (λ r. at_most_one (first_of (codes "FILE") r)) same, keys ∙ ap (λ r. key_words flags ++ key_words r) same)
 
--- and where they name none
+-- and if they do not
 pub asks_lines : (o : Option (Text × List Row)) (flags rows : List Row) (choice : Choice) → None ≡ option_map (λ (p : Text × List Row). p.1) o → rows ≡ flags
     → choice.verb ≡ verb_of_flag (first_of (codes "skip") rows) → choice.files ≡ [] → choice.key_files ≡ key_words rows → AsksFor o flags choice
 asks_lines None flags rows choice none same verb files keys = (verb ∙ ap (λ r. verb_of_flag (first_of (codes "skip") r)) same, files, keys ∙ ap key_words same)
 asks_lines (Some p) flags rows choice none same verb files keys = absurd cc
 
--- ---- the flag, by the word that `clap` gives it
+-- ---- the flag, from what `clap` returns
 
 skips_by : (same : Bool) → same ≡ true → verb.Skipping ≡ (if same then verb.Skipping else verb.Lines)
 skips_by true e = refl
@@ -59,7 +59,7 @@ pub keeps_unasked : (o : Option (Bor (List ℕ))) (flag : Option Text) → optio
 keeps_unasked o flag read is =
     let said : flag ≡ None = sym read ∙ ap (option_map (λ s. s.now)) is in rw said refl
 
--- ---- the file, by the word that `clap` gives
+-- ---- the file, from what `clap` returns
 
 pub one_file : (o : Option (Bor (List ℕ))) (word : Bor (List ℕ)) (found : Option Text) (text : List ℕ) → option_map
     (λ s. s.now) o ≡ found → o ≡ Some word → text ≡ word.now

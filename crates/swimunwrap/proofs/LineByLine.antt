@@ -1,4 +1,4 @@
--- What becomes of lines, one line after the other.
+-- The outcome of lines, one line after the other.
 use Rattle.std.proofs.Common.{◌≡◌, ℕ, zero, suc, ◌+◌, ◌<◌, Bool, List, [], ◌∷◌, ◌++◌, length, take, get_or, refl, ap, ap₂, ◌∙◌, sym, subst, append_assoc, length-take-le, arith}
 use Rattle.std.specs.List.{enumerate_from}
 use Rattle.std.proofs.lemmas.List.FromFn.{length-enumerate_from, get_or-enumerate_from}
@@ -8,7 +8,7 @@ use Rattle.swimunwrap.specs.declared.cause.Cause.{Cause}
 use Rattle.swimunwrap.specs.Lines.{Becomes, AllBecome, BecomeTooLong}
 use Rattle.swimunwrap.specs.Unwrapped.{parted}
 
--- one more line, behind those before
+-- one more line, after those before
 behind : (keys : List (List ℕ)) (skip : Bool) (before : List ℕ) (lines : List (List ℕ)) (line text own : List ℕ)
     (causes first : List Cause) → AllBecome keys skip (before ∷ lines) text causes → Becomes keys skip line own first
     → AllBecome keys skip (before ∷ lines ++ line ∷ []) (text ++ 10 ∷ own) (causes ++ first)
@@ -28,11 +28,11 @@ behind keys skip before (next ∷ lines) line text own causes first each h =
       ap (λ t. t ++ first) each.7 ∙ append_assoc first0 more first,
     )
 
--- a line behind others begins with a line feed
+-- a line after others starts with a line feed
 parted-more : (index : ℕ) (text : List ℕ) → parted (suc index) text ≡ text ++ 10 ∷ []
 parted-more index text = grind (arith, nat_tests)
 
--- one more line, by how many stand before it
+-- one more line, by how many are before it
 pub AllBecome-push : (keys : List (List ℕ)) (skip : Bool) (lines : List (List ℕ)) (index : ℕ) (line text own : List ℕ)
     (causes first : List Cause) → index ≡ length lines
     → AllBecome keys skip lines text causes → Becomes keys skip line own first

@@ -1,4 +1,4 @@
--- What a line becomes, from the packet on it.
+-- The outcome of a line, from the packet on it.
 use Rattle.std.proofs.Common.{◌≡◌, ℕ, List, Result, Ok, Err, IfOk, ap₂}
 use Rattle.swimunwrap.specs.declared.cause.Cause.{Cause}
 use Rattle.swimunwrap.specs.declared.cause.Cause.TheVariants.{NotHex, Wrapped, NoMessage, NoKeyFits}
@@ -8,7 +8,7 @@ use Rattle.swimunwrap.specs.Outcome.{IsOutcome, IsOutcomeOf}
 use Rattle.swimunwrap.specs.Packet.{IsHexOf}
 use Rattle.swimunwrap.specs.Unwrapped.{Shown}
 
--- what the bytes become the line becomes
+-- the outcome of the bytes is that of the line
 pub of_line : {E : Type 0} (keys : List (List ℕ)) (line bytes : List ℕ) (result : Result Outcome E) → IsHexOf line bytes
     → IfOk result (IsOutcomeOf keys bytes) → IfOk result (IsOutcome keys line)
 of_line keys line bytes (Err e) decoded is = tt

@@ -1,4 +1,4 @@
--- What is said of bytes that hold no stream is no fault of a device, and not that of a length.
+-- The error for bytes that hold no stream is not a device fault, and not that of a length.
 use Rattle.std.proofs.Common.{ℕ, Option, Some, None, arith}
 use Rattle.std.specs.Prelude.{◌≢◌}
 use Rattle.memberlist_cipher.specs.declared.fault.CipherFault.{CipherFault}
@@ -11,7 +11,7 @@ use Rattle.swim_program.specs.declared.report.What.{What}
 use Rattle.swim_program.specs.declared.report.What.TheVariants.{Refused, Device, Memory}
 use Rattle.swimunwrap.specs.Stream.{what_of_wrap, what_of_cipher, what_of_stream}
 
--- it is no fault of a device, and not that of a length
+-- it is not a device fault, and not that of a length
 abbrev pub IsOwn : What → Type 0
 IsOwn what = (what ≢ Device) × (what ≢ Refused 32 None)
 

@@ -1,11 +1,11 @@
--- Causes, apart from each other.
+-- Causes, each with its own place.
 use Rattle.std.specs.Prelude.{ℕ, ◌+◌}
 use Rattle.memberlist_wrap.specs.Fault.{wrap_number}
 use Rattle.swimunwrap.specs.declared.cause.Cause.{Cause}
 use Rattle.swimunwrap.specs.declared.cause.Cause.TheVariants.{NotHex, Wrapped, NoMessage, NoKeyFits}
 
--- a place of its own for each cause: faults of wrappers have that of their number, 40 to 49, and
--- first bytes the 256 behind these
+-- a place for each cause: faults of wrappers have that of their number, 40 to 49, and first bytes
+-- the 256 after these
 abbrev pub cause_place : Cause → ℕ
 cause_place NotHex = 0
 cause_place NoKeyFits = 1

@@ -1,8 +1,8 @@
--- What the words of a command line ask for.
+-- What the arguments ask for.
 use Rattle.std.specs.Prelude.{ℕ, List}
 use Rattle.swimunwrap.specs.declared.verb.Verb.{Verb}
 
--- a verb, the words that name files, one at most, and those that name files of keys
+-- a verb, the arguments that name files, at most one, and those that name key files
 pub record Choice : Type 0 where
   pub verb : Verb
   pub files : List (List ℕ)

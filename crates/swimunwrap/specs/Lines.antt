@@ -3,19 +3,19 @@ use Rattle.std.specs.Prelude.{◌≡◌, ◌⊎◌, ◌<◌, ℕ, Bool, true, fa
 use Rattle.swimunwrap.specs.declared.cause.Cause.{Cause}
 use Rattle.swimunwrap.specs.Packet.{ReadsLine, Fails}
 
--- a line of which nothing is read stays as it is; where such lines are left out it is empty, and
--- its cause is kept
+-- a line that cannot be read stays as it is; if such lines are left out it is empty, and its cause
+-- is kept
 abbrev pub Stays : Bool → List ℕ → Cause → List ℕ → List Cause → Type 0
 Stays false line cause text causes = (text ≡ line) × (causes ≡ [])
 Stays true line cause text causes = (text ≡ []) × (causes ≡ cause ∷ [])
 
--- what becomes of a line, and why it was left out, if it was
+-- the outcome of a line, and why it was left out, if it was
 abbrev pub Becomes : List (List ℕ) → Bool → List ℕ → List ℕ → List Cause → Type 0
 Becomes keys skip line text causes =
     (ReadsLine keys line text × (causes ≡ []))
     ⊎ ((cause : Cause) × Fails keys line cause × Stays skip line cause text causes)
 
--- what becomes of lines, with a line feed between each two
+-- the outcome of lines, with a line feed between each two
 abbrev pub AllBecome : List (List ℕ) → Bool → List (List ℕ) → List ℕ → List Cause → Type 0
 AllBecome keys skip [] text causes = (text ≡ []) × (causes ≡ [])
 AllBecome keys skip (line ∷ []) text causes = Becomes keys skip line text causes
@@ -24,7 +24,7 @@ AllBecome keys skip (line ∷ next ∷ lines) text causes =
     × Becomes keys skip line own first × AllBecome keys skip (next ∷ lines) rest more
     × (text ≡ own ++ 10 ∷ rest) × (causes ≡ first ++ more)
 
--- the first lines, so many of them, become a text that is longer than the limit
+-- the first lines, this many of them, become a text that is longer than the limit
 pub record BecomeTooLong (keys : List (List ℕ)) (skip : Bool) (limit : ℕ) (lines : List (List ℕ))
     : Type 0 where
   pub count : ℕ

@@ -1,4 +1,4 @@
--- The push/pull stream that one direction of a connection holds, and what is said where it holds none.
+-- The push/pull stream in one direction of a connection, and the error if there is none.
 use Rattle.std.specs.Prelude.{◌≡◌, ℕ, List, Some, None}
 use Rattle.memberlist_cipher.specs.declared.fault.CipherFault.{CipherFault}
 use Rattle.memberlist_cipher.specs.declared.fault.CipherFault.TheVariants as cipher
@@ -13,21 +13,21 @@ use Rattle.swim_program.specs.declared.report.What.{What}
 use Rattle.swim_program.specs.declared.report.What.TheVariants.{Refused, Memory}
 use Rattle.swim_program.specs.Limits.{most_bytes}
 
--- the bytes are the stream, in wrappers, or encrypted under the first key that opens them
+-- the bytes are the stream, in wrappers, or encrypted under the first key that decrypts them
 abbrev pub IsStreamIn : List (List ℕ) → List ℕ → List ℕ → Type 0
 IsStreamIn keys bytes stream = IsStreamWithin most_bytes keys bytes stream
 
--- what is said of bytes that wrap no message
+-- the error for bytes that wrap no message
 abbrev pub what_of_wrap : WrapFault → What
 what_of_wrap wrap.Memory = Memory
 what_of_wrap fault = Refused (wrap_number fault) None
 
--- what is said of bytes that no key opens
+-- the error for bytes that no key decrypts
 abbrev pub what_of_cipher : CipherFault → What
 what_of_cipher cipher.Memory = Memory
 what_of_cipher fault = Refused (cipher_number fault) None
 
--- what is said of bytes that hold no stream
+-- the error for bytes that hold no stream
 abbrev pub what_of_stream : StreamFault → What
 what_of_stream (stream.Wrapped fault) = what_of_wrap fault
 what_of_stream (stream.Closed fault) = what_of_cipher fault
@@ -35,7 +35,7 @@ what_of_stream (stream.NoStream first) = Refused 16 (Some first)
 what_of_stream stream.Empty = Refused 1 None
 what_of_stream stream.Memory = Memory
 
--- what a refusal says of bytes: the fault for which they hold none
+-- what a refusal says about bytes: the fault for which they hold none
 abbrev pub Explains : List (List ℕ) → List ℕ → What → Type 0
 Explains keys bytes what =
     (fault : StreamFault) × ExplainsFault most_bytes keys bytes fault

@@ -7,6 +7,6 @@ pub record Shown : Type 0 where
   pub text : List ℕ
   pub causes : List Cause
 
--- a line feed behind the text, where lines came before
+-- a line feed after the text, if lines came before
 abbrev pub parted : ℕ → List ℕ → List ℕ
 parted index text = if index == 0 then text else text ++ 10 ∷ []

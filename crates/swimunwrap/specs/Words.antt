@@ -1,4 +1,4 @@
--- The words of a command line, and what they ask for.
+-- The arguments, and what they ask for.
 use Rattle.std.specs.Prelude.{◌≡◌, true, List, [], ◌∷◌, ◌++◌, Option, Some, None, codes, if◌then◌else◌, unwrap_or}
 use Rattle.std.specs.Str.{bytes_eq}
 use Rattle.clap.specs.declared.builder.action.ArgAction.TheVariants.{Append, SetTrue}
@@ -14,18 +14,18 @@ use Rattle.swimunwrap.specs.Chosen.{Choice}
 abbrev pub skip_rule : Rule
 skip_rule = record (new_rule (codes "skip")) { long = Some (codes "skip"); action = Some SetTrue }
 
--- the flag before each word that names a file of keys
+-- the flag before each argument that names a key file
 abbrev pub key_rule : Rule
 key_rule = record (new_rule (codes "key-file")) {
   long = Some (codes "key-file");
   action = Some Append;
 }
 
--- a word that names a file, or none
+-- an optional argument that names a file
 abbrev pub file_rule : Rule
 file_rule = new_rule (codes "FILE")
 
--- the command whose word may name a file
+-- the command whose argument may name a file
 abbrev pub stream_command : App
 stream_command = with_rule (with_rule (new_app (codes "stream")) key_rule) file_rule
 
@@ -39,28 +39,28 @@ bare = record (new_app (codes "swimunwrap")) {
   };
 }
 
--- no words, or `--skip`, or `stream` and a file or none; and files of keys in both places
+-- no arguments, or `--skip`, or `stream` with or without a file; and key files in both places
 abbrev pub program : App
 program = with_subcommand (with_rule (with_rule bare skip_rule) key_rule) stream_command.top
 
--- ---- what the words ask for
+-- ---- what the arguments ask for
 
 -- the first text of a list, as a list
 abbrev pub at_most_one : Option Text → List Text
 at_most_one None = []
 at_most_one (Some word) = word ∷ []
 
--- without a command lines are unwrapped, and left out where the flag says so
+-- without a command lines are unwrapped, and left out if the flag says so
 abbrev pub verb_of_flag : Option Text → Verb
 verb_of_flag None = verb.Lines
 verb_of_flag (Some text) = if bytes_eq text (codes "true") then verb.Skipping else verb.Lines
 
--- the words that name files of keys
+-- the arguments that name key files
 abbrev pub key_words : List Row → List Text
 key_words rows = unwrap_or (all_of (codes "key-file") rows) []
 
--- the command is `stream`, and has the file that its word names; files of keys are named before it
--- and behind it
+-- the command is `stream`, and has the file that its argument names; key files are named before it
+-- and after it
 abbrev pub AsksFor : Option (Text × List Row) → List Row → Choice → Type 0
 AsksFor None rows choice =
     (choice.verb ≡ verb_of_flag (first_of (codes "skip") rows)) × (choice.files ≡ [])

@@ -1,4 +1,4 @@
-//! Why a line is none that can be read.
+//! Why a line cannot be read.
 
 ghost use Rattle.std.specs.Prelude.{◌≡◌, ◌<◌};
 ghost use Rattle.swimunwrap.specs.Cause.{cause_place};
@@ -6,25 +6,25 @@ ghost use Rattle.swimunwrap.specs.Cause.{cause_place};
 use memberlist_wrap::WrapFault;
 use std::fmt;
 
-/// How many places causes have.
+/// How many places there are for causes.
 pub(crate) const PLACES: usize = 307;
 
-/// Why a line can be read as no message.
+/// Why a line cannot be read as a message.
 #[derive(Clone, Copy, Debug, PartialEq, Eq)]
 pub enum Cause {
-    /// It is no hexadecimal.
+    /// It is not hexadecimal.
     NotHex,
     /// It wraps nothing.
     Wrapped(WrapFault),
-    /// What it wraps begins with this byte, and is no message that packets have: it is encrypted,
-    /// or broken, or of another kind.
+    /// The unwrapped bytes start with this byte, and are not a message of packets: they are
+    /// encrypted, broken, or of another kind.
     NoMessage(u8),
-    /// It is encrypted, and none of the keys opens it.
+    /// It is encrypted, and none of the keys decrypts it.
     NoKeyFits,
 }
 
 impl Cause {
-    /// Its place among all causes, of which each has its own.
+    /// Its place among all causes. Each has its own.
     pub(crate) fn place(self) -> usize
         ensures is { result ≡ cause_place self }
         ensures bound { result < 307 }

@@ -1,4 +1,4 @@
-//! The words after the program's name.
+//! The command line arguments.
 
 ghost use Rattle.std.specs.Prelude.{◌≡◌, true, false, [], codes, map, string_bytes, IfOk, IfErr};
 ghost use Rattle.clap.specs.Words.{app_of, fault_of, found_of, rows_of, first_of, matches_of, rule_of, takes, subcommand_of, with_subcommand};
@@ -11,21 +11,23 @@ use clap::{Arg, ArgAction, ArgMatches, Command};
 use std::alloc::{AllocError, Global};
 use swim_program::{WordFault, texts_of};
 
-/// Reads the words after the program's name: none, or `--skip`, or `stream` with a file or none;
-/// and `--key-file` with a file before or behind `stream`, as often as there are files of keys.
+/// Parses the arguments: none, or `--skip`, or `stream` with or without a file; and `--key-file`
+/// with a file before or after `stream`, once for each key file.
 ///
 /// # Errors
 ///
-/// `Words` where they are other ones, or ask for help or the version; it has the text to print.
-/// `Memory` where a growth was refused.
+/// `Words` if they are invalid, or ask for help or the version; it has the text to print. `Memory`
+/// if out of memory.
 pub fn chosen(alloc: Global, words: &[String]) -> Result<Chosen, WordFault>
-    // The verb and the file are those of the command, or of the flag, that clap finds in the words.
+    // The verb and the file are those of the command, or of the flag, that clap finds in the
+    // arguments.
     ensures asks { IfOk result (AsksFor (subcommand_of program (map string_bytes words.now))
         (matches_of program (map string_bytes words.now))) }
-    // They are taken only where clap finds no fault in them, and refused by a fault that it finds.
+    // They are accepted only if clap finds no fault in them, and refused with a fault that it
+    // finds.
     ensures faultless { IfOk result (λ _. fault_of program (map string_bytes words.now) ≡ []) }
     ensures faulty { IfErr result (IsRefusal (fault_of program (map string_bytes words.now))) }
-    // Words that clap takes are refused for want of memory alone.
+    // Arguments that clap accepts are refused only if memory runs out.
     ensures takes { IfErr result (λ fault. takes program (map string_bytes words.now) ≡ true
         → fault ≡ WordFault.Memory) }
 {
@@ -65,7 +67,7 @@ fn lone_program<'a>(alloc: Global) -> Command<'a>
         .disable_help_subcommand(true)
 }
 
-/// Adds the command whose word may name a file.
+/// Adds the command whose argument may name a file.
 fn add_stream<'a>(alloc: Global, command: Command<'a>) -> Result<Command<'a>, AllocError>
     ensures { IfOk result (λ whole.
         app_of whole ≡ with_subcommand (app_of command.entry) stream_command.top) }
@@ -79,7 +81,7 @@ fn add_stream<'a>(alloc: Global, command: Command<'a>) -> Result<Command<'a>, Al
     command.subcommand(stream)
 }
 
-/// The flag before each word that names a file of keys.
+/// The flag before each argument that names a key file.
 fn key_argument<'a>(alloc: Global) -> Arg<'a>
     ensures rule { rule_of result ≡ key_rule }
     ensures local { result.global ≡ false }
@@ -104,7 +106,7 @@ fn verb_of_flag(matches: &ArgMatches) -> Verb
     }
 }
 
-/// The word that names a file, if there is one.
+/// The argument that names a file, if there is one.
 fn file_of(alloc: Global, found: &ArgMatches) -> Result<Vec<String>, AllocError>
     ensures { IfOk result (λ files. map string_bytes files.items
         ≡ at_most_one (first_of (codes "FILE") (rows_of (found_of found.now)))) }

@@ -1,11 +1,11 @@
-//! What is said of lines that were left out.
+//! The message about lines that were left out.
 
 use crate::NAME;
 use crate::cause::{Cause, PLACES};
 use std::alloc::{AllocError, Global};
 
-/// How many lines were left out of how many, and for each cause how many, in the order in which the
-/// causes came: `swimunwrap: 3 of 217 lines left out: 2 not hexadecimal, 1 checksum wrong`.
+/// How many lines were left out of how many, and the number for each cause, in the order in which
+/// the causes came: `swimunwrap: 3 of 217 lines left out: 2 not hexadecimal, 1 checksum wrong`.
 pub fn left_out_text(alloc: Global, causes: &[Cause], input: &[u8]) -> Result<String, AllocError> {
     let mut counts = counts_of(causes);
     let mut text = format!(in alloc;
@@ -37,7 +37,7 @@ fn counts_of(causes: &[Cause]) -> [usize; PLACES] {
     counts
 }
 
-/// How many lines the input has, where a line feed ends each but perhaps the last.
+/// How many lines the input has. A line feed ends each line, except perhaps the last.
 fn lines_in(input: &[u8]) -> usize {
     let feeds = input.iter().filter(|byte| **byte == b'\n').count();
     match input.last() {

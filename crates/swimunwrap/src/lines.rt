@@ -1,4 +1,4 @@
-//! Packets in hexadecimal, one a line, without their wrappers.
+//! Packets in hexadecimal, one per line, unwrapped.
 
 ghost use Rattle.std.specs.Prelude.{◌≡◌, ◌≢◌, ◌↔◌, ◌⊎◌, ◌<◌, ◌≤◌, ◌++◌, ◌∷◌, [], ℕ, List, length, None, IfOk, IfErr, OnOk};
 ghost use Rattle.swim_program.specs.Limits.{most_bytes};
@@ -16,8 +16,8 @@ use std::alloc::{AllocError, Global};
 use std::marker::Model;
 use swim_program::{BOUND, Place, Report, What, lines_of};
 
-/// What became of lines: their text, and why each was left out that was. Contracts see it as these
-/// two.
+/// What became of lines: their text, and why each line that was left out was. Contracts see it as
+/// these two.
 #[derive(Debug, Drop)]
 pub struct Unwrapped {
     text: Vec<u8>,
@@ -42,21 +42,21 @@ impl Unwrapped {
         }
     }
 
-    /// A line for each line.
+    /// One line for each line of the input.
     pub fn text(&self) -> &[u8]
         ensures { result.now ≡ self.now.text }
     {
         &self.text
     }
 
-    /// Why each line was left out that was, in their order.
+    /// Why each line that was left out was, in the order of the lines.
     pub fn left_out(&self) -> &[Cause]
         ensures { result.now ≡ self.now.causes }
     {
         &self.left_out
     }
 
-    /// A line feed.
+    /// Adds a line feed.
     fn end_line(&mut self) -> Result<(), AllocError>
         ensures { OnOk result (self.new ≡ record self.old { text = self.old.text ++ 10 ∷ [] }) }
     {
@@ -64,7 +64,7 @@ impl Unwrapped {
         Ok(())
     }
 
-    /// What becomes of one more line.
+    /// Adds the outcome of one more line.
     fn add(
         &mut self,
         alloc: Global,
@@ -87,20 +87,19 @@ impl Unwrapped {
     }
 }
 
-/// The packets, which are given in hexadecimal, one a line, without their wrappers: for each line
-/// one line.
+/// Unwraps packets in hexadecimal, one per line, and returns one line for each line.
 ///
-/// It is the message inside, in hexadecimal, where that makes claims (its first byte is 3, 4, 5 or
-/// 7). It is empty where the message is a whole ping, indirect ping, ack, nack, user message or
-/// error, or is empty. Else it is the line as it was, or, with `skip`, empty, and its cause is
-/// kept. What is no message and begins as an encrypted packet is first opened with the keys, where
-/// there are some. A message has at most 1,048,576 bytes. The last line of the text has a line feed
-/// where that of the input has one.
+/// It is the message inside, in hexadecimal, if that makes claims (its first byte is 3, 4, 5 or 7).
+/// It is empty if the message is a whole ping, indirect ping, ack, nack, user message or error, or
+/// is empty. Otherwise it is the line as it was, or, with `skip`, empty, and the cause is kept.
+/// Bytes that are not a message and start as an encrypted packet are first decrypted with the keys,
+/// if there are any. A message has at most 1,048,576 bytes. The last line of the text has a line
+/// feed if that of the input has one.
 ///
 /// # Errors
 ///
-/// InputTooLong at the input where it has more than 268,435,456 bytes; TooLarge at the output where
-/// the text has more; Memory.
+/// InputTooLong at the input if it has more than 268,435,456 bytes; TooLarge at the output if the
+/// text has more; Memory.
 pub fn unwrap_lines(
     alloc: Global,
     keys: &Keyring,
@@ -114,7 +113,7 @@ pub fn unwrap_lines(
 
     ensures long { (most_bytes < length input.now)
         ↔ (result ≡ Err (record { place = Place.Input; what = What.Refused 32 None })) }
-    // Another refusal is for want of memory, or what comes out is too long.
+    // It is otherwise refused only if memory runs out, or the output is too long.
     ensures large { IfErr result (λ report. report.what ≢ What.Memory
         → length input.now ≤ most_bytes
         → (report ≡ record { place = Place.Output; what = What.Refused 47 None })
@@ -136,7 +135,7 @@ pub fn unwrap_lines(
     Ok(unwrapped)
 }
 
-/// What becomes of a line, behind a line feed where it is not the first.
+/// Adds the outcome of a line, after a line feed unless it is the first.
 fn add_line(
     alloc: Global,
     keys: &Keyring,
@@ -157,7 +156,7 @@ fn add_line(
     unwrapped.add(alloc, keys, line, skip)
 }
 
-/// That what comes out is longer than the bound.
+/// The error for an output that is longer than the limit.
 fn too_large() -> What
     ensures { result ≡ What.Refused 47 None }
 {

@@ -1,15 +1,15 @@
-//! A program that takes off what memberlist's transport wraps around messages: packets in
-//! hexadecimal or one stream in, the same without their wrappers out.
+//! A program that removes what memberlist's transport wraps around messages: it reads packets in
+//! hexadecimal or one stream, and prints them unwrapped.
 //!
 //! | module | subject |
 //! |---|---|
-//! | `verb` | what the words of a command line ask for |
-//! | `command_line` | the words after the program's name |
-//! | `help` | what help and the version show |
-//! | `lines` | packets in hexadecimal, one a line |
+//! | `verb` | what the arguments ask for |
+//! | `command_line` | the command line arguments |
+//! | `help` | the texts of help and version |
+//! | `lines` | packets in hexadecimal, one per line |
 //! | `packet` | the packet on a line |
-//! | `cause` | why a line can be read as no message |
-//! | `left_out` | what is said of lines that were left out |
+//! | `cause` | why a line cannot be read as a message |
+//! | `left_out` | the message about lines that were left out |
 //! | `stream` | a push/pull stream |
 #![tactic(auto)]
 
@@ -38,7 +38,7 @@ use stream::unwrap_stream;
 use swim_program::{Failure, Place, Report, What, read_file, read_input, words_of, write_out};
 use verb::{Chosen, Verb};
 
-/// The program's name, with which what it says on standard error begins.
+/// The program's name, with which its messages on standard error start.
 const NAME: &str = "swimunwrap";
 
 fn main(rt: HostRuntime) -> ExitCode {
@@ -69,8 +69,8 @@ fn run_chosen(rt: &HostRuntime, keys: &Keyring, chosen: &Chosen) -> Result<(), R
     }
 }
 
-/// Unwraps the packets on standard input, and then says how many lines were left out, if any were.
-/// What is said is made before anything is printed.
+/// Unwraps the packets on standard input, and then reports how many lines were left out, if any
+/// were. The report is made before anything is printed.
 fn print_lines(rt: &HostRuntime, keys: &Keyring, skip: bool) -> Result<(), Report>
     ensures { IfErr result (λ report. IsAmong report.place 0) }
 {
@@ -88,7 +88,7 @@ fn print_lines(rt: &HostRuntime, keys: &Keyring, skip: bool) -> Result<(), Repor
     }
 }
 
-/// Says a line on standard error. If that fails it is a device fault at the output.
+/// Prints a line on standard error. If that fails it is a device fault at the output.
 fn tell(rt: &HostRuntime, line: &String) -> Result<(), Report>
     ensures { IfErr result (λ report. IsAmong report.place 0) }
 {
@@ -98,7 +98,7 @@ fn tell(rt: &HostRuntime, line: &String) -> Result<(), Report>
     }
 }
 
-/// Unwraps the stream in the file, or on standard input where there is none or its word is `-`.
+/// Unwraps the stream in the file, or on standard input if there is none or it is `-`.
 fn print_file(rt: &HostRuntime, keys: &Keyring, files: &[String]) -> Result<(), Report>
     ensures { IfErr result (λ report. IsAmong report.place (length files.now)) }
 {
@@ -111,7 +111,7 @@ fn print_file(rt: &HostRuntime, keys: &Keyring, files: &[String]) -> Result<(), 
     }
 }
 
-/// Unwraps the stream that these bytes of a place are.
+/// Unwraps the stream in these bytes from a place.
 fn print_stream(rt: &HostRuntime, keys: &Keyring, bytes: &[u8], place: Place) -> Result<(), Report>
     ensures { IfErr result (λ report. (report.place ≡ place) ⊎ (report.place ≡ Place.Output)) }
 {

@@ -13,14 +13,14 @@ use swim_program::without_return;
 /// What a line becomes.
 #[derive(Debug, Drop)]
 pub(crate) enum Outcome {
-    /// This text, which is empty where the message makes no claims.
+    /// This text, which is empty if the message makes no claims.
     Text(String),
     /// It cannot be read.
     Unread(Cause),
 }
 
-/// What the line becomes: the message of its packet, in hexadecimal, where that makes claims,
-/// nothing where it is a whole message that makes none, and else why it cannot be read.
+/// The outcome of the line: the message of its packet, in hexadecimal, if that makes claims,
+/// nothing if it is a whole message that makes none, and else why it cannot be read.
 pub(crate) fn outcome_of_line(
     alloc: Global,
     keys: &Keyring,

@@ -1,4 +1,4 @@
-//! A push/pull stream without its wrappers.
+//! A push/pull stream, unwrapped.
 
 ghost use Rattle.std.specs.Prelude.{◌≡◌, ◌≢◌, ◌↔◌, ◌<◌, ◌≤◌, List, ℕ, None, length, IfOk, IfErr};
 ghost use Rattle.swim_program.specs.Limits.{most_bytes};
@@ -12,21 +12,21 @@ use std::alloc::Global;
 use swim_program::{BOUND, What};
 use swim_wire::WireFault;
 
-/// The push/pull stream that one direction of a TCP connection is, without its wrappers, and opened
-/// with the keys where it is encrypted and there are some. That its first byte is that of such a
-/// stream is all that is looked at.
+/// The push/pull stream in one direction of a TCP connection, unwrapped, and decrypted with the
+/// keys if it is encrypted and there are any. Only its first byte is checked to be that of such a
+/// stream.
 ///
 /// # Errors
 ///
-/// InputTooLong where the bytes are more than 268,435,456, the faults of `unwrap`, with that many
-/// bytes as the limit, and then WrongType, with its first byte, where the message is no push/pull
-/// stream, and Ended where it is empty. Where it is encrypted and there are keys, the fault by
-/// which the last of them is refused, and then these of what was encrypted.
+/// InputTooLong if there are more than 268,435,456 bytes, the faults of `unwrap`, with that limit,
+/// and then WrongType, with the first byte, if the message is not a push/pull stream, and Ended if
+/// it is empty. If it is encrypted and there are keys, the fault of the last of them, and else
+/// these errors for the decrypted bytes.
 pub fn unwrap_stream(alloc: Global, keys: &Keyring, bytes: &[u8]) -> Result<Vec<u8>, What>
-    // It is the stream that the bytes hold.
+    // It is the stream in the bytes.
     ensures unwraps { IfOk result (λ stream. IsStreamIn keys.now bytes.now stream.items) }
 
-    // Refused for another cause than memory and their length, they hold none.
+    // If they are refused, and not because of memory or their length, they hold none.
     ensures refuses { IfErr result (λ what. what ≢ What.Memory → length bytes.now ≤ most_bytes
         → (stream : List ℕ) → ¬ IsStreamIn keys.now bytes.now stream) }
     // And the refusal says why.
@@ -44,7 +44,7 @@ pub fn unwrap_stream(alloc: Global, keys: &Keyring, bytes: &[u8]) -> Result<Vec<
     }
 }
 
-/// What is said of bytes that hold no stream.
+/// The error for bytes that hold no stream.
 fn what_of_stream(fault: StreamFault) -> What
     ensures { result ≡ what_of_stream fault }
 {
@@ -57,7 +57,7 @@ fn what_of_stream(fault: StreamFault) -> What
     }
 }
 
-/// What is said of bytes that wrap no message.
+/// The error for bytes that wrap no message.
 fn what_of_wrap(fault: WrapFault) -> What
     ensures { result ≡ what_of_wrap fault }
 {
@@ -70,7 +70,7 @@ fn what_of_wrap(fault: WrapFault) -> What
     }
 }
 
-/// What is said of bytes that no key opens.
+/// The error for bytes that no key decrypts.
 fn what_of_cipher(fault: CipherFault) -> What
     ensures { result ≡ what_of_cipher fault }
 {

@@ -1,4 +1,4 @@
-//! What clauses do not say: real messages, texts, and each public call on its happy path.
+//! What clauses do not cover: real messages, texts, and each public call on its happy path.
 
 mod keys;
 mod streams;
@@ -15,7 +15,7 @@ use std::test::Fail;
 use swim_program::{Report, What, status};
 
 /// An alive packet of `a`, and what Go's hash/crc32 and compress/lzw make of it as memberlist does:
-/// a checksum, a compression, and a checksum round a compression.
+/// a checksum, a compression, and a checksum around a compression.
 const ALIVE: &str =
     "0486a441646472a47f000001ab496e6361726e6174696f6e00a44d657461a0a44e6f6465a161a4506f7274cd1f0aa356736ea0";
 
@@ -36,30 +36,30 @@ const CLAIMLESS: [&str; 4] = [
     "0b81a55365714e6f0a",
 ];
 
-/// That the bytes are those that are wanted.
+/// Asserts that the bytes are the expected ones.
 fn assert_bytes(rt: &impl Abort, found: &[u8], wanted: &[u8], about: &str) {
     assert_eq!(rt; found, wanted, "{about}");
 }
 
-/// That lines were left out for these causes.
+/// Asserts that lines were left out for these causes.
 fn assert_causes(rt: &impl Abort, found: &[Cause], wanted: &[Cause], about: &str) {
     assert_eq!(rt; found, wanted, "{about}");
 }
 
-/// The keys of a file of these lines.
+/// The keys in a file of these lines.
 fn keyring(alloc: Global, text: &str) -> Result<Keyring, Fail> {
     let mut keys = Keyring::new(alloc);
     keys.add_file(alloc, text.as_bytes())?;
     Ok(keys)
 }
 
-/// What becomes of an input under these keys.
+/// The outcome of an input under these keys.
 fn unwrapped(alloc: Global, keys: &str, input: &str, skip: bool) -> Result<Unwrapped, Fail> {
     let keys = keyring(alloc, keys)?;
     Ok(unwrap_lines(alloc, &keys, input.as_bytes(), skip)?)
 }
 
-/// That the input becomes this text under these keys, and nothing is left out of it.
+/// Asserts that the input becomes this text under these keys, and nothing is left out of it.
 fn assert_becomes(
     rt: &impl Abort,
     alloc: Global,
@@ -89,7 +89,7 @@ fn what_makes_none_is_an_empty_line(rt: HostRuntime) -> Result<(), Fail> {
     Ok(())
 }
 
-/// That the input becomes this text without keys.
+/// Asserts that the input becomes this text without keys.
 fn assert_text(
     rt: &impl Abort,
     alloc: Global,
@@ -118,7 +118,7 @@ fn each_line_becomes_a_line(rt: HostRuntime) -> Result<(), Fail> {
     Ok(())
 }
 
-/// That the line is left out under these keys, for this cause.
+/// Asserts that the line is left out under these keys, for this cause.
 fn assert_left_out(
     rt: &impl Abort,
     alloc: Global,

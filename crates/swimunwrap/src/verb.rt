@@ -1,4 +1,4 @@
-//! What the words of a command line ask for.
+//! What the arguments ask for.
 
 ghost use Rattle.std.specs.Prelude.{◌≡◌, map, string_bytes};
 
@@ -7,16 +7,16 @@ use std::marker::Model;
 /// What the program is asked to do.
 #[derive(Clone, Copy, Debug, PartialEq, Eq)]
 pub enum Verb {
-    /// To unwrap the packets on standard input, and to leave the lines that cannot be read.
+    /// Unwrap the packets on standard input, and keep lines that cannot be read as they are.
     Lines,
-    /// To unwrap the packets on standard input, and to leave out the lines that cannot be read.
+    /// Unwrap the packets on standard input, and leave out the lines that cannot be read.
     Skipping,
-    /// To unwrap a stream.
+    /// Unwrap a stream.
     Stream,
 }
 
-/// What the words ask for: a verb, the word that names a file, if there is one, and those that name
-/// files of keys.
+/// What the arguments ask for: a verb, the argument that names a file, if there is one, and those
+/// that name key files.
 #[derive(Debug, Drop)]
 pub struct Chosen {
     verb: Verb,
@@ -59,14 +59,14 @@ impl Chosen {
         self.verb
     }
 
-    /// The word that names a file, if there is one.
+    /// The argument that names a file, if there is one.
     pub fn files(&self) -> &[String]
         ensures { map string_bytes result.now ≡ self.now.files }
     {
         &self.files
     }
 
-    /// The words that name files of keys, in the order in which they are read.
+    /// The arguments that name key files, in the order in which they are read.
     pub fn key_files(&self) -> &[String]
         ensures { map string_bytes result.now ≡ self.now.key_files }
     {

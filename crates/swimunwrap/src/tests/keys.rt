@@ -1,4 +1,4 @@
-//! Lines and streams that are encrypted, as Go's crypto/aes and crypto/cipher make them.
+//! Lines and streams that are encrypted with Go's crypto/aes and crypto/cipher.
 
 use super::{ALIVE, assert_becomes, assert_bytes, assert_left_out, keyring};
 use crate::cause::Cause;
@@ -8,7 +8,8 @@ use std::process::Abort;
 use std::test::Fail;
 use swim_program::What;
 
-/// A key of 32 bytes, one of 24 that encrypted nothing here, and that, one of 16 bytes and the first.
+/// A key of 32 bytes, one of 24 that encrypted nothing here, and that one, one of 16 bytes and the
+/// first.
 const KEY: &str = "AAECAwQFBgcICQoLDA0ODxAREhMUFRYXGBkaGxwdHh8=";
 
 const OTHER_KEY: &str = "AAAAAAAAAAAAAAAAAAAAAAAAAAAAAAAA";
@@ -23,20 +24,20 @@ const SEALED: &str =
 const CHECKED: &str =
     "006e6f6e63652d6e756d6265723104d7c79c86844b27e5d6b7ed579f18c525181c18f0d01d076cb55cf225b051972b51a955b4ac036013e68ade451c00cc148e03034937c255037e855d315851108c572b333ab9d627cd40d7d76be2b0";
 
-/// It under the shorter key, and behind the label `dc`.
+/// It under the shorter key, and after the label `dc`.
 const UNDER_SHORT: &str =
     "016e6f6e63652d6e756d626572d62f586cb009446992e8786c1632c2c323a22cf64ea01a22bee3d4e8e3717010a1b0fda184e7438d8f944447f16368d6ebe476091f0b427f97a3afc347b9d49f162ddd";
 
 const LABELLED: &str =
     "f4026463016e6f6e63652d6e756d6265723920ab3d76e6704b1981b2c4e261f17ba5fc3f130ff8cd1d66bc9156e844b4b8bc30546c509b67376ac0f3e39120cd2272652423e554e1f10971feecd5feda8d3d8cea";
 
-/// An ack, and a byte that is no message.
+/// An ack, and a byte that is not a message.
 const ACK: &str =
     "016e6f6e63652d6e756d6265723f24a82c73fb6e8007e572601a4dee56ab8fa711b76e5035cde6a87f9b0ce9d72705";
 
 const NOTHING: &str = "016e6f6e63652d6e756d6265723b0b56637d80325b1ad4163cc9c2cbef66";
 
-/// A stream of one member, compressed, of version 1, of version 0 behind the label `dc`, and an ack
+/// A stream of one member, compressed, of version 1, of version 0 after the label `dc`, and an ack
 /// as a stream.
 const STREAM: &str =
     "0a0000008a016e6f6e63652d6e756d6265723424ab3d7ee56defc5c3c7a39328c118c98273d79fdcb844a452e54adf83d880f2f39ac5d8d9a46d9882f3e4be038d72c12ad6e19daac821b704768d546f7528744183bc06243ddbc40f0850f3d22ed0ccbc18544e0bf4f3d866e25a87d491ec3e0f6ad1a8bdb2950829fc54ff7494c7c8bc2500a0d7a1ab4fc76b5a98";
@@ -47,7 +48,7 @@ const LABELLED_STREAM: &str =
 const ACK_STREAM: &str =
     "0a0000002f016e6f6e63652d6e756d6265723f24a82c73fb6e8007e572601a4dee56ab8f2b2c23af1a5a34fd34c8c1ce29aa11ed";
 
-/// A stream of version 0 whose deciphered bytes, 16 zeros, end in no padding.
+/// A stream of version 0 whose plaintext, 16 zeros, does not end in padding.
 const UNPADDED_STREAM: &str =
     "0a0000002d006e6f6e63652d6e756d6265723da60f7c128202ef6681b2c549289f18599d13c1b4a6f475711651e8bfee697f";
 
@@ -97,19 +98,19 @@ fn what_no_key_opens_is_left_out_by_its_cause(rt: HostRuntime) -> Result<(), Fai
     Ok(())
 }
 
-/// What the bytes hold under these keys, as a stream.
+/// The stream in the bytes under these keys.
 fn stream_in(alloc: Global, keys: &str, bytes: &[u8]) -> Result<Result<Vec<u8>, What>, Fail> {
     let keys = keyring(alloc, keys)?;
     Ok(unwrap_stream(alloc, &keys, bytes))
 }
 
-/// The stream that this is under these keys.
+/// The stream in this text under these keys.
 fn stream(alloc: Global, keys: &str, text: &str) -> Result<Result<Vec<u8>, What>, Fail> {
     let bytes = hex::decode(alloc, text)?;
     stream_in(alloc, keys, &bytes)
 }
 
-/// That it is this stream under the key.
+/// Asserts that it is this stream under the key.
 fn assert_stream(rt: &impl Abort, alloc: Global, text: &str, wanted: &str) -> Result<(), Fail> {
     let stream = stream(alloc, KEY, text)??;
     let digits = hex::encode(alloc, &stream)?;
@@ -117,7 +118,7 @@ fn assert_stream(rt: &impl Abort, alloc: Global, text: &str, wanted: &str) -> Re
     Ok(())
 }
 
-/// Why it is no stream under these keys.
+/// Why it is not a stream under these keys.
 fn refusal(rt: &impl Abort, alloc: Global, keys: &str, text: &str) -> Result<What, Fail> {
     match stream(alloc, keys, text)?.err().expect(rt, "a refusal") {
         What::Memory => Err(Fail::from(What::Memory)),

@@ -1,4 +1,4 @@
-//! Streams without their wrappers.
+//! Streams, unwrapped.
 
 use crate::stream::unwrap_stream;
 use memberlist_keyring::Keyring;
@@ -10,7 +10,7 @@ use swim_program::What;
 /// A stream of no members.
 const STREAM: &[u8] = b"\x06\x83\xa4Join\xc2\xa5Nodes\0\xacUserStateLen\0";
 
-/// What memberlist, over Go's compress/lzw, makes of a stream of one member, `a`.
+/// What memberlist, with Go's compress/lzw, makes of a stream of one member, `a`.
 const COMPRESSED: &str =
     "0982a4416c676f00a3427566da005e000d0c22a5e44d1a37c24a397943a6cc9c00acaacc2923670a9d3074ca3029e306c0215241c8909143ea0f00000156257133268c1c3718d3bce948aa49998ba0483909d3a64ca830a4a0bc9143a7d90705a52c622c03609495396e400504";
 

@@ -1,4 +1,4 @@
-//! What is said of lines that were left out.
+//! The message about lines that were left out.
 
 use crate::cause::Cause;
 use crate::left_out::left_out_text;

@@ -1,4 +1,4 @@
-//! The words of the command line.
+//! The command line arguments.
 
 use crate::command_line::chosen;
 use crate::verb::{Chosen, Verb};
@@ -7,8 +7,8 @@ use std::process::Abort;
 use std::test::Fail;
 use swim_program::WordFault;
 
-/// Words that are taken, what they ask for, the words that name files, and those that name files of
-/// keys.
+/// Arguments that are accepted, what they ask for, those that name files, and those that name key
+/// files.
 const TAKEN: [(&[&str], Verb, &[&str], &[&str]); 9] = [
     (&[], Verb::Lines, &[], &[]),
     (&["--skip"], Verb::Skipping, &[], &[]),
@@ -36,7 +36,7 @@ const TAKEN: [(&[&str], Verb, &[&str], &[&str]); 9] = [
     ),
 ];
 
-/// Words that are refused.
+/// Arguments that are refused.
 const REFUSED: [&[&str]; 11] = [
     &["x"],
     &["-"],
@@ -59,7 +59,7 @@ fn texts(alloc: Global, words: &[&str]) -> Result<Vec<String>, AllocError> {
     Ok(texts)
 }
 
-/// What words ask for.
+/// What arguments ask for.
 fn choice(alloc: Global, words: &[&str]) -> Result<Chosen, WordFault> {
     let words = texts(alloc, words)?;
     chosen(alloc, words.as_slice())
@@ -72,7 +72,7 @@ fn assert_files(rt: &impl Abort, files: &[String], wanted: &[&str]) {
     }
 }
 
-/// That the words ask for this, with these files and files of keys.
+/// Asserts that the arguments ask for this, with these files and key files.
 fn assert_taken(
     rt: &impl Abort,
     alloc: Global,
@@ -95,7 +95,7 @@ fn words_ask_for_a_verb_and_its_file(rt: HostRuntime) -> Result<(), Fail> {
     Ok(())
 }
 
-/// The text with which words are refused.
+/// The text with which arguments are refused.
 fn refusal(rt: &impl Abort, alloc: Global, words: &[&str]) -> Result<String, Fail> {
     match choice(alloc, words) {
         Ok(_chosen) => panic!(rt; "{words:?} are taken"),
@@ -104,7 +104,7 @@ fn refusal(rt: &impl Abort, alloc: Global, words: &[&str]) -> Result<String, Fai
     }
 }
 
-/// That words are refused with a text that has each of these parts.
+/// Asserts that arguments are refused with a text that has each of these parts.
 fn assert_refused(
     rt: &impl Abort,
     alloc: Global,

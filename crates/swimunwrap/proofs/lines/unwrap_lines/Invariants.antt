@@ -1,4 +1,4 @@
--- What came out is what becomes of the lines so far.
+-- The output is the outcome of the lines so far.
 use Rattle.std.proofs.Common.{map, length, ◌≤◌}
 use Rattle.swimunwrap.specs.Lines.{AllBecome}
 use Rattle.swimunwrap.proofs.lines.unwrap_lines.Given as goal
