@@ -1,4 +1,4 @@
-//! That what is measured agrees with itself, at a size that takes no time.
+//! Checks that the measurements agree with each other, at a size that takes no time.
 
 use crate::failure::Failure;
 use crate::order::Order;
@@ -11,7 +11,7 @@ use swim_pack::{FromRead, Inlet, SliceInlet};
 use swim_sync::exchange;
 use swim_table::{Relation, Table, encode, list, read_stream, relation};
 
-/// Runs each measurement once in each order, compares what they make, and prints what was run.
+/// Runs each measurement once in each order, compares the results, and prints what was run.
 pub(crate) fn check(rt: &HostRuntime, size: u32) -> Result<(), Failure> {
     let alloc = rt.alloc();
     for order in Order::ALL {
@@ -30,7 +30,7 @@ pub(crate) fn check(rt: &HostRuntime, size: u32) -> Result<(), Failure> {
     Ok(())
 }
 
-/// That a stream over either inlet has the table of its claims.
+/// Checks that a stream over either inlet has the table of its claims.
 fn check_streams(alloc: Global, workload: Workload) -> Result<(), Failure> {
     let table = table_of(alloc, workload)?;
     let bytes = workload.stream(alloc)?;
@@ -50,7 +50,7 @@ fn check_stream<I: Inlet>(
     require_equal(table, &read, what)
 }
 
-/// That the table is encoded and listed as the table of the ascending names is.
+/// Checks that the table is encoded and listed like the table of the ascending names.
 fn check_order(alloc: Global, workload: Workload) -> Result<(), Failure> {
     let table = table_of(alloc, workload)?;
     let order = Order::Ascending;
@@ -67,7 +67,7 @@ fn listed_alike(alloc: Global, first: &Table, second: &Table) -> Result<bool, Fa
     Ok(list(alloc, first)? == list(alloc, second)?)
 }
 
-/// That compounds of 1, 8 and 60 claims leave the table that the claims one by one leave.
+/// Checks that compounds of 1, 8 and 60 claims leave the same table as the claims one by one.
 fn check_compounds(alloc: Global, workload: Workload) -> Result<(), Failure> {
     let mut one_by_one = table_of(alloc, workload.others())?;
     take_each(&mut one_by_one, workload.spread().claims(alloc)?)?;
@@ -80,7 +80,7 @@ fn check_compounds(alloc: Global, workload: Workload) -> Result<(), Failure> {
     Ok(())
 }
 
-/// That two halves exchanged, and joined, are the table of all names.
+/// Checks that two halves exchanged, and joined, are the table of all names.
 fn check_halves(alloc: Global, workload: Workload) -> Result<(), Failure> {
     let whole = table_of(alloc, workload)?;
     check_exchange(alloc, &whole, workload)?;

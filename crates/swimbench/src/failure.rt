@@ -11,7 +11,7 @@ use thiserror::Error;
 /// Why the program stops before its end.
 #[derive(Debug, Drop, Error)]
 pub(crate) enum Failure {
-    /// The words are other ones.
+    /// The arguments are invalid.
     #[error("{0}")]
     Words(&'static str),
     /// Two measurements that have to agree do not.
@@ -20,7 +20,7 @@ pub(crate) enum Failure {
     /// The clock or the output failed.
     #[error("swimbench: {0}")]
     Device(#[from] io::Error),
-    /// A growth of memory was refused.
+    /// Out of memory.
     #[error("swimbench: out of memory")]
     Memory(#[from] AllocError),
     /// What was written was refused when it was read.

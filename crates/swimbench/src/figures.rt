@@ -10,10 +10,10 @@ use std::fmt;
 /// The most runs of one measurement.
 const RUNS: usize = 7;
 
-/// After so many nanoseconds, what is prepared counted in, no run begins.
+/// After this many nanoseconds, preparation included, no run starts.
 const PATIENCE: u128 = 4_000_000_000;
 
-/// A row of the table: nanoseconds a record.
+/// A row of the table: nanoseconds per record.
 #[derive(Clone, Copy, Debug)]
 pub(crate) struct Figures {
     work: Work,
@@ -25,7 +25,7 @@ pub(crate) struct Figures {
 }
 
 impl Figures {
-    /// Measures by several runs, of `size` records each.
+    /// Measures several runs, of `size` records each.
     pub(crate) fn of(
         rt: &HostRuntime,
         work: Work,

@@ -1,4 +1,4 @@
-//! A program that measures the table: nanoseconds and bytes a record, by size and by order of the
+//! A program that measures the table: nanoseconds and bytes per record, by size and by order of the
 //! names.
 //!
 //! | module | subject |
@@ -6,9 +6,9 @@
 //! | `order`, `workload` | the orders of names; claims, packets and streams in them |
 //! | `tables` | tables of workloads |
 //! | `work` | what is measured |
-//! | `timing`, `reading` | one run of each measurement; one reading of the clock over it |
+//! | `timing`, `reading` | one run of each measurement; its reading of the clock |
 //! | `figures`, `memory` | the rows of the table of times, and of the table of memory |
-//! | `agreement` | that what is measured agrees with itself |
+//! | `agreement` | checks that the measurements agree with each other |
 //! | `failure` | why the program stops |
 #![tactic(auto)]
 
@@ -36,21 +36,21 @@ use work::{Making, Work};
 /// How many records a measurement has.
 const SIZES: [u32; 3] = [1_000, 10_000, 100_000];
 
-/// How many records each measurement has under the word `check`.
+/// How many records each measurement has with the argument `check`.
 const FEW: u32 = 100;
 
 /// How the program is called.
 const USAGE: &str =
     "swimbench: takes no word, or the word check, or a count of 1 to 100000 records";
 
-/// What the words ask for.
+/// What the arguments ask for.
 #[derive(Clone, Copy, Debug, PartialEq, Eq)]
 enum Wish {
     /// The whole table.
     All,
     /// The rows of one size.
     One(u32),
-    /// That the measurements agree with each other.
+    /// Check that the measurements agree with each other.
     Check,
 }
 
@@ -72,7 +72,7 @@ fn run(rt: &HostRuntime) -> Result<(), Failure> {
     }
 }
 
-/// What the words after the program's name ask for.
+/// What the arguments ask for.
 fn wished(rt: &HostRuntime) -> Result<Wish, Failure> {
     let words = env::args(rt)?.skip(1).collect::<Vec<String>>(rt.alloc())?;
     match words.as_slice() {
@@ -91,8 +91,8 @@ fn print_all(rt: &HostRuntime, sizes: &[u32]) -> Result<(), Failure> {
     print_times(rt, sizes)
 }
 
-/// The bytes a record. The tables stay until all are measured, so that none takes the memory that
-/// another one gave back.
+/// Prints the bytes per record. The tables are kept until all are measured, so that none reuses the
+/// memory that another one freed.
 fn print_footprints(rt: &HostRuntime, sizes: &[u32]) -> Result<(), Failure> {
     println!(rt;
         "bytes a record: what the resident pages of /proc/self/statm grew by, of 4,096 bytes each"
@@ -114,7 +114,7 @@ fn print_footprints(rt: &HostRuntime, sizes: &[u32]) -> Result<(), Failure> {
     Ok(())
 }
 
-/// The nanoseconds a record.
+/// Prints the nanoseconds per record.
 fn print_times(rt: &HostRuntime, sizes: &[u32]) -> Result<(), Failure> {
     println!(rt;
         "nanoseconds a record: processor time of the process, the least and the median of the runs"

@@ -12,7 +12,7 @@ use swim_table::{Table, read_stream};
 /// The bytes of a page.
 const PAGE: u64 = 4096;
 
-/// A row of the table: the resident bytes that a table of so many records took.
+/// A row of the table: the resident bytes that a table of this many records took.
 #[derive(Clone, Copy, Debug)]
 pub(crate) struct Footprint {
     making: Making,
@@ -22,8 +22,8 @@ pub(crate) struct Footprint {
 }
 
 impl Footprint {
-    /// Makes a table, and measures by how much the resident pages grew. The stream that was read is
-    /// kept with the table, so that what it took is not taken for the next one.
+    /// Makes a table, and measures how much the resident pages grew. The stream that was read is
+    /// kept with the table, so that its memory is not reused for the next one.
     pub(crate) fn of(
         rt: &HostRuntime,
         making: Making,
@@ -73,7 +73,7 @@ fn growth(before: Option<u64>, after: Option<u64>) -> Option<u64> {
     Some(after?.saturating_sub(before?))
 }
 
-/// The resident bytes of the process, where /proc/self/statm tells its pages.
+/// The resident bytes of the process, if /proc/self/statm has its pages.
 fn resident(rt: &HostRuntime) -> Option<u64> {
     let text = fs::read_to_string(rt, "/proc/self/statm").ok()?;
     let pages = text.as_str().split(' ').nth(1)?.parse::<u64>().ok()?;

@@ -16,14 +16,14 @@ const SEED: (u64, u64) = (42, 54);
 pub(crate) enum Order {
     /// Each name after the ones below it.
     Ascending,
-    /// One and the same shuffle of the names at each run.
+    /// The same shuffle of the names in each run.
     Random,
     /// Each name before the ones below it.
     Descending,
 }
 
 impl Order {
-    /// All orders, as the table has them.
+    /// All orders, as in the table.
     pub(crate) const ALL: [Order; 3] = [Order::Ascending, Order::Random, Order::Descending];
 
     /// The numbers below the count, in this order.

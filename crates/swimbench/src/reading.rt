@@ -4,21 +4,21 @@ use crate::failure::Failure;
 use std::alloc::{AllocError, Global};
 use std::time::{CpuClock, Duration};
 
-/// The processor time that the process had used when a measurement began.
+/// The processor time that the process had used when a measurement started.
 #[derive(Clone, Copy, Debug)]
 pub(crate) struct Watch {
     begun: Duration,
 }
 
 impl Watch {
-    /// Begins now.
+    /// Starts now.
     pub(crate) fn start(rt: &impl CpuClock) -> Result<Watch, Failure> {
         Ok(Watch {
             begun: rt.process_cpu_time()?,
         })
     }
 
-    /// The nanoseconds since the begin, or 0 where the clock went back.
+    /// The nanoseconds since the start, or 0 if the clock went back.
     pub(crate) fn nanoseconds(&self, rt: &impl CpuClock) -> Result<u128, Failure> {
         let now = rt.process_cpu_time()?;
         Ok(now.saturating_sub(self.begun).as_nanos())
@@ -49,7 +49,7 @@ impl Readings {
         self.nanoseconds.len()
     }
 
-    /// The least of the runs and their median, or 0 where there is none.
+    /// The least of the runs and their median, or 0 if there are none.
     pub(crate) fn least_and_median(&mut self) -> (u128, u128) {
         self.nanoseconds.as_mut_slice().sort_unstable();
         let sorted = self.nanoseconds.as_slice();

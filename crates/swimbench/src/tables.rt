@@ -7,14 +7,14 @@ use swim_claim::Claim;
 use swim_sync::{Claims, Cluster, Event};
 use swim_table::{Table, read_dump};
 
-/// The table of the claims, each taken in by itself.
+/// The table of the claims, each taken in on its own.
 pub(crate) fn table_of(alloc: Global, workload: Workload) -> Result<Table, Failure> {
     let mut table = Table::new(alloc);
     take_each(&mut table, workload.claims(alloc)?)?;
     Ok(table)
 }
 
-/// Takes each claim in by itself.
+/// Takes each claim in on its own.
 pub(crate) fn take_each(table: &mut Table, claims: Vec<Claim>) -> Result<(), AllocError> {
     for claim in claims {
         if let Err((_, error)) = table.take(claim) {
@@ -24,7 +24,7 @@ pub(crate) fn take_each(table: &mut Table, claims: Vec<Claim>) -> Result<(), All
     Ok(())
 }
 
-/// Takes the claims in, those of a compound at a time.
+/// Takes the claims in, one compound at a time.
 pub(crate) fn take_compounds(
     table: &mut Table,
     compounds: Vec<Vec<Claim>>,
@@ -35,7 +35,7 @@ pub(crate) fn take_compounds(
     Ok(())
 }
 
-/// The claims in compounds of so many each, of which the last may have fewer.
+/// The claims in compounds of this many each, of which the last may have fewer.
 pub(crate) fn compounds_of(
     alloc: Global,
     claims: Vec<Claim>,
@@ -54,7 +54,7 @@ pub(crate) fn compounds_of(
     Ok(compounds)
 }
 
-/// The table of the streams, each read by itself and joined in.
+/// The table of the streams, each read on its own and joined in.
 pub(crate) fn join_each(alloc: Global, streams: &[Vec<u8>]) -> Result<Table, Failure> {
     let mut table = Table::new(alloc);
     for stream in streams {
@@ -66,7 +66,7 @@ pub(crate) fn join_each(alloc: Global, streams: &[Vec<u8>]) -> Result<Table, Fai
     Ok(table)
 }
 
-/// Two nodes, of which each knows all the claims and the other one.
+/// Two nodes that each know all the claims and each other.
 pub(crate) fn equal_nodes(alloc: Global, workload: Workload) -> Result<Cluster, Failure> {
     let mut nodes = Vec::new(alloc);
     for number in [workload.count, workload.count.wrapping_add(1)] {

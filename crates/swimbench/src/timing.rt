@@ -11,7 +11,7 @@ use swim_sync::{Event, exchange, offer};
 use swim_table::{Table, encode, list, read_stream, relation};
 use swim_wire::decode_packet;
 
-/// The nanoseconds of one run of so many records.
+/// The nanoseconds of one run of this many records.
 pub(crate) fn run_once(
     rt: &HostRuntime,
     work: Work,

@@ -14,13 +14,13 @@ pub(crate) enum Work {
     TakeNew,
     /// `take` of newer claims about known names.
     TakeKnown,
-    /// `take_all` of so many claims at a time, into a table of many names.
+    /// `take_all` of this many claims at a time, into a table of many names.
     TakeAll(u32),
     /// `take` of the same claims one by one, into the same table.
     TakeEach,
-    /// `join` of two tables of half of the names each.
+    /// `join` of two tables with half of the names each.
     Join,
-    /// `read_dump` and `join` of as many streams of one record as there are names.
+    /// `read_dump` and `join` of as many streams with one record as there are names.
     JoinEach,
     /// `relation` of two equal tables.
     Relation,
@@ -32,7 +32,7 @@ pub(crate) enum Work {
     Merge,
     /// `list`.
     List,
-    /// `exchange` of two tables of half of the names each.
+    /// `exchange` of two tables with half of the names each.
     Exchange,
     /// An exchange in a run, of two nodes whose tables are equal already.
     ExchangeEqual,
@@ -43,7 +43,7 @@ pub(crate) enum Work {
 }
 
 impl Work {
-    /// All that is timed, as the table has it.
+    /// All that is timed, as in the table.
     pub(crate) const ALL: [Work; 19] = [
         Work::ReadSlice,
         Work::ReadReader,
@@ -66,7 +66,7 @@ impl Work {
         Work::ExchangeEqual,
     ];
 
-    /// How many records one run has, at a table of `size` names.
+    /// How many records one run has, with a table of `size` names.
     pub(crate) fn records(self, size: u32) -> u32 {
         match self {
             Work::TakeEach | Work::TakeAll(_) => Workload::spread_over(size),
@@ -101,7 +101,7 @@ impl fmt::Display for Work {
     }
 }
 
-/// A way to make a table, of which the bytes are measured.
+/// A way to make a table whose bytes are measured.
 #[derive(Clone, Copy, Debug, PartialEq, Eq)]
 pub(crate) enum Making {
     /// By `read_stream`.
@@ -111,7 +111,7 @@ pub(crate) enum Making {
 }
 
 impl Making {
-    /// All ways, as the table has them.
+    /// All ways, as in the table.
     pub(crate) const ALL: [Making; 2] = [Making::Read, Making::Take];
 }
 

@@ -1,4 +1,4 @@
-//! Claims, packets and streams as a real memberlist has them.
+//! Claims, packets and streams like those of a real memberlist.
 
 ghost use Rattle.std.specs.Prelude.{◌<◌, [], IfOk};
 ghost use Rattle.swim_wire.specs.Packet.{IsLegalPacket};
@@ -10,23 +10,23 @@ use swim_claim::{Claim, Details, Name};
 use swim_table::Node;
 use swim_wire::{Header, Packet, encode_packet, write_header, write_state};
 
-/// The port of every member: memberlist's own.
+/// The port of every member: memberlist's default.
 const PORT: u16 = 7946;
 
-/// The versions of every member: what memberlist gives by default.
+/// The versions of every member: memberlist's default.
 const VERSIONS: [u8; 6] = [1, 5, 2, 0, 0, 0];
 
 /// The name of the member that makes the accusations.
 const ACCUSER: &[u8] = b"node-accuser";
 
-/// As many bytes as a record of a stream has at most, for which room is made at once.
+/// The most bytes of a record of a stream, for which room is made at once.
 const RECORD: usize = 128;
 
 /// The most claims that compounds bring.
 const MOST_SPREAD: u32 = 960;
 
-/// Which claims a measurement has: about `count` names in this order. The least of them has the
-/// number `first`, and each other one the number of the one below it and `step`.
+/// Which claims a measurement has: about `count` names in this order. The lowest of them has the
+/// number `first`, and each other one the number of the one below it plus `step`.
 #[derive(Clone, Copy, Debug, PartialEq, Eq)]
 pub(crate) struct Workload {
     pub(crate) order: Order,
@@ -37,7 +37,7 @@ pub(crate) struct Workload {
 }
 
 impl Workload {
-    /// Of all names from number 0 on, at incarnation 1.
+    /// All names from number 0 on, at incarnation 1.
     pub(crate) fn new(order: Order, count: u32) -> Workload {
         Workload {
             order,
@@ -63,12 +63,12 @@ impl Workload {
         }
     }
 
-    /// So many other names: every second one, among which [`Workload::spread`] finds its places.
+    /// As many other names: every second one, with the places of [`Workload::spread`] between them.
     pub(crate) fn others(self) -> Workload {
         Workload { step: 2, ..self }
     }
 
-    /// At most 960 names that stand between those of [`Workload::others`], spread over them.
+    /// At most 960 names that are between those of [`Workload::others`], spread over them.
     pub(crate) fn spread(self) -> Workload {
         let count = Workload::spread_over(self.count);
         Workload {
@@ -79,14 +79,14 @@ impl Workload {
         }
     }
 
-    /// How many names [`Workload::spread`] has among so many others, at least 1.
+    /// How many names [`Workload::spread`] has among this many others, at least 1.
     pub(crate) fn spread_over(count: u32) -> u32
         ensures { 0 < result }
     {
         count.max(1).min(MOST_SPREAD)
     }
 
-    /// That the members are alive.
+    /// Alive claims about the members.
     pub(crate) fn claims(&self, alloc: Global) -> Result<Vec<Claim>, Failure> {
         let mut claims = Vec::new(alloc);
         for place in self.order.numbers(alloc, self.count)? {
@@ -96,7 +96,7 @@ impl Workload {
         Ok(claims)
     }
 
-    /// That the member is alive whose name has this place in ascending order.
+    /// An alive claim about the member whose name has this place in ascending order.
     pub(crate) fn claim(&self, alloc: Global, place: u32) -> Result<Claim, Failure>
         ensures { IfOk result (λ claim. IsLegalPacket claim []) }
     {
@@ -149,7 +149,7 @@ impl Workload {
         Ok(bytes)
     }
 
-    /// For each of these claims a stream of its own.
+    /// A stream for each of these claims.
     pub(crate) fn streams_of_one(&self, alloc: Global) -> Result<Vec<Vec<u8>>, Failure> {
         let mut streams = Vec::with_capacity(alloc, self.count as usize)?;
         for place in self.order.numbers(alloc, self.count)? {
