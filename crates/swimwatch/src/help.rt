@@ -20,8 +20,7 @@ pub(crate) const JSON: &str = "Print one JSON object on each line";
 pub(crate) const HOST: &str =
     "A member: a name or an address, with its port if that is not 7946, as in [fe80::1]:8301";
 
-pub(crate) const SIDE: &str =
-    "A capture, a file with a push/pull stream, or a member";
+pub(crate) const SIDE: &str = "A capture, a file with a push/pull stream, or a member";
 
 pub(crate) const TIMEOUT: &str = "Seconds that a member may take in all [default: 5]";
 
