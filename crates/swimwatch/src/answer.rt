@@ -1,7 +1,9 @@
 //! What a member answers.
 
-ghost use Rattle.std.specs.Prelude.{◌≢◌, ◌<◌, List, ℕ, length, IfOk, IfErr};
+ghost use Rattle.std.specs.Prelude.{◌≡◌, ◌≢◌, ◌<◌, List, ℕ, length, IfOk, IfErr};
 ghost use Rattle.memberlist_transport.specs.Reply.{IsReplyIn};
+ghost use Rattle.swimwatch.specs.declared.answer.NoAnswer.TheVariants as answers;
+ghost use Rattle.swimwatch.specs.declared.carriage.NoStream.TheVariants as causes;
 
 use crate::carriage::{NoStream, STREAM_LIMIT, cause_of};
 use memberlist_cipher::{LABEL, LABEL_MAX_SIZE};
@@ -34,6 +36,8 @@ pub(crate) enum NoAnswer {
 }
 
 impl From<AllocError> for NoAnswer {
+    ghost from_gives = { λ _ cause. cause ≡ answers.NoStream causes.Memory };
+
     fn from(_error: AllocError) -> NoAnswer {
         NoAnswer::NoStream(NoStream::Memory)
     }
@@ -76,7 +80,9 @@ fn message_in(
     keys: &Keyring,
     label: &[u8],
     answer: Vec<u8>,
-) -> Result<Vec<u8>, AllocError> {
+) -> Result<Vec<u8>, AllocError>
+    requires { length label.now < 256 }
+{
     let bytes = match answer.first() {
         Some(&LABEL) => answer,
         _ => behind_label(alloc, label, answer)?,
