@@ -97,7 +97,20 @@ listed {
     next
 }
 
-/^static inline / { sub(/^static inline /, ""); within = 1; open = 1 }
+/^static inline / {
+    sub(/^static inline /, "")
+    match($0, /swimtab_[a-z_]*\(/)
+    name = substr($0, RSTART, RLENGTH - 1)
+    again = name in shown_names
+    shown_names[name]
+    within = 1
+    open = 1
+}
+again {
+    again = !/^}/
+    within = 0
+    next
+}
 within {
     if (open) {
         # the lines of a declaration stand below each other without its first two words too
