@@ -1,4 +1,4 @@
--- Each step of the search for the names that a join changes.
+-- Each step of the search for what a join changes.
 use Rattle.std.proofs.Common.{◌≡◌, ◌≢◌, ◌↔◌, ◌⊎◌, ℕ, Option, Some, None, IsSome, List, [], ◌∷◌, ◌++◌, MatchOption, refl, sym, ap, subst, ◌∙◌, inl, inr}
 use Rattle.swim_claim.specs.declared.claim.Claim.{Claim}
 use Rattle.swim_claim.specs.Claim.{name_of}
@@ -6,7 +6,7 @@ use Rattle.swim_table.specs.Standing.{Standing}
 use Rattle.swim_table.specs.Table.{Entries, get, IsAscending, TableOf, Reduced}
 use Rattle.swim_table.specs.Join.{joined, Join, standing_of, table_of}
 use Rattle.swim_table.specs.News.{AreChanges, HasAlso}
-use Rattle.swim_table.proofs.Lookups.{IsAscending-head, IsAscending-tail, get_below, get_cases, get_here, joined_both, joined-none}
+use Rattle.swim_table.proofs.Lookups.{IsAscending-head, IsAscending-tail, get_below, get_cases, get_here, joined_both, joined-none, same_table}
 use Rattle.swim_table.proofs.Tables.{get-append, standing_of_top, TableOf-one, TableOf-table_of}
 
 some_case : (o : Option Standing) (P Q : Type 0) → IsSome o → Q → MatchOption o P (λ _. Q)
@@ -79,6 +79,13 @@ searching_end table other news h g w name =
     (λ changed same. changed (sym is ∙ same))
     (w.found name)
 
+-- nothing that changes was found
+pub unchanged_end : (table other : Entries) → TableOf table (Reduced table) → TableOf other (Reduced other)
+    → IsSearching table other [] [] → Join table other ≡ table
+unchanged_end table other h g w =
+    same_table (Join table other) table (TableOf-table_of (Reduced table ++ Reduced other)).ascending h.ascending
+    (λ name. let same : get (Join table other) name ≡ get table name = searching_end table other [] h g w name in same)
+
 module _ (table other news : Entries) (e : Standing) (rest : Entries) (w : IsSearching table other news (e ∷ rest)) where
   up : IsAscending rest
   up = IsAscending-tail e rest w.ascending
@@ -132,3 +139,9 @@ module _ (table other news : Entries) (e : Standing) (rest : Entries) (w : IsSea
           inr (joined_both refl (theirs name here.0) ∙ subst (λ n. joined (get table n) (Some e) ≡ get table n) (sym here.0) same)
       again name (inr later) (inl is) = inl (is ∙ later.1)
       again name (inr later) (inr is) = inr is
+
+  -- the entry changes the table
+  pub changed_here : TableOf table (Reduced table) → TableOf other (Reduced other) → IsChanged (get table (name_of e.top)) (Some e) → Join table other ≢ table
+  changed_here h g changed same =
+      let here = joined_both refl (theirs (name_of e.top) refl) in
+      changed (sym here ∙ sym (get-Join table other h g (name_of e.top)) ∙ ap (λ t. get t (name_of e.top)) same)

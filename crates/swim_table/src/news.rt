@@ -1,4 +1,4 @@
-//! Which names a join would add or change.
+//! What a join would add or change.
 
 ghost use Rattle.std.specs.Prelude.{◌≡◌, ◌≢◌, Some, IfOk, OnOk, MatchBool};
 ghost use Rattle.swim_claim.specs.Claim.{name_of};
@@ -29,6 +29,22 @@ pub fn news_of(alloc: Global, table: &Table, other: &Table) -> Result<Table, All
         }
     }
     Ok(news)
+}
+
+/// Whether a join of the other table would change the table. It takes no memory. This searches the
+/// table for each name of the other one, up to the first that the join would add or change.
+pub fn has_news(table: &Table, other: &Table) -> bool
+    ensures { MatchBool result
+        (Join table.now other.now ≢ table.now) (Join table.now other.now ≡ table.now) }
+{
+    // opens the invariant: the table is legal
+    let _ = table.len();
+    for entry in other.entries() {
+        if is_news(table, entry) {
+            return true;
+        }
+    }
+    false
 }
 
 /// Whether the entry would add to the table or change it.
