@@ -1,6 +1,7 @@
 -- Noting the names that change.
-use Rattle.std.proofs.Common.{◌≡◌, ◌≢◌, ◌↔◌, ◌⊎◌, ◌∙◌, ℕ, Bool, true, false, Option, Some, None, IsSome, List, [], ◌∷◌, ◌++◌, MatchOption, MatchBool, Result, Ok, Err, IfOk, IfSome, OnOk, slice_get, refl, sym, ap, subst, inl, inr, arith}
+use Rattle.std.proofs.Common.{◌≡◌, ◌≢◌, ◌↔◌, ◌⊎◌, ◌∙◌, ℕ, Bool, true, false, not, IsTrue, Option, Some, None, IsSome, List, [], ◌∷◌, ◌++◌, MatchOption, MatchBool, Result, Ok, Err, IfOk, IfSome, OnOk, slice_get, refl, sym, ap, subst, inl, inr, arith}
 use Rattle.std.proofs.lemmas.List.Elements.{Contains-append_right}
+use mathlib.Core.Bool.{false≢true}
 use Rattle.swim_claim.specs.declared.claim.Claim.{Claim}
 use Rattle.swim_claim.specs.declared.claim.Claim.TheVariants.{Alive}
 use Rattle.swim_claim.specs.Claim.{name_of}
@@ -18,7 +19,7 @@ use Rattle.swim_table.proofs.Tables.{TableOf-table_of, get-append, TableOf-one}
 use Rattle.swim_c.specs.Forgetting.{LeavesOut}
 use Rattle.swim_c.specs.Taking.{TakesClaims}
 use Rattle.swim_c.specs.Watching.{AddsNames, IsNoted, LetsGo, Noted, NotesChanges, TellsChange, TellsNews, first_noted, next_entry}
-use Rattle.swim_c.specs.declared.watching.News.{News}
+use Rattle.swim_c.specs.declared.watching.Names.{Names}
 use Rattle.swim_c.specs.declared.watching.Watched.{Watched}
 
 some_joined : (a b : Option Standing) → IsSome (joined a b) ↔ (IsSome a ⊎ IsSome b)
@@ -28,10 +29,11 @@ some_joined (Some s) None = (λ some. inl refl, λ some. refl)
 some_joined (Some s) (Some t) = (λ some. inl refl, λ some. refl)
 
 -- names that are joined to the noted ones are noted too
-pub joined_names : (old new names : Entries) → IsLegalTable old → IsLegalTable names → new ≡ Join old names → AddsNames (Some old) (Some new) names
-joined_names old new names h g is name =
-    let gets : get new name ≡ joined (get old name) (get names name) = ap (λ t. get t name) is ∙ get-Join old names h.own g.own name in
-    let both = some_joined (get old name) (get names name) in
+pub joined_names : (old new : Entries) (also : Names) → IsLegalTable old → IsLegalTable also.names → new ≡ Join old also.names
+    → AddsNames (Some old) (Some new) (Some also)
+joined_names old new also h g is name =
+    let gets : get new name ≡ joined (get old name) (get also.names name) = ap (λ t. get t name) is ∙ get-Join old also.names h.own g.own name in
+    let both = some_joined (get old name) (get also.names name) in
     (λ some. both.0 (subst IsSome gets some), λ some. subst IsSome (sym gets) (both.1 some))
 
 changed : (o : Option Standing) (P Q : Type 0) → MatchOption o P (λ _. Q) → IsSome o → Q
@@ -43,14 +45,15 @@ found None P h not = absurd (not h)
 found (Some s) P h not = refl
 
 -- if the names are those that changed, then the change is noted
-pub noted : (old new : Option Entries) (before after names : Entries) → AreChanges before after names → AddsNames old new names
-    → NotesChanges old new before after
-noted None None before after names changes adds = tt
-noted None (Some new) before after names changes adds = adds
-noted (Some old) None before after names changes adds = adds
-noted (Some old) (Some new) before after names changes adds = λ name. (
-  λ some. elim ((adds name).0 some) [ inl had ↦ inl had | inr news ↦ inr (changed (get names name) _ _ (changes name) news) ],
-  λ some. (adds name).1 (elim some [ inl had ↦ inl had | inr differs ↦ inr (found (get names name) _ (changes name) differs) ]),
+pub noted : (old new : Option Entries) (before after : Entries) (named : Option Names) → IfSome named (λ also. AreChanges before after also.names)
+    → AddsNames old new named → NotesChanges old new before after
+noted None None before after named changes adds = tt
+noted None (Some new) before after named changes adds = adds
+noted (Some old) None before after named changes adds = adds
+noted (Some old) (Some new) before after None changes adds = absurd adds
+noted (Some old) (Some new) before after (Some also) changes adds = λ name. (
+  λ some. elim ((adds name).0 some) [ inl had ↦ inl had | inr news ↦ inr (changed (get also.names name) _ _ (changes name) news) ],
+  λ some. (adds name).1 (elim some [ inl had ↦ inl had | inr differs ↦ inr (found (get also.names name) _ (changes name) differs) ]),
 )
 
 -- nothing was to be noted
@@ -87,18 +90,25 @@ pub from_none : (other : Entries) (claims : List Claim) → ((taken : List Claim
 from_none other claims all = all [] (TableOf-table_of [])
 
 -- what the join changed was noted, and whether anything changed
-pub joined_noted : (old new : Option Entries) (before after other names : Entries) → after ≡ Join before other
-    → AreChanges before (Join before other) names → AddsNames old new names → NotesChanges old new before after
-joined_noted old new before after other names is changes adds =
-    noted old new before after names (subst (λ t. AreChanges before t names) (sym is) changes) adds
+pub joined_noted : (old new : Option Entries) (before after other : Entries) (named : Option Names) → after ≡ Join before other
+    → IfSome named (λ also. AreChanges before (Join before other) also.names) → AddsNames old new named → NotesChanges old new before after
+joined_noted old new before after other named is changes adds =
+    noted old new before after named (subst (λ t. IfSome named (λ also. AreChanges before t also.names)) (sym is) changes) adds
 
-pub joined_tells : (news : Bool) (before after other names : Entries) → IsLegalTable before → IsLegalTable other
-    → ((claims others : List Claim) → TableOf before claims → TableOf other others → TableOf after (claims ++ others))
-    → after ≡ Join before other → AreChanges before (Join before other) names
-    → MatchBool news (names ≢ []) (names ≡ []) → TellsChange news before after
-joined_tells news before after other names h g all is changes some =
-    tells news before after names h.own.ascending (all (Reduced before) (Reduced other) h.own g.own).ascending
-    (subst (λ t. AreChanges before t names) (sym is) changes) some
+pub joined_tells : (news : Bool) (before after other : Entries) → after ≡ Join before other
+    → TellsChange news before (Join before other) → TellsChange news before after
+joined_tells news before after other is = subst (TellsChange news before) (sym is)
+
+-- the join changes something if it changes a name
+pub named_tells : (empty : Bool) (before other names : Entries) → IsLegalTable before → AreChanges before (Join before other) names
+    → IsTrue empty ↔ (names ≡ []) → TellsChange (not empty) before (Join before other)
+named_tells empty before other names h changes is =
+    tells (not empty) before (Join before other) names h.own.ascending (TableOf-table_of (Reduced before ++ Reduced other)).ascending
+    changes (either empty is)
+  where
+    either : (b : Bool) {P : Type 0} → IsTrue b ↔ P → MatchBool (not b) (¬ P) P
+    either true same = same.0 refl
+    either false same = λ p. false≢true (same.1 p)
 
 -- ---- a refutation
 
@@ -130,13 +140,14 @@ others_same before after inc legal by name other =
     ∙ joined_both refl (get_later (standing_of alive) [] name other) ∙ joined-none (get before.table name)
 
 -- so only its name has to be noted
-pub own_noted : (old new : Option Entries) (before after : NodeValue) (inc : ℕ) (names : Entries) → IsLegalTable before.table
-    → IsRefutedBy before after inc → ((name : List ℕ) → IsSome (get names name) ↔ (name ≡ before.name)) → AddsNames old new names
-    → NotesChanges old new before.table after.table
-own_noted None None before after inc names legal by own adds = tt
-own_noted None (Some new) before after inc names legal by own adds = adds
-own_noted (Some old) None before after inc names legal by own adds = adds
-own_noted (Some old) (Some new) before after inc names legal by own adds = λ name. (
+pub own_noted : (old new : Option Entries) (before after : NodeValue) (inc : ℕ) (named : Option Names) → IsLegalTable before.table
+    → IsRefutedBy before after inc → IfSome named (λ also. (name : List ℕ) → IsSome (get also.names name) ↔ (name ≡ before.name))
+    → AddsNames old new named → NotesChanges old new before.table after.table
+own_noted None None before after inc named legal by own adds = tt
+own_noted None (Some new) before after inc named legal by own adds = adds
+own_noted (Some old) None before after inc named legal by own adds = adds
+own_noted (Some old) (Some new) before after inc None legal by own adds = absurd adds
+own_noted (Some old) (Some new) before after inc (Some also) legal by own adds = λ name. (
   λ some. elim ((adds name).0 some) [
     | inl had ↦ inl had
     | inr named ↦ inr (subst (λ n. get after.table n ≢ get before.table n) (sym ((own name).0 named)) (own_changes before after inc legal by))
@@ -223,9 +234,11 @@ refused_noted status before after same = record {
 }
 
 -- the names are those of the table that they were put into
-pub all_named : {E : Type 0} (r : Result News E) (names : Entries) (own : List ℕ) → IfOk r (λ news. news.names ≡ names)
-    → ((name : List ℕ) → IsSome (get names name) ↔ (name ≡ own)) → IfOk r (λ news. (name : List ℕ) → IsSome (get news.names name) ↔ (name ≡ own))
-all_named (Ok news) names own is h = subst (λ (t : Entries). (name : List ℕ) → IsSome (get t name) ↔ (name ≡ own)) (sym is) h
+pub all_named : {E : Type 0} (r : Result (Option Names) E) (names : Entries) (own : List ℕ)
+    → IfOk r (λ named. IfSome named (λ also. also.names ≡ names)) → ((name : List ℕ) → IsSome (get names name) ↔ (name ≡ own))
+    → IfOk r (λ named. IfSome named (λ also. (name : List ℕ) → IsSome (get also.names name) ↔ (name ≡ own)))
+all_named (Ok None) names own is h = tt
+all_named (Ok (Some also)) names own is h = subst (λ (t : Entries). (name : List ℕ) → IsSome (get t name) ↔ (name ≡ own)) (sym is) h
 all_named (Err error) names own is h = tt
 
 -- a table that was joined in was taken in, unless memory was refused
@@ -240,8 +253,9 @@ due true P Q is h = h
 due false P Q is h = absurd cc
 
 -- a refutation that was due was made
-pub refuted_noted : (old new : Option Entries) (before after : NodeValue) (answer : Option ℕ) (names : Entries) → IsLegalTable before.table
+pub refuted_noted : (old new : Option Entries) (before after : NodeValue) (answer : Option ℕ) (named : Option Names) → IsLegalTable before.table
     → IsDueInRange before → IfSome answer (IsRefutedBy before after) → (answer ≡ None → IsAtRest before)
-    → ((name : List ℕ) → IsSome (get names name) ↔ (name ≡ before.name)) → AddsNames old new names → NotesChanges old new before.table after.table
-refuted_noted old new before after None names legal is_due by rests own adds = absurd ((rests refl).kept.0 is_due.1.kept.0)
-refuted_noted old new before after (Some inc) names legal is_due by rests own adds = own_noted old new before after inc names legal by own adds
+    → IfSome named (λ also. (name : List ℕ) → IsSome (get also.names name) ↔ (name ≡ before.name)) → AddsNames old new named
+    → NotesChanges old new before.table after.table
+refuted_noted old new before after None named legal is_due by rests own adds = absurd ((rests refl).kept.0 is_due.1.kept.0)
+refuted_noted old new before after (Some inc) named legal is_due by rests own adds = own_noted old new before after inc named legal by own adds

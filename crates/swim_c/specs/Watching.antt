@@ -5,6 +5,7 @@ use Rattle.swim_claim.specs.Claim.{name_of}
 use Rattle.swim_table.specs.Node.{NodeValue}
 use Rattle.swim_table.specs.Standing.{Standing}
 use Rattle.swim_table.specs.Table.{Entries, get}
+use Rattle.swim_c.specs.declared.watching.Names.{Names}
 
 -- the name is noted; if names are not noted, no name is
 abbrev pub IsNoted : Option Entries → List ℕ → Type 0
@@ -16,12 +17,13 @@ abbrev pub TellsChange : Bool → Entries → Entries → Type 0
 TellsChange news before after = MatchBool news (after ≢ before) (after ≡ before)
 
 -- if names are noted, these are noted in addition to those of before
-abbrev pub AddsNames : Option Entries → Option Entries → Entries → Type 0
-AddsNames None None names = Unit {0}
-AddsNames None (Some new) names = ⊥
-AddsNames (Some old) None names = ⊥
-AddsNames (Some old) (Some new) names =
-    (name : List ℕ) → IsSome (get new name) ↔ (IsSome (get old name) ⊎ IsSome (get names name))
+abbrev pub AddsNames : Option Entries → Option Entries → Option Names → Type 0
+AddsNames None None named = Unit {0}
+AddsNames None (Some new) named = ⊥
+AddsNames (Some old) None named = ⊥
+AddsNames (Some old) (Some new) None = ⊥
+AddsNames (Some old) (Some new) (Some also) = (name : List ℕ)
+    → IsSome (get new name) ↔ (IsSome (get old name) ⊎ IsSome (get also.names name))
 
 -- if names are noted, a name is noted exactly if it was before or its entry changed
 abbrev pub NotesChanges : Option Entries → Option Entries → Entries → Entries → Type 0
@@ -31,11 +33,11 @@ NotesChanges (Some old) None before after = ⊥
 NotesChanges (Some old) (Some new) before after = (name : List ℕ)
     → IsSome (get new name) ↔ (IsSome (get old name) ⊎ (get after name ≢ get before name))
 
--- if names are noted, there is room for them and for these
-abbrev pub HasRoomFor : Option Entries → Entries → Option ℕ → Type 0
-HasRoomFor None names room = Unit {0}
-HasRoomFor (Some noted) names None = ⊥
-HasRoomFor (Some noted) names (Some room) = length noted + length names ≤ room
+-- if names are noted, there are further ones, and room for both
+abbrev pub HasRoomFor : Option Entries → Option Names → Type 0
+HasRoomFor None named = Unit {0}
+HasRoomFor (Some noted) None = ⊥
+HasRoomFor (Some noted) (Some also) = length noted + length also.names ≤ also.room
 
 -- On status 0 the flag is whether the node's table changed. Otherwise it is false.
 pub record TellsNews (status : ℕ) (news : Bool) (before after : NodeValue) : Type 0 where

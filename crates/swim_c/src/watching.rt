@@ -14,7 +14,7 @@ ghost use Rattle.swim_c.specs.Watching.{AddsNames, HasRoomFor, NotesChanges, Tel
 
 use std::alloc::{AllocError, Global};
 use swim_claim::Claim;
-use swim_table::{Node, RefuteFault, Room, Table, Taken, news_of};
+use swim_table::{Node, RefuteFault, Room, Table, Taken, has_news, news_of};
 use swim_wire::Datagram;
 
 /// A node, and the names whose entries changed since they were last read.
@@ -25,11 +25,21 @@ pub struct Watched {
     pub changes: Option<Table>,
 }
 
-/// The names that a join adds or changes, and the memory to note them.
+/// Names whose entries change, and the memory to note them.
+#[derive(Drop)]
+pub struct Names {
+    /// The names, as a table of which only the names count.
+    pub names: Table,
+    pub room: Room,
+}
+
+/// What a join changes.
 #[derive(Drop)]
 pub struct News {
-    pub names: Table,
-    pub room: Option<Room>,
+    /// Whether it changes the table.
+    pub any: bool,
+    /// The names whose entries it adds or changes. None if names are not noted.
+    pub names: Option<Names>,
 }
 
 impl Watched {
@@ -111,20 +121,25 @@ impl Watched {
     {
         // opens the invariant: the table is legal
         let _ = self.node.table();
-        let news = self.news(alloc, &other)?;
+        let News { any, names } = self.news(alloc, &other)?;
         match self.node.table_mut().join(other) {
-            Ok(()) => Ok(self.note(news)),
+            Ok(()) => {
+                self.note(names);
+                Ok(any)
+            }
             Err((_, error)) => Err(error),
         }
     }
 
     /// Joins in a table that has these news. The room must suffice for the entries of both, and no
-    /// memory is taken. Returns whether a name changed.
+    /// memory is taken. Returns whether the table changed.
     pub fn join_in(&mut self, room: Room, other: Table, news: News) -> bool
         requires room { length self.old.node.table + length other ≤ room }
-        requires names { AreChanges self.old.node.table (Join self.old.node.table other)
-            news.names }
-        requires noting { HasRoomFor self.old.changes news.names news.room }
+        requires any { TellsChange news.any self.old.node.table
+            (Join self.old.node.table other) }
+        requires names { IfSome news.names (λ new. AreChanges self.old.node.table
+            (Join self.old.node.table other) new.names) }
+        requires noting { HasRoomFor self.old.changes news.names }
         ensures joined { (claims others : List Claim) → TableOf self.old.node.table claims
             → TableOf other others → TableOf self.new.node.table (claims ++ others) }
         ensures member { SameMember self.old.node self.new.node }
@@ -135,8 +150,10 @@ impl Watched {
         // opens the invariants: the tables are legal
         let _ = self.node.table();
         let _ = other.len();
+        let News { any, names } = news;
         self.node.join_in(room, other);
-        self.note(news)
+        self.note(names);
+        any
     }
 
     /// Refutes what others say about the member, as [`Node::refute`] does, and notes its name if an
@@ -163,18 +180,17 @@ impl Watched {
         }
         // opens the invariant: the table is legal
         let _ = self.node.table();
-        let news = self.own_news(alloc)?;
+        let own = self.own_name(alloc)?;
         let answer = self.node.refute()?;
-        self.note(news);
+        self.note(own);
         Ok(answer)
     }
 
-    /// The member's own name, to be noted.
-    fn own_news(&self, alloc: Global) -> Result<News, AllocError>
-        ensures names { IfOk result (λ news. (name : List ℕ)
-            → IsSome (get news.names name) ↔ (name ≡ self.now.node.name)) }
-        ensures room { IfOk result (λ news.
-            HasRoomFor self.now.changes news.names news.room) }
+    /// The member's own name, to be noted. None if names are not noted.
+    fn own_name(&self, alloc: Global) -> Result<Option<Names>, AllocError>
+        ensures names { IfOk result (λ own. IfSome own (λ new. (name : List ℕ)
+            → IsSome (get new.names name) ↔ (name ≡ self.now.node.name))) }
+        ensures room { IfOk result (HasRoomFor self.now.changes) }
     {
         let name = self.node.name().try_clone(alloc)?;
         let mut names = Table::new(alloc);
@@ -184,56 +200,59 @@ impl Watched {
         }
     }
 
-    /// What joining the table in adds or changes.
+    /// What joining the table in changes. No name is copied if names are not noted.
     ///
     /// # Errors
     ///
     /// If out of memory for the names.
     pub fn news(&self, alloc: Global, other: &Table) -> Result<News, AllocError>
-        ensures names { IfOk result (λ news. AreChanges self.now.node.table
-            (Join self.now.node.table other.now) news.names) }
-        ensures room { IfOk result (λ news.
-            HasRoomFor self.now.changes news.names news.room) }
+        ensures any { IfOk result (λ news. TellsChange news.any self.now.node.table
+            (Join self.now.node.table other.now)) }
+        ensures names { IfOk result (λ news. IfSome news.names (λ new.
+            AreChanges self.now.node.table (Join self.now.node.table other.now) new.names)) }
+        ensures room { IfOk result (λ news. HasRoomFor self.now.changes news.names) }
     {
+        if self.changes.is_none() {
+            let any = has_news(self.node.table(), other);
+            return Ok(News { any, names: None });
+        }
         let names = news_of(alloc, self.node.table(), other)?;
-        self.with_room(alloc, names)
+        let any = !names.is_empty();
+        let names = self.with_room(alloc, names)?;
+        Ok(News { any, names })
     }
 
-    /// The names, with the memory to note them.
-    fn with_room(&self, alloc: Global, names: Table) -> Result<News, AllocError>
-        ensures names { IfOk result (λ news. news.names ≡ names) }
-        ensures room { IfOk result (λ news.
-            HasRoomFor self.now.changes news.names news.room) }
+    /// The names, with the memory to note them. None if names are not noted.
+    fn with_room(&self, alloc: Global, names: Table) -> Result<Option<Names>, AllocError>
+        ensures names { IfOk result (λ named. IfSome named (λ new. new.names ≡ names)) }
+        ensures room { IfOk result (HasRoomFor self.now.changes) }
     {
-        let room = match &self.changes {
-            Some(noted) => Some(Room::new(alloc, noted.len() + names.len())?),
-            None => None,
-        };
-        Ok(News { names, room })
+        match &self.changes {
+            Some(noted) => {
+                let room = Room::new(alloc, noted.len() + names.len())?;
+                Ok(Some(Names { names, room }))
+            }
+            None => Ok(None),
+        }
     }
 
-    /// Notes the names, if names are noted. Returns whether there is one.
-    fn note(&mut self, news: News) -> bool
-        requires { HasRoomFor self.old.changes news.names news.room }
-        ensures some { MatchBool result (news.names ≢ []) (news.names ≡ []) }
+    /// Notes the names, if names are noted.
+    fn note(&mut self, names: Option<Names>)
+        requires { HasRoomFor self.old.changes names }
         ensures node { self.new.node ≡ self.old.node }
-        ensures noted { AddsNames self.old.changes self.new.changes news.names }
-        ensures legal { IsLegalTable news.names }
+        ensures noted { AddsNames self.old.changes self.new.changes names }
     {
-        let News { names, room } = news;
-        let any = names.len() > 0;
-        self.changes = with_names(self.changes.take(), names, room);
-        any
+        self.changes = with_names(self.changes.take(), names);
     }
 }
 
 /// Adds names to those that are noted, if names are noted.
-fn with_names(changes: Option<Table>, names: Table, room: Option<Room>) -> Option<Table>
-    requires { HasRoomFor changes names room }
+fn with_names(changes: Option<Table>, names: Option<Names>) -> Option<Table>
+    requires { HasRoomFor changes names }
     ensures { AddsNames changes result names }
 {
-    match (changes, room) {
-        (Some(mut noted), Some(room)) => {
+    match (changes, names) {
+        (Some(mut noted), Some(Names { names, room })) => {
             // opens the invariants: the tables are legal
             let _ = (noted.len(), names.len());
             noted.join_in(room, names);

@@ -1,7 +1,7 @@
 use Rattle.std.proofs.Common.{◌∙◌, ◌++◌, List, ap, subst}
 use Rattle.swim_claim.specs.declared.claim.Claim.{Claim}
 use Rattle.swim_table.specs.Join.{Join}
-use Rattle.swim_table.specs.Table.{Entries, IsLegalTable, TableOf}
+use Rattle.swim_table.specs.Table.{Entries, TableOf}
 use Rattle.swim_c.proofs.Noting.{joined_tells}
 use Rattle.swim_c.proofs.watching.Watched.join.Goals as goal
 
@@ -14,9 +14,5 @@ returns-in-Ok-clause-joined c =
 pub returns-in-Ok-clause-news : goal.returns-in-Ok-clause-news
 returns-in-Ok-clause-news c =
     rw c.note.ensures.node
-    (joined_tells c.note.result c.args.self.now.node.table c.join.new.self c.args.other c.in_ok-news.news.names
-    c.table.ensures.legal (subst IsLegalTable c.other.view_is c.other.invariant)
-    (subst (λ (t : Entries). (claims others : List Claim) → TableOf t claims → TableOf c.args.other others → TableOf c.join.new.self (claims ++ others))
-    c.table_mut.ensures.table c.in-Ok.ensures.all)
-    (c.in-Ok.ensures.join ∙ ap (λ (t : Entries). Join t c.args.other) c.table_mut.ensures.table)
-    c.in_ok-news.ensures.names c.note.ensures.some)
+    (joined_tells _ c.args.self.now.node.table c.join.new.self c.args.other
+    (c.in-Ok.ensures.join ∙ ap (λ (t : Entries). Join t c.args.other) c.table_mut.ensures.table) c.in_ok-any.ensures.any)

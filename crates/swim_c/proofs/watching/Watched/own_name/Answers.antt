@@ -2,7 +2,7 @@ use Rattle.std.proofs.Common.{◌∷◌, ◌++◌, [], ◌∙◌, subst}
 use Rattle.swim_claim.specs.declared.claim.Claim.TheVariants.{Suspect}
 use Rattle.swim_table.specs.Table.{Entries, Reduced, TableOf}
 use Rattle.swim_c.proofs.Noting.{all_named, only_one_name}
-use Rattle.swim_c.proofs.watching.Watched.own_news.Goals as goal
+use Rattle.swim_c.proofs.watching.Watched.own_name.Goals as goal
 
 pub returns-in-Ok-clause-names : goal.returns-in-Ok-clause-names
 returns-in-Ok-clause-names c =
