@@ -1,4 +1,5 @@
 pub mod Clusters
+pub mod Completed
 pub mod Exchanging
 pub mod Levelled
 pub mod Levelling

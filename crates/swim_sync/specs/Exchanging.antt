@@ -1,5 +1,5 @@
 -- What the halves of an exchange do to the two ends and to the table, and why they are refused.
-use Rattle.std.specs.Prelude.{◌≡◌, ◌≢◌, ◌<◌, ◌⊎◌, Bool, List, ◌++◌, length}
+use Rattle.std.specs.Prelude.{◌≡◌, ◌≢◌, ◌<◌, ◌≤◌, ◌⊎◌, ℕ, Bool, List, Some, ◌++◌, length}
 use Rattle.std.specs.Io.KnownBytes.{Keeps}
 use Rattle.swim_claim.specs.declared.claim.Claim.{Claim}
 use Rattle.swim_pack.specs.Composing.{UnlessFailed}
@@ -12,7 +12,7 @@ use Rattle.swim_wire.specs.Reading.{wire_cause}
 use Rattle.swim_wire.specs.Streams.{StreamText}
 use Rattle.swim_table.specs.Dump.{dump_bytes}
 use Rattle.swim_table.specs.Steps.{ExplainsStream}
-use Rattle.swim_table.specs.Table.{Entries, Reduced, TableOf}
+use Rattle.swim_table.specs.Table.{Entries, Reduced, TableOf, IsLegalTable}
 use Rattle.swim_sync.specs.declared.fault.SyncFault.{SyncFault}
 use Rattle.swim_sync.specs.declared.fault.SyncFault.TheVariants.{Wire, TooManyRecords, Push, Memory}
 
@@ -28,6 +28,26 @@ pub record TakesStream (old new : Source) (before after : Entries) (join : Bool)
 abbrev pub ReadsOffer : Source → Source → Entries → Bool → Type 0
 ReadsOffer old new offered join = (claims : List Claim) × TableOf offered claims
     × Takes old new (λ b. StreamText b claims join)
+
+-- A table that can be sent: its claims are within their limits, and a dump has room for them.
+pub record IsSendable (table : Entries) : Type 0 where
+  pub legal : IsLegalTable table
+  pub few : length (Reduced table) ≤ most_nodes
+
+-- The dump of the table is to come with this join flag, and behind it these bytes.
+abbrev pub Brings : Source → Entries → Bool → List ℕ → Type 0
+Brings source table join rest = source.coming ≡ Some (dump_bytes table join ++ rest)
+
+-- The dump of the other table is to come, with either join flag and any bytes behind it, and the
+-- table took one stream in from the front of them.
+pub record TakesDump (before after other : Entries) : Type 0 where
+  pub old : Source
+  pub new : Source
+  pub sent : Bool
+  pub read : Bool
+  pub rest : List ℕ
+  pub brings : Brings old other sent rest
+  pub takes : TakesStream old new before after read
 
 -- more records than a dump has
 abbrev pub HasTooMany : Entries → Type 0

@@ -3,6 +3,7 @@ ghost use Rattle.std.specs.Prelude.{◌≡◌, ◌↔◌, ◌<◌, ◌≤◌, �
 ghost use Rattle.swim_claim.specs.declared.claim.Claim.{Claim};
 ghost use Rattle.swim_claim.specs.declared.claim.Claim.TheVariants.{Alive};
 ghost use Rattle.swim_claim.specs.Claim.{name_of, Overrides};
+ghost use Rattle.swim_pack.specs.Ends.{Source};
 ghost use Rattle.swim_wire.specs.Limits.{most_nodes};
 ghost use Rattle.swim_wire.specs.Streams.{StreamText};
 ghost use Rattle.swim_table.specs.Standing.{Standing};
@@ -13,6 +14,7 @@ ghost use Rattle.swim_table.specs.Listing.{listing};
 ghost use Rattle.swim_table.specs.Refuting.{Due, IsNext};
 ghost use Rattle.swim_sync.specs.declared.event.Event.{Event};
 ghost use Rattle.swim_sync.specs.declared.event.Event.TheVariants.{Hear, HearAll, Exchange, Half, Refute};
+ghost use Rattle.swim_sync.specs.Exchanging.{IsSendable, Brings, TakesDump, TakesStream};
 ghost use Rattle.swim_sync.specs.Heard.{Member, after, heard, heard_by, refutation};
 ghost use Rattle.swim_sync.specs.Levels.{level_list, all_heard};
 ghost use Rattle.swim_sync.specs.Paths.{AreTwoNodes, Reaches};
@@ -47,6 +49,25 @@ pub fn two_members()
         → IsLegalTable table → length (Reduced table) ≤ most_nodes
         → StreamText (dump_bytes table join) claims flag
         → (claims ≡ Reduced table) × (flag ≡ join) }
+{}
+
+/// A completed exchange leaves both sides with the join. The dump of each of two tables of at most
+/// 131,072 records comes to the other side, with either join flag and any bytes behind it, and each
+/// side takes one stream in, as [`answer`](crate::answer) and [`finish`](crate::finish) do. Then
+/// both tables are the join, which is the table of all claims of which the two were tables. Each
+/// side took exactly the other one's dump, with its flag, and left the bytes behind it.
+pub fn completed_exchange()
+    ensures joins { (first second a b : Entries) → IsSendable first → IsSendable second
+        → TakesDump first a second → TakesDump second b first
+        → (a ≡ Join first second) × (b ≡ Join first second) }
+    ensures all { (first second a b : Entries) → IsSendable first → IsSendable second
+        → TakesDump first a second → TakesDump second b first
+        → (claims others : List Claim) → TableOf first claims → TableOf second others
+        → TableOf a (claims ++ others) × TableOf b (claims ++ others) }
+    ensures side { (before after other : Entries) (sent read : Bool) (old new : Source)
+        (rest : List ℕ) → IsSendable other → Brings old other sent rest
+        → (TakesStream old new before after read
+        ↔ ((after ≡ Join before other) × (read ≡ sent) × (new.coming ≡ Some rest))) }
 {}
 
 /// A member's refutation is its Alive at the next incarnation where one is due and this incarnation

@@ -1,0 +1,11 @@
+use Rattle.swim_sync.proofs.Completed.{both_joined, both_took, side}
+use Rattle.swim_sync.proofs.laws.completed_exchange.Goals as goal
+
+pub returns-clause-joins : goal.returns-clause-joins
+returns-clause-joins c = both_joined
+
+pub returns-clause-all : goal.returns-clause-all
+returns-clause-all c = both_took
+
+pub returns-clause-side : goal.returns-clause-side
+returns-clause-side c = side
