@@ -47,7 +47,7 @@ Reads-text {E} {X} {V} {cause} {view} {reading} {a} {b} {x} text h gone stay = r
     answers (Some bytes) (Some rest) gone = ap reading gone ∙ h.settles rest
 
     takes : (old new : Option (List ℕ)) → Consumes old new text → TakesKnown old new (TakesNoMore cause view reading (Ok x))
-    takes None new gone = tt
+    takes None new gone = (text, h)
     takes (Some bytes) None gone = absurd gone
     takes (Some bytes) (Some rest) gone = (text, h, gone)
 
@@ -83,11 +83,11 @@ part-taken {X} {view} {a} {b} {x} n got long is gone stay =
 takes-over : (x y z : Option (List ℕ)) (got more : List ℕ) (P : List ℕ → Type 0) (Q : Option (List ℕ) → Type 0)
     → Consumes x y got → Consumes y z more
     → ((bytes left rest : List ℕ) → bytes ≡ got ++ left → left ≡ more ++ rest → Q (Some left) → P (got ++ more))
-    → Q y → TakesKnown x z P
-takes-over None y z got more P Q gone over f q = tt
-takes-over (Some bytes) None z got more P Q gone over f q = absurd gone
-takes-over (Some bytes) (Some left) None got more P Q gone over f q = absurd over
-takes-over (Some bytes) (Some left) (Some rest) got more P Q gone over f q =
+    → Q y → P got → TakesKnown x z P
+takes-over None y z got more P Q gone over f q own = (got, own)
+takes-over (Some bytes) None z got more P Q gone over f q own = absurd gone
+takes-over (Some bytes) (Some left) None got more P Q gone over f q own = absurd over
+takes-over (Some bytes) (Some left) (Some rest) got more P Q gone over f q own =
     (got ++ more, f bytes left rest gone over q, gone ∙ ap (λ (r : List ℕ). got ++ r) over ∙ sym (append_assoc got more rest))
 
 -- the pull of the next piece found too few bytes
@@ -97,7 +97,7 @@ pub part-cut : {X : Type 0} {view : X → List ℕ} {a b : Source} (m : Source) 
 part-cut {X} {view} {a} {b} m n k got long gone before short over after = record {
   rest = (got ++ over.0, Consumes-trans a.coming m.coming b.coming got over.0 gone over.1);
   answer = answers a.coming m.coming b.coming gone short;
-  takes = takes-over a.coming m.coming b.coming got over.0 _ (λ known. IsShorter known k) gone over.1 no_more short;
+  takes = takes-over a.coming m.coming b.coming got over.0 _ (λ known. IsShorter known k) gone over.1 no_more short own;
   fault = λ e. absurd cc;
   faults_stay = omega arith;
 }
@@ -106,6 +106,9 @@ part-cut {X} {view} {a} {b} m n k got long gone before short over after = record
     answers None y z gone short = tt
     answers (Some bytes) None z gone short = absurd gone
     answers (Some bytes) (Some left) z gone short = next_part-cut n bytes (omega (arith, ap length gone, length-append got left, short, long))
+
+    own : TakesNoMore {X = X} stop_cause view (next_part n) (Err (Fault Cut)) got
+    own = record { settles = λ by more. absurd cc; waits = λ free front more parts some. next_part-front n got front more (omega (arith, long)) parts some }
 
     no_more : (bytes left rest : List ℕ) → bytes ≡ got ++ left → left ≡ over.0 ++ rest → length left < k
         → TakesNoMore {X = X} stop_cause view (next_part n) (Err (Fault Cut)) (got ++ over.0)
@@ -123,7 +126,9 @@ pub part-failed : {X : Type 0} {view : X → List ℕ} {a b : Source} (m : Sourc
 part-failed {X} {view} {a} {b} m n got gone before rise over after = record {
   rest = (got ++ over.0, Consumes-trans a.coming m.coming b.coming got over.0 gone over.1);
   answer = answers a.coming b.coming;
-  takes = takes-over a.coming m.coming b.coming got over.0 _ (λ known. Unit {0}) gone over.1 (λ bytes left rest gone over q. no_more) tt;
+  takes =
+      takes-over a.coming m.coming b.coming got over.0 _ (λ known. Unit {0}) gone over.1 (λ bytes left rest gone over q. no_more (got ++ over.0)) tt
+      (no_more got);
   fault = λ e. omega arith;
   faults_stay = omega arith;
 }
@@ -132,8 +137,8 @@ part-failed {X} {view} {a} {b} m n got gone before rise over after = record {
     answers None z = tt
     answers (Some bytes) z = tt
 
-    no_more : TakesNoMore {X = X} stop_cause view (next_part n) (Err (Fault Device)) (got ++ over.0)
-    no_more = record { settles = λ by more. absurd cc; waits = λ free front more parts some. absurd (free refl) }
+    no_more : (taken : List ℕ) → TakesNoMore {X = X} stop_cause view (next_part n) (Err (Fault Device)) taken
+    no_more taken = record { settles = λ by more. absurd cc; waits = λ free front more parts some. absurd (free refl) }
 
 -- not enough memory for a piece that was read
 pub part-memory : {X : Type 0} {view : X → List ℕ} {a b : Source} (n : ℕ) (got : List ℕ) → length got ≤ n
@@ -150,11 +155,14 @@ part-memory {X} {view} {a} {b} n got long gone stay = record {
     answers None z = tt
     answers (Some bytes) z = tt
 
+    own : TakesNoMore {X = X} stop_cause view (next_part n) (Err (Fault Memory)) got
+    own = record { settles = λ by more. absurd cc; waits = λ free front more parts some. next_part-front n got front more long parts some }
+
     takes : (x z : Option (List ℕ)) → Consumes x z got → TakesKnown x z (TakesNoMore {X = X} stop_cause view (next_part n) (Err (Fault Memory)))
-    takes None z gone = tt
+    takes None z gone = (got, own)
     takes (Some bytes) None gone = absurd gone
     takes (Some bytes) (Some rest) gone =
-        (got, record { settles = λ by more. absurd cc; waits = λ free front more parts some. next_part-front n got front more long parts some }, gone)
+        (got, own, gone)
 
 -- the pull of the next piece was refused
 pub part-stopped : {X : Type 0} {view : X → List ℕ} {a b : Source} (m : Source) (n k : ℕ) (got : List ℕ) (pull : PullFault)

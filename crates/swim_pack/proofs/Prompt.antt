@@ -9,6 +9,7 @@ use Rattle.swim_pack.specs.declared.form.Form.TheVariants.{Fixed, Unsigned, Sign
 use Rattle.swim_pack.specs.Composing.{Reading, then_read, ◌>>=◌, gives, refuses, some_or, within, lift, lift_error, Cause, TakesNoMore, same}
 use Rattle.swim_pack.specs.Reading.{cause_of, next_bytes, next_byte, big_at, positive_at, after_form, head_at, number_form, raw_form, count_form, uint_at, count_at, raw_len_at, raw_at, flag_of_byte, flag_at}
 use Rattle.swim_pack.proofs.Composing.{TakesText, TakesNoMore-then, TakesNoMore-lift, none_shorter}
+use Rattle.swim_pack.proofs.Pulls.{next_bytes-whole, next_bytes-short}
 
 -- if the reading returns a value, what it consumed determines it, and no shorter prefix does
 pub record IsPrompt {E V : Type 0} (cause : E → Cause) (reading : Reading E V) : Type 0 where
@@ -104,14 +105,6 @@ prompt-next_byte = record { by = taken }
 prompt-next_bytes : (n : ℕ) → IsPrompt cause_of (next_bytes n)
 prompt-next_bytes n = record { by = λ bytes value rest e. by_length bytes value rest (ltb (length bytes) n) refl e }
   where
-    exact : (text more : List ℕ) → length text ≡ n → next_bytes n (text ++ more) ≡ Ok (text, more)
-    exact text more long =
-        let enough : ltb (length (text ++ more)) n ≡ false = le-ltb _ _ (omega (arith, length-append text more, long)) in
-        rw (enough, take_at text more n long, drop_at text more n long) refl
-
-    short : (front : List ℕ) → length front < n → next_bytes n front ≡ Err Ended
-    short front below = let cut : ltb (length front) n ≡ true = lt-ltb _ _ below in rw cut refl
-
     by_length : (bytes value rest : List ℕ) (b : Bool) → ltb (length bytes) n ≡ b →
         (if b then Err Ended else read {E = PackFault} (take n bytes) (drop n bytes)) ≡ Ok (value, rest)
         → TakesText (TakesNoMore {X = List ℕ} cause_of same (next_bytes n) (Ok value)) bytes rest
@@ -122,9 +115,9 @@ prompt-next_bytes n = record { by = λ bytes value rest e. by_length bytes value
           text = take n bytes;
           is = record {
             settles =
-                λ more. exact (take n bytes) more long ∙ ap (λ (v : List ℕ). read v more)
+                λ more. next_bytes-whole n (take n bytes) more long ∙ ap (λ (v : List ℕ). read v more)
                 (same_value {E = PackFault} (take n bytes) value (drop n bytes) rest e);
-            waits = λ free front more parts some. rw (short front (omega (arith, long, ap length parts ∙ length-append front more, some))) refl;
+            waits = λ free front more parts some. rw (next_bytes-short n front (omega (arith, long, ap length parts ∙ length-append front more, some))) refl;
           };
           parts =
               sym (take-append-drop n bytes) ∙ ap (λ (r : List ℕ). take n bytes ++ r) (same_rest {E = PackFault} (take n bytes) value (drop n bytes) rest e);

@@ -6,6 +6,7 @@ use Rattle.std.proofs.lemmas.List.{append_cancel_left, length-take-le, take-appe
 use Rattle.swim_claim.specs.declared.claim.Claim.{Claim}
 use Rattle.swim_pack.specs.Composing.{UnlessFailed}
 use Rattle.swim_pack.specs.Ends.{Source, Takes, TakesKnown, Lacks}
+use Rattle.swim_pack.proofs.Composing.{Takes-both, Takes-mono}
 use Rattle.swim_wire.specs.declared.fault.WireFault.{WireFault}
 use Rattle.swim_wire.specs.declared.fault.WireFault.TheVariants.{Ended, Fault, Memory}
 use Rattle.swim_wire.specs.declared.stream.Header.{Header}
@@ -82,19 +83,6 @@ wanted reader claims all join begun now text rest b counted t e =
 
 -- ---- reads one after another
 
-Takes-then : (a b c : Option (List ℕ)) (P Q R : List ℕ → Type 0) → ((x y : List ℕ) → P x → Q y → R (x ++ y))
-    → TakesKnown a b P → TakesKnown b c Q → TakesKnown a c R
-Takes-then None b c P Q R join p q = tt
-Takes-then (Some xs) None c P Q R join p q = absurd p
-Takes-then (Some xs) (Some ys) None P Q R join p q = absurd q
-Takes-then (Some xs) (Some ys) (Some zs) P Q R join p q =
-    (p.0 ++ q.0, join p.0 q.0 p.1 q.1, p.2 ∙ ap (λ (l : List ℕ). p.0 ++ l) q.2 ∙ sym (append_assoc p.0 q.0 zs))
-
-Takes-as : (a b : Option (List ℕ)) (P Q : List ℕ → Type 0) → ((x : List ℕ) → P x → Q x) → TakesKnown a b P → TakesKnown a b Q
-Takes-as None b P Q weaken p = tt
-Takes-as (Some xs) None P Q weaken p = absurd p
-Takes-as (Some xs) (Some ys) P Q weaken p = (p.0, weaken p.0 p.1, p.2)
-
 -- What was taken since the stream began: its header, and the records of some claims, of which this
 -- is the table.
 pub record ReadSome (old new : Source) (reader : Streaming) : Type 0 where
@@ -110,7 +98,7 @@ started old new reader taken fresh = record {
   table = subst (λ (t : Entries). TableOf t []) (sym fresh.1) (TableOf-table_of []);
   counted = omega (arith, fresh.0);
   taken =
-      Takes-as old.coming new.coming _ _ (λ b text. record { head = b; records = []; bytes = sym (append-nil b); head_text = text; record_texts = none }) taken;
+      Takes-mono old.coming new.coming _ _ (λ b text. record { head = b; records = []; bytes = sym (append-nil b); head_text = text; record_texts = none }) taken;
 }
 
 -- one more record was read
@@ -137,7 +125,7 @@ stepped_to old mid new reader next c some left taken table header =
       counted = omega (arith, count, nodes, before, left);
       taken =
           subst (λ (h : Header). Takes old new (λ b. BeginText b h (some.claims ++ c ∷ []))) (sym header)
-          (Takes-then old.coming mid.coming new.coming _ _ _ (begun_more reader.header some.claims c) some.taken taken);
+          (Takes-both old.coming mid.coming new.coming _ _ _ (begun_more reader.header some.claims c) some.taken taken);
     }
 
 pub stepped : (old mid new : Source) (reader next : Streaming) → ReadSome old mid reader → Steps reader mid new (More next) → ReadSome old new next
@@ -173,7 +161,7 @@ ended old mid new reader table join some (steps.user_state is left taken) =
       some.claims,
       subst (λ (t : Entries). TableOf t some.claims) the_table some.table,
       subst (λ (j : Bool). Takes old new (λ b. StreamText b some.claims j)) the_flag
-          (Takes-then old.coming mid.coming new.coming _ _ _ (λ x y. whole reader.header some.claims x y count) some.taken taken),
+          (Takes-both old.coming mid.coming new.coming _ _ _ (λ x y. whole reader.header some.claims x y count) some.taken taken),
     )
 
 -- ---- the bytes do not begin with a stream, and why

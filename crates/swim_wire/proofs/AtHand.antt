@@ -49,7 +49,7 @@ passed_over {X} {reading} prompt old new hand rest x n begins e size passed = re
 
     taken_is : (a b : Option (List ℕ)) → Begins a hand → (taken : List ℕ) → length taken ≡ n → Consumes a b taken
         → TakesKnown a b (TakesNoMore {X = X} wire_cause same reading (Ok x))
-    taken_is None b begins taken long consumes = tt
+    taken_is None b begins taken long consumes = (text, settled)
     taken_is (Some bytes) None begins taken long consumes = consumes
     taken_is (Some bytes) (Some left) begins taken long consumes =
         (text, settled, whole bytes begins.0 begins.1 ∙ ap (λ (r : List ℕ). text ++ r) (sym (behind bytes left taken begins.0 begins.1 long consumes)))

@@ -1,13 +1,17 @@
 -- Reads of the layer below.
-use Rattle.std.proofs.Common.{◌≡◌, Ok, Err, refl}
-use Rattle.swim_pack.specs.Ends.{Source}
-use Rattle.swim_pack.specs.Composing.{ReadsAs, lift}
+use Rattle.std.proofs.Common.{◌≡◌, ◌≤◌, ℕ, [], Ok, Err, refl}
+use Rattle.swim_pack.specs.Ends.{Source, IsShorter, Rises, Skips}
+use Rattle.swim_pack.specs.Composing.{ReadsAs, lift, same}
 use Rattle.swim_pack.specs.Composing as composing
-use Rattle.swim_pack.specs.Reading.{cause_of}
+use Rattle.swim_pack.specs.Reading.{cause_of, next_byte}
+use Rattle.swim_pack.specs.Numbers.{pack_fault}
+use Rattle.swim_pack.specs.declared.fault.PullFault.{PullFault}
+use Rattle.swim_pack.specs.declared.fault.PullFault.TheVariants as pulls
 use Rattle.swim_pack.specs.declared.fault.PackFault.{PackFault}
 use Rattle.swim_pack.specs.declared.fault.PackFault.TheVariants.{Ended, NotUnsigned, OutOfRange, NotBool, NotRaw, TooLong, NotMap, MapCount, Fault, Memory}
 use Rattle.swim_pack.proofs.Composing.{Reads-lift}
-use Rattle.swim_wire.specs.Fault.{fault_of_pack, fault_of_key}
+use Rattle.swim_pack.proofs.Pulls.{Reads-no_byte, Reads-refused}
+use Rattle.swim_wire.specs.Fault.{fault_of_pack, fault_of_key, fault_of_pull}
 use Rattle.swim_wire.specs.Reading.{wire_cause}
 
 pub same_cause : (fault : PackFault) → wire_cause (fault_of_pack fault) ≡ cause_of fault
@@ -43,6 +47,16 @@ Wire-ok p = Reads-lift wire_cause fault_of_pack same_cause p
 pub Wire-err : {X V : Type 0} {view : X → V} {reading : composing.Reading PackFault V} {a b : Source} {error : PackFault}
     → ReadsAs {X = X} cause_of view reading a b (Err error) → ReadsAs {X = X} wire_cause view (lift fault_of_pack reading) a b (Err (fault_of_pack error))
 Wire-err p = Reads-lift wire_cause fault_of_pack same_cause p
+
+told_pull : (pull : PullFault) → fault_of_pack (pack_fault pull) ≡ fault_of_pull pull
+told_pull pulls.Ended = refl
+told_pull pulls.Fault = refl
+
+-- a byte that was not pulled
+pub Wire-pulled : {a b : Source} (pull : PullFault) → (pull ≡ pulls.Ended → IsShorter a.coming 1) → (pull ≡ pulls.Fault → Rises a.faults b.faults)
+    → Skips a.coming b.coming → a.faults ≤ b.faults → ReadsAs {X = ℕ} wire_cause same (lift fault_of_pack next_byte) a b (Err (fault_of_pull pull))
+Wire-pulled {a} {b} pull short rose over stay =
+    rw (← told_pull pull) (Wire-err (Reads-no_byte {X = Unit {0}} {view = λ _. []} (Reads-refused 1 pull short rose over stay)))
 
 -- a key that the layer below read, or its refusal
 pub Key-ok : {X V : Type 0} {view : X → V} {reading : composing.Reading PackFault V} {a b : Source} {x : X}

@@ -2,8 +2,15 @@ use Rattle.std.proofs.Common.{◌≡◌, ◌≤◌, ◌+◌, ◌-◌, ◌++◌, 
 use Rattle.std.proofs.KnownBytes.{Consumes-trans}
 use Rattle.std.proofs.lemmas.Result.{err_from_is_err_and}
 use Rattle.swim_pack.specs.Ends.{Skips}
+use Rattle.swim_pack.proofs.Composing.{Takes-consumed}
 use Rattle.swim_wire.proofs.UserState.{user_lacks}
 use Rattle.swim_wire.proofs.user_state.skip_user.Goals as goal
+
+pub returns-clause-takes : goal.returns-clause-takes
+returns-clause-takes g c =
+    let gone = c.loop-left.invariant.dropped in
+    let sum = gone.2 in
+    Takes-consumed _ _ (λ b. length b ≡ c.args.len) gone.0 (omega (arith, sum, c.loop-left-test.false)) gone.1
 
 pub returns-in_err-pull-clause-lacks : goal.returns-in_err-pull-clause-lacks
 returns-in_err-pull-clause-lacks g c =
