@@ -2,14 +2,16 @@
 use Rattle.std.proofs.Common.{◌≡◌, ◌↔◌, ℕ, Bool, Option, Some, None, List, ◌++◌, refl, sym, ap, subst, ◌∙◌}
 use Rattle.std.proofs.lemmas.List.{append_cancel_left}
 use Rattle.swim_claim.specs.declared.claim.Claim.{Claim}
-use Rattle.swim_pack.specs.Ends.{Source, Takes, TakesKnown}
+use Rattle.swim_pack.specs.Ends.{Source, TakesKnown}
+use Rattle.swim_pack.proofs.Composing.{taken_text}
 use Rattle.swim_wire.specs.Streams.{StreamText}
 use Rattle.swim_wire.proofs.OneStream.{one_stream}
 use Rattle.swim_table.specs.Dump.{dump_bytes}
-use Rattle.swim_table.specs.Join.{Join}
+use Rattle.swim_table.specs.Join.{Join, table_of}
 use Rattle.swim_table.specs.Table.{Entries, Reduced, TableOf}
 use Rattle.swim_table.proofs.Dumps.{dump_is_stream}
-use Rattle.swim_table.proofs.Tables.{TableOf-table_of, TableOf-unique, TableOf-Join, Join-comm}
+use Rattle.swim_table.proofs.Showing.{TableOf-sent}
+use Rattle.swim_table.proofs.Tables.{TableOf-table_of, TableOf-unique, TableOf-Reduced, TableOf-Join, Join-comm}
 use Rattle.swim_sync.specs.Exchanging.{IsSendable, Brings, TakesDump, TakesStream}
 use Rattle.swim_sync.proofs.Exchanging.{both_take}
 
@@ -26,13 +28,18 @@ dump_taken (Some bytes) (Some left) other sent read rest claims can is taken =
     let one = one_stream taken.0 dump left rest claims (Reduced other) read sent taken.1 (dump_is_stream other sent can.legal can.few) parts in
     (one.1, one.2, ap Some (append_cancel_left dump left rest (ap (λ (text : List ℕ). text ++ left) (sym one.0) ∙ parts)))
 
+-- the table of the claims of both is the join
+joined_as : (before other after : Entries) → TableOf after (Reduced before ++ Reduced other) → after ≡ Join before other
+joined_as before other after kept =
+    let all = Reduced before ++ Reduced other in
+    TableOf-unique after (Join before other) all all kept (TableOf-table_of all) (λ c. (λ made. made, λ made. made))
+
 pub side_took : (before after other : Entries) (sent read : Bool) (old new : Source) (rest : List ℕ) → IsSendable other → Brings old other sent rest
     → TakesStream old new before after read → (after ≡ Join before other) × (read ≡ sent) × (new.coming ≡ Some rest)
 side_took before after other sent read old new rest can brings took =
     let one = dump_taken old.coming new.coming other sent read rest took.claims can brings took.taken in
-    let all = Reduced before ++ Reduced other in
-    let kept : TableOf after all = subst (λ claims. TableOf after (Reduced before ++ claims)) one.0 took.reduced in
-    (TableOf-unique after (Join before other) all all kept (TableOf-table_of all) (λ c. (λ made. made, λ made. made)), one.1, one.2)
+    let kept : TableOf after (Reduced before ++ Reduced other) = subst (λ claims. TableOf after (Reduced before ++ claims)) one.0 took.reduced in
+    (joined_as before other after kept, one.1, one.2)
 
 -- and the join takes it in
 side_takes : (before other : Entries) (sent : Bool) (old new : Source) (rest : List ℕ) → IsSendable other → Brings old other sent rest
@@ -57,6 +64,17 @@ side before after other sent read old new rest can brings = (
       subst (λ (flag : Bool). TakesStream old new before after flag) (sym is.1)
       (subst (λ (table : Entries). TakesStream old new before table sent) (sym is.0) (side_takes before other sent old new rest can brings is.2)),
 )
+
+-- whatever the end, a side took a stream in
+pub any_end : (before after : Entries) (read : Bool) (old new : Source) → TakesStream old new before after read
+    → (text : List ℕ) × (claims : List Claim) × StreamText text claims read × (after ≡ Join before (table_of claims))
+any_end before after read old new took =
+    let text = taken_text old.coming new.coming (λ b. StreamText b took.claims read) took.taken in
+    let theirs = table_of took.claims in
+    let kept : TableOf after (Reduced before ++ Reduced theirs) =
+    TableOf-sent theirs after took.claims (Reduced theirs) (Reduced before) (TableOf-table_of took.claims)
+    (TableOf-Reduced theirs took.claims (TableOf-table_of took.claims)) took.reduced in
+    (text.0, took.claims, text.1, joined_as before theirs after kept)
 
 -- a side that took the other one's dump in is the join
 dump_joined : (before after other : Entries) → IsSendable other → TakesDump before after other → after ≡ Join before other

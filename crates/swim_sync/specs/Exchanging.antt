@@ -16,7 +16,8 @@ use Rattle.swim_table.specs.Table.{Entries, Reduced, TableOf, IsLegalTable}
 use Rattle.swim_sync.specs.declared.fault.SyncFault.{SyncFault}
 use Rattle.swim_sync.specs.declared.fault.SyncFault.TheVariants.{Wire, TooManyRecords, Push, Memory}
 
--- One stream with this join flag is gone from the front, and the table took its claims in.
+-- One stream with this join flag is gone from the front, or came from an end that tells no bytes, and
+-- the table took its claims in.
 pub record TakesStream (old new : Source) (before after : Entries) (join : Bool) : Type 0 where
   pub claims : List Claim
   pub taken : Takes old new (λ b. StreamText b claims join)

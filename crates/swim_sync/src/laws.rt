@@ -8,7 +8,7 @@ ghost use Rattle.swim_wire.specs.Limits.{most_nodes};
 ghost use Rattle.swim_wire.specs.Streams.{StreamText};
 ghost use Rattle.swim_table.specs.Standing.{Standing};
 ghost use Rattle.swim_table.specs.Table.{Entries, TableOf, Same, Reduced, IsLegalTable};
-ghost use Rattle.swim_table.specs.Join.{Join};
+ghost use Rattle.swim_table.specs.Join.{Join, table_of};
 ghost use Rattle.swim_table.specs.Dump.{dump_bytes};
 ghost use Rattle.swim_table.specs.Listing.{listing};
 ghost use Rattle.swim_table.specs.Refuting.{Due, IsNext};
@@ -55,7 +55,9 @@ pub fn two_members()
 /// 131,072 records comes to the other side, with either join flag and any bytes behind it, and each
 /// side takes one stream in, as [`answer`](crate::answer) and [`finish`](crate::finish) do. Then
 /// both tables are the join, which is the table of all claims of which the two were tables. Each
-/// side took exactly the other one's dump, with its flag, and left the bytes behind it.
+/// side took exactly the other one's dump, with its flag, and left the bytes behind it. Over an end
+/// that tells no bytes, as a socket, a side is the join of what it was and the table of the claims
+/// of some stream.
 pub fn completed_exchange()
     ensures joins { (first second a b : Entries) → IsSendable first → IsSendable second
         → TakesDump first a second → TakesDump second b first
@@ -68,6 +70,10 @@ pub fn completed_exchange()
         (rest : List ℕ) → IsSendable other → Brings old other sent rest
         → (TakesStream old new before after read
         ↔ ((after ≡ Join before other) × (read ≡ sent) × (new.coming ≡ Some rest))) }
+    ensures any_end { (before after : Entries) (read : Bool) (old new : Source)
+        → TakesStream old new before after read
+        → (text : List ℕ) × (claims : List Claim) × StreamText text claims read
+        × (after ≡ Join before (table_of claims)) }
 {}
 
 /// A member's refutation is its Alive at the next incarnation where one is due and this incarnation

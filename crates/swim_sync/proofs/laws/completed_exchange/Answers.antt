@@ -1,4 +1,4 @@
-use Rattle.swim_sync.proofs.Completed.{both_joined, both_took, side}
+use Rattle.swim_sync.proofs.Completed.{any_end, both_joined, both_took, side}
 use Rattle.swim_sync.proofs.laws.completed_exchange.Goals as goal
 
 pub returns-clause-joins : goal.returns-clause-joins
@@ -9,3 +9,6 @@ returns-clause-all c = both_took
 
 pub returns-clause-side : goal.returns-clause-side
 returns-clause-side c = side
+
+pub returns-clause-any_end : goal.returns-clause-any_end
+returns-clause-any_end c = any_end
