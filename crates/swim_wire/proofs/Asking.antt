@@ -1,10 +1,8 @@
 -- Where a read of a message asks for memory.
 use Rattle.std.proofs.Common.{◌≡◌, ◌≢◌, inl, inr, ℕ, zero, suc, ◌-◌, ◌<◌, ◌≤◌, Bool, true, false, cond, List, [], ◌∷◌, ◌++◌, length, Option, Some, None, Result, Ok, Err, refl, sym, ap, subst, ◌∙◌, append_assoc, append-nil, codes, arith}
-use Rattle.std.specs.Prelude.{IfSome, OnErr, slice_index_or}
+use Rattle.std.specs.Prelude.{IfSome, slice_index_or, ⊤}
 use Rattle.std.specs.Str.{bytes_eq}
 use Rattle.swim_claim.specs.declared.claim.Claim.{Claim}
-use Rattle.swim_claim.specs.declared.fault.ClaimFault.{ClaimFault}
-use Rattle.swim_claim.specs.declared.fault.ClaimFault.TheVariants as claims
 use Rattle.swim_pack.specs.Ends.{Source, TakesKnown, Begins}
 use Rattle.swim_pack.specs.Composing.{Cause, Answers, ReadsAs, same, some_or, lift}
 use Rattle.swim_pack.specs.Composing as composing
@@ -12,15 +10,15 @@ use Rattle.swim_pack.specs.Spelling.{RawLen}
 use Rattle.swim_pack.specs.Reading.{cause_of, next_byte, raw_at, count_at}
 use Rattle.swim_pack.proofs.Numbers.{raw_takes, count_takes}
 use Rattle.swim_wire.specs.declared.fault.WireFault.{WireFault}
-use Rattle.swim_wire.specs.declared.fault.WireFault.TheVariants.{Memory, UnknownKey}
+use Rattle.swim_wire.specs.declared.fault.WireFault.TheVariants.{UnknownKey}
 use Rattle.swim_wire.specs.declared.layout.Field.{Field}
 use Rattle.swim_wire.specs.declared.layout.Limit.{Limit}
 use Rattle.swim_wire.specs.declared.layout.Limit.TheVariants as limits
 use Rattle.swim_wire.specs.Asking.{ValueAsks, PairAsks, PairsAsk, MapAsks, PacketAsks}
-use Rattle.swim_wire.specs.Fault.{fault_of_pack, fault_of_key, fault_of_claim}
+use Rattle.swim_wire.specs.Fault.{fault_of_pack, fault_of_key}
 use Rattle.swim_wire.specs.Layout.{Layout, Spelled, Spells, Pairs, PairText, PairTexts, MapText, of_key, raw_or_empty, raw_of, alive_layout, accusation_layout, state_layout}
 use Rattle.swim_wire.specs.Layout.Spelled.{number, raw, flag}
-use Rattle.swim_wire.specs.Reading.{wire_cause, Slots, slot, place_of, limit_at, key_at, pair_at, map_at}
+use Rattle.swim_wire.specs.Reading.{wire_cause, Slots, slot, place_of, limit_at, key_at, pair_at, map_at, raw_in}
 use Rattle.swim_wire.specs.Packet.{PacketValue}
 use Rattle.swim_wire.specs.Slots.{layout_of}
 use Rattle.swim_wire.specs.Texts.{PacketText, StateText}
@@ -29,12 +27,6 @@ use Rattle.swim_wire.proofs.Keys.{IsLegalLayout, key_in, first_from_place, limit
 use Rattle.swim_wire.proofs.Maps.{pair_takes, map_takes, pairs_few}
 use Rattle.swim_wire.proofs.PairReads.{limit_is}
 use Rattle.swim_wire.proofs.Readings.{read, read_value, read_rest, parts_to, then_ok, lift_ok, some_ok}
-
-abbrev of_claim : (X : Type 0) → ClaimFault → Result X WireFault
-of_claim X fault = Err (fault_of_claim fault)
-
-abbrev wants : (X : Type 0) → Result X WireFault
-wants X = Err Memory
 
 abbrev refused : (X : Type 0) → WireFault → Result X WireFault
 refused X fault = Err fault
@@ -123,14 +115,6 @@ pub map_asks : {a b : Source} {n : ℕ} (layout : Layout) (max : ℕ) → length
     → ReadsAs {X = ℕ} cause_of same (count_at max) a b (Ok n) → IfSome b.coming (PairsAsk layout n) → IfSome a.coming (MapAsks layout)
 map_asks {n} layout max is h asks = Reads-asks (MapAsks layout) (PairsAsk layout n) (count_step layout max n is) h asks
 
--- a claim that is refused asks for nothing
-pub refused_claim : {X : Type 0} (fault : ClaimFault) (P : Type 0) → of_claim X fault ≡ wants X → P
-refused_claim claims.NameEmpty P e = absurd cc
-refused_claim claims.NameTooLong P e = absurd cc
-refused_claim claims.BadAddress P e = absurd cc
-refused_claim claims.MetaTooLong P e = absurd cc
-refused_claim claims.BadVersions P e = absurd cc
-
 -- ---- what is spelled asks
 
 spelled_asks : (limit : Limit) (b rest s : List ℕ) → Spells limit b (raw s) → ValueAsks limit (b ++ rest)
@@ -185,30 +169,46 @@ MapText-asks layout b rest key s pairs text e = record {
   text = ap (λ (t : List ℕ). t ++ rest) text.text ∙ append_assoc text.count_text text.pairs_text rest;
 }
 
--- so does what is at hand, where its first key has such a value
-pub hand_asks : (layout : Layout) (hand rest s : List ℕ) (slots : Slots) (known : Option (List ℕ)) → IsLegalLayout layout
-    → 0 < length layout → map_at layout hand ≡ read slots rest → slot slots 0 ≡ Some (raw s) → Begins known hand → IfSome known (MapAsks layout)
-hand_asks layout hand rest s slots None legal some e first begins = tt
-hand_asks layout hand rest s slots (Some bytes) legal some e first begins =
-    let t = map_takes layout hand slots rest legal e in
-    let there = MapText-asks layout t.0 (rest ++ begins.0) (key_in layout 0) s t.1 t.2 (sym (t.4 0 some) ∙ first) in
-    let is : bytes ≡ t.0 ++ (rest ++ begins.0) = begins.1 ∙ ap (λ (h : List ℕ). h ++ begins.0) t.3 ∙ append_assoc t.0 rest begins.0 in
-    subst (MapAsks layout) (sym is) there
+-- a value of text or bytes that is not empty stands there
+raw_there : (o : Option Spelled) → raw_or_empty o ≢ [] → (s : List ℕ) × (o ≡ Some (raw s))
+raw_there None some = absurd (some refl)
+raw_there (Some (number v)) some = absurd (some refl)
+raw_there (Some (raw s)) some = (s, refl)
+raw_there (Some (flag f)) some = absurd (some refl)
 
--- so does a whole map
-pub body_asks : (layout : Layout) (body rest s : List ℕ) (slots : Slots) → IsLegalLayout layout → 0 < length layout
-    → map_at layout body ≡ read slots rest → slot slots 0 ≡ Some (raw s) → MapAsks layout body
-body_asks layout body rest s slots legal some e first = hand_asks layout body rest s slots (Some body) legal some e first ([], sym (append-nil body))
+-- so does one in which a value is not empty
+slot_asks : (layout : Layout) (place : ℕ) (bytes rest more : List ℕ) (slots : Slots) → IsLegalLayout layout → place < length layout
+    → map_at layout bytes ≡ read slots rest → raw_in slots place ≢ [] → MapAsks layout (bytes ++ more)
+slot_asks layout place bytes rest more slots legal inside e some =
+    let t = map_takes layout bytes slots rest legal e in
+    let there = raw_there (slot slots place) some in
+    let asks = MapText-asks layout t.0 (rest ++ more) (key_in layout place) there.0 t.1 t.2 (sym (t.4 place inside) ∙ there.1) in
+    subst (MapAsks layout) (sym (ap (λ (h : List ℕ). h ++ more) t.3 ∙ append_assoc t.0 rest more)) asks
+
+-- a whole map
+pub body_asks : (layout : Layout) (place : ℕ) (body rest : List ℕ) (slots : Slots) → IsLegalLayout layout → place < length layout
+    → map_at layout body ≡ read slots rest → raw_in slots place ≢ [] → MapAsks layout body
+body_asks layout place body rest slots legal inside e some =
+    subst (MapAsks layout) (append-nil body) (slot_asks layout place body rest [] slots legal inside e some)
+
+-- a map at hand
+pub hand_asks : (layout : Layout) (place : ℕ) (hand rest : List ℕ) (slots : Slots) (known : Option (List ℕ)) → IsLegalLayout layout
+    → place < length layout → map_at layout hand ≡ read slots rest → raw_in slots place ≢ [] → Begins known hand → IfSome known (MapAsks layout)
+hand_asks layout place hand rest slots None legal inside e some begins = tt
+hand_asks layout place hand rest slots (Some bytes) legal inside e some begins =
+    subst (MapAsks layout) (sym begins.1) (slot_asks layout place hand rest begins.0 slots legal inside e some)
+
+always : (known : Option (List ℕ)) → IfSome known (λ bytes. ⊤)
+always None = tt
+always (Some bytes) = tt
+
+-- a map that was read
+pub read_asks : {X : Type 0} {view : X → Slots} {x : X} {a b : Source} (layout : Layout) (place : ℕ) → IsLegalLayout layout → place < length layout
+    → ReadsAs wire_cause view (map_at layout) a b (Ok x) → raw_in (view x) place ≢ [] → IfSome a.coming (MapAsks layout)
+read_asks {view} {x} {b} layout place legal inside h some =
+    Reads-asks (MapAsks layout) (λ bytes. ⊤) (λ bytes rest e _. body_asks layout place bytes rest (view x) legal inside e some) h (always b.coming)
 
 -- ---- packets
-
-pub on_err : {X E : Type 0} (r : Result X E) (P : Type 0) → P → OnErr r P
-on_err (Ok x) P h = tt
-on_err (Err error) P h = h
-
-pub on_err_more : {X E Q : Type 0} (P : Type 0) (r : Result X E) → OnErr r P → (P → Q) → OnErr r Q
-on_err_more P (Ok x) h more = tt
-on_err_more P (Err error) h more = more h
 
 pub packet_asks : (bytes body : List ℕ) (first : ℕ) → bytes ≡ first ∷ body → PacketAsks (first ∷ body) → PacketAsks bytes
 packet_asks bytes body first is asks = subst PacketAsks (sym is) asks
@@ -223,13 +223,6 @@ pub type_asks : {a b : Source} (found : ℕ) (Q : List ℕ → Type 0) → ((res
     → ReadsAs {X = ℕ} wire_cause same (lift fault_of_pack next_byte) a b (Ok found) → IfSome b.coming Q → IfSome a.coming PacketAsks
 type_asks found Q more h asks =
     Reads-asks PacketAsks Q (λ bytes rest e q. packet_asks bytes rest found (type_step bytes rest found e) (more rest q)) h asks
-
--- a value of text or bytes that is not empty stands there
-raw_there : (o : Option Spelled) → raw_or_empty o ≢ [] → (s : List ℕ) × (o ≡ Some (raw s))
-raw_there None some = absurd (some refl)
-raw_there (Some (number v)) some = absurd (some refl)
-raw_there (Some (raw s)) some = (s, refl)
-raw_there (Some (flag f)) some = absurd (some refl)
 
 named_asks : (layout : Layout) (m key : List ℕ) (pairs : Pairs) → MapText layout m pairs → raw_of key pairs ≢ [] → MapAsks layout m
 named_asks layout m key pairs text named =

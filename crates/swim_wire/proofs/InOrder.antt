@@ -1,21 +1,19 @@
 -- Maps that have all their keys in alphabetical order, and what they tell.
-use Rattle.std.proofs.Common.{◌≡◌, ℕ, suc, ◌<◌, ◌≤◌, Bool, false, List, [], ◌∷◌, ◌++◌, length, take, drop, Option, Some, None, Result, Ok, Err, refl, sym, ap, ◌∙◌, ltb, le-ltb, arith}
+use Rattle.std.proofs.Common.{◌≡◌, ℕ, suc, ◌<◌, ◌≤◌, Bool, List, [], ◌∷◌, ◌++◌, length, take, drop, Option, Some, None, Result, Ok, Err, refl, sym, ap, ◌∙◌, arith}
 use Rattle.std.proofs.lemmas.List.{length-append, take-append-drop}
-use Rattle.std.specs.Prelude.{slice_set, IfOk, IfSome}
+use Rattle.std.specs.Prelude.{slice_set, IfSome}
 use Rattle.swim_claim.specs.declared.claim.Claim.{Claim}
-use Rattle.swim_claim.specs.declared.claim.Claim.TheVariants.{Alive}
-use Rattle.swim_claim.specs.Details.{DetailsValue}
 use Rattle.swim_pack.specs.Spelling.{raw_text, Count as counts}
 use Rattle.swim_pack.proofs.Canonical.{raw_text_is}
 use Rattle.swim_pack.proofs.Numbers.{raw_again, count_again}
+use Rattle.swim_wire.specs.declared.fault.WireFault.{WireFault}
 use Rattle.swim_wire.specs.declared.layout.Limit.{Limit}
 use Rattle.swim_wire.specs.declared.layout.Limit.TheVariants as limits
+use Rattle.swim_wire.specs.declared.stream.Header.{Header}
 use Rattle.swim_wire.specs.InOrder.{state_slots, alive_slots, accusation_slots, header_slots}
 use Rattle.swim_wire.specs.Layout.{Layout, Spelled, alive_layout, accusation_layout, header_layout, state_layout}
 use Rattle.swim_wire.specs.Layout.Spelled.{number, raw, flag}
-use Rattle.swim_wire.specs.Packet.{PacketValue}
-use Rattle.swim_wire.specs.Reading.{claim_of_state, with_details, alive_of, alive_at, suspect_of, suspect_at, dead_of, dead_at, packet_at, whole_packet, state_of, Slots, slot, value_at, limit_at, key_at, pair_at, pairs_at, no_slots, map_at, state_at, header_at}
-use Rattle.swim_wire.proofs.Checking.{with_name_ok, with_name_again, with_details_ok, with_details_again}
+use Rattle.swim_wire.specs.Reading.{nothing_after, checked, alive_of, alive_at, suspect_of, suspect_at, dead_of, dead_at, packet_at, whole_packet, state_of, Slots, slot, value_at, limit_at, key_at, pair_at, pairs_at, no_slots, map_at, state_at, header_of, header_at}
 use Rattle.swim_wire.proofs.Keys.{IsLegalLayout, key_in, all_at, own_place, alive_legal, accusation_legal, header_legal, state_legal}
 use Rattle.swim_wire.proofs.Maps.{map_takes}
 use Rattle.swim_wire.proofs.Readings.{read}
@@ -146,65 +144,50 @@ header_shorter bytes body rest slots is e =
 
 -- ---- what they tell
 
--- an alive message claims what a record of state 0 does
-pub alive_claimed : (addr meta name vsn : List ℕ) (inc port : ℕ) (claim : Claim) → state_of (state_slots addr inc meta name port 0 vsn) ≡ Ok claim
-    → alive_of (alive_slots addr inc meta name port vsn) ≡ Ok (record { claim = claim; from = [] })
-alive_claimed addr meta name vsn inc port claim e =
-    let slots = state_slots addr inc meta name port 0 vsn in
-    let named = with_name_ok name (claim_of_state slots 0) claim e in
-    let d : DetailsValue = record { addr = addr; port = port; meta = meta; vsn = vsn } in
-    let detailed = with_details_ok d (λ details. Alive name inc details) claim named.1 in
-    let packet_of : DetailsValue → PacketValue = λ details. record { claim = Alive name inc details; from = [] } in
-    rw (detailed.2) (with_name_again name (with_details d packet_of) named.0 ∙ with_details_again d packet_of detailed.0 detailed.1)
+checked_alone : {A : Type 0} (r : Result A WireFault) → nothing_after (checked r []) ≡ r
+checked_alone (Ok x) = refl
+checked_alone (Err error) = refl
 
-pub alive_told : (body rest : List ℕ) (slots : Slots) (packet : PacketValue) → map_at alive_layout body ≡ read slots rest
-    → rest ≡ [] → alive_of slots ≡ Ok packet → alive_at body ≡ read packet []
+-- of a map with nothing behind it
+pub alive_told : (body rest : List ℕ) (slots : Slots) → map_at alive_layout body ≡ read slots rest → rest ≡ [] → nothing_after (alive_at body) ≡ alive_of slots
 unfolding alive_at
-alive_told body rest slots packet e none is = rw (e, none, is) refl
+alive_told body rest slots e none = rw (e, none) (checked_alone (alive_of slots))
 
-pub suspect_told : (body rest : List ℕ) (slots : Slots) (packet : PacketValue)
-    → map_at accusation_layout body ≡ read slots rest → rest ≡ [] → suspect_of slots ≡ Ok packet
-    → suspect_at body ≡ read packet []
+pub suspect_told : (body rest : List ℕ) (slots : Slots) → map_at accusation_layout body ≡ read slots rest → rest ≡ []
+    → nothing_after (suspect_at body) ≡ suspect_of slots
 unfolding suspect_at
-suspect_told body rest slots packet e none is = rw (e, none, is) refl
+suspect_told body rest slots e none = rw (e, none) (checked_alone (suspect_of slots))
 
-pub dead_told : (body rest : List ℕ) (slots : Slots) (packet : PacketValue) → map_at accusation_layout body ≡ read slots rest
-    → rest ≡ [] → dead_of slots ≡ Ok packet → dead_at body ≡ read packet []
+pub dead_told : (body rest : List ℕ) (slots : Slots) → map_at accusation_layout body ≡ read slots rest → rest ≡ []
+    → nothing_after (dead_at body) ≡ dead_of slots
 unfolding dead_at
-dead_told body rest slots packet e none is = rw (e, none, is) refl
+dead_told body rest slots e none = rw (e, none) (checked_alone (dead_of slots))
 
 -- behind its type byte
-pub packet_of_alive : (bytes body : List ℕ) (packet : PacketValue) → bytes ≡ 4 ∷ body → alive_at body ≡ read packet [] → whole_packet bytes ≡ Ok packet
+pub packet_of_alive : (bytes body : List ℕ) → bytes ≡ 4 ∷ body → whole_packet bytes ≡ nothing_after (alive_at body)
 unfolding packet_at
-packet_of_alive bytes body packet first e = rw (first, e) refl
+packet_of_alive bytes body first = rw first refl
 
-pub packet_of_suspect : (bytes body : List ℕ) (packet : PacketValue) → bytes ≡ 3 ∷ body → suspect_at body ≡ read packet [] → whole_packet bytes ≡ Ok packet
+pub packet_of_suspect : (bytes body : List ℕ) → bytes ≡ 3 ∷ body → whole_packet bytes ≡ nothing_after (suspect_at body)
 unfolding packet_at
-packet_of_suspect bytes body packet first e = rw (first, e) refl
+packet_of_suspect bytes body first = rw first refl
 
-pub packet_of_dead : (bytes body : List ℕ) (packet : PacketValue) → bytes ≡ 5 ∷ body → dead_at body ≡ read packet [] → whole_packet bytes ≡ Ok packet
+pub packet_of_dead : (bytes body : List ℕ) → bytes ≡ 5 ∷ body → whole_packet bytes ≡ nothing_after (dead_at body)
 unfolding packet_at
-packet_of_dead bytes body packet first e = rw (first, e) refl
+packet_of_dead bytes body first = rw first refl
 
 pub state_told : (bytes rest : List ℕ) (slots : Slots) (claim : Claim) → map_at state_layout bytes ≡ read slots rest
     → state_of slots ≡ Ok claim → state_at bytes ≡ read claim rest
 unfolding state_at
 state_told bytes rest slots claim e is = rw (e, is) refl
 
--- a header within its limits
-pub header_told : (bytes body rest : List ℕ) (join : Bool) (nodes user_len : ℕ) → bytes ≡ 6 ∷ body
-    → map_at header_layout body ≡ read (header_slots join nodes user_len) rest
-    → nodes ≤ 131072 → user_len ≤ 20971520 → header_at bytes ≡ read (record { nodes = nodes; user_len = user_len; join = join }) rest
+pub header_told : (bytes body rest : List ℕ) (slots : Slots) (header : Header) → bytes ≡ 6 ∷ body → map_at header_layout body ≡ read slots rest
+    → header_of slots ≡ Ok header → header_at bytes ≡ read header rest
 unfolding header_at
-header_told bytes body rest join nodes user_len first e few short =
-    let few_is : ltb 131072 nodes ≡ false = le-ltb _ _ few in
-    let short_is : ltb 20971520 user_len ≡ false = le-ltb _ _ short in
-    rw (first, e, few_is, short_is) refl
+header_told bytes body rest slots header first e is = rw (first, e, is) refl
 
--- ---- what was made, seen as more
+-- ---- what was answered, seen as more
 
-pub each_made : {E P : Type 0} (A B : P → Type 0) (r : Result (Option P) E) → ((p : P) → A p → B p) → IfOk r
-    (λ made. IfSome made A) → IfOk r (λ made. IfSome made B)
-each_made A B (Ok (Some p)) f h = f p h
-each_made A B (Ok None) f h = h
-each_made A B (Err error) f h = h
+pub if_some_more : {X : Type 0} (A B : X → Type 0) (o : Option X) → ((x : X) → A x → B x) → IfSome o A → IfSome o B
+if_some_more A B None f h = tt
+if_some_more A B (Some x) f h = f x h

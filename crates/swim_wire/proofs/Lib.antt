@@ -11,6 +11,7 @@ pub mod Filling
 pub mod MapFaults
 pub mod Maps
 pub mod Checking
+pub mod Claimed
 pub mod PacketTexts
 pub mod StreamTexts
 pub mod DatagramTexts

@@ -8,7 +8,7 @@ ghost use Rattle.swim_wire.specs.Slots.{slots_of};
 
 use crate::WireFault;
 use crate::layout::{Field, Key, Limit};
-use crate::map::{Values, raw, read_map};
+use crate::map::{Value, Values, read_map};
 use std::alloc::Global;
 use swim_pack::{Inlet, SliceInlet};
 
@@ -73,5 +73,8 @@ fn packed_of(alloc: Global, values: Values) -> Vec<u8>
     ensures { result.items ≡ raw_in (slots_of values) 1 }
 {
     let [_, packed, ..] = values;
-    raw(alloc, packed)
+    match packed {
+        Some(Value::Raw(bytes)) => bytes,
+        _ => Vec::new(alloc),
+    }
 }

@@ -10,6 +10,7 @@
 //! | `map` | maps of a layout, read key by key |
 //! | `in_order` | messages that are at hand whole, each key once in alphabetical order |
 //! | `message` | what the maps say, before it is checked as a whole |
+//! | `claims` | the claims, packets and headers that pass this check |
 //! | `canonical` | messages in their canonical bytes |
 //! | `fault` | why a message was refused |
 //! | `laws` | what holds of messages, apart from any code |
@@ -19,6 +20,7 @@
 mod canonical;
 mod canonical_law;
 mod claimless;
+mod claims;
 mod compression;
 mod datagram;
 mod fault;

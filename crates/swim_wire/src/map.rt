@@ -144,31 +144,31 @@ fn read_value<I: Inlet>(
 }
 
 /// The number, or 0 where its key is absent.
-pub(crate) fn uint(value: Option<Value>) -> u64
-    ensures { result ≡ number_or_zero (option_map spelled value) }
+pub(crate) fn uint(value: &Option<Value>) -> u64
+    ensures { result ≡ number_or_zero (option_map spelled value.now) }
 {
     match value {
-        Some(Value::Number(number)) => number,
+        Some(Value::Number(number)) => *number,
         _ => 0,
     }
 }
 
 /// The text or bytes, or none where their key is absent.
-pub(crate) fn raw(alloc: Global, value: Option<Value>) -> Vec<u8>
-    ensures { result.items ≡ raw_or_empty (option_map spelled value) }
+pub(crate) fn raw(value: &Option<Value>) -> &[u8]
+    ensures { result.now ≡ raw_or_empty (option_map spelled value.now) }
 {
     match value {
         Some(Value::Raw(bytes)) => bytes,
-        _ => Vec::new(alloc),
+        _ => &[],
     }
 }
 
 /// The truth value, or false where its key is absent.
-pub(crate) fn flag(value: Option<Value>) -> bool
-    ensures { result ≡ flag_or_false (option_map spelled value) }
+pub(crate) fn flag(value: &Option<Value>) -> bool
+    ensures { result ≡ flag_or_false (option_map spelled value.now) }
 {
     match value {
-        Some(Value::Flag(flag)) => flag,
+        Some(Value::Flag(flag)) => *flag,
         _ => false,
     }
 }

@@ -1,13 +1,10 @@
 //! What the maps of messages say, with memberlist's names, before it is checked as a whole.
 
-ghost use Rattle.std.specs.Prelude.{◌≤◌, length};
-ghost use Rattle.swim_claim.specs.Limits.{longest_meta, longest_name};
-ghost use Rattle.swim_wire.specs.Message.{SaysAlive, SaysAccusation, SaysHeader, SaysState};
+ghost use Rattle.swim_wire.specs.Message.{SaysAlive, SaysAccusation, SaysHeader, SaysState, IsShortAlive, IsShortAccusation, IsShortState};
 ghost use Rattle.swim_wire.specs.Slots.{FitsEach, slots_of};
 
 use crate::layout::{ACCUSATION, ALIVE, HEADER, STATE};
 use crate::map::{Values, flag, raw, uint};
-use std::alloc::Global;
 
 /// The first byte of a suspect message, as in memberlist's `net.go`.
 pub const SUSPECT_MESSAGE: u8 = 3;
@@ -25,26 +22,26 @@ pub const PUSH_PULL_MESSAGE: u8 = 6;
 pub const COMPOUND_MESSAGE: u8 = 7;
 
 /// memberlist's `alive`.
-#[derive(Drop)]
-pub(crate) struct Alive {
-    pub(crate) addr: Vec<u8>,
+#[derive(Clone, Copy)]
+pub(crate) struct Alive<'a> {
+    pub(crate) addr: &'a [u8],
     pub(crate) incarnation: u32,
-    pub(crate) meta: Vec<u8>,
-    pub(crate) node: Vec<u8>,
+    pub(crate) meta: &'a [u8],
+    pub(crate) node: &'a [u8],
     pub(crate) port: u16,
-    pub(crate) vsn: Vec<u8>,
+    pub(crate) vsn: &'a [u8],
 }
 
 /// memberlist's `suspect` and `dead`.
-#[derive(Drop)]
-pub(crate) struct Accusation {
-    pub(crate) from: Vec<u8>,
+#[derive(Clone, Copy)]
+pub(crate) struct Accusation<'a> {
+    pub(crate) from: &'a [u8],
     pub(crate) incarnation: u32,
-    pub(crate) node: Vec<u8>,
+    pub(crate) node: &'a [u8],
 }
 
 /// memberlist's `pushPullHeader`.
-#[derive(Drop)]
+#[derive(Clone, Copy)]
 pub(crate) struct PushPullHeader {
     pub(crate) join: bool,
     pub(crate) nodes: u64,
@@ -52,56 +49,54 @@ pub(crate) struct PushPullHeader {
 }
 
 /// memberlist's `pushNodeState`.
-#[derive(Drop)]
-pub(crate) struct PushNodeState {
-    pub(crate) addr: Vec<u8>,
+#[derive(Clone, Copy)]
+pub(crate) struct PushNodeState<'a> {
+    pub(crate) addr: &'a [u8],
     pub(crate) incarnation: u32,
-    pub(crate) meta: Vec<u8>,
-    pub(crate) name: Vec<u8>,
+    pub(crate) meta: &'a [u8],
+    pub(crate) name: &'a [u8],
     pub(crate) port: u16,
     pub(crate) state: u64,
-    pub(crate) vsn: Vec<u8>,
+    pub(crate) vsn: &'a [u8],
 }
 
-impl Alive {
-    pub(crate) fn new(alloc: Global, values: Values) -> Alive
-        requires { FitsEach ALIVE values }
-        ensures says { SaysAlive (slots_of values) result }
-        ensures short_node { length result.node.items ≤ longest_name }
-        ensures short_meta { length result.meta.items ≤ longest_meta }
+impl<'a> Alive<'a> {
+    pub(crate) fn new(values: &'a Values) -> Alive<'a>
+        requires { FitsEach ALIVE values.now }
+        ensures says { SaysAlive (slots_of values.now) result }
+        ensures short { IsShortAlive result }
     {
         let [addr, incarnation, meta, node, port, vsn, ..] = values;
         Alive {
-            addr: raw(alloc, addr),
+            addr: raw(addr),
             incarnation: uint(incarnation) as u32,
-            meta: raw(alloc, meta),
-            node: raw(alloc, node),
+            meta: raw(meta),
+            node: raw(node),
             port: uint(port) as u16,
-            vsn: raw(alloc, vsn),
+            vsn: raw(vsn),
         }
     }
 }
 
-impl Accusation {
-    pub(crate) fn new(alloc: Global, values: Values) -> Accusation
-        requires { FitsEach ACCUSATION values }
-        ensures says { SaysAccusation (slots_of values) result }
-        ensures short_from { length result.from.items ≤ longest_name }
-        ensures short_node { length result.node.items ≤ longest_name }
+impl<'a> Accusation<'a> {
+    pub(crate) fn new(values: &'a Values) -> Accusation<'a>
+        requires { FitsEach ACCUSATION values.now }
+        ensures says { SaysAccusation (slots_of values.now) result }
+        ensures short { IsShortAccusation result }
     {
         let [from, incarnation, node, ..] = values;
         Accusation {
-            from: raw(alloc, from),
+            from: raw(from),
             incarnation: uint(incarnation) as u32,
-            node: raw(alloc, node),
+            node: raw(node),
         }
     }
 }
 
 impl PushPullHeader {
-    pub(crate) fn new(values: Values) -> PushPullHeader
-        requires { FitsEach HEADER values }
-        ensures { SaysHeader (slots_of values) result }
+    pub(crate) fn new(values: &Values) -> PushPullHeader
+        requires { FitsEach HEADER values.now }
+        ensures { SaysHeader (slots_of values.now) result }
     {
         let [join, nodes, user_state_len, ..] = values;
         PushPullHeader {
@@ -112,22 +107,21 @@ impl PushPullHeader {
     }
 }
 
-impl PushNodeState {
-    pub(crate) fn new(alloc: Global, values: Values) -> PushNodeState
-        requires { FitsEach STATE values }
-        ensures says { SaysState (slots_of values) result }
-        ensures short_name { length result.name.items ≤ longest_name }
-        ensures short_meta { length result.meta.items ≤ longest_meta }
+impl<'a> PushNodeState<'a> {
+    pub(crate) fn new(values: &'a Values) -> PushNodeState<'a>
+        requires { FitsEach STATE values.now }
+        ensures says { SaysState (slots_of values.now) result }
+        ensures short { IsShortState result }
     {
         let [addr, incarnation, meta, name, port, state, vsn, _] = values;
         PushNodeState {
-            addr: raw(alloc, addr),
+            addr: raw(addr),
             incarnation: uint(incarnation) as u32,
-            meta: raw(alloc, meta),
-            name: raw(alloc, name),
+            meta: raw(meta),
+            name: raw(name),
             port: uint(port) as u16,
             state: uint(state),
-            vsn: raw(alloc, vsn),
+            vsn: raw(vsn),
         }
     }
 }

@@ -12,13 +12,14 @@ ghost use Rattle.swim_wire.specs.Reading.{wire_cause, packet_at, alive_at, suspe
 ghost use Rattle.swim_wire.specs.Texts.{PacketText};
 
 use crate::WireFault;
+use crate::claims::{packet_of_alive, packet_of_dead, packet_of_suspect};
 use crate::in_order::packet_in_order;
 use crate::layout::{ACCUSATION, ALIVE};
 use crate::map::read_map;
 use crate::message::{ALIVE_MESSAGE, Accusation, Alive, DEAD_MESSAGE, SUSPECT_MESSAGE};
 use std::alloc::Global;
 use std::marker::Model;
-use swim_claim::{Claim, Details, Name};
+use swim_claim::Claim;
 use swim_pack::{Inlet, SliceInlet};
 
 /// A claim, and the member that makes it. Contracts see it as these two.
@@ -102,8 +103,8 @@ pub(crate) fn decode_whole_packet(alloc: Global, bytes: &[u8]) -> Result<Packet,
     ensures no_fault { ¬ IsErrOf result WireFault.Fault }
     ensures memory { IsErrOf result WireFault.Memory → PacketAsks bytes.now }
 {
-    match packet_in_order(alloc, bytes)? {
-        Some(packet) => Ok(packet),
+    match packet_in_order(alloc, bytes) {
+        Some(read) => read,
         None => decode_any_packet(alloc, bytes),
     }
 }
@@ -154,11 +155,8 @@ fn read_alive<I: Inlet>(alloc: Global, inlet: &mut I) -> Result<Packet, WireFaul
     ensures memory { IsErrOf result WireFault.Memory
         → ExplainsStart (MapAsks alive_layout) (I.seen inlet.old) }
 {
-    let alive = Alive::new(alloc, read_map(Some(alloc), inlet, &ALIVE)?);
-    let name = Name::new(alive.node)?;
-    let inc = alive.incarnation;
-    let details = Details::new(alive.addr, alive.port, alive.meta, alive.vsn)?;
-    Ok(Packet::new(Claim::Alive { name, inc, details }, Vec::new(alloc)))
+    let values = read_map(Some(alloc), inlet, &ALIVE)?;
+    packet_of_alive(alloc, &Alive::new(&values))
 }
 
 fn read_suspect<I: Inlet>(alloc: Global, inlet: &mut I) -> Result<Packet, WireFault>
@@ -167,25 +165,15 @@ fn read_suspect<I: Inlet>(alloc: Global, inlet: &mut I) -> Result<Packet, WireFa
     ensures memory { IsErrOf result WireFault.Memory
         → ExplainsStart (MapAsks accusation_layout) (I.seen inlet.old) }
 {
-    let suspect = Accusation::new(alloc, read_map(Some(alloc), inlet, &ACCUSATION)?);
-    let name = Name::new(suspect.node)?;
-    let inc = suspect.incarnation;
-    Ok(Packet::new(Claim::Suspect { name, inc }, suspect.from))
+    let values = read_map(Some(alloc), inlet, &ACCUSATION)?;
+    packet_of_suspect(alloc, &Accusation::new(&values))
 }
 
-/// A member that is dead by its own word has left.
 fn read_dead<I: Inlet>(alloc: Global, inlet: &mut I) -> Result<Packet, WireFault>
     ensures exact { ReadsAs wire_cause same dead_at (I.seen inlet.old) (I.seen inlet.new) result }
     ensures memory { IsErrOf result WireFault.Memory
         → ExplainsStart (MapAsks accusation_layout) (I.seen inlet.old) }
 {
-    let dead = Accusation::new(alloc, read_map(Some(alloc), inlet, &ACCUSATION)?);
-    let name = Name::new(dead.node)?;
-    let inc = dead.incarnation;
-    let claim = if dead.from.as_slice() == name.bytes() {
-        Claim::Leave { name, inc }
-    } else {
-        Claim::Confirm { name, inc }
-    };
-    Ok(Packet::new(claim, dead.from))
+    let values = read_map(Some(alloc), inlet, &ACCUSATION)?;
+    packet_of_dead(alloc, &Accusation::new(&values))
 }

@@ -14,13 +14,14 @@ ghost use Rattle.swim_wire.specs.Slots.{FitsEach, slots_of};
 ghost use Rattle.swim_wire.specs.Texts.{HeaderText, StateText};
 
 use crate::WireFault;
+use crate::claims::{claim_of_state, header_of};
 use crate::in_order::{read_header_in_order, read_state_in_order};
 use crate::layout::{HEADER, STATE};
 use crate::map::{Values, read_map};
 use crate::message::{PUSH_PULL_MESSAGE, PushNodeState, PushPullHeader};
 use crate::packet::read_type;
 use std::alloc::Global;
-use swim_claim::{Claim, Details, Name};
+use swim_claim::Claim;
 use swim_pack::Inlet;
 
 /// The most state records of a stream.
@@ -88,18 +89,8 @@ fn read_any_header<I: Inlet>(inlet: &mut I) -> Result<Header, WireFault>
         × (header.user_len ≤ most_user_state)) }
 {
     let found = read_type(inlet)?;
-    let header = PushPullHeader::new(read_header_map(inlet, found)?);
-    if header.nodes > MOST_NODES {
-        return Err(WireFault::TooManyNodes);
-    }
-    if header.user_state_len > MOST_USER_STATE {
-        return Err(WireFault::UserTooLong);
-    }
-    Ok(Header {
-        nodes: header.nodes as u32,
-        user_len: header.user_state_len as u32,
-        join: header.join,
-    })
+    let values = read_header_map(inlet, found)?;
+    header_of(&PushPullHeader::new(&values))
 }
 
 /// Reads the map behind a type byte, which has to be that of a stream.
@@ -162,18 +153,6 @@ fn read_any_state<I: Inlet>(alloc: Global, inlet: &mut I) -> Result<Claim, WireF
     ensures memory { IsErrOf result WireFault.Memory
         → ExplainsStart (MapAsks state_layout) (I.seen inlet.old) }
 {
-    let state = PushNodeState::new(alloc, read_map(Some(alloc), inlet, &STATE)?);
-    let name = Name::new(state.name)?;
-    let inc = state.incarnation;
-    let found = state.state;
-    match found {
-        0 => {
-            let details = Details::new(state.addr, state.port, state.meta, state.vsn)?;
-            Ok(Claim::Alive { name, inc, details })
-        }
-        1 => Ok(Claim::Suspect { name, inc }),
-        2 => Ok(Claim::Confirm { name, inc }),
-        3 => Ok(Claim::Leave { name, inc }),
-        _ => Err(WireFault::BadState { found }),
-    }
+    let values = read_map(Some(alloc), inlet, &STATE)?;
+    claim_of_state(alloc, &PushNodeState::new(&values))
 }

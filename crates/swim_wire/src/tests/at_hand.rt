@@ -4,7 +4,7 @@ ghost use Rattle.std.specs.Prelude.{Some};
 
 use super::{ALIVE, CONFIRM, LEAVE, SUSPECT};
 use crate::in_order::packet_in_order;
-use crate::{read_header, read_state};
+use crate::{WireFault, read_header, read_state};
 use std::alloc::{AllocError, Global};
 use std::process::Abort;
 use swim_pack::{Inlet, PullFault, SliceInlet};
@@ -86,12 +86,12 @@ fn a_record_in_order_is_read_where_it_stands(rt: HostRuntime) -> Result<(), Allo
 }
 
 /// Whether the reading in order finds a packet.
-fn is_in_order(alloc: Global, packet: &[u8]) -> Result<bool, AllocError> {
-    Ok(packet_in_order(alloc, packet)?.is_some())
+fn is_in_order(alloc: Global, packet: &[u8]) -> Result<bool, WireFault> {
+    Ok(packet_in_order(alloc, packet).transpose()?.is_some())
 }
 
 #[test]
-fn a_packet_in_order_is_found_so(rt: HostRuntime) -> Result<(), AllocError> {
+fn a_packet_in_order_is_found_so(rt: HostRuntime) -> Result<(), WireFault> {
     for packet in [ALIVE, SUSPECT, CONFIRM, LEAVE] {
         assert!(rt; is_in_order(rt.alloc(), packet)?);
     }

@@ -3,5 +3,5 @@ use Rattle.swim_wire.proofs.in_order.alive_in_order.Goals as goal
 
 pub returns-clause-reads : goal.returns-clause-reads
 returns-clause-reads c =
-    alive_map _ _ _ _ _ _ _ _ _ _ _ _ _ c.in_ok-addr.ensures.reads c.in_ok-incarnation.ensures.reads c.in_ok-meta.ensures.reads c.in_ok-name.ensures.reads
+    alive_map _ _ _ _ _ _ _ _ _ _ _ _ _ c.in_ok-addr.ensures.reads c.in_ok-incarnation.ensures.reads c.in_ok-meta.ensures.reads c.in_ok-node.ensures.reads
     c.in_ok-port.ensures.reads c.in_ok-vsn.ensures.reads

@@ -1,19 +1,17 @@
-use Rattle.std.proofs.Common.{refl, sym, ◌∙◌, arith}
+use Rattle.std.proofs.Common.{sym, ◌∙◌, arith}
 use Rattle.std.proofs.lemmas.Bool.{eqb-true}
 use Rattle.std.proofs.lemmas.List.{nil_from_length}
 use Rattle.swim_wire.specs.Layout.{accusation_layout}
-use Rattle.swim_wire.proofs.Asking.{on_err, body_asks}
-use Rattle.swim_wire.proofs.InOrder.{dead_told, each_made}
+use Rattle.swim_wire.proofs.Asking.{body_asks}
+use Rattle.swim_wire.proofs.InOrder.{dead_told}
 use Rattle.swim_wire.proofs.Keys.{accusation_legal}
 use Rattle.swim_wire.proofs.in_order.dead_packet.Goals as goal
 
-pub returns-in-Some-clause-made : goal.returns-in-Some-clause-made
-returns-in-Some-clause-made c =
-    let found = c.in-Some.dead in
-    let none = nil_from_length found.rest.now (eqb-true _ _ (sym c.is_empty.ensures ∙ c.if-is_empty.true)) in
-    each_made _ _ c.packet_of_dead.result
-    (λ packet is. dead_told c.args.body.now found.rest.now _ packet c.in-Some.ensures.reads none is) c.packet_of_dead.ensures
+pub returns-then-is_empty-clause-answers : goal.returns-then-is_empty-clause-answers
+returns-then-is_empty-clause-answers c =
+    let none = nil_from_length c.in_ok-dead.rest.now (eqb-true _ _ (sym c.is_empty.ensures ∙ c.if-is_empty.true)) in
+    rw (dead_told c.args.body.now c.in_ok-dead.rest.now _ c.in_ok-dead.ensures.reads none) c.packet_of_dead.ensures.answers
 
-pub returns-in-Some-clause-memory : goal.returns-in-Some-clause-memory
-returns-in-Some-clause-memory c =
-    on_err _ _ (body_asks accusation_layout _ c.in-Some.dead.rest.now c.in-Some.dead.from.now _ accusation_legal (omega arith) c.in-Some.ensures.reads refl)
+pub returns-then-is_empty-clause-memory : goal.returns-then-is_empty-clause-memory
+returns-then-is_empty-clause-memory c = λ is.
+    body_asks accusation_layout 2 _ c.in_ok-dead.rest.now _ accusation_legal (omega arith) c.in_ok-dead.ensures.reads (c.packet_of_dead.ensures.memory is)

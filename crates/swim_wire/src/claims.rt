@@ -1,0 +1,134 @@
+//! What the fields of a message say, once it is checked as a whole: claims and packets of them, and
+//! the header of a stream.
+
+ghost use Rattle.std.specs.Prelude.{◌≡◌, ◌≢◌, ◌≤◌, [], Ok, length, IfOk, IsErrOf};
+ghost use Rattle.swim_claim.specs.Limits.{longest_meta, longest_name};
+ghost use Rattle.swim_pack.specs.Composing.{same};
+ghost use Rattle.swim_wire.specs.Limits.{most_nodes, most_user_state};
+ghost use Rattle.swim_wire.specs.Message.{IsShortAlive, IsShortAccusation, IsShortState, slots_of_alive, slots_of_accusation, slots_of_header, slots_of_state};
+ghost use Rattle.swim_wire.specs.Reading.{AnswersUnlessMemory, with_name, with_details, alive_of, suspect_of, dead_of, header_of, state_of};
+
+use crate::WireFault;
+use crate::message::{Accusation, Alive, PushNodeState, PushPullHeader};
+use crate::packet::Packet;
+use crate::stream::{Header, MOST_NODES, MOST_USER_STATE};
+use std::alloc::Global;
+use swim_claim::{Claim, Details, Name};
+
+/// The packet of an alive message.
+#[inline(always)]
+pub(crate) fn packet_of_alive(alloc: Global, alive: &Alive) -> Result<Packet, WireFault>
+    requires { IsShortAlive alive.now }
+    ensures answers { AnswersUnlessMemory (alive_of (slots_of_alive alive.now)) result }
+    ensures no_fault { ¬ IsErrOf result WireFault.Fault }
+    ensures memory { IsErrOf result WireFault.Memory → alive.now.node.now ≢ [] }
+{
+    let name = name_of(alloc, alive.node)?;
+    let inc = alive.incarnation;
+    let details = details_of(alloc, alive.addr, alive.port, alive.meta, alive.vsn)?;
+    Ok(Packet::new(Claim::Alive { name, inc, details }, Vec::new(alloc)))
+}
+
+/// The packet of a suspect message.
+#[inline(always)]
+pub(crate) fn packet_of_suspect(alloc: Global, suspect: &Accusation) -> Result<Packet, WireFault>
+    requires { IsShortAccusation suspect.now }
+    ensures answers { AnswersUnlessMemory (suspect_of (slots_of_accusation suspect.now)) result }
+    ensures no_fault { ¬ IsErrOf result WireFault.Fault }
+    ensures memory { IsErrOf result WireFault.Memory → suspect.now.node.now ≢ [] }
+{
+    let name = name_of(alloc, suspect.node)?;
+    let inc = suspect.incarnation;
+    let from = suspect.from.to_vec(alloc)?;
+    Ok(Packet::new(Claim::Suspect { name, inc }, from))
+}
+
+/// The packet of a dead message. A member that is dead by its own word has left.
+#[inline(always)]
+pub(crate) fn packet_of_dead(alloc: Global, dead: &Accusation) -> Result<Packet, WireFault>
+    requires { IsShortAccusation dead.now }
+    ensures answers { AnswersUnlessMemory (dead_of (slots_of_accusation dead.now)) result }
+    ensures no_fault { ¬ IsErrOf result WireFault.Fault }
+    ensures memory { IsErrOf result WireFault.Memory → dead.now.node.now ≢ [] }
+{
+    let name = name_of(alloc, dead.node)?;
+    let inc = dead.incarnation;
+    let from = dead.from.to_vec(alloc)?;
+    let claim = if dead.from == dead.node {
+        Claim::Leave { name, inc }
+    } else {
+        Claim::Confirm { name, inc }
+    };
+    Ok(Packet::new(claim, from))
+}
+
+/// The claim of a state record.
+#[inline(always)]
+pub(crate) fn claim_of_state(alloc: Global, state: &PushNodeState) -> Result<Claim, WireFault>
+    requires { IsShortState state.now }
+    ensures answers { AnswersUnlessMemory (state_of (slots_of_state state.now)) result }
+    ensures memory { IsErrOf result WireFault.Memory → state.now.name.now ≢ [] }
+{
+    let name = name_of(alloc, state.name)?;
+    let inc = state.incarnation;
+    let found = state.state;
+    match found {
+        0 => {
+            let details = details_of(alloc, state.addr, state.port, state.meta, state.vsn)?;
+            Ok(Claim::Alive { name, inc, details })
+        }
+        1 => Ok(Claim::Suspect { name, inc }),
+        2 => Ok(Claim::Confirm { name, inc }),
+        3 => Ok(Claim::Leave { name, inc }),
+        _ => Err(WireFault::BadState { found }),
+    }
+}
+
+/// The header of a stream.
+pub(crate) fn header_of(header: &PushPullHeader) -> Result<Header, WireFault>
+    ensures answers { result ≡ header_of (slots_of_header header.now) }
+    ensures within { IfOk result (λ header. (header.nodes ≤ most_nodes)
+        × (header.user_len ≤ most_user_state)) }
+{
+    if header.nodes > MOST_NODES {
+        return Err(WireFault::TooManyNodes);
+    }
+    if header.user_state_len > MOST_USER_STATE {
+        return Err(WireFault::UserTooLong);
+    }
+    Ok(Header {
+        nodes: header.nodes as u32,
+        user_len: header.user_state_len as u32,
+        join: header.join,
+    })
+}
+
+/// The name of a member.
+#[inline(always)]
+fn name_of(alloc: Global, bytes: &[u8]) -> Result<Name, WireFault>
+    requires { length bytes.now ≤ longest_name }
+    ensures answers { AnswersUnlessMemory (with_name bytes.now (Ok bytes.now)) result }
+    ensures memory { IsErrOf result WireFault.Memory → bytes.now ≢ [] }
+{
+    if bytes.is_empty() {
+        return Err(WireFault::NameEmpty);
+    }
+    let named = Name::copied(alloc, bytes)?;
+    Ok(named?)
+}
+
+#[inline(always)]
+fn details_of(
+    alloc: Global,
+    addr: &[u8],
+    port: u16,
+    meta: &[u8],
+    vsn: &[u8],
+) -> Result<Details, WireFault>
+    requires { length meta.now ≤ longest_meta }
+    ensures { AnswersUnlessMemory (with_details
+        (record { addr = addr.now; port = port; meta = meta.now; vsn = vsn.now }) same) result }
+{
+    let meta = meta.to_vec(alloc)?;
+    Ok(Details::of(addr, port, meta, vsn)?)
+}
