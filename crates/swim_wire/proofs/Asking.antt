@@ -1,5 +1,5 @@
 -- Where a read of a message asks for memory.
-use Rattle.std.proofs.Common.{◌≡◌, ◌≢◌, inl, inr, ℕ, zero, suc, ◌-◌, ◌<◌, ◌≤◌, Bool, true, false, cond, List, [], ◌∷◌, ◌++◌, length, Option, Some, None, Result, Ok, Err, refl, sym, ap, subst, ◌∙◌, append_assoc, append-nil, codes, arith}
+use Rattle.std.proofs.Common.{◌≡◌, ◌≢◌, inl, inr, ℕ, zero, suc, ◌-◌, ◌<◌, ◌≤◌, Bool, true, false, cond, List, [], ◌∷◌, ◌++◌, length, Option, Some, None, Result, Ok, Err, refl, sym, ap, subst, ◌∙◌, append_assoc, append-nil, arith}
 use Rattle.std.specs.Prelude.{IfSome, slice_index_or, ⊤}
 use Rattle.std.specs.Str.{bytes_eq}
 use Rattle.swim_claim.specs.declared.claim.Claim.{Claim}
@@ -12,10 +12,13 @@ use Rattle.swim_pack.proofs.Numbers.{raw_takes, count_takes}
 use Rattle.swim_wire.specs.declared.fault.WireFault.{WireFault}
 use Rattle.swim_wire.specs.declared.fault.WireFault.TheVariants.{UnknownKey}
 use Rattle.swim_wire.specs.declared.layout.Field.{Field}
+use Rattle.swim_wire.specs.declared.layout.Key.TheVariants as keys
+use Rattle.swim_wire.specs.declared.layout.Key.{Key}
 use Rattle.swim_wire.specs.declared.layout.Limit.{Limit}
 use Rattle.swim_wire.specs.declared.layout.Limit.TheVariants as limits
 use Rattle.swim_wire.specs.Asking.{ValueAsks, PairAsks, PairsAsk, MapAsks, PacketAsks}
 use Rattle.swim_wire.specs.Fault.{fault_of_pack, fault_of_key}
+use Rattle.swim_wire.specs.Keys.{key_text}
 use Rattle.swim_wire.specs.Layout.{Layout, Spelled, Spells, Pairs, PairText, PairTexts, MapText, of_key, raw_or_empty, raw_of, alive_layout, accusation_layout, state_layout}
 use Rattle.swim_wire.specs.Layout.Spelled.{number, raw, flag}
 use Rattle.swim_wire.specs.Reading.{wire_cause, Slots, slot, place_of, limit_at, key_at, pair_at, map_at, raw_in}
@@ -224,24 +227,24 @@ pub type_asks : {a b : Source} (found : ℕ) (Q : List ℕ → Type 0) → ((res
 type_asks found Q more h asks =
     Reads-asks PacketAsks Q (λ bytes rest e q. packet_asks bytes rest found (type_step bytes rest found e) (more rest q)) h asks
 
-named_asks : (layout : Layout) (m key : List ℕ) (pairs : Pairs) → MapText layout m pairs → raw_of key pairs ≢ [] → MapAsks layout m
+named_asks : (layout : Layout) (m : List ℕ) (key : Key) (pairs : Pairs) → MapText layout m pairs → raw_of key pairs ≢ [] → MapAsks layout m
 named_asks layout m key pairs text named =
-    let there = raw_there (of_key key pairs) named in
-    subst (MapAsks layout) (append-nil m) (MapText-asks layout m [] key there.0 pairs text there.1)
+    let there = raw_there (of_key (key_text key) pairs) named in
+    subst (MapAsks layout) (append-nil m) (MapText-asks layout m [] (key_text key) there.0 pairs text there.1)
 
 -- each packet asks for memory, since it has a name
 pub PacketText-asks : (b : List ℕ) (p : PacketValue) → PacketText b p → PacketAsks b
 PacketText-asks b p (alive m pairs is text named details made) =
-    packet_asks b m 4 is (inl (refl, named_asks alive_layout m (codes "Node") pairs text named))
+    packet_asks b m 4 is (inl (refl, named_asks alive_layout m keys.Node pairs text named))
 PacketText-asks b p (suspect m pairs is text named made) =
-    packet_asks b m 3 is (inr (inl refl, named_asks accusation_layout m (codes "Node") pairs text named))
+    packet_asks b m 3 is (inr (inl refl, named_asks accusation_layout m keys.Node pairs text named))
 PacketText-asks b p (leave m pairs is text named own made) =
-    packet_asks b m 5 is (inr (inr refl, named_asks accusation_layout m (codes "Node") pairs text named))
+    packet_asks b m 5 is (inr (inr refl, named_asks accusation_layout m keys.Node pairs text named))
 PacketText-asks b p (confirm m pairs is text named other made) =
-    packet_asks b m 5 is (inr (inr refl, named_asks accusation_layout m (codes "Node") pairs text named))
+    packet_asks b m 5 is (inr (inr refl, named_asks accusation_layout m keys.Node pairs text named))
 
 -- so does each state record
 pub StateText-asks : (b rest : List ℕ) (c : Claim) → StateText b c → MapAsks state_layout (b ++ rest)
 StateText-asks b rest c text =
-    let there = raw_there (of_key (codes "Name") text.pairs) text.name in
-    MapText-asks state_layout b rest (codes "Name") there.0 text.pairs text.text there.1
+    let there = raw_there (of_key (key_text keys.Name) text.pairs) text.name in
+    MapText-asks state_layout b rest (key_text keys.Name) there.0 text.pairs text.text there.1

@@ -1,12 +1,14 @@
 -- The map of a compression that is read is a text of its compressed bytes, and each text is read.
-use Rattle.std.proofs.Common.{◌≡◌, ◌≢◌, ℕ, List, [], ◌∷◌, ◌++◌, length, codes, inl, inr, Option, Result, Ok, Err, IfOk, IfErr, refl, sym, ap, subst, ◌∙◌, append-nil, arith}
+use Rattle.std.proofs.Common.{◌≡◌, ◌≢◌, ℕ, List, [], ◌∷◌, ◌++◌, length, inl, inr, Option, Result, Ok, Err, IfOk, IfErr, refl, sym, ap, subst, ◌∙◌, append-nil, arith}
 use Rattle.swim_pack.specs.Ends.{Source}
 use Rattle.swim_pack.specs.Composing.{ReadsAs, gives, ◌>>=◌}
 use Rattle.swim_pack.proofs.Composing.{Reads-then, Reads-gives}
 use Rattle.swim_wire.specs.declared.fault.WireFault.{WireFault}
 use Rattle.swim_wire.specs.declared.fault.WireFault.TheVariants.{Memory}
+use Rattle.swim_wire.specs.declared.layout.Key.TheVariants as keys
 use Rattle.swim_wire.specs.declared.map.Value.{Value}
 use Rattle.swim_wire.specs.Compression.{compression_layout, CompressionText, compression_at, whole_compression, ShowsUnlessMemory}
+use Rattle.swim_wire.specs.Keys.{key_text}
 use Rattle.swim_wire.specs.Layout.{of_key, MapText, Pairs, raw_of, raw_or_empty}
 use Rattle.swim_wire.specs.Reading.{Reading, Slots, wire_cause, slot, map_at, raw_in, nothing_after}
 use Rattle.swim_wire.specs.Slots.{slots_of}
@@ -16,15 +18,15 @@ use Rattle.swim_wire.proofs.Filling.{HoldsSlots}
 use Rattle.swim_wire.proofs.Maps.{map_takes, map_again}
 use Rattle.swim_wire.proofs.Checking.{passed, failed}
 
-same_packed : (limit : ℕ) (pairs : Pairs) (slots : Slots) → HoldsSlots (compression_layout limit) pairs slots → raw_in slots 1 ≡ raw_of (codes "Buf") pairs
-same_packed limit pairs slots holds = let buf : slot slots 1 ≡ of_key (codes "Buf") pairs = holds 1 (omega arith) in ap raw_or_empty buf
+same_packed : (limit : ℕ) (pairs : Pairs) (slots : Slots) → HoldsSlots (compression_layout limit) pairs slots → raw_in slots 1 ≡ raw_of keys.Buf pairs
+same_packed limit pairs slots holds = let buf : slot slots 1 ≡ of_key (key_text keys.Buf) pairs = holds 1 (omega arith) in ap raw_or_empty buf
 
 -- what a map of a compression that was read is a text of
 record Taken (limit : ℕ) (bytes packed rest : List ℕ) : Type 0 where
   b : List ℕ
   pairs : Pairs
   text : MapText (compression_layout limit) b pairs
-  packed_is : packed ≡ raw_of (codes "Buf") pairs
+  packed_is : packed ≡ raw_of keys.Buf pairs
   parts : bytes ≡ b ++ rest
 
 takes : (limit : ℕ) (bytes packed rest : List ℕ) → compression_at limit bytes ≡ read packed rest → Taken limit bytes packed rest
@@ -41,7 +43,7 @@ takes limit bytes packed rest e =
     }
 
 again : (limit : ℕ) (b rest packed : List ℕ) (pairs : Pairs) → MapText (compression_layout limit) b pairs → packed ≡ raw_of
-    (codes "Buf") pairs → compression_at limit (b ++ rest) ≡ read packed rest
+    keys.Buf pairs → compression_at limit (b ++ rest) ≡ read packed rest
 unfolding compression_at
 again limit b rest packed pairs text is =
     let a = map_again (compression_layout limit) b pairs rest (compression_legal limit) text in

@@ -1,5 +1,5 @@
 -- A packet that is read is a text of its value, each text is read, and what a refusal says of the bytes.
-use Rattle.std.proofs.Common.{◌≡◌, ◌≢◌, ◌⊎◌, inl, inr, ℕ, Bool, true, false, eqb, List, [], ◌∷◌, ◌++◌, codes, Result, Ok, Err, refl, sym, ap, subst, ◌∙◌, append-nil, eqb-true, arith}
+use Rattle.std.proofs.Common.{◌≡◌, ◌≢◌, ◌⊎◌, inl, inr, ℕ, Bool, true, false, eqb, List, [], ◌∷◌, ◌++◌, Result, Ok, Err, refl, sym, ap, subst, ◌∙◌, append-nil, eqb-true, arith}
 use Rattle.std.proofs.lemmas.Bool.Decides.{nat_tests}
 use Rattle.std.specs.Str.{bytes_eq}
 use Rattle.swim_claim.specs.declared.claim.Claim.TheVariants.{Alive, Suspect}
@@ -8,7 +8,9 @@ use Rattle.swim_pack.proofs.Composing.{TakesText}
 use Rattle.swim_pack.specs.Composing.{◌>>=◌, refuses}
 use Rattle.swim_wire.specs.declared.fault.WireFault.{WireFault}
 use Rattle.swim_wire.specs.declared.fault.WireFault.TheVariants.{Ended, Memory, NameEmpty, BadAddress, BadVersions, WrongType, BadState, TooManyNodes, UserTooLong, Trailing}
+use Rattle.swim_wire.specs.declared.layout.Key.TheVariants as keys
 use Rattle.swim_wire.specs.Checks.{AliveFails, BeginsFailing, ExplainsPacket, ExplainsWhole}
+use Rattle.swim_wire.specs.Keys.{key_text}
 use Rattle.swim_wire.specs.Layout.{Pairs, MapText, of_key, number_of, raw_of, alive_layout, accusation_layout}
 use Rattle.swim_wire.specs.Packet.{PacketValue}
 use Rattle.swim_wire.specs.Reading.{Reading, Slots, slot, checked, with_name, with_details, map_at, alive_of, suspect_of, dead_of, dead_claim, alive_at, suspect_at, dead_at, packet_at, nothing_after, whole_packet}
@@ -25,46 +27,46 @@ use Rattle.swim_wire.proofs.Checking.{passed, failed, split, checked_ok, checked
 
 -- the packet of an alive message with these details
 abbrev alive_with : Pairs → DetailsValue → PacketValue
-alive_with pairs details = record { claim = Alive (raw_of (codes "Node") pairs) (number_of (codes "Incarnation") pairs) details; from = [] }
+alive_with pairs details = record { claim = Alive (raw_of keys.Node pairs) (number_of keys.Incarnation pairs) details; from = [] }
 
 abbrev alive_from : Pairs → Result PacketValue WireFault
-alive_from pairs = with_name (raw_of (codes "Node") pairs) (with_details (told_details pairs) (alive_with pairs))
+alive_from pairs = with_name (raw_of keys.Node pairs) (with_details (told_details pairs) (alive_with pairs))
 
 alive_same : (pairs : Pairs) (slots : Slots) → HoldsSlots alive_layout pairs slots → alive_of slots ≡ alive_from pairs
 alive_same pairs slots holds =
-    let addr : slot slots 0 ≡ of_key (codes "Addr") pairs = holds 0 (omega arith) in
-    let inc : slot slots 1 ≡ of_key (codes "Incarnation") pairs = holds 1 (omega arith) in
-    let meta : slot slots 2 ≡ of_key (codes "Meta") pairs = holds 2 (omega arith) in
-    let node : slot slots 3 ≡ of_key (codes "Node") pairs = holds 3 (omega arith) in
-    let port : slot slots 4 ≡ of_key (codes "Port") pairs = holds 4 (omega arith) in
-    let vsn : slot slots 5 ≡ of_key (codes "Vsn") pairs = holds 5 (omega arith) in
+    let addr : slot slots 0 ≡ of_key (key_text keys.Addr) pairs = holds 0 (omega arith) in
+    let inc : slot slots 1 ≡ of_key (key_text keys.Incarnation) pairs = holds 1 (omega arith) in
+    let meta : slot slots 2 ≡ of_key (key_text keys.Meta) pairs = holds 2 (omega arith) in
+    let node : slot slots 3 ≡ of_key (key_text keys.Node) pairs = holds 3 (omega arith) in
+    let port : slot slots 4 ≡ of_key (key_text keys.Port) pairs = holds 4 (omega arith) in
+    let vsn : slot slots 5 ≡ of_key (key_text keys.Vsn) pairs = holds 5 (omega arith) in
     rw (addr, inc, meta, node, port, vsn) refl
 
 abbrev suspect_packet : Pairs → PacketValue
-suspect_packet pairs = record { claim = Suspect (raw_of (codes "Node") pairs) (number_of (codes "Incarnation") pairs); from = raw_of (codes "From") pairs }
+suspect_packet pairs = record { claim = Suspect (raw_of keys.Node pairs) (number_of keys.Incarnation pairs); from = raw_of keys.From pairs }
 
 abbrev suspect_from : Pairs → Result PacketValue WireFault
-suspect_from pairs = with_name (raw_of (codes "Node") pairs) (Ok (suspect_packet pairs))
+suspect_from pairs = with_name (raw_of keys.Node pairs) (Ok (suspect_packet pairs))
 
 suspect_same : (pairs : Pairs) (slots : Slots) → HoldsSlots accusation_layout pairs slots → suspect_of slots ≡ suspect_from pairs
 suspect_same pairs slots holds =
-    let from : slot slots 0 ≡ of_key (codes "From") pairs = holds 0 (omega arith) in
-    let inc : slot slots 1 ≡ of_key (codes "Incarnation") pairs = holds 1 (omega arith) in
-    let node : slot slots 2 ≡ of_key (codes "Node") pairs = holds 2 (omega arith) in
+    let from : slot slots 0 ≡ of_key (key_text keys.From) pairs = holds 0 (omega arith) in
+    let inc : slot slots 1 ≡ of_key (key_text keys.Incarnation) pairs = holds 1 (omega arith) in
+    let node : slot slots 2 ≡ of_key (key_text keys.Node) pairs = holds 2 (omega arith) in
     rw (from, inc, node) refl
 
 abbrev dead_packet : Bool → Pairs → PacketValue
 dead_packet own pairs =
-    record { claim = dead_claim own (raw_of (codes "Node") pairs) (number_of (codes "Incarnation") pairs); from = raw_of (codes "From") pairs }
+    record { claim = dead_claim own (raw_of keys.Node pairs) (number_of keys.Incarnation pairs); from = raw_of keys.From pairs }
 
 abbrev dead_from : Pairs → Result PacketValue WireFault
-dead_from pairs = with_name (raw_of (codes "Node") pairs) (Ok (dead_packet (bytes_eq (raw_of (codes "From") pairs) (raw_of (codes "Node") pairs)) pairs))
+dead_from pairs = with_name (raw_of keys.Node pairs) (Ok (dead_packet (bytes_eq (raw_of keys.From pairs) (raw_of keys.Node pairs)) pairs))
 
 dead_same : (pairs : Pairs) (slots : Slots) → HoldsSlots accusation_layout pairs slots → dead_of slots ≡ dead_from pairs
 dead_same pairs slots holds =
-    let from : slot slots 0 ≡ of_key (codes "From") pairs = holds 0 (omega arith) in
-    let inc : slot slots 1 ≡ of_key (codes "Incarnation") pairs = holds 1 (omega arith) in
-    let node : slot slots 2 ≡ of_key (codes "Node") pairs = holds 2 (omega arith) in
+    let from : slot slots 0 ≡ of_key (key_text keys.From) pairs = holds 0 (omega arith) in
+    let inc : slot slots 1 ≡ of_key (key_text keys.Incarnation) pairs = holds 1 (omega arith) in
+    let node : slot slots 2 ≡ of_key (key_text keys.Node) pairs = holds 2 (omega arith) in
     rw (from, inc, node) refl
 
 passed_is : (p q : PacketValue) → passed p ≡ passed q → q ≡ p
@@ -79,7 +81,7 @@ alive_takes first bytes p rest type e =
     let t = then_ok (map_at alive_layout bytes) (λ slots. checked (alive_of slots)) p rest e in
     let m = map_takes alive_layout bytes t.0 t.1 alive_legal t.2 in
     let c = checked_ok (alive_of t.0) t.1 p rest t.3 in
-    let named = with_name_ok (raw_of (codes "Node") m.1) _ p (sym (alive_same m.1 t.0 m.4) ∙ c.0) in
+    let named = with_name_ok (raw_of keys.Node m.1) _ p (sym (alive_same m.1 t.0 m.4) ∙ c.0) in
     let legal = with_details_ok (told_details m.1) (alive_with m.1) p named.1 in
     record {
       text = first ∷ m.0;
@@ -94,7 +96,7 @@ suspect_takes first bytes p rest type e =
     let t = then_ok (map_at accusation_layout bytes) (λ slots. checked (suspect_of slots)) p rest e in
     let m = map_takes accusation_layout bytes t.0 t.1 accusation_legal t.2 in
     let c = checked_ok (suspect_of t.0) t.1 p rest t.3 in
-    let named = with_name_ok (raw_of (codes "Node") m.1) _ p (sym (suspect_same m.1 t.0 m.4) ∙ c.0) in
+    let named = with_name_ok (raw_of keys.Node m.1) _ p (sym (suspect_same m.1 t.0 m.4) ∙ c.0) in
     record {
       text = first ∷ m.0;
       is = suspect m.0 m.1 (ap (λ (x : ℕ). x ∷ m.0) type) m.2 named.0 (passed_is (suspect_packet m.1) p named.1);
@@ -108,16 +110,16 @@ dead_takes first bytes p rest type e =
     let t = then_ok (map_at accusation_layout bytes) (λ slots. checked (dead_of slots)) p rest e in
     let m = map_takes accusation_layout bytes t.0 t.1 accusation_legal t.2 in
     let c = checked_ok (dead_of t.0) t.1 p rest t.3 in
-    let named = with_name_ok (raw_of (codes "Node") m.1) _ p (sym (dead_same m.1 t.0 m.4) ∙ c.0) in
+    let named = with_name_ok (raw_of keys.Node m.1) _ p (sym (dead_same m.1 t.0 m.4) ∙ c.0) in
     record {
       text = first ∷ m.0;
       is =
-          by m.0 m.1 (bytes_eq (raw_of (codes "From") m.1) (raw_of (codes "Node") m.1)) refl (ap (λ (x : ℕ). x ∷ m.0) type) m.2 named.0 (passed_is _ p named.1);
+          by m.0 m.1 (bytes_eq (raw_of keys.From m.1) (raw_of keys.Node m.1)) refl (ap (λ (x : ℕ). x ∷ m.0) type) m.2 named.0 (passed_is _ p named.1);
       parts = ap (λ (r : List ℕ). first ∷ r) (m.3 ∙ ap (λ (r : List ℕ). m.0 ++ r) c.1);
     }
   where
-    by : (m : List ℕ) (pairs : Pairs) (own : Bool) → bytes_eq (raw_of (codes "From") pairs) (raw_of (codes "Node") pairs) ≡ own → first ∷ m ≡ 5 ∷ m
-        → MapText accusation_layout m pairs → raw_of (codes "Node") pairs ≢ [] → p ≡ dead_packet own pairs → PacketText (first ∷ m) p
+    by : (m : List ℕ) (pairs : Pairs) (own : Bool) → bytes_eq (raw_of keys.From pairs) (raw_of keys.Node pairs) ≡ own → first ∷ m ≡ 5 ∷ m
+        → MapText accusation_layout m pairs → raw_of keys.Node pairs ≢ [] → p ≡ dead_packet own pairs → PacketText (first ∷ m) p
     by m pairs true own b text named is = leave m pairs b text named (same_key _ _ own) is
     by m pairs false own b text named is = confirm m pairs b text named (λ same. false≢true (sym own ∙ key_same _ _ same)) is
 
@@ -147,12 +149,12 @@ packet_again b rest p (suspect m pairs type text named is) =
     rw (type, a.1) (ap (λ (r : Result PacketValue WireFault). checked r rest) value)
 packet_again b rest p (leave m pairs type text named own is) =
     let a = map_again accusation_layout m pairs rest accusation_legal text in
-    let left = ap (λ (same : Bool). passed (dead_packet same pairs)) (key_same (raw_of (codes "From") pairs) (raw_of (codes "Node") pairs) own) in
+    let left = ap (λ (same : Bool). passed (dead_packet same pairs)) (key_same (raw_of keys.From pairs) (raw_of keys.Node pairs) own) in
     let value : dead_of a.0 ≡ passed p = dead_same pairs a.0 a.2 ∙ with_name_again _ _ named ∙ left ∙ ap passed (sym is) in
     rw (type, a.1) (ap (λ (r : Result PacketValue WireFault). checked r rest) value)
 packet_again b rest p (confirm m pairs type text named other is) =
     let a = map_again accusation_layout m pairs rest accusation_legal text in
-    let confirmed = ap (λ (same : Bool). passed (dead_packet same pairs)) (other_key (raw_of (codes "From") pairs) (raw_of (codes "Node") pairs) other) in
+    let confirmed = ap (λ (same : Bool). passed (dead_packet same pairs)) (other_key (raw_of keys.From pairs) (raw_of keys.Node pairs) other) in
     let value : dead_of a.0 ≡ passed p = dead_same pairs a.0 a.2 ∙ with_name_again _ _ named ∙ confirmed ∙ ap passed (sym is) in
     rw (type, a.1) (ap (λ (r : Result PacketValue WireFault). checked r rest) value)
 
@@ -184,7 +186,7 @@ alive_refusal first bytes error other type e =
     failing slots mid m fails =
         let begins : (F : Pairs → Type 0) → F m.1 → BeginsFailing alive_layout F bytes =
         λ F h. record { map_text = m.0; pairs = m.1; rest = mid; text = m.2; parts = m.3; failing = h } in
-        with_name_err (raw_of (codes "Node") m.1) (with_details (told_details m.1) (alive_with m.1)) error
+        with_name_err (raw_of keys.Node m.1) (with_details (told_details m.1) (alive_with m.1)) error
         (sym (alive_same m.1 slots m.4) ∙ fails) (ExplainsPacket error (first ∷ bytes))
         (λ empty is. subst (λ f. ExplainsPacket f (first ∷ bytes)) is (inl (type, begins (AliveFails NameEmpty) empty)))
         (λ named more. with_details_err (told_details m.1) (alive_with m.1) error more (ExplainsPacket error (first ∷ bytes))
@@ -193,7 +195,7 @@ alive_refusal first bytes error other type e =
 
 -- a suspect or dead message, whose value is checked for its name alone
 accusation_refusal : (value : Pairs → PacketValue) (of_slots : Slots → Result PacketValue WireFault)
-    → ((pairs : Pairs) (slots : Slots) → HoldsSlots accusation_layout pairs slots → of_slots slots ≡ with_name (raw_of (codes "Node") pairs) (Ok (value pairs)))
+    → ((pairs : Pairs) (slots : Slots) → HoldsSlots accusation_layout pairs slots → of_slots slots ≡ with_name (raw_of keys.Node pairs) (Ok (value pairs)))
     → (first : ℕ) (bytes : List ℕ) (error : WireFault) → error ≢ Memory → (first ≡ 3) ⊎ (first ≡ 5)
     → (map_at accusation_layout >>= (λ slots. checked (of_slots slots))) bytes ≡ refused PacketValue error
     → ExplainsPacket error (first ∷ bytes)
@@ -206,7 +208,7 @@ accusation_refusal value of_slots same first bytes error other type e =
         (bytes ≡ m ++ mid) × HoldsSlots accusation_layout pairs slots
         → of_slots slots ≡ failed PacketValue error → ExplainsPacket error (first ∷ bytes)
     failing slots mid m fails =
-        with_name_err (raw_of (codes "Node") m.1) (passed (value m.1)) error (sym (same m.1 slots m.4) ∙ fails) (ExplainsPacket error (first ∷ bytes))
+        with_name_err (raw_of keys.Node m.1) (passed (value m.1)) error (sym (same m.1 slots m.4) ∙ fails) (ExplainsPacket error (first ∷ bytes))
         (λ empty is. subst (λ f. ExplainsPacket f (first ∷ bytes)) is
         (inr (type, record { map_text = m.0; pairs = m.1; rest = mid; text = m.2; parts = m.3; failing = empty })))
         (λ named more. absurd cc)
@@ -240,7 +242,7 @@ packet_refusal (first ∷ bytes) error other e =
 
     deads : (first ≡ 3) ⊎ (first ≡ 5) → P dead_at
     deads type =
-        accusation_refusal (λ pairs. dead_packet (bytes_eq (raw_of (codes "From") pairs) (raw_of (codes "Node") pairs)) pairs)
+        accusation_refusal (λ pairs. dead_packet (bytes_eq (raw_of keys.From pairs) (raw_of keys.Node pairs)) pairs)
         dead_of dead_same first bytes error other type
 
 -- ---- packets with nothing after them

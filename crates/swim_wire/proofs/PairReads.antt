@@ -11,8 +11,9 @@ use Rattle.swim_wire.specs.declared.layout.Field.{Field}
 use Rattle.swim_wire.specs.declared.layout.Limit.{Limit}
 use Rattle.swim_wire.specs.declared.layout.Limit.TheVariants as limits
 use Rattle.swim_wire.specs.declared.map.Value.{Value}
+use Rattle.swim_wire.specs.Keys.{key_text}
 use Rattle.swim_wire.specs.Reading.{wire_cause, Slots, slot, limit_at, if_vacant, value_at, key_at, pair_at}
-use Rattle.swim_wire.specs.Slots.{FitsEach, key_text, spelled, slots_of, layout_of}
+use Rattle.swim_wire.specs.Slots.{FitsEach, spelled, slots_of, layout_of}
 
 -- each key of the layout has a slot
 pub within_slots : (layout : List Field) (values : List (Option Value)) (place : ℕ) → FitsEach layout values → place < length layout → place < length values

@@ -4,8 +4,9 @@ use Rattle.std.proofs.lemmas.List.{length-map}
 use Rattle.std.specs.List.{position, prefix_len}
 use Rattle.std.specs.Str.{bytes_eq}
 use Rattle.swim_wire.specs.declared.layout.Field.{Field}
+use Rattle.swim_wire.specs.Keys.{key_text}
 use Rattle.swim_wire.specs.Reading.{place_of}
-use Rattle.swim_wire.specs.Slots.{key_text, layout_of}
+use Rattle.swim_wire.specs.Slots.{layout_of}
 
 pub prefix_len-map : {X Y : Type 0} (f : X → Y) (p : Y → Bool) (xs : List X) → prefix_len p (map f xs) ≡ prefix_len (λ x. p (f x)) xs
 prefix_len-map f p [] = refl

@@ -1,14 +1,16 @@
 -- The canonical bytes of messages are texts of them.
-use Rattle.std.proofs.Common.{◌≡◌, ◌≢◌, ℕ, ◌<◌, ◌≤◌, ◌^◌, Bool, List, [], length, Some, codes, refl, ap, inl, inr, lit<, lit≤, arith}
+use Rattle.std.proofs.Common.{◌≡◌, ◌≢◌, ℕ, ◌<◌, ◌≤◌, ◌^◌, Bool, List, [], length, Some, refl, ap, inl, inr, lit<, lit≤, arith}
 use Rattle.std.specs.Option.{unwrap_or}
 use Rattle.swim_claim.specs.declared.claim.Claim.{Claim}
 use Rattle.swim_claim.specs.declared.claim.Claim.TheVariants.{Alive, Suspect, Confirm, Leave}
 use Rattle.swim_claim.specs.Claim.{details_of, IsLegalClaim}
 use Rattle.swim_claim.specs.Details.{DetailsValue, IsLegalDetails}
 use Rattle.swim_claim.specs.Name.{IsLegalName}
+use Rattle.swim_wire.specs.declared.layout.Key.TheVariants as keys
 use Rattle.swim_wire.specs.declared.layout.Limit.TheVariants as limits
 use Rattle.swim_wire.specs.declared.stream.Header.{Header}
 use Rattle.swim_wire.specs.Canonical.{claim_bytes, packet_bytes, header_bytes, record_bytes, state_bytes, state_bytes_with, no_details}
+use Rattle.swim_wire.specs.Keys.{key_text}
 use Rattle.swim_wire.specs.Layout.{Layout, MapText, of_key, alive_layout, accusation_layout, header_layout, state_layout}
 use Rattle.swim_wire.specs.Layout.Spelled.{number, raw, flag}
 use Rattle.swim_wire.specs.Packet.{PacketValue, IsLegalPacket}
@@ -39,10 +41,10 @@ not_empty s least e = absurd (omega (arith, ap length e))
 header_map : (h : Header) → h.nodes ≤ 131072 → h.user_len ≤ 20971520 → MapText header_layout (map_text (header_pairs h)) (header_pairs h)
 header_map h few short =
     MapText-canonical header_layout (header_pairs h) (lit< tt) (
-      flag_within header_layout (codes "Join") h.join refl (lit< tt),
+      flag_within header_layout (key_text keys.Join) h.join refl (lit< tt),
       (
-        number_within header_layout (codes "Nodes") 0xffff_ffff_ffff_ffff h.nodes refl (lit< tt) (omega arith) (lit< tt),
-        (number_within header_layout (codes "UserStateLen") 0xffff_ffff_ffff_ffff h.user_len refl (lit< tt) (omega arith) (lit< tt), tt),
+        number_within header_layout (key_text keys.Nodes) 0xffff_ffff_ffff_ffff h.nodes refl (lit< tt) (omega arith) (lit< tt),
+        (number_within header_layout (key_text keys.UserStateLen) 0xffff_ffff_ffff_ffff h.user_len refl (lit< tt) (omega arith) (lit< tt), tt),
       ),
     )
     ((refl, (refl, tt)), ((refl, tt), (tt, tt)))
@@ -83,18 +85,18 @@ record_map : (name : List ℕ) (inc state : ℕ) (details : DetailsValue) → le
 record_map name inc state details most inc_fits state_fits fits =
     rw (record_bytes-pairs name inc state details)
     (MapText-canonical state_layout (record_pairs name inc state details) (lit< tt) (
-      raw_within state_layout (codes "Addr") 16 details.addr refl (lit< tt) fits.addr (lit< tt),
+      raw_within state_layout (key_text keys.Addr) 16 details.addr refl (lit< tt) fits.addr (lit< tt),
       (
-        number_within state_layout (codes "Incarnation") 0xffff_ffff inc refl (lit< tt) (omega arith) (lit< tt),
+        number_within state_layout (key_text keys.Incarnation) 0xffff_ffff inc refl (lit< tt) (omega arith) (lit< tt),
         (
-          raw_within state_layout (codes "Meta") 512 details.meta refl (lit< tt) fits.meta (lit< tt),
+          raw_within state_layout (key_text keys.Meta) 512 details.meta refl (lit< tt) fits.meta (lit< tt),
           (
-            raw_within state_layout (codes "Name") 1024 name refl (lit< tt) most (lit< tt),
+            raw_within state_layout (key_text keys.Name) 1024 name refl (lit< tt) most (lit< tt),
             (
-              number_within state_layout (codes "Port") 0xffff details.port refl (lit< tt) fits.port (lit< tt),
+              number_within state_layout (key_text keys.Port) 0xffff details.port refl (lit< tt) fits.port (lit< tt),
               (
-                number_within state_layout (codes "State") 0xffff_ffff_ffff_ffff state refl (lit< tt) (omega arith) (lit< tt),
-                (raw_within state_layout (codes "Vsn") 6 details.vsn refl (lit< tt) fits.vsn (lit< tt), tt),
+                number_within state_layout (key_text keys.State) 0xffff_ffff_ffff_ffff state refl (lit< tt) (omega arith) (lit< tt),
+                (raw_within state_layout (key_text keys.Vsn) 6 details.vsn refl (lit< tt) fits.vsn (lit< tt), tt),
               ),
             ),
           ),
@@ -148,16 +150,16 @@ alive_map : (name : List ℕ) (inc : ℕ) (details : DetailsValue) → length na
     → MapText alive_layout (map_text (alive_pairs name inc details)) (alive_pairs name inc details)
 alive_map name inc details most inc_fits fits =
     MapText-canonical alive_layout (alive_pairs name inc details) (lit< tt) (
-      raw_within alive_layout (codes "Addr") 16 details.addr refl (lit< tt) fits.addr (lit< tt),
+      raw_within alive_layout (key_text keys.Addr) 16 details.addr refl (lit< tt) fits.addr (lit< tt),
       (
-        number_within alive_layout (codes "Incarnation") 0xffff_ffff inc refl (lit< tt) (omega arith) (lit< tt),
+        number_within alive_layout (key_text keys.Incarnation) 0xffff_ffff inc refl (lit< tt) (omega arith) (lit< tt),
         (
-          raw_within alive_layout (codes "Meta") 512 details.meta refl (lit< tt) fits.meta (lit< tt),
+          raw_within alive_layout (key_text keys.Meta) 512 details.meta refl (lit< tt) fits.meta (lit< tt),
           (
-            raw_within alive_layout (codes "Node") 1024 name refl (lit< tt) most (lit< tt),
+            raw_within alive_layout (key_text keys.Node) 1024 name refl (lit< tt) most (lit< tt),
             (
-              number_within alive_layout (codes "Port") 0xffff details.port refl (lit< tt) fits.port (lit< tt),
-              (raw_within alive_layout (codes "Vsn") 6 details.vsn refl (lit< tt) fits.vsn (lit< tt), tt),
+              number_within alive_layout (key_text keys.Port) 0xffff details.port refl (lit< tt) fits.port (lit< tt),
+              (raw_within alive_layout (key_text keys.Vsn) 6 details.vsn refl (lit< tt) fits.vsn (lit< tt), tt),
             ),
           ),
         ),
@@ -174,10 +176,10 @@ accusation_map : (name : List ℕ) (inc : ℕ) (from : List ℕ) → length name
     → MapText accusation_layout (map_text (accusation_pairs name inc from)) (accusation_pairs name inc from)
 accusation_map name inc from most inc_fits from_most =
     MapText-canonical accusation_layout (accusation_pairs name inc from) (lit< tt) (
-      raw_within accusation_layout (codes "From") 1024 from refl (lit< tt) from_most (lit< tt),
+      raw_within accusation_layout (key_text keys.From) 1024 from refl (lit< tt) from_most (lit< tt),
       (
-        number_within accusation_layout (codes "Incarnation") 0xffff_ffff inc refl (lit< tt) (omega arith) (lit< tt),
-        (raw_within accusation_layout (codes "Node") 1024 name refl (lit< tt) most (lit< tt), tt),
+        number_within accusation_layout (key_text keys.Incarnation) 0xffff_ffff inc refl (lit< tt) (omega arith) (lit< tt),
+        (raw_within accusation_layout (key_text keys.Node) 1024 name refl (lit< tt) most (lit< tt), tt),
       ),
     )
     ((refl, (refl, tt)), ((refl, tt), (tt, tt)))

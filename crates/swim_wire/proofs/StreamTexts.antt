@@ -1,5 +1,5 @@
 -- A header or a state record that is read is a text of its value, each text is read, and what a refusal says of the bytes.
-use Rattle.std.proofs.Common.{◌≡◌, ◌≢◌, ℕ, ◌<◌, ◌≤◌, Bool, true, false, cond, eqb, ltb, List, [], ◌∷◌, ◌++◌, codes, Result, Ok, Err, refl, sym, ap, subst, ◌∙◌, eqb-true, ltb-true, ltb-false, le-ltb, arith}
+use Rattle.std.proofs.Common.{◌≡◌, ◌≢◌, ℕ, ◌<◌, ◌≤◌, Bool, true, false, cond, eqb, ltb, List, [], ◌∷◌, ◌++◌, Result, Ok, Err, refl, sym, ap, subst, ◌∙◌, eqb-true, ltb-true, ltb-false, le-ltb, arith}
 use Rattle.std.proofs.lemmas.Bool.Decides.{nat_tests}
 use Rattle.swim_claim.specs.declared.claim.Claim.{Claim}
 use Rattle.swim_claim.specs.declared.claim.Claim.TheVariants.{Alive, Suspect, Confirm, Leave}
@@ -8,8 +8,10 @@ use Rattle.swim_pack.proofs.Composing.{TakesText}
 use Rattle.swim_pack.specs.Composing.{◌>>=◌, then_read, refuses}
 use Rattle.swim_wire.specs.declared.fault.WireFault.{WireFault}
 use Rattle.swim_wire.specs.declared.fault.WireFault.TheVariants.{Ended, Memory, NameEmpty, BadAddress, BadVersions, WrongType, BadState, TooManyNodes, UserTooLong, Trailing}
+use Rattle.swim_wire.specs.declared.layout.Key.TheVariants as keys
 use Rattle.swim_wire.specs.declared.stream.Header.{Header}
 use Rattle.swim_wire.specs.Checks.{HeaderFails, StateFails, BeginsFailing, ExplainsHeader, ExplainsState}
+use Rattle.swim_wire.specs.Keys.{key_text}
 use Rattle.swim_wire.specs.Layout.{Pairs, MapText, of_key, number_of, raw_of, flag_of, header_layout, state_layout}
 use Rattle.swim_wire.specs.Reading.{Reading, Slots, slot, checked, with_name, with_details, map_at, header_of, header_at, state_of, state_at}
 use Rattle.swim_wire.specs.Texts.{HeaderText, StateText, IsStateOf, told_details}
@@ -24,36 +26,36 @@ use Rattle.swim_wire.proofs.Checking.{passed, failed, split, checked_ok, checked
 -- ---- the header that the pairs of a map tell, or the first check that they fail
 
 abbrev header_with : Pairs → Header
-header_with pairs = record { nodes = number_of (codes "Nodes") pairs; user_len = number_of (codes "UserStateLen") pairs; join = flag_of (codes "Join") pairs }
+header_with pairs = record { nodes = number_of keys.Nodes pairs; user_len = number_of keys.UserStateLen pairs; join = flag_of keys.Join pairs }
 
 abbrev header_from : Pairs → Result Header WireFault
 header_from pairs =
-    cond (ltb 131072 (number_of (codes "Nodes") pairs)) (Err TooManyNodes)
-    (cond (ltb 20971520 (number_of (codes "UserStateLen") pairs)) (Err UserTooLong) (Ok (header_with pairs)))
+    cond (ltb 131072 (number_of keys.Nodes pairs)) (Err TooManyNodes)
+    (cond (ltb 20971520 (number_of keys.UserStateLen pairs)) (Err UserTooLong) (Ok (header_with pairs)))
 
 header_same : (pairs : Pairs) (slots : Slots) → HoldsSlots header_layout pairs slots → header_of slots ≡ header_from pairs
 header_same pairs slots holds =
-    let join : slot slots 0 ≡ of_key (codes "Join") pairs = holds 0 (omega arith) in
-    let nodes : slot slots 1 ≡ of_key (codes "Nodes") pairs = holds 1 (omega arith) in
-    let user : slot slots 2 ≡ of_key (codes "UserStateLen") pairs = holds 2 (omega arith) in
+    let join : slot slots 0 ≡ of_key (key_text keys.Join) pairs = holds 0 (omega arith) in
+    let nodes : slot slots 1 ≡ of_key (key_text keys.Nodes) pairs = holds 1 (omega arith) in
+    let user : slot slots 2 ≡ of_key (key_text keys.UserStateLen) pairs = holds 2 (omega arith) in
     rw (join, nodes, user) refl
 
 header_is : (g h : Header) → passed g ≡ passed h → h ≡ g
 header_is g h e = cc
 
 header_ok : (pairs : Pairs) (h : Header) → header_from pairs ≡ passed h
-    → (number_of (codes "Nodes") pairs ≤ 131072) × (number_of (codes "UserStateLen") pairs ≤ 20971520) × (h ≡ header_with pairs)
-header_ok pairs h = split (ltb 131072 (number_of (codes "Nodes") pairs)) P _ _ (λ many e. absurd cc)
-    (λ few. split (ltb 20971520 (number_of (codes "UserStateLen") pairs)) P _ _ (λ long e. absurd cc)
+    → (number_of keys.Nodes pairs ≤ 131072) × (number_of keys.UserStateLen pairs ≤ 20971520) × (h ≡ header_with pairs)
+header_ok pairs h = split (ltb 131072 (number_of keys.Nodes pairs)) P _ _ (λ many e. absurd cc)
+    (λ few. split (ltb 20971520 (number_of keys.UserStateLen pairs)) P _ _ (λ long e. absurd cc)
     (λ short e. (ltb-false _ _ few, ltb-false _ _ short, header_is (header_with pairs) h e)))
   where
     P : Result Header WireFault → Type 0
-    P r = r ≡ passed h → (number_of (codes "Nodes") pairs ≤ 131072) × (number_of (codes "UserStateLen") pairs ≤ 20971520) × (h ≡ header_with pairs)
+    P r = r ≡ passed h → (number_of keys.Nodes pairs ≤ 131072) × (number_of keys.UserStateLen pairs ≤ 20971520) × (h ≡ header_with pairs)
 
 header_err : (pairs : Pairs) (error : WireFault) → header_from pairs ≡ failed Header error
     → (Q : Type 0) → (HeaderFails TooManyNodes pairs → TooManyNodes ≡ error → Q) → (HeaderFails UserTooLong pairs → UserTooLong ≡ error → Q) → Q
-header_err pairs error fails Q nodes user = split (ltb 131072 (number_of (codes "Nodes") pairs)) P _ _ (λ many e. nodes (ltb-true _ _ many) cc)
-    (λ few. split (ltb 20971520 (number_of (codes "UserStateLen") pairs)) P _ _
+header_err pairs error fails Q nodes user = split (ltb 131072 (number_of keys.Nodes pairs)) P _ _ (λ many e. nodes (ltb-true _ _ many) cc)
+    (λ few. split (ltb 20971520 (number_of keys.UserStateLen pairs)) P _ _
     (λ long e. user (ltb-false _ _ few, ltb-true _ _ long) cc) (λ short e. absurd cc))
     fails
   where
@@ -97,8 +99,8 @@ pub header_again : (b rest : List ℕ) (h : Header) → HeaderText b h → heade
 unfolding header_at
 header_again b rest h text =
     let a = map_again header_layout text.map_text text.pairs rest header_legal text.text in
-    let few : ltb 131072 (number_of (codes "Nodes") text.pairs) ≡ false = le-ltb _ _ text.few_nodes in
-    let short : ltb 20971520 (number_of (codes "UserStateLen") text.pairs) ≡ false = le-ltb _ _ text.short_user in
+    let few : ltb 131072 (number_of keys.Nodes text.pairs) ≡ false = le-ltb _ _ text.few_nodes in
+    let short : ltb 20971520 (number_of keys.UserStateLen text.pairs) ≡ false = le-ltb _ _ text.short_user in
     let passes : header_from text.pairs ≡ passed (header_with text.pairs) = rw (few, short) refl in
     let value : header_of a.0 ≡ passed h = header_same text.pairs a.0 a.2 ∙ passes ∙ ap passed (sym text.header) in
     rw (text.bytes, a.1) (ap (λ (r : Result Header WireFault). checked r rest) value)
@@ -144,16 +146,16 @@ header_refusal (first ∷ bytes) error memory e =
 -- ---- the claim that the pairs of a map tell, or the first check that they fail
 
 abbrev alive_with : Pairs → DetailsValue → Claim
-alive_with pairs details = Alive (raw_of (codes "Name") pairs) (number_of (codes "Incarnation") pairs) details
+alive_with pairs details = Alive (raw_of keys.Name pairs) (number_of keys.Incarnation pairs) details
 
 abbrev suspect_with : Pairs → Claim
-suspect_with pairs = Suspect (raw_of (codes "Name") pairs) (number_of (codes "Incarnation") pairs)
+suspect_with pairs = Suspect (raw_of keys.Name pairs) (number_of keys.Incarnation pairs)
 
 abbrev confirm_with : Pairs → Claim
-confirm_with pairs = Confirm (raw_of (codes "Name") pairs) (number_of (codes "Incarnation") pairs)
+confirm_with pairs = Confirm (raw_of keys.Name pairs) (number_of keys.Incarnation pairs)
 
 abbrev leave_with : Pairs → Claim
-leave_with pairs = Leave (raw_of (codes "Name") pairs) (number_of (codes "Incarnation") pairs)
+leave_with pairs = Leave (raw_of keys.Name pairs) (number_of keys.Incarnation pairs)
 
 abbrev claim_from : Pairs → ℕ → Result Claim WireFault
 claim_from pairs state =
@@ -163,27 +165,27 @@ claim_from pairs state =
     (cond (eqb state 3) (Ok (leave_with pairs)) (Err (BadState state)))))
 
 abbrev state_from : Pairs → Result Claim WireFault
-state_from pairs = with_name (raw_of (codes "Name") pairs) (claim_from pairs (number_of (codes "State") pairs))
+state_from pairs = with_name (raw_of keys.Name pairs) (claim_from pairs (number_of keys.State pairs))
 
 state_same : (pairs : Pairs) (slots : Slots) → HoldsSlots state_layout pairs slots → state_of slots ≡ state_from pairs
 state_same pairs slots holds =
-    let addr : slot slots 0 ≡ of_key (codes "Addr") pairs = holds 0 (omega arith) in
-    let inc : slot slots 1 ≡ of_key (codes "Incarnation") pairs = holds 1 (omega arith) in
-    let meta : slot slots 2 ≡ of_key (codes "Meta") pairs = holds 2 (omega arith) in
-    let name : slot slots 3 ≡ of_key (codes "Name") pairs = holds 3 (omega arith) in
-    let port : slot slots 4 ≡ of_key (codes "Port") pairs = holds 4 (omega arith) in
-    let state : slot slots 5 ≡ of_key (codes "State") pairs = holds 5 (omega arith) in
-    let vsn : slot slots 6 ≡ of_key (codes "Vsn") pairs = holds 6 (omega arith) in
+    let addr : slot slots 0 ≡ of_key (key_text keys.Addr) pairs = holds 0 (omega arith) in
+    let inc : slot slots 1 ≡ of_key (key_text keys.Incarnation) pairs = holds 1 (omega arith) in
+    let meta : slot slots 2 ≡ of_key (key_text keys.Meta) pairs = holds 2 (omega arith) in
+    let name : slot slots 3 ≡ of_key (key_text keys.Name) pairs = holds 3 (omega arith) in
+    let port : slot slots 4 ≡ of_key (key_text keys.Port) pairs = holds 4 (omega arith) in
+    let state : slot slots 5 ≡ of_key (key_text keys.State) pairs = holds 5 (omega arith) in
+    let vsn : slot slots 6 ≡ of_key (key_text keys.Vsn) pairs = holds 6 (omega arith) in
     rw (addr, inc, meta, name, port, state, vsn) refl
 
 claim_is : (c d : Claim) → passed c ≡ passed d → d ≡ c
 claim_is c d e = cc
 
 -- the state is n
-state_is : (pairs : Pairs) (state n : ℕ) → state ≡ number_of (codes "State") pairs → eqb state n ≡ true → number_of (codes "State") pairs ≡ n
+state_is : (pairs : Pairs) (state n : ℕ) → state ≡ number_of keys.State pairs → eqb state n ≡ true → number_of keys.State pairs ≡ n
 state_is pairs state n same t = sym same ∙ eqb-true _ _ t
 
-claim_ok : (pairs : Pairs) (state : ℕ) (c : Claim) → state ≡ number_of (codes "State") pairs → claim_from pairs state ≡ passed c → IsStateOf pairs c
+claim_ok : (pairs : Pairs) (state : ℕ) (c : Claim) → state ≡ number_of keys.State pairs → claim_from pairs state ≡ passed c → IsStateOf pairs c
 claim_ok pairs state c same =
     split (eqb state 0) P _ _
     (λ t e. let legal = with_details_ok (told_details pairs) (alive_with pairs) c e in alive (state_is pairs state 0 same t) (legal.0, legal.1) legal.2)
@@ -195,7 +197,7 @@ claim_ok pairs state c same =
     P : Result Claim WireFault → Type 0
     P r = r ≡ passed c → IsStateOf pairs c
 
-claim_again : (pairs : Pairs) (c : Claim) → IsStateOf pairs c → claim_from pairs (number_of (codes "State") pairs) ≡ passed c
+claim_again : (pairs : Pairs) (c : Claim) → IsStateOf pairs c → claim_from pairs (number_of keys.State pairs) ≡ passed c
 claim_again pairs c (alive state legal is) = rw (state, is) (with_details_again (told_details pairs) (alive_with pairs) legal.0 legal.1)
 claim_again pairs c (suspect state is) = rw (state, is) refl
 claim_again pairs c (confirm state is) = rw (state, is) refl
@@ -205,8 +207,8 @@ claim_again pairs c (leave state is) = rw (state, is) refl
 above_three : (state : ℕ) → eqb state 0 ≡ false → eqb state 1 ≡ false → eqb state 2 ≡ false → eqb state 3 ≡ false → 3 < state
 above_three state none one two three = grind (arith, nat_tests)
 
-claim_err : (pairs : Pairs) (state : ℕ) (error : WireFault) → state ≡ number_of (codes "State") pairs → raw_of
-    (codes "Name") pairs ≢ [] → claim_from pairs state ≡ failed Claim error
+claim_err : (pairs : Pairs) (state : ℕ) (error : WireFault) → state ≡ number_of keys.State pairs → raw_of
+    keys.Name pairs ≢ [] → claim_from pairs state ≡ failed Claim error
     → (Q : Type 0) → (StateFails BadAddress pairs → BadAddress ≡ error → Q)
     → (StateFails BadVersions pairs → BadVersions ≡ error → Q) → (StateFails (BadState state) pairs → BadState state ≡ error → Q)
     → Q
@@ -229,10 +231,10 @@ state_takes bytes c rest e =
     let t = then_ok (map_at state_layout bytes) (λ slots. checked (state_of slots)) c rest e in
     let m = map_takes state_layout bytes t.0 t.1 state_legal t.2 in
     let k = checked_ok (state_of t.0) t.1 c rest t.3 in
-    let named = with_name_ok (raw_of (codes "Name") m.1) (claim_from m.1 (number_of (codes "State") m.1)) c (sym (state_same m.1 t.0 m.4) ∙ k.0) in
+    let named = with_name_ok (raw_of keys.Name m.1) (claim_from m.1 (number_of keys.State m.1)) c (sym (state_same m.1 t.0 m.4) ∙ k.0) in
     record {
       text = m.0;
-      is = record { pairs = m.1; text = m.2; name = named.0; state = claim_ok m.1 (number_of (codes "State") m.1) c refl named.1 };
+      is = record { pairs = m.1; text = m.2; name = named.0; state = claim_ok m.1 (number_of keys.State m.1) c refl named.1 };
       parts = parts_to m.0 m.3 k.1;
     }
 
@@ -268,8 +270,8 @@ state_refusal bytes error other e =
     failing slots mid m fails =
         let begins : (F : Pairs → Type 0) → F m.1 → BeginsFailing state_layout F bytes =
         λ F h. record { map_text = m.0; pairs = m.1; rest = mid; text = m.2; parts = m.3; failing = h } in
-        let state = number_of (codes "State") m.1 in
-        with_name_err (raw_of (codes "Name") m.1) (claim_from m.1 state) error (sym (state_same m.1 slots m.4) ∙ fails) (ExplainsState error bytes)
+        let state = number_of keys.State m.1 in
+        with_name_err (raw_of keys.Name m.1) (claim_from m.1 state) error (sym (state_same m.1 slots m.4) ∙ fails) (ExplainsState error bytes)
         (λ empty is. subst (λ f. ExplainsState f bytes) is (begins (StateFails NameEmpty) empty))
         (λ named more. claim_err m.1 state error refl named more (ExplainsState error bytes)
         (λ address is. subst (λ f. ExplainsState f bytes) is (begins (StateFails BadAddress) address))

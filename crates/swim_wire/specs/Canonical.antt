@@ -1,35 +1,38 @@
 -- The canonical bytes of messages: every key of the layout in alphabetical order, each value in its
 -- canonical spelling.
-use Rattle.std.specs.Prelude.{ℕ, List, [], ◌∷◌, ◌++◌, map, codes}
+use Rattle.std.specs.Prelude.{ℕ, List, [], ◌∷◌, ◌++◌, map}
 use Rattle.swim_claim.specs.declared.claim.Claim.{Claim}
 use Rattle.swim_claim.specs.declared.claim.Claim.TheVariants.{Alive, Suspect, Confirm, Leave}
 use Rattle.swim_claim.specs.Details.{DetailsValue}
 use Rattle.swim_pack.specs.Spelling.{number_text, raw_text, flag_text, count_text}
+use Rattle.swim_wire.specs.declared.layout.Key.TheVariants as keys
+use Rattle.swim_wire.specs.declared.layout.Key.{Key}
 use Rattle.swim_wire.specs.declared.stream.Header.{Header}
+use Rattle.swim_wire.specs.Keys.{key_text}
 use Rattle.swim_wire.specs.Packet.{PacketValue}
 use Rattle.swim_wire.specs.Texts.{compound_bytes}
 
 -- a key and a number
-abbrev pub number_pair : List ℕ → ℕ → List ℕ
-number_pair key v = raw_text key ++ number_text v
+abbrev pub number_pair : Key → ℕ → List ℕ
+number_pair key v = raw_text (key_text key) ++ number_text v
 
 -- a key and bytes
-abbrev pub raw_pair : List ℕ → List ℕ → List ℕ
-raw_pair key s = raw_text key ++ raw_text s
+abbrev pub raw_pair : Key → List ℕ → List ℕ
+raw_pair key s = raw_text (key_text key) ++ raw_text s
 
 -- memberlist's alive
 abbrev pub alive_bytes : List ℕ → ℕ → DetailsValue → List ℕ
 alive_bytes name inc details =
-    4 ∷ count_text 6 ++ raw_pair (codes "Addr") details.addr
-    ++ number_pair (codes "Incarnation") inc ++ raw_pair (codes "Meta") details.meta
-    ++ raw_pair (codes "Node") name ++ number_pair (codes "Port") details.port
-    ++ raw_pair (codes "Vsn") details.vsn
+    4 ∷ count_text 6 ++ raw_pair keys.Addr details.addr
+    ++ number_pair keys.Incarnation inc ++ raw_pair keys.Meta details.meta
+    ++ raw_pair keys.Node name ++ number_pair keys.Port details.port
+    ++ raw_pair keys.Vsn details.vsn
 
 -- memberlist's suspect and dead, by their type
 abbrev pub accusation_bytes : ℕ → List ℕ → ℕ → List ℕ → List ℕ
 accusation_bytes type name inc from =
-    type ∷ count_text 3 ++ raw_pair (codes "From") from ++ number_pair (codes "Incarnation") inc
-    ++ raw_pair (codes "Node") name
+    type ∷ count_text 3 ++ raw_pair keys.From from ++ number_pair keys.Incarnation inc
+    ++ raw_pair keys.Node name
 
 -- the packet of a claim, made by the member of this name
 abbrev pub claim_bytes : Claim → List ℕ → List ℕ
@@ -49,16 +52,16 @@ packets_bytes packets = compound_bytes (map packet_bytes packets)
 -- memberlist's pushPullHeader
 abbrev pub header_bytes : Header → List ℕ
 header_bytes h =
-    6 ∷ count_text 3 ++ (raw_text (codes "Join") ++ flag_text h.join)
-    ++ number_pair (codes "Nodes") h.nodes ++ number_pair (codes "UserStateLen") h.user_len
+    6 ∷ count_text 3 ++ (raw_text (key_text keys.Join) ++ flag_text h.join)
+    ++ number_pair keys.Nodes h.nodes ++ number_pair keys.UserStateLen h.user_len
 
 -- memberlist's pushNodeState; only an Alive has an address, a port, metadata and versions
 abbrev pub record_bytes : List ℕ → ℕ → ℕ → DetailsValue → List ℕ
 record_bytes name inc state details =
-    count_text 7 ++ raw_pair (codes "Addr") details.addr ++ number_pair (codes "Incarnation") inc
-    ++ raw_pair (codes "Meta") details.meta ++ raw_pair (codes "Name") name
-    ++ number_pair (codes "Port") details.port ++ number_pair (codes "State") state
-    ++ raw_pair (codes "Vsn") details.vsn
+    count_text 7 ++ raw_pair keys.Addr details.addr ++ number_pair keys.Incarnation inc
+    ++ raw_pair keys.Meta details.meta ++ raw_pair keys.Name name
+    ++ number_pair keys.Port details.port ++ number_pair keys.State state
+    ++ raw_pair keys.Vsn details.vsn
 
 -- the details in a state record that is no Alive's
 abbrev pub no_details : DetailsValue

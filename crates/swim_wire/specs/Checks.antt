@@ -1,10 +1,11 @@
 -- Why bytes are no message: the checks of a message as a whole, in their order, and what stands
 -- around its map.
-use Rattle.std.specs.Prelude.{◌≡◌, ◌≢◌, ℕ, ◌≤◌, ◌<◌, ◌⊎◌, List, [], ◌∷◌, ◌++◌, codes, ⊤, IfSome}
+use Rattle.std.specs.Prelude.{◌≡◌, ◌≢◌, ℕ, ◌≤◌, ◌<◌, ◌⊎◌, List, [], ◌∷◌, ◌++◌, ⊤, IfSome}
 use Rattle.swim_pack.specs.Ends.{Source}
 use Rattle.swim_claim.specs.Details.{IsAddress, IsVersions}
 use Rattle.swim_wire.specs.declared.fault.WireFault.{WireFault}
 use Rattle.swim_wire.specs.declared.fault.WireFault.TheVariants.{Memory, NameEmpty, BadAddress, BadVersions, WrongType, BadState, TooManyNodes, UserTooLong, Trailing}
+use Rattle.swim_wire.specs.declared.layout.Key.TheVariants as keys
 use Rattle.swim_wire.specs.Asking.{MapAsks, PacketAsks}
 use Rattle.swim_wire.specs.Layout.{Layout, Pairs, MapText, number_of, raw_of, alive_layout, accusation_layout, header_layout, state_layout}
 use Rattle.swim_wire.specs.Limits.{most_nodes, most_user_state}
@@ -15,34 +16,34 @@ use Rattle.swim_wire.specs.Texts.{PacketText}
 
 -- the address is checked before the versions
 abbrev pub DetailsFail : WireFault → Pairs → Type 0
-DetailsFail BadAddress pairs = ¬ IsAddress (raw_of (codes "Addr") pairs)
-DetailsFail BadVersions pairs = IsAddress (raw_of (codes "Addr") pairs)
-    × (¬ IsVersions (raw_of (codes "Vsn") pairs))
+DetailsFail BadAddress pairs = ¬ IsAddress (raw_of keys.Addr pairs)
+DetailsFail BadVersions pairs = IsAddress (raw_of keys.Addr pairs)
+    × (¬ IsVersions (raw_of keys.Vsn pairs))
 DetailsFail error pairs = ⊥
 
 -- an alive message needs a name, and then legal details
 abbrev pub AliveFails : WireFault → Pairs → Type 0
-AliveFails NameEmpty pairs = raw_of (codes "Node") pairs ≡ []
-AliveFails error pairs = (raw_of (codes "Node") pairs ≢ []) × DetailsFail error pairs
+AliveFails NameEmpty pairs = raw_of keys.Node pairs ≡ []
+AliveFails error pairs = (raw_of keys.Node pairs ≢ []) × DetailsFail error pairs
 
 -- a suspect or dead message needs a name
 abbrev pub AccusationFails : WireFault → Pairs → Type 0
-AccusationFails NameEmpty pairs = raw_of (codes "Node") pairs ≡ []
+AccusationFails NameEmpty pairs = raw_of keys.Node pairs ≡ []
 AccusationFails error pairs = ⊥
 
 -- the count of members is checked before the length of the user state
 abbrev pub HeaderFails : WireFault → Pairs → Type 0
-HeaderFails TooManyNodes pairs = most_nodes < number_of (codes "Nodes") pairs
-HeaderFails UserTooLong pairs = (number_of (codes "Nodes") pairs ≤ most_nodes)
-    × (most_user_state < number_of (codes "UserStateLen") pairs)
+HeaderFails TooManyNodes pairs = most_nodes < number_of keys.Nodes pairs
+HeaderFails UserTooLong pairs = (number_of keys.Nodes pairs ≤ most_nodes)
+    × (most_user_state < number_of keys.UserStateLen pairs)
 HeaderFails error pairs = ⊥
 
 -- a state record needs a name, a state of 0 to 3, and, where it is alive, legal details
 abbrev pub StateFails : WireFault → Pairs → Type 0
-StateFails NameEmpty pairs = raw_of (codes "Name") pairs ≡ []
-StateFails (BadState found) pairs = (raw_of (codes "Name") pairs ≢ [])
-    × (number_of (codes "State") pairs ≡ found) × (3 < found)
-StateFails error pairs = (raw_of (codes "Name") pairs ≢ []) × (number_of (codes "State") pairs ≡ 0)
+StateFails NameEmpty pairs = raw_of keys.Name pairs ≡ []
+StateFails (BadState found) pairs = (raw_of keys.Name pairs ≢ [])
+    × (number_of keys.State pairs ≡ found) × (3 < found)
+StateFails error pairs = (raw_of keys.Name pairs ≢ []) × (number_of keys.State pairs ≡ 0)
     × DetailsFail error pairs
 
 -- ---- bytes that begin with such a map

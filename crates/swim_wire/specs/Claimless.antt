@@ -1,11 +1,13 @@
 -- The messages that make no claim: which bytes are which of them, and their reading.
-use Rattle.std.specs.Prelude.{◌≡◌, ◌⊎◌, ℕ, ◌==◌, List, [], ◌∷◌, length, Option, Some, None, Result, Ok, Err, codes, if◌then◌else◌}
+use Rattle.std.specs.Prelude.{◌≡◌, ◌⊎◌, ℕ, ◌==◌, List, [], ◌∷◌, length, Option, Some, None, Result, Ok, Err, if◌then◌else◌}
 use Rattle.swim_claim.specs.Limits.{longest_name}
 use Rattle.swim_wire.specs.declared.claimless.Claimless.{Claimless}
 use Rattle.swim_wire.specs.declared.claimless.Claimless.TheVariants.{Ping, IndirectPing, Ack, User, Nack, Error}
 use Rattle.swim_wire.specs.declared.fault.WireFault.{WireFault}
 use Rattle.swim_wire.specs.declared.fault.WireFault.TheVariants.{Ended, Memory, WrongType}
+use Rattle.swim_wire.specs.declared.layout.Key.TheVariants as keys
 use Rattle.swim_wire.specs.declared.layout.Limit.TheVariants as limits
+use Rattle.swim_wire.specs.Keys.{key_text}
 use Rattle.swim_wire.specs.Layout.{Layout, Pairs, MapText}
 use Rattle.swim_wire.specs.Reading.{Slots, map_at, nothing_after}
 
@@ -22,20 +24,22 @@ type_of Error = 13
 -- error have at most so many bytes. A user message has no map.
 abbrev pub claimless_layout : ℕ → Claimless → Layout
 claimless_layout limit Ping =
-    (codes "Node", limits.Raw longest_name) ∷ (codes "SeqNo", limits.Number 0xffff_ffff)
-    ∷ (codes "SourceAddr", limits.Raw 16)
-    ∷ (codes "SourceNode", limits.Raw longest_name)
-    ∷ (codes "SourcePort", limits.Number 0xffff) ∷ []
+    (key_text keys.Node, limits.Raw longest_name) ∷ (key_text keys.SeqNo, limits.Number 0xffff_ffff)
+    ∷ (key_text keys.SourceAddr, limits.Raw 16)
+    ∷ (key_text keys.SourceNode, limits.Raw longest_name)
+    ∷ (key_text keys.SourcePort, limits.Number 0xffff) ∷ []
 claimless_layout limit IndirectPing =
-    (codes "Nack", limits.Flag) ∷ (codes "Node", limits.Raw longest_name)
-    ∷ (codes "Port", limits.Number 0xffff) ∷ (codes "SeqNo", limits.Number 0xffff_ffff)
-    ∷ (codes "SourceAddr", limits.Raw 16) ∷ (codes "SourceNode", limits.Raw longest_name)
-    ∷ (codes "SourcePort", limits.Number 0xffff) ∷ (codes "Target", limits.Raw 16) ∷ []
+    (key_text keys.Nack, limits.Flag) ∷ (key_text keys.Node, limits.Raw longest_name)
+    ∷ (key_text keys.Port, limits.Number 0xffff) ∷ (key_text keys.SeqNo, limits.Number 0xffff_ffff)
+    ∷ (key_text keys.SourceAddr, limits.Raw 16)
+    ∷ (key_text keys.SourceNode, limits.Raw longest_name)
+    ∷ (key_text keys.SourcePort, limits.Number 0xffff) ∷ (key_text keys.Target, limits.Raw 16) ∷ []
 claimless_layout limit Ack =
-    (codes "Payload", limits.Raw limit) ∷ (codes "SeqNo", limits.Number 0xffff_ffff) ∷ []
+    (key_text keys.Payload, limits.Raw limit)
+    ∷ (key_text keys.SeqNo, limits.Number 0xffff_ffff) ∷ []
 claimless_layout limit User = []
-claimless_layout limit Nack = (codes "SeqNo", limits.Number 0xffff_ffff) ∷ []
-claimless_layout limit Error = (codes "Error", limits.Raw limit) ∷ []
+claimless_layout limit Nack = (key_text keys.SeqNo, limits.Number 0xffff_ffff) ∷ []
+claimless_layout limit Error = (key_text keys.Error, limits.Raw limit) ∷ []
 
 -- the bytes are one map of the layout
 abbrev pub IsMapOf : Layout → List ℕ → Type 0

@@ -1,13 +1,16 @@
 -- Maps as memberlist writes them in MessagePack: keys of a layout, each with a value within its
 -- limit.
-use Rattle.std.specs.Prelude.{◌≡◌, ℕ, ◌≤◌, Bool, false, List, [], ◌∷◌, ◌++◌, length, map, Option, Some, codes}
+use Rattle.std.specs.Prelude.{◌≡◌, ℕ, ◌≤◌, Bool, false, List, [], ◌∷◌, ◌++◌, length, map, Option, Some}
 use Rattle.std.specs.List.{IsDistinct}
 use Rattle.std.specs.Map.{lookup}
 use Rattle.std.specs.Str.{bytes_eq}
 use Rattle.swim_claim.specs.Limits.{longest_meta, longest_name}
 use Rattle.swim_pack.specs.Spelling.{Number, Raw, Flag, Count}
+use Rattle.swim_wire.specs.declared.layout.Key.{Key}
+use Rattle.swim_wire.specs.declared.layout.Key.TheVariants as keys
 use Rattle.swim_wire.specs.declared.layout.Limit.{Limit}
 use Rattle.swim_wire.specs.declared.layout.Limit.TheVariants as limits
+use Rattle.swim_wire.specs.Keys.{key_text}
 
 -- a value of a map
 pub data Spelled : Type 0 where
@@ -75,40 +78,42 @@ flag_or_false (Some (flag f)) = f
 flag_or_false value = false
 
 -- the number that the pairs tell of a key
-abbrev pub number_of : List ℕ → Pairs → ℕ
-number_of key pairs = number_or_zero (of_key key pairs)
+abbrev pub number_of : Key → Pairs → ℕ
+number_of key pairs = number_or_zero (of_key (key_text key) pairs)
 
 -- the bytes that the pairs tell of a key
-abbrev pub raw_of : List ℕ → Pairs → List ℕ
-raw_of key pairs = raw_or_empty (of_key key pairs)
+abbrev pub raw_of : Key → Pairs → List ℕ
+raw_of key pairs = raw_or_empty (of_key (key_text key) pairs)
 
 -- the truth value that the pairs tell of a key
-abbrev pub flag_of : List ℕ → Pairs → Bool
-flag_of key pairs = flag_or_false (of_key key pairs)
+abbrev pub flag_of : Key → Pairs → Bool
+flag_of key pairs = flag_or_false (of_key (key_text key) pairs)
 
 -- memberlist's alive
 abbrev pub alive_layout : Layout
 alive_layout =
-    (codes "Addr", limits.Raw 16) ∷ (codes "Incarnation", limits.Number 0xffff_ffff)
-    ∷ (codes "Meta", limits.Raw longest_meta) ∷ (codes "Node", limits.Raw longest_name)
-    ∷ (codes "Port", limits.Number 0xffff) ∷ (codes "Vsn", limits.Raw 6) ∷ []
+    (key_text keys.Addr, limits.Raw 16) ∷ (key_text keys.Incarnation, limits.Number 0xffff_ffff)
+    ∷ (key_text keys.Meta, limits.Raw longest_meta) ∷ (key_text keys.Node, limits.Raw longest_name)
+    ∷ (key_text keys.Port, limits.Number 0xffff) ∷ (key_text keys.Vsn, limits.Raw 6) ∷ []
 
 -- memberlist's suspect and dead
 abbrev pub accusation_layout : Layout
 accusation_layout =
-    (codes "From", limits.Raw longest_name) ∷ (codes "Incarnation", limits.Number 0xffff_ffff)
-    ∷ (codes "Node", limits.Raw longest_name) ∷ []
+    (key_text keys.From, limits.Raw longest_name)
+    ∷ (key_text keys.Incarnation, limits.Number 0xffff_ffff)
+    ∷ (key_text keys.Node, limits.Raw longest_name) ∷ []
 
 -- memberlist's pushPullHeader
 abbrev pub header_layout : Layout
 header_layout =
-    (codes "Join", limits.Flag) ∷ (codes "Nodes", limits.Number 0xffff_ffff_ffff_ffff)
-    ∷ (codes "UserStateLen", limits.Number 0xffff_ffff_ffff_ffff) ∷ []
+    (key_text keys.Join, limits.Flag) ∷ (key_text keys.Nodes, limits.Number 0xffff_ffff_ffff_ffff)
+    ∷ (key_text keys.UserStateLen, limits.Number 0xffff_ffff_ffff_ffff) ∷ []
 
 -- memberlist's pushNodeState
 abbrev pub state_layout : Layout
 state_layout =
-    (codes "Addr", limits.Raw 16) ∷ (codes "Incarnation", limits.Number 0xffff_ffff)
-    ∷ (codes "Meta", limits.Raw longest_meta) ∷ (codes "Name", limits.Raw longest_name)
-    ∷ (codes "Port", limits.Number 0xffff) ∷ (codes "State", limits.Number 0xffff_ffff_ffff_ffff)
-    ∷ (codes "Vsn", limits.Raw 6) ∷ []
+    (key_text keys.Addr, limits.Raw 16) ∷ (key_text keys.Incarnation, limits.Number 0xffff_ffff)
+    ∷ (key_text keys.Meta, limits.Raw longest_meta) ∷ (key_text keys.Name, limits.Raw longest_name)
+    ∷ (key_text keys.Port, limits.Number 0xffff)
+    ∷ (key_text keys.State, limits.Number 0xffff_ffff_ffff_ffff)
+    ∷ (key_text keys.Vsn, limits.Raw 6) ∷ []

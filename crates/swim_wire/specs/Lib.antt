@@ -1,5 +1,6 @@
 pub mod Limits
 pub mod Fault
+pub mod Keys
 pub mod Layout
 pub mod Places
 pub mod Slots

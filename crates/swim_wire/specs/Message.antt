@@ -44,7 +44,8 @@ pub record SaysState (slots : Slots) (state : PushNodeState) : Type 0 where
 
 abbrev pub slots_of_alive : Alive → Slots
 slots_of_alive alive =
-    alive_slots alive.addr.now alive.incarnation alive.meta.now alive.node.now alive.port alive.vsn.now
+    alive_slots alive.addr.now alive.incarnation alive.meta.now alive.node.now alive.port
+    alive.vsn.now
 
 abbrev pub slots_of_accusation : Accusation → Slots
 slots_of_accusation accusation =
@@ -55,8 +56,8 @@ slots_of_header header = header_slots header.join header.nodes header.user_state
 
 abbrev pub slots_of_state : PushNodeState → Slots
 slots_of_state state =
-    state_slots state.addr.now state.incarnation state.meta.now state.name.now state.port state.state
-    state.vsn.now
+    state_slots state.addr.now state.incarnation state.meta.now state.name.now state.port
+    state.state state.vsn.now
 
 -- ---- what it says is within the limits of names and metadata
 

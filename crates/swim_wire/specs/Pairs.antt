@@ -9,9 +9,9 @@ use Rattle.swim_wire.specs.declared.canonical.pairs.Written.{Written}
 use Rattle.swim_wire.specs.declared.canonical.pairs.Written.TheVariants as written
 use Rattle.swim_wire.specs.declared.layout.Key.{Key}
 use Rattle.swim_wire.specs.Canonical.{no_details}
+use Rattle.swim_wire.specs.Keys.{key_text}
 use Rattle.swim_wire.specs.Layout.{Spelled, Pairs}
 use Rattle.swim_wire.specs.Layout.Spelled.{number, raw, flag}
-use Rattle.swim_wire.specs.Slots.{key_text}
 
 -- the canonical bytes of a value
 abbrev pub value_text : Spelled → List ℕ

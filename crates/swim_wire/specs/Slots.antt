@@ -1,40 +1,14 @@
 -- The values of a map, as the code keeps them: each at the place of its key in the layout.
-use Rattle.std.specs.Prelude.{ℕ, ◌≤◌, List, [], ◌∷◌, length, map, Option, Some, None, IsSome, codes}
+use Rattle.std.specs.Prelude.{◌≤◌, List, [], ◌∷◌, length, map, Option, Some, None, IsSome}
 use Rattle.std.specs.Option.{option_map}
 use Rattle.swim_wire.specs.declared.layout.Field.{Field}
-use Rattle.swim_wire.specs.declared.layout.Key.{Key}
-use Rattle.swim_wire.specs.declared.layout.Key.TheVariants as keys
 use Rattle.swim_wire.specs.declared.layout.Limit.{Limit}
 use Rattle.swim_wire.specs.declared.layout.Limit.TheVariants as limits
 use Rattle.swim_wire.specs.declared.map.Value.{Value}
 use Rattle.swim_wire.specs.declared.map.Value.TheVariants.{Number, Raw, Flag}
+use Rattle.swim_wire.specs.Keys.{key_text}
 use Rattle.swim_wire.specs.Layout.{Layout, Spelled}
 use Rattle.swim_wire.specs.Layout.Spelled.{number, raw, flag}
-
--- the text of a key, which is memberlist's name of the field
-abbrev pub key_text : Key → List ℕ
-key_text keys.Addr = codes "Addr"
-key_text keys.Algo = codes "Algo"
-key_text keys.Buf = codes "Buf"
-key_text keys.Error = codes "Error"
-key_text keys.From = codes "From"
-key_text keys.Incarnation = codes "Incarnation"
-key_text keys.Join = codes "Join"
-key_text keys.Meta = codes "Meta"
-key_text keys.Nack = codes "Nack"
-key_text keys.Name = codes "Name"
-key_text keys.Node = codes "Node"
-key_text keys.Nodes = codes "Nodes"
-key_text keys.Payload = codes "Payload"
-key_text keys.Port = codes "Port"
-key_text keys.SeqNo = codes "SeqNo"
-key_text keys.SourceAddr = codes "SourceAddr"
-key_text keys.SourceNode = codes "SourceNode"
-key_text keys.SourcePort = codes "SourcePort"
-key_text keys.State = codes "State"
-key_text keys.Target = codes "Target"
-key_text keys.UserStateLen = codes "UserStateLen"
-key_text keys.Vsn = codes "Vsn"
 
 -- the value is of the kind and within the limit
 abbrev pub Fits : Limit → Value → Type 0

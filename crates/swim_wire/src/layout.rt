@@ -1,7 +1,7 @@
 //! The keys of each map, what stands behind them, and their limits.
 
 ghost use Rattle.std.specs.Prelude.{◌≡◌};
-ghost use Rattle.swim_wire.specs.Slots.{key_text};
+ghost use Rattle.swim_wire.specs.Keys.{key_text};
 
 /// A key of a map, by memberlist's names of fields.
 #[derive(Clone, Copy)]

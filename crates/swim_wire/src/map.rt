@@ -8,7 +8,8 @@ ghost use Rattle.swim_wire.specs.Asking.{ValueAsks, PairAsks, MapAsks};
 ghost use Rattle.swim_wire.specs.Checks.{ExplainsStart};
 ghost use Rattle.swim_wire.specs.Fault.{fault_of_key};
 ghost use Rattle.swim_wire.specs.Reading.{wire_cause, value_at, key_at, pair_at, map_at};
-ghost use Rattle.swim_wire.specs.Slots.{Fits, FitsEach, CanRead, CanReadEach, key_text, spelled, slots_of, layout_of};
+ghost use Rattle.swim_wire.specs.Keys.{key_text};
+ghost use Rattle.swim_wire.specs.Slots.{Fits, FitsEach, CanRead, CanReadEach, spelled, slots_of, layout_of};
 ghost use Rattle.swim_wire.specs.Layout.{number_or_zero, raw_or_empty, flag_or_false};
 ghost use Rattle.std.specs.Option.{option_map};
 

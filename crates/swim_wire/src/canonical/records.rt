@@ -8,7 +8,6 @@ ghost use Rattle.swim_claim.specs.Details.{IsLegalDetails};
 ghost use Rattle.swim_wire.specs.Canonical.{header_bytes, state_bytes, state_bytes_with, number_pair, raw_pair};
 ghost use Rattle.swim_wire.specs.Pairs.{state_number};
 ghost use Rattle.swim_wire.specs.Records.{facts_bytes, facts_bytes_with, bytes_of, IsShortRecord};
-ghost use Rattle.swim_wire.specs.Slots.{key_text};
 ghost use Rattle.swim_wire.specs.Texts.{StateText};
 
 use crate::layout::Key;
@@ -216,7 +215,7 @@ fn put_record(out: &mut [u8], at: usize, parts: &Record) -> usize
 #[inline(always)]
 fn raw_pair_len(key: Key, bytes: &[u8]) -> usize
     requires { length bytes.now < 2 ^ 15 }
-    ensures len { result ≡ length (raw_pair (key_text key) bytes.now) }
+    ensures len { result ≡ length (raw_pair key bytes.now) }
     ensures small { result ≤ length bytes.now + 18 }
 {
     raw_len(key.text()) + raw_len(bytes)
@@ -224,7 +223,7 @@ fn raw_pair_len(key: Key, bytes: &[u8]) -> usize
 
 #[inline(always)]
 fn uint_pair_len(key: Key, value: u64) -> usize
-    ensures len { result ≡ length (number_pair (key_text key) value) }
+    ensures len { result ≡ length (number_pair key value) }
     ensures small { result ≤ 24 }
 {
     raw_len(key.text()) + uint_len(value)
@@ -234,9 +233,9 @@ fn uint_pair_len(key: Key, value: u64) -> usize
 #[inline(always)]
 fn put_raw_pair(out: &mut [u8], at: usize, key: Key, bytes: &[u8]) -> usize
     requires short { length bytes.now < 2 ^ 16 }
-    requires room { at + length (raw_pair (key_text key) bytes.now) ≤ length out.old }
-    ensures end { result ≡ at + length (raw_pair (key_text key) bytes.now) }
-    ensures put { take result out.new ≡ take at out.old ++ raw_pair (key_text key) bytes.now }
+    requires room { at + length (raw_pair key bytes.now) ≤ length out.old }
+    ensures end { result ≡ at + length (raw_pair key bytes.now) }
+    ensures put { take result out.new ≡ take at out.old ++ raw_pair key bytes.now }
 {
     let next = put_raw(out, at, key.text());
     put_raw(out, next, bytes)
@@ -245,9 +244,9 @@ fn put_raw_pair(out: &mut [u8], at: usize, key: Key, bytes: &[u8]) -> usize
 /// Writes a key, and a number behind it.
 #[inline(always)]
 fn put_uint_pair(out: &mut [u8], at: usize, key: Key, value: u64) -> usize
-    requires { at + length (number_pair (key_text key) value) ≤ length out.old }
-    ensures end { result ≡ at + length (number_pair (key_text key) value) }
-    ensures put { take result out.new ≡ take at out.old ++ number_pair (key_text key) value }
+    requires { at + length (number_pair key value) ≤ length out.old }
+    ensures end { result ≡ at + length (number_pair key value) }
+    ensures put { take result out.new ≡ take at out.old ++ number_pair key value }
 {
     let next = put_raw(out, at, key.text());
     put_uint(out, next, value)

@@ -4,8 +4,9 @@ use Rattle.std.proofs.lemmas.Result.{err_from_is_err_and}
 use Rattle.swim_pack.specs.Reading.{count_at}
 use Rattle.swim_pack.proofs.Composing.{Reads-exit}
 use Rattle.swim_wire.specs.declared.layout.Field.{Field}
+use Rattle.swim_wire.specs.Keys.{key_text}
 use Rattle.swim_wire.specs.Reading.{map_at}
-use Rattle.swim_wire.specs.Slots.{key_text, layout_of}
+use Rattle.swim_wire.specs.Slots.{layout_of}
 use Rattle.swim_wire.proofs.Asking.{same_fault, map_asks, first_asks, later_asks}
 use Rattle.swim_wire.proofs.Fitting.{FitsEach-nones}
 use Rattle.swim_wire.proofs.Lifting.{Wire-err}
