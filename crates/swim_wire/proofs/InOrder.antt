@@ -7,8 +7,6 @@ use Rattle.swim_pack.specs.Spelling.{raw_text, Count as counts}
 use Rattle.swim_pack.proofs.Canonical.{raw_text_is}
 use Rattle.swim_pack.proofs.Numbers.{raw_again, count_again}
 use Rattle.swim_wire.specs.declared.fault.WireFault.{WireFault}
-use Rattle.swim_wire.specs.declared.layout.Limit.{Limit}
-use Rattle.swim_wire.specs.declared.layout.Limit.TheVariants as limits
 use Rattle.swim_wire.specs.declared.stream.Header.{Header}
 use Rattle.swim_wire.specs.InOrder.{state_slots, alive_slots, accusation_slots, header_slots}
 use Rattle.swim_wire.specs.Layout.{Layout, Spelled, alive_layout, accusation_layout, header_layout, state_layout}
@@ -34,97 +32,88 @@ pair_in_order layout slots place bytes mid rest value legal inside vacant is e =
     let again = raw_again 12 (raw_text key) mid key short (raw_text_is key (omega (arith, short))) in
     rw (is, again, own_place layout place legal.distinct inside, vacant, e) refl
 
--- a value behind a text
-abbrev pub Behind : List ℕ → Limit → List ℕ → Spelled → List ℕ → Type 0
-Behind bytes limit key value rest = (mid : List ℕ) × (bytes ≡ key ++ mid) × (value_at limit mid ≡ read value rest)
+-- a key of the layout behind this front, its value behind it, and what is left
+abbrev pub Behind : List ℕ → Layout → ℕ → List ℕ → Spelled → List ℕ → Type 0
+Behind front layout place bytes value rest =
+    (mid : List ℕ) × (bytes ≡ front ++ (raw_text (key_in layout place) ++ mid)) × (value_at (limit_at layout place) mid ≡ read value rest)
 
 -- a pair, and then the others
-pairs_in_order : (layout : Layout) (n : ℕ) (slots : Slots) (place : ℕ) (bytes mid rest : List ℕ) (value : Spelled)
-    (out : Slots) (end : List ℕ) → IsLegalLayout layout → place < length layout → slot slots place ≡ None
-    → bytes ≡ raw_text (key_in layout place) ++ mid → value_at (limit_at layout place) mid ≡ read value rest
+pairs_in_order : (layout : Layout) (n : ℕ) (slots : Slots) (place : ℕ) (bytes rest : List ℕ) (value : Spelled) (out : Slots) (end : List ℕ)
+    → IsLegalLayout layout → place < length layout → slot slots place ≡ None → Behind [] layout place bytes value rest
     → pairs_at layout n (slice_set slots place (Some value)) rest ≡ read out end
     → pairs_at layout (suc n) slots bytes ≡ read out end
 unfolding pairs_at
-pairs_in_order layout n slots place bytes mid rest value out end legal inside vacant is e more =
-    rw (pair_in_order layout slots place bytes mid rest value legal inside vacant is e) more
+pairs_in_order layout n slots place bytes rest value out end legal inside vacant pair more =
+    rw (pair_in_order layout slots place bytes pair.0 rest value legal inside vacant pair.1 pair.2) more
 
 -- ---- maps
 
 -- a state record
 pub state_map : (bytes b1 b2 b3 b4 b5 b6 rest addr meta name vsn : List ℕ) (inc port state : ℕ)
-    → Behind bytes (limits.Raw 16) (0x87 ∷ 0xa4 ∷ 65 ∷ 100 ∷ 100 ∷ 114 ∷ []) (raw addr) b1
-    → Behind b1 (limits.Number 0xffff_ffff) (0xab ∷ 73 ∷ 110 ∷ 99 ∷ 97 ∷ 114 ∷ 110 ∷ 97 ∷ 116 ∷ 105 ∷ 111 ∷ 110 ∷ []) (number inc) b2
-    → Behind b2 (limits.Raw 512) (0xa4 ∷ 77 ∷ 101 ∷ 116 ∷ 97 ∷ []) (raw meta) b3
-    → Behind b3 (limits.Raw 1024) (0xa4 ∷ 78 ∷ 97 ∷ 109 ∷ 101 ∷ []) (raw name) b4
-    → Behind b4 (limits.Number 0xffff) (0xa4 ∷ 80 ∷ 111 ∷ 114 ∷ 116 ∷ []) (number port) b5
-    → Behind b5 (limits.Number 0xffff_ffff_ffff_ffff) (0xa5 ∷ 83 ∷ 116 ∷ 97 ∷ 116 ∷ 101 ∷ []) (number state) b6
-    → Behind b6 (limits.Raw 6) (0xa3 ∷ 86 ∷ 115 ∷ 110 ∷ []) (raw vsn) rest
+    → Behind (0x87 ∷ []) state_layout 0 bytes (raw addr) b1 → Behind [] state_layout 1 b1 (number inc) b2
+    → Behind [] state_layout 2 b2 (raw meta) b3 → Behind [] state_layout 3 b3 (raw name) b4 → Behind [] state_layout 4 b4 (number port) b5
+    → Behind [] state_layout 5 b5 (number state) b6 → Behind [] state_layout 6 b6 (raw vsn) rest
     → map_at state_layout bytes ≡ read (state_slots addr inc meta name port state vsn) rest
-unfolding map_at pairs_at raw_text
+unfolding map_at pairs_at
 state_map bytes b1 b2 b3 b4 b5 b6 rest addr meta name vsn inc port state first second third fourth fifth sixth seventh =
     let out = state_slots addr inc meta name port state vsn in
-    let p6 = pairs_in_order state_layout 0 _ 6 b6 seventh.0 rest (raw vsn) out rest state_legal (omega arith) refl seventh.1 seventh.2 refl in
-    let p5 = pairs_in_order state_layout 1 _ 5 b5 sixth.0 b6 (number state) out rest state_legal (omega arith) refl sixth.1 sixth.2 p6 in
-    let p4 = pairs_in_order state_layout 2 _ 4 b4 fifth.0 b5 (number port) out rest state_legal (omega arith) refl fifth.1 fifth.2 p5 in
-    let p3 = pairs_in_order state_layout 3 _ 3 b3 fourth.0 b4 (raw name) out rest state_legal (omega arith) refl fourth.1 fourth.2 p4 in
-    let p2 = pairs_in_order state_layout 4 _ 2 b2 third.0 b3 (raw meta) out rest state_legal (omega arith) refl third.1 third.2 p3 in
-    let p1 = pairs_in_order state_layout 5 _ 1 b1 second.0 b2 (number inc) out rest state_legal (omega arith) refl second.1 second.2 p2 in
-    let start = 0xa4 ∷ 65 ∷ 100 ∷ 100 ∷ 114 ∷ first.0 in
-    let p0 = pairs_in_order state_layout 6 no_slots 0 start first.0 b1 (raw addr) out rest state_legal (omega arith) refl refl first.2 p1 in
+    let p6 = pairs_in_order state_layout 0 _ 6 b6 rest (raw vsn) out rest state_legal (omega arith) refl seventh refl in
+    let p5 = pairs_in_order state_layout 1 _ 5 b5 b6 (number state) out rest state_legal (omega arith) refl sixth p6 in
+    let p4 = pairs_in_order state_layout 2 _ 4 b4 b5 (number port) out rest state_legal (omega arith) refl fifth p5 in
+    let p3 = pairs_in_order state_layout 3 _ 3 b3 b4 (raw name) out rest state_legal (omega arith) refl fourth p4 in
+    let p2 = pairs_in_order state_layout 4 _ 2 b2 b3 (raw meta) out rest state_legal (omega arith) refl third p3 in
+    let p1 = pairs_in_order state_layout 5 _ 1 b1 b2 (number inc) out rest state_legal (omega arith) refl second p2 in
+    let start = raw_text (key_in state_layout 0) ++ first.0 in
+    let p0 = pairs_in_order state_layout 6 no_slots 0 start b1 (raw addr) out rest state_legal (omega arith) refl (first.0, refl, first.2) p1 in
     let count = count_again 7 (0x87 ∷ []) start 7 (omega arith) (counts.fixmap (omega arith) refl) in
     rw (first.1, count) p0
 
 -- an alive message behind its type byte
 pub alive_map : (bytes b1 b2 b3 b4 b5 rest addr meta node vsn : List ℕ) (inc port : ℕ)
-    → Behind bytes (limits.Raw 16) (0x86 ∷ 0xa4 ∷ 65 ∷ 100 ∷ 100 ∷ 114 ∷ []) (raw addr) b1
-    → Behind b1 (limits.Number 0xffff_ffff) (0xab ∷ 73 ∷ 110 ∷ 99 ∷ 97 ∷ 114 ∷ 110 ∷ 97 ∷ 116 ∷ 105 ∷ 111 ∷ 110 ∷ []) (number inc) b2
-    → Behind b2 (limits.Raw 512) (0xa4 ∷ 77 ∷ 101 ∷ 116 ∷ 97 ∷ []) (raw meta) b3
-    → Behind b3 (limits.Raw 1024) (0xa4 ∷ 78 ∷ 111 ∷ 100 ∷ 101 ∷ []) (raw node) b4
-    → Behind b4 (limits.Number 0xffff) (0xa4 ∷ 80 ∷ 111 ∷ 114 ∷ 116 ∷ []) (number port) b5
-    → Behind b5 (limits.Raw 6) (0xa3 ∷ 86 ∷ 115 ∷ 110 ∷ []) (raw vsn) rest
+    → Behind (0x86 ∷ []) alive_layout 0 bytes (raw addr) b1 → Behind [] alive_layout 1 b1 (number inc) b2
+    → Behind [] alive_layout 2 b2 (raw meta) b3 → Behind [] alive_layout 3 b3 (raw node) b4 → Behind [] alive_layout 4 b4 (number port) b5
+    → Behind [] alive_layout 5 b5 (raw vsn) rest
     → map_at alive_layout bytes ≡ read (alive_slots addr inc meta node port vsn) rest
-unfolding map_at pairs_at raw_text
+unfolding map_at pairs_at
 alive_map bytes b1 b2 b3 b4 b5 rest addr meta node vsn inc port first second third fourth fifth sixth =
     let out = alive_slots addr inc meta node port vsn in
-    let p5 = pairs_in_order alive_layout 0 _ 5 b5 sixth.0 rest (raw vsn) out rest alive_legal (omega arith) refl sixth.1 sixth.2 refl in
-    let p4 = pairs_in_order alive_layout 1 _ 4 b4 fifth.0 b5 (number port) out rest alive_legal (omega arith) refl fifth.1 fifth.2 p5 in
-    let p3 = pairs_in_order alive_layout 2 _ 3 b3 fourth.0 b4 (raw node) out rest alive_legal (omega arith) refl fourth.1 fourth.2 p4 in
-    let p2 = pairs_in_order alive_layout 3 _ 2 b2 third.0 b3 (raw meta) out rest alive_legal (omega arith) refl third.1 third.2 p3 in
-    let p1 = pairs_in_order alive_layout 4 _ 1 b1 second.0 b2 (number inc) out rest alive_legal (omega arith) refl second.1 second.2 p2 in
-    let start = 0xa4 ∷ 65 ∷ 100 ∷ 100 ∷ 114 ∷ first.0 in
-    let p0 = pairs_in_order alive_layout 5 no_slots 0 start first.0 b1 (raw addr) out rest alive_legal (omega arith) refl refl first.2 p1 in
+    let p5 = pairs_in_order alive_layout 0 _ 5 b5 rest (raw vsn) out rest alive_legal (omega arith) refl sixth refl in
+    let p4 = pairs_in_order alive_layout 1 _ 4 b4 b5 (number port) out rest alive_legal (omega arith) refl fifth p5 in
+    let p3 = pairs_in_order alive_layout 2 _ 3 b3 b4 (raw node) out rest alive_legal (omega arith) refl fourth p4 in
+    let p2 = pairs_in_order alive_layout 3 _ 2 b2 b3 (raw meta) out rest alive_legal (omega arith) refl third p3 in
+    let p1 = pairs_in_order alive_layout 4 _ 1 b1 b2 (number inc) out rest alive_legal (omega arith) refl second p2 in
+    let start = raw_text (key_in alive_layout 0) ++ first.0 in
+    let p0 = pairs_in_order alive_layout 5 no_slots 0 start b1 (raw addr) out rest alive_legal (omega arith) refl (first.0, refl, first.2) p1 in
     let count = count_again 6 (0x86 ∷ []) start 6 (omega arith) (counts.fixmap (omega arith) refl) in
     rw (first.1, count) p0
 
 -- a suspect or dead message behind its type byte
 pub accusation_map : (bytes b1 b2 rest from node : List ℕ) (inc : ℕ)
-    → Behind bytes (limits.Raw 1024) (0x83 ∷ 0xa4 ∷ 70 ∷ 114 ∷ 111 ∷ 109 ∷ []) (raw from) b1
-    → Behind b1 (limits.Number 0xffff_ffff) (0xab ∷ 73 ∷ 110 ∷ 99 ∷ 97 ∷ 114 ∷ 110 ∷ 97 ∷ 116 ∷ 105 ∷ 111 ∷ 110 ∷ []) (number inc) b2
-    → Behind b2 (limits.Raw 1024) (0xa4 ∷ 78 ∷ 111 ∷ 100 ∷ 101 ∷ []) (raw node) rest
+    → Behind (0x83 ∷ []) accusation_layout 0 bytes (raw from) b1 → Behind [] accusation_layout 1 b1 (number inc) b2
+    → Behind [] accusation_layout 2 b2 (raw node) rest
     → map_at accusation_layout bytes ≡ read (accusation_slots from inc node) rest
-unfolding map_at pairs_at raw_text
+unfolding map_at pairs_at
 accusation_map bytes b1 b2 rest from node inc first second third =
     let out = accusation_slots from inc node in
-    let p2 = pairs_in_order accusation_layout 0 _ 2 b2 third.0 rest (raw node) out rest accusation_legal (omega arith) refl third.1 third.2 refl in
-    let p1 = pairs_in_order accusation_layout 1 _ 1 b1 second.0 b2 (number inc) out rest accusation_legal (omega arith) refl second.1 second.2 p2 in
-    let start = 0xa4 ∷ 70 ∷ 114 ∷ 111 ∷ 109 ∷ first.0 in
-    let p0 = pairs_in_order accusation_layout 2 no_slots 0 start first.0 b1 (raw from) out rest accusation_legal (omega arith) refl refl first.2 p1 in
+    let p2 = pairs_in_order accusation_layout 0 _ 2 b2 rest (raw node) out rest accusation_legal (omega arith) refl third refl in
+    let p1 = pairs_in_order accusation_layout 1 _ 1 b1 b2 (number inc) out rest accusation_legal (omega arith) refl second p2 in
+    let start = raw_text (key_in accusation_layout 0) ++ first.0 in
+    let p0 = pairs_in_order accusation_layout 2 no_slots 0 start b1 (raw from) out rest accusation_legal (omega arith) refl (first.0, refl, first.2) p1 in
     let count = count_again 3 (0x83 ∷ []) start 3 (omega arith) (counts.fixmap (omega arith) refl) in
     rw (first.1, count) p0
 
 -- a header, type byte included
 pub header_map : (bytes b1 b2 rest : List ℕ) (join : Bool) (nodes user_len : ℕ)
-    → Behind bytes limits.Flag (6 ∷ 0x83 ∷ 0xa4 ∷ 74 ∷ 111 ∷ 105 ∷ 110 ∷ []) (flag join) b1
-    → Behind b1 (limits.Number 0xffff_ffff_ffff_ffff) (0xa5 ∷ 78 ∷ 111 ∷ 100 ∷ 101 ∷ 115 ∷ []) (number nodes) b2
-    → Behind b2 (limits.Number 0xffff_ffff_ffff_ffff) (0xac ∷ 85 ∷ 115 ∷ 101 ∷ 114 ∷ 83 ∷ 116 ∷ 97 ∷ 116 ∷ 101 ∷ 76 ∷ 101 ∷ 110 ∷ []) (number user_len) rest
+    → Behind (6 ∷ 0x83 ∷ []) header_layout 0 bytes (flag join) b1 → Behind [] header_layout 1 b1 (number nodes) b2
+    → Behind [] header_layout 2 b2 (number user_len) rest
     → (body : List ℕ) × (bytes ≡ 6 ∷ body) × (map_at header_layout body ≡ read (header_slots join nodes user_len) rest)
-unfolding map_at pairs_at raw_text
+unfolding map_at pairs_at
 header_map bytes b1 b2 rest join nodes user_len first second third =
     let out = header_slots join nodes user_len in
-    let p2 = pairs_in_order header_layout 0 _ 2 b2 third.0 rest (number user_len) out rest header_legal (omega arith) refl third.1 third.2 refl in
-    let p1 = pairs_in_order header_layout 1 _ 1 b1 second.0 b2 (number nodes) out rest header_legal (omega arith) refl second.1 second.2 p2 in
-    let start = 0xa4 ∷ 74 ∷ 111 ∷ 105 ∷ 110 ∷ first.0 in
-    let p0 = pairs_in_order header_layout 2 no_slots 0 start first.0 b1 (flag join) out rest header_legal (omega arith) refl refl first.2 p1 in
+    let p2 = pairs_in_order header_layout 0 _ 2 b2 rest (number user_len) out rest header_legal (omega arith) refl third refl in
+    let p1 = pairs_in_order header_layout 1 _ 1 b1 b2 (number nodes) out rest header_legal (omega arith) refl second p2 in
+    let start = raw_text (key_in header_layout 0) ++ first.0 in
+    let p0 = pairs_in_order header_layout 2 no_slots 0 start b1 (flag join) out rest header_legal (omega arith) refl (first.0, refl, first.2) p1 in
     let count = count_again 3 (0x83 ∷ []) start 3 (omega arith) (counts.fixmap (omega arith) refl) in
     (0x83 ∷ start, first.1, rw count p0)
 
