@@ -1,15 +1,11 @@
 -- Where a run was refused, and the exit status.
-use Rattle.std.specs.Prelude.{◌≡◌, ℕ, ◌<◌, Bool, false, ◌||◌, ◌==◌, Some, None, List, Err}
+use Rattle.std.specs.Prelude.{◌≡◌, ℕ, ◌<◌, Some, None, List, Err}
 use Rattle.hex.specs.declared.error.FromHexError.{FromHexError}
 use Rattle.hex.specs.declared.error.FromHexError.TheVariants.{OutOfMemory}
 use Rattle.swim_wire.specs.declared.fault.WireFault.{WireFault}
 use Rattle.swim_wire.specs.declared.fault.WireFault.TheVariants as wire
 use Rattle.swim_wire.specs.Datagrams.{whole_datagram}
 use Rattle.swim_wire.specs.Fault.{wire_number}
-use Rattle.swim_sync.specs.declared.fault.SyncFault.{SyncFault}
-use Rattle.swim_sync.specs.declared.fault.SyncFault.TheVariants as sync
-use Rattle.swim_sync.specs.declared.stop.Why.{Why}
-use Rattle.swim_sync.specs.declared.stop.Why.TheVariants as why
 use Rattle.swim_program.specs.declared.report.Place.{Place}
 use Rattle.swim_program.specs.declared.report.Place.TheVariants.{Line, File, Input, Output, Loop}
 use Rattle.swim_program.specs.declared.report.What.{What}
@@ -34,16 +30,6 @@ abbrev pub what_of_hex : FromHexError → What
 what_of_hex OutOfMemory = Memory
 what_of_hex error = Refused 30 None
 
--- the fault is that of an event that is refused: TooManyRecords, NoSuchNode or SameNode
-abbrev pub is_of_event : ℕ → Bool
-is_of_event number = (number == 23 || number == 26) || number == 27
-
--- it is no fault of an event, and none of a device
-abbrev pub IsOfReading : What → Type 0
-IsOfReading (Refused number found) = is_of_event number ≡ false
-IsOfReading Device = ⊥
-IsOfReading Memory = Unit {0}
-
 -- what is said of a message that is refused: an inlet that failed is a device
 abbrev pub what_of : WireFault → What
 what_of wire.Memory = Memory
@@ -56,17 +42,3 @@ what_of fault = Refused (wire_number fault) None
 abbrev pub TellsDatagram : List ℕ → What → Type 0
 TellsDatagram bytes what = (fault : WireFault) × (whole_datagram bytes ≡ Err fault)
     × (what ≡ what_of fault)
-
--- what is said of an exchange that is refused: an outlet that failed is a device
-abbrev pub what_of_sync : SyncFault → What
-what_of_sync (sync.Wire fault) = what_of fault
-what_of_sync sync.TooManyRecords = Refused 23 None
-what_of_sync sync.Push = Device
-what_of_sync sync.Memory = Memory
-
--- the fault of a stop
-abbrev pub what_of_why : Why → What
-what_of_why why.NoSuchNode = Refused 26 None
-what_of_why why.SameNode = Refused 27 None
-what_of_why why.TooManyRecords = Refused 23 None
-what_of_why why.Memory = Memory

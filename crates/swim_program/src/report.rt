@@ -3,13 +3,11 @@
 ghost use Rattle.std.specs.Prelude.{◌≡◌, None, length};
 ghost use Rattle.swim_claim.specs.Fault.{claim_number};
 ghost use Rattle.swim_program.specs.declared.report.What.TheVariants.{Refused, Memory};
-ghost use Rattle.swim_program.specs.Report.{IsAmong, status_of, what_of, what_of_hex, what_of_sync, what_of_why};
+ghost use Rattle.swim_program.specs.Report.{IsAmong, status_of, what_of, what_of_hex};
 
 use hex::FromHexError;
 use std::alloc::{AllocError, Global};
 use swim_claim::ClaimFault;
-use swim_sync::{SyncFault, Why};
-use swim_table::EncodeFault;
 use swim_wire::WireFault;
 
 /// Where a run was refused.
@@ -72,7 +70,7 @@ impl What {
     pub fn too_many_records() -> What
         ensures { result ≡ Refused 23 None }
     {
-        What::refused(EncodeFault::TooManyRecords.number())
+        What::refused(23)
     }
 
     /// A table whose canonical dump is too long to be sent to this process itself.
@@ -127,18 +125,6 @@ impl From<ClaimFault> for What {
     }
 }
 
-/// Why an event did not happen.
-impl From<Why> for What {
-    ghost from_gives = { λ why what. what ≡ what_of_why why };
-
-    fn from(why: Why) -> What {
-        match why {
-            Why::Memory => What::Memory,
-            _ => What::refused(why.number()),
-        }
-    }
-}
-
 impl From<WireFault> for What {
     ghost from_gives = { λ fault what. what ≡ what_of fault };
 
@@ -155,20 +141,6 @@ impl From<WireFault> for What {
                 found: Some(found),
             },
             _ => What::refused(fault.number()),
-        }
-    }
-}
-
-/// Why an exchange was refused.
-impl From<SyncFault> for What {
-    ghost from_gives = { λ fault what. what ≡ what_of_sync fault };
-
-    fn from(fault: SyncFault) -> What {
-        match fault {
-            SyncFault::Wire(fault) => What::from(fault),
-            SyncFault::TooManyRecords => What::too_many_records(),
-            SyncFault::Push => What::Device,
-            SyncFault::Memory => What::Memory,
         }
     }
 }

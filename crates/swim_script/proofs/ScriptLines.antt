@@ -12,7 +12,8 @@ use Rattle.swim_claim.specs.Fault.{claim_number}
 use Rattle.swim_wire.specs.declared.fault.WireFault.{WireFault}
 use Rattle.swim_wire.specs.declared.fault.WireFault.TheVariants as wire
 use Rattle.swim_program.specs.declared.report.What.TheVariants.{Refused}
-use Rattle.swim_program.specs.Report.{IsOfReading, what_of, what_of_hex}
+use Rattle.swim_program.specs.Report.{what_of, what_of_hex}
+use Rattle.swim_script.specs.Refusals.{IsOfReading}
 use Rattle.swim_sync.specs.declared.event.Event.{Event}
 use Rattle.swim_sync.specs.declared.event.Event.TheVariants.{Exchange, Half, Refute}
 use Rattle.swim_wire.specs.Packet.{PacketValue}

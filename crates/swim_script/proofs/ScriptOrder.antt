@@ -20,16 +20,20 @@ follows_last nodes count (line ∷ lines) levelled own = (refl, inr (inr (own.0,
 
 follows_events : (nodes : Bool) (count : ℕ) (lines last : List (List ℕ)) (told levelled : List Event) → EventLines lines told
     → LastLine count last levelled → Follows nodes false (lines ++ last)
-follows_events nodes count [] last told levelled each own = follows_last nodes count last levelled own
-follows_events nodes count (line ∷ lines) last told levelled each own =
-    (refl, inr (inl ((each.0, each.2), follows_events false count lines last each.1 levelled each.3 own)))
+follows_events nodes count [] last [] levelled each own = follows_last nodes count last levelled own
+follows_events nodes count [] last (event ∷ told) levelled each own = absurd each
+follows_events nodes count (line ∷ lines) last [] levelled each own = absurd each
+follows_events nodes count (line ∷ lines) last (event ∷ told) levelled each own =
+    (refl, inr (inl ((event, each.0), follows_events false count lines last told levelled each.1 own)))
 
 follows_nodes : (count : ℕ) (first lines last : List (List ℕ)) (starts : List Start) (told levelled : List Event)
     → NodeLines first starts → EventLines lines told → LastLine count last levelled
     → Follows true false (first ++ (lines ++ last))
-follows_nodes count [] lines last starts told levelled nodes each own = follows_events true count lines last told levelled each own
-follows_nodes count (line ∷ first) lines last starts told levelled nodes each own =
-    (refl, inl (refl, (nodes.0, nodes.2), follows_nodes count first lines last nodes.1 told levelled nodes.3 each own))
+follows_nodes count [] lines last [] told levelled nodes each own = follows_events true count lines last told levelled each own
+follows_nodes count [] lines last (start ∷ starts) told levelled nodes each own = absurd nodes
+follows_nodes count (line ∷ first) lines last [] told levelled nodes each own = absurd nodes
+follows_nodes count (line ∷ first) lines last (start ∷ starts) told levelled nodes each own =
+    (refl, inl (refl, (start, nodes.0), follows_nodes count first lines last starts told levelled nodes.1 each own))
 
 -- a script is lines that may follow from the start on
 pub script_follows : (lines : List (List ℕ)) (starts : List Start) (events : List Event)

@@ -1,6 +1,7 @@
 -- What was read of a script, line by line.
 use Rattle.std.proofs.Common.{◌≡◌, ◌≢◌, ℕ, zero, suc, ◌+◌, ◌<◌, ◌≤◌, Bool, true, false, List, [], ◌∷◌, ◌++◌, Option, Some, None, is_some, length, map, take, drop, get_or, Bor, refl, sym, ap, ap₂, subst, ◌∙◌, append_assoc, append-nil, eqb-true, ne_eqb, arith}
 use Rattle.std.proofs.lemmas.List.Splits.{length-slice_split}
+use Rattle.std.proofs.lemmas.Slice.Zip.{AllZip-long, all_zipped_more}
 use Rattle.std.proofs.lemmas.List.Sums.{count_by-le-length}
 use Rattle.std.proofs.lemmas.List.FromFn.{length-enumerate_from, get_or-enumerate_from}
 use Rattle.std.proofs.lemmas.List.{length-append, length-map, map-append}
@@ -12,7 +13,7 @@ use Rattle.swim_sync.specs.Levels.{level_list}
 use Rattle.swim_table.specs.Node.{NodeValue}
 use Rattle.swim_script.specs.declared.script.Plan.{Plan}
 use Rattle.swim_script.specs.declared.script_line.Line.TheVariants as line
-use Rattle.swim_script.specs.Script.{Start, IsStarted, AreStarted, NodeWords, EventWords, LevelWords, NodeLines, EventLines, LastLine, ScriptOf, Script, not_empty, script_lines, words}
+use Rattle.swim_script.specs.Script.{Start, IsStarted, AreStarted, LevelWords, NodeLine, NodeLines, EventLine, EventLines, LastLine, ScriptOf, Script, not_empty, script_lines, words}
 use Rattle.swim_script.specs.Refusals.{RefusesLine, IsFirstWrongLine}
 use Rattle.swim_program.specs.Lines.{input_lines}
 use Rattle.swim_program.specs.declared.report.What.{What}
@@ -48,37 +49,13 @@ nothing_read plan nodes events lines level = record {
   event_lines = [];
   last = [];
   whole = refl;
-  started = subst (λ n. AreStarted n []) (sym nodes) refl;
-  nodes = refl;
-  each = events;
+  started = subst (λ n. AreStarted n []) (sym nodes) tt;
+  nodes = tt;
+  each = subst (EventLines []) (sym events) tt;
   ends = subst (EndsWith []) (sym level) refl;
   count = ap length lines ∙ sym (ap length events);
   follows = λ rest f. subst (λ e. Follows (length e == 0) (is_some plan.level) rest) (sym events) (subst (λ o. Follows true (is_some o) rest) (sym level) f);
 }
-
--- one node more
-started_push : (nodes : List NodeValue) (starts : List Start) (node : NodeValue) (start : Start) → AreStarted nodes starts
-    → IsStarted node start → AreStarted (nodes ++ node ∷ []) (starts ++ start ∷ [])
-started_push [] starts node start each own = (start, [], own, refl, ap (λ s. s ++ start ∷ []) each)
-started_push (first ∷ nodes) starts node start each own =
-    (each.0, each.1 ++ start ∷ [], each.2, started_push nodes each.1 node start each.3 own, ap (λ s. s ++ start ∷ []) each.4)
-
-node_lines_push : (lines : List (List ℕ)) (starts : List Start) (line : List ℕ) (start : Start) → NodeLines lines starts
-    → NodeWords (words line) start → NodeLines (lines ++ line ∷ []) (starts ++ start ∷ [])
-node_lines_push [] starts line start each own = (start, [], own, refl, ap (λ s. s ++ start ∷ []) each)
-node_lines_push (first ∷ lines) starts line start each own =
-    (each.0, each.1 ++ start ∷ [], each.2, node_lines_push lines each.1 line start each.3 own, ap (λ s. s ++ start ∷ []) each.4)
-
-event_lines_push : (lines : List (List ℕ)) (events : List Event) (line : List ℕ) (event : Event) → EventLines lines events
-    → EventWords (words line) event → EventLines (lines ++ line ∷ []) (events ++ event ∷ [])
-event_lines_push [] events line event each own = (event, [], own, refl, ap (λ s. s ++ event ∷ []) each)
-event_lines_push (first ∷ lines) events line event each own =
-    (each.0, each.1 ++ event ∷ [], each.2, event_lines_push lines each.1 line event each.3 own, ap (λ s. s ++ event ∷ []) each.4)
-
--- no event has no line
-no_event_lines : (lines : List (List ℕ)) (events : List Event) → EventLines lines events → length events ≡ 0 → lines ≡ []
-no_event_lines [] events each none = refl
-no_event_lines (line ∷ lines) events each none = absurd (omega (arith, none, ap length each.4))
 
 not_empty_append : (lines others : List (List ℕ)) → not_empty (lines ++ others) ≡ not_empty lines ++ not_empty others
 not_empty_append [] others = refl
@@ -114,7 +91,8 @@ pub read_node_line : (lines : List (List ℕ)) (text : List ℕ) (starts : List 
     → WasRead (lines ++ text ∷ []) (starts ++ spelled.1 ∷ []) new
 read_node_line lines text starts number old new node was unended spelled added =
     let none : length old.events.items ≡ 0 = eqb-true (length old.events.items) 0 spelled.0 in
-    let no_events : was.event_lines ≡ [] = no_event_lines was.event_lines old.events.items was.each none in
+    let no_events : was.event_lines ≡ [] =
+    nil_of_length was.event_lines (sym (AllZip-long EventLine was.event_lines old.events.items was.each) ∙ none) in
     let no_last : was.last ≡ [] = subst (EndsWith was.last) unended was.ends in
     let all = was.whole ∙ only_nodes was.node_lines was.event_lines was.last no_events no_last in
     let level = added.2 ∙ unended in
@@ -123,9 +101,11 @@ read_node_line lines text starts number old new node was unended spelled added =
       event_lines = [];
       last = [];
       whole = ap (λ l. l ++ text ∷ []) all ∙ sym (only_nodes (was.node_lines ++ text ∷ []) [] [] refl refl);
-      started = subst (λ n. AreStarted n (starts ++ spelled.1 ∷ [])) (sym added.0) (started_push old.nodes.items starts node spelled.1 was.started spelled.3);
-      nodes = node_lines_push was.node_lines starts text spelled.1 was.nodes spelled.2;
-      each = added.1 ∙ nil_of_length old.events.items none;
+      started =
+          subst (λ n. AreStarted n (starts ++ spelled.1 ∷ [])) (sym added.0)
+          (all_zipped_more IsStarted old.nodes.items starts node spelled.1 was.started spelled.3);
+      nodes = all_zipped_more NodeLine was.node_lines starts text spelled.1 was.nodes spelled.2;
+      each = subst (EventLines []) (sym (added.1 ∙ nil_of_length old.events.items none)) tt;
       ends = subst (EndsWith []) (sym level) refl;
       count = ap length added.3 ∙ was.count ∙ sym (ap length added.1);
       follows = λ rest f.
@@ -155,7 +135,7 @@ read_event_line lines text starts number old new event was unended spelled added
           ∙ sym (append-nil (was.node_lines ++ (was.event_lines ++ text ∷ [])));
       started = subst (λ n. AreStarted n starts) (sym added.0) was.started;
       nodes = was.nodes;
-      each = subst (EventLines (was.event_lines ++ text ∷ [])) (sym added.1) (event_lines_push was.event_lines old.events.items text event was.each spelled);
+      each = subst (EventLines (was.event_lines ++ text ∷ [])) (sym added.1) (all_zipped_more EventLine was.event_lines old.events.items text event was.each spelled);
       ends = subst (EndsWith []) (sym level) refl;
       count =
           ap length added.3 ∙ length-append old.lines.items (number ∷ []) ∙ ap (λ n. n + 1) was.count
@@ -198,8 +178,7 @@ read_level_line lines text starts number old new was unended spelled added =
 -- ---- all lines
 
 started_length : (nodes : List NodeValue) (starts : List Start) → AreStarted nodes starts → length nodes ≡ length starts
-started_length [] starts each = sym (ap length each)
-started_length (node ∷ nodes) starts each = ap suc (started_length nodes each.1 each.3) ∙ sym (ap length each.4)
+started_length nodes starts each = sym (AllZip-long IsStarted nodes starts each)
 
 spelled_whole : (lines node_lines event_lines last : List (List ℕ)) (starts : List Start) (events : List Event) (level : Option ℕ) (count : ℕ)
     → script_lines lines ≡ node_lines ++ event_lines ++ last → NodeLines node_lines starts → EventLines event_lines events
@@ -359,10 +338,6 @@ few_kept [] = omega arith
 few_kept ([] ∷ lines) = omega (arith, few_kept lines)
 few_kept ((byte ∷ bytes) ∷ lines) = omega (arith, few_kept lines)
 
-few_starts : (lines : List (List ℕ)) (starts : List Start) → NodeLines lines starts → length starts ≡ length lines
-few_starts [] starts each = ap length each
-few_starts (line ∷ lines) starts each = ap length each.4 ∙ ap suc (few_starts lines each.1 each.3)
-
 -- no more than there are bytes, and one
 pub few_nodes : (input : List ℕ) (nodes : List NodeValue) (starts : List Start) (events : List Event)
     → AreStarted nodes starts → Script input starts events → length nodes ≤ length input + 1
@@ -380,6 +355,6 @@ few_nodes input nodes starts events started script =
       length-map (input_lines input) strip_carriage_return,
       length-slice_split (λ b. b == 10) input,
       count_by-le-length (λ b. b == 10) input,
-      few_starts script.node_lines starts script.nodes,
+      AllZip-long NodeLine script.node_lines starts script.nodes,
       started_length nodes starts started,
     )

@@ -1,6 +1,6 @@
 -- Why a line is refused, and what is said of it. Words are read from left to right, and the first
 -- that is wrong counts.
-use Rattle.std.specs.Prelude.{◌≡◌, ◌≢◌, ◌⊎◌, ℕ, ◌+◌, ◌<◌, ◌≤◌, Bool, true, List, [], ◌∷◌, ◌++◌, None, length, codes, ◌==◌}
+use Rattle.std.specs.Prelude.{◌≡◌, ◌≢◌, ◌⊎◌, ℕ, ◌+◌, ◌<◌, ◌≤◌, Bool, true, false, ◌||◌, List, [], ◌∷◌, ◌++◌, None, length, codes, ◌==◌}
 use Rattle.std.specs.Str.Lines.{strip_carriage_return}
 use Rattle.percent_encoding.specs.Percent.{percent_decode}
 use Rattle.swim_claim.specs.Details.{DetailsValue, IsAddress, IsVersions}
@@ -10,12 +10,24 @@ use Rattle.swim_sync.specs.declared.event.Event.{Event}
 use Rattle.swim_program.specs.declared.report.Place.{Place}
 use Rattle.swim_program.specs.declared.report.Place.TheVariants.{Line}
 use Rattle.swim_program.specs.declared.report.What.{What}
-use Rattle.swim_program.specs.declared.report.What.TheVariants.{Refused}
+use Rattle.swim_program.specs.declared.report.What.TheVariants.{Refused, Device, Memory}
 use Rattle.swim_program.specs.Lines.{input_lines}
 use Rattle.swim_program.specs.Report.{TellsDatagram}
 use Rattle.swim_script.specs.declared.keyword.Keyword.{Keyword}
 use Rattle.swim_script.specs.declared.keyword.Keyword.TheVariants as key
 use Rattle.swim_script.specs.Script.{Start, Decimal, HexBytes, NodeNumber, ScriptOf, words}
+
+-- ---- which faults
+
+-- the fault is that of an event that is refused: TooManyRecords, NoSuchNode or SameNode
+abbrev pub is_of_event : ℕ → Bool
+is_of_event number = (number == 23 || number == 26) || number == 27
+
+-- it is no fault of an event, and none of a device
+abbrev pub IsOfReading : What → Type 0
+IsOfReading (Refused number found) = is_of_event number ≡ false
+IsOfReading Device = ⊥
+IsOfReading Memory = Unit {0}
 
 -- ---- one word
 

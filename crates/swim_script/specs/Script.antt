@@ -1,6 +1,6 @@
 -- Scripts: which lines spell which nodes and which events.
 use Rattle.std.specs.Prelude.{◌≡◌, ℕ, ◌+◌, ◌<◌, ◌≤◌, ◌⊎◌, List, [], ◌∷◌, ◌++◌, length, map, Ok, codes, ◌==◌}
-use Rattle.std.specs.List.{slice_split}
+use Rattle.std.specs.List.{AllZip, slice_split}
 use Rattle.std.specs.Str.Lines.{strip_carriage_return}
 use Rattle.std.specs.Str.Parse.{IsNumeral, digits_value}
 use Rattle.hex.specs.Hex.{decode_of}
@@ -66,9 +66,7 @@ IsStarted node start = (node.name ≡ start.name) × (node.details ≡ start.det
 
 -- so is each node, in their order
 abbrev pub AreStarted : List NodeValue → List Start → Type 0
-AreStarted [] starts = starts ≡ []
-AreStarted (node ∷ nodes) starts = (start : Start) × (rest : List Start) × IsStarted node start
-    × AreStarted nodes rest × (starts ≡ start ∷ rest)
+AreStarted nodes starts = AllZip IsStarted nodes starts
 
 -- The words after `node` tell who the node is.
 pub record NodeFields (name_word addr_word port_word meta_word vsn_word inc_word : List ℕ)
@@ -127,19 +125,21 @@ not_empty ((byte ∷ bytes) ∷ lines) = (byte ∷ bytes) ∷ not_empty lines
 abbrev pub script_lines : List (List ℕ) → List (List ℕ)
 script_lines lines = not_empty (map strip_carriage_return lines)
 
+-- the line tells of this node
+abbrev pub NodeLine : List ℕ → Start → Type 0
+NodeLine line start = NodeWords (words line) start
+
 -- each line tells of one node
 abbrev pub NodeLines : List (List ℕ) → List Start → Type 0
-NodeLines [] starts = starts ≡ []
-NodeLines (line ∷ lines) starts =
-    (start : Start) × (rest : List Start) × NodeWords (words line) start × NodeLines lines rest
-    × (starts ≡ start ∷ rest)
+NodeLines lines starts = AllZip NodeLine lines starts
+
+-- the line tells of this event
+abbrev pub EventLine : List ℕ → Event → Type 0
+EventLine line event = EventWords (words line) event
 
 -- each line tells of one event
 abbrev pub EventLines : List (List ℕ) → List Event → Type 0
-EventLines [] events = events ≡ []
-EventLines (line ∷ lines) events =
-    (event : Event) × (rest : List Event) × EventWords (words line) event × EventLines lines rest
-    × (events ≡ event ∷ rest)
+EventLines lines events = AllZip EventLine lines events
 
 -- nothing, or one line that levels so many nodes
 abbrev pub LastLine : ℕ → List (List ℕ) → List Event → Type 0

@@ -3,8 +3,8 @@
 ghost use Rattle.std.specs.Prelude.{◌≡◌, ◌≢◌, ◌↔◌, ◌<◌, ◌≤◌, [], List, length, None, IfOk, IfErr, OnOk};
 ghost use Rattle.swim_program.specs.Limits.{most_bytes};
 ghost use Rattle.swim_program.specs.Lines.{input_lines};
-ghost use Rattle.swim_program.specs.Report.{IsAmong, IsOfReading};
-ghost use Rattle.swim_script.specs.Refusals.{IsFirstWrongLine};
+ghost use Rattle.swim_program.specs.Report.{IsAmong};
+ghost use Rattle.swim_script.specs.Refusals.{IsFirstWrongLine, IsOfReading};
 ghost use Rattle.swim_script.specs.Script.{Script, Start, AreStarted};
 ghost use Rattle.swim_script.specs.ScriptReading.{Adds, AreNumbered, TakesLine, IsOutOfPlace, RefusesNext, plan_events};
 

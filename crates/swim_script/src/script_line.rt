@@ -2,8 +2,8 @@
 
 ghost use Rattle.std.specs.Prelude.{◌≡◌, ◌≢◌, ◌∷◌, ℕ, List, map, codes, IfOk, IfErr};
 ghost use Rattle.swim_sync.specs.declared.event.Event.{Event};
-ghost use Rattle.swim_program.specs.Report.{IsOfReading, TellsDatagram};
-ghost use Rattle.swim_script.specs.Refusals.{RefusesNode, RefusesHear, RefusesEvent, RefusesWords};
+ghost use Rattle.swim_program.specs.Report.{TellsDatagram};
+ghost use Rattle.swim_script.specs.Refusals.{IsOfReading, RefusesNode, RefusesHear, RefusesEvent, RefusesWords};
 ghost use Rattle.swim_script.specs.Script.{Start, IsStarted, NodeWords, EventWords, HearsBytes, NodeNumber, words};
 ghost use Rattle.swim_script.specs.ScriptReading.{OneNumber, SpellsLine, SpellsNothing, TwoNumbers, word_of};
 

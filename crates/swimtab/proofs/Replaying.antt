@@ -1,8 +1,9 @@
 -- Runs of the events of a script, and what is shown of the nodes.
-use Rattle.std.proofs.Common.{◌≡◌, ◌≢◌, ℕ, zero, suc, ◌+◌, ◌<◌, Option, Some, None, List, [], ◌∷◌, ◌++◌, length, map, take, get_or, refl, sym, ap, subst, ◌∙◌, arith, length-append, append-nil}
+use Rattle.std.proofs.Common.{◌≡◌, ◌≢◌, ℕ, zero, suc, ◌+◌, ◌<◌, Option, Some, None, List, [], ◌∷◌, ◌++◌, length, map, take, get_or, refl, sym, ap, ap₂, subst, ◌∙◌, arith, length-append, append-nil}
 use Rattle.std.specs.Prelude.{slice_get}
 use Rattle.std.proofs.Math.Seq.{take-append-add}
-use Rattle.std.proofs.lemmas.List.{append_assoc, take_more, take-append-le, length-take-le}
+use Rattle.std.proofs.lemmas.List.{append_assoc, length-map, take_more, take-append-le, length-take-le}
+use Rattle.std.proofs.lemmas.Slice.Zip.{AllZip-long}
 use Rattle.swim_claim.specs.declared.claim.Claim.{Claim}
 use Rattle.swim_table.specs.Listing.{listing}
 use Rattle.swim_table.specs.Node.{NodeValue}
@@ -20,10 +21,10 @@ use Rattle.swim_sync.proofs.Levelling.{get-front, get-back}
 use Rattle.swim_program.specs.declared.report.Report.{Report}
 use Rattle.swim_program.specs.declared.report.What.TheVariants.{Memory}
 use Rattle.swim_program.specs.Lines.{input_lines}
-use Rattle.swim_program.specs.Report.{what_of_why}
+use Rattle.swimtab.specs.Faults.{what_of_why}
 use Rattle.swimtab.specs.Replay.{IsOfEvent, node_line, shown_from, EachTable, heard_after, Replays, Refuses, RefusedEvent, StopsSo}
 use Rattle.swim_script.specs.ScriptReading.{AreNumbered, plan_events}
-use Rattle.swim_script.specs.Script.{Start, Script, ComesWith, AreStarted, started_member, start_claims}
+use Rattle.swim_script.specs.Script.{Start, Script, ComesWith, IsStarted, AreStarted, started_member, start_claims}
 use Rattle.swim_script.proofs.ScriptNumbers.{event_line_past}
 
 -- ---- stops of a run in two parts
@@ -105,24 +106,23 @@ some_same : {X : Type 0} (x y : X) → Some x ≡ Some y → x ≡ y
 some_same x y same = cc (same)
 
 pub started_members : (nodes : List NodeValue) (starts : List Start) → AreStarted nodes starts → members_of nodes ≡ map started_member starts
-started_members [] starts are = sym (ap (map started_member) are)
-started_members (node ∷ nodes) starts are =
-    let same : node_member node ≡ started_member are.0 = (λ i. record { name = are.2.0 i; details = are.2.1 i }) in
-    ap (λ (m : Member). m ∷ members_of nodes) same
-    ∙ ap (λ (l : List Member). started_member are.0 ∷ l) (started_members nodes are.1 are.3) ∙ sym (ap (map started_member) are.4)
+started_members [] [] are = refl
+started_members [] (start ∷ starts) are = absurd are
+started_members (node ∷ nodes) [] are = absurd are
+started_members (node ∷ nodes) (start ∷ starts) are =
+    let same : node_member node ≡ started_member start = (λ i. record { name = are.0.0 i; details = are.0.1 i }) in
+    ap₂ (λ (m : Member) (l : List Member). m ∷ l) same (started_members nodes starts are.1)
 
 started_at : (nodes : List NodeValue) (starts : List Start) → AreStarted nodes starts → (k : ℕ) (node : NodeValue) → slice_get nodes k ≡ Some node
     → TableOf node.table (heard_by (map start_claims starts) k)
 started_at [] starts are k node at = absurd (let no = at in cc (no))
-started_at (first ∷ nodes) starts are zero node at =
-    subst (λ (l : List Start). TableOf node.table (heard_by (map start_claims l) 0)) (sym are.4)
-    (subst (λ (n : NodeValue). TableOf n.table (start_claims are.0)) (some_same first node at) are.2.2)
-started_at (first ∷ nodes) starts are (suc k) node at =
-    subst (λ (l : List Start). TableOf node.table (heard_by (map start_claims l) (suc k))) (sym are.4) (started_at nodes are.1 are.3 k node at)
+started_at (first ∷ nodes) [] are k node at = absurd are
+started_at (first ∷ nodes) (start ∷ starts) are zero node at =
+    subst (λ (n : NodeValue). TableOf n.table (start_claims start)) (some_same first node at) are.0.2
+started_at (first ∷ nodes) (start ∷ starts) are (suc k) node at = started_at nodes starts are.1 k node at
 
 started_number : (nodes : List NodeValue) (starts : List Start) → AreStarted nodes starts → length (map start_claims starts) ≡ length nodes
-started_number [] starts are = ap (λ (l : List Start). length (map start_claims l)) are
-started_number (node ∷ nodes) starts are = ap (λ (l : List Start). length (map start_claims l)) are.4 ∙ ap suc (started_number nodes are.1 are.3)
+started_number nodes starts are = length-map starts start_claims ∙ AllZip-long IsStarted nodes starts are
 
 pub started_tables : (nodes : List NodeValue) (starts : List Start) → AreStarted nodes starts → TablesOf nodes (map start_claims starts)
 started_tables nodes starts are = record { number = started_number nodes starts are; each = started_at nodes starts are }
@@ -130,16 +130,11 @@ started_tables nodes starts are = record { number = started_number nodes starts 
 -- ---- the tables at the end
 
 pub each_table : (nodes : List NodeValue) (lists : List (List Claim)) → TablesOf nodes lists → EachTable (map (λ n. n.table) nodes) lists
-each_table [] [] h = refl
+each_table [] [] h = tt
 each_table [] (claims ∷ rest) h = (let number = h.number in absurd (omega (arith, number)))
 each_table (node ∷ nodes) [] h = (let number = h.number in absurd (omega (arith, number)))
-each_table (node ∷ nodes) (claims ∷ rest) h = (
-  claims,
-  rest,
-  h.each 0 node refl,
-  each_table nodes rest (record { number = (let number = h.number in omega (arith, number)); each = λ k other at. h.each (suc k) other at }),
-  refl,
-)
+each_table (node ∷ nodes) (claims ∷ rest) h =
+    (h.each 0 node refl, each_table nodes rest (record { number = (let number = h.number in omega (arith, number)); each = λ k other at. h.each (suc k) other at }))
 
 -- what the nodes have heard
 tables_after : (nodes new : List NodeValue) (starts : List Start) (events : List Event) → AreStarted nodes starts

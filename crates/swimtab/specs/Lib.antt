@@ -1,4 +1,5 @@
 pub mod Chosen
+pub mod Faults
 pub mod Files
 pub mod Lines
 pub mod Looping

@@ -3,6 +3,7 @@ use Rattle.std.specs.Prelude.{◌≡◌, ◌⊎◌, ◌↔◌, ◌<◌, ◌≤�
 use Rattle.swim_claim.specs.declared.claim.Claim.{Claim}
 use Rattle.swim_program.specs.Limits.{most_bytes}
 use Rattle.swim_wire.specs.declared.fault.WireFault.{WireFault}
+use Rattle.swim_wire.specs.Streams.{StreamText}
 use Rattle.swim_table.specs.Dump.{dump_bytes}
 use Rattle.swim_table.specs.Listing.{listing}
 use Rattle.swim_table.specs.Table.{Entries, Reduced, TableOf}
@@ -35,13 +36,16 @@ pub data IsLoopRefused (file : List ℕ) (what : What) : Type 0 where
       → what ≡ Refused 28 None → IsLoopRefused file what
   memory : length file ≤ most_bytes → what ≡ Memory → IsLoopRefused file what
 
--- The table took these claims in, and lost none of its own.
+-- The table took in these claims, which are those of a stream, and lost none of its own.
 pub record TakesIn (before after : Entries) (claims : List Claim) : Type 0 where
+  pub text : List ℕ
+  pub join : Bool
+  pub stream : StreamText text claims join
   pub reduced : TableOf after (Reduced before ++ claims)
   pub all : (known : List Claim) → TableOf before known → TableOf after (known ++ claims)
 
--- Each of two tables took some claims in; the text lists the first, and the flag is whether both
--- are equal.
+-- Each of two tables took in the claims of a stream; the text lists the first, and the flag is whether
+-- both are equal.
 pub record IsLooped (first second : Entries) (text : List ℕ) (equal : Bool) : Type 0 where
   pub claims : List Claim
   pub others : List Claim

@@ -1,5 +1,6 @@
 -- What a script shows: for each node its number, and the listing of the table of what it has heard.
 use Rattle.std.specs.Prelude.{◌≡◌, ℕ, ◌+◌, true, Option, Some, None, List, [], ◌∷◌, ◌++◌, codes, decimal, length, map, take, slice_get}
+use Rattle.std.specs.List.{AllZip}
 use Rattle.swim_claim.specs.declared.claim.Claim.{Claim}
 use Rattle.swim_table.specs.Listing.{listing}
 use Rattle.swim_table.specs.Node.{NodeValue}
@@ -14,9 +15,10 @@ use Rattle.swim_program.specs.declared.report.Report.{Report}
 use Rattle.swim_program.specs.declared.report.What.{What}
 use Rattle.swim_program.specs.declared.report.What.TheVariants.{Refused, Device, Memory}
 use Rattle.swim_program.specs.Lines.{input_lines}
-use Rattle.swim_program.specs.Report.{is_of_event, what_of_why}
+use Rattle.swim_script.specs.Refusals.{is_of_event}
 use Rattle.swim_script.specs.Script.{Start, Script, ComesWith, started_member, start_claims}
 use Rattle.swim_script.specs.ScriptReading.{event_line}
+use Rattle.swimtab.specs.Faults.{what_of_why}
 
 -- the line with a node's number
 abbrev pub node_line : ℕ → List ℕ
@@ -29,10 +31,7 @@ shown_from k (table ∷ tables) = node_line k ++ listing table ++ shown_from (k 
 
 -- each table is that of its list
 abbrev pub EachTable : List Entries → List (List Claim) → Type 0
-EachTable [] lists = lists ≡ []
-EachTable (table ∷ tables) lists =
-    (claims : List Claim) × (rest : List (List Claim)) × TableOf table claims
-    × EachTable tables rest × (lists ≡ claims ∷ rest)
+EachTable tables lists = AllZip TableOf tables lists
 
 -- what each node has heard after the events
 abbrev pub heard_after : List Start → List Event → List (List Claim)

@@ -1,6 +1,6 @@
 //! Exchanging two tables over one connection, in one process.
 
-ghost use Rattle.std.specs.Prelude.{◌≡◌, ◌↔◌, ◌<◌, List, length, None, IfOk, IfErr, OnOk};
+ghost use Rattle.std.specs.Prelude.{◌≡◌, ◌≢◌, ◌↔◌, ◌<◌, List, length, None, IfOk, IfErr, OnOk};
 ghost use Rattle.swim_claim.specs.declared.claim.Claim.{Claim};
 ghost use Rattle.swim_program.specs.Limits.{most_bytes};
 ghost use Rattle.swim_wire.specs.declared.fault.WireFault.{WireFault};
@@ -8,6 +8,7 @@ ghost use Rattle.swimtab.specs.Looping.{FitsLoop, IsLoopTable, IsLoopRefused, Ta
 ghost use Rattle.swim_program.specs.Report.{IsAmong, what_of};
 
 use crate::dumps::{check_length, table_of_file};
+use crate::fault::what_of_sync;
 use std::alloc::{AllocError, Global};
 use std::io;
 use std::io::{Error, ErrorKind};
@@ -15,7 +16,7 @@ use std::net::{Ipv4Addr, TcpListener, TcpStream};
 use std::time::{Clock, Duration, Instant};
 use swim_pack::{FromRead, ToWrite};
 use swim_program::{Place, Report, Until, What};
-use swim_sync::{answer, finish, offer};
+use swim_sync::{SyncFault, answer, finish, offer};
 use swim_table::{EncodeFault, Relation, Table, encode, list, relation};
 
 /// The most bytes of a canonical dump that is sent over a connection of this process to itself.
@@ -88,8 +89,8 @@ pub fn looped(
     requires first { FitsLoop first }
     requires second { FitsLoop second }
 
-    // A contract cannot say which bytes come over a socket: each table took some claims in, and
-    // lost none.
+    // A socket does not tell its bytes: each table took in the claims of some stream, and neither
+    // lost any.
     ensures loops { IfOk result (λ ended. IsLooped first second ended.0.items ended.1) }
 
     ensures stops { IfErr result IsLoopStopped }
@@ -151,13 +152,32 @@ fn exchange_over_socket<C: Clock>(
     ensures second { OnOk result ((claims : List Claim) × TakesIn second.old second.new claims) }
     ensures stops { IfErr result (λ what. (fault : WireFault) × (what ≡ what_of fault)) }
 {
-    let alloc = rt.alloc();
     let (near, far, end) = match connect(rt, clock, listener, patience) {
         Ok(connected) => connected,
         Err(_) => return Err(What::Device),
     };
     let near = Until::new(&near, clock, end);
     let far = Until::new(&far, clock, end);
+    match exchange_between(rt.alloc(), near, far, first, second) {
+        Ok(()) => Ok(()),
+        Err(fault) => Err(what_of_sync(fault)),
+    }
+}
+
+/// Exchanges two tables over both ends of a connection. The first one offers.
+fn exchange_between<C: Clock>(
+    alloc: Global,
+    near: Until<'_, C>,
+    far: Until<'_, C>,
+    first: &mut Table,
+    second: &mut Table,
+) -> Result<(), SyncFault>
+    requires first { FitsLoop first.old }
+    requires second { FitsLoop second.old }
+    ensures first { OnOk result ((claims : List Claim) × TakesIn first.old first.new claims) }
+    ensures second { OnOk result ((claims : List Claim) × TakesIn second.old second.new claims) }
+    ensures few { IfErr result (λ fault. fault ≢ SyncFault.TooManyRecords) }
+{
     offer(alloc, &mut ToWrite::new(near.again()), first, false)?;
     answer(
         alloc,

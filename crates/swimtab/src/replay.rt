@@ -11,6 +11,7 @@ ghost use Rattle.swim_script.specs.Refusals.{IsFirstWrongLine};
 ghost use Rattle.swim_script.specs.Script.{Script, Start};
 ghost use Rattle.swim_script.specs.ScriptReading.{plan_events};
 
+use crate::fault::what_of_why;
 use itoa::Buffer;
 use std::alloc::{AllocError, Global};
 use swim_program::{Place, Report, What};
@@ -71,7 +72,7 @@ fn played(alloc: Global, plan: Plan) -> Result<Cluster, Report>
     } = plan;
     let mut cluster = Cluster::new(alloc, nodes);
     if let Err(stop) = cluster.run(&events) {
-        return Err(What::from(stop.why).at(Place::Line(lines[stop.done])));
+        return Err(what_of_why(stop.why).at(Place::Line(lines[stop.done])));
     }
     match level {
         Some(line) => levelled(cluster, line),
@@ -89,7 +90,7 @@ fn levelled(mut cluster: Cluster, line: u64) -> Result<Cluster, Report>
 {
     match cluster.level() {
         Ok(()) => Ok(cluster),
-        Err(stop) => Err(What::from(stop.why).at(Place::Line(line))),
+        Err(stop) => Err(what_of_why(stop.why).at(Place::Line(line))),
     }
 }
 

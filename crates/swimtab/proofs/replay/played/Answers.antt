@@ -16,7 +16,7 @@ returns-in-Err-clause-stops c =
       c.in-Err.stop,
       c.index.result.now,
       stopped_in_plan c.args.plan.nodes.items c.run.new.self c.args.plan.events.items (length c.args.plan.nodes.items) c.args.plan.level c.in-Err.stop stopped,
-      ap (λ (r : Report). r.what) c.at.ensures ∙ c.from.ensures,
+      ap (λ (r : Report). r.what) c.at.ensures ∙ c.what_of_why.ensures,
       event_line_within c.args.plan.lines.items c.args.plan.level c.in-Err.stop.done c.index.result.now (omega (arith, stopped.before, c.requires.lines))
           ∙ ap (λ (n : ℕ). Some n) (sym c.index.ensures),
       ap (λ (r : Report). r.place) c.at.ensures,
