@@ -1,11 +1,11 @@
 -- A keyring opens bytes to one message.
 use Rattle.std.proofs.Common.{◌≡◌, ◌∙◌, ℕ, suc, List, [], ◌∷◌, ◌++◌, get_or, drop, refl, sym, ap, subst, arith}
 use Rattle.std.specs.List.{Contains}
-use Rattle.std.proofs.lemmas.List.Elements.{Contains-append_right}
 use Rattle.memberlist_cipher.specs.Encryption.{Encryption, StreamEncryption}
 use Rattle.memberlist_cipher.proofs.Once.{one_message, one_stream_message}
-use Rattle.memberlist_keyring.specs.Opening.{IsFirst, OpensFirst, OpensStream, OpensStreamFirst}
+use Rattle.memberlist_keyring.specs.Opening.{IsFirst, OpensFirstAs, OpensFirst, OpensStream, OpensStreamFirst}
 use Rattle.memberlist_cipher.proofs.Labels.{one_label}
+use Rattle.memberlist_keyring.proofs.Openings.{first_opens}
 
 -- of two keys that open something and before which none does, each is the other
 same_key : (Opened : List ℕ → List ℕ → Type 0) (b : List (List ℕ)) (k : List ℕ) (a c : List (List ℕ)) (l : List ℕ)
@@ -29,28 +29,20 @@ one_first Opened keys x y one p q =
     let same = same_key Opened p.before p.key p.after q.before q.key q.after x y (sym p.parts ∙ q.parts) p.earlier q.earlier p.opened q.opened in
     one q.key x y (subst (λ z. Opened z x) same p.opened) q.opened
 
-pub one_opened : (keys : List (List ℕ)) (bytes x y : List ℕ) → OpensFirst keys bytes x → OpensFirst keys bytes y → x ≡ y
-one_opened keys bytes x y p q =
+-- where one key opens bytes to one message, so do keys in one order
+one_opened_as : (E : List ℕ → List ℕ → List ℕ → List ℕ → Type 0) → ((key label bytes m n : List ℕ) → E key label bytes m → E key label bytes n → m ≡ n)
+    → (keys : List (List ℕ)) (bytes x y : List ℕ) → OpensFirstAs E keys bytes x → OpensFirstAs E keys bytes y → x ≡ y
+one_opened_as E same keys bytes x y p q =
     let one = one_label bytes p.label p.rest q.label q.rest p.labelled q.labelled in
-    let P : List ℕ → List ℕ → Type 0 = λ l r. IsFirst (λ key inner. Encryption key l r inner) keys x in
-    one_first (λ key inner. Encryption key q.label q.rest inner) keys x y (λ k m n. one_message k q.label q.rest m n)
+    let P : List ℕ → List ℕ → Type 0 = λ l r. IsFirst (λ key inner. E key l r inner) keys x in
+    one_first (λ key inner. E key q.label q.rest inner) keys x y (λ k m n. same k q.label q.rest m n)
     (subst (λ r. P q.label r) one.1 (subst (λ l. P l p.rest) one.0 p.first)) q.first
+
+pub one_opened : (keys : List (List ℕ)) (bytes x y : List ℕ) → OpensFirst keys bytes x → OpensFirst keys bytes y → x ≡ y
+one_opened = one_opened_as Encryption one_message
 
 pub one_opened_stream : (keys : List (List ℕ)) (bytes x y : List ℕ) → OpensStreamFirst keys bytes x → OpensStreamFirst keys bytes y → x ≡ y
-one_opened_stream keys bytes x y p q =
-    let one = one_label bytes p.label p.rest q.label q.rest p.labelled q.labelled in
-    let P : List ℕ → List ℕ → Type 0 = λ l r. IsFirst (λ key inner. StreamEncryption key l r inner) keys x in
-    one_first (λ key inner. StreamEncryption key q.label q.rest inner) keys x y (λ k m n. one_stream_message k q.label q.rest m n)
-    (subst (λ r. P q.label r) one.1 (subst (λ l. P l p.rest) one.0 p.first)) q.first
+one_opened_stream = one_opened_as StreamEncryption one_stream_message
 
 pub opens_stream : (keys : List (List ℕ)) (bytes x : List ℕ) → OpensStreamFirst keys bytes x → OpensStream keys bytes x
-opens_stream keys bytes x p = record {
-  label = p.label;
-  rest = p.rest;
-  labelled = p.labelled;
-  key = p.first.key;
-  ours =
-      subst (λ ks. Contains ks p.first.key) (sym p.first.parts)
-      (Contains-append_right p.first.before (p.first.key ∷ p.first.after) p.first.key (0, omega arith, refl));
-  encryption = p.first.opened;
-}
+opens_stream = first_opens StreamEncryption

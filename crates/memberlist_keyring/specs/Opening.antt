@@ -4,24 +4,25 @@ use Rattle.std.specs.List.{Contains}
 use Rattle.memberlist_cipher.specs.Encryption.{Encryption, StreamEncryption}
 use Rattle.memberlist_cipher.specs.Label.{IsLabelled}
 
+-- Behind their label the bytes encrypt the message under one of the keys, by the cipher's
+-- definition of a packet or of a stream.
+pub record OpensAs (Encrypts : List ℕ → List ℕ → List ℕ → List ℕ → Type 0) (keys : List (List ℕ))
+    (bytes message : List ℕ) : Type 0 where
+  pub label : List ℕ
+  pub rest : List ℕ
+  pub labelled : IsLabelled bytes label rest
+  pub key : List ℕ
+  pub ours : Contains keys key
+  pub encryption : Encrypts key label rest message
+
 -- The packet is, behind its label, an encryption of this message under one of the keys; the label
 -- is associated.
-pub record Opens (keys : List (List ℕ)) (bytes message : List ℕ) : Type 0 where
-  pub label : List ℕ
-  pub rest : List ℕ
-  pub labelled : IsLabelled bytes label rest
-  pub key : List ℕ
-  pub ours : Contains keys key
-  pub encryption : Encryption key label rest message
+abbrev pub Opens : List (List ℕ) → List ℕ → List ℕ → Type 0
+Opens keys bytes message = OpensAs Encryption keys bytes message
 
 -- The stream is, behind its label, an encrypted stream with this message under one of the keys.
-pub record OpensStream (keys : List (List ℕ)) (bytes message : List ℕ) : Type 0 where
-  pub label : List ℕ
-  pub rest : List ℕ
-  pub labelled : IsLabelled bytes label rest
-  pub key : List ℕ
-  pub ours : Contains keys key
-  pub encryption : StreamEncryption key label rest message
+abbrev pub OpensStream : List (List ℕ) → List ℕ → List ℕ → Type 0
+OpensStream keys bytes message = OpensAs StreamEncryption keys bytes message
 
 -- The message is that of the first of the keys that open it.
 pub record IsFirst (Opened : List ℕ → List ℕ → Type 0) (keys : List (List ℕ)) (message : List ℕ)
@@ -33,20 +34,22 @@ pub record IsFirst (Opened : List ℕ → List ℕ → Type 0) (keys : List (Lis
   pub earlier : (k : List ℕ) → Contains before k → (m : List ℕ) → ¬ Opened k m
   pub opened : Opened key message
 
--- The packet is, behind its label, an encryption of this message under the first key under which it
--- is one of any.
-pub record OpensFirst (keys : List (List ℕ)) (bytes message : List ℕ) : Type 0 where
+-- Behind their label the bytes encrypt the message under the first key under which they encrypt
+-- any.
+pub record OpensFirstAs (Encrypts : List ℕ → List ℕ → List ℕ → List ℕ → Type 0)
+    (keys : List (List ℕ)) (bytes message : List ℕ) : Type 0 where
   pub label : List ℕ
   pub rest : List ℕ
   pub labelled : IsLabelled bytes label rest
-  pub first : IsFirst (λ key m. Encryption key label rest m) keys message
+  pub first : IsFirst (λ key m. Encrypts key label rest m) keys message
+
+-- the message of a packet, under the first key that opens it
+abbrev pub OpensFirst : List (List ℕ) → List ℕ → List ℕ → Type 0
+OpensFirst keys bytes message = OpensFirstAs Encryption keys bytes message
 
 -- the same of a stream
-pub record OpensStreamFirst (keys : List (List ℕ)) (bytes message : List ℕ) : Type 0 where
-  pub label : List ℕ
-  pub rest : List ℕ
-  pub labelled : IsLabelled bytes label rest
-  pub first : IsFirst (λ key m. StreamEncryption key label rest m) keys message
+abbrev pub OpensStreamFirst : List (List ℕ) → List ℕ → List ℕ → Type 0
+OpensStreamFirst keys bytes message = OpensFirstAs StreamEncryption keys bytes message
 
 -- behind this label, or bare if that is empty, the bytes are a stream that opens to the message
 abbrev pub OpensReplyFirst : List (List ℕ) → List ℕ → List ℕ → List ℕ → Type 0

@@ -2,6 +2,7 @@
 
 ghost use Rattle.std.specs.Prelude.{◌≡◌, ◌≢◌, ℕ, List, IfOk, IfErr, IsErrOf};
 ghost use Rattle.std.specs.List.{Contains};
+ghost use Rattle.memberlist_cipher.specs.declared.fault.CipherFault.{CipherFault};
 ghost use Rattle.memberlist_cipher.specs.declared.fault.CipherFault.TheVariants.{Memory};
 ghost use Rattle.memberlist_cipher.specs.Encryption.{Encryption, StreamEncryption};
 ghost use Rattle.memberlist_cipher.specs.Refusal.{PacketCause, StreamCause};
@@ -11,54 +12,76 @@ ghost use Rattle.memberlist_keyring.specs.Opening.{IsFirst};
 use memberlist_cipher::{CipherFault, Key};
 use std::alloc::Global;
 
-/// The message that is encrypted under one of the keys, the first that opens it.
-pub(crate) fn try_keys(
-    alloc: Global,
-    keys: &[Key],
-    label: &[u8],
-    rest: &[u8],
-) -> Result<Vec<u8>, CipherFault>
-    ensures opens { IfOk result (λ message.
-        IsFirst (λ key m. Encryption key label.now rest.now m) keys.now message.items) }
-    ensures lacks { IfErr result (λ fault. fault ≢ Memory → (key : List ℕ) → Contains keys.now key
-        → (message : List ℕ) → ¬ Encryption key label.now rest.now message) }
-    ensures explains { IfErr result (λ fault. fault ≢ Memory
-        → IsFaultOfKeys (λ f key. PacketCause f key label.now rest.now) keys.now fault) }
-    ensures memory { IsErrOf result Memory → (key : List ℕ) × Contains keys.now key
-        × PacketCause Memory key label.now rest.now }
-{
-    let mut last = CipherFault::WrongTag;
-    for key in keys {
-        match key.decrypt(alloc, label, rest) {
-            Ok(message) => return Ok(message),
-            Err(fault) => match fault {
-                CipherFault::Memory => return Err(fault),
-                _ => last = fault,
-            },
-        }
-    }
-    Err(last)
+/// What is encrypted: packets or streams.
+pub(crate) trait Encrypted {
+    /// Under the key and with the label, the bytes are an encryption of the message.
+    ghost encrypts: { List ℕ → List ℕ → List ℕ → List ℕ → Type 0 };
+
+    /// Why the bytes are refused, under the key and with the label.
+    ghost causes: { CipherFault → List ℕ → List ℕ → List ℕ → Type 0 };
+
+    /// The message of the bytes behind the label.
+    fn decrypt(alloc: Global, key: &Key, label: &[u8], bytes: &[u8]) -> Result<Vec<u8>, CipherFault>
+        ensures opens { IfOk result (λ message.
+            encrypts key.now label.now bytes.now message.items) }
+        ensures lacks { IfErr result (λ fault. fault ≢ Memory → (message : List ℕ)
+            → ¬ encrypts key.now label.now bytes.now message) }
+        ensures refuses { IfErr result (λ fault. causes fault key.now label.now bytes.now) };
 }
 
-/// The message of the stream that is encrypted under one of the keys, the first that opens it.
-pub(crate) fn try_keys_of_stream(
+pub(crate) struct Packet;
+
+impl Encrypted for Packet {
+    ghost encrypts = { Encryption };
+
+    ghost causes = { PacketCause };
+
+    fn decrypt(
+        alloc: Global,
+        key: &Key,
+        label: &[u8],
+        bytes: &[u8],
+    ) -> Result<Vec<u8>, CipherFault> {
+        key.decrypt(alloc, label, bytes)
+    }
+}
+
+pub(crate) struct Stream;
+
+impl Encrypted for Stream {
+    ghost encrypts = { StreamEncryption };
+
+    ghost causes = { StreamCause };
+
+    fn decrypt(
+        alloc: Global,
+        key: &Key,
+        label: &[u8],
+        bytes: &[u8],
+    ) -> Result<Vec<u8>, CipherFault> {
+        key.decrypt_stream(alloc, label, bytes)
+    }
+}
+
+/// The message of what is encrypted under one of the keys, the first that opens it.
+pub(crate) fn try_keys<E: Encrypted>(
     alloc: Global,
     keys: &[Key],
     label: &[u8],
     rest: &[u8],
 ) -> Result<Vec<u8>, CipherFault>
     ensures opens { IfOk result (λ message.
-        IsFirst (λ key m. StreamEncryption key label.now rest.now m) keys.now message.items) }
+        IsFirst (λ key m. E.encrypts key label.now rest.now m) keys.now message.items) }
     ensures lacks { IfErr result (λ fault. fault ≢ Memory → (key : List ℕ) → Contains keys.now key
-        → (message : List ℕ) → ¬ StreamEncryption key label.now rest.now message) }
+        → (message : List ℕ) → ¬ E.encrypts key label.now rest.now message) }
     ensures explains { IfErr result (λ fault. fault ≢ Memory
-        → IsFaultOfKeys (λ f key. StreamCause f key label.now rest.now) keys.now fault) }
+        → IsFaultOfKeys (λ f key. E.causes f key label.now rest.now) keys.now fault) }
     ensures memory { IsErrOf result Memory → (key : List ℕ) × Contains keys.now key
-        × StreamCause Memory key label.now rest.now }
+        × E.causes Memory key label.now rest.now }
 {
     let mut last = CipherFault::WrongTag;
     for key in keys {
-        match key.decrypt_stream(alloc, label, rest) {
+        match E::decrypt(alloc, key, label, rest) {
             Ok(message) => return Ok(message),
             Err(fault) => match fault {
                 CipherFault::Memory => return Err(fault),

@@ -1,26 +1,29 @@
 use Rattle.std.proofs.Common.{◌∙◌}
 use Rattle.std.proofs.lemmas.Result.{IfOk-weaker}
+use Rattle.memberlist_cipher.specs.Encryption.{Encryption}
 use Rattle.memberlist_cipher.specs.Refusal.{PacketCause}
-use Rattle.memberlist_keyring.proofs.Openings.{packet_opens, packet_first, packet_lacks, refused, asks}
+use Rattle.memberlist_keyring.proofs.Labels.{encrypted_is_bare}
+use Rattle.memberlist_keyring.proofs.Openings.{opens_first, first_opens, opens_none, refused, asks}
 use Rattle.memberlist_keyring.proofs.keyring.Keyring.open.Goals as goal
 
 pub returns-clause-opens : goal.returns-clause-opens
 returns-clause-opens c =
     IfOk-weaker c.try_keys.result _ _
-    (λ message h. packet_opens c.args.self.now c.deref.result.now c.args.bytes.now _ _ message.items
-    (c.deref.ensures.value ∙ c.self.view_is) c.cut_label.ensures h)
+    (λ message h. first_opens Encryption _ _ message.items
+    (opens_first Encryption encrypted_is_bare c.args.self.now c.deref.result.now c.args.bytes.now _ _ message.items
+    (c.deref.ensures.value ∙ c.self.view_is) c.cut_label.ensures h))
     c.try_keys.ensures.opens
 
 pub returns-clause-first : goal.returns-clause-first
 returns-clause-first c =
     IfOk-weaker c.try_keys.result _ _
-    (λ message h. packet_first c.args.self.now c.deref.result.now c.args.bytes.now _ _ message.items
+    (λ message h. opens_first Encryption encrypted_is_bare c.args.self.now c.deref.result.now c.args.bytes.now _ _ message.items
     (c.deref.ensures.value ∙ c.self.view_is) c.cut_label.ensures h)
     c.try_keys.ensures.opens
 
 pub returns-clause-lacks : goal.returns-clause-lacks
 returns-clause-lacks c =
-    packet_lacks c.try_keys.result c.args.self.now c.deref.result.now c.args.bytes.now _ _ (c.deref.ensures.value ∙ c.self.view_is) c.cut_label.ensures
+    opens_none Encryption c.try_keys.result c.args.self.now c.deref.result.now c.args.bytes.now _ _ (c.deref.ensures.value ∙ c.self.view_is) c.cut_label.ensures
     c.try_keys.ensures.lacks
 
 pub returns-clause-explains : goal.returns-clause-explains
