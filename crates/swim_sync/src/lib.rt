@@ -26,7 +26,6 @@ pub use cluster::Cluster;
 pub use event::{Claims, Event};
 pub use fault::SyncFault;
 pub use push_pull::{
-    PreparedAnswer, ReadOffer, answer, exchange, finish, offer, prepare_answer, read_offer,
-    room_for_both,
+    PreparedAnswer, answer, exchange, finish, offer, prepare_answer, room_for_both,
 };
 pub use stop::{Stop, Why};

@@ -16,7 +16,7 @@ ghost use Rattle.swim_sync.specs.Exchanging.{HasTooMany, TakesStream, ReadsOffer
 use crate::fault::SyncFault;
 use std::alloc::Global;
 use swim_pack::{Inlet, Outlet};
-use swim_table::{MOST_RECORDS, Room, Table, dump_len, encode, read_dump, read_stream};
+use swim_table::{MOST_RECORDS, Room, Table, encode, read_dump, read_stream};
 
 /// Offers a table: writes its canonical dump, with this join flag, by one push. With this a member
 /// begins an exchange (memberlist's `net.go`).
@@ -143,49 +143,6 @@ pub fn prepare_answer<I: Inlet>(
         reply,
         offered,
         room,
-    })
-}
-
-/// An offer that was read.
-#[derive(Drop, Debug)]
-pub struct ReadOffer {
-    /// The join flag of the offer, and of the reply.
-    pub join: bool,
-    /// The table of the offer's claims.
-    pub table: Table,
-    /// How many bytes the reply has.
-    pub reply_len: usize,
-}
-
-/// Reads an offer, one stream, and tells how long the reply of the member with this table is, for
-/// one that writes it itself. No memory is asked for the reply. Bytes after the stream stay in the
-/// inlet.
-///
-/// # Errors
-///
-/// Those of [`prepare_answer`].
-pub fn read_offer<I: Inlet>(
-    alloc: Global,
-    inlet: &mut I,
-    table: &Table,
-) -> Result<ReadOffer, SyncFault>
-    ensures reads { IfOk result (λ offer.
-        ReadsOffer (I.seen inlet.old) (I.seen inlet.new) offer.table offer.join) }
-    ensures len { IfOk result (λ offer.
-        offer.reply_len ≡ length (dump_bytes table.now offer.join)) }
-    ensures too_many { HasTooMany table.now → IsErr result }
-
-    // What a refusal leaves, and why it came.
-    ensures rest { Skips (I.seen inlet.old).coming (I.seen inlet.new).coming }
-    ensures refused { IfErr result
-        (IsPrepareRefused (I.seen inlet.old) (I.seen inlet.new) table.now) }
-{
-    let (offered, join) = read_stream(alloc, inlet)?;
-    let reply_len = dump_len(table, join)?;
-    Ok(ReadOffer {
-        join,
-        table: offered,
-        reply_len,
     })
 }
 
