@@ -1,4 +1,4 @@
--- Where a read of a message asks for memory.
+-- Where a read of a message requests memory.
 use Rattle.std.proofs.Common.{◌≡◌, ◌≢◌, inl, inr, ℕ, zero, suc, ◌-◌, ◌<◌, ◌≤◌, Bool, true, false, cond, List, [], ◌∷◌, ◌++◌, length, Option, Some, None, Result, Ok, Err, refl, sym, ap, subst, ◌∙◌, append_assoc, append-nil, arith}
 use Rattle.std.specs.Prelude.{IfSome, slice_index_or, ⊤}
 use Rattle.std.specs.Str.{bytes_eq}
@@ -34,13 +34,13 @@ use Rattle.swim_wire.proofs.Readings.{read, read_value, read_rest, parts_to, the
 abbrev refused : (X : Type 0) → WireFault → Result X WireFault
 refused X fault = Err fault
 
--- a fault is the same whatever there would have been without it
+-- a fault is the same whatever the result would have been without it
 pub same_fault : {X Y : Type 0} (fault wanted : WireFault) → refused X fault ≡ refused X wanted → refused Y fault ≡ refused Y wanted
 same_fault {X} {Y} fault wanted is =
     let same : fault ≡ wanted = cc in
     ap (refused Y) same
 
--- where what is left asks, so does what there was
+-- if the remaining bytes request memory, so do the original ones
 pub Reads-asks : {E X V : Type 0} {cause : E → Cause} {view : X → V} {reading : composing.Reading E V} {a b : Source} {x : X} (P Q : List ℕ → Type 0)
     → ((bytes rest : List ℕ) → reading bytes ≡ Ok (view x, rest) → Q rest → P bytes)
     → ReadsAs cause view reading a b (Ok x) → IfSome b.coming Q → IfSome a.coming P
@@ -76,7 +76,7 @@ key_step layout place bytes rest e asks =
       text = parts_to key.text key.parts known.1;
     }
 
--- a key, and behind it a value that asks
+-- a key, then a value that requests memory
 pub pair_asks : {a b : Source} (fields : List Field) (place : ℕ) (d : Field) → place < length fields
     → ReadsAs {X = ℕ} wire_cause same (key_at (layout_of fields)) a b (Ok place)
     → IfSome b.coming (ValueAsks (let field = slice_index_or fields place d in field.limit))
@@ -85,7 +85,7 @@ pair_asks {b} fields place d within h asks =
     let there : IfSome b.coming (ValueAsks (limit_at (layout_of fields) place)) = rw (limit_is fields place d within) asks in
     Reads-asks (PairAsks (layout_of fields)) (ValueAsks (limit_at (layout_of fields) place)) (key_step (layout_of fields) place) h there
 
--- the first of at least one pair asks
+-- the first of at least one pair requests memory
 pub first_asks : (layout : Layout) (left : ℕ) (known : Option (List ℕ)) → 0 < left → IfSome known (PairAsks layout) → IfSome known (PairsAsk layout left)
 first_asks layout zero known pos h = absurd (omega arith)
 first_asks layout (suc left) None pos h = tt
@@ -99,7 +99,7 @@ pair_step layout (suc left) slots out bytes rest pos e asks =
     let t = pair_takes layout slots bytes out rest e in
     inr (t.text, rest, t.pair, t.is, subst (λ (n : ℕ). PairsAsk layout n rest) one asks, t.parts)
 
--- one behind the first asks
+-- one after the first requests memory
 pub later_asks : {X : Type 0} {view : X → Slots} {x : X} {a b : Source} (layout : Layout) (left : ℕ) (slots : Slots) → 0 < left
     → ReadsAs wire_cause view (pair_at layout slots) a b (Ok x)
     → IfSome b.coming (PairsAsk layout (left - 1)) → IfSome a.coming (PairsAsk layout left)
@@ -113,12 +113,12 @@ count_step layout max n same bytes rest e asks =
     let few = t.is.0 in
     record { n = n; few = omega (arith, few, same); count_text = t.text; rest = rest; count = t.is.1; pairs = asks; text = t.parts }
 
--- one of the pairs of a map asks
+-- one of the pairs of a map requests memory
 pub map_asks : {a b : Source} {n : ℕ} (layout : Layout) (max : ℕ) → length layout ≡ max
     → ReadsAs {X = ℕ} cause_of same (count_at max) a b (Ok n) → IfSome b.coming (PairsAsk layout n) → IfSome a.coming (MapAsks layout)
 map_asks {n} layout max is h asks = Reads-asks (MapAsks layout) (PairsAsk layout n) (count_step layout max n is) h asks
 
--- ---- what is spelled asks
+-- texts that request memory
 
 spelled_asks : (limit : Limit) (b rest s : List ℕ) → Spells limit b (raw s) → ValueAsks limit (b ++ rest)
 spelled_asks (limits.Number max) b rest s is = absurd is
@@ -172,14 +172,14 @@ MapText-asks layout b rest key s pairs text e = record {
   text = ap (λ (t : List ℕ). t ++ rest) text.text ∙ append_assoc text.count_text text.pairs_text rest;
 }
 
--- a value of text or bytes that is not empty stands there
+-- there is a value of text or bytes that is not empty
 raw_there : (o : Option Spelled) → raw_or_empty o ≢ [] → (s : List ℕ) × (o ≡ Some (raw s))
 raw_there None some = absurd (some refl)
 raw_there (Some (number v)) some = absurd (some refl)
 raw_there (Some (raw s)) some = (s, refl)
 raw_there (Some (flag f)) some = absurd (some refl)
 
--- so does one in which a value is not empty
+-- so does one with a non-empty value
 slot_asks : (layout : Layout) (place : ℕ) (bytes rest more : List ℕ) (slots : Slots) → IsLegalLayout layout → place < length layout
     → map_at layout bytes ≡ read slots rest → raw_in slots place ≢ [] → MapAsks layout (bytes ++ more)
 slot_asks layout place bytes rest more slots legal inside e some =
@@ -221,7 +221,7 @@ type_step [] rest found e = absurd cc
 type_step (first ∷ bytes) rest found e =
     ap (λ (n : ℕ). n ∷ bytes) (read_value first found bytes rest e) ∙ ap (λ (b : List ℕ). found ∷ b) (read_rest first found bytes rest e)
 
--- behind the type byte
+-- after the type byte
 pub type_asks : {a b : Source} (found : ℕ) (Q : List ℕ → Type 0) → ((rest : List ℕ) → Q rest → PacketAsks (found ∷ rest))
     → ReadsAs {X = ℕ} wire_cause same (lift fault_of_pack next_byte) a b (Ok found) → IfSome b.coming Q → IfSome a.coming PacketAsks
 type_asks found Q more h asks =
@@ -232,7 +232,7 @@ named_asks layout m key pairs text named =
     let there = raw_there (of_key (key_text key) pairs) named in
     subst (MapAsks layout) (append-nil m) (MapText-asks layout m [] (key_text key) there.0 pairs text there.1)
 
--- each packet asks for memory, since it has a name
+-- each packet requests memory, since it has a name
 pub PacketText-asks : (b : List ℕ) (p : PacketValue) → PacketText b p → PacketAsks b
 PacketText-asks b p (alive m pairs is text named details made) =
     packet_asks b m 4 is (inl (refl, named_asks alive_layout m keys.Node pairs text named))

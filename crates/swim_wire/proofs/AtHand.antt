@@ -1,4 +1,4 @@
--- What is read of the bytes at hand and then passed over is read of the inlet.
+-- What is read from the bytes at hand, which are then skipped, is read from the inlet.
 use Rattle.std.proofs.Common.{◌≡◌, ℕ, ◌+◌, List, ◌++◌, length, drop, Option, Some, None, Ok, sym, ap, ◌∙◌, append_assoc, arith}
 use Rattle.std.proofs.lemmas.List.{drop_at, length-append}
 use Rattle.std.specs.Io.KnownBytes.{Consumes}
@@ -12,7 +12,7 @@ use Rattle.swim_wire.specs.Reading.{Reading, wire_cause, state_at, header_at}
 use Rattle.swim_wire.proofs.Prompt.{prompt-state, prompt-header}
 use Rattle.swim_wire.proofs.Readings.{read}
 
--- a reading that takes no more than settles what it gives
+-- a reading that consumes only what determines its result
 passed_over : {X : Type 0} {reading : Reading X} → IsPrompt wire_cause reading
     → (old new : Source) (hand rest : List ℕ) (x : X) (n : ℕ) → Begins old.coming hand → reading hand ≡ read x rest
     → n + length rest ≡ length hand → Passes old new n

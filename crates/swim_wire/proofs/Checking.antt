@@ -1,4 +1,4 @@
--- What the checks of a message as a whole let through, and what they refuse.
+-- What the checks of a message as a whole accept, and what they refuse.
 use Rattle.std.proofs.Common.{◌≡◌, ◌≢◌, ◌⊎◌, ℕ, Bool, true, false, cond, ◌||◌, eqb, List, [], ◌∷◌, length, Result, Ok, Err, refl, ap, arith}
 use Rattle.std.proofs.lemmas.Bool.Decides.{nat_tests}
 use Rattle.swim_claim.specs.Details.{DetailsValue, IsAddress, IsVersions}

@@ -1,4 +1,4 @@
--- What the checks of a message as a whole answer, and of which messages they answer it.
+-- What the checks of a message as a whole return, and for which messages.
 use Rattle.std.proofs.Common.{◌≡◌, inl, inr, ℕ, eqb, ltb, ◌||◌, List, [], ◌∷◌, length, Result, Ok, Err, refl, ap, sym, ◌∙◌}
 use Rattle.std.specs.Prelude.{IfErr}
 use Rattle.swim_claim.specs.declared.claim.Claim.{Claim}
@@ -83,14 +83,14 @@ memory_cause error is =
     let same : error ≡ Memory = cc in
     ap wire_cause same
 
--- so what needs none is not refused for want of memory
+-- so a check that needs no memory is not refused with `Memory`
 pub no_memory : {A : Type 0} (wanted result : Result A WireFault) → IsCheck wanted → result ≡ wanted → ¬ (result ≡ Err Memory)
 no_memory (Ok x) result check e is = cc
 no_memory {A} (Err error) result check e is =
     let same : err A error ≡ err A Memory = sym e ∙ is in
     bytes≢memory (sym (memory_cause error same) ∙ check.by)
 
--- ---- what the slots of a map say
+-- what the slots of a map mean
 
 pub alive_said : (slots : Slots) (alive : Alive) → SaysAlive slots alive → alive_of (slots_of_alive alive) ≡ alive_of slots
 alive_said slots alive says = rw (says.addr, says.incarnation, says.meta, says.node, says.port, says.vsn) refl

@@ -1,4 +1,4 @@
--- A message that makes no claim is read where its bytes are one, and each such message is read.
+-- Bytes are read as a message that makes no claim exactly if they are one.
 use Rattle.std.proofs.Common.{◌≡◌, ◌≢◌, ℕ, List, [], ◌∷◌, length, inl, inr, Option, Some, None, Result, Ok, Err, IfOk, IfErr, refl, sym, ap, subst, ◌∙◌, append-nil, true, eqb, eqb-true}
 use Rattle.swim_wire.specs.declared.claimless.Claimless.{Claimless}
 use Rattle.swim_wire.specs.declared.claimless.Claimless.TheVariants.{Ping, IndirectPing, Ack, User, Nack, Error}
@@ -29,7 +29,7 @@ map_read_again layout b legal text =
     let a = map_again layout b text.0 [] legal text.1 in
     (a.0, ap nothing_after (ap (map_at layout) (sym (append-nil b)) ∙ a.1))
 
--- ---- what stands behind the first byte
+-- what follows the first byte
 
 body_taken : (kind : Claimless) (body : List ℕ) (slots : Slots) → whole_body kind body ≡ passed slots → BodyText body kind
 body_taken Ping body slots e = map_taken (claimless_layout (length body) Ping) body slots (claimless_legal (length body) Ping) e

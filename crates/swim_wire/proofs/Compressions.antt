@@ -21,7 +21,7 @@ use Rattle.swim_wire.proofs.Checking.{passed, failed}
 same_packed : (limit : ℕ) (pairs : Pairs) (slots : Slots) → HoldsSlots (compression_layout limit) pairs slots → raw_in slots 1 ≡ raw_of keys.Buf pairs
 same_packed limit pairs slots holds = let buf : slot slots 1 ≡ of_key (key_text keys.Buf) pairs = holds 1 (omega arith) in ap raw_or_empty buf
 
--- what a map of a compression that was read is a text of
+-- the map of a compression that was read is a text of these
 record Taken (limit : ℕ) (bytes packed rest : List ℕ) : Type 0 where
   b : List ℕ
   pairs : Pairs

@@ -1,4 +1,4 @@
--- Why bytes are no datagram.
+-- Why bytes are not a datagram.
 use Rattle.std.proofs.Common.{◌≡◌, ◌≢◌, ◌⊎◌, inl, inr, ⊎_elim, ℕ, zero, suc, false, eqb, List, [], ◌∷◌, ◌++◌, length, map, flat_map, Result, Ok, Err, refl, sym, ap, subst, ◌∙◌, eqb-true, arith}
 use Rattle.std.proofs.lemmas.Bool.Decides.{nat_tests}
 use Rattle.std.specs.Int.{w16, to_be_bytes, from_be_bytes}
@@ -156,7 +156,7 @@ by_reading Trailing bytes other h = absurd h
 by_reading Memory bytes other h = absurd (other refl)
 by_reading error bytes other h = tt
 
--- a part that is a packet by its first byte is of no wrong type
+-- a part that is a packet by its first byte does not have a wrong type
 no_wrong_type : (found : ℕ) (part : List ℕ) → IsPacketPart part → ¬ ExplainsWhole (WrongType found) part
 no_wrong_type found [] type h = absurd type
 no_wrong_type found (first ∷ rest) type h =

@@ -22,9 +22,9 @@ use Rattle.swim_wire.proofs.Readings.{read, read_value, read_rest, then_ok, part
 use Rattle.swim_wire.proofs.Checking.{passed, failed, split, checked_ok}
 use Rattle.swim_wire.proofs.PacketTexts.{whole_takes, whole_again}
 
--- ---- bytes at the front
+-- bytes at the start
 
--- so many bytes were taken
+-- this many bytes were consumed
 pub bytes_takes : (n : ℕ) (bytes s rest : List ℕ) → lift fault_of_pack (next_bytes n) bytes ≡ read s rest → (length s ≡ n) × (bytes ≡ s ++ rest)
 bytes_takes n bytes s rest e = by (ltb (length bytes) n) refl e
   where
@@ -144,7 +144,7 @@ part_takes (first ∷ rest) packets e =
     (λ t own. let p = alone_ok (whole_packet (first ∷ rest)) packets own in inl (p.0, whole_takes (first ∷ rest) p.0 p.1, p.2))
     (λ t none. inr (type_is_not first t, sym (list_is [] packets none))) e
 
--- a packet begins with its type
+-- a packet starts with its type
 pub begins : (b : List ℕ) (p : PacketValue) → PacketText b p → (first : ℕ) × (rest : List ℕ) × (b ≡ first ∷ rest) ×
     (eqb first 7 ≡ false) × ((first ≡ 3) ⊎ (first ≡ 4) ⊎ (first ≡ 5))
 begins b p (alive m pairs type text named legal is) = (4, m, type, refl, inr (inl refl))
@@ -171,7 +171,7 @@ part_again (first ∷ rest) packets (inr other) = passed_over first rest other.0
 
 -- ---- the parts
 
--- parts were read, and their packets are behind the ones before
+-- parts were read, and their packets are after the ones before
 record PartsTaken (lens : List ℕ) (packets : List PacketValue) (bytes : List ℕ) (out : List PacketValue) (rest : List ℕ) : Type 0 where
   parts : List (List ℕ)
   more : List PacketValue
@@ -311,7 +311,7 @@ datagram_takes (first ∷ bytes) packets are e =
     taken seven (Ok (ps, byte ∷ rest)) at own = absurd cc
     taken seven (Err error) at own = absurd cc
 
--- a datagram that does not begin with 7
+-- a datagram that does not start with 7
 one_packet : (first : ℕ) (bytes : List ℕ) → eqb first 7 ≡ false → whole_datagram (first ∷ bytes) ≡ alone (whole_packet (first ∷ bytes))
 one_packet first bytes t = rw t refl
 

@@ -1,4 +1,5 @@
--- What a read of a message took from an inlet, what the inlet lacks where it was refused, and why.
+-- What a read of a message consumed from an inlet, what the inlet lacks if the read was refused,
+-- and why.
 use Rattle.std.proofs.Common.{◌≡◌, ◌≢◌, ◌⊎◌, inl, inr, ℕ, List, Option, Some, None, Result, Ok, Err, refl, sym, ap, subst}
 use Rattle.std.specs.Prelude.{IfOk, IfErr, IfSome}
 use Rattle.swim_claim.specs.declared.claim.Claim.{Claim}
@@ -16,12 +17,13 @@ use Rattle.swim_wire.specs.Texts.{HeaderText, StateText}
 use Rattle.swim_wire.proofs.Readings.{refused}
 use Rattle.swim_wire.proofs.StreamTexts.{header_takes, header_again, header_refusal, state_takes, state_again, state_refusal}
 
--- a fault is want of memory, or another one
+-- a fault is out of memory, or another one
 pub memory_or : (error : WireFault) → (error ≡ Memory) ⊎ (error ≢ Memory)
 memory_or Memory = inl refl
 memory_or error = inr (λ e. absurd cc)
 
--- where the refusal of the reading says something of the bytes, and so does want of memory, so does the refusal of the read
+-- if the refusal of the reading means something for the bytes, and so does `Memory`, so does the
+-- refusal of the read
 pub Reads-explains : {X V : Type 0} {view : X → V} {reading : Reading V} {a b : Source} (r : Result X WireFault) (P : WireFault → List ℕ → Type 0)
     → ((error : WireFault) (bytes : List ℕ) → error ≢ Memory → UnlessFailed (wire_cause error) (P error bytes) → P error bytes)
     → ((bytes : List ℕ) (error : WireFault) → error ≢ Memory → reading bytes ≡ refused V error → P error bytes)

@@ -1,4 +1,4 @@
--- Slots that pairs fill, each the one of its key.
+-- Slots that pairs fill, each pair that of its key.
 use Rattle.std.proofs.Common.{◌≡◌, ◌≢◌, ℕ, zero, suc, ◌<◌, ◌≤◌, Bool, true, false, cond, List, [], ◌∷◌, length, Option, Some, None, refl, sym, ap, ◌∙◌, length-set, get_or-set_same, get_or-set_other, ap₂, arith}
 use Rattle.std.specs.Prelude.{slice_set}
 use Rattle.std.specs.List.{IsDistinct, AllByRecursion}
@@ -8,11 +8,11 @@ use Rattle.swim_wire.specs.Layout.{Layout, Spelled, Pairs, PairText, PairTexts, 
 use Rattle.swim_wire.specs.Reading.{Slots, slot, place_of, no_slots}
 use Rattle.swim_wire.proofs.Keys.{IsLegalLayout, key_in, same_key, key_same, other_key, false≢true, first_from_place, place_from_first, some_is, found, own_place}
 
--- at each place of the layout stands the value of its key
+-- the value of each key of the layout is at its index
 abbrev pub HoldsSlots : Layout → Pairs → Slots → Type 0
 HoldsSlots layout pairs slots = (place : ℕ) → place < length layout → slot slots place ≡ of_key (key_in layout place) pairs
 
--- the pairs go, one behind the other, into slots that had no value
+-- the pairs go, one after the other, into slots that had no value
 abbrev pub Fills : Layout → Slots → Pairs → Slots → Type 0
 Fills layout slots [] out = out ≡ slots
 Fills layout slots (pair ∷ pairs) out =
@@ -21,7 +21,7 @@ Fills layout slots (pair ∷ pairs) out =
 some≢none : {A : Type 0} (x : A) → Some x ≡ None → ⊥
 some≢none x e = cc
 
--- where a slot has a value, no pair has its key
+-- if a slot has a value, no pair has its key
 fills_apart : (layout : Layout) (slots : Slots) (pairs : Pairs) (out : Slots) (key : List ℕ) (place : ℕ)
     → Fills layout slots pairs out → place_of layout key ≡ Some place
     → slot slots place ≢ None → AllByRecursion (λ y. bytes_eq key y ≡ false) (keys_of pairs)

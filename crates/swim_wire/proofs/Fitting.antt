@@ -15,7 +15,7 @@ FitsEach-set (field ∷ layout) (old ∷ values) zero d value within fits fit = 
 FitsEach-set (field ∷ layout) (old ∷ values) (suc place) d value within fits fit =
     (fits.0, FitsEach-set layout values place d value (omega arith) fits.1 fit)
 
--- where no value was read, each fits
+-- if no value was read, each fits
 abbrev pub nones : ℕ → List (Option Value)
 nones zero = []
 nones (suc n) = None ∷ nones n

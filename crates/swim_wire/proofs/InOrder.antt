@@ -1,4 +1,4 @@
--- Maps that have all their keys in alphabetical order, and what they tell.
+-- Maps that have all their keys in alphabetical order, and their fields.
 use Rattle.std.proofs.Common.{◌≡◌, ℕ, suc, ◌<◌, ◌≤◌, Bool, List, [], ◌∷◌, ◌++◌, length, take, drop, Option, Some, None, Result, Ok, Err, refl, sym, ap, ◌∙◌, arith}
 use Rattle.std.proofs.lemmas.List.{length-append, take-append-drop}
 use Rattle.std.specs.Prelude.{slice_set, IfSome}
@@ -16,11 +16,11 @@ use Rattle.swim_wire.proofs.Keys.{IsLegalLayout, key_in, all_at, own_place, aliv
 use Rattle.swim_wire.proofs.Maps.{map_takes}
 use Rattle.swim_wire.proofs.Readings.{read}
 
--- the bytes are their front and what is behind it
+-- the bytes are their prefix and what is after it
 pub split_front : (n : ℕ) (bytes front rest text : List ℕ) → front ≡ take n bytes → rest ≡ drop n bytes → front ≡ text → bytes ≡ text ++ rest
 split_front n bytes front rest text front_is rest_is same = rw (← same, front_is, rest_is) (sym (take-append-drop n bytes))
 
--- a key at the front, and a value within its limit behind it
+-- a key at the start, then a value within its limit
 pair_in_order : (layout : Layout) (slots : Slots) (place : ℕ) (bytes mid rest : List ℕ) (value : Spelled)
     → IsLegalLayout layout → place < length layout → slot slots place ≡ None
     → bytes ≡ raw_text (key_in layout place) ++ mid → value_at (limit_at layout place) mid ≡ read value rest
@@ -32,7 +32,7 @@ pair_in_order layout slots place bytes mid rest value legal inside vacant is e =
     let again = raw_again 12 (raw_text key) mid key short (raw_text_is key (omega (arith, short))) in
     rw (is, again, own_place layout place legal.distinct inside, vacant, e) refl
 
--- a key of the layout behind this front, its value behind it, and what is left
+-- a key of the layout after this prefix, its value after it, and what is left
 abbrev pub Behind : List ℕ → Layout → ℕ → List ℕ → Spelled → List ℕ → Type 0
 Behind front layout place bytes value rest =
     (mid : List ℕ) × (bytes ≡ front ++ (raw_text (key_in layout place) ++ mid)) × (value_at (limit_at layout place) mid ≡ read value rest)
@@ -68,7 +68,7 @@ state_map bytes b1 b2 b3 b4 b5 b6 rest addr meta name vsn inc port state first s
     let count = count_again 7 (0x87 ∷ []) start 7 (omega arith) (counts.fixmap (omega arith) refl) in
     rw (first.1, count) p0
 
--- an alive message behind its type byte
+-- an alive message after its type byte
 pub alive_map : (bytes b1 b2 b3 b4 b5 rest addr meta node vsn : List ℕ) (inc port : ℕ)
     → Behind (0x86 ∷ []) alive_layout 0 bytes (raw addr) b1 → Behind [] alive_layout 1 b1 (number inc) b2
     → Behind [] alive_layout 2 b2 (raw meta) b3 → Behind [] alive_layout 3 b3 (raw node) b4 → Behind [] alive_layout 4 b4 (number port) b5
@@ -87,7 +87,7 @@ alive_map bytes b1 b2 b3 b4 b5 rest addr meta node vsn inc port first second thi
     let count = count_again 6 (0x86 ∷ []) start 6 (omega arith) (counts.fixmap (omega arith) refl) in
     rw (first.1, count) p0
 
--- a suspect or dead message behind its type byte
+-- a suspect or dead message after its type byte
 pub accusation_map : (bytes b1 b2 rest from node : List ℕ) (inc : ℕ)
     → Behind (0x83 ∷ []) accusation_layout 0 bytes (raw from) b1 → Behind [] accusation_layout 1 b1 (number inc) b2
     → Behind [] accusation_layout 2 b2 (raw node) rest
@@ -117,7 +117,7 @@ header_map bytes b1 b2 rest join nodes user_len first second third =
     let count = count_again 3 (0x83 ∷ []) start 3 (omega arith) (counts.fixmap (omega arith) refl) in
     (0x83 ∷ start, first.1, rw count p0)
 
--- ---- what is behind them is shorter
+-- what is after them is shorter
 
 pub state_shorter : (bytes rest : List ℕ) (slots : Slots) → map_at state_layout bytes ≡ read slots rest → length rest ≤ length bytes
 state_shorter bytes rest slots e =
@@ -131,13 +131,13 @@ header_shorter bytes body rest slots is e =
     let text = (map_takes header_layout body slots rest header_legal e).0 in
     omega (arith, ap length parts ∙ length-append text rest, ap length is)
 
--- ---- what they tell
+-- their fields
 
 checked_alone : {A : Type 0} (r : Result A WireFault) → nothing_after (checked r []) ≡ r
 checked_alone (Ok x) = refl
 checked_alone (Err error) = refl
 
--- of a map with nothing behind it
+-- those of a map with nothing after it
 pub alive_told : (body rest : List ℕ) (slots : Slots) → map_at alive_layout body ≡ read slots rest → rest ≡ [] → nothing_after (alive_at body) ≡ alive_of slots
 unfolding alive_at
 alive_told body rest slots e none = rw (e, none) (checked_alone (alive_of slots))
@@ -152,7 +152,7 @@ pub dead_told : (body rest : List ℕ) (slots : Slots) → map_at accusation_lay
 unfolding dead_at
 dead_told body rest slots e none = rw (e, none) (checked_alone (dead_of slots))
 
--- behind its type byte
+-- after its type byte
 pub packet_of_alive : (bytes body : List ℕ) → bytes ≡ 4 ∷ body → whole_packet bytes ≡ nothing_after (alive_at body)
 unfolding packet_at
 packet_of_alive bytes body first = rw first refl
@@ -175,7 +175,7 @@ pub header_told : (bytes body rest : List ℕ) (slots : Slots) (header : Header)
 unfolding header_at
 header_told bytes body rest slots header first e is = rw (first, e, is) refl
 
--- ---- what was answered, seen as more
+-- a returned value with a property also has each weaker one
 
 pub if_some_more : {X : Type 0} (A B : X → Type 0) (o : Option X) → ((x : X) → A x → B x) → IfSome o A → IfSome o B
 if_some_more A B None f h = tt

@@ -1,4 +1,4 @@
--- Layouts, and the places of their keys.
+-- Layouts, and the indices of their keys.
 use Rattle.std.proofs.Common.{◌≡◌, ◌≢◌, ℕ, zero, suc, ◌<◌, ◌≤◌, Bool, true, false, cond, ltb, List, [], ◌∷◌, length, Some, refl, sym, ◌∙◌, ⊎_elim, arith}
 use Rattle.std.proofs.lemmas.Bool.{cases_Bool, lt-ltb}
 use Rattle.std.proofs.lemmas.List.Quantifiers.{position-Some}
@@ -52,7 +52,7 @@ claimless_legal limit User = record { distinct = search arith; short = search ar
 claimless_legal limit Nack = record { distinct = search arith; short = search arith; few = omega arith }
 claimless_legal limit Error = record { distinct = search arith; short = search arith; few = omega arith }
 
--- the key at a place of the layout
+-- the key at an index of the layout
 abbrev pub key_in : Layout → ℕ → List ℕ
 key_in layout place = let field = slice_index_or layout place ([], limits.Flag) in field.0
 
@@ -65,7 +65,7 @@ key_same a b = (bytes_eq-Decides a b).1
 pub other_key : (a b : List ℕ) → a ≢ b → bytes_eq a b ≡ false
 other_key a b differ = ⊎_elim (λ t. absurd (differ (same_key a b t))) (λ f. f) (cases_Bool (bytes_eq a b))
 
--- the first place at which this key stands
+-- the first index of this key
 pub record IsFirstAt (layout : Layout) (key : List ℕ) (place : ℕ) : Type 0 where
   pub inside : place < length layout
   pub here : key_in layout place ≡ key
@@ -92,7 +92,7 @@ place_from_first layout key place h =
     let within : ltb (position_or_len (λ field. bytes_eq field.0 key) layout) (length layout) ≡ true = lt-ltb _ _ (omega arith) in
     rw (within, at) refl
 
--- the limit of a key is that of its first place
+-- the limit of a key is that of its first index
 pub limit_from_first : (layout : Layout) (key : List ℕ) (place : ℕ) → IsFirstAt layout key place → of_key key layout ≡ Some (limit_at layout place)
 limit_from_first [] key place h = absurd (let inside = h.inside in omega arith)
 limit_from_first (field ∷ layout) key zero h = rw (key_same key field.0 (sym h.here)) refl
@@ -104,7 +104,7 @@ limit_from_first (field ∷ layout) key (suc place) h =
 pub some_is : {A : Type 0} (x y : A) → Some x ≡ Some y → x ≡ y
 some_is x y e = cc
 
--- a key of the layout, where it stands first
+-- a key of the layout, at its first index
 pub record IsFound (layout : Layout) (key : List ℕ) (limit : Limit) : Type 0 where
   pub place : ℕ
   pub first : IsFirstAt layout key place
@@ -140,7 +140,7 @@ all_at P [] place each inside = absurd (omega arith)
 all_at P (field ∷ layout) zero each inside = each.0
 all_at P (field ∷ layout) (suc place) each inside = all_at P layout place each.1 (omega arith)
 
--- each key stands first at its own place
+-- the first index of each key is its own
 own_first : (layout : Layout) (place : ℕ) → IsDistinct bytes_eq (keys_of layout) → place < length layout → (k : ℕ) → k < place
     → key_in layout k ≢ key_in layout place
 unfolding IsDistinct

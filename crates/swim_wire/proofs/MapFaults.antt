@@ -16,7 +16,7 @@ use Rattle.swim_wire.specs.Reading.{Slots, slot, value_at, place_of, limit_at, i
 use Rattle.swim_wire.proofs.Readings.{refused, then_err, lift_err}
 use Rattle.swim_wire.proofs.Keys.{found}
 
--- a refusal that is none of a check of the whole, nor of what stands around a map
+-- a refusal that comes neither from a check of the whole, nor from what surrounds a map
 abbrev pub IsMapFault : WireFault → Type 0
 IsMapFault NameEmpty = ⊥
 IsMapFault BadAddress = ⊥

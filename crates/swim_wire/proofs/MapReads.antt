@@ -14,7 +14,7 @@ use Rattle.swim_wire.specs.Reading.{Reading, Slots, wire_cause, pair_at, pairs_a
 use Rattle.swim_wire.specs.Slots.{slots_of}
 use Rattle.swim_wire.proofs.Lifting.{Wire-ok}
 
--- what completes the pairs from here on completes the map
+-- what completes the pairs from here on also completes the map
 pub record Completes (start now : Source) (reading rest : Reading Slots) : Type 0 where
   pub by : (end : Source) (r : Result (List (Option Value)) WireFault) → ReadsAs wire_cause slots_of rest now end r
       → ReadsAs wire_cause slots_of reading start end r
@@ -23,7 +23,7 @@ pub Completes-start : (start now : Source) (first : composing.Reading PackFault 
     → ReadsAs cause_of same first start now (Ok n) → Completes start now (lift fault_of_pack first >>= next) (next n)
 Completes-start start now first n next p = record { by = λ end r q. Reads-then next (Wire-ok p) q }
 
--- one pair more
+-- one more pair
 pub Completes-pair : {X : Type 0} {view : X → Slots} {x : X} (start now after : Source) (layout : Layout)
     (reading : Reading Slots) (left : ℕ) (slots : Slots) → 0 < left
     → Completes start now reading (pairs_at layout left slots) → ReadsAs wire_cause view (pair_at layout slots) now after (Ok x)

@@ -1,4 +1,4 @@
--- No message begins another of its kind, and each has one value.
+-- No message is a proper prefix of another of its kind, and each has one value.
 use Rattle.std.proofs.Common.{◌≡◌, ℕ, false, cond, eqb, List, [], ◌∷◌, ◌++◌, length, flat_map, Err, refl, sym, ap, subst, ◌∙◌, append_assoc}
 use Rattle.std.proofs.lemmas.List.{append_cancel_right}
 use Rattle.std.specs.Int.{w16, to_be_bytes}
@@ -16,7 +16,7 @@ use Rattle.swim_wire.proofs.PacketTexts.{packet_again}
 use Rattle.swim_wire.proofs.StreamTexts.{header_again, state_again}
 use Rattle.swim_wire.proofs.DatagramTexts.{begins, compound_again}
 
--- two texts that one reading takes are one
+-- two texts that one reading consumes are the same
 same_text : {A : Type 0} (reading : Reading A) (a b x y : List ℕ) (v w : A) → reading (a ++ x) ≡ read v x → reading
     (b ++ y) ≡ read w y → a ++ x ≡ b ++ y → (a ≡ b) × (v ≡ w)
 same_text reading a b x y v w p q e =
@@ -33,7 +33,7 @@ header_one a b x y g h s t e = same_text header_at a b x y g h (header_again a x
 pub state_one : (a b x y : List ℕ) (c d : Claim) → StateText a c → StateText b d → a ++ x ≡ b ++ y → (a ≡ b) × (c ≡ d)
 state_one a b x y c d s t e = same_text state_at a b x y c d (state_again a x c s) (state_again b y d t) e
 
--- a datagram at the front of the bytes
+-- a datagram at the start of the bytes
 abbrev one_more : Reading PacketValue → Reading (List PacketValue)
 one_more reading = reading >>= (λ p. gives (p ∷ []))
 

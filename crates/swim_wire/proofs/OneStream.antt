@@ -1,4 +1,5 @@
--- No push/pull stream begins another one, and each has one list of claims and one join flag.
+-- No push/pull stream is a proper prefix of another one, and each has one list of claims and one
+-- join flag.
 use Rattle.std.proofs.Common.{◌≡◌, ℕ, Bool, List, [], ◌∷◌, ◌++◌, length, take, refl, sym, ap, ◌∙◌, append_assoc, arith}
 use Rattle.std.proofs.lemmas.List.{append_cancel_left}
 use Rattle.std.proofs.Math.Seq.{take-append_seam}
@@ -7,16 +8,16 @@ use Rattle.swim_wire.specs.Streams.{StateTexts, StreamText}
 use Rattle.swim_wire.specs.Streams.StateTexts.{none, one}
 use Rattle.swim_wire.proofs.OneMessage.{header_one, state_one}
 
--- texts that begin alike leave alike what follows them
+-- if texts start with the same bytes, the rest after these is the same
 after_same : (a b x y : List ℕ) → a ≡ b → a ++ x ≡ b ++ y → x ≡ y
 after_same a b x y same e = append_cancel_left b x y (ap (λ z. z ++ x) (sym same) ∙ e)
 
--- as many bytes of both
+-- the same number of bytes of both
 same_bytes : (a b x y : List ℕ) → length a ≡ length b → a ++ x ≡ b ++ y → a ≡ b
 same_bytes a b x y same e =
     sym (take-append_seam a x) ∙ ap (λ n. take n (a ++ x)) same ∙ ap (take (length b)) e ∙ take-append_seam b y
 
--- as many state records in both
+-- the same number of state records in both
 pub records_one : (a b x y : List ℕ) (claims others : List Claim) → length claims ≡ length others → StateTexts a claims → StateTexts b others
     → a ++ x ≡ b ++ y → (a ≡ b) × (claims ≡ others)
 records_one [] [] x y [] [] many none none e = (refl, refl)

@@ -1,4 +1,5 @@
--- A packet that is read is a text of its value, each text is read, and what a refusal says of the bytes.
+-- A packet that is read is a text of its value, each text is read, and what a refusal means for the
+-- bytes.
 use Rattle.std.proofs.Common.{◌≡◌, ◌≢◌, ◌⊎◌, inl, inr, ℕ, Bool, true, false, eqb, List, [], ◌∷◌, ◌++◌, Result, Ok, Err, refl, sym, ap, subst, ◌∙◌, append-nil, eqb-true, arith}
 use Rattle.std.proofs.lemmas.Bool.Decides.{nat_tests}
 use Rattle.std.specs.Str.{bytes_eq}
@@ -23,7 +24,7 @@ use Rattle.swim_wire.proofs.MapFaults.{IsMapFault, map_refusal}
 use Rattle.swim_wire.proofs.Maps.{map_takes, map_again}
 use Rattle.swim_wire.proofs.Checking.{passed, failed, split, checked_ok, checked_err, with_name_ok, with_name_again, with_name_err, with_details_ok, with_details_again, with_details_err}
 
--- ---- the packet that the pairs of a map tell, or the first check that they fail
+-- the packet in the pairs of a map, or the first check that they fail
 
 -- the packet of an alive message with these details
 abbrev alive_with : Pairs → DetailsValue → PacketValue
@@ -193,7 +194,7 @@ alive_refusal first bytes error other type e =
         (λ address is. subst (λ f. ExplainsPacket f (first ∷ bytes)) is (inl (type, begins (AliveFails BadAddress) (named, address))))
         (λ address versions is. subst (λ f. ExplainsPacket f (first ∷ bytes)) is (inl (type, begins (AliveFails BadVersions) (named, (address, versions))))))
 
--- a suspect or dead message, whose value is checked for its name alone
+-- a suspect or dead message, whose only check is that of its name
 accusation_refusal : (value : Pairs → PacketValue) (of_slots : Slots → Result PacketValue WireFault)
     → ((pairs : Pairs) (slots : Slots) → HoldsSlots accusation_layout pairs slots → of_slots slots ≡ with_name (raw_of keys.Node pairs) (Ok (value pairs)))
     → (first : ℕ) (bytes : List ℕ) (error : WireFault) → error ≢ Memory → (first ≡ 3) ⊎ (first ≡ 5)

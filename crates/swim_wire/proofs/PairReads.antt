@@ -1,4 +1,4 @@
--- A pair of a map that is read: a key, and its value at its place.
+-- A pair of a map that is read: a key, and its value at its index.
 use Rattle.std.proofs.Common.{◌≡◌, ℕ, zero, suc, ◌<◌, true, false, List, [], ◌∷◌, length, Option, Some, None, is_some, Result, Ok, Err, refl, ap, ◌∙◌, slice_index_or, slice_set, arith}
 use Rattle.std.specs.Option.{option_map}
 use Rattle.std.proofs.lemmas.List.{get_or-map, map-set}
@@ -36,7 +36,7 @@ none_where : (old : Option Value) → is_some old ≡ false → option_map spell
 none_where None h = refl
 none_where (Some value) h = cc
 
--- the value of a key that was not there before
+-- the value of a key that did not occur before
 vacant_value : {b c : Source} {r : Result Value WireFault} (fields : List Field) (values : List (Option Value)) (place : ℕ) (e : Option Value) (d : Field)
     → place < length fields → place < length values → is_some (slice_index_or values place e) ≡ false
     → ReadsAs wire_cause spelled (value_at (let field = slice_index_or fields place d in field.limit)) b c r
@@ -52,7 +52,7 @@ pub pair_without_key : {X : Type 0} {view : X → Slots} {a b : Source} {error :
 unfolding pair_at
 pair_without_key fields values p = Reads-exit _ p
 
--- since its key was there before
+-- since its key occurred before
 pub pair_twice : {X : Type 0} {view : X → Slots} {a b : Source} (fields : List Field) (values : List (Option Value)) (place : ℕ) (e : Option Value)
     → place < length values → is_some (slice_index_or values place e) ≡ true
     → ReadsAs wire_cause same (key_at (layout_of fields)) a b (Ok place)

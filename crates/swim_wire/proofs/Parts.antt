@@ -63,7 +63,7 @@ compound_lengths n bytes le =
     ap (lengths_at n) (sym (take-append-drop (2 * n) bytes)) ∙ lengths_front n (take (2 * n) bytes) (drop (2 * n) bytes) long in
     ap (then_read (λ lens. parts_at lens [])) lens
 
--- the lengths are cut
+-- the lengths are cut off
 pub compound_cut : (n : ℕ) (bytes : List ℕ) → length bytes < 2 * n → compound_at (n ∷ bytes) ≡ refused (List PacketValue) Ended
 unfolding compound_at
 compound_cut n bytes lt = ap (then_read (λ lens. parts_at lens [])) (lengths_short n bytes lt)

@@ -1,4 +1,4 @@
--- Readings of messages that take no more than settles what they give.
+-- Readings of messages that consume only what determines their result.
 use Rattle.std.proofs.Common.{ℕ, zero, suc, length, Option, Some, None, Result, Ok, Err, ◌==◌}
 use Rattle.swim_pack.proofs.Prompt.{IsPrompt, prompt-then, prompt-gives, prompt-refuses, prompt-some_or, prompt-if, prompt-lift, prompt-first, prompt-uint, prompt-count, prompt-raw, prompt-flag}
 use Rattle.swim_wire.specs.declared.fault.WireFault.{WireFault}

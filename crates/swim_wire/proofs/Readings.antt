@@ -1,4 +1,4 @@
--- What the first and the second of two readings gave.
+-- What the first and the second of two readings return.
 use Rattle.std.proofs.Common.{◌≡◌, ℕ, List, ◌++◌, Option, Some, None, Result, Ok, Err, refl, sym, ap, ◌∙◌, append_assoc}
 use Rattle.swim_pack.specs.declared.fault.PackFault.{PackFault}
 use Rattle.swim_pack.specs.Composing.{then_read, some_or, lift_error}
@@ -23,7 +23,7 @@ read_value {A} x y r s e = ap (λ (p : A × List ℕ). p.0) (read_pair x y r s e
 pub read_rest : {A : Type 0} (x y : A) (r s : List ℕ) → read x r ≡ read y s → r ≡ s
 read_rest {A} x y r s e = ap (λ (p : A × List ℕ). p.1) (read_pair x y r s e)
 
--- both readings gave a value
+-- both readings returned a value
 pub then_ok : {A B : Type 0} (r : Result (A × List ℕ) WireFault) (next : A → Reading B) (y : B) (rest : List ℕ) → then_read next r ≡ read y rest
     → (x : A) × (mid : List ℕ) × (r ≡ read x mid) × (next x mid ≡ read y rest)
 then_ok (Ok r) next y rest e = (r.0, r.1, refl, e)
@@ -50,12 +50,12 @@ pub some_ok : {A : Type 0} (error : WireFault) (o : Option A) (mid : List ℕ) (
 some_ok error None mid x rest e = absurd cc
 some_ok error (Some y) mid x rest e = (ap Some (read_value y x mid rest e), read_rest y x mid rest e)
 
--- ---- what was taken from the front
+-- what was consumed from the start
 
 -- the same text, and the same rest under another name
 pub parts_to : {bytes mid rest : List ℕ} (text : List ℕ) → bytes ≡ text ++ mid → mid ≡ rest → bytes ≡ text ++ rest
 parts_to text first same = first ∙ ap (λ (r : List ℕ). text ++ r) same
 
--- two texts, one behind the other
+-- two texts, one after the other
 pub parts_joined : {bytes mid : List ℕ} (front back rest : List ℕ) → bytes ≡ front ++ mid → mid ≡ back ++ rest → bytes ≡ (front ++ back) ++ rest
 parts_joined front back rest first second = first ∙ ap (λ (r : List ℕ). front ++ r) second ∙ sym (append_assoc front back rest)

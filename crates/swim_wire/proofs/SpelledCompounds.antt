@@ -9,7 +9,7 @@ use Rattle.swim_wire.specs.Texts.{PartTexts, DatagramText, DatagramText as datag
 use Rattle.swim_wire.proofs.SpelledLengths.{packet_bytes-short}
 use Rattle.swim_wire.proofs.SpelledTexts.{PacketText-canonical}
 
--- as each `Packet` is
+-- a packet is legal, as each `Packet` is
 abbrev pub IsLegal : PacketValue → Type 0
 IsLegal p = IsLegalClaim p.claim × IsLegalPacket p.claim p.from
 

@@ -1,4 +1,4 @@
--- How long the canonical bytes of a packet are at most.
+-- The maximum length of the canonical bytes of a packet.
 use Rattle.std.proofs.Common.{◌≡◌, ℕ, ◌+◌, ◌<◌, ◌≤◌, ◌^◌, Bool, true, false, cond, ltb, List, [], ◌∷◌, length, length-append, ap, lit≤, inl, inr, arith}
 use Rattle.std.specs.List.{flat_map}
 use Rattle.std.specs.Int.{bytes_high_first}
@@ -30,7 +30,7 @@ length-raw_text s =
     let short : length head ≤ 3 = either (ltb (length s) 32) _ _ 3 (lit≤ tt) (lit≤ tt) in
     omega (arith, length-append head s)
 
--- at most so many bytes
+-- the maximum number of bytes
 abbrev pub size : Spelled → ℕ
 size (number v) = 9
 size (raw s) = length s + 3
@@ -76,6 +76,6 @@ claim_short (Suspect name inc) from legal made = along (accusation_bytes-pairs 3
 claim_short (Confirm name inc) from legal made = along (accusation_bytes-pairs 5 name inc from) (accusation_short 5 name inc from legal.name.most made.1)
 claim_short (Leave name inc) from legal made = along (accusation_bytes-pairs 5 name inc from) (accusation_short 5 name inc from legal.name.most made.1)
 
--- so that two bytes tell its length
+-- so two bytes hold its length
 pub packet_bytes-short : (p : PacketValue) → IsLegalClaim p.claim → IsLegalPacket p.claim p.from → length (packet_bytes p) < 2 ^ 16
 packet_bytes-short p legal made = claim_short p.claim p.from legal made

@@ -1,4 +1,4 @@
--- The canonical bytes of a map spell it.
+-- The canonical bytes of a map encode it.
 use Rattle.std.proofs.Common.{◌≡◌, ℕ, ◌<◌, ◌≤◌, ◌^◌, false, List, [], ◌∷◌, length, map, Some, refl, arith}
 use Rattle.std.proofs.lemmas.Map.Keys.{IsDistinct-from_apart, IsDistinct-cons}
 use Rattle.std.specs.List.{flat_map, AllByRecursion, IsDistinct}
@@ -11,7 +11,7 @@ use Rattle.swim_wire.specs.Layout.{Layout, Pairs, Spelled, Spells, PairText, Pai
 use Rattle.swim_wire.specs.Layout.Spelled.{number, raw, flag}
 use Rattle.swim_wire.specs.Pairs.{value_text, pair_text, map_text}
 
--- the value is of the kind and within the limit, and has a canonical spelling
+-- the value is of the kind and within the limit, and has a canonical encoding
 abbrev pub IsWithin : Limit → Spelled → Type 0
 IsWithin (limits.Number max) (number v) = (v ≤ max) × (v < 2 ^ 64)
 IsWithin (limits.Raw limit) (raw s) = (length s ≤ limit) × (length s < 2 ^ 16)

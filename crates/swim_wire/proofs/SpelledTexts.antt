@@ -130,7 +130,7 @@ StateText-canonical (Suspect name inc) legal = state_text _ name inc 1 no_detail
 StateText-canonical (Confirm name inc) legal = state_text _ name inc 2 no_details legal.name legal.inc (lit< tt) Fits-none (states.confirm refl refl)
 StateText-canonical (Leave name inc) legal = state_text _ name inc 3 no_details legal.name legal.inc (lit< tt) Fits-none (states.leave refl refl)
 
--- a record beside these details, of which the claim's own go first
+-- a record with these details, unless the claim has its own
 pub StateText-with : (details : DetailsValue) (c : Claim) → IsLegalClaim c → Fits (unwrap_or (details_of c) details) → StateText
     (state_bytes_with details c) c
 StateText-with details (Alive name inc own) legal fits = StateText-canonical (Alive name inc own) legal

@@ -1,4 +1,5 @@
--- A header or a state record that is read is a text of its value, each text is read, and what a refusal says of the bytes.
+-- A header or a state record that is read is a text of its value, each text is read, and what a
+-- refusal means for the bytes.
 use Rattle.std.proofs.Common.{◌≡◌, ◌≢◌, ℕ, ◌<◌, ◌≤◌, Bool, true, false, cond, eqb, ltb, List, [], ◌∷◌, ◌++◌, Result, Ok, Err, refl, sym, ap, subst, ◌∙◌, eqb-true, ltb-true, ltb-false, le-ltb, arith}
 use Rattle.std.proofs.lemmas.Bool.Decides.{nat_tests}
 use Rattle.swim_claim.specs.declared.claim.Claim.{Claim}
@@ -23,7 +24,7 @@ use Rattle.swim_wire.proofs.MapFaults.{IsMapFault, map_refusal}
 use Rattle.swim_wire.proofs.Maps.{map_takes, map_again}
 use Rattle.swim_wire.proofs.Checking.{passed, failed, split, checked_ok, checked_err, with_name_ok, with_name_again, with_name_err, with_details_ok, with_details_again, with_details_err}
 
--- ---- the header that the pairs of a map tell, or the first check that they fail
+-- the header in the pairs of a map, or the first check that they fail
 
 abbrev header_with : Pairs → Header
 header_with pairs = record { nodes = number_of keys.Nodes pairs; user_len = number_of keys.UserStateLen pairs; join = flag_of keys.Join pairs }
@@ -64,7 +65,7 @@ header_err pairs error fails Q nodes user = split (ltb 131072 (number_of keys.No
 
 -- ---- headers
 
--- behind the byte 6
+-- after the byte 6
 abbrev header_after : Reading Header
 header_after = map_at header_layout >>= (λ slots. checked (header_of slots))
 
@@ -143,7 +144,7 @@ header_refusal (first ∷ bytes) error memory e =
     (λ six. header_after_refusal first bytes error memory six)
     (λ other wrong. let is : WrongType first ≡ error = cc in subst (λ f. ExplainsHeader f (first ∷ bytes)) is ((bytes, refl), other)) e
 
--- ---- the claim that the pairs of a map tell, or the first check that they fail
+-- the claim in the pairs of a map, or the first check that they fail
 
 abbrev alive_with : Pairs → DetailsValue → Claim
 alive_with pairs details = Alive (raw_of keys.Name pairs) (number_of keys.Incarnation pairs) details
@@ -203,7 +204,7 @@ claim_again pairs c (suspect state is) = rw (state, is) refl
 claim_again pairs c (confirm state is) = rw (state, is) refl
 claim_again pairs c (leave state is) = rw (state, is) refl
 
--- no state from 0 to 3
+-- a state not from 0 to 3
 above_three : (state : ℕ) → eqb state 0 ≡ false → eqb state 1 ≡ false → eqb state 2 ≡ false → eqb state 3 ≡ false → 3 < state
 above_three state none one two three = grind (arith, nat_tests)
 

@@ -1,4 +1,4 @@
--- User state that is dropped piece by piece.
+-- User state that is dropped in pieces.
 use Rattle.std.proofs.Common.{◌≡◌, ℕ, ◌+◌, ◌≤◌, List, length, Option, Some, None, refl, ap, ◌∙◌, length-append, arith}
 use Rattle.std.specs.Io.KnownBytes.{Consumes}
 use Rattle.swim_pack.specs.declared.fault.PullFault.{PullFault}

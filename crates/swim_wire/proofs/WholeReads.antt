@@ -1,4 +1,4 @@
--- Reads of a map, and then the check of what it says as a whole.
+-- Reads of a map, and then the check of its fields as a whole.
 use Rattle.std.proofs.Common.{◌≡◌, ◌≢◌, ℕ, inl, inr, false, List, Option, Result, Ok, Err, refl, sym, subst, ◌∙◌, arith}
 use Rattle.std.proofs.Common.{if◌then◌else◌, ◌==◌}
 use Rattle.std.proofs.lemmas.Bool.Decides.{nat_tests}
@@ -29,7 +29,7 @@ Reads-failed {A} {a} {b} {values} reading f error is failed p =
     let refused : ReadsAs {X = A} wire_cause same (checked (f (slots_of values))) b b (Err error) = rw failed (Reads-refuses error is) in
     Reads-then (λ slots. checked (f slots)) p refused
 
--- a map, and then the check of what a message says, its own slots standing for those of the map
+-- a map, and then the check of a message's fields, with its own slots in place of those of the map
 pub Reads-checked : {A : Type 0} {a b : Source} {values : List (Option Value)} (reading : Reading Slots) (f : Slots → Result A WireFault)
     (own : Slots) (r : Result A WireFault) → f own ≡ f (slots_of values) → IsCheck (f own) → AnswersUnlessMemory (f own) r
     → ReadsAs wire_cause slots_of reading a b (Ok values) → ReadsAs wire_cause same (reading >>= (λ slots. checked (f slots))) a b r

@@ -1,4 +1,4 @@
--- Where a read asks for memory: at a value of text or bytes alone, once its length is known.
+-- Where a read requests memory: only at a value of text or bytes, once its length is known.
 use Rattle.std.specs.Prelude.{◌≡◌, ℕ, zero, suc, ◌*◌, ◌≤◌, ◌⊎◌, List, [], ◌∷◌, ◌++◌, length, Some}
 use Rattle.swim_pack.specs.Spelling.{RawLen, Raw, Count}
 use Rattle.swim_wire.specs.declared.layout.Limit.{Limit}
@@ -6,13 +6,13 @@ use Rattle.swim_wire.specs.declared.layout.Limit.TheVariants as limits
 use Rattle.swim_wire.specs.Layout.{Layout, Spelled, PairText, of_key, alive_layout, accusation_layout}
 use Rattle.swim_wire.specs.Parts.{lengths_in}
 
--- The value is text or bytes, and a length within its limit stands at the front.
+-- The value is text or bytes, and the bytes start with a length within its limit.
 abbrev pub ValueAsks : Limit → List ℕ → Type 0
 ValueAsks (limits.Raw limit) bytes = (b rest : List ℕ) × (n : ℕ) × RawLen b n × (n ≤ limit)
     × (bytes ≡ b ++ rest)
 ValueAsks limit bytes = ⊥
 
--- A key of the layout stands at the front, and its value asks for memory.
+-- The bytes start with a key of the layout, and its value requests memory.
 pub record PairAsks (layout : Layout) (bytes : List ℕ) : Type 0 where
   pub limit : Limit
   pub name : List ℕ
@@ -23,14 +23,14 @@ pub record PairAsks (layout : Layout) (bytes : List ℕ) : Type 0 where
   pub value : ValueAsks limit rest
   pub text : bytes ≡ key_text ++ rest
 
--- One of the next n pairs asks for memory: the first, or one behind it.
+-- One of the next n pairs requests memory: the first, or one after it.
 abbrev pub PairsAsk : Layout → ℕ → List ℕ → Type 0
 PairsAsk layout zero bytes = ⊥
 PairsAsk layout (suc n) bytes = PairAsks layout bytes
     ⊎ ((first rest : List ℕ) × (pair : List ℕ × Spelled) × PairText layout first pair
     × PairsAsk layout n rest × (bytes ≡ first ++ rest))
 
--- The count of a map of the layout stands at the front, and one of its pairs asks for memory.
+-- The bytes start with the count of a map of the layout, and one of its pairs requests memory.
 pub record MapAsks (layout : Layout) (bytes : List ℕ) : Type 0 where
   pub n : ℕ
   pub few : n ≤ length layout
@@ -40,26 +40,26 @@ pub record MapAsks (layout : Layout) (bytes : List ℕ) : Type 0 where
   pub pairs : PairsAsk layout n rest
   pub text : bytes ≡ count_text ++ rest
 
--- Behind the type byte of a packet its map asks for memory.
+-- The map after the type byte of a packet requests memory.
 abbrev pub PacketAsks : List ℕ → Type 0
 PacketAsks [] = ⊥
 PacketAsks (first ∷ rest) =
     ((first ≡ 4) × MapAsks alive_layout rest)
     ⊎ (((first ≡ 3) ⊎ (first ≡ 5)) × MapAsks accusation_layout rest)
 
--- One of the parts of these lengths asks for memory: the first, or one behind it.
+-- One of the parts of these lengths requests memory: the first, or one after it.
 abbrev pub PartsAsk : List ℕ → List ℕ → Type 0
 PartsAsk [] bytes = ⊥
 PartsAsk (len ∷ lens) bytes = (part rest : List ℕ) × (length part ≡ len) × (bytes ≡ part ++ rest)
     × (PacketAsks part ⊎ PartsAsk lens rest)
 
--- The count of the parts and all their lengths stand there, and one of the parts asks for memory.
+-- The count of the parts and all their lengths are there, and one of the parts requests memory.
 abbrev pub CompoundAsks : List ℕ → Type 0
 CompoundAsks [] = ⊥
 CompoundAsks (count ∷ bytes) = (lens parts : List ℕ) × (length lens ≡ 2 * count)
     × (bytes ≡ lens ++ parts) × PartsAsk (lengths_in lens) parts
 
--- The datagram asks for memory: as a packet, or as a compound packet behind the byte 7.
+-- The datagram requests memory: as a packet, or as a compound packet after the byte 7.
 abbrev pub DatagramAsks : List ℕ → Type 0
 DatagramAsks bytes = PacketAsks bytes
     ⊎ ((rest : List ℕ) × (bytes ≡ 7 ∷ rest) × CompoundAsks rest)

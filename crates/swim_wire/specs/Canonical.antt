@@ -1,5 +1,5 @@
 -- The canonical bytes of messages: every key of the layout in alphabetical order, each value in its
--- canonical spelling.
+-- canonical encoding.
 use Rattle.std.specs.Prelude.{ℕ, List, [], ◌∷◌, ◌++◌, map}
 use Rattle.swim_claim.specs.declared.claim.Claim.{Claim}
 use Rattle.swim_claim.specs.declared.claim.Claim.TheVariants.{Alive, Suspect, Confirm, Leave}
@@ -28,7 +28,7 @@ alive_bytes name inc details =
     ++ raw_pair keys.Node name ++ number_pair keys.Port details.port
     ++ raw_pair keys.Vsn details.vsn
 
--- memberlist's suspect and dead, by their type
+-- memberlist's suspect and dead, selected by their type
 abbrev pub accusation_bytes : ℕ → List ℕ → ℕ → List ℕ → List ℕ
 accusation_bytes type name inc from =
     type ∷ count_text 3 ++ raw_pair keys.From from ++ number_pair keys.Incarnation inc
@@ -63,7 +63,7 @@ record_bytes name inc state details =
     ++ number_pair keys.Port details.port ++ number_pair keys.State state
     ++ raw_pair keys.Vsn details.vsn
 
--- the details in a state record that is no Alive's
+-- the details in the state record of a Suspect, Confirm or Leave
 abbrev pub no_details : DetailsValue
 no_details = record { addr = []; port = 0; meta = []; vsn = [] }
 
@@ -74,7 +74,7 @@ state_bytes (Suspect name inc) = record_bytes name inc 1 no_details
 state_bytes (Confirm name inc) = record_bytes name inc 2 no_details
 state_bytes (Leave name inc) = record_bytes name inc 3 no_details
 
--- the state record of a claim with these details, of which memberlist asks the versions of each
+-- the state record of a claim with these details, since memberlist requires versions in each
 -- record; an Alive has its own
 abbrev pub state_bytes_with : DetailsValue → Claim → List ℕ
 state_bytes_with details (Alive name inc own) = record_bytes name inc 0 own

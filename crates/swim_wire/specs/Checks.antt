@@ -1,5 +1,5 @@
--- Why bytes are no message: the checks of a message as a whole, in their order, and what stands
--- around its map.
+-- Why bytes are not a message: the checks of a message as a whole, in order, and what surrounds its
+-- map.
 use Rattle.std.specs.Prelude.{◌≡◌, ◌≢◌, ℕ, ◌≤◌, ◌<◌, ◌⊎◌, List, [], ◌∷◌, ◌++◌, ⊤, IfSome}
 use Rattle.swim_pack.specs.Ends.{Source}
 use Rattle.swim_claim.specs.Details.{IsAddress, IsVersions}
@@ -38,7 +38,7 @@ HeaderFails UserTooLong pairs = (number_of keys.Nodes pairs ≤ most_nodes)
     × (most_user_state < number_of keys.UserStateLen pairs)
 HeaderFails error pairs = ⊥
 
--- a state record needs a name, a state of 0 to 3, and, where it is alive, legal details
+-- a state record needs a name, a state of 0 to 3, and, if it is alive, legal details
 abbrev pub StateFails : WireFault → Pairs → Type 0
 StateFails NameEmpty pairs = raw_of keys.Name pairs ≡ []
 StateFails (BadState found) pairs = (raw_of keys.Name pairs ≢ [])
@@ -46,9 +46,9 @@ StateFails (BadState found) pairs = (raw_of keys.Name pairs ≢ [])
 StateFails error pairs = (raw_of keys.Name pairs ≢ []) × (number_of keys.State pairs ≡ 0)
     × DetailsFail error pairs
 
--- ---- bytes that begin with such a map
+-- bytes that start with such a map
 
--- The bytes begin with a map of the layout whose values fail a check.
+-- The bytes start with a map of the layout whose values fail a check.
 pub record BeginsFailing (layout : Layout) (fails : Pairs → Type 0) (bytes : List ℕ) : Type 0 where
   pub map_text : List ℕ
   pub pairs : Pairs
@@ -57,23 +57,23 @@ pub record BeginsFailing (layout : Layout) (fails : Pairs → Type 0) (bytes : L
   pub parts : bytes ≡ map_text ++ rest
   pub failing : fails pairs
 
--- behind its type byte the packet's map fails this check
+-- the packet's map, after its type byte, fails this check
 abbrev pub PacketFails : WireFault → List ℕ → Type 0
 PacketFails error [] = ⊥
 PacketFails error (first ∷ rest) =
     ((first ≡ 4) × BeginsFailing alive_layout (AliveFails error) rest)
     ⊎ (((first ≡ 3) ⊎ (first ≡ 5)) × BeginsFailing accusation_layout (AccusationFails error) rest)
 
--- the byte is that of no packet: of a suspect, an alive or a dead message
+-- the byte is not that of a packet: of a suspect, an alive or a dead message
 abbrev pub IsNoPacketType : ℕ → Type 0
 IsNoPacketType first = (first ≢ 3) × (first ≢ 4) × (first ≢ 5)
 
--- the bytes begin with this one
+-- the bytes start with this one
 abbrev pub BeginsWith : ℕ → List ℕ → Type 0
 BeginsWith found bytes = (rest : List ℕ) × (bytes ≡ found ∷ rest)
 
--- What a refusal says of bytes that begin with no packet, and want of memory of those that asked
--- for some. Of the others it says where the reading of a map stopped.
+-- What a refusal means for bytes that do not start with a packet; `Memory` means that they
+-- requested some. The other faults say where the reading of a map stopped.
 abbrev pub ExplainsPacket : WireFault → List ℕ → Type 0
 ExplainsPacket (WrongType found) bytes = BeginsWith found bytes × IsNoPacketType found
 ExplainsPacket NameEmpty bytes = PacketFails NameEmpty bytes
@@ -91,12 +91,12 @@ abbrev pub HasTrailing : List ℕ → Type 0
 HasTrailing bytes = (front : List ℕ) × (p : PacketValue) × (byte : ℕ) × (rest : List ℕ)
     × PacketText front p × (bytes ≡ front ++ byte ∷ rest)
 
--- what a refusal says of bytes that are no packet
+-- what a refusal means for bytes that are not a packet
 abbrev pub ExplainsWhole : WireFault → List ℕ → Type 0
 ExplainsWhole Trailing bytes = HasTrailing bytes
 ExplainsWhole error bytes = ExplainsPacket error bytes
 
--- What a refusal says of bytes that begin with no header. None is for want of memory.
+-- What a refusal means for bytes that do not start with a header. It is never `Memory`.
 abbrev pub ExplainsHeader : WireFault → List ℕ → Type 0
 ExplainsHeader (WrongType found) bytes = BeginsWith found bytes × (found ≢ 6)
 ExplainsHeader TooManyNodes bytes = (rest : List ℕ) × (bytes ≡ 6 ∷ rest)
@@ -111,8 +111,8 @@ ExplainsHeader Trailing bytes = ⊥
 ExplainsHeader Memory bytes = ⊥
 ExplainsHeader error bytes = ⊤
 
--- What a refusal says of bytes that begin with no state record, and want of memory of those that
--- asked for some.
+-- What a refusal means for bytes that do not start with a state record; `Memory` means that they
+-- requested some.
 abbrev pub ExplainsState : WireFault → List ℕ → Type 0
 ExplainsState NameEmpty bytes = BeginsFailing state_layout (StateFails NameEmpty) bytes
 ExplainsState BadAddress bytes = BeginsFailing state_layout (StateFails BadAddress) bytes
@@ -126,6 +126,6 @@ ExplainsState Trailing bytes = ⊥
 ExplainsState Memory bytes = MapAsks state_layout bytes
 ExplainsState error bytes = ⊤
 
--- it says so of the bytes that were to come, where the inlet tells them
+-- it holds for the bytes that were to come, if the inlet's are known
 abbrev pub ExplainsStart : (List ℕ → Type 0) → Source → Type 0
 ExplainsStart explains old = IfSome old.coming explains

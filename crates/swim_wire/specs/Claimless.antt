@@ -1,4 +1,4 @@
--- The messages that make no claim: which bytes are which of them, and their reading.
+-- The messages that make no claim: which bytes are which kind, and their reading.
 use Rattle.std.specs.Prelude.{◌≡◌, ◌⊎◌, ℕ, ◌==◌, List, [], ◌∷◌, length, Option, Some, None, Result, Ok, Err, if◌then◌else◌}
 use Rattle.swim_claim.specs.Limits.{longest_name}
 use Rattle.swim_wire.specs.declared.claimless.Claimless.{Claimless}
@@ -11,7 +11,7 @@ use Rattle.swim_wire.specs.Keys.{key_text}
 use Rattle.swim_wire.specs.Layout.{Layout, Pairs, MapText}
 use Rattle.swim_wire.specs.Reading.{Slots, map_at, nothing_after}
 
--- the byte that such a message begins with
+-- the first byte of such a message
 abbrev pub type_of : Claimless → ℕ
 type_of Ping = 0
 type_of IndirectPing = 1
@@ -20,8 +20,8 @@ type_of User = 8
 type_of Nack = 11
 type_of Error = 13
 
--- memberlist's ping, indirectPingReq, ackResp, nackResp and errResp. A payload and the text of an
--- error have at most so many bytes. A user message has no map.
+-- memberlist's ping, indirectPingReq, ackResp, nackResp and errResp. The number is the maximum
+-- length of a payload and of the text of an error. A user message has no map.
 abbrev pub claimless_layout : ℕ → Claimless → Layout
 claimless_layout limit Ping =
     (key_text keys.Node, limits.Raw longest_name) ∷ (key_text keys.SeqNo, limits.Number 0xffff_ffff)
@@ -45,8 +45,7 @@ claimless_layout limit Error = (key_text keys.Error, limits.Raw limit) ∷ []
 abbrev pub IsMapOf : Layout → List ℕ → Type 0
 IsMapOf layout b = (pairs : Pairs) × MapText layout b pairs
 
--- what stands behind the first byte: any bytes in a user message, else one map of the message's own
--- keys
+-- what follows the first byte: any bytes in a user message, else one map of the message's own keys
 abbrev pub BodyText : List ℕ → Claimless → Type 0
 BodyText body User = Unit {0}
 BodyText body kind = IsMapOf (claimless_layout (length body) kind) body
@@ -59,7 +58,7 @@ pub record ClaimlessText (b : List ℕ) (kind : Claimless) : Type 0 where
 
 -- ---- the reading
 
--- the kind of message that begins with this byte
+-- the kind of message that starts with this byte
 abbrev pub claimless_kind : ℕ → Option Claimless
 claimless_kind first =
     if first == 0 then Some Ping else
@@ -73,27 +72,27 @@ claimless_kind first =
 abbrev pub whole_map : Layout → List ℕ → Result Slots WireFault
 whole_map layout bytes = nothing_after (map_at layout bytes)
 
--- the values behind the first byte
+-- the values after the first byte
 abbrev pub whole_body : Claimless → List ℕ → Result Slots WireFault
 whole_body User body = Ok []
 whole_body kind body = whole_map (claimless_layout (length body) kind) body
 
--- the kind, where its values were read
+-- the kind, if its values were read
 abbrev pub as_kind : Claimless → Result Slots WireFault → Result Claimless WireFault
 as_kind kind (Ok slots) = Ok kind
 as_kind kind (Err fault) = Err fault
 
--- the message behind a first byte of this kind, or the refusal of a byte that is of none
+-- the message after a first byte of this kind, or the refusal of a byte of no kind
 abbrev pub behind_type : ℕ → List ℕ → Option Claimless → Result Claimless WireFault
 behind_type first body None = Err (WrongType first)
 behind_type first body (Some kind) = as_kind kind (whole_body kind body)
 
--- which message the bytes are, or why they are none
+-- which message the bytes are, or why they are not one
 abbrev pub whole_claimless : List ℕ → Result Claimless WireFault
 whole_claimless [] = Err Ended
 whole_claimless (first ∷ body) = behind_type first body (claimless_kind first)
 
--- it is read where this is, and refused as this is, unless memory ran out
+-- it succeeds if this does, and is refused as this is, unless memory ran out
 abbrev pub IsReadUnlessMemory : {A X : Type 0} → Result A WireFault → Result X WireFault → Type 0
 IsReadUnlessMemory {A} wanted (Ok x) = (value : A) × (wanted ≡ Ok value)
 IsReadUnlessMemory wanted (Err error) = (wanted ≡ Err error) ⊎ (error ≡ Memory)

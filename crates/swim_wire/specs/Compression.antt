@@ -10,13 +10,14 @@ use Rattle.swim_wire.specs.Layout.{Layout, Pairs, MapText, raw_of}
 use Rattle.swim_wire.specs.Places.{compression_buf}
 use Rattle.swim_wire.specs.Reading.{Reading, map_at, raw_in, nothing_after}
 
--- memberlist's compress: `Algo` is 0, for LZW, and `Buf` has at most so many compressed bytes
+-- memberlist's compress: `Algo` is 0, for LZW, and the number is the maximum length of `Buf`, the
+-- compressed bytes
 abbrev pub compression_layout : ℕ → Layout
 compression_layout limit =
     (key_text keys.Algo, limits.Number 0) ∷ (key_text keys.Buf, limits.Raw limit) ∷ []
 
--- The bytes b are the map of a compression with these compressed bytes, which are no more than the
--- map has.
+-- The bytes b are the map of a compression with these compressed bytes, which are no longer than
+-- the map.
 pub record CompressionText (b packed : List ℕ) : Type 0 where
   pub pairs : Pairs
   pub text : MapText (compression_layout (length b)) b pairs
@@ -32,7 +33,7 @@ compression_at limit = do
 abbrev pub whole_compression : List ℕ → Result (List ℕ) WireFault
 whole_compression bytes = nothing_after (compression_at (length bytes) bytes)
 
--- the answer, seen by view, is this one, unless memory ran out
+-- the result, seen by view, is this one, unless memory ran out
 abbrev pub ShowsUnlessMemory : {X V : Type 0} → (X → V) → Result V WireFault → Result X WireFault
     → Type 0
 ShowsUnlessMemory view wanted (Ok x) = wanted ≡ Ok (view x)

@@ -19,7 +19,7 @@ length_at = do
   bytes ← lift fault_of_pack (next_bytes 2)
   gives (from_be_bytes w16 bytes)
 
--- the lengths of so many parts
+-- the lengths of this many parts
 unfoldable pub lengths_at : ℕ → Reading (List ℕ)
 lengths_at zero = gives []
 lengths_at (suc n) = do
@@ -32,17 +32,17 @@ abbrev pub alone : Result PacketValue WireFault → Result (List PacketValue) Wi
 alone (Ok p) = Ok (p ∷ [])
 alone (Err error) = Err error
 
--- whether the byte is that of a packet: of a suspect, an alive or a dead message
+-- whether the byte is a packet's type: that of a suspect, an alive or a dead message
 abbrev pub is_packet_type : ℕ → Bool
 is_packet_type first = (first == 3) || (first == 4) || (first == 5)
 
--- the packet of a part, or none where the part is passed over
+-- the packet of a part, or none if the part is skipped
 abbrev pub packets_of : List ℕ → Result (List PacketValue) WireFault
 packets_of [] = Ok []
 packets_of (first ∷ rest) =
     if is_packet_type first then alone (whole_packet (first ∷ rest)) else Ok []
 
--- the packets of parts of these lengths, behind those of the parts before them
+-- the packets of parts of these lengths, after those of the parts before them
 unfoldable pub parts_at : List ℕ → List PacketValue → Reading (List PacketValue)
 parts_at [] packets = gives packets
 parts_at (len ∷ lens) packets = do
@@ -63,9 +63,9 @@ whole_datagram [] = Err Ended
 whole_datagram (first ∷ rest) =
     if first == 7 then nothing_after (compound_at rest) else alone (whole_packet (first ∷ rest))
 
--- ---- what a refusal says
+-- what a refusal means
 
--- The bytes are a compound packet up to a part that is a packet by its first byte, and no packet
+-- The bytes are a compound packet up to a part that starts as a packet does, but is not a packet,
 -- for this reason.
 pub record HasBadPart (error : WireFault) (bytes : List ℕ) : Type 0 where
   pub before : List (List ℕ)
@@ -88,12 +88,11 @@ HasTrailingDatagram bytes =
     (front : List ℕ) × (packets : List PacketValue) × (byte : ℕ) × (rest : List ℕ)
     × DatagramText front packets × (bytes ≡ front ++ byte ∷ rest)
 
--- the datagram is one packet that is refused so, or has a part that is
+-- the datagram is one packet refused with this error, or has such a part
 abbrev pub PacketOrPart : WireFault → List ℕ → Type 0
 PacketOrPart error bytes = ExplainsWhole error bytes ⊎ HasBadPart error bytes
 
--- What a refusal says of bytes that are no datagram, and want of memory of those that asked for
--- some.
+-- What a refusal means for bytes that are not a datagram; `Memory` means that they requested some.
 abbrev pub ExplainsDatagram : WireFault → List ℕ → Type 0
 ExplainsDatagram (WrongType found) bytes = BeginsWith found bytes × IsNoPacketType found
     × (found ≢ 7)

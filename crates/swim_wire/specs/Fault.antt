@@ -1,4 +1,4 @@
--- The numbers of faults, and which fault of the layers below is which here.
+-- The numbers of faults, and how faults of the layers below map to faults here.
 use Rattle.std.specs.Prelude.{ℕ}
 use Rattle.swim_claim.specs.declared.fault.ClaimFault.{ClaimFault}
 use Rattle.swim_claim.specs.declared.fault.ClaimFault.TheVariants as claims
@@ -9,7 +9,7 @@ use Rattle.swim_pack.specs.declared.fault.PullFault.TheVariants as pulls
 use Rattle.swim_wire.specs.declared.fault.WireFault.{WireFault}
 use Rattle.swim_wire.specs.declared.fault.WireFault.TheVariants.{Ended, NotUnsigned, OutOfRange, NotBool, NotRaw, TooLong, NotMap, MapCount, Fault, Memory, NameEmpty, BadAddress, BadVersions, WrongType, UnknownKey, DuplicateKey, BadState, TooManyNodes, UserTooLong, Trailing}
 
--- the number by which reports name a fault
+-- the number that identifies a fault in reports
 abbrev pub wire_number : WireFault → ℕ
 wire_number Ended = 1
 wire_number NotUnsigned = 2
@@ -32,7 +32,7 @@ wire_number TooManyNodes = 20
 wire_number UserTooLong = 21
 wire_number Trailing = 22
 
--- a value that MessagePack does not spell
+-- a value that is not MessagePack of the expected kind
 abbrev pub fault_of_pack : PackFault → WireFault
 fault_of_pack packs.Ended = Ended
 fault_of_pack packs.NotUnsigned = NotUnsigned
@@ -45,12 +45,12 @@ fault_of_pack packs.MapCount = MapCount
 fault_of_pack packs.Fault = Fault
 fault_of_pack packs.Memory = Memory
 
--- a key that MessagePack does not spell; one that is too long is none of the layout
+-- a key that is not MessagePack text; one that is too long is not in the layout
 abbrev pub fault_of_key : PackFault → WireFault
 fault_of_key packs.TooLong = UnknownKey
 fault_of_key fault = fault_of_pack fault
 
--- bytes that an inlet does not give
+-- bytes that an inlet does not return
 abbrev pub fault_of_pull : PullFault → WireFault
 fault_of_pull pulls.Ended = Ended
 fault_of_pull pulls.Fault = Fault

@@ -18,7 +18,7 @@ pub data Spelled : Type 0 where
   raw : List ℕ → Spelled
   flag : Bool → Spelled
 
--- the bytes b spell the value, which is of this kind and within this limit
+-- the bytes b encode the value, which is of this kind and within this limit
 abbrev pub Spells : Limit → List ℕ → Spelled → Type 0
 Spells (limits.Number max) b (number v) = Number b v × (v ≤ max)
 Spells (limits.Raw limit) b (raw s) = Raw b s × (length s ≤ limit)
@@ -29,15 +29,15 @@ Spells limit b value = ⊥
 abbrev pub Layout : Type 0
 Layout = List (List ℕ × Limit)
 
--- keys and their values, in the order in which a map has them
+-- keys and their values, in the order of the map
 abbrev pub Pairs : Type 0
 Pairs = List (List ℕ × Spelled)
 
--- what has this key, if anything has
+-- what belongs to this key, if anything does
 abbrev pub of_key : {X : Type 0} → List ℕ → List (List ℕ × X) → Option X
 of_key key entries = lookup (bytes_eq key) entries
 
--- The bytes b spell a pair: a key of the layout, and behind it a value within the limit of the key.
+-- The bytes b encode a pair: a key of the layout, then a value within the limit of the key.
 pub record PairText (layout : Layout) (b : List ℕ) (pair : List ℕ × Spelled) : Type 0 where
   pub limit : Limit
   pub in_layout : of_key pair.0 layout ≡ Some limit
@@ -47,13 +47,13 @@ pub record PairText (layout : Layout) (b : List ℕ) (pair : List ℕ × Spelled
   pub value : Spells limit value_text pair.1
   pub text : b ≡ key_text ++ value_text
 
--- The bytes b spell these pairs, one behind the other.
+-- The bytes b encode these pairs, one after the other.
 abbrev pub PairTexts : Layout → List ℕ → Pairs → Type 0
 PairTexts layout b [] = b ≡ []
 PairTexts layout b (pair ∷ pairs) = (first rest : List ℕ) × PairText layout first pair
     × PairTexts layout rest pairs × (b ≡ first ++ rest)
 
--- The bytes b spell a map of the layout: the count of its pairs, and then the pairs, no key twice.
+-- The bytes b encode a map of the layout: the count of its pairs, and then the pairs, no key twice.
 pub record MapText (layout : Layout) (b : List ℕ) (pairs : Pairs) : Type 0 where
   pub count_text : List ℕ
   pub pairs_text : List ℕ
@@ -62,30 +62,30 @@ pub record MapText (layout : Layout) (b : List ℕ) (pairs : Pairs) : Type 0 whe
   pub distinct : IsDistinct bytes_eq (map (λ pair. pair.0) pairs)
   pub text : b ≡ count_text ++ pairs_text
 
--- the number, or 0 where the key is absent
+-- the number, or 0 if the key is absent
 abbrev pub number_or_zero : Option Spelled → ℕ
 number_or_zero (Some (number v)) = v
 number_or_zero value = 0
 
--- the bytes, or none where the key is absent
+-- the bytes, or none if the key is absent
 abbrev pub raw_or_empty : Option Spelled → List ℕ
 raw_or_empty (Some (raw s)) = s
 raw_or_empty value = []
 
--- the truth value, or false where the key is absent
+-- the truth value, or false if the key is absent
 abbrev pub flag_or_false : Option Spelled → Bool
 flag_or_false (Some (flag f)) = f
 flag_or_false value = false
 
--- the number that the pairs tell of a key
+-- the number of a key in the pairs
 abbrev pub number_of : Key → Pairs → ℕ
 number_of key pairs = number_or_zero (of_key (key_text key) pairs)
 
--- the bytes that the pairs tell of a key
+-- the bytes of a key in the pairs
 abbrev pub raw_of : Key → Pairs → List ℕ
 raw_of key pairs = raw_or_empty (of_key (key_text key) pairs)
 
--- the truth value that the pairs tell of a key
+-- the truth value of a key in the pairs
 abbrev pub flag_of : Key → Pairs → Bool
 flag_of key pairs = flag_or_false (of_key (key_text key) pairs)
 

@@ -5,6 +5,6 @@ use Rattle.std.specs.Prelude.{ℕ}
 abbrev pub most_nodes : ℕ
 most_nodes = 131072
 
--- bytes of the state of the program above, behind the records
+-- bytes of the state of the program above, after the records
 abbrev pub most_user_state : ℕ
 most_user_state = 20971520

@@ -9,13 +9,13 @@ pub record PacketValue : Type 0 where
   pub claim : Claim
   pub from : List ℕ
 
--- nobody is named for an Alive, the member itself for a Leave, and another one for a Confirm
+-- the name is empty for an Alive, the member itself for a Leave, and another member for a Confirm
 abbrev pub IsMadeBy : Claim → List ℕ → Type 0
 IsMadeBy (Alive name inc details) from = from ≡ []
 IsMadeBy (Suspect name inc) from = Unit {0}
 IsMadeBy (Confirm name inc) from = from ≢ name
 IsMadeBy (Leave name inc) from = from ≡ name
 
--- the name is that of one who may make the claim, and has at most 1,024 bytes
+-- the name is of a member that may make the claim, and has at most 1,024 bytes
 abbrev pub IsLegalPacket : Claim → List ℕ → Type 0
 IsLegalPacket claim from = IsMadeBy claim from × (length from ≤ longest_name)

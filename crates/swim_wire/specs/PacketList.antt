@@ -10,7 +10,7 @@ abbrev pub packets_in : Datagram → List PacketValue
 packets_in (Packet packet) = packet ∷ []
 packets_in (Compound packets) = packets.items
 
--- their claims, in their order
+-- their claims, in order
 abbrev pub claims_in : Datagram → List Claim
 claims_in datagram = map (λ p. p.claim) (packets_in datagram)
 

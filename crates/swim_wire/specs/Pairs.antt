@@ -1,4 +1,4 @@
--- Maps as they are written: pairs of keys and values, each in its canonical spelling.
+-- Maps as they are written: pairs of keys and values, each in its canonical encoding.
 use Rattle.std.specs.Prelude.{ℕ, ◌<◌, ◌^◌, List, ◌++◌, length, map, Option, Some, None}
 use Rattle.std.specs.List.{flat_map}
 use Rattle.swim_claim.specs.declared.claim.Kind.{Kind}
@@ -40,7 +40,7 @@ pair_of pair = (key_text pair.0, written_value pair.1)
 abbrev pub pairs_of : List (Key × Written) → Pairs
 pairs_of pairs = map pair_of pairs
 
--- bytes are short enough for two bytes of length
+-- the bytes are short enough for a length in two bytes
 abbrev pub IsShort : Written → Type 0
 IsShort (written.Number v) = Unit {0}
 IsShort (written.Raw bytes) = length bytes.now < 2 ^ 16

@@ -1,4 +1,4 @@
--- The parts of a compound packet, and the packets that were read of them.
+-- The parts of a compound packet, and the packets that were read from them.
 use Rattle.std.specs.Prelude.{◌≡◌, ◌⊎◌, ℕ, List, [], ◌∷◌, ◌++◌, Result, Ok, Err, ⊤}
 use Rattle.std.specs.Int.{w16, from_be_bytes}
 use Rattle.swim_wire.specs.declared.fault.WireFault.{WireFault}
@@ -11,7 +11,7 @@ lengths_in [] = []
 lengths_in (high ∷ []) = []
 lengths_in (high ∷ low ∷ bytes) = from_be_bytes w16 (high ∷ low ∷ []) ∷ lengths_in bytes
 
--- the answer's packets are these, or its refusal is this one, unless memory ran out
+-- the packets in the result are these, or its refusal is this one, unless memory ran out
 abbrev pub ListsUnlessMemory : {X : Type 0} → (X → List PacketValue)
     → Result (List PacketValue) WireFault → Result X WireFault → Type 0
 ListsUnlessMemory items wanted (Ok packets) = wanted ≡ Ok (items packets)

@@ -1,4 +1,4 @@
--- The places of keys in the layouts: a value that was read stands at that of its key.
+-- The indices of keys in the layouts: a value that was read is at the index of its key.
 use Rattle.std.specs.Prelude.{ℕ}
 
 -- ---- memberlist's alive
@@ -29,7 +29,7 @@ alive_vsn = 5
 
 -- ---- memberlist's suspect and dead
 
--- who says so
+-- who makes the accusation
 abbrev pub accusation_from : ℕ
 accusation_from = 0
 
@@ -51,7 +51,7 @@ header_join = 0
 abbrev pub header_nodes : ℕ
 header_nodes = 1
 
--- how many bytes follow these
+-- how many bytes follow the records
 abbrev pub header_user_state_len : ℕ
 header_user_state_len = 2
 

@@ -1,4 +1,4 @@
--- The readings of messages, a field at a time.
+-- The readings of messages, one field at a time.
 use Rattle.std.specs.Prelude.{◌≡◌, ◌⊎◌, ℕ, zero, suc, nat_lt, ◌==◌, ◌||◌, Bool, true, false, List, [], ◌∷◌, length, Option, Some, None, Result, Ok, Err, if◌then◌else◌, position, slice_index_or, slice_set}
 use Rattle.std.specs.Str.{bytes_eq}
 use Rattle.swim_claim.specs.declared.claim.Claim.{Claim}
@@ -24,22 +24,22 @@ use Rattle.swim_wire.specs.Packet.{PacketValue}
 abbrev pub Reading : Type 0 → Type 0
 Reading V = composing.Reading WireFault V
 
--- what a refusal comes from
+-- what causes a refusal
 abbrev pub wire_cause : WireFault → Cause
 wire_cause Ended = by_end
 wire_cause Fault = by_inlet
 wire_cause Memory = by_memory
 wire_cause error = by_bytes
 
--- the values of a map, each at the place of its key in the layout
+-- the values of a map, each at the index of its key in the layout
 abbrev pub Slots : Type 0
 Slots = List (Option Spelled)
 
--- the value at a place, if one was read
+-- the value at an index, if one was read
 abbrev pub slot : Slots → ℕ → Option Spelled
 slot slots place = slice_index_or slots place None
 
--- what stands behind a key
+-- the value after a key
 unfoldable pub value_at : Limit → Reading Spelled
 value_at (limits.Number max) = do
   v ← lift fault_of_pack (uint_at max)
@@ -51,33 +51,33 @@ value_at limits.Flag = do
   f ← lift fault_of_pack flag_at
   gives (flag f)
 
--- the place of a key in the layout
+-- the index of a key in the layout
 abbrev pub place_of : Layout → List ℕ → Option ℕ
 place_of layout key = position (λ field. bytes_eq field.0 key) layout
 
--- the limit of the value at a place of the layout
+-- the limit of the value at an index of the layout
 abbrev pub limit_at : Layout → ℕ → Limit
 limit_at layout place = let field = slice_index_or layout place ([], limits.Flag) in field.1
 
--- goes on where no value was read at the place
+-- continues if no value was read at the index
 abbrev pub if_vacant : {A : Type 0} → Option Spelled → Reading A → Reading A
 if_vacant None reading = reading
 if_vacant (Some value) reading = refuses DuplicateKey
 
--- a key, as its place in the layout
+-- a key, as its index in the layout
 unfoldable pub key_at : Layout → Reading ℕ
 key_at layout = do
   key ← lift fault_of_key (raw_at 12)
   some_or UnknownKey (place_of layout key)
 
--- a key, and its value at its place
+-- a key, and its value at its index
 unfoldable pub pair_at : Layout → Slots → Reading Slots
 pair_at layout slots = do
   place ← key_at layout
   value ← if_vacant (slot slots place) (value_at (limit_at layout place))
   gives (slice_set slots place (Some value))
 
--- so many pairs
+-- this many pairs
 unfoldable pub pairs_at : Layout → ℕ → Slots → Reading Slots
 pairs_at layout zero slots = gives slots
 pairs_at layout (suc n) slots = do
@@ -94,31 +94,31 @@ map_at layout = do
   n ← lift fault_of_pack (count_at (length layout))
   pairs_at layout n no_slots
 
--- what was checked, or the refusal
+-- the value that was checked, or the refusal
 abbrev pub checked : {A : Type 0} → Result A WireFault → Reading A
 checked (Ok x) = gives x
 checked (Err fault) = refuses fault
 
--- the number at a place, or 0 where none was read
+-- the number at an index, or 0 if none was read
 abbrev pub number_in : Slots → ℕ → ℕ
 number_in slots place = number_or_zero (slot slots place)
 
--- the bytes at a place, or none where none were read
+-- the bytes at an index, or none if none were read
 abbrev pub raw_in : Slots → ℕ → List ℕ
 raw_in slots place = raw_or_empty (slot slots place)
 
--- the truth value at a place, or false where none was read
+-- the truth value at an index, or false if none was read
 abbrev pub flag_in : Slots → ℕ → Bool
 flag_in slots place = flag_or_false (slot slots place)
 
--- ---- the checks of the whole, in their order
+-- the checks of the whole, in order
 
--- the result, where the name is not empty
+-- the result, if the name is not empty
 abbrev pub with_name : {A : Type 0} → List ℕ → Result A WireFault → Result A WireFault
 with_name [] result = Err NameEmpty
 with_name (byte ∷ bytes) result = result
 
--- what is made of the details, where the address and then the versions are legal
+-- what is made of the details, if the address and then the versions are legal
 abbrev pub with_details : {A : Type 0} → DetailsValue → (DetailsValue → A) → Result A WireFault
 with_details details f =
     if (length details.addr == 4) || (length details.addr == 16)
@@ -128,7 +128,7 @@ with_details details f =
 
 -- ---- packets
 
--- the packet that the values of an alive message tell
+-- the packet in the values of an alive message
 abbrev pub alive_of : Slots → Result PacketValue WireFault
 alive_of slots =
     with_name (raw_in slots alive_node) (with_details (record {
@@ -142,7 +142,7 @@ alive_of slots =
       from = [];
     }))
 
--- the packet that the values of a suspect message tell
+-- the packet in the values of a suspect message
 abbrev pub suspect_of : Slots → Result PacketValue WireFault
 suspect_of slots =
     with_name (raw_in slots accusation_node) (Ok (record {
@@ -150,12 +150,12 @@ suspect_of slots =
       from = raw_in slots accusation_from;
     }))
 
--- a member that is dead by its own word has left
+-- a member that is dead by its own claim has left
 abbrev pub dead_claim : Bool → List ℕ → ℕ → Claim
 dead_claim true name inc = Leave name inc
 dead_claim false name inc = Confirm name inc
 
--- the packet that the values of a dead message tell
+-- the packet in the values of a dead message
 abbrev pub dead_of : Slots → Result PacketValue WireFault
 dead_of slots =
     with_name (raw_in slots accusation_node) (Ok (record {
@@ -164,19 +164,19 @@ dead_of slots =
       from = raw_in slots accusation_from;
     }))
 
--- an alive message, behind its type byte
+-- an alive message, after its type byte
 unfoldable pub alive_at : Reading PacketValue
 alive_at = do
   slots ← map_at alive_layout
   checked (alive_of slots)
 
--- a suspect message, behind its type byte
+-- a suspect message, after its type byte
 unfoldable pub suspect_at : Reading PacketValue
 suspect_at = do
   slots ← map_at accusation_layout
   checked (suspect_of slots)
 
--- a dead message, behind its type byte
+-- a dead message, after its type byte
 unfoldable pub dead_at : Reading PacketValue
 dead_at = do
   slots ← map_at accusation_layout
@@ -201,7 +201,7 @@ nothing_after (Ok (x, [])) = Ok x
 nothing_after (Ok (x, byte ∷ bytes)) = Err Trailing
 nothing_after (Err fault) = Err fault
 
--- the answer is this one, unless memory ran out
+-- the result is this one, unless memory ran out
 abbrev pub AnswersUnlessMemory : {A : Type 0} → Result A WireFault → Result A WireFault → Type 0
 AnswersUnlessMemory wanted result = (result ≡ wanted) ⊎ (result ≡ Err Memory)
 
@@ -211,7 +211,7 @@ whole_packet bytes = nothing_after (packet_at bytes)
 
 -- ---- streams
 
--- the header that the values tell; its count of members is checked first
+-- the header in the values; its count of members is checked first
 abbrev pub header_of : Slots → Result Header WireFault
 header_of slots =
     if nat_lt most_nodes (number_in slots header_nodes) then Err TooManyNodes else
@@ -247,7 +247,7 @@ claim_of_state slots state =
     then Ok (Leave (raw_in slots state_name) (number_in slots state_incarnation))
     else Err (BadState state)
 
--- the claim that the values of a state record tell; its name is checked first
+-- the claim in the values of a state record; its name is checked first
 abbrev pub state_of : Slots → Result Claim WireFault
 state_of slots =
     with_name (raw_in slots state_name) (claim_of_state slots (number_in slots state_state))

@@ -1,4 +1,4 @@
--- State records by what facts tell of a member.
+-- State records from the facts about a member.
 use Rattle.std.specs.Prelude.{ℕ, ◌≤◌, List, length}
 use Rattle.std.specs.Option.{option_copied, unwrap_or}
 use Rattle.swim_claim.specs.declared.claim.Facts.{Facts}
@@ -8,13 +8,13 @@ use Rattle.swim_wire.specs.declared.canonical.records.Record.{Record}
 use Rattle.swim_wire.specs.Canonical.{record_bytes}
 use Rattle.swim_wire.specs.Pairs.{state_number, details_or_none}
 
--- the state record of what the facts tell of the member with this name
+-- the state record of the facts about the member with this name
 abbrev pub facts_bytes : List ℕ → Facts → List ℕ
 facts_bytes name facts =
     record_bytes name facts.inc (state_number facts.kind)
     (details_or_none (option_copied facts.details))
 
--- the same, with these details where the facts tell none
+-- the same, with these details if the facts have none
 abbrev pub facts_bytes_with : DetailsValue → List ℕ → Facts → List ℕ
 facts_bytes_with details name facts =
     record_bytes name facts.inc (state_number facts.kind)

@@ -1,4 +1,4 @@
--- The values of a map, as the code keeps them: each at the place of its key in the layout.
+-- The values of a map, as the code keeps them: each at the index of its key in the layout.
 use Rattle.std.specs.Prelude.{◌≤◌, List, [], ◌∷◌, length, map, Option, Some, None, IsSome}
 use Rattle.std.specs.Option.{option_map}
 use Rattle.swim_wire.specs.declared.layout.Field.{Field}
@@ -17,7 +17,7 @@ Fits (limits.Raw limit) (Raw bytes) = length bytes.items ≤ limit
 Fits limits.Flag (Flag f) = Unit {0}
 Fits limit value = ⊥
 
--- so is the value of a key, where there is one
+-- so is the value of a key, if there is one
 abbrev pub FitsIfSome : Limit → Option Value → Type 0
 FitsIfSome limit None = Unit {0}
 FitsIfSome limit (Some value) = Fits limit value
@@ -28,21 +28,21 @@ FitsEach [] values = Unit {0}
 FitsEach (field ∷ layout) [] = ⊥
 FitsEach (field ∷ layout) (value ∷ values) = FitsIfSome field.limit value × FitsEach layout values
 
--- what a value says
+-- what a value means
 abbrev pub spelled : Value → Spelled
 spelled (Number v) = number v
 spelled (Raw bytes) = raw bytes.items
 spelled (Flag f) = flag f
 
--- the values as a map spelled them
+-- the values as a map encodes them
 abbrev pub slots_of : List (Option Value) → List (Option Spelled)
 slots_of values = map (λ value. option_map spelled value) values
 
--- the keys as a map spells them
+-- the keys as a map encodes them
 abbrev pub layout_of : List Field → Layout
 layout_of fields = map (λ field. (key_text field.key, field.limit)) fields
 
--- a value of this kind is read with this memory: text and bytes need some
+-- a value of this kind can be read with this memory: text and bytes need some
 abbrev pub CanRead : {A : Type 0} → Option A → Limit → Type 0
 CanRead alloc (limits.Raw limit) = IsSome alloc
 CanRead alloc limit = Unit {0}

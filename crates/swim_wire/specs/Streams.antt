@@ -11,7 +11,7 @@ pub data StateTexts : List ℕ → List Claim → Type 0 where
       → StateTexts (b ++ rest) (c ∷ claims)
 
 -- The bytes b are a stream of these claims with this join flag: a header, as many state records as
--- it promises, and as many bytes of user state, of any values.
+-- it announces, and as many bytes of user state, which may be anything.
 pub record StreamText (b : List ℕ) (claims : List Claim) (join : Bool) : Type 0 where
   pub header : Header
   pub head : List ℕ

@@ -11,7 +11,7 @@ use Rattle.swim_wire.specs.Layout.{Pairs, MapText, number_of, raw_of, flag_of, a
 use Rattle.swim_wire.specs.Limits.{most_nodes, most_user_state}
 use Rattle.swim_wire.specs.Packet.{PacketValue}
 
--- the details that the pairs tell
+-- the details in the pairs
 abbrev pub told_details : Pairs → DetailsValue
 told_details pairs = record {
   addr = raw_of keys.Addr pairs;
@@ -26,7 +26,7 @@ HasLegalDetails pairs = IsAddress (raw_of keys.Addr pairs)
     × IsVersions (raw_of keys.Vsn pairs)
 
 -- The bytes b are the packet p: a type byte, and then one map that passes the checks of the whole.
--- A dead message that its own member makes says that it left.
+-- A dead message from the member itself says that it left.
 pub data PacketText (b : List ℕ) (p : PacketValue) : Type 0 where
   alive : (m : List ℕ) (pairs : Pairs) → b ≡ 4 ∷ m → MapText alive_layout m pairs
       → raw_of keys.Node pairs ≢ [] → HasLegalDetails pairs
@@ -100,8 +100,7 @@ abbrev pub IsPacketPart : List ℕ → Type 0
 IsPacketPart [] = ⊥
 IsPacketPart (first ∷ rest) = (first ≡ 3) ⊎ (first ≡ 4) ⊎ (first ≡ 5)
 
--- The parts of a compound packet have these packets, in their order; every other part is passed
--- over.
+-- The parts of a compound packet have these packets, in order; every other part is skipped.
 abbrev pub PartTexts : List (List ℕ) → List PacketValue → Type 0
 PartTexts [] packets = packets ≡ []
 PartTexts (part ∷ parts) packets =

@@ -1,5 +1,5 @@
 //! Messages in their canonical bytes: all keys of the layout in alphabetical order, each value in
-//! its canonical spelling (own).
+//! its canonical encoding (own).
 
 mod pairs;
 mod records;
@@ -25,12 +25,12 @@ use std::alloc::{AllocError, Global};
 use swim_claim::{Claim, Details, Facts, Name};
 
 /// Appends the header of a push/pull stream: its type byte, and its map (memberlist's
-/// `pushPullHeader`). One above the limits of [`Header`] is written too, and no reader takes it.
+/// `pushPullHeader`). A header above the limits of [`Header`] is written too, but no reader accepts
+/// it.
 ///
 /// # Errors
 ///
-/// `AllocError` where the vector had to grow and memory ran out. Its contents are then as they
-/// were.
+/// `AllocError` if the vector had to grow and memory ran out. Its contents are then unchanged.
 pub fn write_header(out: &mut Vec<u8>, header: &Header) -> Result<(), AllocError>
     ensures ok { OnOk result (out.new.items ≡ out.old.items ++ header_bytes header.now) }
     ensures text { header.now.nodes ≤ most_nodes → header.now.user_len ≤ most_user_state
@@ -44,13 +44,12 @@ pub fn write_header(out: &mut Vec<u8>, header: &Header) -> Result<(), AllocError
 }
 
 /// Appends the state record of the claim that the facts make about a member (memberlist's
-/// `pushNodeState`). Only that of an Alive has an address, a port, metadata and versions; it is a
-/// condition that the facts have details exactly for an Alive.
+/// `pushNodeState`). Only an Alive's record has an address, a port, metadata and versions. The
+/// facts must have details exactly if they are an Alive.
 ///
 /// # Errors
 ///
-/// `AllocError` where the vector had to grow and memory ran out. Its contents are then as they
-/// were.
+/// `AllocError` if the vector had to grow and memory ran out. Its contents are then unchanged.
 pub fn write_state<'a>(
     out: &mut Vec<u8>,
     name: &'a Name,
@@ -73,7 +72,7 @@ pub fn write_state<'a>(
 ///
 /// # Errors
 ///
-/// `AllocError` where memory ran out.
+/// `AllocError` if memory ran out.
 pub fn encode_packet(alloc: Global, packet: &Packet) -> Result<Vec<u8>, AllocError>
     ensures canonical { IfOk result (λ bytes. bytes.items ≡ packet_bytes packet.now) }
     ensures text { IfOk result (λ bytes. PacketText bytes.items packet.now) }
@@ -84,13 +83,12 @@ pub fn encode_packet(alloc: Global, packet: &Packet) -> Result<Vec<u8>, AllocErr
 }
 
 /// The canonical bytes of a compound packet: its type byte, the count of the packets, their lengths
-/// in two bytes each with the higher first, and the packets (memberlist's `makeCompoundMessage`).
-/// It is a condition that there are at most 255 of them. Each has fewer than 65,536 bytes, so that
-/// two tell its length.
+/// in two bytes each, high byte first, and the packets (memberlist's `makeCompoundMessage`). There
+/// must be at most 255 of them. Each is shorter than 65,536 bytes, so two bytes hold its length.
 ///
 /// # Errors
 ///
-/// `AllocError` where memory ran out.
+/// `AllocError` if memory ran out.
 pub fn encode_compound(alloc: Global, packets: &[Packet]) -> Result<Vec<u8>, AllocError>
     requires { length packets.now ≤ 255 }
     ensures canonical { IfOk result (λ bytes. bytes.items ≡ packets_bytes packets.now) }
@@ -151,7 +149,7 @@ fn write_alive<'a>(
     )
 }
 
-/// Appends memberlist's `suspect` or `dead`, which the member `from` makes.
+/// Appends memberlist's `suspect` or `dead`, made by the member `from`.
 fn write_accusation<'a>(
     out: &mut Vec<u8>,
     message: u8,

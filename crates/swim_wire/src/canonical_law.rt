@@ -1,4 +1,4 @@
-//! What the canonical bytes of messages are, apart from any code.
+//! What the canonical bytes of messages are, independent of any code.
 
 ghost use Rattle.std.specs.Prelude.{◌≤◌, List, All, length};
 ghost use Rattle.swim_claim.specs.declared.claim.Claim.{Claim};
@@ -10,8 +10,8 @@ ghost use Rattle.swim_wire.specs.Limits.{most_nodes, most_user_state};
 ghost use Rattle.swim_wire.specs.Packet.{PacketValue, IsLegalPacket};
 ghost use Rattle.swim_wire.specs.Texts.{PacketText, HeaderText, StateText, DatagramText};
 
-/// The canonical bytes of a message are a text of it: of a packet, of a header within its limits,
-/// of the state record of a claim, alone or beside details, and of a compound of at most 255
+/// The canonical bytes of a message are one of its texts: for a packet, a header within its limits,
+/// the state record of a claim, with or without added details, and a compound of at most 255
 /// packets.
 pub fn canonical()
     ensures packet { (p : PacketValue) → IsLegalClaim p.claim → IsLegalPacket p.claim p.from

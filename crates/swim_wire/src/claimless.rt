@@ -11,41 +11,41 @@ use crate::map::read_map;
 use std::alloc::Global;
 use swim_pack::SliceInlet;
 
-/// A message that makes no claim, by what it is.
+/// The kind of a message that makes no claim.
 #[derive(Clone, Copy, Debug, PartialEq, Eq)]
 pub enum Claimless {
-    /// Asks a member whether it is there.
+    /// Asks a member whether it is alive.
     Ping,
-    /// Asks a member to ask another one.
+    /// Asks a member to ping another one.
     IndirectPing,
-    /// Says that a member is there.
+    /// Answers a ping: the member is alive.
     Ack,
     /// Bytes of the program that uses memberlist.
     User,
-    /// Says that a member that was asked to ask heard nothing yet.
+    /// Says that a member asked to ping another one got no answer yet.
     Nack,
     /// Says why a stream was refused.
     Error,
 }
 
-/// Which message that makes no claim the bytes are: its type byte, one map of its own keys, each of
-/// which may be absent, and nothing after it; a user message has any bytes in place of a map
-/// (memberlist's `net.go`). Names have at most 1,024 bytes and addresses 16. It takes no more
+/// The kind of message without a claim that the bytes are: its type byte, one map of its own keys,
+/// each of which may be absent, and nothing after it. A user message has any bytes in place of a
+/// map (memberlist's `net.go`). Names have at most 1,024 bytes and addresses 16. It takes no more
 /// memory than the message has bytes.
 ///
 /// # Errors
 ///
-/// The first of these that holds: `Ended` where the bytes are none; `WrongType` where the first is
-/// none of 0, 1, 2, 8, 11 and 13; the faults of the map, as its count, its keys and values are
-/// read; `Trailing` where bytes follow. `Memory` comes where a growth was refused.
+/// The first of these that holds: `Ended` if there are no bytes; `WrongType` if the first is not 0,
+/// 1, 2, 8, 11 or 13; the faults of the map, as its count, its keys and values are read; `Trailing`
+/// if bytes follow. `Memory` comes if an allocation failed.
 pub fn decode_claimless(alloc: Global, bytes: &[u8]) -> Result<Claimless, WireFault>
     // The bytes are such a message.
     ensures reads { IfOk result (λ kind. ClaimlessText bytes.now kind) }
 
-    // Refused for another cause than memory they are none.
+    // If refused for a reason other than memory, the bytes are not such a message.
     ensures refuses { IfErr result (λ fault. fault ≢ WireFault.Memory
         → (kind : Claimless) → ¬ ClaimlessText bytes.now kind) }
-    // Which refusal it is.
+    // Which error is returned.
     ensures exact { AnswersUnlessMemory (whole_claimless bytes.now) result }
 {
     decode_whole_claimless(alloc, bytes)
@@ -67,7 +67,7 @@ fn decode_whole_claimless(alloc: Global, bytes: &[u8]) -> Result<Claimless, Wire
     }
 }
 
-/// The kind of message that begins with this byte, as in memberlist's `net.go`.
+/// The kind of message that starts with this byte, as in memberlist's `net.go`.
 fn kind_of(first: u8) -> Option<Claimless>
     ensures { result ≡ claimless_kind first }
 {
@@ -82,7 +82,7 @@ fn kind_of(first: u8) -> Option<Claimless>
     }
 }
 
-/// Reads what stands behind the first byte.
+/// Reads what follows the first byte.
 fn read_body(alloc: Global, kind: Claimless, body: &[u8]) -> Result<(), WireFault>
     ensures { IsReadUnlessMemory (whole_body kind body.now) result }
 {
@@ -96,7 +96,7 @@ fn read_body(alloc: Global, kind: Claimless, body: &[u8]) -> Result<(), WireFaul
     }
 }
 
-/// memberlist's `ackResp`, with a payload of at most so many bytes.
+/// memberlist's `ackResp`, with a payload of at most `limit` bytes.
 fn ack_layout(limit: usize) -> [Field; 2]
     ensures { layout_of result ≡ claimless_layout limit Claimless.Ack }
 {
@@ -112,7 +112,7 @@ fn ack_layout(limit: usize) -> [Field; 2]
     ]
 }
 
-/// memberlist's `errResp`, with a text of at most so many bytes.
+/// memberlist's `errResp`, with a text of at most `limit` bytes.
 fn error_layout(limit: usize) -> [Field; 1]
     ensures { layout_of result ≡ claimless_layout limit Claimless.Error }
 {

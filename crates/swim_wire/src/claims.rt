@@ -1,4 +1,4 @@
-//! What the fields of a message say, once it is checked as a whole: claims and packets of them, and
+//! What the fields of a message say after it is checked as a whole: claims, packets of claims, and
 //! the header of a stream.
 
 ghost use Rattle.std.specs.Prelude.{◌≡◌, ◌≢◌, ◌≤◌, [], Ok, length, IfOk, IsErrOf};
@@ -43,7 +43,7 @@ pub(crate) fn packet_of_suspect(alloc: Global, suspect: &Accusation) -> Result<P
     Ok(Packet::new(Claim::Suspect { name, inc }, from))
 }
 
-/// The packet of a dead message. A member that is dead by its own word has left.
+/// The packet of a dead message. If the member says so itself, it has left.
 #[inline(always)]
 pub(crate) fn packet_of_dead(alloc: Global, dead: &Accusation) -> Result<Packet, WireFault>
     requires { IsShortAccusation dead.now }

@@ -12,23 +12,23 @@ use crate::map::{Value, Values, read_map};
 use std::alloc::Global;
 use swim_pack::{Inlet, SliceInlet};
 
-/// The compressed bytes that the map of a compressed message carries (memberlist's `compress`):
-/// `Algo`, which is 0 for LZW, and `Buf`, the bytes. An absent `Algo` is 0 and an absent `Buf` is
-/// no bytes. It takes no more memory than the map has bytes, less than once for them all.
+/// The compressed bytes in the map of a compressed message (memberlist's `compress`): `Algo`, which
+/// is 0 for LZW, and `Buf`, the bytes. An absent `Algo` is 0 and an absent `Buf` is empty. It takes
+/// no more memory than the map has bytes, less than once for them all.
 ///
 /// # Errors
 ///
 /// The first of these that holds: the faults of the map, as its count, its keys and values are
-/// read, of which `OutOfRange` is an `Algo` above 0 and `TooLong` a `Buf` longer than all the
-/// bytes; `Trailing` where bytes follow. `Memory` comes where the growth for `Buf` was refused.
+/// read, with `OutOfRange` for an `Algo` above 0 and `TooLong` for a `Buf` longer than all the
+/// bytes; `Trailing` if bytes follow. `Memory` comes if the allocation for `Buf` failed.
 pub fn decode_compression(alloc: Global, bytes: &[u8]) -> Result<Vec<u8>, WireFault>
     // The bytes are the map of these compressed bytes.
     ensures reads { IfOk result (λ packed. CompressionText bytes.now packed.items) }
 
-    // Refused for another cause than memory they are no such map.
+    // If refused for a reason other than memory, the bytes are not such a map.
     ensures refuses { IfErr result (λ fault. fault ≢ WireFault.Memory
         → (packed : List ℕ) → ¬ CompressionText bytes.now packed) }
-    // Which refusal it is.
+    // Which error is returned.
     ensures exact { ShowsUnlessMemory (λ packed. packed.items)
         (whole_compression bytes.now) result }
 {
@@ -47,7 +47,7 @@ fn decode_whole_compression(alloc: Global, bytes: &[u8]) -> Result<Vec<u8>, Wire
     }
 }
 
-/// Reads the map. The one number that `Algo` may be is that of LZW.
+/// Reads the map. The only number allowed for `Algo` is that of LZW.
 fn read_compression<I: Inlet>(
     alloc: Global,
     inlet: &mut I,

@@ -1,4 +1,4 @@
-//! Datagrams: one packet each, or a compound packet of several.
+//! Datagrams: either one packet, or a compound packet of several.
 
 ghost use Rattle.std.specs.Prelude.{◌≡◌, ◌≢◌, ◌↔◌, [], List, Err, IfOk, IfErr, OnErr, IsErrOf};
 ghost use Rattle.swim_wire.specs.Asking.{PacketAsks, PartsAsk, CompoundAsks, DatagramAsks};
@@ -16,34 +16,35 @@ use crate::packet::{Packet, decode_whole_packet};
 use std::alloc::{AllocError, Global};
 use swim_claim::Claim;
 
-/// What a datagram carries: a packet by itself, or the packets of a compound packet.
+/// What a datagram carries: a single packet, or the packets of a compound packet.
 #[derive(Drop, Debug)]
 pub enum Datagram {
-    /// A packet by itself.
+    /// A single packet.
     Packet(Packet),
-    /// The packets of a compound packet, in their order. There may be none.
+    /// The packets of a compound packet, in order. There may be none.
     Compound(Vec<Packet>),
 }
 
 impl Datagram {
-    /// Reads a datagram as [`decode_datagram`] does, and tells a packet by itself from a compound
-    /// packet. For a packet by itself no list of packets takes memory.
+    /// Reads a datagram as [`decode_datagram`] does, but tells a single packet from a compound
+    /// packet. A single packet takes no memory for a list of packets.
     ///
     /// # Errors
     ///
     /// Those of [`decode_datagram`].
     pub fn decode(alloc: Global, bytes: &[u8]) -> Result<Datagram, WireFault>
-        // The bytes are a datagram of the packets, and a compound packet begins with its type byte.
+        // The bytes are a datagram of the packets, and a compound packet starts with its type byte.
         ensures reads { IfOk result (λ datagram. DatagramText bytes.now (packets_in datagram)) }
         ensures compound { IfOk result (λ datagram. IsCompound datagram ↔ BeginsWith 7 bytes.now) }
 
-        // Refused for another cause than memory they are no datagram, and the refusal says why.
-        // Memory is asked for once a text or bytes have told a length within their limit.
+        // If refused for a reason other than memory, the bytes are not a datagram, and the refusal
+        // says why. Memory is requested only after the length of a text or bytes, within its limit,
+        // was read.
         ensures refuses { IfErr result (λ fault. fault ≢ WireFault.Memory
             → (packets : List PacketValue) → ¬ DatagramText bytes.now packets) }
         ensures explains { IfErr result (λ fault. ExplainsDatagram fault bytes.now) }
 
-        // It is the one at which the reading stops. A slice never fails.
+        // The error is the one at which the reading stops. A slice never fails.
         ensures exact { IfErr result (λ fault. fault ≢ WireFault.Memory
             → whole_datagram bytes.now ≡ Err fault) }
         ensures no_fault { ¬ IsErrOf result WireFault.Fault }
@@ -55,7 +56,7 @@ impl Datagram {
     ///
     /// # Errors
     ///
-    /// Memory for the list of a packet by itself is refused.
+    /// `AllocError` if memory for the list of a single packet ran out.
     pub fn into_packets(self, alloc: Global) -> Result<Vec<Packet>, AllocError>
         ensures ok { IfOk result (λ packets. packets.items ≡ packets_in self) }
         ensures refused { OnErr result (¬ IsCompound self) }
@@ -70,11 +71,11 @@ impl Datagram {
         }
     }
 
-    /// The claims of the packets, in their order.
+    /// The claims of the packets, in order.
     ///
     /// # Errors
     ///
-    /// Memory for the list is refused.
+    /// `AllocError` if memory for the list ran out.
     pub fn into_claims(self, alloc: Global) -> Result<Vec<Claim>, AllocError>
         ensures { IfOk result (λ claims. claims.items ≡ claims_in self) }
     {
@@ -92,30 +93,31 @@ impl Datagram {
     }
 }
 
-/// Reads the packets of a datagram: one packet, or a compound packet. That has its type byte, the
-/// count of its parts in one byte, their lengths in two bytes each with the higher first, and the
-/// parts (memberlist's `makeCompoundMessage`). A part that begins with 3, 4 or 5 is a packet, and
-/// every other part is passed over (own).
+/// Reads the packets of a datagram: one packet, or a compound packet. A compound packet has its
+/// type byte, the count of its parts in one byte, their lengths in two bytes each, high byte first,
+/// and the parts (memberlist's `makeCompoundMessage`). A part that starts with 3, 4 or 5 is a
+/// packet, and every other part is skipped (own).
 ///
 /// # Errors
 ///
-/// The first of these that holds: `Ended` where the bytes are none; `WrongType` where the first is
-/// none of 3, 4, 5 and 7; for one packet what `decode_packet` says; in a compound packet `Ended`
-/// where its count or one of its lengths is cut; then, part by part, `Ended` where the part is cut
-/// and what `decode_packet` says of it; `Trailing` where bytes follow. `Memory` comes where a
-/// growth was refused: of one packet, or of at most the limit of a value, and never before the
-/// length of a text or bytes is read. A refusal answers no packet.
+/// The first of these that holds: `Ended` if there are no bytes; `WrongType` if the first is not 3,
+/// 4, 5 or 7; for one packet the error of `decode_packet`; in a compound packet `Ended` if its
+/// count or one of its lengths is cut off; then, part by part, `Ended` if the part is cut off, and
+/// the error of `decode_packet` for it; `Trailing` if bytes follow. `Memory` comes if an allocation
+/// failed, either of one packet or of at most the limit of a value, and never before the length of
+/// a text or bytes is read. After an error, no packet is returned.
 pub fn decode_datagram(alloc: Global, bytes: &[u8]) -> Result<Vec<Packet>, WireFault>
     // The bytes are a datagram of the packets.
     ensures reads { IfOk result (λ packets. DatagramText bytes.now packets.items) }
 
-    // Refused for another cause than memory they are no datagram, and the refusal says why. Memory
-    // is asked for once a text or bytes have told a length within their limit.
+    // If refused for a reason other than memory, the bytes are not a datagram, and the refusal says
+    // why. Memory is requested only after the length of a text or bytes, within its limit, was
+    // read.
     ensures refuses { IfErr result (λ fault. fault ≢ WireFault.Memory
         → (packets : List PacketValue) → ¬ DatagramText bytes.now packets) }
     ensures explains { IfErr result (λ fault. ExplainsDatagram fault bytes.now) }
 
-    // It is the one at which the reading stops. A slice never fails.
+    // The error is the one at which the reading stops. A slice never fails.
     ensures exact { IfErr result (λ fault. fault ≢ WireFault.Memory
         → whole_datagram bytes.now ≡ Err fault) }
     ensures no_fault { ¬ IsErrOf result WireFault.Fault }
@@ -147,7 +149,7 @@ fn decode_any_datagram(alloc: Global, bytes: &[u8]) -> Result<Datagram, WireFaul
     }
 }
 
-/// A packet by itself.
+/// A single packet.
 fn decode_alone(alloc: Global, bytes: &[u8]) -> Result<Datagram, WireFault>
     ensures lists { ListsUnlessMemory packets_in (alone (whole_packet bytes.now)) result }
     ensures no_fault { ¬ IsErrOf result WireFault.Fault }
@@ -175,7 +177,7 @@ fn decode_compound(alloc: Global, body: &[u8]) -> Result<Vec<Packet>, WireFault>
     decode_parts(alloc, lengths, parts)
 }
 
-/// Parts of these lengths, each of two bytes.
+/// Decodes the parts of these lengths, each length in two bytes.
 fn decode_parts(alloc: Global, lengths: &[u8], parts: &[u8]) -> Result<Vec<Packet>, WireFault>
     ensures lists { ListsUnlessMemory (λ packets. packets.items)
         (nothing_after (parts_at (lengths_in lengths.now) [] parts.now)) result }
@@ -201,7 +203,7 @@ fn decode_parts(alloc: Global, lengths: &[u8], parts: &[u8]) -> Result<Vec<Packe
     }
 }
 
-/// Adds the packet of a part, unless the part is passed over.
+/// Adds the packet of a part, unless the part is skipped.
 fn take_part(alloc: Global, part: &[u8], packets: &mut Vec<Packet>) -> Result<(), WireFault>
     ensures grows { GrowsBy (packets_of part.now) packets.old.items packets.new.items result }
     ensures no_fault { ¬ IsErrOf result WireFault.Fault }

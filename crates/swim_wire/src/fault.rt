@@ -9,64 +9,64 @@ use swim_claim::ClaimFault;
 use swim_pack::{PackFault, PullFault};
 use thiserror::Error;
 
-/// Why a message was refused. Each has a number, by which reports name it.
+/// Why a message was refused. Each fault has a number that identifies it in reports.
 #[derive(Clone, Copy, Debug, PartialEq, Eq, Error)]
 pub enum WireFault {
     /// The bytes end before the message does.
     #[error("the input ends too early")]
     Ended,
-    /// A number was wanted, and what stands there is none, or is negative.
+    /// A number was expected, but the value is not a number or is negative.
     #[error("expected a number that is not negative")]
     NotUnsigned,
-    /// The number is above the greatest value of its key.
+    /// The number is above the maximum of its key.
     #[error("the number is too large")]
     OutOfRange,
-    /// A truth value was wanted.
+    /// A truth value was expected.
     #[error("expected true or false")]
     NotBool,
-    /// Text or bytes were wanted.
+    /// Text or bytes were expected.
     #[error("expected text or bytes")]
     NotRaw,
     /// The text or bytes are longer than their key allows.
     #[error("the text or bytes are too long")]
     TooLong,
-    /// A map was wanted.
+    /// A map was expected.
     #[error("expected a map")]
     NotMap,
     /// The map has more pairs than its layout has keys.
     #[error("the map has too many entries")]
     MapCount,
-    /// The end that the bytes come from failed.
+    /// Reading from the source of the bytes failed.
     #[error("the input could not be read")]
     Fault,
-    /// A growth of memory was refused.
+    /// Memory ran out.
     #[error("out of memory")]
     Memory,
     /// The member's name is empty or absent.
     #[error("the name is empty")]
     NameEmpty,
-    /// The address of a member that is alive has neither 4 nor 16 bytes.
+    /// The address of an alive member has neither 4 nor 16 bytes.
     #[error("the address has neither 4 nor 16 bytes")]
     BadAddress,
-    /// The versions of a member that is alive are neither none nor 6 bytes.
+    /// The versions of an alive member have neither 0 nor 6 bytes.
     #[error("the versions have neither 0 nor 6 bytes")]
     BadVersions,
-    /// The message does not begin with a type that is read here.
+    /// The message does not start with a type that is read here.
     #[error("a message of type {found} is not read here")]
     WrongType { found: u8 },
-    /// The layout has no such key.
+    /// The layout does not have this key.
     #[error("the map has an unknown key")]
     UnknownKey,
-    /// The key came before in the same map.
+    /// The key already occurred in the same map.
     #[error("the map has a key twice")]
     DuplicateKey,
-    /// A member's state is none of 0 to 3.
+    /// A member's state is not 0 to 3.
     #[error("there is no state {found}")]
     BadState { found: u64 },
-    /// A stream promises more than 131,072 members.
+    /// A stream announces more than 131,072 members.
     #[error("the stream has more than 131,072 members")]
     TooManyNodes,
-    /// A stream promises more than 20,971,520 bytes of user state.
+    /// A stream announces more than 20,971,520 bytes of user state.
     #[error("the stream has more than 20,971,520 bytes of user state")]
     UserTooLong,
     /// There are bytes after the end of the message.
@@ -75,7 +75,7 @@ pub enum WireFault {
 }
 
 impl WireFault {
-    /// The number by which reports name the fault.
+    /// The number that identifies the fault in reports.
     pub fn number(&self) -> u32
         ensures { result ≡ wire_number self.now }
     {
@@ -134,7 +134,7 @@ impl From<PullFault> for WireFault {
     }
 }
 
-/// A name or metadata that is too long is so as the value of its key.
+/// A name or metadata that is too long is a value that is too long for its key.
 impl From<ClaimFault> for WireFault {
     ghost from_gives = { λ claim fault. fault ≡ fault_of_claim claim };
 

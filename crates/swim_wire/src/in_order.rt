@@ -1,8 +1,8 @@
-//! Messages that are at hand whole, written as memberlist and canonical dumps write them: each key
-//! once, in alphabetical order.
+//! Messages that are at hand as a whole, written as memberlist and canonical streams write them:
+//! each key once, in alphabetical order.
 //!
-//! A message that is written in another way is left to be read as `map` reads it, which also tells
-//! its first fault.
+//! A message that is written differently is left for `map` to read, which also finds its first
+//! fault.
 
 ghost use Rattle.std.specs.Prelude.{◌≡◌, ◌≤◌, ◌++◌, ◌∷◌, List, ℕ, length, IfSome, IsErrOf, IsNone, Ok};
 ghost use Rattle.swim_pack.specs.Composing.{ReadsAs, same};
@@ -29,7 +29,7 @@ use std::alloc::Global;
 use swim_claim::Claim;
 use swim_pack::{Inlet, bool_at_hand, raw_at_hand, uint_at_hand};
 
-/// The bytes behind this text, if they begin with it.
+/// The bytes after this text, if they start with it.
 #[inline(always)]
 fn behind<'a, const N: usize>(bytes: &'a [u8], text: &[u8; N]) -> Option<&'a [u8]>
     ensures { IfSome result (λ rest. bytes.now ≡ text.now ++ rest.now) }
@@ -38,7 +38,7 @@ fn behind<'a, const N: usize>(bytes: &'a [u8], text: &[u8; N]) -> Option<&'a [u8
     if front == text { Some(rest) } else { None }
 }
 
-/// The number behind this key, and the bytes behind it.
+/// The number after this key, and the bytes after it.
 #[tactic(auto, unfolding(crate::specs::Reading::value_at))]
 #[inline(always)]
 fn number_behind<'a, const N: usize>(
@@ -53,7 +53,7 @@ fn number_behind<'a, const N: usize>(
     uint_at_hand(behind(bytes, key)?, max)
 }
 
-/// The text or bytes behind this key, and the bytes behind them.
+/// The text or bytes after this key, and the bytes after them.
 #[tactic(auto, unfolding(crate::specs::Reading::value_at))]
 #[inline(always)]
 fn raw_behind<'a, const N: usize>(
@@ -68,7 +68,7 @@ fn raw_behind<'a, const N: usize>(
     raw_at_hand(behind(bytes, key)?, limit)
 }
 
-/// The truth value behind this key, and the bytes behind it.
+/// The truth value after this key, and the bytes after it.
 #[tactic(auto, unfolding(crate::specs::Reading::value_at))]
 fn flag_behind<'a, const N: usize>(bytes: &'a [u8], key: &[u8; N]) -> Option<(bool, &'a [u8])>
     ensures { IfSome result (λ found. (mid : List ℕ) × (bytes.now ≡ key.now ++ mid)
@@ -77,7 +77,7 @@ fn flag_behind<'a, const N: usize>(bytes: &'a [u8], key: &[u8; N]) -> Option<(bo
     bool_at_hand(behind(bytes, key)?)
 }
 
-/// A state record of all its keys at the front of the bytes, and the bytes behind it.
+/// A state record with all its keys at the start of the bytes, and the bytes after it.
 #[inline(always)]
 fn state_in_order(bytes: &[u8]) -> Option<(PushNodeState, &[u8])>
     ensures reads { IfSome result (λ found. map_at state_layout bytes.now
@@ -104,7 +104,7 @@ fn state_in_order(bytes: &[u8]) -> Option<(PushNodeState, &[u8])>
     Some((state, rest))
 }
 
-/// The map of an alive message of all its keys at the front of the bytes, and the bytes behind it.
+/// The map of an alive message with all its keys at the start of the bytes, and the bytes after it.
 #[inline(always)]
 fn alive_in_order(bytes: &[u8]) -> Option<(Alive, &[u8])>
     ensures reads { IfSome result (λ found. map_at alive_layout bytes.now
@@ -128,8 +128,8 @@ fn alive_in_order(bytes: &[u8]) -> Option<(Alive, &[u8])>
     Some((alive, rest))
 }
 
-/// The map of a suspect or dead message of all its keys at the front of the bytes, and the bytes
-/// behind it.
+/// The map of a suspect or dead message with all its keys at the start of the bytes, and the bytes
+/// after it.
 #[inline(always)]
 fn accusation_in_order(bytes: &[u8]) -> Option<(Accusation, &[u8])>
     ensures reads { IfSome result (λ found. map_at accusation_layout bytes.now
@@ -147,8 +147,8 @@ fn accusation_in_order(bytes: &[u8]) -> Option<(Accusation, &[u8])>
     Some((accusation, rest))
 }
 
-/// The header of a stream of all its keys at the front of the bytes, type byte included, and the
-/// bytes behind it.
+/// The header of a stream with all its keys at the start of the bytes, type byte included, and the
+/// bytes after it.
 fn header_in_order(bytes: &[u8]) -> Option<(PushPullHeader, &[u8])>
     ensures reads { IfSome result (λ found. (body : List ℕ) × (bytes.now ≡ 6 ∷ body)
         × (map_at header_layout body ≡ Ok (slots_of_header found.0, found.1.now))) }
@@ -165,7 +165,7 @@ fn header_in_order(bytes: &[u8]) -> Option<(PushPullHeader, &[u8])>
     Some((header, rest))
 }
 
-/// The packet of an alive message whose map the bytes are.
+/// The packet of an alive message with this map.
 fn alive_packet(alloc: Global, body: &[u8]) -> Option<Result<Packet, WireFault>>
     ensures answers { IfSome result (AnswersUnlessMemory (nothing_after (alive_at body.now))) }
     ensures no_fault { IfSome result (λ read. ¬ IsErrOf read WireFault.Fault) }
@@ -180,7 +180,7 @@ fn alive_packet(alloc: Global, body: &[u8]) -> Option<Result<Packet, WireFault>>
     }
 }
 
-/// The packet of a suspect message whose map the bytes are.
+/// The packet of a suspect message with this map.
 fn suspect_packet(alloc: Global, body: &[u8]) -> Option<Result<Packet, WireFault>>
     ensures answers { IfSome result (AnswersUnlessMemory (nothing_after (suspect_at body.now))) }
     ensures no_fault { IfSome result (λ read. ¬ IsErrOf read WireFault.Fault) }
@@ -195,7 +195,7 @@ fn suspect_packet(alloc: Global, body: &[u8]) -> Option<Result<Packet, WireFault
     }
 }
 
-/// The packet of a dead message whose map the bytes are.
+/// The packet of a dead message with this map.
 fn dead_packet(alloc: Global, body: &[u8]) -> Option<Result<Packet, WireFault>>
     ensures answers { IfSome result (AnswersUnlessMemory (nothing_after (dead_at body.now))) }
     ensures no_fault { IfSome result (λ read. ¬ IsErrOf read WireFault.Fault) }
@@ -210,8 +210,8 @@ fn dead_packet(alloc: Global, body: &[u8]) -> Option<Result<Packet, WireFault>>
     }
 }
 
-/// The packet that the bytes are, or why they are none, if its map has all its keys in alphabetical
-/// order. Another one is left to be read.
+/// The packet in these bytes, or why they are not a packet, if the map has all its keys in
+/// alphabetical order. Any other packet is left unread.
 pub(crate) fn packet_in_order(alloc: Global, bytes: &[u8]) -> Option<Result<Packet, WireFault>>
     ensures answers { IfSome result (AnswersUnlessMemory (whole_packet bytes.now)) }
     ensures no_fault { IfSome result (λ read. ¬ IsErrOf read WireFault.Fault) }
@@ -226,8 +226,8 @@ pub(crate) fn packet_in_order(alloc: Global, bytes: &[u8]) -> Option<Result<Pack
     }
 }
 
-/// Reads a state record that is at hand whole, with all its keys in alphabetical order. Another
-/// one, and one that is refused for another cause than memory, is left to be read.
+/// Reads a state record that is at hand as a whole, with all its keys in alphabetical order. Any
+/// other record, and one that is refused for a reason other than memory, is left unread.
 pub(crate) fn read_state_in_order<I: Inlet>(
     alloc: Global,
     inlet: &mut I,
@@ -252,8 +252,8 @@ pub(crate) fn read_state_in_order<I: Inlet>(
     }
 }
 
-/// Reads a header that is at hand whole, with all its keys in alphabetical order. Another one, and
-/// one that is refused, is left to be read.
+/// Reads a header that is at hand as a whole, with all its keys in alphabetical order. Any other
+/// header, and one that is refused, is left unread.
 pub(crate) fn read_header_in_order<I: Inlet>(inlet: &mut I) -> Option<Header>
     ensures read { IfSome result (λ header.
         ReadsAs wire_cause same header_at (I.seen inlet.old) (I.seen inlet.new) (Ok header)) }

@@ -1,4 +1,5 @@
-//! Laws of the messages: each text has one value, and none begins another of its kind.
+//! Laws of the messages: each text has one value, and is not a proper prefix of another of its
+//! kind.
 
 ghost use Rattle.std.specs.Prelude.{◌≡◌, ℕ, List, ◌++◌};
 ghost use Rattle.swim_claim.specs.declared.claim.Claim.{Claim};
@@ -9,8 +10,8 @@ ghost use Rattle.swim_wire.specs.Texts.{PacketText, HeaderText, StateText, Datag
 pub use crate::canonical_law::canonical;
 pub use crate::stream_law::one_stream;
 
-/// No message begins another of its kind, and each has one value: a packet, a header, a state
-/// record, and a datagram, whose value is the list of its packets.
+/// No message is a proper prefix of another of its kind, and each has one value: a packet, a
+/// header, a state record, and a datagram, whose value is the list of its packets.
 pub fn one_message()
     ensures packet { (a b x y : List ℕ) (p q : PacketValue) → PacketText a p → PacketText b q
         → a ++ x ≡ b ++ y → (a ≡ b) × (p ≡ q) }

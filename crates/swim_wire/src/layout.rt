@@ -1,4 +1,4 @@
-//! The keys of each map, what stands behind them, and their limits.
+//! The keys of each map, the kinds of their values, and their limits.
 
 ghost use Rattle.std.specs.Prelude.{◌≡◌};
 ghost use Rattle.swim_wire.specs.Keys.{key_text};
@@ -30,12 +30,12 @@ pub(crate) enum Key {
     Vsn,
 }
 
-/// What stands behind a key, and how great or how long it may be.
+/// The kind of a key's value, and how large or how long it may be.
 #[derive(Clone, Copy)]
 pub(crate) enum Limit {
-    /// A number of at most this.
+    /// A number up to this one.
     Number(u64),
-    /// Text or bytes of at most this length.
+    /// Text or bytes up to this length.
     Raw(usize),
     /// A truth value.
     Flag,
@@ -48,13 +48,13 @@ pub(crate) struct Field {
     pub(crate) limit: Limit,
 }
 
-/// The longest address in bytes, that of IPv6.
+/// The maximum length of an address in bytes, that of IPv6.
 pub(crate) const ADDRESS: usize = 16;
 
-/// The longest metadata in bytes, as in memberlist.
+/// The maximum length of metadata in bytes, as in memberlist.
 pub(crate) const META: usize = 512;
 
-/// The longest name of a member in bytes.
+/// The maximum length of a member's name in bytes.
 pub(crate) const NAME: usize = 1024;
 
 /// The versions of memberlist's protocol and of its user's, three bytes each.
@@ -104,7 +104,7 @@ pub(crate) const ACCUSATION: [Field; 3] = [
     },
 ];
 
-/// memberlist's `pushPullHeader`. Its numbers are checked once the map was read.
+/// memberlist's `pushPullHeader`. Its numbers are checked after the map is read.
 pub(crate) const HEADER: [Field; 3] = [
     Field {
         key: Key::Join,
@@ -120,7 +120,7 @@ pub(crate) const HEADER: [Field; 3] = [
     },
 ];
 
-/// memberlist's `pushNodeState`. Its state is checked once the map was read.
+/// memberlist's `pushNodeState`. Its state is checked after the map is read.
 pub(crate) const STATE: [Field; 7] = [
     Field {
         key: Key::Addr,
@@ -219,7 +219,7 @@ pub(crate) const NACK: [Field; 1] = [Field {
 }];
 
 impl Key {
-    /// The text of the key in a map.
+    /// The key's text in a map.
     pub(crate) fn text(self) -> &'static [u8]
         ensures { result.now ≡ key_text self }
     {

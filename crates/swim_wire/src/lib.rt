@@ -6,15 +6,15 @@
 //! | `stream`, `user_state` | the header and the records of a stream; the user state at its end |
 //! | `claimless` | messages that make no claim |
 //! | `compression` | the map of a compressed message |
-//! | `layout` | the keys of each map, what stands behind them, and their limits |
+//! | `layout` | the keys of each map, the kinds of their values, and their limits |
 //! | `map` | maps of a layout, read key by key |
-//! | `in_order` | messages that are at hand whole, each key once in alphabetical order |
-//! | `message` | what the maps say, before it is checked as a whole |
+//! | `in_order` | messages that are at hand as a whole, each key once in alphabetical order |
+//! | `message` | the fields of messages, before they are checked as a whole |
 //! | `claims` | the claims, packets and headers that pass this check |
 //! | `canonical` | messages in their canonical bytes |
 //! | `fault` | why a message was refused |
-//! | `laws` | what holds of messages, apart from any code |
-//! | `stream_law`, `canonical_law` | the same, of streams and of canonical bytes |
+//! | `laws` | what holds for messages, independent of any code |
+//! | `stream_law`, `canonical_law` | the same, for streams and for canonical bytes |
 #![tactic(auto)]
 
 mod canonical;

@@ -18,10 +18,10 @@ use crate::layout::{Field, Limit};
 use std::alloc::Global;
 use swim_pack::{Inlet, PackFault, read_bool, read_key, read_map_len, read_raw, read_uint};
 
-/// The most keys that a layout has.
+/// The maximum number of keys in a layout.
 const SLOTS: usize = 8;
 
-/// A value as a map spells it.
+/// A value of a map.
 #[derive(Drop)]
 pub(crate) enum Value {
     Number(u64),
@@ -29,11 +29,11 @@ pub(crate) enum Value {
     Flag(bool),
 }
 
-/// The values of a map, each at the place of its key in the layout. An absent key has none.
+/// The values of a map, each at the index of its key in the layout. An absent key has none.
 pub(crate) type Values = [Option<Value>; SLOTS];
 
 /// Reads a map of the layout: its count, and then each key and its value. A layout without text and
-/// bytes is read with no memory.
+/// bytes takes no memory.
 pub(crate) fn read_map<I: Inlet>(
     alloc: Option<Global>,
     inlet: &mut I,
@@ -81,7 +81,7 @@ fn read_pair<I: Inlet>(
     Ok(())
 }
 
-/// Reads a key, and answers its place in the layout.
+/// Reads a key, and returns its index in the layout.
 fn read_place<I: Inlet>(inlet: &mut I, layout: &[Field]) -> Result<usize, WireFault>
     ensures exact { ReadsAs wire_cause same (key_at (layout_of layout.now))
         (I.seen inlet.old) (I.seen inlet.new) result }
@@ -93,7 +93,7 @@ fn read_place<I: Inlet>(inlet: &mut I, layout: &[Field]) -> Result<usize, WireFa
     place_of(layout, &text[..len]).ok_or(WireFault::UnknownKey)
 }
 
-/// Reads the text of a key. One that is too long is no key of a layout.
+/// Reads the text of a key. One that is too long is not a key of any layout.
 fn read_key_text<I: Inlet>(inlet: &mut I, text: &mut [u8; 12]) -> Result<usize, WireFault>
     ensures exact { ReadsAs wire_cause (λ len. take len text.new) (lift fault_of_key (raw_at 12))
         (I.seen inlet.old) (I.seen inlet.new) result }
@@ -115,7 +115,7 @@ fn fault_of_key(fault: PackFault) -> WireFault
     }
 }
 
-/// The place of a key in the layout.
+/// The index of a key in the layout.
 fn place_of(layout: &[Field], key: &[u8]) -> Option<usize>
     ensures place { result ≡ position (λ field. bytes_eq (key_text field.key) key.now) layout.now }
     ensures within { IfSome result (λ place. place < length layout.now) }
@@ -123,7 +123,7 @@ fn place_of(layout: &[Field], key: &[u8]) -> Option<usize>
     layout.iter().position(|field| field.key.text() == key)
 }
 
-/// Reads what stands behind a key.
+/// Reads the value after a key.
 fn read_value<I: Inlet>(
     alloc: Option<Global>,
     inlet: &mut I,
@@ -144,7 +144,7 @@ fn read_value<I: Inlet>(
     }
 }
 
-/// The number, or 0 where its key is absent.
+/// The number, or 0 if its key is absent.
 pub(crate) fn uint(value: &Option<Value>) -> u64
     ensures { result ≡ number_or_zero (option_map spelled value.now) }
 {
@@ -154,7 +154,7 @@ pub(crate) fn uint(value: &Option<Value>) -> u64
     }
 }
 
-/// The text or bytes, or none where their key is absent.
+/// The text or bytes, or none if their key is absent.
 pub(crate) fn raw(value: &Option<Value>) -> &[u8]
     ensures { result.now ≡ raw_or_empty (option_map spelled value.now) }
 {
@@ -164,7 +164,7 @@ pub(crate) fn raw(value: &Option<Value>) -> &[u8]
     }
 }
 
-/// The truth value, or false where its key is absent.
+/// The truth value, or false if its key is absent.
 pub(crate) fn flag(value: &Option<Value>) -> bool
     ensures { result ≡ flag_or_false (option_map spelled value.now) }
 {

@@ -1,4 +1,4 @@
-//! What the maps of messages say, with memberlist's names, before it is checked as a whole.
+//! The fields of messages, with memberlist's names, before the message is checked as a whole.
 
 ghost use Rattle.swim_wire.specs.Message.{SaysAlive, SaysAccusation, SaysHeader, SaysState, IsShortAlive, IsShortAccusation, IsShortState};
 ghost use Rattle.swim_wire.specs.Slots.{FitsEach, slots_of};

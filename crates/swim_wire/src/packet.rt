@@ -22,7 +22,7 @@ use std::marker::Model;
 use swim_claim::Claim;
 use swim_pack::{Inlet, SliceInlet};
 
-/// A claim, and the member that makes it. Contracts see it as these two.
+/// A claim, and the member that makes it. Contracts see the packet as this pair.
 #[derive(Drop, Debug)]
 pub struct Packet {
     claim: Claim,
@@ -40,9 +40,9 @@ impl Model for Packet {
 }
 
 impl Packet {
-    /// A packet of a claim that the member `from` makes, of at most 1,024 bytes. It is empty for an
-    /// Alive, which a member makes about itself, it is the claim's name for a Leave, and it is
-    /// another name for a Confirm.
+    /// A packet of a claim made by the member `from`, of at most 1,024 bytes. `from` is empty for
+    /// an Alive, which a member makes about itself, the claim's name for a Leave, and another name
+    /// for a Confirm.
     pub fn new(claim: Claim, from: Vec<u8>) -> Packet
         requires { IsLegalPacket claim from.items }
         ensures { result ≡ record { claim = claim; from = from.items } }
@@ -56,7 +56,7 @@ impl Packet {
         &self.claim
     }
 
-    /// The name of the member that makes the claim, or nothing for an Alive.
+    /// The name of the member that makes the claim, or empty for an Alive.
     pub fn from_name(&self) -> &[u8]
         ensures from { result.now ≡ self.now.from }
         ensures legal { IsLegalPacket self.now.claim self.now.from }
@@ -75,22 +75,23 @@ impl Packet {
 ///
 /// # Errors
 ///
-/// The first of these that holds: `Ended` where the bytes are none; `WrongType` where the first is
-/// none of 3, 4 and 5; the faults of the map, as its count, its keys and values are read; of the
-/// whole, `NameEmpty`, then `BadAddress` and `BadVersions` in an alive packet; `Trailing` where
-/// bytes follow. `Memory` comes if a growth was refused, of at most the limit of a value, and
-/// never before the length of a text or bytes is read.
+/// The first of these that holds: `Ended` if there are no bytes; `WrongType` if the first is not 3,
+/// 4 or 5; the faults of the map, as its count, its keys and values are read; for the whole,
+/// `NameEmpty`, then `BadAddress` and `BadVersions` in an alive packet; `Trailing` if bytes follow.
+/// `Memory` comes if an allocation failed, of at most the limit of a value, and never before the
+/// length of a text or bytes is read.
 pub fn decode_packet(alloc: Global, bytes: &[u8]) -> Result<Packet, WireFault>
     // The bytes are the packet.
     ensures reads { IfOk result (λ packet. PacketText bytes.now packet) }
 
-    // Refused for another cause than memory they are no packet, and the refusal says why. Memory is
-    // asked for once a text or bytes have told a length within their limit.
+    // If refused for a reason other than memory, the bytes are not a packet, and the refusal says
+    // why. Memory is requested only after the length of a text or bytes, within its limit, was
+    // read.
     ensures refuses { IfErr result (λ fault. fault ≢ WireFault.Memory
         → (p : PacketValue) → ¬ PacketText bytes.now p) }
     ensures explains { IfErr result (λ fault. ExplainsWhole fault bytes.now) }
 
-    // It is the one at which the reading stops. A slice never fails.
+    // The error is the one at which the reading stops. A slice never fails.
     ensures exact { IfErr result (λ fault. fault ≢ WireFault.Memory
         → whole_packet bytes.now ≡ Err fault) }
     ensures no_fault { ¬ IsErrOf result WireFault.Fault }
@@ -109,7 +110,7 @@ pub(crate) fn decode_whole_packet(alloc: Global, bytes: &[u8]) -> Result<Packet,
     }
 }
 
-/// The packet, however its map is written.
+/// The packet, whatever the encoding of its map.
 pub(crate) fn decode_any_packet(alloc: Global, bytes: &[u8]) -> Result<Packet, WireFault>
     ensures answers { AnswersUnlessMemory (whole_packet bytes.now) result }
     ensures no_fault { ¬ IsErrOf result WireFault.Fault }

@@ -24,13 +24,13 @@ use std::alloc::Global;
 use swim_claim::Claim;
 use swim_pack::Inlet;
 
-/// The most state records of a stream.
+/// The maximum number of state records in a stream.
 pub(crate) const MOST_NODES: u64 = 131_072;
 
-/// The most bytes of user state of a stream.
+/// The maximum length of a stream's user state in bytes.
 pub(crate) const MOST_USER_STATE: u64 = 20_971_520;
 
-/// What a push/pull stream begins with.
+/// The header of a push/pull stream.
 #[derive(Clone, Copy, Debug, PartialEq, Eq)]
 pub struct Header {
     /// How many state records follow, at most 131,072.
@@ -46,23 +46,23 @@ pub struct Header {
 ///
 /// # Errors
 ///
-/// The first of these that holds: `WrongType` where the first byte is not 6; the faults of the map,
-/// as its count, its keys and values are read; of the whole, `TooManyNodes` above 131,072 and then
-/// `UserTooLong` above 20,971,520 (own). What is left are bytes from the end of those before.
+/// The first of these that holds: `WrongType` if the first byte is not 6; the faults of the map, as
+/// its count, its keys and values are read; for the whole, `TooManyNodes` above 131,072 and then
+/// `UserTooLong` above 20,971,520 (own). The bytes left are the last ones of those before the call.
 pub fn read_header<I: Inlet>(inlet: &mut I) -> Result<Header, WireFault>
-    // The bytes taken are the header.
+    // The consumed bytes are the header.
     ensures takes { IfOk result (λ header.
         Takes (I.seen inlet.old) (I.seen inlet.new) (λ b. HeaderText b header)) }
-    // Refused for another cause than a failing end no header stands at the front, and the refusal
-    // says why.
+    // If refused for a reason other than a failed inlet, the bytes do not start with a header, and
+    // the refusal says why.
     ensures lacks { IfErr result (λ fault. UnlessFailed (wire_cause fault)
         (Lacks (I.seen inlet.old) (λ b. (header : Header) × HeaderText b header))) }
     ensures explains { IfErr result (λ fault.
         ExplainsStart (ExplainsHeader fault) (I.seen inlet.old)) }
     ensures no_memory { ¬ IsErrOf result WireFault.Memory }
-    // What was read, what is left, and that a fault of the end was counted.
+    // What was read, what is left, and that a failure of the inlet was counted.
     ensures exact { ReadsAs wire_cause same header_at (I.seen inlet.old) (I.seen inlet.new) result }
-    // Also where the inlet tells no bytes.
+    // Also if the inlet's bytes are unknown.
     ensures within { IfOk result (λ header. (header.nodes ≤ most_nodes)
         × (header.user_len ≤ most_user_state)) }
 {
@@ -81,7 +81,7 @@ fn read_whole_header<I: Inlet>(inlet: &mut I) -> Result<Header, WireFault>
     }
 }
 
-/// Reads a header, however its map is written.
+/// Reads a header, whatever the encoding of its map.
 fn read_any_header<I: Inlet>(inlet: &mut I) -> Result<Header, WireFault>
     ensures exact { ReadsAs wire_cause same header_at (I.seen inlet.old) (I.seen inlet.new) result }
     ensures no_memory { ¬ IsErrOf result WireFault.Memory }
@@ -93,7 +93,7 @@ fn read_any_header<I: Inlet>(inlet: &mut I) -> Result<Header, WireFault>
     header_of(&PushPullHeader::new(&values))
 }
 
-/// Reads the map behind a type byte, which has to be that of a stream.
+/// Reads the map after a type byte, which must be that of a stream.
 fn read_header_map<I: Inlet>(inlet: &mut I, found: u8) -> Result<Values, WireFault>
     ensures exact { ReadsAs wire_cause slots_of
         (if found == 6 then map_at header_layout else refuses (WireFault.WrongType found))
@@ -109,28 +109,28 @@ fn read_header_map<I: Inlet>(inlet: &mut I, found: u8) -> Result<Values, WireFau
 }
 
 /// Reads one state record of a push/pull stream (memberlist's `pushNodeState`): state 0 is an
-/// Alive, 1 a Suspect, 2 a Confirm and 3 a Leave. Of the last three only the name and the
+/// Alive, 1 a Suspect, 2 a Confirm and 3 a Leave. For the last three only the name and the
 /// incarnation are kept.
 ///
 /// # Errors
 ///
 /// The first of these that holds: the faults of the map, as its count, its keys and values are
-/// read; of the whole, `NameEmpty`; `BadState` above 3; for state 0 `BadAddress` and then
-/// `BadVersions`. `Memory` comes if a growth was refused, of at most the limit of a value, and
-/// never before the length of a text or bytes is read. What is left are bytes from the end of those
-/// before.
+/// read; for the whole, `NameEmpty`; `BadState` above 3; for state 0 `BadAddress` and then
+/// `BadVersions`. `Memory` comes if an allocation failed, of at most the limit of a value, and
+/// never before the length of a text or bytes is read. The bytes left are the last ones of those
+/// before the call.
 pub fn read_state<I: Inlet>(alloc: Global, inlet: &mut I) -> Result<Claim, WireFault>
-    // The bytes taken are the record.
+    // The consumed bytes are the record.
     ensures takes { IfOk result (λ claim.
         Takes (I.seen inlet.old) (I.seen inlet.new) (λ b. StateText b claim)) }
-    // Refused for another cause than a failing end or memory no record stands at the front, and the
-    // refusal says why. Memory is asked for once a text or bytes have told a length within their
-    // limit.
+    // If refused for a reason other than a failed inlet or memory, the bytes do not start with a
+    // record, and the refusal says why. Memory is requested only after the length of a text or
+    // bytes, within its limit, was read.
     ensures lacks { IfErr result (λ fault. UnlessFailed (wire_cause fault)
         (Lacks (I.seen inlet.old) (λ b. (claim : Claim) × StateText b claim))) }
     ensures explains { IfErr result (λ fault.
         ExplainsStart (ExplainsState fault) (I.seen inlet.old)) }
-    // What was read, what is left, and that a fault of the end was counted.
+    // What was read, what is left, and that a failure of the inlet was counted.
     ensures exact { ReadsAs wire_cause same state_at (I.seen inlet.old) (I.seen inlet.new) result }
 {
     read_whole_state(alloc, inlet)
@@ -147,7 +147,7 @@ fn read_whole_state<I: Inlet>(alloc: Global, inlet: &mut I) -> Result<Claim, Wir
     }
 }
 
-/// Reads a state record, however its map is written.
+/// Reads a state record, whatever the encoding of its map.
 fn read_any_state<I: Inlet>(alloc: Global, inlet: &mut I) -> Result<Claim, WireFault>
     ensures exact { ReadsAs wire_cause same state_at (I.seen inlet.old) (I.seen inlet.new) result }
     ensures memory { IsErrOf result WireFault.Memory

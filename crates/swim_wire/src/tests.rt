@@ -27,17 +27,17 @@ const CONFIRM: &[u8] = b"\x05\x83\xa4From\xa1x\xabIncarnation\0\xa4Node\xa1a";
 /// A Leave of `a` at incarnation 2.
 const LEAVE: &[u8] = b"\x05\x83\xa4From\xa1a\xabIncarnation\x02\xa4Node\xa1a";
 
-/// That the bytes are those that are wanted.
+/// Asserts that the bytes are the expected ones.
 fn assert_bytes(rt: &impl Abort, found: &[u8], wanted: &[u8]) {
     assert_eq!(rt; found, wanted);
 }
 
-/// That the count is the one that is wanted.
+/// Asserts that the count is the expected one.
 fn assert_count(rt: &impl Abort, found: usize, wanted: usize) {
     assert_eq!(rt; found, wanted);
 }
 
-/// That the bytes were refused for this fault, or for want of memory, which is an error of the
+/// Asserts that the bytes were refused for this fault. Running out of memory is an error of the
 /// test.
 fn assert_fault(
     rt: &impl Abort,
@@ -52,27 +52,27 @@ fn assert_fault(
     Ok(())
 }
 
-/// That all that was written is these bytes.
+/// Asserts that exactly these bytes were written.
 fn assert_written(rt: &impl Abort, found: Vec<u8>, wanted: &[u8]) {
     assert_bytes(rt, &found, wanted);
 }
 
-/// That the refusal is for want of memory, by its number.
+/// Asserts by its number that the refusal is out of memory.
 fn assert_want_of_memory(rt: &impl Abort, fault: WireFault) {
     assert_count(rt, fault.number() as usize, 10);
 }
 
-/// Whether the claim is of this kind, about this name, at this incarnation.
+/// Whether the claim has this kind, name and incarnation.
 fn is_claim(claim: &Claim, kind: Kind, name: &[u8], inc: u32) -> bool {
     claim.kind() == kind && claim.name().bytes() == name && claim.inc() == inc
 }
 
-/// That the claim is of this kind, about this name, at this incarnation.
+/// Asserts that the claim has this kind, name and incarnation.
 fn assert_claim(rt: &impl Abort, claim: &Claim, kind: Kind, name: &[u8], inc: u32) {
     assert!(rt; is_claim(claim, kind, name, inc), "about {name:?}");
 }
 
-/// That a packet is read with these parts.
+/// Asserts that a packet with these parts is read.
 fn assert_packet(
     rt: &impl Abort,
     alloc: Global,
@@ -101,7 +101,7 @@ fn a_packet_is_read_with_its_parts(rt: HostRuntime) -> Result<(), Fail> {
     Ok(())
 }
 
-/// Whether the details are those of 127.0.0.1 and port 7946, and no more.
+/// Whether the details are 127.0.0.1 and port 7946, and no more.
 fn is_plain(claim: &Claim) -> bool {
     let Some(details) = claim.details() else {
         return false;
@@ -112,7 +112,7 @@ fn is_plain(claim: &Claim) -> bool {
         && details.vsn().is_empty()
 }
 
-/// That the claim has the details of 127.0.0.1 and port 7946, and no more.
+/// Asserts that the claim has the details 127.0.0.1 and port 7946, and no more.
 fn assert_plain(rt: &impl Abort, claim: &Claim) {
     assert!(rt; is_plain(claim));
 }
@@ -138,7 +138,7 @@ fn a_packet_keeps_the_parts_that_it_is_made_of(rt: HostRuntime) -> Result<(), Fa
     Ok(())
 }
 
-/// That the bytes are no packet, for this fault.
+/// Asserts that the bytes are refused as a packet for this fault.
 fn assert_refused(
     rt: &impl Abort,
     alloc: Global,
@@ -203,10 +203,10 @@ fn want_of_memory_is_answered_as_such_and_then_repeated(rt: HostRuntime) -> Resu
     Ok(())
 }
 
-/// An Alive whose name is announced with 1,024 bytes, of which three are there.
+/// An Alive whose name has an announced length of 1,024 bytes, of which three are there.
 const CUT_NAME: &[u8] = b"\x04\x81\xa4Node\xda\x04\0aaa";
 
-/// The number of the fault of bytes that are no packet, or 0.
+/// The number of the fault of bytes that are not a packet, or 0.
 fn refusal(alloc: Global, bytes: &[u8]) -> usize {
     match decode_packet(alloc, bytes) {
         Ok(_) => 0,
@@ -214,8 +214,8 @@ fn refusal(alloc: Global, bytes: &[u8]) -> usize {
     }
 }
 
-/// Memory for a name is asked for before its bytes are read. Where it is refused, so is the packet,
-/// and the repeat finds the name cut.
+/// Memory for a name is requested before its bytes are read. If that fails, the packet is refused,
+/// and the second try finds the name cut off.
 #[test]
 fn a_cut_name_ends_too_early_where_there_is_memory_for_it(rt: HostRuntime) {
     let first = refusal(rt.alloc(), CUT_NAME);
@@ -225,7 +225,7 @@ fn a_cut_name_ends_too_early_where_there_is_memory_for_it(rt: HostRuntime) {
     }
 }
 
-/// Nothing up to the length of a text or bytes asks for memory, so no refused growth shows.
+/// Nothing before the length of a text or bytes requests memory, so no failed allocation shows.
 #[test]
 fn bytes_before_the_first_length_are_refused_without_memory(rt: HostRuntime) {
     for end in 0..CUT_NAME.len() - 3 {

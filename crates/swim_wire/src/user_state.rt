@@ -13,15 +13,15 @@ use swim_pack::Inlet;
 ///
 /// # Errors
 ///
-/// `Ended` where fewer bytes are left, and `Fault` where the inlet failed.
+/// `Ended` if fewer bytes are left, and `Fault` if the inlet failed.
 pub fn skip_user<I: Inlet>(inlet: &mut I, len: u32) -> Result<(), WireFault>
     ensures takes { OnOk result
         (Takes (I.seen inlet.old) (I.seen inlet.new) (λ b. length b ≡ len)) }
-    // Refused for another cause than the inlet's failing, fewer bytes stand at the front.
+    // If refused for a reason other than a failed inlet, fewer bytes are left.
     ensures lacks { IfErr result (λ fault.
         UnlessFailed (wire_cause fault) (Lacks (I.seen inlet.old) (λ b. length b ≡ len))) }
 
-    // Which refusals there are, and what is left.
+    // Which errors there are, and what is left.
     ensures refusals { IfErr result (λ fault. (fault ≡ WireFault.Ended)
         ⊎ (fault ≡ WireFault.Fault)) }
     ensures no_memory { ¬ IsErrOf result WireFault.Memory }

@@ -1,4 +1,4 @@
-//! Maps at the end of a vector: a count, and then each key and its value.
+//! Maps appended to a vector: a count, and then each key and its value.
 
 ghost use Rattle.std.specs.Prelude.{◌≡◌, ◌<◌, ◌++◌, ◌∷◌, length, OnOk};
 ghost use Rattle.std.specs.List.{AllByRecursion};
@@ -8,15 +8,14 @@ use crate::layout::Key;
 use std::alloc::AllocError;
 use swim_pack::{write_map_len, write_raw, write_uint};
 
-/// A value to be written.
+/// A value to write.
 #[derive(Clone, Copy)]
 pub(crate) enum Written<'a> {
     Number(u64),
     Raw(&'a [u8]),
 }
 
-/// Appends a type byte, and behind it a map of these pairs. A refused call may leave a part
-/// of it.
+/// Appends a type byte, then a map of these pairs. A failed call may leave a part of it.
 pub(crate) fn write_message(
     out: &mut Vec<u8>,
     first: u8,
@@ -31,7 +30,7 @@ pub(crate) fn write_message(
     append_map(out, pairs)
 }
 
-/// Appends a map of these pairs. A refused call may leave a part of it.
+/// Appends a map of these pairs. A failed call may leave a part of it.
 #[inline(always)]
 fn append_map(out: &mut Vec<u8>, pairs: &[(Key, Written)]) -> Result<(), AllocError>
     requires few { length pairs.now < 16 }
@@ -45,7 +44,7 @@ fn append_map(out: &mut Vec<u8>, pairs: &[(Key, Written)]) -> Result<(), AllocEr
     Ok(())
 }
 
-/// Appends a key and its value. A refused call may leave the key.
+/// Appends a key and its value. A failed call may leave the key.
 #[inline(always)]
 fn append_pair(out: &mut Vec<u8>, key: Key, value: Written) -> Result<(), AllocError>
     requires { IsShort value }

@@ -1,4 +1,4 @@
-//! The header and the records of a stream, into room that is there, and how long they are.
+//! The header and the records of a stream, written into existing room, and their lengths.
 
 ghost use Rattle.std.specs.Prelude.{◌≡◌, ◌+◌, ◌^◌, ◌<◌, ◌≤◌, ◌++◌, take, length, unwrap_or};
 ghost use Rattle.std.specs.Option.{option_copied};
@@ -16,7 +16,7 @@ use crate::stream::Header;
 use swim_claim::{Details, Facts, Kind, Name};
 use swim_pack::{put_bool, put_bytes, put_map_len, put_raw, put_uint, raw_len, uint_len};
 
-/// How many bytes the header of a push/pull stream has.
+/// The length of a push/pull stream's header in bytes.
 pub fn header_len(header: &Header) -> usize
     ensures len { result ≡ length (header_bytes header.now) }
     ensures small { result < 2 ^ 16 }
@@ -27,7 +27,7 @@ pub fn header_len(header: &Header) -> usize
     2 + join + nodes + user_len
 }
 
-/// Writes the header of a push/pull stream into room that is there. Answers the place behind it.
+/// Writes the header of a push/pull stream into existing room. Returns the position after it.
 pub fn put_header(out: &mut [u8], at: usize, header: &Header) -> usize
     requires { at + length (header_bytes header.now) ≤ length out.old }
     ensures end { result ≡ at + length (header_bytes header.now) }
@@ -41,8 +41,8 @@ pub fn put_header(out: &mut [u8], at: usize, header: &Header) -> usize
     put_uint_pair(out, next, Key::UserStateLen, u64::from(header.user_len))
 }
 
-/// How many bytes the state record of the claim has that the facts make about a member. It is a
-/// condition that the facts have details exactly for an Alive.
+/// The length in bytes of the state record of the claim that the facts make about a member. The
+/// facts must have details exactly if they are an Alive.
 #[inline(always)]
 pub fn state_len<'a>(name: &'a Name, facts: Facts<'a>) -> usize
     requires { IsLegalFacts facts }
@@ -55,8 +55,8 @@ pub fn state_len<'a>(name: &'a Name, facts: Facts<'a>) -> usize
     record_len(&Record::of(name, facts))
 }
 
-/// Writes the state record of the claim that the facts make about a member into room that is there.
-/// Answers the place behind it. It is a condition that the facts have details exactly for an Alive.
+/// Writes the state record of the claim that the facts make about a member into existing room.
+/// Returns the position after it. The facts must have details exactly if they are an Alive.
 #[inline(always)]
 pub fn put_state<'a>(out: &mut [u8], at: usize, name: &'a Name, facts: Facts<'a>) -> usize
     requires legal { IsLegalFacts facts }
@@ -69,8 +69,8 @@ pub fn put_state<'a>(out: &mut [u8], at: usize, name: &'a Name, facts: Facts<'a>
     put_record(out, at, &Record::of(name, facts))
 }
 
-/// How many bytes the state record has that [`put_state_with_details`] writes. It is a condition
-/// that the facts have details exactly for an Alive.
+/// The length in bytes of the state record that [`put_state_with_details`] writes. The facts must
+/// have details exactly if they are an Alive.
 #[inline(always)]
 pub fn state_with_details_len<'a>(name: &'a Name, facts: Facts<'a>, details: &'a Details) -> usize
     requires { IsLegalFacts facts }
@@ -82,12 +82,12 @@ pub fn state_with_details_len<'a>(name: &'a Name, facts: Facts<'a>, details: &'a
     record_len(&Record::with(name, facts, details))
 }
 
-/// Writes the state record of the claim that the facts make about a member into room that is there,
-/// with these details where the claim has none of its own. Answers the place behind it.
+/// Writes the state record of the claim that the facts make about a member into existing room, with
+/// these details if the claim has none of its own. Returns the position after it.
 ///
 /// memberlist refuses a whole stream if one record has no versions, so here the record of a
-/// Suspect, Confirm or Leave can have some. The details are no part of its claim, and readers pass
-/// over them. It is a condition that the facts have details exactly for an Alive.
+/// Suspect, Confirm or Leave can have some. The details are not part of its claim, and readers skip
+/// them. The facts must have details exactly if they are an Alive.
 #[inline(always)]
 pub fn put_state_with_details<'a>(
     out: &mut [u8],
@@ -109,7 +109,7 @@ pub fn put_state_with_details<'a>(
     put_record(out, at, &Record::with(name, facts, details))
 }
 
-/// What a state record says. All parts of the details are empty where there are none.
+/// What a state record says. If it has no details, all their parts are empty.
 #[derive(Drop)]
 struct Record<'a> {
     name: &'a [u8],
@@ -143,7 +143,7 @@ impl<'a> Record<'a> {
         }
     }
 
-    /// With these details, where the facts have none.
+    /// Uses these details if the facts have none.
     #[inline(always)]
     fn with(name: &'a Name, facts: Facts<'a>, details: &'a Details) -> Record<'a>
         ensures told { bytes_of result ≡ facts_bytes_with details.now name.now facts.entry }
@@ -166,7 +166,7 @@ impl<'a> Record<'a> {
     }
 }
 
-/// The state by which a record names a kind of claim, as in memberlist's `state.go`.
+/// The state number of a record for a kind of claim, as in memberlist's `state.go`.
 #[inline(always)]
 fn state_of(kind: Kind) -> u64
     ensures { result ≡ state_number kind }
@@ -229,7 +229,7 @@ fn uint_pair_len(key: Key, value: u64) -> usize
     raw_len(key.text()) + uint_len(value)
 }
 
-/// Writes a key, and bytes behind it.
+/// Writes a key, then bytes.
 #[inline(always)]
 fn put_raw_pair(out: &mut [u8], at: usize, key: Key, bytes: &[u8]) -> usize
     requires short { length bytes.now < 2 ^ 16 }
@@ -241,7 +241,7 @@ fn put_raw_pair(out: &mut [u8], at: usize, key: Key, bytes: &[u8]) -> usize
     put_raw(out, next, bytes)
 }
 
-/// Writes a key, and a number behind it.
+/// Writes a key, then a number.
 #[inline(always)]
 fn put_uint_pair(out: &mut [u8], at: usize, key: Key, value: u64) -> usize
     requires { at + length (number_pair key value) ≤ length out.old }

@@ -1,4 +1,4 @@
-//! Messages that are at hand whole, with their keys in order: they are read where they stand.
+//! Messages that are at hand as a whole, with their keys in order: they are read in place.
 
 ghost use Rattle.std.specs.Prelude.{Some};
 
@@ -19,7 +19,7 @@ const RECORDS: [&[u8]; 3] = [
     b"\x87\xa4Addr\xa0\xabIncarnation\x03\xa4Meta\xa0\xa4Name\xa1d\xa4Port\0\xa5State\x03\xa3Vsn\xa0",
 ];
 
-/// Bytes in memory, and how often they were pulled.
+/// Bytes in memory, and how many pulls there were.
 #[derive(Drop)]
 struct Counted<'a> {
     inlet: SliceInlet<'a>,
@@ -52,7 +52,7 @@ impl Inlet for Counted<'_> {
     }
 }
 
-/// That the bytes were all taken, and none of them was pulled.
+/// Asserts that all bytes were consumed, and none of them was pulled.
 fn assert_passed(rt: &impl Abort, counted: &Counted<'_>) {
     assert!(rt; counted.inlet.rest().is_empty());
     assert_eq!(rt; counted.pulls, 0);
@@ -65,7 +65,7 @@ fn a_header_in_order_is_read_where_it_stands(rt: HostRuntime) {
     assert_passed(&rt, &counted);
 }
 
-/// Reads the record, and says whether there was memory for it.
+/// Reads the record, and returns whether there was memory for it.
 fn is_read(rt: &impl Abort, alloc: Global, bytes: &[u8]) -> bool {
     let mut counted = Counted::new(bytes);
     let is_read = read_state(alloc, &mut counted).is_ok();

@@ -1,4 +1,4 @@
-//! Messages in the order of their keys, read as they stand and key by key.
+//! Messages in the order of their keys, read in place and key by key.
 
 use super::canonical::OTHER_ALIVE;
 use super::{ALIVE, CONFIRM, LEAVE, SUSPECT};
@@ -11,7 +11,7 @@ use swim_claim::Claim;
 use swim_pack::{SliceInlet, StopInlet};
 
 /// Packets; a header of two members and 300 bytes of user state; records of `a`, alive at 127.0.0.1
-/// and port 7946, and of suspect `b`, dead `c` in longer spellings and left `d`; a record in
+/// and port 7946, and of suspect `b`, dead `c` in longer encodings and left `d`; a record in
 /// another order.
 const MESSAGES: [&[u8]; 11] = [
     ALIVE,
@@ -27,16 +27,16 @@ const MESSAGES: [&[u8]; 11] = [
     b"\x83\xa4Name\xa1c\xabIncarnation\x03\xa5State\x03",
 ];
 
-/// What the byte of each place is replaced by.
+/// What each byte is replaced by.
 const BYTES: [u8; 6] = [0, 0x01, 0xa0, 0xa2, 0xc0, 0xd0];
 
-/// Both readings give the same.
+/// Both readings return the same.
 const READ: u8 = 0;
 
 /// Both are refused for the same fault.
 const REFUSED: u8 = 1;
 
-/// One of them was refused for want of memory, which is no answer.
+/// One of them ran out of memory, so there is nothing to compare.
 const NO_MEMORY: u8 = 2;
 
 /// They differ.
@@ -53,7 +53,7 @@ fn faults(one: WireFault, other: WireFault) -> u8 {
     }
 }
 
-/// How a refusal compares to what was read.
+/// How a refusal compares with a value.
 fn lone_fault(fault: WireFault) -> u8 {
     if fault.number() == 10 {
         NO_MEMORY
@@ -70,7 +70,7 @@ fn same_claim(one: &Claim, other: &Claim) -> bool {
         && one.details() == other.details()
 }
 
-/// How two things that were read compare.
+/// How two values compare.
 fn of_same(same: bool) -> u8 {
     if same { READ } else { APART }
 }
@@ -95,20 +95,20 @@ fn packets(one: &Result<Packet, WireFault>, other: &Result<Packet, WireFault>) -
     }
 }
 
-/// How the headers compare that both inlets give.
+/// How the headers from both inlets compare.
 fn header_both_ways(slice: &mut SliceInlet<'_>, unseen: &mut StopInlet<'_>) -> u8 {
     of_same(read_header(slice) == read_header(unseen))
 }
 
-/// How the records compare that both inlets give.
+/// How the records from both inlets compare.
 fn record_both_ways(alloc: Global, slice: &mut SliceInlet<'_>, unseen: &mut StopInlet<'_>) -> u8 {
     let whole = read_state(alloc, slice);
     let apart = read_state(alloc, unseen);
     records(&whole, &apart)
 }
 
-/// How a record and, where it is read, the header behind it compare. A slice is at hand whole, and
-/// of a `StopInlet` nothing is.
+/// How a record compares and, if it is read, the header after it. A slice is at hand as a whole,
+/// and nothing of a `StopInlet` is.
 fn read_both_ways(alloc: Global, bytes: &[u8]) -> u8 {
     let mut slice = SliceInlet::new(bytes);
     let mut unseen = StopInlet::new(bytes, usize::MAX);
@@ -127,7 +127,8 @@ fn decode_both_ways(alloc: Global, bytes: &[u8]) -> u8 {
     packets(&whole, &apart)
 }
 
-/// That the readings of the bytes do not differ. Want of memory is an error of the test.
+/// Asserts that the readings of the bytes do not differ. Running out of memory is an error of the
+/// test.
 fn assert_alike(rt: &impl Abort, likeness: u8, bytes: &[u8]) -> Result<(), Fail> {
     if likeness == NO_MEMORY {
         return Err(Fail::from(WireFault::Memory));
@@ -136,7 +137,7 @@ fn assert_alike(rt: &impl Abort, likeness: u8, bytes: &[u8]) -> Result<(), Fail>
     Ok(())
 }
 
-/// In both ways as a record, as a header and as a packet.
+/// Reads the bytes in both ways as a record, as a header and as a packet.
 fn is_read_alike(rt: &impl Abort, alloc: Global, bytes: &[u8]) -> Result<(), Fail> {
     let (mut slice, mut unseen) = (SliceInlet::new(bytes), StopInlet::new(bytes, usize::MAX));
     assert_alike(rt, read_both_ways(alloc, bytes), bytes)?;

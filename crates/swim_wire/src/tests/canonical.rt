@@ -12,14 +12,14 @@ use std::test::Fail;
 use swim_claim::{Claim, Details, Kind};
 use swim_pack::SliceInlet;
 
-/// `ALIVE` in other forms and another order, where Meta is nil and Vsn is absent.
+/// `ALIVE` in other encodings and another order, with a nil Meta and no Vsn.
 pub(crate) const OTHER_ALIVE: &[u8] =
     b"\x04\x85\xa4Port\xcf\0\0\0\0\0\0\x1f\x0a\xa4Node\xa1a\xa4Meta\xc0\xabIncarnation\xd2\0\0\0\0\xa4Addr\xc4\x04\x7f\0\0\x01";
 
 /// A Leave of `c` at incarnation 3.
 const LEAVE_OF_C: &[u8] = b"\x05\x83\xa4From\xa1c\xabIncarnation\x03\xa4Node\xa1c";
 
-/// Encodes it. Where memory is refused the repeat encodes it.
+/// Encodes it. If memory runs out, it encodes it again.
 fn encoded(alloc: Global, packet: &Packet) -> Result<Vec<u8>, AllocError> {
     match encode_packet(alloc, packet) {
         Err(AllocError) => encode_packet(alloc, packet),
@@ -27,7 +27,7 @@ fn encoded(alloc: Global, packet: &Packet) -> Result<Vec<u8>, AllocError> {
     }
 }
 
-/// The packet of these bytes, as it is written.
+/// The packet of these bytes, written again.
 fn encoded_again(alloc: Global, bytes: &[u8]) -> Result<Vec<u8>, Fail> {
     let packet = decode_packet(alloc, bytes)?;
     Ok(encoded(alloc, &packet)?)
@@ -47,7 +47,7 @@ fn a_packet_is_written_in_its_canonical_bytes(rt: HostRuntime) -> Result<(), Fai
     Ok(())
 }
 
-/// Encodes them together. Where memory is refused the repeat encodes them.
+/// Encodes them together. If memory runs out, it encodes them again.
 fn compound_of(alloc: Global, packets: &[Packet]) -> Result<Vec<u8>, AllocError> {
     let packets = &packets[..packets.len().min(255)];
     match encode_compound(alloc, packets) {
@@ -56,7 +56,7 @@ fn compound_of(alloc: Global, packets: &[Packet]) -> Result<Vec<u8>, AllocError>
     }
 }
 
-/// The packets of the compound packet, as they are written together.
+/// The packets of the compound packet, written together again.
 fn compound_again(alloc: Global, bytes: &[u8]) -> Result<Vec<u8>, Fail> {
     let packets = decode_datagram(alloc, bytes)?;
     Ok(compound_of(alloc, &packets)?)
@@ -77,8 +77,7 @@ fn two_hundred_and_fifty_five_packets_are_one_compound(rt: HostRuntime) -> Resul
     Ok(())
 }
 
-/// Appends the header. Where memory is refused the vector stays as it was, and the repeat appends
-/// it.
+/// Appends the header. If memory runs out, the vector is unchanged, and it is appended again.
 fn with_header(out: &mut Vec<u8>, header: &Header) -> Result<(), AllocError> {
     let len = out.len();
     match write_header(out, header) {
@@ -87,7 +86,7 @@ fn with_header(out: &mut Vec<u8>, header: &Header) -> Result<(), AllocError> {
     }
 }
 
-/// The headers, one behind the other.
+/// The headers, one after the other.
 fn headers(alloc: Global, headers: &[Header]) -> Result<Vec<u8>, AllocError> {
     let mut out = Vec::new(alloc);
     for header in headers {
@@ -114,8 +113,8 @@ fn a_header_is_appended(rt: HostRuntime) -> Result<(), Fail> {
     Ok(())
 }
 
-/// Appends the record of the claim. Where memory is refused the vector stays as it was, and the
-/// repeat appends it.
+/// Appends the record of the claim. If memory runs out, the vector is unchanged, and it is appended
+/// again.
 fn with_state(out: &mut Vec<u8>, claim: &Claim) -> Result<(), AllocError> {
     let len = out.len();
     match write_state(out, claim.name(), claim.facts()) {
@@ -158,13 +157,13 @@ fn a_state_record_has_the_state_and_the_details_of_its_claim(rt: HostRuntime) ->
     Ok(())
 }
 
-/// The details of 127.0.0.1 and port 7946, the metadata `m` and memberlist's versions.
+/// The details: 127.0.0.1 and port 7946, the metadata `m` and memberlist's versions.
 fn details(rt: &impl Abort, alloc: Global) -> Result<Details, AllocError> {
     let meta = vec![in alloc; b'm'; 1]?;
     Ok(Details::of(b"\x7f\0\0\x01", 7946, meta, b"\x01\x05\x02\0\0\0").expect(rt, "legal details"))
 }
 
-/// The record of the claim beside the details.
+/// The record of the claim with the details.
 fn record_with(alloc: Global, claim: &Claim, details: &Details) -> Result<Vec<u8>, AllocError> {
     let len = state_with_details_len(claim.name(), claim.facts(), details);
     let mut out = vec![in alloc; 0; len]?;
@@ -172,7 +171,7 @@ fn record_with(alloc: Global, claim: &Claim, details: &Details) -> Result<Vec<u8
     Ok(out)
 }
 
-/// Asserts that the packet's claim has this record beside the details, which is read back as the
+/// Asserts that the packet's claim with the details has this record, which is read back as the
 /// claim.
 fn assert_record_with(
     rt: &impl Abort,

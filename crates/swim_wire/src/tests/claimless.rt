@@ -1,4 +1,5 @@
-//! Messages that make no claim, as members of a running memberlist sent them, and what is none.
+//! Messages that make no claim, as members of a running memberlist sent them, and bytes that are
+//! not such messages.
 
 use super::{assert_fault, assert_want_of_memory};
 use crate::{Claimless, WireFault, decode_claimless};
@@ -6,11 +7,11 @@ use std::alloc::Global;
 use std::process::Abort;
 use std::test::Fail;
 
-/// A ping of `d3` by `d2`.
+/// A ping of `d3` from `d2`.
 const PING: &[u8] =
     b"\0\x85\xa4Node\xa2d3\xa5SeqNo\x01\xaaSourceAddr\xa4\x7f\0\x05\x02\xaaSourceNode\xa2d2\xaaSourcePort\xcd\x1f\x0a";
 
-/// An indirect ping of `d4` by `d1`.
+/// An indirect ping of `d4` from `d1`.
 const INDIRECT_PING: &[u8] =
     b"\x01\x88\xa4Nack\xc3\xa4Node\xa2d4\xa4Port\xcd\x1f\x0a\xa5SeqNo\x07\xaaSourceAddr\xa4\x7f\0\x05\x01\xaaSourceNode\xa2d1\xaaSourcePort\xcd\x1f\x0a\xa6Target\xa4\x7f\0\x05\x04";
 
@@ -20,7 +21,7 @@ const ACK: &[u8] = b"\x02\x82\xa7Payload\xc0\xa5SeqNo\x01";
 /// A nack.
 const NACK: &[u8] = b"\x0b\x81\xa5SeqNo\x0a";
 
-/// That the bytes are a message of this kind.
+/// Asserts that the bytes are a message of this kind.
 fn assert_kind(rt: &impl Abort, alloc: Global, bytes: &[u8], kind: Claimless) -> Result<(), Fail> {
     let found = decode_claimless(alloc, bytes)?;
     assert!(rt; found == kind, "{bytes:?}");
@@ -37,7 +38,7 @@ fn each_message_is_told_by_its_kind(rt: HostRuntime) -> Result<(), Fail> {
         (b"\x08", Claimless::User),
         (b"\x08\x82\xff", Claimless::User),
         (b"\x0d\x81\xa5Error\xa5label", Claimless::Error),
-        // What memberlist sent before it named the source, and other spellings.
+        // What memberlist sent before it named the source, and other encodings.
         (b"\0\x82\xa5SeqNo\x01\xa4Node\xa2d3", Claimless::Ping),
         (b"\0\xde\0\x01\xd9\x05SeqNo\xce\0\0\0\x01", Claimless::Ping),
         (
@@ -50,7 +51,7 @@ fn each_message_is_told_by_its_kind(rt: HostRuntime) -> Result<(), Fail> {
     Ok(())
 }
 
-/// That the bytes are refused for this fault.
+/// Asserts that the bytes are refused for this fault.
 fn assert_refused(
     rt: &impl Abort,
     alloc: Global,
@@ -67,7 +68,7 @@ fn what_is_no_such_message_is_refused_by_its_fault(rt: HostRuntime) -> Result<()
         (b"\x03\x80", WireFault::WrongType { found: 3 }),
         (b"\x07\0", WireFault::WrongType { found: 7 }),
         (b"\x0a", WireFault::WrongType { found: 10 }),
-        // A version, 12 bytes of a nonce, and what is encrypted.
+        // A version, 12 bytes of a nonce, and the ciphertext.
         (
             b"\x01\x5a\x1c\x80\x77\x03\xe1\x99\x4f\xb2\x21\xd8\x6a\xc4\x0e",
             WireFault::NotMap,

@@ -6,7 +6,7 @@ use std::alloc::Global;
 use std::process::Abort;
 use std::test::Fail;
 
-/// The map of `banana bandana`, as memberlist writes it round what Go's compress/lzw makes of it.
+/// The map for `banana bandana`, as memberlist writes it around the output of Go's compress/lzw.
 const BANANA: &[u8] = b"\x82\xa4Algo\0\xa3Buf\xae\0\xc5\x84q30\x0c\x08\x81n\xc8\x14\x0c\x08";
 
 #[test]
@@ -27,7 +27,7 @@ fn the_map_gives_its_compressed_bytes(rt: HostRuntime) -> Result<(), Fail> {
     Ok(())
 }
 
-/// That the bytes are refused for this fault.
+/// Asserts that the bytes are refused for this fault.
 fn assert_refused(
     rt: &impl Abort,
     alloc: Global,

@@ -16,11 +16,11 @@ pub(crate) const BOTH: &[u8] =
 const PASSED_OVER: &[u8] =
     b"\x07\x02\0\x01\0\x1d\0\x03\x83\xa4From\xa1x\xabIncarnation\x01\xa4Node\xa1b";
 
-/// A compound packet of the Alive and a packet that is cut behind its first byte.
+/// A compound packet of the Alive and a packet that is cut off after its first byte.
 const CUT_PACKET: &[u8] =
     b"\x07\x02\0\x33\0\x01\x04\x86\xa4Addr\xa4\x7f\0\0\x01\xabIncarnation\0\xa4Meta\xa0\xa4Node\xa1a\xa4Port\xcd\x1f\x0a\xa3Vsn\xa0\x04";
 
-/// That the packets are about these names of one letter each.
+/// Asserts that the packets are about these names of one letter each.
 fn assert_packets(rt: &impl Abort, packets: &[Packet], names: &[u8]) {
     assert_count(rt, packets.len(), names.len());
     for (packet, name) in packets.iter().zip(names) {
@@ -28,7 +28,7 @@ fn assert_packets(rt: &impl Abort, packets: &[Packet], names: &[u8]) {
     }
 }
 
-/// That the claims are about these names of one letter each.
+/// Asserts that the claims are about these names of one letter each.
 fn assert_claims(rt: &impl Abort, claims: &[Claim], names: &[u8]) {
     assert_count(rt, claims.len(), names.len());
     for (claim, name) in claims.iter().zip(names) {
@@ -36,7 +36,7 @@ fn assert_claims(rt: &impl Abort, claims: &[Claim], names: &[u8]) {
     }
 }
 
-/// That the bytes are a datagram of packets, and of claims, about these names.
+/// Asserts that the bytes are a datagram of packets, and of claims, about these names.
 fn assert_read(rt: &impl Abort, alloc: Global, bytes: &[u8], names: &[u8]) -> Result<(), Fail> {
     let packets = decode_datagram(alloc, bytes)?;
     assert_packets(rt, &packets, names);
@@ -72,18 +72,18 @@ pub(crate) fn greatest_compound(alloc: Global) -> Result<Vec<u8>, Fail> {
     Ok(bytes)
 }
 
-/// Whether it is a packet by itself.
+/// Whether it is a single packet.
 fn is_packet(datagram: &Datagram) -> bool {
     matches!(datagram, Datagram::Packet(_))
 }
 
-/// Whether the bytes are a packet by itself.
+/// Whether the bytes are a single packet.
 fn is_alone(alloc: Global, bytes: &[u8]) -> Result<bool, WireFault> {
     let datagram = Datagram::decode(alloc, bytes)?;
     Ok(is_packet(&datagram))
 }
 
-/// That the two answers about the bytes are one.
+/// Asserts that the two results for the bytes are equal.
 fn assert_alone(rt: &impl Abort, found: bool, wanted: bool, bytes: &[u8]) {
     assert!(rt; found == wanted, "{bytes:?}");
 }
@@ -101,7 +101,7 @@ fn a_packet_by_itself_is_told_from_a_compound_packet(rt: HostRuntime) -> Result<
     Ok(())
 }
 
-/// That the bytes are no datagram, for this fault.
+/// Asserts that the bytes are refused as a datagram for this fault.
 fn assert_refused(
     rt: &impl Abort,
     alloc: Global,
@@ -153,7 +153,7 @@ fn want_of_memory_is_answered_as_such_and_the_repeat_reads(rt: HostRuntime) -> R
     Ok(())
 }
 
-/// What dropping so many of five bytes has to answer, and what is left behind it.
+/// Asserts what dropping this many of five bytes returns, and what is left after it.
 fn assert_skips(rt: &impl Abort, len: u32, answer: Result<(), WireFault>, rest: &[u8]) {
     let mut inlet = SliceInlet::new(b"\x01\x02\x03\x04\x05");
     assert_eq!(rt; skip_user(&mut inlet, len), answer);

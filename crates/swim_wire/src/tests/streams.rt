@@ -8,7 +8,7 @@ use std::test::Fail;
 use swim_claim::Kind;
 use swim_pack::{SliceInlet, StopInlet};
 
-/// A header that promises two members.
+/// A header that announces two members.
 const HEADER: &[u8] = b"\x06\x83\xa4Join\xc2\xa5Nodes\x02\xacUserStateLen\0";
 
 /// The record of `a`, alive at incarnation 4, at 127.0.0.1 and port 7947.
@@ -22,14 +22,14 @@ const DEAD: &[u8] =
 /// A record of `c` that left at incarnation 3.
 const LEFT: &[u8] = b"\x83\xa4Name\xa1c\xabIncarnation\x03\xa5State\x03";
 
-/// That the bytes are this header.
+/// Asserts that the bytes are this header.
 fn assert_header(rt: &impl Abort, bytes: &[u8], wanted: Header) -> Result<(), Fail> {
     let header = read_header(&mut SliceInlet::new(bytes))?;
     assert!(rt; header == wanted, "{bytes:?}");
     Ok(())
 }
 
-/// Why the bytes are no header.
+/// Why the bytes are not a header.
 fn header_fault(bytes: &[u8]) -> Option<WireFault> {
     read_header(&mut SliceInlet::new(bytes)).err()
 }
@@ -72,7 +72,7 @@ fn a_header_is_refused_by_its_first_fault(rt: HostRuntime) -> Result<(), Fail> {
     Ok(())
 }
 
-/// That a record is read to its end as this claim.
+/// Asserts that a record is read to its end as this claim.
 fn assert_record(
     rt: &impl Abort,
     alloc: Global,
@@ -100,7 +100,7 @@ fn a_state_record_is_read_by_its_state(rt: HostRuntime) -> Result<(), Fail> {
     Ok(())
 }
 
-/// Why the bytes are no record.
+/// Why the bytes are not a record.
 fn record_fault(alloc: Global, bytes: &[u8]) -> Option<WireFault> {
     read_state(alloc, &mut SliceInlet::new(bytes)).err()
 }
@@ -125,12 +125,12 @@ fn a_state_record_is_refused_by_its_first_fault(rt: HostRuntime) -> Result<(), F
     Ok(())
 }
 
-/// The fault of a record, of an inlet that fails at this call.
+/// The fault of a record from an inlet that fails at this call.
 fn stopped_record(alloc: Global, calls: usize) -> Option<WireFault> {
     read_state(alloc, &mut StopInlet::new(LEFT, calls)).err()
 }
 
-/// The fault of a header, of an inlet that fails at this call.
+/// The fault of a header from an inlet that fails at this call.
 fn stopped_header(calls: usize) -> Option<WireFault> {
     read_header(&mut StopInlet::new(HEADER, calls)).err()
 }
@@ -143,13 +143,13 @@ fn number_of(fault: Option<WireFault>) -> u32 {
     }
 }
 
-/// Whether the fault of the record is that of its end or want of memory, and that of the header the
-/// former.
+/// Whether the fault of the record is that of its inlet or out of memory, and that of the header is
+/// that of its inlet.
 fn is_that_of_the_end(record: u32, header: u32) -> bool {
     (record == 9 || record == 10) && header == 9
 }
 
-/// That a record and a header are refused for the fault of their inlet.
+/// Asserts that a record and a header are refused for the fault of their inlet.
 fn assert_fails(
     rt: &impl Abort,
     record: Option<WireFault>,

@@ -3,7 +3,7 @@ use Rattle.std.proofs.lemmas.Grind.{common_steps}
 use Rattle.swim_wire.proofs.SpelledTexts.{StateText-canonical}
 use Rattle.swim_wire.proofs.canonical.write_state.Goals as goal
 
--- what stood there, and what was written up to the end
+-- what was there, and what was written up to the end
 appended : (old slice new rest bytes : List ℕ) (start n end : ℕ) → take end new ≡ take start slice ++ bytes → take start slice ≡ old
     → end ≡ n → length new ≡ n → take n (new ++ rest) ≡ old ++ bytes
 appended old slice new rest bytes start n end put kept at full = grind (arith, common_steps)

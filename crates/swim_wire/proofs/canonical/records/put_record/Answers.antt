@@ -1,7 +1,7 @@
 use Rattle.std.proofs.Common.{◌≡◌, ℕ, List, ◌++◌, append_assoc, rules}
 use Rattle.swim_wire.proofs.canonical.records.put_record.Goals as goal
 
--- eight pieces, one behind another
+-- eight pieces, one after another
 eight : (base a b d e f g h i : List ℕ) {s t u v w x y z : List ℕ} → s ≡ base ++ a → t ≡ s ++ b → u ≡ t ++ d → v ≡ u ++ e
     → w ≡ v ++ f → x ≡ w ++ g → y ≡ x ++ h → z ≡ y ++ i → z ≡ base ++ (a ++ b ++ d ++ e ++ f ++ g ++ h ++ i)
 eight base a b d e f g h i p q r s t u v w = rw (w, v, u, t, s, r, q, p) (simp append_assoc)
