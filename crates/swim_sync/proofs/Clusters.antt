@@ -49,7 +49,7 @@ module _ {T E : Type 0} (r : Result T E) (P : Type 0) where
       by_answer (Ok x) = tt
       by_answer (Err y) = p
 
--- the node at a place
+-- the node at an index
 pub node_at : (nodes : List NodeValue) (k : ℕ) (node : NodeValue) → k < length nodes → node ≡ get_or nodes k node → slice_get nodes k ≡ Some node
 node_at nodes k node below is = slice_get_read nodes (length nodes) k node refl below is
 
@@ -90,7 +90,7 @@ ran_one nodes k node new event adds at same hears takes can = record {
   could = λ lists h. (can lists h, tt);
 }
 
--- node k is there for what the nodes heard
+-- node k exists for what the nodes heard
 pub named_heard : (nodes : List NodeValue) (lists : List (List Claim)) (k : ℕ) → TablesOf nodes lists → k < length nodes → k < length lists
 named_heard nodes lists k h below = let number = h.number in omega (arith, below, number)
 
@@ -108,9 +108,9 @@ ran_hear_all nodes k node new all at same takes =
     ran_one nodes k node new (HearAll k all) (λ lists. all) at same (λ lists h. refl) (λ lists. takes (heard_by lists k))
     (λ lists h. record { named = named_heard nodes lists k h (slice_get_within nodes k node at); differ = λ no. no; few = λ y table no. absurd no })
 
--- ---- a node that stayed
+-- a node that is unchanged
 
--- a node that neither changed its member nor its table is as it was
+-- if neither the member nor the table of a node changed, the node is unchanged
 pub unchanged_node : (nodes : List NodeValue) (k : ℕ) (node new : NodeValue) → slice_get nodes k ≡ Some node
     → SameMember node new → new.table ≡ node.table → set nodes k new ≡ nodes
 unchanged_node nodes k node new at same table =
@@ -134,18 +134,18 @@ ran_refute nodes k node new at same takes =
     (λ lists. takes (heard_by lists k))
     (λ lists h. record { named = named_heard nodes lists k h (slice_get_within nodes k node at); differ = λ no. no; few = λ y table no. absurd no })
 
--- a node that did not change has the table of what it had heard and nothing
+-- a node that did not change has the table of what it had heard and nothing more
 stayed : (old new : NodeValue) (claims added : List Claim) → new ≡ old → added ≡ [] → TableOf old.table claims → TableOf new.table (claims ++ added)
 stayed old new claims added same none h =
     subst (λ (n : NodeValue). TableOf n.table (claims ++ added)) (sym same)
     (subst (TableOf old.table) (sym (ap (λ (l : List Claim). claims ++ l) none ∙ append-nil claims)) h)
 
--- an answer that is not equal to a want of memory is none
+-- a result that is not equal to out of memory is not out of memory
 pub not_memory : (same : Option ℕ → Option ℕ → Bool) (alike : RefuteFault → RefuteFault → Bool) → alike Memory Memory ≡ true
     → (result : Result (Option ℕ) RefuteFault) → false ≡ result_eq same alike result (Err Memory) → result ≢ Err Memory
 not_memory same alike own result differ is = false≢true (differ ∙ ap (λ (r : Result (Option ℕ) RefuteFault). result_eq same alike r (Err Memory)) is ∙ own)
 
--- unless memory was refused the node has heard its refutation
+-- unless memory ran out, the node has heard its refutation
 pub refute_takes : (old new : NodeValue) (result : Result (Option ℕ) RefuteFault)
     → IfOk result (λ answer. IfSome answer (λ inc. inc ≤ 4294967295))
     → IfOk result (λ answer. IfSome answer (IsRefutedBy old new))
@@ -269,7 +269,7 @@ ran_exchange nodes new j k two both =
     (ran_both nodes j k both.first both.second (with_table both.first both.one) (with_table both.second both.other) two both.at_first both.at_second
     (record { name = refl; details = refl }) (record { name = refl; details = refl }) both.few both.joined)
 
--- the exchange of the greater number with the less one is that of the two
+-- the exchange of the greater number with the smaller one is that of the two
 pub exchange_turned : (nodes new : List NodeValue) (j k : ℕ) → AreTwoNodes (length nodes) j k → BothExchange nodes new k j → Ran nodes new (Exchange j k ∷ [])
 exchange_turned nodes new j k two both =
     subst (λ (l : List NodeValue). Ran nodes l (Exchange j k ∷ [])) (sym (both.nodes ∙ set_comm))
@@ -307,7 +307,7 @@ both_in_parts nodes front back j k first second one other parts size below withi
   joined = joined;
 }
 
--- a hindrance of other words
+-- an obstacle with a weaker condition
 pub hinders_as : (P Q : Type 0) → (P → Q) → (why : Why) → Hinders P why → Hinders Q why
 hinders_as P Q also why.NoSuchNode hinders = hinders
 hinders_as P Q also why.SameNode hinders = hinders
@@ -349,7 +349,7 @@ turned_too_many nodes j k (x, node, dumps, at, many) = (x, node, other dumps, at
     other (inl same) = inr same
     other (inr same) = inl same
 
--- the whole list where as many nodes were written as there are
+-- the whole list, if as many nodes were written as there are
 pub all_written : (nodes new : List NodeValue) (n : ℕ) → n ≡ length nodes → length new ≡ length nodes → take n (new ++ drop (length new) nodes) ≡ new
 all_written nodes new n number same =
     ap (λ (l : List NodeValue). take n (new ++ l)) (drop_all (length new) nodes (omega (arith, same)))

@@ -1,4 +1,4 @@
--- A completed exchange: of what comes to each side, the dump of the other one is taken in.
+-- A completed exchange: each side takes in the dump of the other one from what comes to it.
 use Rattle.std.proofs.Common.{◌≡◌, ◌↔◌, ℕ, Bool, Option, Some, None, List, ◌++◌, refl, sym, ap, subst, ◌∙◌}
 use Rattle.std.proofs.lemmas.List.{append_cancel_left}
 use Rattle.swim_claim.specs.declared.claim.Claim.{Claim}
@@ -15,7 +15,7 @@ use Rattle.swim_table.proofs.Tables.{TableOf-table_of, TableOf-unique, TableOf-R
 use Rattle.swim_sync.specs.Exchanging.{IsSendable, Brings, TakesDump, TakesStream}
 use Rattle.swim_sync.proofs.Exchanging.{both_take}
 
--- the stream at the front of a dump is the dump
+-- the stream at the start of a dump is the dump
 dump_taken : (old new : Option (List ℕ)) (other : Entries) (sent read : Bool) (rest : List ℕ) (claims : List Claim) → IsSendable other
     → old ≡ Some (dump_bytes other sent ++ rest) → TakesKnown old new (λ b. StreamText b claims read)
     → (claims ≡ Reduced other) × (read ≡ sent) × (new ≡ Some rest)
@@ -65,7 +65,7 @@ side before after other sent read old new rest can brings = (
       (subst (λ (table : Entries). TakesStream old new before table sent) (sym is.0) (side_takes before other sent old new rest can brings is.2)),
 )
 
--- whatever the end, a side took a stream in
+-- whatever the inlet, a side took a stream in
 pub any_end : (before after : Entries) (read : Bool) (old new : Source) → TakesStream old new before after read
     → (text : List ℕ) × (claims : List Claim) × StreamText text claims read × (after ≡ Join before (table_of claims))
 any_end before after read old new took =

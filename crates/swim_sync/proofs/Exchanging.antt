@@ -1,4 +1,4 @@
--- Tables that take a stream's claims in, and tables that come back from their dumps.
+-- Tables that take a stream's claims in, and tables that are read back from their dumps.
 use Rattle.std.proofs.Common.{◌≡◌, ◌↔◌, ℕ, ◌≤◌, ◌*◌, Bool, false, Option, Some, None, List, [], ◌∷◌, ◌++◌, length, Ok, Err, refl, sym, ap, subst, ◌∙◌, arith}
 use Rattle.swim_claim.specs.declared.claim.Claim.{Claim}
 use Rattle.swim_claim.specs.declared.claim.Claim.TheVariants.{Alive, Suspect, Confirm, Leave}
@@ -71,7 +71,7 @@ equal_are_join first second both =
       TableOf-unique second (Join second first) other other both.0 (TableOf-table_of other) (λ c. (λ m. m, λ m. m)) ∙ Join-comm second first,
     )
 
--- an entry keeps two records at most
+-- an entry keeps at most two records
 few_beside : (top : Claim) → length (beside_home top) ≤ 1
 few_beside (Alive name inc details) = omega arith
 few_beside (Suspect name inc) = omega arith
@@ -100,7 +100,7 @@ push_refused old new out_old out_new table theirs join bytes is read push.Fault 
     (read.0, join, read.2, record { failed = failed refl; front = subst (AppendsFront out_old.written out_new.written) is (front refl) })
 push_refused old new out_old out_new table theirs join bytes is read push.Memory failed front kept = kept refl
 
--- what refuses the preparing refuses the answer, and nothing was pushed
+-- a refusal to prepare the answer is also one to answer, and nothing was pushed
 pub prepared : (old new : Source) (out : Sink) (table : Entries) (fault : SyncFault) → IsPrepareRefused old new table fault
     → IsAnswerRefused old new out out table fault
 prepared old new out table (sync.Wire error) lacks = (lacks, Keeps-refl out.written)

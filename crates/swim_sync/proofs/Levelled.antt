@@ -1,4 +1,4 @@
--- Nodes that met each other, node 0 in between.
+-- Nodes that met each other through node 0.
 use Rattle.std.proofs.Common.{◌≡◌, ◌⊎◌, ℕ, ◌+◌, ◌-◌, ◌<◌, Some, List, ◌++◌, length, take, refl, sym, ap, subst, ◌∙◌, inl, inr, arith}
 use Rattle.std.specs.Prelude.{slice_get}
 use Rattle.std.proofs.Math.Seq.{take-append-add}
@@ -20,11 +20,11 @@ use Rattle.swim_sync.proofs.Clusters.{ran-append}
 use Rattle.swim_sync.proofs.Levelling.{length-meet_each, length-level_list, met_at, get-front, get-back, level}
 use Rattle.swim_sync.proofs.Runs.{length-heard}
 
--- a run neither adds a node nor takes one away
+-- a run neither adds nor removes a node
 pub length-ran : (old new : List NodeValue) (events : List Event) → Ran old new events → length new ≡ length old
 length-ran old new events r = sym (length-map new member_of) ∙ ap length r.members ∙ length-map old member_of
 
--- node 0 met each other node, and all but the last once more
+-- node 0 met each other node, and all except the last again
 pub levelled : (old mid new : List NodeValue) (others again : ℕ) → others ≡ length old - 1 → again ≡ length old - 2
     → Ran old mid (meet_each others) → Ran mid new (meet_each again) → Ran old new (level_list (length old))
 levelled old mid new others again one two r s =
@@ -51,7 +51,7 @@ are_level old new r = record {
         TableOf-same node.table (heard_by (heard (members_of old) start events) k) (all_heard start)
         (level (members_of old) start k below) (tables.each k node at)
 
--- an exchange of two of the nodes stops only so
+-- an exchange of two of the nodes stops only for these reasons
 stops_so : (nodes : List NodeValue) (i : ℕ) (why : Why) → i + 1 < length nodes → StopsBy nodes (Exchange 0 (i + 1)) why →
     (why ≡ TooManyRecords) ⊎ (why ≡ Memory)
 stops_so nodes i NoSuchNode below stops = absurd (stops (omega (arith, below), below))
@@ -82,7 +82,7 @@ stopped_first old new others i stop one below done r stops =
       cause = stops_so new i stop.why (omega (arith, same, one, below)) stops;
     }
 
--- node 0 met each other node, but not all but the last once more
+-- node 0 met each other node, but not all except the last again
 pub stopped_again : (old mid new : List NodeValue) (others again i : ℕ) (stop : Stop) → others ≡ length old - 1
     → again ≡ length old - 2 → i < again → stop.done ≡ others + i
     → Ran old mid (meet_each others) → Ran mid new (take i (meet_each again)) → StopsBy new (Exchange 0 (i + 1)) stop.why → LevelStopped old new stop

@@ -32,7 +32,7 @@ get-meet a zero i below = absurd (omega (arith, below))
 get-meet a (suc count) zero below = ap (λ k. Some (Exchange 0 k)) (omega arith)
 get-meet a (suc count) (suc i) below = get-meet (a + 1) count i (omega (arith, below)) ∙ ap (λ k. Some (Exchange 0 k)) (omega arith)
 
--- the event at a place of a meeting of each
+-- the event at an index of such meetings
 pub met_at : (count i : ℕ) → i < count → slice_get (meet_each count) i ≡ Some (Exchange 0 (i + 1))
 met_at count i below = get-meet 1 count i below ∙ ap (λ k. Some (Exchange 0 k)) (omega arith)
 
@@ -53,7 +53,7 @@ meets nodes i below =
     get-front (meet_each (nodes - 1)) (meet_each (nodes - 2)) i (Exchange 0 (suc i))
     (get-meet 1 (nodes - 1) i (omega (arith, below)) ∙ ap (λ k. Some (Exchange 0 k)) (omega arith))
 
--- and each but the last once more, after it met all of them
+-- and each except the last again, after it met all of them
 meets_again : (nodes i : ℕ) → suc (suc i) < nodes → slice_get (level_list nodes) (nodes - 1 + i) ≡ Some (Exchange 0 (suc i))
 meets_again nodes i below =
     ap (λ n. slice_get (level_list nodes) (n + i)) (sym (length-meet_each (nodes - 1)))
@@ -95,7 +95,7 @@ IsExchange (Exchange j k) = ⊤
 IsExchange (Half j k) = ⊥
 IsExchange (Refute k) = ⊥
 
--- each event that the list has is an exchange
+-- each event in the list is an exchange
 abbrev AreExchanges : List Event → Type 0
 AreExchanges events = (i : ℕ) (e : Event) → slice_get events i ≡ Some e → IsExchange e
 

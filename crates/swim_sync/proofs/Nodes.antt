@@ -12,7 +12,7 @@ minus-itself : (n : ℕ) → n - n ≡ 0
 minus-itself n = omega arith
 
 module _ {X : Type 0} where
-  -- what stands at a place after the element at place k was replaced
+  -- what is at an index after the element at index k was replaced
   pub replaced : (xs : List X) (k y : ℕ) (new x : X) → slice_get (set xs k new) y ≡ Some x → ((y ≡ k) × (x ≡ new)) ⊎ ((y ≢ k) × (slice_get xs y ≡ Some x))
   replaced xs k y new x is =
       let within = slice_get_within (set xs k new) y x is in

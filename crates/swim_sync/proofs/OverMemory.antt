@@ -11,7 +11,7 @@ use Rattle.swim_table.proofs.WholeStreams.{refused_whole, dumped}
 use Rattle.swim_sync.specs.Exchanging.{TakesStream, LacksStream}
 use Rattle.swim_sync.specs.OverMemory.{IsOffer, TakesTable}
 
--- who takes the stream at the front of an offer takes the claims of the offered table
+-- taking in the stream at the start of an offer takes in the claims of the offered table
 pub takes_offer : (offer rest : List ℕ) (before after other : Entries) (join : Bool)
     → TakesStream (record { coming = Some offer; faults = 0 }) (record { coming = Some rest; faults = 0 }) before after join
     → IsOffer other offer → TakesTable before after other
@@ -22,7 +22,7 @@ takes_offer offer rest before after other join took is claims others h g =
     TableOf-sent other after (Reduced other) others claims (TableOf-Reduced other others g) g
     (subst (λ l. TableOf after (claims ++ l)) one.1 (took.all claims h))
 
--- an offer is never refused as no stream
+-- an offer is never refused as not being a stream
 pub offer_lacks : (offer rest : List ℕ) (other : Entries) (fault : WireFault)
     → LacksStream (record { coming = Some offer; faults = 0 }) (record { coming = Some rest; faults = 0 }) fault → ¬ IsOffer other offer
 offer_lacks offer rest other fault lacks is =

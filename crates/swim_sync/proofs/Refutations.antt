@@ -1,4 +1,4 @@
--- A member refutes exactly where a refutation is due, by its Alive at the next incarnation.
+-- A member refutes exactly if a refutation is due, with its Alive at the next incarnation.
 use Rattle.std.proofs.Common.{◌≡◌, ◌≢◌, ◌⊎◌, ℕ, ◌+◌, ◌<◌, ◌≤◌, Bool, true, false, if◌then◌else◌, Option, Some, None, List, [], ◌∷◌, ◌++◌, Contains, refl, sym, ap, subst, ◌∙◌, inl, inr, arith}
 use Rattle.std.specs.Prelude.{nat_le}
 use Rattle.std.specs.Ordering.{is_eq}
@@ -25,7 +25,7 @@ use Rattle.swim_table.proofs.Tables.{IsAbout, top_of, parts, TableOf-table_of}
 use Rattle.swim_sync.specs.Cluster.{member_of}
 use Rattle.swim_sync.specs.Heard.{Member, standing_with, what_stands, own_alive, refuted, refutation}
 
--- ---- the claim that stands
+-- the winning claim
 
 one_name : (name : List ℕ) (c d : Claim) → IsAbout name c → IsAbout name d → name_of c ≡ name_of d
 one_name name c d p q = p ∙ sym q
@@ -44,7 +44,7 @@ standing_with-is : (c : Claim) (o : Option Claim) → greater_home (Some c) o �
 standing_with-is c None = refl
 standing_with-is c (Some d) = refl
 
--- of the claims about the name it is the greatest
+-- it is the greatest of the claims about the name
 what_stands-greatest : (name : List ℕ) (claims : List Claim) → Greatest (IsAbout name) claims (what_stands name claims)
 what_stands-greatest name [] = λ d made. absurd (omega (arith, made.1))
 what_stands-greatest name (c ∷ claims) = by_answer (what_stands-greatest name claims) (name_cmp name (name_of c)) refl
@@ -74,11 +74,11 @@ what_stands-top name claims =
 
 -- ---- the refutation
 
--- a refutation is due by this incarnation, and it is at most 4,294,967,295
+-- a refutation is due with this incarnation, which is at most 4,294,967,295
 abbrev pub IsDueBy : List Claim → Member → ℕ → Type 0
 IsDueBy claims member inc = Due claims member.name member.details × IsNext claims member.name inc × (inc ≤ 4294967295)
 
--- the member's Alive where a refutation is due, and else nothing
+-- the member's Alive if a refutation is due, and otherwise nothing
 abbrev pub Refutes : List Claim → Member → List Claim → Type 0
 Refutes claims member added =
     ((inc : ℕ) × IsDueBy claims member inc × (added ≡ Alive member.name inc member.details ∷ []))
@@ -142,7 +142,7 @@ module _ (claims : List Claim) (member : Member) where
       subst (λ o. Refutes claims member (refuted member o)) (sym (what_stands-top member.name claims))
       (refutes_by (get (table_of claims) member.name) ((TableOf-table_of claims).each member.name))
 
-  -- where a refutation is due, it is the Alive at the next incarnation
+  -- if a refutation is due, it is the Alive at the next incarnation
   pub refutation-due : (inc : ℕ) → Due claims member.name member.details → IsNext claims member.name inc → inc ≤ 4294967295
       → refutation member claims ≡ Alive member.name inc member.details ∷ []
   refutation-due inc due next within = elim refutes [
@@ -150,7 +150,7 @@ module _ (claims : List Claim) (member : Member) where
     | inr none ↦ absurd (none.1 inc (due, next, within))
   ]
 
-  -- and else it is nothing
+  -- otherwise it is nothing
   pub refutation-none : ((inc : ℕ) → Due claims member.name member.details → IsNext claims member.name inc → ¬ (inc ≤ 4294967295))
       → refutation member claims ≡ []
   refutation-none not_due = elim refutes [
@@ -176,7 +176,7 @@ refuted_table old new inc r within claims h =
     let by = r.due.all claims h in
     subst (λ added. TableOf new.table (claims ++ added)) (sym (refutation-due claims (member_of old) inc by.0 by.1 within)) (r.taken.all claims h)
 
--- one that is at rest, exhausted or gone adds nothing
+-- a node that is at rest, exhausted or gone adds nothing
 pub at_rest_adds : (node : NodeValue) → IsAtRest node → (claims : List Claim) → TableOf node.table claims → refutation (member_of node) claims ≡ []
 at_rest_adds node r claims h = refutation-none claims (member_of node) (λ inc due next within. (r.all claims h).0 due)
 

@@ -1,4 +1,5 @@
--- Each claim that a node has heard came to it by a path, and what has a path to a node is heard there.
+-- Each claim that a node has heard came to it by a path, and what has a path to a node is heard
+-- there.
 use Rattle.std.proofs.Common.{◌≡◌, ◌⊎◌, ℕ, zero, suc, ◌≤◌, Some, List, [], ◌∷◌, length, Contains, refl, sym, subst, inl, inr, arith}
 use Rattle.swim_claim.specs.declared.claim.Claim.{Claim}
 use Rattle.swim_sync.specs.declared.event.Event.{Event}
@@ -17,14 +18,14 @@ sooner : (nodes : ℕ) (events : List Event) {p q m k : ℕ} → q ≤ p → Pat
 sooner nodes events le there = there
 sooner nodes events le (by place x e above at leads path) = by place x e (omega (arith, le, above)) at leads path
 
--- a path that begins after the first event
+-- a path that starts after the first event
 past : (nodes : ℕ) (event : Event) (events : List Event) {p m k : ℕ} → Path nodes (event ∷ events) p m k → (q : ℕ) → p ≡ suc q → Path nodes events q m k
 past nodes event events there q is = there
 past nodes event events (by zero x e above at leads path) q is = absurd (omega (arith, above, is))
 past nodes event events (by (suc place) x e above at leads path) q is =
     by place x e (omega (arith, above, is)) at leads (past nodes event events path (suc place) refl)
 
--- a path of all events goes by the first one or does not
+-- a path of all events uses the first one or does not
 first : (nodes : ℕ) (event : Event) (events : List Event) {p m k : ℕ} → Path nodes (event ∷ events) p m k
     → Path nodes events zero m k ⊎ ((x : ℕ) × Leads nodes event m x × Path nodes events zero x k)
 first nodes event events there = inl there

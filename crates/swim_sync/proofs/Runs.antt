@@ -101,7 +101,7 @@ hear_same lists k claims below = get_or-set_same lists k (heard_by lists k ++ cl
 pub hear_other : (lists : List (List Claim)) (k : ℕ) (claims : List Claim) (y : ℕ) → y ≢ k → heard_by (hear lists k claims) y ≡ heard_by lists y
 hear_other lists k claims y other = get_or-set_other lists k y (heard_by lists k ++ claims) [] other
 
--- of node y's list either nothing changed, or it is node k's
+-- either nothing changed in node y's list, or it is node k's
 abbrev IsHeard : List (List Claim) → ℕ → List Claim → ℕ → List Claim → Type 0
 IsHeard lists k claims y list =
     (list ≡ heard_by lists y) ⊎ ((y ≡ k) × (y < length lists) × (list ≡ heard_by lists k ++ claims))
@@ -250,7 +250,7 @@ module _ (members : List Member) (lists : List (List Claim)) (c : Claim) where
       both : List Claim
       both = heard_by lists j ++ heard_by lists k
 
-  -- what was heard stays heard
+  -- what was heard remains heard
   pub stays : (event : Event) (y : ℕ) → Contains (heard_by lists y) c → Contains (heard_by (after members lists event) y) c
   stays (Hear k claim) y made = hear_kept lists k (claim ∷ []) y c made
   stays (HearAll k claims) y made = hear_kept lists k claims y c made

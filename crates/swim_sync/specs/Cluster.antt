@@ -28,7 +28,7 @@ pub record TablesOf (nodes : List NodeValue) (lists : List (List Claim)) : Type 
   pub each : (k : ℕ) (node : NodeValue) → slice_get nodes k ≡ Some node
       → TableOf node.table (heard_by lists k)
 
--- each number in the event is a node's
+-- each number in the event is that of a node
 abbrev pub NamesNodes : ℕ → Event → Type 0
 NamesNodes nodes (Hear k claim) = k < nodes
 NamesNodes nodes (HearAll k claims) = k < nodes
@@ -52,8 +52,8 @@ Dumps (Exchange j k) x = (x ≡ j) ⊎ (x ≡ k)
 Dumps (Half j k) x = (x ≡ j) ⊎ (x ≡ k)
 Dumps (Refute k) x = ⊥
 
--- where the nodes have heard these lists the event names nodes, none twice, and no dump that it
--- makes has too many records
+-- if the nodes have heard these lists, the event names nodes, none twice, and no dump that it makes
+-- has too many records
 pub record CanHappen (lists : List (List Claim)) (event : Event) : Type 0 where
   pub named : NamesNodes (length lists) event
   pub differ : ¬ NamesOneTwice event
@@ -66,8 +66,8 @@ EachCanHappen members lists [] = Unit {0}
 EachCanHappen members lists (event ∷ events) = CanHappen lists event
     × EachCanHappen members (after members lists event) events
 
--- The events happened: the nodes are those of before, each table is that of what its node has
--- heard, and each event could happen.
+-- The events happened: the nodes are the same, each table is that of what its node has heard, and
+-- each event could happen.
 pub record Ran (old new : List NodeValue) (events : List Event) : Type 0 where
   pub members : members_of new ≡ members_of old
   pub tables : (start : List (List Claim)) → TablesOf old start
@@ -80,7 +80,7 @@ abbrev pub DumpsTooMany : List NodeValue → Event → Type 0
 DumpsTooMany nodes event = (k : ℕ) × (node : NodeValue) × Dumps event k
     × (slice_get nodes k ≡ Some node) × HasTooMany node.table
 
--- two nodes' tables have the claims of both, and all else is as it was
+-- two nodes' tables have the claims of both, and everything else is unchanged
 pub record BothExchange (old new : List NodeValue) (j k : ℕ) : Type 0 where
   pub first : NodeValue
   pub second : NodeValue
@@ -94,7 +94,7 @@ pub record BothExchange (old new : List NodeValue) (j k : ℕ) : Type 0 where
       → TableOf second.table others
       → TableOf one (claims ++ others) × TableOf other (claims ++ others)
 
--- the event asks for memory: a refutation only where one is due, and its incarnation is at most
+-- the event requests memory: a refutation only if one is due, and its incarnation is at most
 -- 4,294,967,295
 abbrev pub AsksForMemory : List NodeValue → Event → Type 0
 AsksForMemory nodes (Hear k claim) = Unit {0}
@@ -113,25 +113,25 @@ StopsBy nodes event TooManyRecords = NamesNodes (length nodes) event × (¬ Name
 StopsBy nodes event Memory = NamesNodes (length nodes) event × (¬ NamesOneTwice event)
     × AsksForMemory nodes event
 
--- the event at the place of the list does not happen to these nodes
+-- the event at this index of the list does not happen to these nodes
 abbrev pub StopsAt : List NodeValue → List Event → ℕ → Why → Type 0
 StopsAt nodes events place why = (event : Event) × (slice_get events place ≡ Some event)
     × StopsBy nodes event why
 
--- The run of the events stopped: those before the place happened, and the one at the place does
+-- The run of the events stopped: those before the index happened, and the one at the index does
 -- not.
 pub record Stopped (old new : List NodeValue) (events : List Event) (stop : Stop) : Type 0 where
   pub before : stop.done < length events
   pub ran : Ran old new (take stop.done events)
   pub why : StopsAt new events stop.done stop.why
 
--- Levelling stopped, by a table of too many records or where memory was refused.
+-- Levelling stopped, because a table has too many records or memory ran out.
 pub record LevelStopped (old new : List NodeValue) (stop : Stop) : Type 0 where
   pub stopped : Stopped old new (level_list (length old)) stop
   pub done : stop.done < 2 * length old - 3
   pub cause : (stop.why ≡ TooManyRecords) ⊎ (stop.why ≡ Memory)
 
--- each node's table is that of all claims that any node had, and so all nodes have one table
+-- each node's table is that of all claims that any node had, so all nodes have one table
 pub record AreLevel (old new : List NodeValue) : Type 0 where
   pub all : (start : List (List Claim)) → TablesOf old start → (k : ℕ) (node : NodeValue)
       → slice_get new k ≡ Some node → TableOf node.table (all_heard start)

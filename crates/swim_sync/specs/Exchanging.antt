@@ -1,4 +1,5 @@
--- What the halves of an exchange do to the two ends and to the table, and why they are refused.
+-- What the halves of an exchange do to the inlet, the outlet and the table, and why they are
+-- refused.
 use Rattle.std.specs.Prelude.{◌≡◌, ◌≢◌, ◌<◌, ◌≤◌, ◌⊎◌, ℕ, Bool, List, Some, ◌++◌, length}
 use Rattle.std.specs.Io.KnownBytes.{Keeps}
 use Rattle.swim_claim.specs.declared.claim.Claim.{Claim}
@@ -16,7 +17,7 @@ use Rattle.swim_table.specs.Table.{Entries, Reduced, TableOf, IsLegalTable}
 use Rattle.swim_sync.specs.declared.fault.SyncFault.{SyncFault}
 use Rattle.swim_sync.specs.declared.fault.SyncFault.TheVariants.{Wire, TooManyRecords, Push, Memory}
 
--- One stream with this join flag is gone from the front, or came from an end that tells no bytes, and
+-- One stream with this join flag was consumed, or came from an inlet whose bytes are unknown, and
 -- the table took its claims in.
 pub record TakesStream (old new : Source) (before after : Entries) (join : Bool) : Type 0 where
   pub claims : List Claim
@@ -24,8 +25,7 @@ pub record TakesStream (old new : Source) (before after : Entries) (join : Bool)
   pub reduced : TableOf after (Reduced before ++ claims)
   pub all : (others : List Claim) → TableOf before others → TableOf after (others ++ claims)
 
--- One stream with this join flag is gone from the front, and the offered table is that of its
--- claims.
+-- One stream with this join flag was consumed, and the offered table is that of its claims.
 abbrev pub ReadsOffer : Source → Source → Entries → Bool → Type 0
 ReadsOffer old new offered join = (claims : List Claim) × TableOf offered claims
     × Takes old new (λ b. StreamText b claims join)
@@ -35,12 +35,12 @@ pub record IsSendable (table : Entries) : Type 0 where
   pub legal : IsLegalTable table
   pub few : length (Reduced table) ≤ most_nodes
 
--- The dump of the table is to come with this join flag, and behind it these bytes.
+-- The dump of the table is to come with this join flag, and after it these bytes.
 abbrev pub Brings : Source → Entries → Bool → List ℕ → Type 0
 Brings source table join rest = source.coming ≡ Some (dump_bytes table join ++ rest)
 
--- The dump of the other table is to come, with either join flag and any bytes behind it, and the
--- table took one stream in from the front of them.
+-- The dump of the other table is to come, with either join flag and any bytes after it, and the
+-- table took in one stream at their start.
 pub record TakesDump (before after other : Entries) : Type 0 where
   pub old : Source
   pub new : Source
@@ -50,11 +50,11 @@ pub record TakesDump (before after other : Entries) : Type 0 where
   pub brings : Brings old other sent rest
   pub takes : TakesStream old new before after read
 
--- more records than a dump has
+-- more records than a dump may have
 abbrev pub HasTooMany : Entries → Type 0
 HasTooMany table = most_nodes < length (Reduced table)
 
--- No stream stands at the front, and the fault says why; or the inlet failed.
+-- The bytes do not start with a stream, and the fault says why; or the inlet failed.
 pub record LacksStream (old new : Source) (fault : WireFault) : Type 0 where
   pub no_memory : fault ≢ wire.Memory
   pub lacks : UnlessFailed (wire_cause fault)
@@ -62,7 +62,7 @@ pub record LacksStream (old new : Source) (fault : WireFault) : Type 0 where
   pub explains : ExplainsStart (ExplainsStream fault) old
   pub failed : fault ≡ wire.Fault → Rises old.faults new.faults
 
--- The outlet failed, and a front of the table's dump with this join flag was pushed.
+-- The outlet failed, and a prefix of the table's dump with this join flag was pushed.
 pub record PushesFront (old new : Sink) (table : Entries) (join : Bool) : Type 0 where
   pub failed : Rises old.faults new.faults
   pub front : AppendsFront old.written new.written (dump_bytes table join)
@@ -74,7 +74,7 @@ IsOfferRefused old new table join TooManyRecords = HasTooMany table × Keeps old
 IsOfferRefused old new table join Push = PushesFront old new table join
 IsOfferRefused old new table join Memory = Keeps old.written new.written
 
--- why an answer is not prepared: for too many records only once a stream was read
+-- why an answer is not prepared: because of too many records only after a stream was read
 abbrev pub IsPrepareRefused : Source → Source → Entries → SyncFault → Type 0
 IsPrepareRefused old new table (Wire error) = LacksStream old new error
 IsPrepareRefused old new table TooManyRecords =

@@ -19,7 +19,7 @@ TakesTable before after other =
     (claims others : List Claim) → TableOf before claims → TableOf other others
     → TableOf after (claims ++ others)
 
--- a table has too many records, or memory was refused
+-- a table has too many records, or memory ran out
 abbrev pub Hinders : Type 0 → Why → Type 0
 Hinders crowded NoSuchNode = ⊥
 Hinders crowded SameNode = ⊥

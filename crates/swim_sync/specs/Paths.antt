@@ -9,7 +9,7 @@ use Rattle.swim_sync.specs.Heard.{Member, heard, heard_by, refutation_of}
 abbrev pub AreTwoNodes : ℕ → ℕ → ℕ → Type 0
 AreTwoNodes nodes x y = (x < nodes) × (y < nodes) × (x ≢ y)
 
--- by the event node y takes in what node x has
+-- in the event node y takes in what node x has
 abbrev pub Leads : ℕ → Event → ℕ → ℕ → Type 0
 Leads nodes (Hear k claim) x y = ⊥
 Leads nodes (HearAll k claims) x y = ⊥
@@ -17,13 +17,13 @@ Leads nodes (Exchange j k) x y = AreTwoNodes nodes x y × (((x ≡ j) × (y ≡ 
 Leads nodes (Half j k) x y = AreTwoNodes nodes x y × (x ≡ j) × (y ≡ k)
 Leads nodes (Refute k) x y = ⊥
 
--- k is m, or events at ascending places from p on lead in turn from m to k
+-- k is m, or events at ascending indices from p on lead in turn from m to k
 pub data Path (nodes : ℕ) (events : List Event) : ℕ → ℕ → ℕ → Type 0 where
   there : {p k : ℕ} → Path nodes events p k k
   by : {p m k : ℕ} (place x : ℕ) (event : Event) → p ≤ place → slice_get events place ≡ Some event
       → Leads nodes event m x → Path nodes events (suc place) x k → Path nodes events p m k
 
--- with the event the claim enters node m from outside; before it the nodes had heard these lists
+-- the claim enters node m from outside with this event; before it the nodes had heard these lists
 abbrev pub Brings : List Member → List (List Claim) → Event → Claim → ℕ → Type 0
 Brings members lists (Hear k claim) c m = (m ≡ k) × (m < length lists) × (c ≡ claim)
 Brings members lists (HearAll k claims) c m = (m ≡ k) × (m < length lists) × Contains claims c
@@ -32,8 +32,8 @@ Brings members lists (Half j k) c m = ⊥
 Brings members lists (Refute k) c m = (m ≡ k) × (m < length lists)
     × Contains (refutation_of members lists k) c
 
--- node m had heard the claim at the start, for p of 0; for a greater p the claim entered node m
--- with the p-th event
+-- if p is 0, node m had heard the claim at the start; otherwise the claim entered node m with the
+-- p-th event
 abbrev pub Entered : List Member → List (List Claim) → List Event → Claim → ℕ → ℕ → Type 0
 Entered members start events c m zero = Contains (heard_by start m) c
 Entered members start events c m (suc place) =

@@ -1,4 +1,4 @@
-//! A cluster of nodes, and what happens to it.
+//! A cluster of nodes, and the events that happen in it.
 
 ghost use Rattle.std.specs.Option.{option_copied};
 ghost use Rattle.std.specs.Prelude.{◌≡◌, ◌<◌, ◌∷◌, [], length, slice_get, OnOk, OnErr, IfErr};
@@ -32,40 +32,40 @@ impl Model for Cluster {
 }
 
 impl Cluster {
-    /// The cluster of these nodes, in their order. It takes no memory; what grows later takes it
-    /// from this allocator.
+    /// The cluster of these nodes, in this order. It takes no memory; later growth takes it from
+    /// this allocator.
     pub fn new(alloc: Global, nodes: Vec<Node>) -> Cluster
         ensures { result ≡ nodes.items }
     {
         Cluster { alloc, nodes }
     }
 
-    /// How many nodes there are.
+    /// The number of nodes.
     pub fn len(&self) -> usize
         ensures { result ≡ length self.now }
     {
         self.nodes.len()
     }
 
-    /// Node k, or none where there are no more than k nodes.
+    /// Node k, or none if there are no more than k nodes.
     pub fn node(&self, k: usize) -> Option<&Node>
         ensures { option_copied result ≡ slice_get self.now k }
     {
         self.nodes.get(k)
     }
 
-    /// Lets the events happen, one after the other.
+    /// Runs the events, one after the other.
     ///
     /// # Errors
     ///
     /// The run stops at the first event that cannot happen. That event changed nothing; what the
-    /// events before it did stays.
+    /// events before it did remains.
     ///
-    /// - `NoSuchNode` where the event has a number that is no node's.
-    /// - `SameNode` where it is an exchange, whole or half, of a node with itself.
-    /// - `TooManyRecords` where it is an exchange, whole or half, and one of the two tables keeps
-    ///   more than 131,072 records.
-    /// - `Memory` if memory is refused. A refutation asks for memory only if one is due.
+    /// - `NoSuchNode` if a number in the event is not that of a node.
+    /// - `SameNode` if it is an exchange, whole or half, of a node with itself.
+    /// - `TooManyRecords` if it is an exchange, whole or half, and one of the two tables keeps more
+    ///   than 131,072 records.
+    /// - `Memory` if memory runs out. A refutation requests memory only if one is due.
     pub fn run(&mut self, events: &[Event]) -> Result<(), Stop>
         ensures ok { OnOk result (Ran self.old self.new events.now) }
         ensures stopped { IfErr result (Stopped self.old self.new events.now) }
@@ -78,7 +78,7 @@ impl Cluster {
         Ok(())
     }
 
-    /// Lets one event happen. Where it cannot, nothing changes.
+    /// Runs one event. If it cannot happen, nothing changes.
     fn happen(&mut self, event: &Event) -> Result<(), Why>
         ensures ok { OnOk result (Ran self.old self.new (event.now ∷ [])) }
         ensures unchanged { OnErr result (self.new ≡ self.old) }
@@ -155,7 +155,7 @@ impl Cluster {
         answered(self.alloc, offer.bytes(), self.nodes[second].table_mut())
     }
 
-    /// Whether these are the numbers of two different nodes.
+    /// Checks that these are the numbers of two different nodes.
     fn check_two(&self, first: usize, second: usize) -> Result<(), Why>
         ensures ok { OnOk result (AreTwoNodes (length self.now) first second) }
         ensures refused { IfErr result (λ why. StopsBy self.now (event.Exchange first second) why

@@ -1,4 +1,4 @@
-//! What happens in a cluster.
+//! Events in a cluster.
 
 ghost use Rattle.std.specs.Prelude.{◌≡◌, List, IfOk};
 ghost use Rattle.swim_claim.specs.declared.claim.Claim.{Claim};
@@ -7,8 +7,8 @@ use std::alloc::{AllocError, Global};
 use std::marker::Model;
 use swim_claim::Claim;
 
-/// Claims, as those of one datagram, that a node takes in together. Contracts see them as the list
-/// of the claims.
+/// Claims, such as those of one datagram, that a node takes in together. Contracts see them as the
+/// list of the claims.
 #[derive(Drop, Debug)]
 pub struct Claims {
     claims: Vec<Claim>,
@@ -24,21 +24,21 @@ impl Model for Claims {
 }
 
 impl Claims {
-    /// These claims, in their order. It takes no memory.
+    /// These claims, in this order. It takes no memory.
     pub fn new(claims: Vec<Claim>) -> Claims
         ensures { result ≡ claims.items }
     {
         Claims { claims }
     }
 
-    /// The claims, in their order. It takes no memory.
+    /// The claims, in order. It takes no memory.
     pub fn claims(&self) -> &[Claim]
         ensures { result.now ≡ self.now }
     {
         &self.claims
     }
 
-    /// Copies of the claims, in their order.
+    /// Copies of the claims, in order.
     pub(crate) fn copies(&self, alloc: Global) -> Result<Vec<Claim>, AllocError>
         ensures { IfOk result (λ copies. copies.items ≡ self.now) }
     {
@@ -50,7 +50,7 @@ impl Claims {
     }
 }
 
-/// What happens in a cluster. A node is named by its number, counted from 0.
+/// An event in a cluster. It names a node by its number, counted from 0.
 #[derive(Drop, Debug)]
 pub enum Event {
     /// The node takes in a copy of the claim.
@@ -62,7 +62,7 @@ pub enum Event {
     /// An exchange whose reply is lost: the second node takes in the first node's table, and the
     /// first node does not change.
     Half(usize, usize),
-    /// The node refutes what is claimed of it. A refutation that is exhausted, or that comes from a
-    /// node that is gone, stops nothing.
+    /// The node refutes what is claimed about it. An exhausted refutation, or one of a node that is
+    /// gone, stops nothing.
     Refute(usize),
 }

@@ -10,26 +10,27 @@ use swim_table::EncodeFault;
 use swim_wire::WireFault;
 use thiserror::Error;
 
-/// Why an exchange, or a half of one, was refused. Each has a number, by which reports name it.
+/// Why an exchange, or a half of one, was refused. Each fault has a number that identifies it in
+/// reports.
 #[derive(Clone, Copy, Debug, PartialEq, Eq, Error)]
 pub enum SyncFault {
-    /// The other member's stream was refused. Want of memory is never in here.
+    /// The other member's stream was refused. This is never for running out of memory.
     #[error("the stream of the other member was refused: {0}")]
     Wire(WireFault),
-    /// The own table keeps more than 131,072 records (own).
+    /// The member's own table keeps more than 131,072 records (own).
     #[error("the table has more than 131,072 records")]
     TooManyRecords,
-    /// The end that the bytes go to failed.
+    /// The outlet failed.
     #[error("the output could not be written")]
     Push,
-    /// A growth of memory was refused.
+    /// Memory ran out.
     #[error("out of memory")]
     Memory,
 }
 
 impl SyncFault {
-    /// The number by which reports name the fault: that of the stream's fault, 23, 29, or 10 for
-    /// want of memory (own).
+    /// The number that identifies the fault in reports: that of the stream's fault, 23, 29, or 10
+    /// if out of memory (own).
     pub fn number(&self) -> u32
         ensures { result ≡ sync_number self.now }
     {

@@ -21,8 +21,8 @@ ghost use Rattle.swim_sync.specs.Paths.{AreTwoNodes, Reaches};
 
 /// Two members that take in the same claims, in any order and grouping and however often, have one
 /// table, one listing and one dump. Joining their tables is commutative, associative and
-/// idempotent. Every claim shown was taken in, and no claim taken in overrides a state shown. What
-/// a dump of at most 131,072 records is read as is what it was made of.
+/// idempotent. Every claim shown was taken in, and no claim taken in overrides a state shown. A
+/// dump of at most 131,072 records is read as what it was made of.
 pub fn two_members()
     ensures commutative { (table other : Entries) → Join table other ≡ Join other table }
     ensures associative { (table other third : Entries) → TableOf table (Reduced table)
@@ -52,12 +52,12 @@ pub fn two_members()
 {}
 
 /// A completed exchange leaves both sides with the join. The dump of each of two tables of at most
-/// 131,072 records comes to the other side, with either join flag and any bytes behind it, and each
+/// 131,072 records comes to the other side, with either join flag and any bytes after it, and each
 /// side takes one stream in, as [`answer`](crate::answer) and [`finish`](crate::finish) do. Then
 /// both tables are the join, which is the table of all claims of which the two were tables. Each
-/// side took exactly the other one's dump, with its flag, and left the bytes behind it. Over an end
-/// that tells no bytes, as a socket, a side is the join of what it was and the table of the claims
-/// of some stream.
+/// side consumed exactly the other one's dump, with its flag, and left the bytes after it. If the
+/// bytes of a side's inlet are unknown, as with a socket, the side is the join of what it was and
+/// the table of the claims of some stream.
 pub fn completed_exchange()
     ensures joins { (first second a b : Entries) → IsSendable first → IsSendable second
         → TakesDump first a second → TakesDump second b first
@@ -76,8 +76,8 @@ pub fn completed_exchange()
         × (after ≡ Join before (table_of claims)) }
 {}
 
-/// A member's refutation is its Alive at the next incarnation where one is due and this incarnation
-/// is at most 4,294,967,295, and else nothing.
+/// A member's refutation is its Alive at the next incarnation if one is due and this incarnation is
+/// at most 4,294,967,295, and otherwise nothing.
 pub fn refutations()
     ensures due { (member : Member) (claims : List Claim) (inc : ℕ)
         → Due claims member.name member.details → IsNext claims member.name inc → inc ≤ 4294967295
@@ -94,7 +94,7 @@ pub fn refutations()
 {}
 
 /// The list of exchanges that levels a cluster has two exchanges for each node, less three. After
-/// it each node has heard exactly what all nodes had heard together, and so all have one table.
+/// it each node has heard exactly what all nodes had heard together, so all have one table.
 pub fn levels()
     ensures count { (nodes : ℕ) → 2 ≤ nodes → length (level_list nodes) ≡ 2 * nodes - 3 }
     ensures level { (members : List Member) (start : List (List Claim)) → (k : ℕ) → k < length start
@@ -106,8 +106,8 @@ pub fn levels()
         → table ≡ other }
 {}
 
-/// An event with a number that is no node's, and an exchange of a node with itself, change nothing.
-/// No event adds a node or takes one away.
+/// An event with a number that is not a node's, and an exchange of a node with itself, change
+/// nothing. No event adds or removes a node.
 pub fn idle_events()
     ensures hear { (members : List Member) (lists : List (List Claim)) (k : ℕ) (claim : Claim)
         → length lists ≤ k → after members lists (Hear k claim) ≡ lists }
@@ -123,9 +123,9 @@ pub fn idle_events()
         → length (heard members start events) ≡ length start }
 {}
 
-/// A node has heard a claim exactly where the claim entered some node, at the start or with an
-/// event, and later events lead in turn from that node to this one. So nothing is invented, and
-/// nothing that a path carries is lost.
+/// A node has heard a claim exactly if the claim entered some node, at the start or with an event,
+/// and later events lead in turn from that node to this one. So nothing is invented, and nothing
+/// that a path carries is lost.
 pub fn paths()
     ensures { (members : List Member) (start : List (List Claim)) (events : List Event)
         → (claim : Claim) (k : ℕ)
@@ -133,14 +133,14 @@ pub fn paths()
         ↔ Reaches members start events claim k) }
 {}
 
-/// To send the claims that a table keeps is as good as to send all claims of which it is the table,
+/// Sending the claims that a table keeps is as good as sending all claims of which it is the table,
 /// whatever was heard before.
 pub fn reduced_enough()
     ensures { (table whole : Entries) (claims more : List Claim) → TableOf table claims
         → (TableOf whole (more ++ Reduced table) ↔ TableOf whole (more ++ claims)) }
 {}
 
-/// Two nodes that heard the same claims have one table, also in two runs of different events.
+/// Two nodes that heard the same claims have one table, even in two runs of different events.
 pub fn same_heard()
     ensures { (members others : List Member) (start begun : List (List Claim))
         (events happened : List Event) → (j k : ℕ) (table other : Entries)

@@ -10,17 +10,17 @@ use crate::stop::Stop;
 
 impl Cluster {
     /// Levels the cluster of n nodes: node 0 exchanges its table with each other node, from node 1
-    /// on, and once more with each of them but the last (own). These are 2n - 3 exchanges for two
-    /// nodes and more. Each node has then the table of all claims that any node had. Of none and of
-    /// one node nothing changes. There have to be at most 2,147,483,648 nodes.
+    /// on, and again with each of them except the last (own). With two nodes or more these are 2n -
+    /// 3 exchanges. Each node then has the table of all claims that any node had. With fewer than
+    /// two nodes nothing changes. There must be at most 2,147,483,648 nodes.
     ///
     /// # Errors
     ///
-    /// The levelling stops at the first exchange that cannot happen. That exchange changed nothing;
-    /// what those before it did stays.
+    /// Levelling stops at the first exchange that cannot happen. That exchange changed nothing;
+    /// what those before it did remains.
     ///
-    /// - `TooManyRecords` where one of the two tables keeps more than 131,072 records.
-    /// - `Memory` where memory is refused.
+    /// - `TooManyRecords` if one of the two tables keeps more than 131,072 records.
+    /// - `Memory` if memory runs out.
     pub fn level(&mut self) -> Result<(), Stop>
         requires { length self.old ≤ 2147483648 }
         ensures ok { OnOk result (Ran self.old self.new (level_list (length self.old))) }
@@ -34,7 +34,7 @@ impl Cluster {
         self.meet_each(others.saturating_sub(1), others)
     }
 
-    /// Node 0 exchanges with each of as many nodes, from node 1 on, after so many exchanges done.
+    /// Node 0 exchanges with each of `count` nodes, from node 1 on, after `done` earlier exchanges.
     fn meet_each(&mut self, count: usize, done: usize) -> Result<(), Stop>
         requires nodes { count ≤ length self.old - 1 }
         requires range { count + done ≤ 4294967296 }

@@ -2,13 +2,13 @@
 //!
 //! | module | subject |
 //! |---|---|
-//! | `push_pull` | the exchange of two tables, in halves over ends of bytes and as a whole |
-//! | `over_memory` | the same over memory, where no end fails |
-//! | `event` | what happens in a cluster |
+//! | `push_pull` | the exchange of two tables, in halves over inlets and outlets and as a whole |
+//! | `over_memory` | the same over memory, where no inlet or outlet fails |
+//! | `event` | events in a cluster |
 //! | `cluster` | the nodes of a cluster, and runs of events |
 //! | `level` | exchanges after which all nodes of a cluster have one table |
 //! | `fault`, `stop` | why an exchange was refused, why a run stopped |
-//! | `laws` | what holds of exchanges and runs, apart from any code |
+//! | `laws` | what holds for exchanges and runs, independent of any code |
 #![tactic(auto)]
 
 mod cluster;

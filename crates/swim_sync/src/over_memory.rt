@@ -1,4 +1,4 @@
-//! Exchanges over memory, where no end fails.
+//! Exchanges over memory, where no inlet or outlet fails.
 
 ghost use Rattle.std.specs.Prelude.{◌≡◌, ◌⊎◌, ◌++◌, List, IfOk, IfErr, OnOk, OnErr};
 ghost use Rattle.swim_claim.specs.declared.claim.Claim.{Claim};
@@ -29,7 +29,7 @@ pub(crate) fn offered(alloc: Global, table: &Table) -> Result<VecOutlet, Why>
     }
 }
 
-/// Answers the offer of a table, and loses the reply. Where it is refused, the table is as it was.
+/// Answers the offer of a table, and drops the reply. If refused, the table is unchanged.
 pub(crate) fn answered(alloc: Global, offer: &[u8], table: &mut Table) -> Result<(), Why>
     requires { (other : Entries) × IsOffer other offer.now }
     ensures takes { OnOk result ((other : Entries) → IsOffer other offer.now
@@ -48,8 +48,8 @@ pub(crate) fn answered(alloc: Global, offer: &[u8], table: &mut Table) -> Result
     }
 }
 
-/// Exchanges two tables. If they are equal already, this costs a comparison. If it is refused, both
-/// are as they were.
+/// Exchanges two tables. If they are already equal, this costs one comparison. If refused, both are
+/// unchanged.
 pub(crate) fn exchanged(alloc: Global, first: &mut Table, second: &mut Table) -> Result<(), Why>
     ensures all { OnOk result ((claims others : List Claim) → TableOf first.old claims
         → TableOf second.old others

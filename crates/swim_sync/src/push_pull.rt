@@ -1,6 +1,7 @@
-//! The exchange of two members' tables, in halves over ends of bytes and as a whole over memory.
+//! The exchange of two members' tables, in halves over inlets and outlets and as a whole over
+//! memory.
 //!
-//! The member that begins offers its table as a stream. The other one answers: it reads the whole
+//! The member that starts offers its table as a stream. The other one answers: it reads the whole
 //! stream, writes its own table as a stream, and then takes in what it read. The first one
 //! finishes: it reads that reply and takes it in. The order is memberlist's (`net.go`, `state.go`).
 
@@ -18,15 +19,15 @@ use std::alloc::Global;
 use swim_pack::{Inlet, Outlet};
 use swim_table::{MOST_RECORDS, Room, Table, encode, read_dump, read_stream};
 
-/// Offers a table: writes its canonical dump, with this join flag, by one push. With this a member
-/// begins an exchange (memberlist's `net.go`).
+/// Offers a table: writes its canonical dump, with this join flag, in one push. This starts an
+/// exchange (memberlist's `net.go`).
 ///
 /// # Errors
 ///
-/// - `TooManyRecords` exactly where the table keeps more than 131,072 records (own). Nothing was
+/// - `TooManyRecords` exactly if the table keeps more than 131,072 records (own). Nothing was
 ///   pushed.
-/// - `Push` where the outlet failed. Some of the dump, from its front, may have been pushed.
-/// - `Memory` where memory is refused. Nothing was pushed.
+/// - `Push` if the outlet failed. A prefix of the dump may have been pushed.
+/// - `Memory` if memory runs out. Nothing was pushed.
 pub fn offer<O: Outlet>(
     alloc: Global,
     outlet: &mut O,
@@ -44,30 +45,30 @@ pub fn offer<O: Outlet>(
     Ok(())
 }
 
-/// Answers an offer: reads one stream, writes the canonical dump of the own table with the same
-/// join flag by one push, and then takes the stream's claims in (memberlist's `net.go`). Answers
+/// Answers an offer: reads one stream, writes the canonical dump of its own table with the same
+/// join flag in one push, and then takes the stream's claims in (memberlist's `net.go`). Returns
 /// the flag.
 ///
-/// All memory is obtained before the push, so that nothing is refused after a push that succeeds
-/// (own). Bytes after the stream stay in the inlet.
+/// All memory is obtained before the push, so nothing is refused after a successful push (own).
+/// Bytes after the stream stay in the inlet.
 ///
 /// # Errors
 ///
-/// The table is then as it was, and what is left in the inlet are bytes from the end of those
-/// before. Nothing was pushed, except by `Push`.
+/// The table is then unchanged, and the bytes left in the inlet are a suffix of those before the
+/// call. Nothing was pushed, except with `Push`.
 ///
-/// - `Wire` where no stream stands at the front of the inlet, or the inlet failed.
-/// - `TooManyRecords` where the own table keeps more than 131,072 records. With it no stream is
-///   ever answered.
-/// - `Push` where the outlet failed. Some of the dump, from its front, may have been pushed.
-/// - `Memory` where memory is refused.
+/// - `Wire` if the bytes in the inlet do not start with a stream, or the inlet failed.
+/// - `TooManyRecords` if the own table keeps more than 131,072 records. Such a table never answers
+///   a stream.
+/// - `Push` if the outlet failed. A prefix of the dump may have been pushed.
+/// - `Memory` if memory runs out.
 pub fn answer<I: Inlet, O: Outlet>(
     alloc: Global,
     inlet: &mut I,
     outlet: &mut O,
     table: &mut Table,
 ) -> Result<bool, SyncFault>
-    // The table of before was pushed, and has the claims of the stream now.
+    // The table before the call was pushed, and now has the claims of the stream.
     ensures takes { IfOk result
         (TakesStream (I.seen inlet.old) (I.seen inlet.new) table.old table.new) }
     ensures replies { IfOk result (λ join.
@@ -75,7 +76,7 @@ pub fn answer<I: Inlet, O: Outlet>(
         (dump_bytes table.old join)) }
     ensures too_many { HasTooMany table.old → IsErr result }
 
-    // What a refusal leaves, and why it came.
+    // What a refusal leaves, and its reason.
     ensures unchanged { OnErr result (table.new ≡ table.old) }
     ensures rest { OnErr result (Skips (I.seen inlet.old).coming (I.seen inlet.new).coming) }
     ensures refused { IfErr result (IsAnswerRefused (I.seen inlet.old) (I.seen inlet.new)
@@ -92,8 +93,8 @@ pub fn answer<I: Inlet, O: Outlet>(
     Ok(join)
 }
 
-/// The answer to an offer that was read, with all the memory that it takes: what is left to do is
-/// to send the reply and to join the offered table in, and neither asks for more (own).
+/// The answer to an offer that was read, with all the memory that it takes: what remains is to send
+/// the reply and to join the offered table, and neither requests more (own).
 #[derive(Drop, Debug)]
 pub struct PreparedAnswer {
     /// The join flag of the offer, and of the reply.
@@ -106,18 +107,18 @@ pub struct PreparedAnswer {
     pub room: Room,
 }
 
-/// Reads an offer, one stream, and prepares the answer of the member with this table: the first
-/// half of [`answer`], for one that has to look at the reply before it sends it, as at its length.
-/// Bytes after the stream stay in the inlet.
+/// Reads an offer, one stream, and prepares the answer of the member with this table. This is the
+/// first half of [`answer`], for a caller that must look at the reply before it sends it, for
+/// example at its length. Bytes after the stream stay in the inlet.
 ///
 /// # Errors
 ///
-/// What is left in the inlet are bytes from the end of those before.
+/// The bytes left in the inlet are a suffix of those before the call.
 ///
-/// - `Wire` where no stream stands at the front of the inlet, or the inlet failed.
-/// - `TooManyRecords` where the own table keeps more than 131,072 records. With it no stream is
-///   ever answered.
-/// - `Memory` where memory is refused.
+/// - `Wire` if the bytes in the inlet do not start with a stream, or the inlet failed.
+/// - `TooManyRecords` if the own table keeps more than 131,072 records. Such a table never answers
+///   a stream.
+/// - `Memory` if memory runs out.
 pub fn prepare_answer<I: Inlet>(
     alloc: Global,
     inlet: &mut I,
@@ -130,7 +131,7 @@ pub fn prepare_answer<I: Inlet>(
     ensures room { IfOk result (λ made. length table.now + length made.offered ≤ made.room) }
     ensures too_many { HasTooMany table.now → IsErr result }
 
-    // What a refusal leaves, and why it came.
+    // What a refusal leaves, and its reason.
     ensures rest { Skips (I.seen inlet.old).coming (I.seen inlet.new).coming }
     ensures refused { IfErr result
         (IsPrepareRefused (I.seen inlet.old) (I.seen inlet.new) table.now) }
@@ -147,20 +148,20 @@ pub fn prepare_answer<I: Inlet>(
 }
 
 /// Finishes an exchange: reads the reply, one stream, and takes its claims in (memberlist's
-/// `net.go`). Answers the stream's join flag. Bytes after the stream stay in the inlet.
+/// `net.go`). Returns the stream's join flag. Bytes after the stream stay in the inlet.
 ///
 /// # Errors
 ///
-/// The table is then as it was, and what is left in the inlet are bytes from the end of those
-/// before.
+/// The table is then unchanged, and the bytes left in the inlet are a suffix of those before the
+/// call.
 ///
-/// - `Wire` where no stream stands at the front of the inlet, or the inlet failed.
-/// - `Memory` where memory is refused.
+/// - `Wire` if the bytes in the inlet do not start with a stream, or the inlet failed.
+/// - `Memory` if memory runs out.
 pub fn finish<I: Inlet>(alloc: Global, inlet: &mut I, table: &mut Table) -> Result<bool, SyncFault>
     ensures takes { IfOk result
         (TakesStream (I.seen inlet.old) (I.seen inlet.new) table.old table.new) }
 
-    // What a refusal leaves, and why it came.
+    // What a refusal leaves, and its reason.
     ensures unchanged { OnErr result (table.new ≡ table.old) }
     ensures rest { OnErr result (Skips (I.seen inlet.old).coming (I.seen inlet.new).coming) }
     ensures refused { IfErr result (IsFinishRefused (I.seen inlet.old) (I.seen inlet.new)) }
@@ -176,11 +177,11 @@ pub fn finish<I: Inlet>(alloc: Global, inlet: &mut I, table: &mut Table) -> Resu
 ///
 /// # Errors
 ///
-/// Both tables are then as they were.
+/// Both tables are then unchanged.
 ///
-/// - `TooManyRecords` exactly if one of the tables keeps more than 131,072 records. This is
-///   checked first.
-/// - `Memory` where memory is refused.
+/// - `TooManyRecords` exactly if one of the tables keeps more than 131,072 records. This is checked
+///   first.
+/// - `Memory` if memory runs out.
 pub fn exchange(alloc: Global, first: &mut Table, second: &mut Table) -> Result<(), SyncFault>
     // Both are the join, and the table of all claims of which the two were tables.
     ensures joins { OnOk result ((first.new ≡ Join first.old second.old)
@@ -191,7 +192,7 @@ pub fn exchange(alloc: Global, first: &mut Table, second: &mut Table) -> Result<
     ensures too_many { (result ≡ Err SyncFault.TooManyRecords)
         ↔ (HasTooMany first.old ⊎ HasTooMany second.old) }
 
-    // What a refusal leaves, and why it came.
+    // What a refusal leaves, and its reason.
     ensures unchanged { OnErr result ((first.new ≡ first.old) × (second.new ≡ second.old)) }
     ensures refused { IfErr result (IsExchangeRefused first.old second.old) }
 {
@@ -201,11 +202,11 @@ pub fn exchange(alloc: Global, first: &mut Table, second: &mut Table) -> Result<
     exchange_few(alloc, first, second)
 }
 
-/// Whether the table keeps more records than a stream has.
+/// Whether the table keeps more records than a stream may have.
 pub(crate) fn has_too_many(table: &Table) -> bool
     ensures { MatchBool result (HasTooMany table.now) (¬ HasTooMany table.now) }
 {
-    // an entry keeps two records at most, so that most tables need no count
+    // an entry keeps at most two records, so most tables need no count
     if table.len() <= MOST_RECORDS as usize / 2 {
         return false;
     }
@@ -241,7 +242,7 @@ pub(crate) fn exchange_few(
 ///
 /// # Errors
 ///
-/// `Memory` where memory is refused.
+/// `Memory` if memory runs out.
 pub fn room_for_both(alloc: Global, table: &Table, other: &Table) -> Result<Room, SyncFault>
     ensures room { IfOk result (λ room. length table.now + length other.now ≤ room) }
     ensures memory { IfErr result (λ fault. fault ≡ SyncFault.Memory) }

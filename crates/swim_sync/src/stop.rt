@@ -7,20 +7,20 @@ ghost use Rattle.swim_sync.specs.Fault.{why_number};
 use std::alloc::AllocError;
 use thiserror::Error;
 
-/// Where a run of events stopped, and why. What the events before did stays.
+/// Where a run of events stopped, and why. What the events before did remains.
 #[derive(Clone, Copy, Debug, PartialEq, Eq, Error)]
 #[error("stopped after {done} events: {why}")]
 pub struct Stop {
-    /// How many events happened: the place, from 0, of the one that did not.
+    /// How many events happened, which is the index, from 0, of the one that did not.
     pub done: usize,
     /// Why that event did not happen.
     pub why: Why,
 }
 
-/// Why an event did not happen. It changed nothing.
+/// Why an event did not happen. The event changed nothing.
 #[derive(Clone, Copy, Debug, PartialEq, Eq, Error)]
 pub enum Why {
-    /// The event has a number that is no node's.
+    /// A number in the event is not that of a node.
     #[error("there is no such node")]
     NoSuchNode,
     /// The event is an exchange of a node with itself.
@@ -29,13 +29,13 @@ pub enum Why {
     /// A table that the event sends keeps more than 131,072 records (own).
     #[error("a table has more than 131,072 records")]
     TooManyRecords,
-    /// A growth of memory was refused.
+    /// Memory ran out.
     #[error("out of memory")]
     Memory,
 }
 
 impl Why {
-    /// The number by which reports name the fault: 26, 27, 23, or 10 for want of memory (own).
+    /// The number that identifies the fault in reports: 26, 27, 23, or 10 if out of memory (own).
     pub fn number(&self) -> u32
         ensures { result ≡ why_number self.now }
     {

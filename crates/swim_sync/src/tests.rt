@@ -1,4 +1,4 @@
-//! Exchanges of tables, beside the listings that they have to leave.
+//! Exchanges of tables, compared with the listings that they must leave.
 
 mod clusters;
 mod cuts;
@@ -24,8 +24,8 @@ const ALIVE_OFFER: &[u8] =
 const SUSPECT_OFFER: &[u8] =
     b"\x06\x83\xa4Join\xc3\xa5Nodes\x01\xacUserStateLen\0\x87\xa4Addr\xa0\xabIncarnation\x01\xa4Meta\xa0\xa4Name\xa1b\xa4Port\0\xa5State\x01\xa3Vsn\xa0";
 
-/// Of `a` an Alive at incarnation 4, at 127.0.0.1 and port 7947, and then a Suspect at incarnation
-/// 5.
+/// An Alive of `a` at incarnation 4, at 127.0.0.1 and port 7947, and then a Suspect of it at
+/// incarnation 5.
 const SUSPECTED_OFFER: &[u8] =
     b"\x06\x83\xa4Join\xc2\xa5Nodes\x02\xacUserStateLen\0\x87\xa4Addr\xa4\x7f\0\0\x01\xabIncarnation\x04\xa4Meta\xa0\xa4Name\xa1a\xa4Port\xcd\x1f\x0b\xa5State\0\xa3Vsn\xa0\x87\xa4Addr\xa0\xabIncarnation\x05\xa4Meta\xa0\xa4Name\xa1a\xa4Port\0\xa5State\x01\xa3Vsn\xa0";
 
@@ -35,7 +35,7 @@ const SUSPECT_LISTING: &str = "b suspect 1 -\n";
 
 const JOINED_LISTING: &str = "a alive 0 0/7f000001/7946//\nb suspect 1 -\n";
 
-/// That the bytes are those that are wanted.
+/// Asserts that the bytes are the expected ones.
 fn assert_bytes(rt: &impl Abort, found: &[u8], wanted: &[u8], about: &str) {
     assert_eq!(rt; found, wanted, "{about}");
 }
@@ -87,7 +87,7 @@ fn suspect_table(rt: &impl Abort, alloc: Global) -> Result<Table, AllocError> {
     table_of(alloc, suspect(rt, alloc, b"b", 1)?)
 }
 
-/// Takes so many Suspects into the table, of names of four bytes each.
+/// Takes this many Suspects into the table, of names of four bytes each.
 fn take_suspects(
     rt: &impl Abort,
     alloc: Global,
@@ -108,7 +108,7 @@ fn take(table: &mut Table, claim: Claim) -> Result<(), AllocError> {
     }
 }
 
-/// The listing of the table, at the second try where memory is refused.
+/// The listing of the table, at the second try if out of memory.
 fn listing(alloc: Global, table: &Table) -> Result<Vec<u8>, AllocError> {
     match list(alloc, table) {
         Err(_) => list(alloc, table),
@@ -116,7 +116,7 @@ fn listing(alloc: Global, table: &Table) -> Result<Vec<u8>, AllocError> {
     }
 }
 
-/// Asserts that the table has this listing, at the second try where memory is refused.
+/// Asserts that the table has this listing, at the second try if out of memory.
 fn assert_lists(
     rt: &impl Abort,
     alloc: Global,
@@ -127,7 +127,7 @@ fn assert_lists(
     Ok(())
 }
 
-/// What answering the offer gives, and how many bytes of the offer are left.
+/// What answering the offer returns, and how many bytes of the offer are left.
 fn answer_once(
     alloc: Global,
     offer: &[u8],
@@ -139,8 +139,8 @@ fn answer_once(
     (given, inlet.rest().len())
 }
 
-/// Answers the offer, which has to give the flag, with the table of `b` alone, and gives what was
-/// pushed. Where memory is refused both sides have to stay, and the repeat answers.
+/// Answers the offer, which must return the flag, with the table of `b` alone, and returns what was
+/// pushed. If memory runs out, both sides must be unchanged, and the second try answers.
 fn answered(
     rt: &impl Abort,
     alloc: Global,
@@ -164,8 +164,8 @@ fn finish_once(alloc: Global, reply: &[u8], table: &mut Table) -> Result<bool, S
     finish(alloc, &mut SliceInlet::new(reply), table)
 }
 
-/// Asserts what finishing by these bytes answers, with the table of `a` alone. Where memory is
-/// refused the table has to stay, and the repeat answers.
+/// Asserts what finishing with these bytes returns, with the table of `a` alone. If memory runs
+/// out, the table must be unchanged, and the second try returns it.
 fn assert_finishes(
     rt: &impl Abort,
     alloc: Global,
@@ -186,7 +186,7 @@ fn exchange_once(alloc: Global, first: &mut Table, second: &mut Table) -> Result
     exchange(alloc, first, second)
 }
 
-/// Asserts that the table is listed as before.
+/// Asserts that the table's listing is the same as before.
 fn assert_stays(
     rt: &impl Abort,
     alloc: Global,
@@ -197,8 +197,8 @@ fn assert_stays(
     Ok(())
 }
 
-/// Exchanges the two tables. Where memory is refused both have to stay, and the repeat exchanges
-/// them.
+/// Exchanges the two tables. If memory runs out, both must be unchanged, and the second try
+/// exchanges them.
 fn exchange_at_last(
     rt: &impl Abort,
     alloc: Global,
@@ -216,8 +216,8 @@ fn exchange_at_last(
     Ok(())
 }
 
-/// Exchanges the two tables, which then are both the table of `a` and `b`. Where memory is refused
-/// both have to stay, and the repeat exchanges them.
+/// Exchanges the two tables, which then are both the table of `a` and `b`. If memory runs out, both
+/// must be unchanged, and the second try exchanges them.
 fn assert_exchanges(
     rt: &impl Abort,
     alloc: Global,

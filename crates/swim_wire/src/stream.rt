@@ -48,7 +48,7 @@ pub struct Header {
 ///
 /// The first of these that holds: `WrongType` if the first byte is not 6; the faults of the map, as
 /// its count, its keys and values are read; for the whole, `TooManyNodes` above 131,072 and then
-/// `UserTooLong` above 20,971,520 (own). The bytes left are the last ones of those before the call.
+/// `UserTooLong` above 20,971,520 (own). The bytes left are a suffix of those before the call.
 pub fn read_header<I: Inlet>(inlet: &mut I) -> Result<Header, WireFault>
     // The consumed bytes are the header.
     ensures takes { IfOk result (λ header.
@@ -117,7 +117,7 @@ fn read_header_map<I: Inlet>(inlet: &mut I, found: u8) -> Result<Values, WireFau
 /// The first of these that holds: the faults of the map, as its count, its keys and values are
 /// read; for the whole, `NameEmpty`; `BadState` above 3; for state 0 `BadAddress` and then
 /// `BadVersions`. `Memory` comes if an allocation failed, of at most the limit of a value, and
-/// never before the length of a text or bytes is read. The bytes left are the last ones of those
+/// never before the length of a text or bytes is read. The bytes left are a suffix of those
 /// before the call.
 pub fn read_state<I: Inlet>(alloc: Global, inlet: &mut I) -> Result<Claim, WireFault>
     // The consumed bytes are the record.

@@ -21,7 +21,7 @@ fn node(rt: &impl Abort, alloc: Global, name: &'static [u8], last: u8) -> Result
     Node::new(alloc, name_of(rt, alloc, name)?, details, 0)
 }
 
-/// The cluster of the first so many of the members a, b and c.
+/// The cluster of the first `size` of the members a, b and c.
 pub(super) fn cluster(rt: &impl Abort, alloc: Global, size: usize) -> Result<Cluster, AllocError> {
     let members = [
         (b"a".as_slice(), 1),
@@ -35,7 +35,7 @@ pub(super) fn cluster(rt: &impl Abort, alloc: Global, size: usize) -> Result<Clu
     Ok(Cluster::new(alloc, nodes))
 }
 
-/// Asserts what the node of this number lists.
+/// Asserts the listing of the node with this number.
 fn assert_node(
     rt: &impl Abort,
     alloc: Global,
@@ -47,7 +47,7 @@ fn assert_node(
     assert_lists(rt, alloc, node.table(), listing)
 }
 
-/// Asserts what each node lists, and that there is no other.
+/// Asserts the listing of each node, and that there is no other node.
 pub(super) fn assert_nodes(
     rt: &impl Abort,
     alloc: Global,
@@ -66,12 +66,12 @@ pub(super) fn run_once(cluster: &mut Cluster, events: &[Event]) -> Result<(), St
     cluster.run(events)
 }
 
-/// That a run or a levelling ends so.
+/// Asserts that a run or a levelling ends this way.
 pub(super) fn assert_ends(rt: &impl Abort, found: Result<(), Stop>, wanted: Result<(), Stop>) {
     assert_eq!(rt; found, wanted);
 }
 
-/// Runs the events, which all happen. Where memory is refused the run goes on at the event that did
+/// Runs the events, which all happen. If memory runs out, the run continues at the event that did
 /// not happen.
 pub(super) fn assert_runs(rt: &impl Abort, cluster: &mut Cluster, events: &[Event]) {
     if let Err(stop) = run_once(cluster, events) {
@@ -81,13 +81,13 @@ pub(super) fn assert_runs(rt: &impl Abort, cluster: &mut Cluster, events: &[Even
     }
 }
 
-/// Levels a cluster of three nodes at most.
+/// Levels a cluster of at most three nodes.
 pub(super) fn level(rt: &impl Abort, cluster: &mut Cluster) -> Result<(), Stop> {
     assert!(rt; cluster.len() <= 3);
     cluster.level()
 }
 
-/// Runs the events, of which that at the place does not happen, and not for want of memory.
+/// Runs the events. The one at this index does not happen, and not because memory ran out.
 fn assert_stops(rt: &impl Abort, cluster: &mut Cluster, events: &[Event], expected: Stop) {
     let mut stop = run_once(cluster, events);
     let mut before = 0;
@@ -194,7 +194,7 @@ fn an_exchange_tells_both_nodes_whichever_begins(rt: HostRuntime) -> Result<(), 
     )
 }
 
-/// The node hears that the one of this name is suspected.
+/// The node hears that the member with this name is suspected.
 fn hear(
     rt: &impl Abort,
     alloc: Global,
@@ -237,7 +237,7 @@ fn claims_are_heard_together(rt: HostRuntime) -> Result<(), AllocError> {
     assert_tells(&rt, rt.alloc(), event, &[heard, B_LISTING])
 }
 
-/// Asserts that the event stops a run behind a first event, and that two nodes know nothing new.
+/// Asserts that the event stops a run after a first event, and that two nodes know nothing new.
 fn assert_event_stops(
     rt: &impl Abort,
     alloc: Global,
@@ -282,7 +282,8 @@ fn crowded(rt: &impl Abort, alloc: Global) -> Result<Cluster, AllocError> {
     Ok(Cluster::new(alloc, nodes))
 }
 
-/// Asserts that the crowded node heard of one more, and neither of the other.
+/// Asserts that the crowded node heard of one more member, and that neither node heard of the
+/// other.
 fn assert_crowded(rt: &impl Abort, alloc: Global, cluster: &Cluster) -> Result<(), AllocError> {
     let first = cluster.node(0).expect(rt, "a node");
     assert_eq!(rt; first.table().len(), 131_074);
@@ -290,7 +291,7 @@ fn assert_crowded(rt: &impl Abort, alloc: Global, cluster: &Cluster) -> Result<(
     assert_node(rt, alloc, cluster, 1, B_LISTING)
 }
 
-/// Asserts that the exchange stops a run, and not what is heard before.
+/// Asserts that the exchange stops a run, but not what is heard before.
 fn assert_exchange_stops(
     rt: &impl Abort,
     alloc: Global,
@@ -303,7 +304,7 @@ fn assert_exchange_stops(
     assert_crowded(rt, alloc, cluster)
 }
 
-/// Asserts that levelling stops at its first exchange, at the second try where memory is refused.
+/// Asserts that levelling stops at its first exchange, at the second try if out of memory.
 fn assert_unlevelled(rt: &impl Abort, cluster: &mut Cluster) {
     let mut levelled = level(rt, cluster);
     if levelled

@@ -1,4 +1,4 @@
-//! Streams that are cut, or that come and go in pieces.
+//! Streams that are cut off, or that come and go in pieces.
 
 use super::fakes::{Pieces, Taker};
 use super::{
@@ -26,7 +26,7 @@ fn a_cut_stream_finishes_nothing(rt: HostRuntime) -> Result<(), AllocError> {
     Ok(())
 }
 
-/// Asserts that this front of the reply to the table of `a` finishes nothing, and that a whole
+/// Asserts that this prefix of the reply to the table of `a` finishes nothing, and that a whole
 /// exchange then joins both.
 fn assert_joins_after_cut(rt: &impl Abort, alloc: Global, front: &[u8]) -> Result<(), AllocError> {
     let mut first = alive_table(rt, alloc)?;
@@ -49,7 +49,7 @@ fn after_a_reply_that_was_cut_a_whole_exchange_joins_both(
     Ok(())
 }
 
-/// Answers the offer of `a` into the writer, at the second try where memory is refused.
+/// Answers the offer of `a` into the writer, at the second try if out of memory.
 fn answer_into(alloc: Global, writer: &mut Taker, table: &mut Table) -> Result<bool, SyncFault> {
     let mut outlet = ToWrite::new(writer);
     match answer(alloc, &mut SliceInlet::new(ALIVE_OFFER), &mut outlet, table) {
@@ -60,7 +60,7 @@ fn answer_into(alloc: Global, writer: &mut Taker, table: &mut Table) -> Result<b
     }
 }
 
-/// Asserts that the writer took the reply up to the write that failed.
+/// Asserts that the writer took the reply up to the failed write.
 fn assert_took(rt: &impl Abort, writer: &Taker, fails_at: usize) {
     let wanted = fails_at.saturating_sub(1).min(SUSPECT_OFFER.len());
     assert_bytes(
@@ -71,7 +71,8 @@ fn assert_took(rt: &impl Abort, writer: &Taker, fails_at: usize) {
     );
 }
 
-/// Asserts that an answer fails whose writer fails at this byte of its 80, and leaves the table.
+/// Asserts that an answer fails if its writer fails at this byte of its 80, and leaves the table
+/// unchanged.
 fn assert_fails_at(rt: &impl Abort, alloc: Global, fails_at: usize) -> Result<(), AllocError> {
     let mut writer = Taker::new(fails_at);
     let mut table = suspect_table(rt, alloc)?;
@@ -94,7 +95,7 @@ fn a_writer_that_fails_at_any_byte_leaves_the_table(rt: HostRuntime) -> Result<(
     Ok(())
 }
 
-/// A reader of the bytes, which gives at most so many a read.
+/// A reader of the bytes, which returns at most `most` in each read.
 fn pieces(bytes: &'static [u8], most: usize) -> FromRead<Pieces<'static>> {
     FromRead::new(Pieces { bytes, most })
 }
@@ -110,8 +111,8 @@ fn answer_pieces(
     answer(alloc, &mut pieces(offer, most), outlet, table)
 }
 
-/// Asserts that the offer in such pieces is answered with its flag, at the second try where memory
-/// is refused.
+/// Asserts that the offer in such pieces is answered with its flag, at the second try if out of
+/// memory.
 fn assert_pieces_answered(
     rt: &impl Abort,
     alloc: Global,
@@ -140,7 +141,7 @@ fn a_stream_in_pieces_of_any_size_is_answered(rt: HostRuntime) -> Result<(), All
     Ok(())
 }
 
-/// Finishes by the reply in such pieces.
+/// Finishes with the reply in such pieces.
 fn finish_pieces(
     alloc: Global,
     reply: &'static [u8],
@@ -150,8 +151,8 @@ fn finish_pieces(
     finish(alloc, &mut pieces(reply, most), table)
 }
 
-/// Asserts that the reply in such pieces finishes with its flag, at the second try where memory is
-/// refused.
+/// Asserts that the reply in such pieces finishes with its flag, at the second try if out of
+/// memory.
 fn assert_pieces_finish(
     rt: &impl Abort,
     alloc: Global,

@@ -1,9 +1,9 @@
-//! A reader and a writer that do as they are told.
+//! A reader and a writer for the tests.
 
 use std::io;
 use std::io::{Error, ErrorKind, Read, Write};
 
-/// Gives its bytes, at most so many a read.
+/// Returns its bytes, at most `most` in each read.
 #[derive(Drop)]
 pub struct Pieces<'a> {
     pub bytes: &'a [u8],
@@ -20,12 +20,12 @@ impl Read for Pieces<'_> {
     }
 }
 
-/// Takes one byte a write, and 80 in all.
+/// Takes one byte in each write, and 80 in all.
 #[derive(Drop)]
 pub struct Taker {
     pub taken: [u8; 80],
     pub len: usize,
-    /// Of the writes, counted from 1, this one fails.
+    /// The write of this number, counted from 1, fails.
     pub fails_at: usize,
 }
 

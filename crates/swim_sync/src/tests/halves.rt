@@ -16,7 +16,7 @@ fn offer_once(alloc: Global, outlet: &mut VecOutlet, table: &Table) -> Result<()
     offer(alloc, outlet, table, true)
 }
 
-/// What is offered of the table to join, at the second try where memory is refused.
+/// The offer of the table, with the join flag, at the second try if out of memory.
 fn offer_of(rt: &impl Abort, alloc: Global, table: &Table) -> VecOutlet {
     let mut outlet = VecOutlet::new(alloc);
     if let Err(fault) = offer_once(alloc, &mut outlet, table) {
@@ -35,7 +35,7 @@ fn an_offer_is_the_dump_of_the_table(rt: HostRuntime) -> Result<(), AllocError> 
     assert_lists(&rt, rt.alloc(), &table, ALIVE_LISTING)
 }
 
-/// Answers the offer of `a` by the table of `b`, which is then joined, and gives the reply.
+/// Answers the offer of `a` with the table of `b`, which is then joined, and returns the reply.
 fn reply_to_alive(rt: &impl Abort, alloc: Global) -> Result<VecOutlet, AllocError> {
     let mut table = suspect_table(rt, alloc)?;
     let reply = answered(rt, alloc, ALIVE_OFFER, &mut table, true)?;
@@ -82,7 +82,7 @@ fn a_prepared_answer_has_the_reply_and_the_room(rt: HostRuntime) -> Result<(), A
     }
 }
 
-/// Asserts that the reply is the record of `b`, behind a header with no join flag.
+/// Asserts that the reply is the record of `b`, after a header without the join flag.
 fn assert_flagless(rt: &impl Abort, reply: &[u8]) {
     let header = b"\x06\x83\xa4Join\xc2\xa5Nodes\x01\xacUserStateLen\0";
     assert_eq!(rt; reply.len(), 80);
@@ -109,7 +109,7 @@ fn an_exchange_over_memory_joins_both_and_holds_at_most_32_kib(
     assert_exchanges(&rt, alloc, &mut first, &mut second)
 }
 
-/// Answers the offer of `a` where the inlet fails from this call on.
+/// Answers the offer of `a` with an inlet that fails from this call on.
 fn answer_stopping(
     alloc: Global,
     pulls: usize,
@@ -124,9 +124,9 @@ fn answer_stopping(
     )
 }
 
-/// Asserts that the offer is not answered with the table of `b`, for this fault, where the inlet
-/// and the outlet fail from these calls on: the table stays, and nothing is pushed. Where memory is
-/// refused the repeat answers so.
+/// Asserts that the offer is not answered with the table of `b`, for this fault, if the inlet and
+/// the outlet fail from these calls on: the table is unchanged, and nothing is pushed. If memory
+/// runs out, the second try returns this fault.
 fn assert_unanswered(
     rt: &impl Abort,
     alloc: Global,
@@ -155,8 +155,8 @@ fn an_outlet_or_inlet_that_fails_leaves_the_table(rt: HostRuntime) -> Result<(),
     assert_unanswered(&rt, alloc, 1, 2, fault)
 }
 
-/// Asserts that the tables are not exchanged, since one is too large. Where memory is refused the
-/// repeat answers so.
+/// Asserts that the tables are not exchanged, since one is too large. If memory runs out, the
+/// second try returns this fault.
 fn assert_too_many(rt: &impl Abort, alloc: Global, first: &mut Table, second: &mut Table) {
     let mut answer = exchange_once(alloc, first, second);
     if answer == Err(SyncFault::Memory) {

@@ -1,4 +1,4 @@
-//! Levelling: what a cluster of up to three nodes lists after it.
+//! Levelling: the listings of a cluster of up to three nodes after it.
 use crate::tests::assert_stays;
 use crate::tests::clusters::{
     A_LISTING, BOTH_LISTING, assert_ends, assert_nodes, cluster, level, run_once,
@@ -11,8 +11,8 @@ use swim_table::list;
 const ALL_LISTING: &str =
     "a alive 0 0/7f000001/7946//\nb alive 0 0/7f000002/7946//\nc alive 0 0/7f000003/7946//\n";
 
-/// Asserts that levelling as many nodes as there are listings leaves them with these. Where memory
-/// is refused it stops within so many exchanges, and the repeat levels them.
+/// Asserts that levelling as many nodes as there are listings leaves them with these. If memory
+/// runs out, it stops before `exchanges` exchanges are done, and the second try levels them.
 fn assert_levels(
     rt: &impl Abort,
     alloc: Global,
@@ -42,7 +42,7 @@ fn levelling_gives_all_nodes_one_table(rt: HostRuntime) -> Result<(), AllocError
     Ok(())
 }
 
-/// Asserts that the node of this number lists the same in both clusters.
+/// Asserts that the node of this number has the same listing in both clusters.
 fn assert_same_node(
     rt: &impl Abort,
     alloc: Global,
@@ -56,7 +56,7 @@ fn assert_same_node(
     assert_stays(rt, alloc, node.table(), &listing)
 }
 
-/// Asserts that so many exchanges of a levelling were done.
+/// Asserts that this many exchanges of a levelling were done.
 fn assert_done(
     rt: &impl Abort,
     alloc: Global,

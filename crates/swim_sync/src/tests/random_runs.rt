@@ -1,4 +1,4 @@
-//! Random runs of small clusters, beside lists of the claims that each node was told.
+//! Random runs of small clusters, compared with lists of the claims that each node heard.
 use crate::tests::clusters::{assert_runs, cluster};
 use crate::tests::{assert_stays, details_of, name_of, take};
 use crate::{Claims, Cluster, Event};
@@ -7,14 +7,14 @@ use std::process::Abort;
 use swim_claim::{Claim, Name};
 use swim_table::{Table, list};
 
-/// Numbers that look random.
+/// A source of pseudo-random numbers.
 #[derive(Drop)]
 struct Dice {
     state: u64,
 }
 
 impl Dice {
-    /// A number below that of the sides.
+    /// A number below the number of sides.
     fn roll(&mut self, sides: u8) -> u8 {
         self.state = self.state.wrapping_mul(6_364_136_223_846_793_005);
         self.state = self.state.wrapping_add(1_442_695_040_888_963_407);
@@ -63,7 +63,7 @@ impl Dice {
     }
 }
 
-/// What each node was told, each claim once.
+/// What each node heard, each claim once.
 #[derive(Drop)]
 struct Told {
     lists: Vec<Vec<Claim>>,
@@ -127,7 +127,7 @@ impl Told {
         }
     }
 
-    /// The listing of the table of what the node was told.
+    /// The listing of the table of what the node heard.
     fn listing(&self, alloc: Global, k: usize) -> Result<Vec<u8>, AllocError> {
         let mut table = Table::new(alloc);
         for claim in self.copies(alloc, k)? {
@@ -136,7 +136,7 @@ impl Told {
         list(alloc, &table)
     }
 
-    /// Asserts that each node's table is that of what it was told.
+    /// Asserts that each node's table is that of what it heard.
     fn assert_shown(
         &self,
         rt: &impl Abort,
