@@ -108,7 +108,7 @@ ran_hear_all nodes k node new all at same takes =
     ran_one nodes k node new (HearAll k all) (λ lists. all) at same (λ lists h. refl) (λ lists. takes (heard_by lists k))
     (λ lists h. record { named = named_heard nodes lists k h (slice_get_within nodes k node at); differ = λ no. no; few = λ y table no. absurd no })
 
--- a node that is unchanged
+-- ---- a node that is unchanged
 
 -- if neither the member nor the table of a node changed, the node is unchanged
 pub unchanged_node : (nodes : List NodeValue) (k : ℕ) (node new : NodeValue) → slice_get nodes k ≡ Some node

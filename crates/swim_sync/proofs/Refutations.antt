@@ -25,7 +25,7 @@ use Rattle.swim_table.proofs.Tables.{IsAbout, top_of, parts, TableOf-table_of}
 use Rattle.swim_sync.specs.Cluster.{member_of}
 use Rattle.swim_sync.specs.Heard.{Member, standing_with, what_stands, own_alive, refuted, refutation}
 
--- the winning claim
+-- ---- the winning claim
 
 one_name : (name : List ℕ) (c d : Claim) → IsAbout name c → IsAbout name d → name_of c ≡ name_of d
 one_name name c d p q = p ∙ sym q

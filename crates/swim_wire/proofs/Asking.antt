@@ -118,7 +118,7 @@ pub map_asks : {a b : Source} {n : ℕ} (layout : Layout) (max : ℕ) → length
     → ReadsAs {X = ℕ} cause_of same (count_at max) a b (Ok n) → IfSome b.coming (PairsAsk layout n) → IfSome a.coming (MapAsks layout)
 map_asks {n} layout max is h asks = Reads-asks (MapAsks layout) (PairsAsk layout n) (count_step layout max n is) h asks
 
--- texts that request memory
+-- ---- texts that request memory
 
 spelled_asks : (limit : Limit) (b rest s : List ℕ) → Spells limit b (raw s) → ValueAsks limit (b ++ rest)
 spelled_asks (limits.Number max) b rest s is = absurd is

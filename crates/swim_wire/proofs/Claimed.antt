@@ -90,7 +90,7 @@ no_memory {A} (Err error) result check e is =
     let same : err A error ≡ err A Memory = sym e ∙ is in
     bytes≢memory (sym (memory_cause error same) ∙ check.by)
 
--- what the slots of a map mean
+-- ---- what the slots of a map mean
 
 pub alive_said : (slots : Slots) (alive : Alive) → SaysAlive slots alive → alive_of (slots_of_alive alive) ≡ alive_of slots
 alive_said slots alive says = rw (says.addr, says.incarnation, says.meta, says.node, says.port, says.vsn) refl

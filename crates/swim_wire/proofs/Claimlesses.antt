@@ -29,7 +29,7 @@ map_read_again layout b legal text =
     let a = map_again layout b text.0 [] legal text.1 in
     (a.0, ap nothing_after (ap (map_at layout) (sym (append-nil b)) ∙ a.1))
 
--- what follows the first byte
+-- ---- what follows the first byte
 
 body_taken : (kind : Claimless) (body : List ℕ) (slots : Slots) → whole_body kind body ≡ passed slots → BodyText body kind
 body_taken Ping body slots e = map_taken (claimless_layout (length body) Ping) body slots (claimless_legal (length body) Ping) e

@@ -22,7 +22,7 @@ use Rattle.swim_wire.proofs.Readings.{read, read_value, read_rest, then_ok, part
 use Rattle.swim_wire.proofs.Checking.{passed, failed, split, checked_ok}
 use Rattle.swim_wire.proofs.PacketTexts.{whole_takes, whole_again}
 
--- bytes at the start
+-- ---- bytes at the start
 
 -- this many bytes were consumed
 pub bytes_takes : (n : ℕ) (bytes s rest : List ℕ) → lift fault_of_pack (next_bytes n) bytes ≡ read s rest → (length s ≡ n) × (bytes ≡ s ++ rest)

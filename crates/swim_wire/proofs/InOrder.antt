@@ -117,7 +117,7 @@ header_map bytes b1 b2 rest join nodes user_len first second third =
     let count = count_again 3 (0x83 ∷ []) start 3 (omega arith) (counts.fixmap (omega arith) refl) in
     (0x83 ∷ start, first.1, rw count p0)
 
--- what is after them is shorter
+-- ---- what is after them is shorter
 
 pub state_shorter : (bytes rest : List ℕ) (slots : Slots) → map_at state_layout bytes ≡ read slots rest → length rest ≤ length bytes
 state_shorter bytes rest slots e =
@@ -131,7 +131,7 @@ header_shorter bytes body rest slots is e =
     let text = (map_takes header_layout body slots rest header_legal e).0 in
     omega (arith, ap length parts ∙ length-append text rest, ap length is)
 
--- their fields
+-- ---- their fields
 
 checked_alone : {A : Type 0} (r : Result A WireFault) → nothing_after (checked r []) ≡ r
 checked_alone (Ok x) = refl
@@ -175,7 +175,7 @@ pub header_told : (bytes body rest : List ℕ) (slots : Slots) (header : Header)
 unfolding header_at
 header_told bytes body rest slots header first e is = rw (first, e, is) refl
 
--- a returned value with a property also has each weaker one
+-- ---- a returned value with a property also has each weaker one
 
 pub if_some_more : {X : Type 0} (A B : X → Type 0) (o : Option X) → ((x : X) → A x → B x) → IfSome o A → IfSome o B
 if_some_more A B None f h = tt

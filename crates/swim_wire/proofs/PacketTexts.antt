@@ -24,7 +24,7 @@ use Rattle.swim_wire.proofs.MapFaults.{IsMapFault, map_refusal}
 use Rattle.swim_wire.proofs.Maps.{map_takes, map_again}
 use Rattle.swim_wire.proofs.Checking.{passed, failed, split, checked_ok, checked_err, with_name_ok, with_name_again, with_name_err, with_details_ok, with_details_again, with_details_err}
 
--- the packet in the pairs of a map, or the first check that they fail
+-- ---- the packet in the pairs of a map, or the first check that they fail
 
 -- the packet of an alive message with these details
 abbrev alive_with : Pairs → DetailsValue → PacketValue

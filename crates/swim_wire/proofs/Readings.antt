@@ -50,7 +50,7 @@ pub some_ok : {A : Type 0} (error : WireFault) (o : Option A) (mid : List ℕ) (
 some_ok error None mid x rest e = absurd cc
 some_ok error (Some y) mid x rest e = (ap Some (read_value y x mid rest e), read_rest y x mid rest e)
 
--- what was consumed from the start
+-- ---- what was consumed from the start
 
 -- the same text, and the same rest under another name
 pub parts_to : {bytes mid rest : List ℕ} (text : List ℕ) → bytes ≡ text ++ mid → mid ≡ rest → bytes ≡ text ++ rest

@@ -24,7 +24,7 @@ use Rattle.swim_wire.proofs.MapFaults.{IsMapFault, map_refusal}
 use Rattle.swim_wire.proofs.Maps.{map_takes, map_again}
 use Rattle.swim_wire.proofs.Checking.{passed, failed, split, checked_ok, checked_err, with_name_ok, with_name_again, with_name_err, with_details_ok, with_details_again, with_details_err}
 
--- the header in the pairs of a map, or the first check that they fail
+-- ---- the header in the pairs of a map, or the first check that they fail
 
 abbrev header_with : Pairs → Header
 header_with pairs = record { nodes = number_of keys.Nodes pairs; user_len = number_of keys.UserStateLen pairs; join = flag_of keys.Join pairs }
@@ -144,7 +144,7 @@ header_refusal (first ∷ bytes) error memory e =
     (λ six. header_after_refusal first bytes error memory six)
     (λ other wrong. let is : WrongType first ≡ error = cc in subst (λ f. ExplainsHeader f (first ∷ bytes)) is ((bytes, refl), other)) e
 
--- the claim in the pairs of a map, or the first check that they fail
+-- ---- the claim in the pairs of a map, or the first check that they fail
 
 abbrev alive_with : Pairs → DetailsValue → Claim
 alive_with pairs details = Alive (raw_of keys.Name pairs) (number_of keys.Incarnation pairs) details

@@ -46,7 +46,7 @@ StateFails (BadState found) pairs = (raw_of keys.Name pairs ≢ [])
 StateFails error pairs = (raw_of keys.Name pairs ≢ []) × (number_of keys.State pairs ≡ 0)
     × DetailsFail error pairs
 
--- bytes that start with such a map
+-- ---- bytes that start with such a map
 
 -- The bytes start with a map of the layout whose values fail a check.
 pub record BeginsFailing (layout : Layout) (fails : Pairs → Type 0) (bytes : List ℕ) : Type 0 where

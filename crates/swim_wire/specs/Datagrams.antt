@@ -63,7 +63,7 @@ whole_datagram [] = Err Ended
 whole_datagram (first ∷ rest) =
     if first == 7 then nothing_after (compound_at rest) else alone (whole_packet (first ∷ rest))
 
--- what a refusal means
+-- ---- what a refusal means
 
 -- The bytes are a compound packet up to a part that starts as a packet does, but is not a packet,
 -- for this reason.

@@ -40,7 +40,7 @@ pub record SaysState (slots : Slots) (state : PushNodeState) : Type 0 where
   pub number : state.state ≡ number_in slots state_state
   pub vsn : state.vsn.now ≡ raw_in slots state_vsn
 
--- the slots of a map with these fields and all its keys
+-- ---- the slots of a map with these fields and all its keys
 
 abbrev pub slots_of_alive : Alive → Slots
 slots_of_alive alive =
@@ -59,7 +59,7 @@ slots_of_state state =
     state_slots state.addr.now state.incarnation state.meta.now state.name.now state.port
     state.state state.vsn.now
 
--- the fields are within the limits of names and metadata
+-- ---- the fields are within the limits of names and metadata
 
 pub record IsShortAlive (alive : Alive) : Type 0 where
   pub node : length alive.node.now ≤ longest_name

@@ -111,7 +111,7 @@ raw_in slots place = raw_or_empty (slot slots place)
 abbrev pub flag_in : Slots → ℕ → Bool
 flag_in slots place = flag_or_false (slot slots place)
 
--- the checks of the whole, in order
+-- ---- the checks of the whole, in order
 
 -- the result, if the name is not empty
 abbrev pub with_name : {A : Type 0} → List ℕ → Result A WireFault → Result A WireFault
