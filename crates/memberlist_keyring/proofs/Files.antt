@@ -1,4 +1,4 @@
--- What is no key file.
+-- Texts that are not key files.
 use Rattle.std.proofs.Common.{◌≡◌, ◌≢◌, inl, inr, ℕ, zero, suc, ◌+◌, ◌<◌, ◌≤◌, eqb, List, [], ◌∷◌, ◌++◌, length, get_or, take, drop, map, Option, Some, None, MatchBool, IsUtf8, refl, sym, ap, subst, ◌∙◌, arith}
 use Rattle.std.specs.List.{All}
 use Rattle.std.proofs.lemmas.Bool.{cases_eq, cases_lt, ne_eqb}
@@ -98,7 +98,7 @@ text_at [] i d within = absurd (omega arith)
 text_at (t ∷ ts) zero d within = (t, refl)
 text_at (t ∷ ts) (suc i) d within = text_at ts i d (omega arith)
 
--- an item that is no text
+-- an item that is not a text
 pub not_texts : (items : List Data) (i : ℕ) (d : Data) → i < length items → get_or items i d ≡ d → as_str d ≡ None →
     (texts : List (List ℕ)) → items ≢ map string texts
 not_texts items i d within read lacks texts e =
@@ -141,7 +141,7 @@ same_items xs ys a b =
     let inside : items_of xs ≡ items_of ys = cc in
     one_list xs ys inside
 
--- a cause of a refusal other than want of memory leaves no keys
+-- a refusal for a reason other than memory leaves no keys
 pub no_key_file : (fault : KeyFileFault) (text : List ℕ) → fault ≢ Memory → KeyFileCause fault text → (keys : List (List ℕ)) → ¬ IsKeyFile text keys
 no_key_file (Line n) text other c keys (inl h) = c.0 h.0
 no_key_file (Line n) text other c keys (inr h) = first_wrong_lacks LineHolds (lines_of text) n c.1 keys h.1
@@ -167,7 +167,7 @@ wrong_text f ys i y keys text bytes within read held is same lacks = record {
   is = string_from_as_str (f y) text (sym is);
 }
 
--- why a list is refused whose items are
+-- why a list with these items is refused
 pub list_cause : (fault : KeyFileFault) (text : List ℕ) (d : Data) (items : List Data) → IsListText text → IsUtf8 text ×
     (read_text text ≡ Some d) → Some (items_of items) ≡ as_array d
     → ItemsCause fault items → KeyFileCause fault text

@@ -50,7 +50,7 @@ lacks_one : {X : Type 0} (Holds : X → List (List ℕ) → Type 0) (before : Li
 lacks_one Holds [] wrong after keys lacks h = lacks h.0 h.2
 lacks_one Holds (x ∷ xs) wrong after keys lacks h = lacks_one Holds xs wrong after h.1 lacks h.3
 
--- where one holds nothing, all hold nothing
+-- if one holds nothing, all hold nothing
 pub first_wrong_lacks : {X : Type 0} (Holds : X → List (List ℕ) → Type 0) (xs : List X) (number : ℕ) → IsFirstKeyless Holds xs number → (keys : List (List ℕ))
     → ¬ HoldInOrder Holds xs keys
 first_wrong_lacks {X} Holds xs number w keys h =
@@ -61,7 +61,7 @@ pub empty : (xs : List ℕ) → length xs ≡ 0 → xs ≡ []
 empty [] e = refl
 empty (x ∷ xs) e = absurd (omega arith)
 
--- ---- the same of an element that is read with a default
+-- ---- the same for an element that is read with a default
 
 pub HoldInOrder-more_at : {X Y : Type 0} (Holds : X → List (List ℕ) → Type 0) (f : Y → X) (ys : List Y) (i : ℕ) (d : Y)
     (keys held : List (List ℕ)) → i < length ys

@@ -1,4 +1,4 @@
--- What is known of the text of a key.
+-- What is known about the text of a key.
 use Rattle.std.proofs.Common.{◌≡◌, inl, inr, ℕ, zero, suc, ◌+◌, ◌<◌, get_or, Bool, true, false, MatchBool, List, [], ◌∷◌, length, replicate, Ok, Err, refl, sym, ap, subst, ◌∙◌, arith}
 use Rattle.std.proofs.lemmas.List.{length-append, length-replicate}
 use Rattle.base64.specs.Engines.{standard}
@@ -16,7 +16,7 @@ consistent = refl
 pub decoded : (text key : List ℕ) → IsKeyText text key → decode_of standard text ≡ Ok key
 decoded text key k = ap (decode_of standard) k.written ∙ decode_of-encode_of standard key consistent k.bytes
 
--- how long the base64 of a key is
+-- the length of a key's base64
 encoded_length : (key : List ℕ) → length (encode_of standard key) ≡ unpadded_len (length key) + padding_len (length key)
 encoded_length key =
     let t = standard.encode_table in
@@ -40,7 +40,7 @@ all_bytes [] h i = omega arith
 all_bytes (b ∷ bs) h zero = h zero 0 (omega arith)
 all_bytes (b ∷ bs) h (suc i) = all_bytes bs (λ j d within. h (suc j) d (omega arith)) i
 
--- what is decoded is a key, or the text is that of none
+-- what is decoded is a key, or the text is not that of a key
 pub decided : (text key : List ℕ) (is : Bool) → IsBytes text → IsBytes key → decode_of standard text ≡ Ok key
     → MatchBool is (IsKey key) (¬ IsKey key) → MatchBool is (IsKeyText text key) ((k : List ℕ) → ¬ IsKeyText text k)
 decided text key true tb kb e good = record { good = good; bytes = kb; written = decode_of_strict standard text key (refl, refl) tb e }
@@ -49,6 +49,6 @@ decided text key false tb kb e bad = λ k is.
     let same : k ≡ key = cc both in
     bad (subst IsKey same is.good)
 
--- what cannot be decoded is no key's text
+-- what cannot be decoded is not the text of a key
 pub undecoded : (text : List ℕ) (error : DecodeError) → decode_of standard text ≡ Err error → (key : List ℕ) → ¬ IsKeyText text key
 undecoded text error e key k = let both = sym (decoded text key k) ∙ e in cc both

@@ -1,4 +1,4 @@
--- What is encrypted begins with no label.
+-- Encrypted bytes do not start with a label.
 use Rattle.std.proofs.Common.{◌≢◌, ◌∷◌, inl, inr, ℕ, List, [], get_or, refl, sym, ap, ◌∙◌, arith}
 use Rattle.memberlist_cipher.specs.Encryption.{head, Encryption, StreamEncryption}
 use Rattle.memberlist_cipher.specs.Label.{IsLabelled}

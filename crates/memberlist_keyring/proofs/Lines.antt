@@ -25,7 +25,7 @@ first_counted (x ∷ xs) k (suc n) (line ∷ lines) e =
     let rest = first_counted xs (k + 1) n lines (ap (drop 1) e) in
     ap₂ (λ a b. a ∷ b) (ap (λ p. p.1) here) rest
 
--- the lines that a count goes with
+-- the lines that a count visits
 pub counted_lines : (xs : List (ℕ × Bor (List ℕ))) (n : ℕ) (lines : List (List ℕ)) → map
     (λ p. (p.0, p.1.now)) xs ≡ enumerate_from n lines → map (λ p. p.1.now) xs ≡ lines
 counted_lines [] n [] e = refl
@@ -36,7 +36,7 @@ counted_lines (x ∷ xs) n (line ∷ lines) e =
     let rest = counted_lines xs (n + 1) lines (ap (drop 1) e) in
     ap (λ p. p.1 ∷ map (λ p. p.1.now) xs) here ∙ ap (λ t. line ∷ t) rest
 
--- a line that is read, behind those that were read before
+-- a line that is read, after those that were read before
 line_at : {S : Type 0} {steps : S → Option (ℕ × Bor (List ℕ)) → S → Type 0} {s : S}
     (lines : List (List ℕ)) (e : YieldsList steps (λ p. (p.0, p.1.now)) s (enumerate_from 0 lines))
     (xs : List (ℕ × Bor (List ℕ))) (t : S) (y : Yields steps s xs t) → (r : Option (ℕ × Bor (List ℕ))) (u : S) (x : ℕ × Bor (List ℕ))
@@ -55,7 +55,7 @@ line_at lines e xs t y r u x is p =
       omega (arith, counted, many),
     )
 
--- a line that holds no key, behind lines that hold some
+-- a line that holds no key, after lines that are right
 pub first_wrong_line : {S : Type 0} {steps : S → Option (ℕ × Bor (List ℕ)) → S → Type 0} {s : S} (Holds : List ℕ → List (List ℕ) → Type 0)
     (lines : List (List ℕ)) (e : YieldsList steps (λ p. (p.0, p.1.now)) s (enumerate_from 0 lines))
     (xs : List (ℕ × Bor (List ℕ))) (t : S) (y : Yields steps s xs t) → (r : Option (ℕ × Bor (List ℕ))) (u : S) (x : ℕ × Bor (List ℕ))
@@ -73,7 +73,7 @@ first_wrong_line Holds lines e xs t y r u x is p keys right lacks =
       nothing = lacks;
     }
 
--- a line with as many characters as a key's, behind lines that hold some
+-- a line with as many characters as a key's, after lines that are right
 pub sized_line : {S : Type 0} {steps : S → Option (ℕ × Bor (List ℕ)) → S → Type 0} {s : S}
     (lines : List (List ℕ)) (e : YieldsList steps (λ p. (p.0, p.1.now)) s (enumerate_from 0 lines))
     (xs : List (ℕ × Bor (List ℕ))) (t : S) (y : Yields steps s xs t) → (r : Option (ℕ × Bor (List ℕ))) (u : S) (x : ℕ × Bor (List ℕ))
@@ -90,7 +90,7 @@ sized_line lines e xs t y r u x is p keys right sized =
       sized = sized;
     }
 
--- of lines that hold keys one has as many characters
+-- among lines that hold keys, one has as many characters as a key's
 sized_of : (lines keys : List (List ℕ)) → HoldInOrder LineHolds lines keys → 0 < length keys → IsKeySized lines
 sized_of [] keys h some = absurd (omega (arith, ap length h))
 sized_of (l ∷ ls) keys h some = elim h.2 [
@@ -115,7 +115,7 @@ sized_of (l ∷ ls) keys h some = elim h.2 [
   }
 ]
 
--- keys of a file take memory
+-- the keys of a file take memory
 pub keys_take_memory : (text : List ℕ) (keys : List (List ℕ)) → IsKeyFile text keys → 0 < length keys → KeyFileCause Memory text
 keys_take_memory text keys (inl h) some = inl h.0
 keys_take_memory text keys (inr h) some = inr (sized_of (lines_of text) keys h.1 some)

@@ -22,7 +22,7 @@ nothing_decoded =
     let empty : encode_of standard [] ≡ [] = encode-nil standard.encode_table standard.padding.value standard.config.encode_padding in
     ap (decode_of standard) (sym empty) ∙ decode_of-encode_of standard [] refl no_bytes
 
--- nothing is no key's text
+-- the empty text is not that of a key
 no_key : (text key : List ℕ) → text ≡ [] → ¬ IsKeyText text key
 no_key text key none k =
     let e = sym (decoded text key k) ∙ ap (decode_of standard) none ∙ nothing_decoded in

@@ -1,4 +1,4 @@
--- What is sent is opened under the first key.
+-- What is sent is decrypted under the first key.
 use Rattle.std.proofs.Common.{◌≡◌, ◌≢◌, ℕ, ◌<◌, List, [], ◌∷◌, ◌++◌, length, drop, get_or, inl, inr, refl, sym, ap, ◌∙◌, arith}
 use Rattle.std.proofs.lemmas.List.{drop_more}
 use Rattle.memberlist_cipher.specs.Encryption.{Encryption, StreamEncryption}
@@ -6,7 +6,7 @@ use Rattle.memberlist_cipher.specs.Label.{IsLabelled}
 use Rattle.memberlist_keyring.specs.Opening.{IsFirst, OpensFirst, OpensStreamFirst, OpensReplyFirst}
 use Rattle.memberlist_keyring.specs.Sending.{SendsFirst}
 
--- the first of the keys opens it
+-- the first of the keys decrypts it
 IsFirst-head : (Opened : List ℕ → List ℕ → Type 0) (keys : List (List ℕ)) (key : List ℕ) (others : List (List ℕ)) (message : List ℕ)
     → keys ≡ key ∷ others → Opened key message → IsFirst Opened keys message
 IsFirst-head Opened keys key others message parts opened = record {
@@ -40,9 +40,9 @@ opens_stream_first keys key others label bytes text message parts labelled e = r
 pub first_is : (seen keys : List (List ℕ)) (key : List ℕ) → seen ≡ keys → 0 < length seen → key ≡ get_or seen 0 key → keys ≡ key ∷ drop 1 seen
 first_is seen keys key same some read = sym same ∙ drop_more seen 0 key some ∙ ap (λ (k : List ℕ). k ∷ drop 1 seen) (sym read)
 
--- ---- a reply, before which no label stands
+-- ---- a reply, without a label before it
 
--- what is made with the first of the keys, and begins with no label, is sent bare
+-- what is made with the first of the keys, and does not start with a label, is sent bare
 pub sends_bare : (made : List ℕ → List ℕ) (keys : List (List ℕ)) (key : List ℕ) (others : List (List ℕ)) (bytes : List ℕ) → keys ≡ key ∷ others
     → bytes ≡ made key → ((more : List ℕ) → bytes ≢ 244 ∷ more) → SendsFirst made keys [] bytes
 sends_bare made keys key others bytes parts is bare = record {
@@ -52,7 +52,7 @@ sends_bare made keys key others bytes parts is bare = record {
   labelled = inl (refl, is, bare);
 }
 
--- a label goes before bytes that begin with none
+-- a label goes before bytes that do not start with one
 behind : (label bytes : List ℕ) → ((more : List ℕ) → bytes ≢ 244 ∷ more) → (text : List ℕ) × IsLabelled text label bytes
 behind [] bytes bare = (bytes, inl (refl, refl, bare))
 behind (first ∷ others) bytes bare =

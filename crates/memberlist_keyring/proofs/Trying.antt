@@ -8,7 +8,7 @@ use Rattle.memberlist_cipher.specs.declared.fault.CipherFault.TheVariants.{Wrong
 use Rattle.memberlist_keyring.specs.Opening.{IsFirst}
 use Rattle.memberlist_keyring.specs.Cutting.{IsFaultOfKeys}
 
--- none of the keys opens it, and this is the fault, which is not want of memory
+-- none of the keys decrypts it, and this is the fault, which is not `Memory`
 pub record Tried (Opened : List ℕ → List ℕ → Type 0) (Cause : CipherFault → List ℕ → Type 0) (keys : List (List ℕ)) (fault : CipherFault) : Type 0 where
   pub none : (key : List ℕ) → Contains keys key → (message : List ℕ) → ¬ Opened key message
   pub is : IsFaultOfKeys Cause keys fault
@@ -38,7 +38,7 @@ Tried-more Opened Cause keys i last fault key within read tried cause other lack
     let e : take (i + 1) keys ≡ take i keys ++ key ∷ [] = take_more keys i key within ∙ ap (λ (k : List ℕ). take i keys ++ k ∷ []) (sym read) in
     subst P (sym e) (Tried-push Opened Cause (take i keys) last fault key tried cause other lacks)
 
--- where all were tried
+-- if all were tried
 pub Tried-all : (Opened : List ℕ → List ℕ → Type 0) (Cause : CipherFault → List ℕ → Type 0) (keys : List (List ℕ)) (i : ℕ)
     (fault : CipherFault) → length keys ≤ i
     → Tried Opened Cause (take i keys) fault → (key : List ℕ) → Contains keys key → (message : List ℕ) → ¬ Opened key message
@@ -50,7 +50,7 @@ Tried-all Opened Cause keys i fault end tried =
 pub is_ours : (keys : List (List ℕ)) (i : ℕ) (key : List ℕ) → i < length keys → key ≡ get_or keys i key → Contains keys key
 is_ours keys i key within read = subst (λ (k : List ℕ). Contains keys k) (sym read) (Contains-get_or keys i key within)
 
--- the key that opens it, where those before it do not
+-- the key that decrypts it, if those before it do not
 pub IsFirst-at : (Opened : List ℕ → List ℕ → Type 0) (Cause : CipherFault → List ℕ → Type 0) (keys : List (List ℕ)) (i : ℕ)
     (last : CipherFault) (key message : List ℕ) → i < length keys
     → key ≡ get_or keys i key → Tried Opened Cause (take i keys) last → Opened key message → IsFirst Opened keys message

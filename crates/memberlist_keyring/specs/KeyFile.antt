@@ -11,17 +11,17 @@ use Rattle.memberlist_cipher.specs.Encryption.{IsKey}
 use Rattle.memberlist_keyring.specs.declared.fault.KeyFileFault.{KeyFileFault}
 use Rattle.memberlist_keyring.specs.declared.fault.KeyFileFault.TheVariants.{Line, Item, NotList, Memory}
 
--- The text is the base64 of this key, by the standard alphabet and padded (RFC 4648).
+-- The text is the base64 of this key, in the standard alphabet and padded (RFC 4648).
 pub record IsKeyText (text key : List ℕ) : Type 0 where
   pub good : IsKey key
   pub bytes : IsBytes key
   pub written : text ≡ encode_of standard key
 
--- as many characters as the base64 of a key has
+-- the number of characters is that of a key's base64
 abbrev pub HasKeySize : List ℕ → Type 0
 HasKeySize text = (length text ≡ 24) ⊎ (length text ≡ 32) ⊎ (length text ≡ 44)
 
--- what these hold, one after another
+-- the keys that these hold, one after another
 abbrev pub HoldInOrder : {X : Type 0} → (X → List (List ℕ) → Type 0) → List X → List (List ℕ)
     → Type 0
 HoldInOrder Holds [] keys = keys ≡ []
@@ -29,14 +29,14 @@ HoldInOrder Holds (x ∷ xs) keys =
     (first : List (List ℕ)) × (others : List (List ℕ)) × Holds x first
     × HoldInOrder Holds xs others × (keys ≡ first ++ others)
 
--- An empty line holds no key, every other one a key. One carriage return at a line's end does not
--- count.
+-- An empty line holds no key, every other one a key. One carriage return at the end of a line is
+-- ignored.
 abbrev pub LineHolds : List ℕ → List (List ℕ) → Type 0
 LineHolds line keys =
     ((strip_carriage_return line ≡ []) × (keys ≡ []))
     ⊎ ((key : List ℕ) × IsKeyText (strip_carriage_return line) key × (keys ≡ key ∷ []))
 
--- what stands between line feeds
+-- the lines between line feeds
 abbrev pub lines_of : List ℕ → List (List ℕ)
 lines_of text = slice_split (λ b. b == 10) text
 
@@ -45,7 +45,7 @@ abbrev pub ItemHolds : Data → List (List ℕ) → Type 0
 ItemHolds d keys =
     (text : List ℕ) × (key : List ℕ) × (d ≡ string text) × IsKeyText text key × (keys ≡ key ∷ [])
 
--- a list in JSON, and what it lists
+-- a list in JSON, and its items
 abbrev pub IsJsonList : List ℕ → List Data → Type 0
 IsJsonList text items = IsUtf8 text × (read_text text ≡ Some (array (items_of items)))
 
@@ -53,19 +53,19 @@ IsJsonList text items = IsUtf8 text × (read_text text ≡ Some (array (items_of
 abbrev pub IsBlank : ℕ → Type 0
 IsBlank b = (b ≡ 32) ⊎ (b ≡ 9) ⊎ (b ≡ 10) ⊎ (b ≡ 13)
 
--- behind blanks the text begins with `[`
+-- after blanks the text starts with `[`
 abbrev pub IsListText : List ℕ → Type 0
 IsListText text =
     (front : List ℕ) × (others : List ℕ) × (text ≡ front ++ 91 ∷ others) × All IsBlank front
 
--- A text that begins with `[` is a list of texts in JSON, each of a key; any other one is lines.
+-- A text that starts with `[` is a list of texts in JSON, each of a key; any other text is lines.
 abbrev pub IsKeyFile : List ℕ → List (List ℕ) → Type 0
 IsKeyFile text keys =
     (IsListText text × (items : List Data) × IsJsonList text items
     × HoldInOrder ItemHolds items keys)
     ⊎ (¬ IsListText text × HoldInOrder LineHolds (lines_of text) keys)
 
--- The first that holds nothing is the one of this number, from 1.
+-- The first that holds nothing has this number, counted from 1.
 pub record IsFirstKeyless {X : Type 0} (Holds : X → List (List ℕ) → Type 0) (xs : List X)
     (number : ℕ) : Type 0 where
   pub before : List X
@@ -100,7 +100,7 @@ ItemsCause (Item number) items = IsWrongText items number
 ItemsCause NotList items = (texts : List (List ℕ)) → items ≢ map string texts
 ItemsCause Memory items = Unit {0}
 
--- why a file is refused; of lines, memory is asked for where one may be a key's
+-- why a file is refused; for lines, memory is requested only if one may be a key's
 abbrev pub KeyFileCause : KeyFileFault → List ℕ → Type 0
 KeyFileCause (Line number) text =
     ¬ IsListText text × IsFirstKeyless LineHolds (lines_of text) number

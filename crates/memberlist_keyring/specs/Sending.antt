@@ -1,4 +1,4 @@
--- What is sent under a keyring: a label, and behind it what is encrypted under the first key.
+-- What is sent under a keyring: a label, then what is encrypted under the first key.
 use Rattle.std.specs.Prelude.{◌≡◌, ℕ, ◌-◌, ◌^◌, ◌<◌, ◌≤◌, List, ◌∷◌, length}
 use Rattle.memberlist_cipher.specs.Label.{IsLabelled}
 
@@ -6,11 +6,11 @@ use Rattle.memberlist_cipher.specs.Label.{IsLabelled}
 abbrev pub MaySend : List ℕ → List ℕ → Type 0
 MaySend label message = (length label < 256) × (length message ≤ 2 ^ 36 - 32)
 
--- the same of a stream
+-- the same for a stream
 abbrev pub MaySendStream : List ℕ → List ℕ → Type 0
 MaySendStream label message = (length label < 256) × (length message ≤ 2 ^ 28 - 29)
 
--- Behind this label, or bare where it is empty, stands what is made with the first of the keys.
+-- What is made with the first of the keys is after this label, or bare if the label is empty.
 pub record SendsFirst (made : List ℕ → List ℕ) (keys : List (List ℕ)) (label bytes : List ℕ)
     : Type 0 where
   pub key : List ℕ

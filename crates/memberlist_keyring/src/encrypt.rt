@@ -13,16 +13,16 @@ use std::alloc::Global;
 
 impl Keyring {
     /// A packet with this message, encrypted under the first key, which memberlist calls the
-    /// primary one; none where there is no key. The label stands before it, and is associated with
-    /// it; where it is empty nothing is written. [`Keyring::open`] gives the message back.
+    /// primary one; `None` if there is no key. The label is before it, and is authenticated with
+    /// it; an empty label is not written. [`Keyring::open`] returns the message.
     ///
-    /// A nonce must not be used twice under one key, be it of packets or streams. memberlist draws
-    /// each at random.
+    /// Never use a nonce twice under one key, for packets or streams. memberlist draws each at
+    /// random.
     ///
     /// # Errors
     ///
-    /// `TooLong` where the label has more than 255 bytes, or the message more than 2^36 - 32; and
-    /// else `Memory`, where a growth of memory is refused.
+    /// `TooLong` if the label has more than 255 bytes, or the message more than 2^36 - 32; and else
+    /// `Memory`, if out of memory.
     ///
     /// Source: memberlist's net.go, label.go, keyring.go and security.go.
     pub fn encrypt(
@@ -53,15 +53,15 @@ impl Keyring {
         Ok(Some(sent))
     }
 
-    /// A stream with this message, encrypted under the first key; none where there is no key. The
-    /// label stands before it, as before a packet. [`Keyring::open_stream`] gives the message back.
+    /// A stream with this message, encrypted under the first key; `None` if there is no key. The
+    /// label is before it, as before a packet. [`Keyring::open_stream`] returns the message.
     ///
-    /// A nonce must not be used twice under one key, be it of packets or streams.
+    /// Never use a nonce twice under one key, for packets or streams.
     ///
     /// # Errors
     ///
-    /// `TooLong` where the label has more than 255 bytes, or the encrypted message would have more
-    /// than 268,435,456; and else `Memory`, where a growth of memory is refused.
+    /// `TooLong` if the label has more than 255 bytes, or the encrypted message would have more
+    /// than 268,435,456; and else `Memory`, if out of memory.
     ///
     /// Source: memberlist's net.go, label.go, keyring.go and security.go; the limit is own.
     pub fn encrypt_stream(
@@ -88,16 +88,16 @@ impl Keyring {
         Ok(Some(sent))
     }
 
-    /// What answers a stream: a stream with this message, encrypted under the first key; none where
+    /// The reply to a stream: a stream with this message, encrypted under the first key; `None` if
     /// there is no key. In memberlist only the side that opens a connection writes the label, but
-    /// the side that answers associates it too. So no label stands before it, and
-    /// [`Keyring::open_stream`] gives the message back once one does.
+    /// the side that replies authenticates it too. So there is no label before the reply, and
+    /// [`Keyring::open_stream`] returns the message once there is one.
     ///
-    /// A nonce must not be used twice under one key, be it of packets or streams.
+    /// Never use a nonce twice under one key, for packets or streams.
     ///
     /// # Errors
     ///
-    /// As [`Keyring::encrypt_stream`] has them.
+    /// Those of [`Keyring::encrypt_stream`].
     ///
     /// Source: `sendLocalState` and `encryptLocalState` in memberlist's net.go; the limit is own.
     pub fn encrypt_reply(

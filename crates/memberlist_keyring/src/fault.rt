@@ -13,19 +13,20 @@ pub enum KeyFileFault {
     /// The line of this number, from 1, is neither empty nor a key in base64.
     #[error("line {0} is no key of 16, 24 or 32 bytes in base64")]
     Line(u64),
-    /// The text of this number in the list, from 1, is no key in base64.
+    /// The text of this number in the list, from 1, is not a key in base64.
     #[error("text {0} of the list is no key of 16, 24 or 32 bytes in base64")]
     Item(u64),
-    /// The file begins as a list, and is no list of texts in JSON.
+    /// The file starts like a list, but is not a list of texts in JSON.
     #[error("the file is no list of texts in JSON")]
     NotList,
-    /// A growth of memory was refused.
+    /// Memory ran out.
     #[error("out of memory")]
     Memory,
 }
 
 impl KeyFileFault {
-    /// The number by which reports name the fault: that of a bad key, 50, or of memory, 58 (own).
+    /// The number that identifies the fault in reports: that of a bad key, 50, or of memory, 58
+    /// (own).
     pub fn number(&self) -> u32
         ensures { result ≡ key_file_number self.now }
     {

@@ -7,8 +7,7 @@ use base64::engine::general_purpose::STANDARD;
 use memberlist_cipher::{Key, is_key};
 use std::alloc::{AllocError, Global};
 
-/// The bytes of a key, as its text is decoded. They are overwritten before their memory is given
-/// back.
+/// The bytes of a key, as decoded from its text. They are overwritten before their memory is freed.
 struct Decoded {
     bytes: Vec<u8>,
 }
@@ -20,17 +19,17 @@ impl Drop for Decoded {
     }
 }
 
-/// Writes 0 over each byte.
+/// Overwrites each byte with 0.
 fn overwrite(bytes: &mut [u8])
     ensures { bytes.new ≡ replicate (length bytes.old) 0 }
 {
     bytes.fill(0);
 }
 
-/// The most bytes that so many characters of base64 stand for as a key's text has.
+/// The maximum number of bytes in base64 of the length of a key's text.
 const MOST_BYTES: usize = 33;
 
-/// The key whose base64 the text is, made ready, if it is that of a key.
+/// The key whose base64 the text is, ready for use, or `None` if the text is not that of a key.
 pub(crate) fn key_of(alloc: Global, text: &[u8]) -> Result<Option<Key>, AllocError>
     ensures key { IfOk result (λ found. MatchOption found
         ((key : List ℕ) → ¬ IsKeyText text.now key) (λ key. IsKeyText text.now key)) }
@@ -58,8 +57,8 @@ fn has_key_size(text: &[u8]) -> bool
     len == 24 || len == 32 || len == 44
 }
 
-/// Decodes a text over these bytes, which it does not move. Says whether it is that of a key; then
-/// they are the key's.
+/// Decodes a text over these bytes, which it does not move. Returns whether it is that of a key;
+/// the bytes are then the key's.
 fn decode_over(text: &[u8], bytes: &mut Vec<u8>) -> bool
     requires size { HasKeySize text.now }
     requires room { vec_len bytes.old ≡ 33 }

@@ -57,7 +57,7 @@ fn keys_of_lines(alloc: Global, text: &[u8]) -> Result<Vec<Key>, KeyFileFault>
     Ok(keys)
 }
 
-/// Adds the key of a line, if it has one. Says whether the line may stand in a file.
+/// Adds the key of a line, if it has one. Returns whether the line is valid in a key file.
 fn add_line(alloc: Global, keys: &mut Vec<Key>, line: &[u8]) -> Result<bool, AllocError>
     ensures adds { IfOk result (λ good. MatchBool good
         ((held : List (List ℕ)) × LineHolds line.now held
@@ -84,7 +84,7 @@ fn content_of(line: &[u8]) -> &[u8]
     }
 }
 
-/// Adds the key whose base64 the text is. Says whether it is that of a key.
+/// Adds the key whose base64 the text is. Returns whether it is that of a key.
 #[tactic(auto, using(crate::proofs::Keys::key_size))]
 fn add_text(alloc: Global, keys: &mut Vec<Key>, text: &[u8]) -> Result<bool, AllocError>
     ensures adds { IfOk result (λ good. MatchBool good

@@ -7,8 +7,8 @@ ghost use Rattle.memberlist_keyring.specs.Cutting.{IsCut};
 use memberlist_cipher::{labelled, split_label};
 use std::alloc::{AllocError, Global};
 
-/// A label, and what it labels. Where there is no label, or one that is empty or cut short, it is
-/// empty, and all the bytes are left.
+/// A label, and what it labels. If there is no label, or it is empty or cut off, the label is
+/// empty, and the rest is all the bytes.
 pub(crate) fn cut_label(bytes: &[u8]) -> (&[u8], &[u8])
     ensures { IsCut bytes.now result.0.now result.1.now }
 {
@@ -18,12 +18,12 @@ pub(crate) fn cut_label(bytes: &[u8]) -> (&[u8], &[u8])
     }
 }
 
-/// The bytes behind a label of at most 255 bytes; of an empty one nothing is written. Bytes that
-/// begin as a label does, with 244, would be read as labelled.
+/// The bytes after a label of at most 255 bytes; an empty label is not written. Bytes that start
+/// like a label, with 244, would be read as labelled.
 ///
 /// # Errors
 ///
-/// `AllocError` if memory for them is refused.
+/// `AllocError` if memory for them runs out.
 ///
 /// Source: `AddLabelHeaderToPacket` and `AddLabelHeaderToStream` in memberlist's label.go.
 pub fn behind_label(alloc: Global, label: &[u8], bytes: Vec<u8>) -> Result<Vec<u8>, AllocError>

@@ -1,4 +1,4 @@
-//! Laws of the definitions, apart from any code. Each is the contract of a function that does
+//! Laws of the definitions, independent of any code. Each is the contract of a function that does
 //! nothing.
 
 ghost use Rattle.std.specs.Prelude.{◌≡◌, List, ℕ};
@@ -12,7 +12,7 @@ pub fn one_file()
         → IsKeyFile text ys → xs ≡ ys }
 {}
 
-/// Of bytes keys in one order open one message.
+/// Keys in one order decrypt bytes to one message.
 pub fn one_message()
     ensures packet { (keys : List (List ℕ)) (bytes x y : List ℕ) → OpensFirst keys bytes x
         → OpensFirst keys bytes y → x ≡ y }

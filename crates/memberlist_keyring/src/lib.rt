@@ -1,4 +1,5 @@
-//! A cluster's keys, read from key files, and packets and streams opened and encrypted under them.
+//! A cluster's keys, read from key files, and packets and streams decrypted and encrypted under
+//! them.
 //!
 //! | module | subject |
 //! |---|---|
@@ -9,7 +10,7 @@
 //! | `trial` | keys tried in order |
 //! | `keyring` | a cluster's keys |
 //! | `encrypt` | packets and streams encrypted under the first key |
-//! | `laws` | what holds of the definitions, apart from any code |
+//! | `laws` | what holds for the definitions, independent of any code |
 #![tactic(auto)]
 
 mod encrypt;

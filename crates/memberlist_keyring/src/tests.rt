@@ -1,4 +1,4 @@
-//! What no clause says: packets and streams of a real memberlist, real key files, the texts of
+//! What no clause states: packets and streams of a real memberlist, real key files, the texts of
 //! faults.
 
 mod encrypt;
@@ -19,7 +19,7 @@ const KEY_24: &str = "GB8mLTQ7QklQV15lbHN6gYiPlp2kq7K5";
 /// A key of 32 bytes, as `consul keygen` prints one.
 const KEY_32: &str = "ICcuNTxDSlFYX2ZtdHuCiZCXnqWss7rByM/W3eTr8vk=";
 
-/// Another key, which nothing here is encrypted under.
+/// Another key, under which nothing here is encrypted.
 const OTHER: &str = "AAAAAAAAAAAAAAAAAAAAAA==";
 
 /// A keyring with the keys of this file.

@@ -1,4 +1,4 @@
-//! Packets and streams, encrypted under the first key as memberlist does, under the nonces that it
+//! Packets and streams, encrypted under the first key as memberlist does, with the nonces that it
 //! drew.
 
 use super::packets::{LABELLED, LABELLED_STREAMS, MESSAGE, PACKETS, REPLY, STREAMS};
@@ -9,10 +9,10 @@ use std::alloc::Global;
 use std::process::Abort;
 use std::test::Fail;
 
-/// `KEY`, and another one behind it.
+/// `KEY`, then another one.
 const KEY_AND_OTHER: &str = "EBceJSwzOkFIT1ZdZGtyeQ==\nAAAAAAAAAAAAAAAAAAAAAA==";
 
-/// What packets, streams and replies are written by.
+/// What is written: a packet, a stream or a reply.
 #[derive(Clone, Copy)]
 enum To {
     Packet,
@@ -36,7 +36,8 @@ fn encrypt(
     }
 }
 
-/// That the keys of this file encrypt it so. Where memory is refused the repeat does.
+/// Asserts that the keys of this file encrypt it to these bytes, at the second try if out of
+/// memory.
 fn assert_encrypts(
     rt: &impl Abort,
     alloc: Global,

@@ -9,9 +9,9 @@ use std::alloc::{AllocError, Global};
 use std::process::Abort;
 use std::test::Fail;
 
-/// Files of the keys of 16, 24 and 32 bytes.
+/// Files with the keys of 16, 24 and 32 bytes.
 const FILES: [&str; 8] = [
-    // lines, where one may be empty and end in a carriage return
+    // lines, one of which may be empty, or end in a carriage return
     "EBceJSwzOkFIT1ZdZGtyeQ==\r\nGB8mLTQ7QklQV15lbHN6gYiPlp2kq7K5\r\nICcuNTxDSlFYX2ZtdHuCiZCXnqWss7rByM/W3eTr8vk=\r\n",
     "\n\r\nEBceJSwzOkFIT1ZdZGtyeQ==\n\nGB8mLTQ7QklQV15lbHN6gYiPlp2kq7K5\r\n\r\nICcuNTxDSlFYX2ZtdHuCiZCXnqWss7rByM/W3eTr8vk=",
     "ICcuNTxDSlFYX2ZtdHuCiZCXnqWss7rByM/W3eTr8vk=\nGB8mLTQ7QklQV15lbHN6gYiPlp2kq7K5\nEBceJSwzOkFIT1ZdZGtyeQ==\r",
@@ -21,11 +21,11 @@ const FILES: [&str; 8] = [
     // a list of texts in JSON, as serf writes it
     "[\n  \"EBceJSwzOkFIT1ZdZGtyeQ==\",\n  \"GB8mLTQ7QklQV15lbHN6gYiPlp2kq7K5\",\n  \"ICcuNTxDSlFYX2ZtdHuCiZCXnqWss7rByM/W3eTr8vk=\"\n]",
     " \t\r\n[\"ICcuNTxDSlFYX2ZtdHuCiZCXnqWss7rByM/W3eTr8vk=\",\"EBceJSwzOkFIT1ZdZGtyeQ==\",\"GB8mLTQ7QklQV15lbHN6gYiPlp2kq7K5\"]\n",
-    // a text in another spelling
+    // a text with an escape
     "[\"EBceJSwzOkFIT1ZdZGtyeQ==\", \"\\u0047B8mLTQ7QklQV15lbHN6gYiPlp2kq7K5\", \"ICcuNTxDSlFYX2ZtdHuCiZCXnqWss7rByM/W3eTr8vk=\"]",
 ];
 
-/// That the keys of the file open what was encrypted under each of the three.
+/// Asserts that the keys of the file decrypt what was encrypted under each of the three.
 fn assert_opens_each(rt: &impl Abort, alloc: Global, text: &str) -> Result<(), Fail> {
     let keyring = keyring(alloc, text)?;
     assert_opens_all(rt, alloc, &keyring)
@@ -72,7 +72,7 @@ fn keys_of_several_files_stand_behind_each_other(rt: HostRuntime) -> Result<(), 
     assert_opens_all(&rt, rt.alloc(), &keyring)
 }
 
-/// That a file whose second line is no key is refused.
+/// Asserts that a file whose second line is not a key is refused.
 fn assert_second_refused(rt: &impl Abort, alloc: Global, keyring: &mut Keyring) {
     let text = b"EBceJSwzOkFIT1ZdZGtyeQ==\nEBceJSwzOkFIT1ZdZGtyeQ==x";
     let found = keyring.add_file(alloc, text);
@@ -94,7 +94,7 @@ fn refusal(alloc: Global, text: &[u8]) -> Option<KeyFileFault> {
     keyring.add_file(alloc, text).err()
 }
 
-/// That the file is refused with this fault, or for want of memory, which is an error of the test.
+/// Asserts that the file is refused with this fault. Running out of memory is an error of the test.
 fn assert_refused(
     rt: &impl Abort,
     alloc: Global,
@@ -115,7 +115,7 @@ fn the_first_line_that_is_no_key_is_named(rt: HostRuntime) -> Result<(), Fail> {
         // one byte too few and too many
         ("AAAAAAAAAAAAAAAAAAAA", 1),
         ("AAAAAAAAAAAAAAAAAAAAAAA=", 1),
-        // the bytes of keys, and of each length too many or too few
+        // bytes of keys, too few or too many for each length
         ("EBceJSwzOkFIT1ZdZGty", 1),
         ("GB8mLTQ7QklQV15lbHN6gYg=", 1),
         ("GB8mLTQ7QklQV15lbHN6gYiP", 1),
@@ -123,9 +123,9 @@ fn the_first_line_that_is_no_key_is_named(rt: HostRuntime) -> Result<(), Fail> {
         ("GB8mLTQ7QklQV15lbHN6gYiPlp2kq7I=", 1),
         ("ICcuNTxDSlFYX2ZtdHuCiZCXnqWss7rByM/W3eTr8g==", 1),
         ("ICcuNTxDSlFYX2ZtdHuCiZCXnqWss7rByM/W3eTr8vkA", 1),
-        // one that ends in what is no base64
+        // one that ends in a byte that is not base64
         ("EBceJSwzOkFIT1ZdZGtyeQ=!", 1),
-        // no padding, too much, and bits behind the last byte
+        // no padding, too much, and bits after the last byte
         ("AAAAAAAAAAAAAAAAAAAAAA", 1),
         ("AAAAAAAAAAAAAAAAAAAAAA===", 1),
         ("AAAAAAAAAAAAAAAAAAAAAB==", 1),
@@ -181,7 +181,7 @@ fn a_list_is_one_of_texts_and_its_first_that_is_no_key_is_named(
     Ok(())
 }
 
-/// That the fault has this number and this text.
+/// Asserts that the fault has this number and this text.
 fn assert_named(
     rt: &impl Abort,
     alloc: Global,
@@ -219,7 +219,7 @@ fn each_fault_has_its_number_and_its_text(rt: HostRuntime) -> Result<(), Fail> {
     Ok(())
 }
 
-/// Adds the keys of a file. Where memory is refused the keyring stays empty, and the repeat adds
+/// Adds the keys of a file. If memory runs out, the keyring stays empty, and the second try adds
 /// them.
 fn add_again(
     rt: &impl Abort,
@@ -245,7 +245,7 @@ fn want_of_memory_leaves_the_keyring_as_it_was(rt: HostRuntime) -> Result<(), Fa
     Ok(())
 }
 
-/// A file of line feeds alone, of which none takes memory.
+/// A file that consists of line feeds, none of which takes memory.
 #[test]
 fn a_file_of_empty_lines_asks_for_little(rt: HostRuntime) -> Result<(), Fail> {
     let text = [b'\n'; 60_000];

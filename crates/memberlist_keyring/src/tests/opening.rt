@@ -1,4 +1,4 @@
-//! Packets and streams, opened and refused.
+//! Packets and streams, decrypted and refused.
 
 use super::packets::{
     LABELLED, LABELLED_STREAMS, LONG, LONG_MESSAGE, MESSAGE, PACKETS, STREAMS, UNPADDED,
@@ -15,14 +15,14 @@ const OTHER_AND_KEY: &str = "AAAAAAAAAAAAAAAAAAAAAA==\nEBceJSwzOkFIT1ZdZGtyeQ=="
 
 const KEY_AND_OTHER: &str = "EBceJSwzOkFIT1ZdZGtyeQ==\nAAAAAAAAAAAAAAAAAAAAAA==";
 
-/// What is opened.
+/// What is decrypted.
 #[derive(Clone, Copy)]
 enum Of {
     Packet,
     Stream,
 }
 
-/// Opens the packet or the stream.
+/// Decrypts the packet or the stream.
 fn open(alloc: Global, keyring: &Keyring, of: Of, bytes: &[u8]) -> Result<Vec<u8>, CipherFault> {
     match of {
         Of::Packet => keyring.open(alloc, bytes),
@@ -30,7 +30,7 @@ fn open(alloc: Global, keyring: &Keyring, of: Of, bytes: &[u8]) -> Result<Vec<u8
     }
 }
 
-/// That the keyring opens it to this message.
+/// Asserts that the keyring decrypts it to this message.
 fn assert_opens(
     rt: &impl Abort,
     alloc: Global,
@@ -44,7 +44,7 @@ fn assert_opens(
     Ok(())
 }
 
-/// That the keyring opens a packet and a stream under each of the three keys.
+/// Asserts that the keyring decrypts a packet and a stream under each of the three keys.
 pub(super) fn assert_opens_all(
     rt: &impl Abort,
     alloc: Global,
@@ -59,7 +59,7 @@ pub(super) fn assert_opens_all(
     Ok(())
 }
 
-/// That the key of 16 bytes opens it to this message.
+/// Asserts that the key of 16 bytes decrypts it to this message.
 fn assert_key_opens(
     rt: &impl Abort,
     alloc: Global,
@@ -85,7 +85,7 @@ fn a_label_is_split_off_and_associated(rt: HostRuntime) -> Result<(), Fail> {
     Ok(())
 }
 
-/// `LONG` behind the longest label.
+/// `LONG` after the longest label.
 fn long(alloc: Global) -> Result<Vec<u8>, AllocError> {
     let mut bytes = b"\xf4\xff".to_vec(alloc)?;
     let mut byte = 0u8;
@@ -103,14 +103,14 @@ fn the_longest_label_is_split_off(rt: HostRuntime) -> Result<(), Fail> {
     assert_key_opens(&rt, rt.alloc(), Of::Packet, &bytes, LONG_MESSAGE)
 }
 
-/// Why the keys of this file do not open it, if they do not.
+/// Why the keys of this file do not decrypt it, or `None` if they do.
 fn refusal(alloc: Global, keys: &str, of: Of, bytes: &[u8]) -> Result<Option<CipherFault>, Fail> {
     let keyring = keyring(alloc, keys)?;
     Ok(open(alloc, &keyring, of, bytes).err())
 }
 
-/// That the keys of this file are refused it for this fault, or for want of memory, which is an
-/// error of the test.
+/// Asserts that the keys of this file do not decrypt it, with this fault. Running out of memory is
+/// an error of the test.
 fn assert_refused(
     rt: &impl Abort,
     alloc: Global,
@@ -127,7 +127,7 @@ fn assert_refused(
     Ok(())
 }
 
-/// That the key of 16 bytes is refused the bytes behind this label for this fault.
+/// Asserts that the key of 16 bytes does not decrypt the bytes after this label, with this fault.
 fn assert_refused_behind(
     rt: &impl Abort,
     alloc: Global,
@@ -155,7 +155,7 @@ fn no_key_opens_what_stands_behind_another_label_or_no_whole_one(
         (b"", &LABELLED[0][6..], CipherFault::WrongTag),
         (b"\xf4\x04wast", &LABELLED[1][6..], CipherFault::WrongTag),
         (b"", &LABELLED[1][6..], CipherFault::WrongTag),
-        // an empty one, one that is cut short, and two
+        // an empty one, one that is cut off, and two
         (b"\xf4\x00", PACKETS[0], CipherFault::WrongVersion),
         (b"\xf4\xc8", PACKETS[0], CipherFault::WrongVersion),
         (b"\xf4\x01x\xf4\x01x", PACKETS[0], CipherFault::WrongVersion),
@@ -228,7 +228,7 @@ fn another_key_or_the_last_byte_missing_refuses_a_stream(rt: HostRuntime) -> Res
     Ok(())
 }
 
-/// That it is opened, or want of memory is answered, and the repeat opens it.
+/// Asserts that it is decrypted, at the second try if out of memory.
 fn assert_opens_again(
     rt: &impl Abort,
     alloc: Global,
