@@ -1,4 +1,4 @@
--- Lines by their places, where they are counted as they are read.
+-- Lines by their index, counted as they are read.
 use Rattle.std.proofs.Common.{◌≡◌, ℕ, zero, suc, ◌+◌, ◌<◌, ◌∙◌, List, [], ◌∷◌, Option, Some, length, map, take, drop, get_or, Bor, refl, ap, ap₂, arith}
 use Rattle.std.proofs.lemmas.Iterator.{YieldsList}
 use Rattle.std.proofs.lemmas.Iterator.Consumers.{YieldsList-from_enumerate, YieldsList-from_first, YieldsList-so_far, YieldsList-turn}
@@ -8,7 +8,7 @@ use Rattle.std.specs.List.{enumerate_from}
 use Rattle.std.specs.declared.iter.Enumerate.{Enumerate}
 use Rattle.swim_program.specs.Lines.{input_lines}
 
--- what is known of an item that is yielded, and of those before it
+-- what is known about a yielded item, and about those before it
 pub yielded_at : {S A B : Type 0} {steps : S → Option A → S → Type 0} {v : A → B} {s : S} {all : List B}
     (e : YieldsList steps v s all) (xs : List A) (t : S) (y : Yields steps s xs t)
     → (r : Option A) (u : S) (x : A) → r ≡ Some x → steps t r u → (length xs < length all) × (v x ≡ get_or all (length xs) (v x))
@@ -28,7 +28,7 @@ first_counted (x ∷ xs) k (suc n) (line ∷ lines) e =
     let rest = first_counted xs (k + 1) n lines (ap (drop 1) e) in
     ap₂ (λ a b. a ∷ b) (ap (λ p. p.1) here) rest
 
--- the lines that a count goes with
+-- the lines that a count visits
 pub counted_lines : (xs : List (ℕ × Bor (List ℕ))) (n : ℕ) (lines : List (List ℕ)) → map
     (λ p. (p.0, p.1.now)) xs ≡ enumerate_from n lines → map (λ p. p.1.now) xs ≡ lines
 counted_lines [] n [] e = refl

@@ -7,12 +7,12 @@ use Rattle.clap.specs.declared.error.kind.ErrorKind.TheVariants.{OutOfMemory}
 use Rattle.swim_program.specs.declared.words.WordFault.{WordFault}
 use Rattle.swim_program.specs.declared.words.WordFault.TheVariants as fault
 
--- the words are refused by an error of one of these kinds, or for want of memory
+-- the words are refused with an error of one of these kinds, or because memory ran out
 abbrev pub IsRefusal : Kinds → WordFault → Type 0
 IsRefusal kinds (fault.Words error) = IsAmong (kind_of error) kinds
 IsRefusal kinds fault.Memory = Unit {0}
 
--- the fault is that error, or that it found no memory
+-- the fault is that error, or out of memory
 abbrev pub IsFaultOf : Error → WordFault → Type 0
 IsFaultOf error (fault.Words other) = (other ≡ error) × (kind_of error ≢ OutOfMemory)
 IsFaultOf error fault.Memory = kind_of error ≡ OutOfMemory

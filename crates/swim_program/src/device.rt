@@ -1,4 +1,4 @@
-//! Standard input to its bound, and standard output.
+//! Standard input up to its bound, and standard output.
 
 ghost use Rattle.std.specs.Prelude.{◌≤◌, length, IfOk, IfErr, IsOkUnless, OnOk, OnErr};
 ghost use Rattle.std.specs.Io.KnownBytes.{Appends, Consumes, IsAtEnd};
@@ -12,19 +12,19 @@ use std::fs::File;
 use std::io::{ErrorKind, IsTerminal, Read, Write};
 use swim_pack::write_whole;
 
-/// The most bytes of an input. Every canonical dump has fewer.
+/// The maximum length of an input in bytes. Every canonical dump is shorter.
 pub const BOUND: usize = 268_435_456;
 
-/// How many interrupted reads of one input are tried again.
+/// How many interrupted reads of one input are retried.
 const RETRIES: u32 = 1000;
 
-/// How many bytes are asked for at once.
+/// How many bytes are requested at once.
 const PIECE: usize = 65536;
 
-/// Reads to the end, and at most one byte past the bound, so that the length tells a longer input.
-/// An error, and the 1,001st interruption, is a device fault.
+/// Reads to the end, but at most one byte past the bound, so that the length identifies a longer
+/// input. An error, or the 1,001st interruption, is a device fault.
 pub fn read_to_bound<R: Read>(alloc: Global, reader: &mut R) -> Result<Vec<u8>, What>
-    // Of a reader that tells its bytes these are the next ones, and all that there are within the
+    // If the reader's bytes are known, these are the next ones, and all that there are within the
     // bound.
     ensures reads { IfOk result (λ bytes.
         Consumes (R.remaining reader.old) (R.remaining reader.new) bytes.items) }
@@ -51,8 +51,8 @@ pub fn read_to_bound<R: Read>(alloc: Global, reader: &mut R) -> Result<Vec<u8>, 
     Ok(bytes)
 }
 
-/// Reads standard input as [`read_to_bound`] does. Where it is a terminal, this is said first, with
-/// what is awaited there: `swimtab: reading a script from the terminal, up to Ctrl-D`.
+/// Reads standard input as [`read_to_bound`] does. If it is a terminal, a note first says what is
+/// expected there: `swimtab: reading a script from the terminal, up to Ctrl-D`.
 pub fn read_input(rt: &HostRuntime, program: &str, awaited: &str) -> Result<Vec<u8>, Report>
     ensures { IfErr result (λ report. IsAmong report.place 0) }
 {
@@ -66,7 +66,7 @@ pub fn read_input(rt: &HostRuntime, program: &str, awaited: &str) -> Result<Vec<
     }
 }
 
-/// Reads a file as [`read_to_bound`] does. One that cannot be opened is a device fault.
+/// Reads a file as [`read_to_bound`] does. A file that cannot be opened is a device fault.
 pub fn read_file(rt: &HostRuntime, path: &str) -> Result<Vec<u8>, What> {
     match File::open(rt, path) {
         Ok(mut file) => read_to_bound(rt.alloc(), &mut file),
@@ -74,10 +74,10 @@ pub fn read_file(rt: &HostRuntime, path: &str) -> Result<Vec<u8>, What> {
     }
 }
 
-/// Writes the bytes at once. An error, an answer of 0 and the 1,001st interruption is a device
+/// Writes the bytes at once. An error, a write of 0 bytes, or the 1,001st interruption is a device
 /// fault.
 pub fn write_out<W: Write>(writer: &mut W, bytes: &[u8]) -> Result<(), What>
-    // A writer that tells its bytes took exactly these, or where it is refused a front of them.
+    // If the writer's bytes are known, it took exactly these, or a prefix of them if refused.
     ensures wrote { OnOk result
         (Appends (W.contents writer.old) (W.contents writer.new) bytes.now) }
     ensures front { OnErr result

@@ -1,4 +1,4 @@
-//! How a program ends where it has nothing to print.
+//! How a program ends if it has nothing to print.
 
 ghost use Rattle.std.specs.Prelude.{length};
 ghost use Rattle.swim_program.specs.Report.{IsAmong};
@@ -14,11 +14,11 @@ use std::process::ExitCode;
 pub enum Failure {
     /// The words were refused, or ask for help.
     Words(clap::Error),
-    /// A word is no text.
+    /// A word is not text.
     UnreadableWords,
-    /// The run was refused: what is said of it, and the exit status.
+    /// The run was refused: the message, and the exit status.
     Refused { text: String, status: u8 },
-    /// A growth of memory was refused.
+    /// Memory ran out.
     Memory,
 }
 
@@ -37,7 +37,7 @@ impl From<AllocError> for Failure {
     }
 }
 
-/// An error of reading the words.
+/// An error from reading the words.
 impl From<io::Error> for Failure {
     fn from(error: io::Error) -> Failure {
         match error.kind() {
@@ -48,7 +48,7 @@ impl From<io::Error> for Failure {
 }
 
 impl Failure {
-    /// That the run of this program was refused, where `files` are the words that name its files.
+    /// The failure of a refused run of this program. `files` are the words that name its files.
     pub fn refused(alloc: Global, program: &str, report: &Report, files: &[String]) -> Failure
         requires { IsAmong report.now.place (length files.now) }
     {
@@ -61,7 +61,7 @@ impl Failure {
         }
     }
 
-    /// Says on standard error why this program ends, and answers its exit status.
+    /// Prints on standard error why this program ends, and returns its exit status.
     pub fn tell(&self, rt: &HostRuntime, program: &str) -> ExitCode {
         match self {
             Failure::Words(error) => {

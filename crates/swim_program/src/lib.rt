@@ -4,11 +4,11 @@
 //! | module | subject |
 //! |---|---|
 //! | `words` | the words after a program's name |
-//! | `device` | input and files to their bound, and output |
-//! | `until` | ends of a connection that give up together |
+//! | `device` | input and files up to their bound, and output |
+//! | `until` | readers and writers of a connection with a common deadline |
 //! | `lines` | lines of input |
-//! | `report` | what is said of a run that was refused, and its exit status |
-//! | `failure` | how a program ends where it has nothing to print |
+//! | `report` | the message about a refused run, and its exit status |
+//! | `failure` | how a program ends if it has nothing to print |
 #![tactic(auto)]
 
 mod device;

@@ -8,10 +8,10 @@ ghost use Rattle.swim_program.specs.Lines.{input_lines};
 use memchr::memchr;
 use std::marker::Model;
 
-/// The lines of an input that are still to be read. Contracts see it as their list.
+/// The lines of an input that are not yet read. Contracts see them as a list.
 #[derive(Drop)]
 pub struct Lines<'a> {
-    // the bytes after the last line feed that was read; none after the last line
+    // the bytes after the last line feed that was read; `None` after the last line
     rest: Option<&'a [u8]>,
 }
 
@@ -24,8 +24,8 @@ impl<'a> Model for Lines<'a> {
     ghost view = { λ lines. lines_left lines.rest };
 }
 
-/// The lines of an input. A line feed ends one and begins the next, so that there is one line more
-/// than line feeds; the last is empty where the input ends with a line feed, or has no bytes.
+/// The lines of an input. A line feed ends one and starts the next, so there is one more line than
+/// line feeds; the last is empty if the input is empty or ends with a line feed.
 pub fn lines_of(input: &[u8]) -> Lines<'_>
     ensures value { result ≡ input_lines input.now }
     ensures len { length result ≤ length input.now + 1 }
@@ -56,7 +56,7 @@ impl<'a> Iterator for Lines<'a> {
     }
 }
 
-/// A line less the one carriage return at its end, if it has one.
+/// A line without the one carriage return at its end, if it has one.
 pub fn without_return(line: &[u8]) -> &[u8]
     ensures { result.now ≡ strip_carriage_return line.now }
 {

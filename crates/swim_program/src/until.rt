@@ -1,4 +1,4 @@
-//! Ends of a connection that give up together.
+//! Readers and writers of a connection with a common deadline.
 
 ghost use Rattle.std.specs.Prelude.{◌≤◌, length, IfOk};
 
@@ -7,8 +7,8 @@ use std::io::{Error, ErrorKind, Read, Write};
 use std::net::TcpStream;
 use std::time::{Clock, Duration, Instant};
 
-/// An end of a connection whose reads and writes wait up to one moment, however many there are.
-/// Behind it each is refused as timed out.
+/// A reader and writer of a connection whose reads and writes wait until one deadline, however many
+/// there are. After it each is refused as timed out.
 #[derive(Drop)]
 pub struct Until<'a, C: Clock> {
     stream: &'a TcpStream,
@@ -17,12 +17,12 @@ pub struct Until<'a, C: Clock> {
 }
 
 impl<'a, C: Clock> Until<'a, C> {
-    /// The end that gives up at this moment of the clock.
+    /// The stream with this moment of the clock as its deadline.
     pub fn new(stream: &'a TcpStream, clock: &'a C, end: Instant) -> Until<'a, C> {
         Until { stream, clock, end }
     }
 
-    /// The same end once more.
+    /// The same stream again.
     pub fn again(&self) -> Until<'a, C> {
         Until::new(self.stream, self.clock, self.end)
     }

@@ -14,9 +14,9 @@ use std::{env, io};
 /// Why words were refused.
 #[derive(Debug, Drop)]
 pub enum WordFault {
-    /// They ask for nothing that there is, or for help or the version.
+    /// They ask for something unknown, or for help or the version.
     Words(clap::Error),
-    /// A growth of memory was refused.
+    /// Memory ran out.
     Memory,
 }
 
@@ -44,7 +44,7 @@ pub fn words_of(rt: &HostRuntime) -> io::Result<Vec<String>> {
     Ok(env::args(rt)?.skip(1).collect(rt.alloc())?)
 }
 
-/// The words that an argument was given, in their order.
+/// The values of an argument, in order.
 pub fn texts_of(alloc: Global, found: &ArgMatches, id: &str) -> Result<Vec<String>, AllocError>
     ensures { IfOk result (λ texts. map string_bytes texts.items
         ≡ unwrap_or (all_of id.now (rows_of (found_of found.now))) []) }

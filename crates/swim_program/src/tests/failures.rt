@@ -4,7 +4,7 @@ use crate::Failure;
 use std::io::{Error, ErrorKind};
 use std::process::Abort;
 
-/// That words which could not be read for an error of this kind are told of memory or not.
+/// Asserts whether an error of this kind from reading the words is reported as out of memory.
 fn assert_of_memory(rt: &impl Abort, kind: ErrorKind, wanted: bool) {
     let failure = Failure::from(Error::from(kind));
     assert_eq!(rt; matches!(failure, Failure::Memory), wanted);

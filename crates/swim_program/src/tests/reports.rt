@@ -73,7 +73,7 @@ fn each_fault_is_reported_by_its_number_and_its_name(rt: HostRuntime) -> Result<
     Ok(())
 }
 
-/// What is said of a run over the file `x y`, and its status.
+/// The message about a run over the file `x y`, and its status.
 fn said(alloc: Global, place: Place, what: What) -> Result<(String, u8), Fail>
     requires { IsAmong place 1 }
 {

@@ -9,8 +9,8 @@ use std::io::{Error, ErrorKind, Read, Write};
 use std::process::Abort;
 use std::test::Fail;
 
-/// A stream that is interrupted so many times, and before each further piece so many times again,
-/// moves up to `left` bytes in pieces, and then ends, or fails once and then ends.
+/// A stream that is interrupted `interruptions` times first, and `again` times before each further
+/// piece. It moves up to `left` bytes in pieces, and then ends, or fails once and then ends.
 #[derive(Drop)]
 struct Stream {
     interruptions: u32,
@@ -33,14 +33,15 @@ impl Stream {
         }
     }
 
-    /// Interrupted so often before its first piece, and so often before each further one.
+    /// Interrupted `interruptions` times before its first piece, and `again` times before each
+    /// further one.
     fn interrupted(interruptions: u32, again: u32, left: usize) -> Stream {
         let mut stream = Stream::new(interruptions, left, 1, false);
         stream.again = again;
         stream
     }
 
-    /// Fails by this kind of error behind its bytes.
+    /// Fails with this kind of error after its bytes.
     fn failing(left: usize, kind: ErrorKind) -> Stream {
         let mut stream = Stream::new(0, left, 1, true);
         stream.kind = kind;
@@ -134,7 +135,7 @@ fn interruptions_are_counted_over_a_whole_output(rt: HostRuntime) {
     }
 }
 
-/// What a reader may answer other than that it was interrupted.
+/// What a reader may return other than an interruption.
 const KINDS: [ErrorKind; 8] = [
     ErrorKind::WouldBlock,
     ErrorKind::TimedOut,
@@ -146,7 +147,8 @@ const KINDS: [ErrorKind; 8] = [
     ErrorKind::Other,
 ];
 
-/// That an input is refused which fails so behind three bytes, and is not asked again.
+/// Asserts that an input which fails with this error after three bytes is refused, and not read
+/// again.
 fn assert_input_fails(rt: &impl Abort, alloc: Global, kind: ErrorKind) {
     let what = read_to_bound(alloc, &mut Stream::failing(3, kind)).err();
     assert!(rt; what == Some(What::Device) || what == Some(What::Memory));

@@ -5,7 +5,7 @@ use Rattle.swim_program.specs.Lines.{input_lines, lines_left}
 use Rattle.swim_program.proofs.LineFeeds.{first_line, one_line}
 use Rattle.swim_program.proofs.lines.LinesIterator.next.Goals as goal
 
--- the first line, and those behind its line feed
+-- the first line, and those after its line feed
 first : (c : goal.After-self-in-Some-1) → c.args.self.now ≡ take c.in-Some.end c.in_ok-rest.rest.now
     ∷ input_lines (take (length c.in_ok-rest.rest.now - (c.in-Some.end + 1)) (drop (c.in-Some.end + 1) c.in_ok-rest.rest.now))
 first c =
