@@ -73,7 +73,7 @@ abbrev pub BeginsWith : ℕ → List ℕ → Type 0
 BeginsWith found bytes = (rest : List ℕ) × (bytes ≡ found ∷ rest)
 
 -- What a refusal means for bytes that do not start with a packet; `Memory` means that they
--- requested some. The other faults say where the reading of a map stopped.
+-- requested memory. The other faults say where the reading of a map stopped.
 abbrev pub ExplainsPacket : WireFault → List ℕ → Type 0
 ExplainsPacket (WrongType found) bytes = BeginsWith found bytes × IsNoPacketType found
 ExplainsPacket NameEmpty bytes = PacketFails NameEmpty bytes
@@ -112,7 +112,7 @@ ExplainsHeader Memory bytes = ⊥
 ExplainsHeader error bytes = ⊤
 
 -- What a refusal means for bytes that do not start with a state record; `Memory` means that they
--- requested some.
+-- requested memory.
 abbrev pub ExplainsState : WireFault → List ℕ → Type 0
 ExplainsState NameEmpty bytes = BeginsFailing state_layout (StateFails NameEmpty) bytes
 ExplainsState BadAddress bytes = BeginsFailing state_layout (StateFails BadAddress) bytes

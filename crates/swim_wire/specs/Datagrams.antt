@@ -92,7 +92,8 @@ HasTrailingDatagram bytes =
 abbrev pub PacketOrPart : WireFault → List ℕ → Type 0
 PacketOrPart error bytes = ExplainsWhole error bytes ⊎ HasBadPart error bytes
 
--- What a refusal means for bytes that are not a datagram; `Memory` means that they requested some.
+-- What a refusal means for bytes that are not a datagram; `Memory` means that they requested
+-- memory.
 abbrev pub ExplainsDatagram : WireFault → List ℕ → Type 0
 ExplainsDatagram (WrongType found) bytes = BeginsWith found bytes × IsNoPacketType found
     × (found ≢ 7)

@@ -45,7 +45,7 @@ pub fn write_header(out: &mut Vec<u8>, header: &Header) -> Result<(), AllocError
 
 /// Appends the state record of the claim that the facts make about a member (memberlist's
 /// `pushNodeState`). Only an Alive's record has an address, a port, metadata and versions. The
-/// facts must have details exactly if they are an Alive.
+/// facts must have details exactly if the claim is an Alive.
 ///
 /// # Errors
 ///

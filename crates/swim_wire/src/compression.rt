@@ -13,8 +13,8 @@ use std::alloc::Global;
 use swim_pack::{Inlet, SliceInlet};
 
 /// The compressed bytes in the map of a compressed message (memberlist's `compress`): `Algo`, which
-/// is 0 for LZW, and `Buf`, the bytes. An absent `Algo` is 0 and an absent `Buf` is empty. It takes
-/// no more memory than the map has bytes, less than once for them all.
+/// is 0 for LZW, and `Buf`, the bytes. An absent `Algo` is 0 and an absent `Buf` is empty. In
+/// total it takes less memory than the map has bytes.
 ///
 /// # Errors
 ///

@@ -42,7 +42,7 @@ pub fn put_header(out: &mut [u8], at: usize, header: &Header) -> usize
 }
 
 /// The length in bytes of the state record of the claim that the facts make about a member. The
-/// facts must have details exactly if they are an Alive.
+/// facts must have details exactly if the claim is an Alive.
 #[inline(always)]
 pub fn state_len<'a>(name: &'a Name, facts: Facts<'a>) -> usize
     requires { IsLegalFacts facts }
@@ -56,7 +56,7 @@ pub fn state_len<'a>(name: &'a Name, facts: Facts<'a>) -> usize
 }
 
 /// Writes the state record of the claim that the facts make about a member into existing room.
-/// Returns the position after it. The facts must have details exactly if they are an Alive.
+/// Returns the position after it. The facts must have details exactly if the claim is an Alive.
 #[inline(always)]
 pub fn put_state<'a>(out: &mut [u8], at: usize, name: &'a Name, facts: Facts<'a>) -> usize
     requires legal { IsLegalFacts facts }
@@ -70,7 +70,7 @@ pub fn put_state<'a>(out: &mut [u8], at: usize, name: &'a Name, facts: Facts<'a>
 }
 
 /// The length in bytes of the state record that [`put_state_with_details`] writes. The facts must
-/// have details exactly if they are an Alive.
+/// have details exactly if the claim is an Alive.
 #[inline(always)]
 pub fn state_with_details_len<'a>(name: &'a Name, facts: Facts<'a>, details: &'a Details) -> usize
     requires { IsLegalFacts facts }
@@ -87,7 +87,7 @@ pub fn state_with_details_len<'a>(name: &'a Name, facts: Facts<'a>, details: &'a
 ///
 /// memberlist refuses a whole stream if one record has no versions, so here the record of a
 /// Suspect, Confirm or Leave can have some. The details are not part of its claim, and readers skip
-/// them. The facts must have details exactly if they are an Alive.
+/// them. The facts must have details exactly if the claim is an Alive.
 #[inline(always)]
 pub fn put_state_with_details<'a>(
     out: &mut [u8],
