@@ -22,7 +22,7 @@ ghost use Rattle.swim_sync.specs.Paths.{AreTwoNodes, Reaches};
 /// Two members that take in the same claims, in any order and grouping and however often, have one
 /// table, one listing and one dump. Joining their tables is commutative, associative and
 /// idempotent. Every claim shown was taken in, and no claim taken in overrides a state shown. A
-/// dump of at most 131,072 records is read as what it was made of.
+/// dump of at most 131,072 records is read back as what it was made from.
 pub fn two_members()
     ensures commutative { (table other : Entries) → Join table other ≡ Join other table }
     ensures associative { (table other third : Entries) → TableOf table (Reduced table)
