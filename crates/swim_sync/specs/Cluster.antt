@@ -66,8 +66,8 @@ EachCanHappen members lists [] = Unit {0}
 EachCanHappen members lists (event ∷ events) = CanHappen lists event
     × EachCanHappen members (after members lists event) events
 
--- The events happened: the nodes are the same, each table is that of what its node has heard, and
--- each event could happen.
+-- The events happened: the nodes have the same members, each table is that of what its node has
+-- heard, and each event could happen.
 pub record Ran (old new : List NodeValue) (events : List Event) : Type 0 where
   pub members : members_of new ≡ members_of old
   pub tables : (start : List (List Claim)) → TablesOf old start

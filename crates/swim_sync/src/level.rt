@@ -10,9 +10,9 @@ use crate::stop::Stop;
 
 impl Cluster {
     /// Levels the cluster of n nodes: node 0 exchanges its table with each other node, from node 1
-    /// on, and again with each of them except the last (own). For two or more nodes
-    /// these are 2n - 3 exchanges. Each node then has the table of all claims that any node had.
-    /// With fewer than two nodes nothing changes. There must be at most 2,147,483,648 nodes.
+    /// on, and again with each of them except the last (own). For two or more nodes these are
+    /// 2n - 3 exchanges. Each node then has the table of all claims that any node had. With fewer
+    /// than two nodes nothing changes. There must be at most 2,147,483,648 nodes.
     ///
     /// # Errors
     ///
