@@ -127,7 +127,7 @@ part-failed {X} {view} {a} {b} m n got gone before rise over after = record {
   rest = (got ++ over.0, Consumes-trans a.coming m.coming b.coming got over.0 gone over.1);
   answer = answers a.coming b.coming;
   takes =
-      takes-over a.coming m.coming b.coming got over.0 _ (λ known. Unit {0}) gone over.1 (λ bytes left rest gone over q. no_more (got ++ over.0)) tt
+      takes-over a.coming m.coming b.coming got over.0 _ (λ known. Unit {0}) gone over.1 (λ bytes left rest gone behind q. no_more (got ++ over.0)) tt
       (no_more got);
   fault = λ e. omega arith;
   faults_stay = omega arith;

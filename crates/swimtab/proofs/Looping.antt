@@ -1,9 +1,7 @@
--- Why a file is refused for a loop, why an exchange fails, and whether two tables are equal.
-use Rattle.std.proofs.Common.{◌≡◌, ◌≢◌, ◌↔◌, ℕ, ◌≤◌, ◌⊎◌, inl, inr, Bool, List, length, refl}
+-- Why a file is refused for a loop, and whether two tables are equal.
+use Rattle.std.proofs.Common.{◌≡◌, ◌↔◌, ℕ, ◌≤◌, ◌⊎◌, inl, inr, List, length, refl}
 use Rattle.std.specs.Prelude.{IsTrue}
 use Rattle.swim_claim.specs.declared.claim.Claim.{Claim}
-use Rattle.swim_wire.specs.declared.fault.WireFault.{WireFault}
-use Rattle.swim_wire.specs.declared.fault.WireFault.TheVariants as wire
 use denote.Enum.Bare.{sameb}
 use Rattle.swim_table.specs.contracts.table.Relation.{the_type}
 use Rattle.swim_table.specs.declared.table.Relation.{Relation}
@@ -13,19 +11,11 @@ use Rattle.swim_table.specs.Join.{Below}
 use Rattle.swim_table.specs.Table.{Entries, TableOf}
 use Rattle.swim_table.proofs.Showing.{below_join, below_both}
 use Rattle.swim_table.proofs.Tables.{TableOf-Reduced, Join-itself}
-use Rattle.swim_pack.specs.Ends.{Source}
-use Rattle.swim_pack.proofs.Composing.{taken_text}
-use Rattle.swim_wire.specs.Streams.{StreamText}
-use Rattle.swim_sync.specs.Exchanging.{TakesStream}
-use Rattle.swim_sync.specs.declared.fault.SyncFault.{SyncFault}
-use Rattle.swim_sync.specs.declared.fault.SyncFault.TheVariants as sync
 use Rattle.swim_program.specs.declared.report.What.{What}
 use Rattle.swim_program.specs.declared.report.What.TheVariants.{Memory}
 use Rattle.swimtab.specs.Files.{IsNoDump}
-use Rattle.swimtab.specs.Looping.{IsLoopRefused, TakesIn}
+use Rattle.swimtab.specs.Looping.{IsLoopRefused}
 use Rattle.swimtab.specs.Looping.IsLoopRefused.{no_stream, memory}
-use Rattle.swim_program.specs.Report.{what_of}
-use Rattle.swimtab.specs.Faults.{what_of_sync}
 
 -- ---- why a file is refused
 
@@ -34,23 +24,6 @@ pub refused_reading : (file : List ℕ) (what : What) → length file ≤ 268435
     → (what ≡ Memory) ⊎ IsNoDump file what → IsLoopRefused file what
 refused_reading file what short (inl is) = memory short is
 refused_reading file what short (inr wrong) = no_stream short wrong
-
--- ---- why an exchange is refused
-
--- a fault other than too many records is reported as one of a stream is
-pub told_as_of_stream : (fault : SyncFault) → fault ≢ sync.TooManyRecords → (error : WireFault) × (what_of_sync fault ≡ what_of error)
-told_as_of_stream (sync.Wire error) other = (error, refl)
-told_as_of_stream sync.TooManyRecords other = absurd (other refl)
-told_as_of_stream sync.Push other = (wire.Fault, refl)
-told_as_of_stream sync.Memory other = (wire.Memory, refl)
-
--- ---- what a table took in
-
-pub took_in : (old new : Source) (before after : Entries) (join : Bool) → TakesStream old new before after join
-    → (claims : List Claim) × TakesIn before after claims
-took_in old new before after join took =
-    let text = taken_text old.coming new.coming (λ b. StreamText b took.claims join) took.taken in
-    (took.claims, record { text = text.0; join = join; stream = text.1; reduced = took.reduced; all = took.all })
 
 -- ---- whether two tables are equal
 
