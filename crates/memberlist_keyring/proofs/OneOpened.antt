@@ -1,4 +1,4 @@
--- A keyring opens bytes to one message.
+-- A keyring decrypts bytes to one message.
 use Rattle.std.proofs.Common.{◌≡◌, ◌∙◌, ℕ, suc, List, [], ◌∷◌, ◌++◌, get_or, drop, refl, sym, ap, subst, arith}
 use Rattle.std.specs.List.{Contains}
 use Rattle.memberlist_cipher.specs.Encryption.{Encryption, StreamEncryption}
@@ -7,7 +7,7 @@ use Rattle.memberlist_keyring.specs.Opening.{IsFirst, OpensFirstAs, OpensFirst, 
 use Rattle.memberlist_cipher.proofs.Labels.{one_label}
 use Rattle.memberlist_keyring.proofs.Openings.{first_opens}
 
--- of two keys that open something and before which none does, each is the other
+-- two keys that each decrypt something, and before which none does, are the same
 same_key : (Opened : List ℕ → List ℕ → Type 0) (b : List (List ℕ)) (k : List ℕ) (a c : List (List ℕ)) (l : List ℕ)
     (d : List (List ℕ)) (x y : List ℕ) → b ++ k ∷ a ≡ c ++ l ∷ d
     → ((other : List ℕ) → Contains b other → (any : List ℕ) → ¬ Opened other any)
@@ -29,7 +29,7 @@ one_first Opened keys x y one p q =
     let same = same_key Opened p.before p.key p.after q.before q.key q.after x y (sym p.parts ∙ q.parts) p.earlier q.earlier p.opened q.opened in
     one q.key x y (subst (λ z. Opened z x) same p.opened) q.opened
 
--- where one key opens bytes to one message, so do keys in one order
+-- if one key decrypts bytes to one message, so do keys in one order
 one_opened_as : (E : List ℕ → List ℕ → List ℕ → List ℕ → Type 0) → ((key label bytes m n : List ℕ) → E key label bytes m → E key label bytes n → m ≡ n)
     → (keys : List (List ℕ)) (bytes x y : List ℕ) → OpensFirstAs E keys bytes x → OpensFirstAs E keys bytes y → x ≡ y
 one_opened_as E same keys bytes x y p q =

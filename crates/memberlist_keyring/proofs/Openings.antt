@@ -1,4 +1,4 @@
--- What a keyring opens, by how bytes are cut.
+-- What a keyring decrypts, by how bytes are split.
 use Rattle.std.proofs.Common.{◌≡◌, ◌≢◌, inl, inr, ℕ, List, [], ◌∷◌, ◌++◌, Result, Ok, Err, IfErr, length, get_or, refl, ap, sym, subst, ◌∙◌, arith}
 use Rattle.std.proofs.lemmas.List.{length-append, get_or_at}
 use Rattle.std.specs.List.{Contains}
@@ -16,7 +16,7 @@ in_the_middle before key after keys parts = (
   ap (λ (ks : List (List ℕ)). get_or ks (length before) key) parts ∙ get_or_at before key after key (length before) refl,
 )
 
--- ---- what encrypts begins with no label
+-- ---- encrypted bytes do not start with a label
 
 abbrev Encrypts : Type 1
 Encrypts = List ℕ → List ℕ → List ℕ → List ℕ → Type 0
@@ -33,7 +33,7 @@ opens_first E bare keys ours bytes label rest message same (inr whole) h =
     let P : List ℕ → Type 0 = λ r. E h.key label r message in
     absurd (whole.2 [] bytes (bare h.key label bytes message (subst P whole.1 h.opened)))
 
--- one of the keys opens what the first of them does
+-- one of the keys decrypts what the first of them does
 pub first_opens : (E : Encrypts) (keys : List (List ℕ)) (bytes message : List ℕ) → OpensFirstAs E keys bytes message → OpensAs E keys bytes message
 first_opens E keys bytes message o =
     let first = o.first in

@@ -4,7 +4,7 @@ use Rattle.std.specs.List.{Contains}
 use Rattle.memberlist_cipher.specs.Encryption.{Encryption, StreamEncryption}
 use Rattle.memberlist_cipher.specs.Label.{IsLabelled}
 
--- Behind their label the bytes encrypt the message under one of the keys, by the cipher's
+-- After their label the bytes encrypt the message under one of the keys, by the cipher's
 -- definition of a packet or of a stream.
 pub record OpensAs (Encrypts : List ℕ → List ℕ → List ℕ → List ℕ → Type 0) (keys : List (List ℕ))
     (bytes message : List ℕ) : Type 0 where
@@ -15,16 +15,16 @@ pub record OpensAs (Encrypts : List ℕ → List ℕ → List ℕ → List ℕ �
   pub ours : Contains keys key
   pub encryption : Encrypts key label rest message
 
--- The packet is, behind its label, an encryption of this message under one of the keys; the label
--- is associated.
+-- After its label, the packet is an encryption of this message under one of the keys; the label is
+-- authenticated.
 abbrev pub Opens : List (List ℕ) → List ℕ → List ℕ → Type 0
 Opens keys bytes message = OpensAs Encryption keys bytes message
 
--- The stream is, behind its label, an encrypted stream with this message under one of the keys.
+-- After its label, the stream is an encrypted stream with this message under one of the keys.
 abbrev pub OpensStream : List (List ℕ) → List ℕ → List ℕ → Type 0
 OpensStream keys bytes message = OpensAs StreamEncryption keys bytes message
 
--- The message is that of the first of the keys that open it.
+-- The message is that of the first key that decrypts it.
 pub record IsFirst (Opened : List ℕ → List ℕ → Type 0) (keys : List (List ℕ)) (message : List ℕ)
     : Type 0 where
   pub before : List (List ℕ)
@@ -34,8 +34,7 @@ pub record IsFirst (Opened : List ℕ → List ℕ → Type 0) (keys : List (Lis
   pub earlier : (k : List ℕ) → Contains before k → (m : List ℕ) → ¬ Opened k m
   pub opened : Opened key message
 
--- Behind their label the bytes encrypt the message under the first key under which they encrypt
--- any.
+-- After their label the bytes encrypt the message under the first key under which they encrypt any.
 pub record OpensFirstAs (Encrypts : List ℕ → List ℕ → List ℕ → List ℕ → Type 0)
     (keys : List (List ℕ)) (bytes message : List ℕ) : Type 0 where
   pub label : List ℕ
@@ -43,7 +42,7 @@ pub record OpensFirstAs (Encrypts : List ℕ → List ℕ → List ℕ → List 
   pub labelled : IsLabelled bytes label rest
   pub first : IsFirst (λ key m. Encrypts key label rest m) keys message
 
--- the message of a packet, under the first key that opens it
+-- the message of a packet, under the first key that decrypts it
 abbrev pub OpensFirst : List (List ℕ) → List ℕ → List ℕ → Type 0
 OpensFirst keys bytes message = OpensFirstAs Encryption keys bytes message
 
@@ -51,7 +50,7 @@ OpensFirst keys bytes message = OpensFirstAs Encryption keys bytes message
 abbrev pub OpensStreamFirst : List (List ℕ) → List ℕ → List ℕ → Type 0
 OpensStreamFirst keys bytes message = OpensFirstAs StreamEncryption keys bytes message
 
--- behind this label, or bare if that is empty, the bytes are a stream that opens to the message
+-- after this label, or from the start if it is empty, the bytes are a stream of the message
 abbrev pub OpensReplyFirst : List (List ℕ) → List ℕ → List ℕ → List ℕ → Type 0
 OpensReplyFirst keys label bytes message =
     (stream : List ℕ) × IsLabelled stream label bytes × OpensStreamFirst keys stream message

@@ -46,12 +46,12 @@ impl Keyring {
         self.keys.is_empty()
     }
 
-    /// Adds a key of 16, 24 or 32 bytes, behind those that are there.
+    /// Adds a key of 16, 24 or 32 bytes, after those that are there.
     ///
     /// # Errors
     ///
-    /// `BadKey` if the bytes are more or fewer, and else `Memory` if a growth of memory is refused.
-    /// The keyring is then as it was.
+    /// `BadKey` if there are more or fewer bytes; otherwise `Memory` if out of memory. The keyring is
+    /// then unchanged.
     ///
     /// Source: memberlist's keyring.go.
     pub fn add(&mut self, alloc: Global, key: &[u8]) -> Result<(), CipherFault>
@@ -65,23 +65,22 @@ impl Keyring {
         Ok(())
     }
 
-    /// Adds the keys of a key file, behind those that are there.
+    /// Adds the keys of a key file, after those that are there.
     ///
-    /// A file whose first byte behind spaces, tabs, line feeds and carriage returns is `[` is a
-    /// list of texts in JSON, each the base64 of a key of 16, 24 or 32 bytes. Any other one is
-    /// lines: an empty one holds no key, every other one is the base64 of a key, with nothing
-    /// around it but one carriage return at its end.
+    /// A file whose first byte after spaces, tabs, line feeds and carriage returns is `[` is a
+    /// JSON list of texts, each the base64 of a key of 16, 24 or 32 bytes. Any other file consists
+    /// of lines: an empty line has no key, any other line is the base64 of a key, with nothing
+    /// around it except one carriage return at its end.
     ///
     /// # Errors
     ///
-    /// `Line` with the first line that is no key. `NotList` where what begins as a list is no list
-    /// in JSON; of a list, by its first item that is no key: `Item` where it is a text, and else
-    /// `NotList`.
-    /// `Memory` where a growth of memory is refused, of lines only behind right ones and at one that
-    /// has as many characters as a key's. The keyring is then as it was.
+    /// `Line` with the first line that is not a key. `NotList` if what starts like a list is not a
+    /// JSON list. For the first item of a list that is not a key, `Item` if it is a text, and
+    /// otherwise `NotList`. `Memory` if out of memory; for lines only after valid ones, at a line
+    /// with as many characters as a key. The keyring is then unchanged.
     ///
     /// Source: what `consul keygen` and `serf keygen` print, and serf's keyring files; what may
-    /// stand around a key is own.
+    /// surround a key is this project's rule.
     pub fn add_file(&mut self, alloc: Global, text: &[u8]) -> Result<(), KeyFileFault>
         ensures adds { OnOk result ((keys : List (List ℕ)) × IsKeyFile text.now keys
             × (self.new ≡ self.old ++ keys)) }
@@ -97,16 +96,17 @@ impl Keyring {
 
     /// The message of a packet that was encrypted under one of the keys; they are tried in order.
     ///
-    /// A label may stand before the encrypted bytes: 244, its length, from 1 on, and so many
-    /// bytes. It is associated with them. Where it is empty or cut short no key opens the packet.
+    /// A label may precede the encrypted bytes: 244, its length of at least 1, and that many bytes.
+    /// It is authenticated with them. If it is empty or incomplete, no key decrypts the packet.
     ///
     /// # Errors
     ///
-    /// `WrongTag` where there is no key; `Memory` where a growth of memory is refused, which is asked
-    /// for once the bytes behind the label have their parts; and else
-    /// what [`memberlist_cipher::decrypt`] answers to the last key.
+    /// `WrongTag` if there is no key; `Memory` if out of memory, which is requested only if the bytes
+    /// after the label have all their parts; otherwise what [`memberlist_cipher::decrypt`] returns
+    /// for the last key.
     ///
-    /// Source: memberlist's net.go, label.go and security.go; which fault is answered is own.
+    /// Source: memberlist's net.go, label.go and security.go; which fault is returned is this
+    /// project's rule.
     pub fn open(&self, alloc: Global, bytes: &[u8]) -> Result<Vec<u8>, CipherFault>
         ensures opens { IfOk result (λ message. Opens self.now bytes.now message.items) }
         ensures first { IfOk result (λ message. OpensFirst self.now bytes.now message.items) }
@@ -122,15 +122,16 @@ impl Keyring {
     }
 
     /// The message of a stream that was encrypted under one of the keys; they are tried in order.
-    /// A label may stand before it, as before a packet.
+    /// A label may precede it, as in a packet.
     ///
     /// # Errors
     ///
-    /// `WrongTag` where there is no key; `Memory` where a growth of memory is refused, which is asked
-    /// for once the bytes behind the label have their parts; and else
-    /// what [`memberlist_cipher::decrypt_stream`] answers to the last key.
+    /// `WrongTag` if there is no key; `Memory` if out of memory, which is requested only if the bytes
+    /// after the label have all their parts; otherwise what [`memberlist_cipher::decrypt_stream`]
+    /// returns for the last key.
     ///
-    /// Source: memberlist's net.go, label.go and security.go; which fault is answered is own.
+    /// Source: memberlist's net.go, label.go and security.go; which fault is returned is this
+    /// project's rule.
     pub fn open_stream(&self, alloc: Global, bytes: &[u8]) -> Result<Vec<u8>, CipherFault>
         ensures opens { IfOk result (λ message. OpensStream self.now bytes.now message.items) }
         ensures first { IfOk result (λ message. OpensStreamFirst self.now bytes.now message.items) }

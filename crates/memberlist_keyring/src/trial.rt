@@ -20,7 +20,7 @@ pub(crate) trait Encrypted {
     /// Why the bytes are refused, under the key and with the label.
     ghost causes: { CipherFault → List ℕ → List ℕ → List ℕ → Type 0 };
 
-    /// The message of the bytes behind the label.
+    /// The message of the bytes after the label.
     fn decrypt(alloc: Global, key: &Key, label: &[u8], bytes: &[u8]) -> Result<Vec<u8>, CipherFault>
         ensures opens { IfOk result (λ message.
             encrypts key.now label.now bytes.now message.items) }
@@ -63,7 +63,7 @@ impl Encrypted for Stream {
     }
 }
 
-/// The message of what is encrypted under one of the keys, the first that opens it.
+/// The message of what is encrypted under one of the keys, the first that decrypts it.
 pub(crate) fn try_keys<E: Encrypted>(
     alloc: Global,
     keys: &[Key],

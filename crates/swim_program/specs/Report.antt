@@ -11,7 +11,7 @@ use Rattle.swim_program.specs.declared.report.Place.TheVariants.{Line, File, Inp
 use Rattle.swim_program.specs.declared.report.What.{What}
 use Rattle.swim_program.specs.declared.report.What.TheVariants.{Refused, Device, Memory}
 
--- a file is one of so many
+-- a file is one of this many
 abbrev pub IsAmong : Place → ℕ → Type 0
 IsAmong (Line line) files = Unit {0}
 IsAmong (File file) files = file < files
@@ -25,12 +25,12 @@ status_of (Refused number found) = 3
 status_of Device = 4
 status_of Memory = 5
 
--- what is said of a text that is no hexadecimal
+-- the report of a text that is not hexadecimal
 abbrev pub what_of_hex : FromHexError → What
 what_of_hex OutOfMemory = Memory
 what_of_hex error = Refused 30 None
 
--- what is said of a message that is refused: an inlet that failed is a device
+-- the report of a refused message: an inlet that failed is a device
 abbrev pub what_of : WireFault → What
 what_of wire.Memory = Memory
 what_of wire.Fault = Device
@@ -38,7 +38,7 @@ what_of (wire.WrongType found) = Refused 16 (Some found)
 what_of (wire.BadState found) = Refused 19 (Some found)
 what_of fault = Refused (wire_number fault) None
 
--- what is said of bytes that are no datagram: the fault at which their reading stops
+-- the report of bytes that are not a datagram: the fault at which reading stops
 abbrev pub TellsDatagram : List ℕ → What → Type 0
 TellsDatagram bytes what = (fault : WireFault) × (whole_datagram bytes ≡ Err fault)
     × (what ≡ what_of fault)

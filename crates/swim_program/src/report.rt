@@ -1,4 +1,4 @@
-//! What is said of a run that was refused, and its exit status.
+//! How a refused run is reported, and its exit status.
 
 ghost use Rattle.std.specs.Prelude.{◌≡◌, None, length};
 ghost use Rattle.swim_claim.specs.Fault.{claim_number};
@@ -15,25 +15,25 @@ use swim_wire::WireFault;
 pub enum Place {
     /// A line of standard input, from 1.
     Line(u64),
-    /// A file, by the place of its word among the files, from 0.
+    /// A file, by its index among the files on the command line, from 0.
     File(usize),
     /// Standard input as a whole.
     Input,
     /// Standard output.
     Output,
-    /// The socket, and what was read from it.
+    /// The socket, or what was read from it.
     Loop,
 }
 
 /// Why a run was refused.
 #[derive(Clone, Copy, Debug, PartialEq, Eq)]
 pub enum What {
-    /// The input is wrong: the number of the fault, and the value that was found where the fault
-    /// has one.
+    /// The input is wrong: the number of the fault, and the value that was found if the fault has
+    /// one.
     Refused { number: u32, found: Option<u64> },
     /// A file, a socket or a standard stream failed.
     Device,
-    /// A growth of memory was refused.
+    /// Out of memory.
     Memory,
 }
 
@@ -45,21 +45,21 @@ pub struct Report {
 }
 
 impl What {
-    /// A line that is no hexadecimal.
+    /// A line that is not hexadecimal.
     pub fn bad_hex() -> What
         ensures { result ≡ Refused 30 None }
     {
         What::refused(30)
     }
 
-    /// A line that is no line of a script, or not where it stands.
+    /// A line that is not a line of a script, or not allowed at its position.
     pub fn bad_script() -> What
         ensures { result ≡ Refused 31 None }
     {
         What::refused(31)
     }
 
-    /// An input that is longer than its bound.
+    /// An input that exceeds its limit.
     pub fn input_too_long() -> What
         ensures { result ≡ Refused 32 None }
     {
@@ -73,7 +73,7 @@ impl What {
         What::refused(23)
     }
 
-    /// A table whose canonical dump is too long to be sent to this process itself.
+    /// A table whose canonical dump is too long for `loop`.
     pub fn too_large_for_loop() -> What
         ensures { result ≡ Refused 28 None }
     {
@@ -89,7 +89,7 @@ impl What {
         }
     }
 
-    /// The report that this was met at a place.
+    /// The report of this at a place.
     pub fn at(self, place: Place) -> Report
         ensures { result ≡ record { place = place; what = self } }
     {
@@ -105,7 +105,7 @@ impl From<AllocError> for What {
     }
 }
 
-/// A text that is no hexadecimal.
+/// A text that is not hexadecimal.
 impl From<FromHexError> for What {
     ghost from_gives = { λ error what. what ≡ what_of_hex error };
 
@@ -145,11 +145,11 @@ impl From<WireFault> for What {
     }
 }
 
-/// What is said where there was no memory.
+/// The text for running out of memory.
 pub(crate) const OUT_OF_MEMORY: &str = "out of memory";
 
-/// The line for standard error that this program says, without its line feed. A file is named by
-/// its word among `files`. It is refused only where there is no memory for the text.
+/// The line that this program prints on standard error, without its line feed. A file is named as in
+/// `files`. It fails only if out of memory for the text.
 pub fn report_text(
     alloc: Global,
     program: &str,
@@ -173,7 +173,7 @@ pub fn report_text(
     format!(in alloc; "{program}: {place}: {what}")
 }
 
-/// What is said of a fault of this number, with the value that was found where it has one.
+/// The text for a fault of this number, with the value that was found if it has one.
 fn fault_text(alloc: Global, number: u32, found: Option<u64>) -> Result<String, AllocError> {
     let name = fault_name(number);
     match found {
@@ -182,8 +182,8 @@ fn fault_text(alloc: Global, number: u32, found: Option<u64>) -> Result<String, 
     }
 }
 
-/// The exit status of a run that was refused: 3 where the input is wrong, 4 where a file, a socket
-/// or a standard stream failed, and 5 where there was no memory.
+/// The exit status of a refused run: 3 if the input is wrong, 4 if a file, a socket or a standard
+/// stream failed, and 5 if out of memory.
 pub fn status(report: &Report) -> u8
     ensures { result ≡ status_of report.now.what }
 {
@@ -194,8 +194,8 @@ pub fn status(report: &Report) -> u8
     }
 }
 
-/// The name of a fault by its number, as docs/PROTOCOL.md lists them; also of those that no report of a
-/// program has, so that the list stands here whole.
+/// The name of a fault by its number, as docs/PROTOCOL.md lists them. Faults that no program reports
+/// are included, so that the list is complete.
 fn fault_name(number: u32) -> &'static str {
     match number {
         1 => "Ended",
