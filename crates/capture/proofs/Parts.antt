@@ -8,7 +8,7 @@ use Rattle.swim_pack.proofs.Composing.{Reads-exit, Reads-then, Reads-gives, Read
 use Rattle.swim_pack.specs.declared.fault.PullFault.{PullFault}
 use Rattle.swim_pack.specs.declared.fault.PullFault.TheVariants as pulls
 use Rattle.swim_pack.specs.Composing.{◌>>=◌, gives, Reading, Cause, Answers, TakesNoMore, ReadsAs, IsCutShort}
-use Rattle.swim_pack.specs.Ends.{Source, Skips, TakesKnown, IsShorter, Rises}
+use Rattle.swim_pack.specs.Ends.{Source, ConsumesSome, ConsumesKnownText, IsShorter, CountsFault}
 use Rattle.capture.specs.declared.capture_fault.CaptureFault.TheVariants.{Cut, Device, Memory, TooLong}
 use Rattle.capture.specs.declared.stop.Stop.{Stop}
 use Rattle.capture.specs.declared.stop.Stop.TheVariants.{Fault}
@@ -46,7 +46,7 @@ Reads-text {E} {X} {V} {cause} {view} {reading} {a} {b} {x} text h gone stay = r
     answers (Some bytes) None gone = absurd gone
     answers (Some bytes) (Some rest) gone = ap reading gone ∙ h.settles rest
 
-    takes : (old new : Option (List ℕ)) → Consumes old new text → TakesKnown old new (TakesNoMore cause view reading (Ok x))
+    takes : (old new : Option (List ℕ)) → Consumes old new text → ConsumesKnownText old new (TakesNoMore cause view reading (Ok x))
     takes None new gone = (text, h)
     takes (Some bytes) None gone = absurd gone
     takes (Some bytes) (Some rest) gone = (text, h, gone)
@@ -83,7 +83,7 @@ part-taken {X} {view} {a} {b} {x} n got long is gone stay =
 takes-over : (x y z : Option (List ℕ)) (got more : List ℕ) (P : List ℕ → Type 0) (Q : Option (List ℕ) → Type 0)
     → Consumes x y got → Consumes y z more
     → ((bytes left rest : List ℕ) → bytes ≡ got ++ left → left ≡ more ++ rest → Q (Some left) → P (got ++ more))
-    → Q y → P got → TakesKnown x z P
+    → Q y → P got → ConsumesKnownText x z P
 takes-over None y z got more P Q gone over f q own = (got, own)
 takes-over (Some bytes) None z got more P Q gone over f q own = absurd gone
 takes-over (Some bytes) (Some left) None got more P Q gone over f q own = absurd over
@@ -92,7 +92,7 @@ takes-over (Some bytes) (Some left) (Some rest) got more P Q gone over f q own =
 
 -- the pull of the next piece found too few bytes
 pub part-cut : {X : Type 0} {view : X → List ℕ} {a b : Source} (m : Source) (n k : ℕ) (got : List ℕ) → length got + k ≤ n
-    → Consumes a.coming m.coming got → a.faults ≤ m.faults → IsShorter m.coming k → Skips m.coming b.coming → m.faults ≤ b.faults
+    → Consumes a.coming m.coming got → a.faults ≤ m.faults → IsShorter m.coming k → ConsumesSome m.coming b.coming → m.faults ≤ b.faults
     → ReadsAs {X = X} stop_cause view (next_part n) a b (Err (Fault Cut))
 part-cut {X} {view} {a} {b} m n k got long gone before short over after = record {
   rest = (got ++ over.0, Consumes-trans a.coming m.coming b.coming got over.0 gone over.1);
@@ -121,7 +121,7 @@ part-cut {X} {view} {a} {b} m n k got long gone before short over after = record
 
 -- the inlet failed at the next piece
 pub part-failed : {X : Type 0} {view : X → List ℕ} {a b : Source} (m : Source) (n : ℕ) (got : List ℕ)
-    → Consumes a.coming m.coming got → a.faults ≤ m.faults → Rises m.faults b.faults → Skips m.coming b.coming → m.faults ≤ b.faults
+    → Consumes a.coming m.coming got → a.faults ≤ m.faults → CountsFault m.faults b.faults → ConsumesSome m.coming b.coming → m.faults ≤ b.faults
     → ReadsAs {X = X} stop_cause view (next_part n) a b (Err (Fault Device))
 part-failed {X} {view} {a} {b} m n got gone before rise over after = record {
   rest = (got ++ over.0, Consumes-trans a.coming m.coming b.coming got over.0 gone over.1);
@@ -158,7 +158,7 @@ part-memory {X} {view} {a} {b} n got long gone stay = record {
     own : TakesNoMore {X = X} stop_cause view (next_part n) (Err (Fault Memory)) got
     own = record { settles = λ by more. absurd cc; waits = λ free front more parts some. next_part-front n got front more long parts some }
 
-    takes : (x z : Option (List ℕ)) → Consumes x z got → TakesKnown x z (TakesNoMore {X = X} stop_cause view (next_part n) (Err (Fault Memory)))
+    takes : (x z : Option (List ℕ)) → Consumes x z got → ConsumesKnownText x z (TakesNoMore {X = X} stop_cause view (next_part n) (Err (Fault Memory)))
     takes None z gone = (got, own)
     takes (Some bytes) None gone = absurd gone
     takes (Some bytes) (Some rest) gone =
@@ -167,7 +167,7 @@ part-memory {X} {view} {a} {b} n got long gone stay = record {
 -- the pull of the next piece was refused
 pub part-stopped : {X : Type 0} {view : X → List ℕ} {a b : Source} (m : Source) (n k : ℕ) (got : List ℕ) (pull : PullFault)
     → length got + k ≤ n → Consumes a.coming m.coming got → a.faults ≤ m.faults → (pull ≡ pulls.Ended → IsShorter m.coming k)
-    → (pull ≡ pulls.Fault → Rises m.faults b.faults) → Skips m.coming b.coming → m.faults ≤ b.faults
+    → (pull ≡ pulls.Fault → CountsFault m.faults b.faults) → ConsumesSome m.coming b.coming → m.faults ≤ b.faults
     → ReadsAs {X = X} stop_cause view (next_part n) a b (Err (stop_of_pull pull))
 part-stopped m n k got pulls.Ended long gone before ended failed over after = part-cut m n k got long gone before (ended refl) over after
 part-stopped m n k got pulls.Fault long gone before ended failed over after = part-failed m n got gone before (failed refl) over after

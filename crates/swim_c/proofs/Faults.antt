@@ -2,7 +2,7 @@
 use Rattle.std.proofs.Common.{◌≡◌, ◌≢◌, inl, inr, ◌∙◌, ap, sym, subst, ℕ, ◌-◌, List, ◌++◌, Bool, length, ◌≤◌, false, refl, Some, Result, Err, arith}
 use Rattle.swim_claim.specs.declared.claim.Claim.{Claim}
 use Rattle.swim_pack.specs.Composing.{UnlessFailed}
-use Rattle.swim_pack.specs.Ends.{Source, Lacks, Rises}
+use Rattle.swim_pack.specs.Ends.{Source, NoTextAtFront, CountsFault}
 use Rattle.swim_wire.specs.declared.fault.WireFault.{WireFault}
 use Rattle.swim_wire.specs.declared.fault.WireFault.TheVariants as wire
 use Rattle.swim_wire.specs.Asking.{PacketAsks, DatagramAsks}
@@ -83,8 +83,8 @@ is_wire error other = refl
 
 -- a reply was refused, because memory was, or because it is invalid
 pub unread : (bytes inlet rest : List ℕ) (fault : WireFault) → inlet ≡ bytes
-    → UnlessFailed (wire_cause fault) (Lacks (memory inlet) (λ b. (claims : List Claim) × (join : Bool) × StreamText b claims join))
-    → ExplainsStart (ExplainsStream fault) (memory inlet) → (fault ≡ wire.Fault → Rises 0 0)
+    → UnlessFailed (wire_cause fault) (NoTextAtFront (memory inlet) (λ b. (claims : List Claim) × (join : Bool) × StreamText b claims join))
+    → ExplainsStart (ExplainsStream fault) (memory inlet) → (fault ≡ wire.Fault → CountsFault 0 0)
     → FinishCause bytes (fault_of_wire fault)
 unread bytes inlet rest fault is none explains failed = elim (memory_or fault) [
   | inl wants ↦ subst (λ (f : WireFault). FinishCause bytes (fault_of_wire f)) (sym wants) tt
@@ -97,7 +97,7 @@ unread bytes inlet rest fault is none explains failed = elim (memory_or fault) [
 -- no stream was read, so none is answered
 pub stream_unread : (form : Form) (bytes inlet rest : List ℕ) (table : Entries) (fault : WireFault) → inlet ≡ bytes
     → UnlessFailed (wire_cause fault) (HasNone inlet) → ExplainsStream fault inlet
-    → (fault ≡ wire.Fault → Rises 0 0) → AnswerCause form bytes table (fault_of_wire fault)
+    → (fault ≡ wire.Fault → CountsFault 0 0) → AnswerCause form bytes table (fault_of_wire fault)
 stream_unread form bytes inlet rest table fault is none explains failed = elim (memory_or fault) [
   | inl wants ↦ subst (λ (f : WireFault). AnswerCause form bytes table (fault_of_wire f)) (sym wants) tt
   | inr other ↦

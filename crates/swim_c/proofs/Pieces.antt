@@ -6,7 +6,7 @@ use Rattle.swim_claim.specs.declared.claim.Claim.{Claim}
 use Rattle.swim_pack.proofs.Composing.{UnlessFailed-weaker}
 use Rattle.swim_pack.specs.Composing.{UnlessFailed}
 use Rattle.swim_pack.specs.Composing.Cause.{by_inlet}
-use Rattle.swim_pack.specs.Ends.{Lacks, Rises, Takes}
+use Rattle.swim_pack.specs.Ends.{NoTextAtFront, CountsFault, ConsumesText}
 use Rattle.swim_wire.specs.declared.fault.WireFault.{WireFault}
 use Rattle.swim_wire.specs.declared.fault.WireFault.TheVariants as wire
 use Rattle.swim_wire.specs.declared.stream.Header.{Header}
@@ -48,7 +48,7 @@ place : (bytes front rest : List ℕ) → bytes ≡ front ++ rest → length byt
 place bytes front rest parts = let sum : length bytes ≡ length front + length rest = ap length parts ∙ length-append front rest in omega (arith, sum)
 
 -- the header is read
-pub header_read : (bytes rest : List ℕ) (old new : Progress) (h : Header) → old.has_header ≡ false → Takes (memory (drop old.at bytes)) (memory rest) (λ b. HeaderText b h)
+pub header_read : (bytes rest : List ℕ) (old new : Progress) (h : Header) → old.has_header ≡ false → ConsumesText (memory (drop old.at bytes)) (memory rest) (λ b. HeaderText b h)
     → new ≡ progress (length bytes - length rest) h.nodes h.user_len true → IsProgressIn bytes old → IsProgressIn bytes new
 header_read bytes rest old new h fresh taken is (IsProgressIn.none was) =
     let parts : bytes ≡ taken.0 ++ rest = sym (ap (λ (q : Progress). drop q.at bytes) was) ∙ taken.2 in
@@ -59,7 +59,7 @@ header_read bytes rest old new h fresh taken is (IsProgressIn.some front more he
 
 -- one more record is read
 pub record_read : (bytes rest : List ℕ) (old new : Progress) (c : Claim) → old.has_header ≡ true → old.left ≡ new.left + 1
-    → Takes (memory (drop old.at bytes)) (memory rest) (λ b. StateText b c)
+    → ConsumesText (memory (drop old.at bytes)) (memory rest) (λ b. StateText b c)
     → new ≡ progress (length bytes - length rest) new.left old.user_len true → IsProgressIn bytes old → IsProgressIn bytes new
 record_read bytes rest old new c begun_it left taken is (IsProgressIn.none was) = absurd (has_none old was begun_it)
 record_read bytes rest old new c begun_it left taken is (IsProgressIn.some front more header claims begun parts sum was) =
@@ -73,7 +73,7 @@ record_read bytes rest old new c begun_it left taken is (IsProgressIn.some front
 -- ---- why there is no stream
 
 -- no stream is there, and this is why
-none_there : (bytes : List ℕ) (fault : WireFault) → fault ≢ wire.Memory → (wire_cause fault ≡ by_inlet → Rises 0 0) → UnlessFailed (wire_cause fault) (HasNone bytes)
+none_there : (bytes : List ℕ) (fault : WireFault) → fault ≢ wire.Memory → (wire_cause fault ≡ by_inlet → CountsFault 0 0) → UnlessFailed (wire_cause fault) (HasNone bytes)
     → ExplainsStream fault bytes → HoldsNoStream bytes fault
 none_there bytes fault no_memory failed none why =
     lacks bytes [] fault (record { no_memory = no_memory; lacks = none; explains = why; failed = λ e. failed (ap wire_cause e) })
@@ -81,30 +81,30 @@ none_there bytes fault no_memory failed none why =
 in_parts : (head records user more : List ℕ) → (head ++ records ++ user) ++ more ≡ head ++ (records ++ (user ++ more))
 in_parts head records user more = simp append_assoc
 
-no_stream : (bytes : List ℕ) → Lacks (memory bytes) (λ b. (h : Header) × HeaderText b h) → HasNone bytes
+no_stream : (bytes : List ℕ) → NoTextAtFront (memory bytes) (λ b. (h : Header) × HeaderText b h) → HasNone bytes
 no_stream bytes none text rest is parts =
     let s = is.2 in
     none s.head (s.records ++ (s.user ++ rest)) (s.header, s.head_text)
     (parts ∙ ap (λ (t : List ℕ). t ++ rest) s.bytes ∙ in_parts s.head s.records s.user rest)
 
-pub header_missing : (bytes : List ℕ) (p : Progress) (fault : WireFault) → fault ≢ wire.Memory → (wire_cause fault ≡ by_inlet → Rises 0 0)
-    → UnlessFailed (wire_cause fault) (Lacks (memory (drop p.at bytes)) (λ b. (h : Header) × HeaderText b h)) → ExplainsBegin fault (drop p.at bytes)
+pub header_missing : (bytes : List ℕ) (p : Progress) (fault : WireFault) → fault ≢ wire.Memory → (wire_cause fault ≡ by_inlet → CountsFault 0 0)
+    → UnlessFailed (wire_cause fault) (NoTextAtFront (memory (drop p.at bytes)) (λ b. (h : Header) × HeaderText b h)) → ExplainsBegin fault (drop p.at bytes)
     → p.has_header ≡ false → IsProgressIn bytes p → HoldsNoStream bytes fault
 header_missing bytes p error no_memory failed none why fresh (IsProgressIn.none is) =
     let all : drop p.at bytes ≡ bytes = ap (λ (q : Progress). drop q.at bytes) is in
     none_there bytes error no_memory failed
-    (UnlessFailed-weaker (wire_cause error) (λ (n : Lacks (memory (drop p.at bytes)) (λ b. (h : Header) × HeaderText b h)).
-    no_stream bytes (subst (λ (b : List ℕ). Lacks (memory b) (λ b. (h : Header) × HeaderText b h)) all n)) none)
+    (UnlessFailed-weaker (wire_cause error) (λ (n : NoTextAtFront (memory (drop p.at bytes)) (λ b. (h : Header) × HeaderText b h)).
+    no_stream bytes (subst (λ (b : List ℕ). NoTextAtFront (memory b) (λ b. (h : Header) × HeaderText b h)) all n)) none)
     (ExplainsStream.header (subst (λ (b : List ℕ). ExplainsBegin error b) all why))
 header_missing bytes p error no_memory failed none why fresh (IsProgressIn.some front more header claims begun parts sum is) = absurd (has_one p _ _ _ is fresh)
 
-not_next : (header : Header) (left : ℕ) (claims : List Claim) (rest : List ℕ) → 0 < left → Lacks (memory rest) (λ b. (c : Claim) × StateText b c)
-    → Lacks (memory rest) (IsWanted (record { header = header; left = left; table = table_of claims }))
+not_next : (header : Header) (left : ℕ) (claims : List Claim) (rest : List ℕ) → 0 < left → NoTextAtFront (memory rest) (λ b. (c : Claim) × StateText b c)
+    → NoTextAtFront (memory rest) (IsWanted (record { header = header; left = left; table = table_of claims }))
 not_next header left claims rest some none text more (IsWanted.record_of c lt is) parts = none text more (c, is) parts
 not_next header left claims rest some none text more (IsWanted.user_state over long) parts = absurd (omega (arith, some, over))
 
-pub record_missing : (bytes : List ℕ) (p : Progress) (fault : WireFault) → fault ≢ wire.Memory → (wire_cause fault ≡ by_inlet → Rises 0 0)
-    → UnlessFailed (wire_cause fault) (Lacks (memory (drop p.at bytes)) (λ b. (c : Claim) × StateText b c)) → ExplainsRecord fault (drop p.at bytes)
+pub record_missing : (bytes : List ℕ) (p : Progress) (fault : WireFault) → fault ≢ wire.Memory → (wire_cause fault ≡ by_inlet → CountsFault 0 0)
+    → UnlessFailed (wire_cause fault) (NoTextAtFront (memory (drop p.at bytes)) (λ b. (c : Claim) × StateText b c)) → ExplainsRecord fault (drop p.at bytes)
     → p.has_header ≡ true → 0 < p.left → IsProgressIn bytes p → HoldsNoStream bytes fault
 record_missing bytes p error no_memory failed none why begun_it more (IsProgressIn.none is) = absurd (has_none p is begun_it)
 record_missing bytes p error no_memory failed none why begun_it more (IsProgressIn.some front rest header claims begun parts sum is) =
@@ -112,13 +112,13 @@ record_missing bytes p error no_memory failed none why begun_it more (IsProgress
     let reader : Streaming = record { header = header; left = p.left; table = table_of claims } in
     let some = read_some bytes front rest header claims p.left begun parts sum in
     none_there bytes error no_memory failed
-    (UnlessFailed-weaker (wire_cause error) (λ (n : Lacks (memory (drop p.at bytes)) (λ b. (c : Claim) × StateText b c)).
+    (UnlessFailed-weaker (wire_cause error) (λ (n : NoTextAtFront (memory (drop p.at bytes)) (λ b. (c : Claim) × StateText b c)).
     none_wanted (memory bytes) (memory rest) reader some
-    (not_next header p.left claims rest more (subst (λ (b : List ℕ). Lacks (memory b) (λ b. (c : Claim) × StateText b c)) here n))) none)
+    (not_next header p.left claims rest more (subst (λ (b : List ℕ). NoTextAtFront (memory b) (λ b. (c : Claim) × StateText b c)) here n))) none)
     (step_explains error (memory bytes) (memory rest) reader some (ExplainsStep.record_of more (subst (λ (b : List ℕ). ExplainsRecord error b) here why)))
 
 not_enough : (header : Header) (claims : List Claim) (rest : List ℕ) → length rest < header.user_len
-    → Lacks (memory rest) (IsWanted (record { header = header; left = 0; table = table_of claims }))
+    → NoTextAtFront (memory rest) (IsWanted (record { header = header; left = 0; table = table_of claims }))
 not_enough header claims rest short text more (IsWanted.record_of c lt is) parts = absurd (omega (arith, lt))
 not_enough header claims rest short text more (IsWanted.user_state over long) parts =
     let sum : length rest ≡ length text + length more = ap length parts ∙ length-append text more in absurd (omega (arith, sum, long, short))

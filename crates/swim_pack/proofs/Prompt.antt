@@ -8,12 +8,12 @@ use Rattle.swim_pack.specs.declared.form.Form.{Form}
 use Rattle.swim_pack.specs.declared.form.Form.TheVariants.{Fixed, Unsigned, Signed}
 use Rattle.swim_pack.specs.Composing.{Reading, then_read, ◌>>=◌, gives, refuses, some_or, within, lift, lift_error, Cause, TakesNoMore, same}
 use Rattle.swim_pack.specs.Reading.{cause_of, next_bytes, next_byte, big_at, positive_at, after_form, head_at, number_form, raw_form, count_form, uint_at, count_at, raw_len_at, raw_at, flag_of_byte, flag_at}
-use Rattle.swim_pack.proofs.Composing.{TakesText, TakesNoMore-then, TakesNoMore-lift, none_shorter}
+use Rattle.swim_pack.proofs.Composing.{ConsumedText, TakesNoMore-then, TakesNoMore-lift, none_shorter}
 use Rattle.swim_pack.proofs.Pulls.{next_bytes-whole, next_bytes-short}
 
 -- if the reading returns a value, what it consumed determines it, and no shorter prefix does
 pub record IsPrompt {E V : Type 0} (cause : E → Cause) (reading : Reading E V) : Type 0 where
-  pub by : (bytes : List ℕ) (value : V) (rest : List ℕ) → reading bytes ≡ Ok (value, rest) → TakesText
+  pub by : (bytes : List ℕ) (value : V) (rest : List ℕ) → reading bytes ≡ Ok (value, rest) → ConsumedText
       (TakesNoMore {X = V} cause same reading (Ok value)) bytes rest
 
 abbrev pair_of : {A : Type 0} → A → List ℕ → A × List ℕ
@@ -35,7 +35,7 @@ pub prompt-then : {E V W : Type 0} {cause : E → Cause} {first : Reading E V} {
 prompt-then {E} {V} {W} {cause} {first} {next} p q = record { by = λ bytes value rest e. by_first bytes value rest (first bytes) refl e }
   where
     by_first : (bytes : List ℕ) (value : W) (rest : List ℕ) (r : Result (V × List ℕ) E) → first bytes ≡ r → then_read next r ≡ Ok (value, rest)
-        → TakesText (TakesNoMore {X = W} cause same (first >>= next) (Ok value)) bytes rest
+        → ConsumedText (TakesNoMore {X = W} cause same (first >>= next) (Ok value)) bytes rest
     by_first bytes value rest (Ok r) is e =
         let front = p.by bytes r.0 r.1 is in
         let back = (q r.0).by r.1 value rest e in
@@ -75,7 +75,7 @@ pub prompt-lift : {E F V : Type 0} {cause : E → Cause} {above : F → Cause} {
 prompt-lift {E} {F} {V} {cause} {above} {reading} f same_cause p = record { by = λ bytes value rest e. by_read bytes value rest (reading bytes) refl e }
   where
     by_read : (bytes : List ℕ) (value : V) (rest : List ℕ) (r : Result (V × List ℕ) E) → reading bytes ≡ r → lift_error f r ≡ Ok (value, rest)
-        → TakesText (TakesNoMore {X = V} above same (lift f reading) (Ok value)) bytes rest
+        → ConsumedText (TakesNoMore {X = V} above same (lift f reading) (Ok value)) bytes rest
     by_read bytes value rest (Ok r) is e =
         let t = p.by bytes value rest (is ∙ cc) in
         record { text = t.text; is = TakesNoMore-lift above f same_cause (Ok value) t.text t.is; parts = t.parts }
@@ -90,7 +90,7 @@ prompt-next_byte = record { by = taken }
     waiting first [] more parts some = refl
     waiting first (x ∷ front) more parts some = absurd (omega (arith, ap length parts ∙ length-append (x ∷ front) more, some))
 
-    taken : (bytes : List ℕ) (value : ℕ) (rest : List ℕ) → next_byte bytes ≡ Ok (value, rest) → TakesText
+    taken : (bytes : List ℕ) (value : ℕ) (rest : List ℕ) → next_byte bytes ≡ Ok (value, rest) → ConsumedText
         (TakesNoMore {X = ℕ} cause_of same next_byte (Ok value)) bytes rest
     taken [] value rest e = absurd cc
     taken (first ∷ bytes) value rest e = record {
@@ -107,7 +107,7 @@ prompt-next_bytes n = record { by = λ bytes value rest e. by_length bytes value
   where
     by_length : (bytes value rest : List ℕ) (b : Bool) → ltb (length bytes) n ≡ b →
         (if b then Err Ended else read {E = PackFault} (take n bytes) (drop n bytes)) ≡ Ok (value, rest)
-        → TakesText (TakesNoMore {X = List ℕ} cause_of same (next_bytes n) (Ok value)) bytes rest
+        → ConsumedText (TakesNoMore {X = List ℕ} cause_of same (next_bytes n) (Ok value)) bytes rest
     by_length bytes value rest true is e = absurd cc
     by_length bytes value rest false is e =
         let long : length (take n bytes) ≡ n = length-take-le n bytes (ltb-false _ _ is) in

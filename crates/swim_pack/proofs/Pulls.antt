@@ -8,10 +8,10 @@ use Rattle.swim_pack.specs.declared.fault.PackFault.TheVariants.{Ended, Fault}
 use Rattle.swim_pack.specs.declared.fault.PullFault.{PullFault}
 use Rattle.swim_pack.specs.declared.fault.PullFault.TheVariants as pulls
 use Rattle.swim_pack.specs.Composing.{Answers, IsCutShort, TakesNoMore, same}
-use Rattle.swim_pack.specs.Ends.{Source, Skips, TakesKnown, IsShorter, Rises}
+use Rattle.swim_pack.specs.Ends.{Source, ConsumesSome, ConsumesKnownText, IsShorter, CountsFault}
 use Rattle.swim_pack.specs.Numbers.{pack_fault}
 use Rattle.swim_pack.specs.Reading.{Reads, cause_of, next_byte, next_bytes}
-use Rattle.swim_pack.proofs.Composing.{Takes-consumed, Takes-mono, UnlessFailed-weaker}
+use Rattle.swim_pack.proofs.Composing.{ConsumesText-consumed, ConsumesText-mono, UnlessFailed-weaker}
 
 pub next_bytes-whole : (n : ℕ) (text more : List ℕ) → length text ≡ n → next_bytes n (text ++ more) ≡ Ok (text, more)
 next_bytes-whole n text more long =
@@ -27,7 +27,7 @@ pub Reads-pulled : {X : Type 0} {a b : Source} {x : X} (n : ℕ) (got : List ℕ
 Reads-pulled {X} {a} {b} {x} n got long gone stay = record {
   rest = (got, gone);
   answer = answered a.coming b.coming gone;
-  takes = Takes-consumed a.coming b.coming _ got
+  takes = ConsumesText-consumed a.coming b.coming _ got
       (record {
         settles = λ more. next_bytes-whole n got more long;
         waits = λ free front more parts some. rw (next_bytes-short n front (omega (arith, long, ap length parts ∙ length-append front more, some))) refl;
@@ -42,7 +42,7 @@ Reads-pulled {X} {a} {b} {x} n got long gone stay = record {
     answered (Some bytes) (Some rest) gone = ap (next_bytes n) gone ∙ next_bytes-whole n got rest long
 
 -- the bytes ended before
-pub Reads-ended : {X : Type 0} {view : X → List ℕ} {a b : Source} (n : ℕ) → IsShorter a.coming n → Skips a.coming b.coming → a.faults ≤ b.faults
+pub Reads-ended : {X : Type 0} {view : X → List ℕ} {a b : Source} (n : ℕ) → IsShorter a.coming n → ConsumesSome a.coming b.coming → a.faults ≤ b.faults
     → Reads {X = X} view (next_bytes n) a b (Err Ended)
 Reads-ended {X} {view} {a} {b} n short over stay = record {
   rest = over;
@@ -62,7 +62,7 @@ Reads-ended {X} {view} {a} {b} n short over stay = record {
       waits = λ free front more parts some. rw (next_bytes-short n front (omega (arith, few, ap length parts ∙ length-append front more, some))) refl;
     }
 
-    taken : (old new : Option (List ℕ)) → IsShorter old n → Skips old new → TakesKnown old new
+    taken : (old new : Option (List ℕ)) → IsShorter old n → ConsumesSome old new → ConsumesKnownText old new
         (TakesNoMore {X = X} cause_of view (next_bytes n) (Err Ended))
     taken None new short over = ([], no_more [] (omega arith))
     taken (Some bytes) None short over = absurd over.1
@@ -70,12 +70,12 @@ Reads-ended {X} {view} {a} {b} n short over stay = record {
         (over.0, no_more over.0 (omega (arith, short, ap length over.1 ∙ length-append over.0 rest)), over.1)
 
 -- the inlet failed
-pub Reads-failed : {X : Type 0} {view : X → List ℕ} {a b : Source} (n : ℕ) → Rises a.faults b.faults → Skips a.coming b.coming → a.faults ≤ b.faults
+pub Reads-failed : {X : Type 0} {view : X → List ℕ} {a b : Source} (n : ℕ) → CountsFault a.faults b.faults → ConsumesSome a.coming b.coming → a.faults ≤ b.faults
     → Reads {X = X} view (next_bytes n) a b (Err Fault)
 Reads-failed {X} {view} {a} {b} n rose over stay = record {
   rest = over;
   answer = answered a.coming b.coming;
-  takes = Takes-consumed a.coming b.coming _ over.0 (record { settles = λ by. absurd cc; waits = λ free. absurd (free refl) }) over.1;
+  takes = ConsumesText-consumed a.coming b.coming _ over.0 (record { settles = λ by. absurd cc; waits = λ free. absurd (free refl) }) over.1;
   fault = λ e. rose;
   faults_stay = stay;
 }
@@ -86,7 +86,7 @@ Reads-failed {X} {view} {a} {b} n rose over stay = record {
 
 -- the pull was refused
 pub Reads-refused : {X : Type 0} {view : X → List ℕ} {a b : Source} (n : ℕ) (pull : PullFault) → (pull ≡ pulls.Ended → IsShorter a.coming n)
-    → (pull ≡ pulls.Fault → Rises a.faults b.faults) → Skips a.coming b.coming → a.faults ≤ b.faults
+    → (pull ≡ pulls.Fault → CountsFault a.faults b.faults) → ConsumesSome a.coming b.coming → a.faults ≤ b.faults
     → Reads {X = X} view (next_bytes n) a b (Err (pack_fault pull))
 Reads-refused n pulls.Ended short rose over stay = Reads-ended n (short refl) over stay
 Reads-refused n pulls.Fault short rose over stay = Reads-failed n (rose refl) over stay
@@ -121,7 +121,7 @@ pub Reads-byte : {a b : Source} (got : List ℕ) (d : ℕ) → length got ≡ 1 
 Reads-byte {a} {b} got d one gone stay = record {
   rest = (got, gone);
   answer = answered a.coming b.coming gone;
-  takes = Takes-consumed a.coming b.coming _ got
+  takes = ConsumesText-consumed a.coming b.coming _ got
       (record {
         settles = λ more. ap (λ (bytes : List ℕ). next_byte (bytes ++ more)) (one_of got d one);
         waits = λ free front more parts some. byte_waits (get_or got 0 d) front more (sym (one_of got d one) ∙ parts) some;
@@ -141,7 +141,7 @@ pub Reads-no_byte : {X : Type 0} {view : X → List ℕ} {a b : Source} {error :
 Reads-no_byte {X} {view} {a} {b} {error} p = record {
   rest = p.rest;
   answer = answered a.coming p.answer;
-  takes = Takes-mono a.coming b.coming _ _ no_more p.takes;
+  takes = ConsumesText-mono a.coming b.coming _ _ no_more p.takes;
   fault = p.fault;
   faults_stay = p.faults_stay;
 }

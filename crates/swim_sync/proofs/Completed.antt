@@ -2,7 +2,7 @@
 use Rattle.std.proofs.Common.{◌≡◌, ◌↔◌, ℕ, Bool, Option, Some, None, List, ◌++◌, refl, sym, ap, subst, ◌∙◌}
 use Rattle.std.proofs.lemmas.List.{append_cancel_left}
 use Rattle.swim_claim.specs.declared.claim.Claim.{Claim}
-use Rattle.swim_pack.specs.Ends.{Source, TakesKnown}
+use Rattle.swim_pack.specs.Ends.{Source, ConsumesKnownText}
 use Rattle.swim_pack.proofs.Composing.{taken_text}
 use Rattle.swim_wire.specs.Streams.{StreamText}
 use Rattle.swim_wire.proofs.OneStream.{one_stream}
@@ -17,7 +17,7 @@ use Rattle.swim_sync.proofs.Exchanging.{both_take}
 
 -- the stream at the start of a dump is the dump
 dump_taken : (old new : Option (List ℕ)) (other : Entries) (sent read : Bool) (rest : List ℕ) (claims : List Claim) → IsSendable other
-    → old ≡ Some (dump_bytes other sent ++ rest) → TakesKnown old new (λ b. StreamText b claims read)
+    → old ≡ Some (dump_bytes other sent ++ rest) → ConsumesKnownText old new (λ b. StreamText b claims read)
     → (claims ≡ Reduced other) × (read ≡ sent) × (new ≡ Some rest)
 dump_taken None new other sent read rest claims can is taken = absurd cc
 dump_taken (Some bytes) None other sent read rest claims can is taken = absurd taken
@@ -47,11 +47,11 @@ side_takes : (before other : Entries) (sent : Bool) (old new : Source) (rest : L
 side_takes before other sent old new rest can brings left =
     let P : List ℕ → Type 0 = λ b. StreamText b (Reduced other) sent in
     let dump = dump_bytes other sent in
-    let front : TakesKnown (Some (dump ++ rest)) (Some rest) P = (dump, dump_is_stream other sent can.legal can.few, refl) in
+    let front : ConsumesKnownText (Some (dump ++ rest)) (Some rest) P = (dump, dump_is_stream other sent can.legal can.few, refl) in
     record {
       claims = Reduced other;
-      taken = subst (λ (a : Option (List ℕ)). TakesKnown a new.coming P) (sym brings)
-          (subst (λ (b : Option (List ℕ)). TakesKnown (Some (dump ++ rest)) b P) (sym left) front);
+      taken = subst (λ (a : Option (List ℕ)). ConsumesKnownText a new.coming P) (sym brings)
+          (subst (λ (b : Option (List ℕ)). ConsumesKnownText (Some (dump ++ rest)) b P) (sym left) front);
       reduced = TableOf-table_of (Reduced before ++ Reduced other);
       all = λ others h. TableOf-Join before other others (Reduced other) h can.legal.own;
     }

@@ -7,7 +7,7 @@ use Rattle.std.specs.Option.{option_to_list}
 use Rattle.std.proofs.lemmas.List.{length-append}
 use Rattle.swim_pack.specs.declared.fault.PushFault.{PushFault}
 use Rattle.swim_pack.specs.declared.fault.PushFault.TheVariants as push
-use Rattle.swim_pack.specs.Ends.{Source, Sink, Takes, Rises, AppendsFront}
+use Rattle.swim_pack.specs.Ends.{Source, Sink, ConsumesText, CountsFault, AppendsFront}
 use Rattle.swim_wire.specs.Streams.{StreamText}
 use Rattle.swim_table.specs.declared.fault.EncodeFault.TheVariants.{TooManyRecords}
 use Rattle.swim_table.specs.Dump.{dump_bytes}
@@ -23,7 +23,7 @@ use Rattle.std.proofs.KnownBytes.{Keeps-refl}
 
 -- a stream was read, and its table joined in
 pub joined_in : (old new : Source) (before theirs after : Entries) (join : Bool)
-    → ((claims : List Claim) × TableOf theirs claims × Takes old new (λ b. StreamText b claims join))
+    → ((claims : List Claim) × TableOf theirs claims × ConsumesText old new (λ b. StreamText b claims join))
     → after ≡ Join before theirs → ((claims others : List Claim) → TableOf before claims → TableOf theirs others → TableOf after (claims ++ others))
     → TakesStream old new before after join
 joined_in old new before theirs after join read is all =
@@ -91,8 +91,8 @@ few_records (entry ∷ rest) =
 
 -- a dump was not pushed
 pub push_refused : (old new : Source) (out_old out_new : Sink) (table theirs : Entries) (join : Bool) (bytes : List ℕ) → bytes ≡ dump_bytes table join
-    → ((claims : List Claim) × TableOf theirs claims × Takes old new (λ b. StreamText b claims join))
-    → (e : PushFault) → (e ≡ push.Fault → Rises out_old.faults out_new.faults)
+    → ((claims : List Claim) × TableOf theirs claims × ConsumesText old new (λ b. StreamText b claims join))
+    → (e : PushFault) → (e ≡ push.Fault → CountsFault out_old.faults out_new.faults)
     → (e ≡ push.Fault → AppendsFront out_old.written out_new.written bytes)
     → (e ≡ push.Memory → Keeps out_old.written out_new.written)
     → IsAnswerRefused old new out_old out_new table (fault_of_push e)

@@ -4,7 +4,7 @@ use Rattle.std.specs.Prelude.{◌≡◌, ◌≢◌, ◌<◌, ◌≤◌, ◌⊎�
 use Rattle.std.specs.Io.KnownBytes.{Keeps}
 use Rattle.swim_claim.specs.declared.claim.Claim.{Claim}
 use Rattle.swim_pack.specs.Composing.{UnlessFailed}
-use Rattle.swim_pack.specs.Ends.{Source, Sink, Takes, Lacks, Rises, AppendsFront}
+use Rattle.swim_pack.specs.Ends.{Source, Sink, ConsumesText, NoTextAtFront, CountsFault, AppendsFront}
 use Rattle.swim_wire.specs.declared.fault.WireFault.{WireFault}
 use Rattle.swim_wire.specs.declared.fault.WireFault.TheVariants as wire
 use Rattle.swim_wire.specs.Checks.{ExplainsStart}
@@ -21,14 +21,14 @@ use Rattle.swim_sync.specs.declared.fault.SyncFault.TheVariants.{Wire, TooManyRe
 -- the table took its claims in.
 pub record TakesStream (old new : Source) (before after : Entries) (join : Bool) : Type 0 where
   pub claims : List Claim
-  pub taken : Takes old new (λ b. StreamText b claims join)
+  pub taken : ConsumesText old new (λ b. StreamText b claims join)
   pub reduced : TableOf after (Reduced before ++ claims)
   pub all : (others : List Claim) → TableOf before others → TableOf after (others ++ claims)
 
 -- One stream with this join flag was consumed, and the offered table is that of its claims.
 abbrev pub ReadsOffer : Source → Source → Entries → Bool → Type 0
 ReadsOffer old new offered join = (claims : List Claim) × TableOf offered claims
-    × Takes old new (λ b. StreamText b claims join)
+    × ConsumesText old new (λ b. StreamText b claims join)
 
 -- A table that can be sent: its claims are within their limits, and a dump has room for them.
 pub record IsSendable (table : Entries) : Type 0 where
@@ -58,13 +58,13 @@ HasTooMany table = most_nodes < length (Reduced table)
 pub record LacksStream (old new : Source) (fault : WireFault) : Type 0 where
   pub no_memory : fault ≢ wire.Memory
   pub lacks : UnlessFailed (wire_cause fault)
-      (Lacks old (λ b. (claims : List Claim) × (join : Bool) × StreamText b claims join))
+      (NoTextAtFront old (λ b. (claims : List Claim) × (join : Bool) × StreamText b claims join))
   pub explains : ExplainsStart (ExplainsStream fault) old
-  pub failed : fault ≡ wire.Fault → Rises old.faults new.faults
+  pub failed : fault ≡ wire.Fault → CountsFault old.faults new.faults
 
 -- The outlet failed, and a prefix of the table's dump with this join flag was pushed.
 pub record PushesFront (old new : Sink) (table : Entries) (join : Bool) : Type 0 where
-  pub failed : Rises old.faults new.faults
+  pub failed : CountsFault old.faults new.faults
   pub front : AppendsFront old.written new.written (dump_bytes table join)
 
 -- why a table is not offered
@@ -79,7 +79,7 @@ abbrev pub IsPrepareRefused : Source → Source → Entries → SyncFault → Ty
 IsPrepareRefused old new table (Wire error) = LacksStream old new error
 IsPrepareRefused old new table TooManyRecords =
     HasTooMany table
-    × ((claims : List Claim) × (join : Bool) × Takes old new (λ b. StreamText b claims join))
+    × ((claims : List Claim) × (join : Bool) × ConsumesText old new (λ b. StreamText b claims join))
 IsPrepareRefused old new table Push = ⊥
 IsPrepareRefused old new table Memory = Unit {0}
 
@@ -90,7 +90,7 @@ IsAnswerRefused old new out_old out_new table (Wire error) = LacksStream old new
 IsAnswerRefused old new out_old out_new table TooManyRecords = HasTooMany table
     × Keeps out_old.written out_new.written
 IsAnswerRefused old new out_old out_new table Push =
-    (claims : List Claim) × (join : Bool) × Takes old new (λ b. StreamText b claims join)
+    (claims : List Claim) × (join : Bool) × ConsumesText old new (λ b. StreamText b claims join)
     × PushesFront out_old out_new table join
 IsAnswerRefused old new out_old out_new table Memory = Keeps out_old.written out_new.written
 

@@ -8,7 +8,7 @@
 ghost use Rattle.std.specs.Prelude.{◌≡◌, ◌↔◌, ◌⊎◌, ◌+◌, ◌≤◌, ◌++◌, List, length, IsErr, IfOk, IfErr, MatchBool, OnOk, OnErr};
 ghost use Rattle.std.specs.Io.KnownBytes.{Appends};
 ghost use Rattle.swim_claim.specs.declared.claim.Claim.{Claim};
-ghost use Rattle.swim_pack.specs.Ends.{Skips};
+ghost use Rattle.swim_pack.specs.Ends.{ConsumesSome};
 ghost use Rattle.swim_table.specs.Dump.{dump_bytes};
 ghost use Rattle.swim_table.specs.Join.{Join};
 ghost use Rattle.swim_table.specs.Table.{TableOf};
@@ -78,7 +78,7 @@ pub fn answer<I: Inlet, O: Outlet>(
 
     // What a refusal leaves, and its reason.
     ensures unchanged { OnErr result (table.new ≡ table.old) }
-    ensures rest { OnErr result (Skips (I.seen inlet.old).coming (I.seen inlet.new).coming) }
+    ensures rest { OnErr result (ConsumesSome (I.seen inlet.old).coming (I.seen inlet.new).coming) }
     ensures refused { IfErr result (IsAnswerRefused (I.seen inlet.old) (I.seen inlet.new)
         (O.seen outlet.old) (O.seen outlet.new) table.old) }
 {
@@ -132,7 +132,7 @@ pub fn prepare_answer<I: Inlet>(
     ensures too_many { HasTooMany table.now → IsErr result }
 
     // What a refusal leaves, and its reason.
-    ensures rest { Skips (I.seen inlet.old).coming (I.seen inlet.new).coming }
+    ensures rest { ConsumesSome (I.seen inlet.old).coming (I.seen inlet.new).coming }
     ensures refused { IfErr result
         (IsPrepareRefused (I.seen inlet.old) (I.seen inlet.new) table.now) }
 {
@@ -163,7 +163,7 @@ pub fn finish<I: Inlet>(alloc: Global, inlet: &mut I, table: &mut Table) -> Resu
 
     // What a refusal leaves, and its reason.
     ensures unchanged { OnErr result (table.new ≡ table.old) }
-    ensures rest { OnErr result (Skips (I.seen inlet.old).coming (I.seen inlet.new).coming) }
+    ensures rest { OnErr result (ConsumesSome (I.seen inlet.old).coming (I.seen inlet.new).coming) }
     ensures refused { IfErr result (IsFinishRefused (I.seen inlet.old) (I.seen inlet.new)) }
 {
     let (replied, join) = read_stream(alloc, inlet)?;

@@ -5,8 +5,8 @@ use Rattle.std.specs.Prelude.{IfSome}
 use Rattle.std.proofs.lemmas.List.{append_cancel_left, length-take-le, take-append-drop}
 use Rattle.swim_claim.specs.declared.claim.Claim.{Claim}
 use Rattle.swim_pack.specs.Composing.{UnlessFailed}
-use Rattle.swim_pack.specs.Ends.{Source, Takes, TakesKnown, Lacks}
-use Rattle.swim_pack.proofs.Composing.{Takes-both, Takes-mono}
+use Rattle.swim_pack.specs.Ends.{Source, ConsumesText, ConsumesKnownText, NoTextAtFront}
+use Rattle.swim_pack.proofs.Composing.{ConsumesText-both, ConsumesText-mono}
 use Rattle.swim_wire.specs.declared.fault.WireFault.{WireFault}
 use Rattle.swim_wire.specs.declared.fault.WireFault.TheVariants.{Ended, Fault, Memory}
 use Rattle.swim_wire.specs.declared.stream.Header.{Header}
@@ -89,16 +89,16 @@ pub record ReadSome (old new : Source) (reader : Streaming) : Type 0 where
   pub claims : List Claim
   pub table : TableOf reader.table claims
   pub counted : length claims + reader.left ≡ reader.header.nodes
-  pub taken : Takes old new (λ b. BeginText b reader.header claims)
+  pub taken : ConsumesText old new (λ b. BeginText b reader.header claims)
 
-pub started : (old new : Source) (reader : Streaming) → Takes old new (λ b. HeaderText b reader.header) →
+pub started : (old new : Source) (reader : Streaming) → ConsumesText old new (λ b. HeaderText b reader.header) →
     (reader.left ≡ reader.header.nodes) × (reader.table ≡ []) → ReadSome old new reader
 started old new reader taken fresh = record {
   claims = [];
   table = subst (λ (t : Entries). TableOf t []) (sym fresh.1) (TableOf-table_of []);
   counted = omega (arith, fresh.0);
   taken =
-      Takes-mono old.coming new.coming _ _ (λ b text. record { head = b; records = []; bytes = sym (append-nil b); head_text = text; record_texts = none }) taken;
+      ConsumesText-mono old.coming new.coming _ _ (λ b text. record { head = b; records = []; bytes = sym (append-nil b); head_text = text; record_texts = none }) taken;
 }
 
 -- one more record was read
@@ -113,7 +113,7 @@ begun_more header claims c x y begun text = record {
 }
 
 stepped_to : (old mid new : Source) (reader next : Streaming) (c : Claim) → ReadSome old mid reader
-    → reader.left ≡ next.left + 1 → Takes mid new (λ b. StateText b c)
+    → reader.left ≡ next.left + 1 → ConsumesText mid new (λ b. StateText b c)
     → ((claims : List Claim) → TableOf reader.table claims → TableOf next.table (claims ++ c ∷ [])) → next.header ≡ reader.header → ReadSome old new next
 stepped_to old mid new reader next c some left taken table header =
     let count = length-append some.claims (c ∷ []) in
@@ -124,8 +124,8 @@ stepped_to old mid new reader next c some left taken table header =
       table = table some.claims some.table;
       counted = omega (arith, count, nodes, before, left);
       taken =
-          subst (λ (h : Header). Takes old new (λ b. BeginText b h (some.claims ++ c ∷ []))) (sym header)
-          (Takes-both old.coming mid.coming new.coming _ _ _ (begun_more reader.header some.claims c) some.taken taken);
+          subst (λ (h : Header). ConsumesText old new (λ b. BeginText b h (some.claims ++ c ∷ []))) (sym header)
+          (ConsumesText-both old.coming mid.coming new.coming _ _ _ (begun_more reader.header some.claims c) some.taken taken);
     }
 
 pub stepped : (old mid new : Source) (reader next : Streaming) → ReadSome old mid reader → Steps reader mid new (More next) → ReadSome old new next
@@ -151,7 +151,7 @@ whole header claims x y count begun long = record {
 }
 
 pub ended : (old mid new : Source) (reader : Streaming) (table : Entries) (join : Bool) → ReadSome old mid reader → Steps reader mid new (End table join)
-    → (claims : List Claim) × TableOf table claims × Takes old new (λ b. StreamText b claims join)
+    → (claims : List Claim) × TableOf table claims × ConsumesText old new (λ b. StreamText b claims join)
 ended old mid new reader table join some (steps.record_of c to is left taken of all header) = absurd cc
 ended old mid new reader table join some (steps.user_state is left taken) =
     let the_table : reader.table ≡ table = cc in
@@ -160,8 +160,8 @@ ended old mid new reader table join some (steps.user_state is left taken) =
     let count : length some.claims ≡ reader.header.nodes = omega (arith, before, left) in (
       some.claims,
       subst (λ (t : Entries). TableOf t some.claims) the_table some.table,
-      subst (λ (j : Bool). Takes old new (λ b. StreamText b some.claims j)) the_flag
-          (Takes-both old.coming mid.coming new.coming _ _ _ (λ x y. whole reader.header some.claims x y count) some.taken taken),
+      subst (λ (j : Bool). ConsumesText old new (λ b. StreamText b some.claims j)) the_flag
+          (ConsumesText-both old.coming mid.coming new.coming _ _ _ (λ x y. whole reader.header some.claims x y count) some.taken taken),
     )
 
 -- ---- the bytes do not begin with a stream, and why
@@ -169,10 +169,10 @@ ended old mid new reader table join some (steps.user_state is left taken) =
 abbrev IsStream : List ℕ → Type 0
 IsStream b = (claims : List Claim) × (join : Bool) × StreamText b claims join
 
-pub none_wanted : (old mid : Source) (reader : Streaming) → ReadSome old mid reader → Lacks mid (IsWanted reader) → Lacks old IsStream
+pub none_wanted : (old mid : Source) (reader : Streaming) → ReadSome old mid reader → NoTextAtFront mid (IsWanted reader) → NoTextAtFront old IsStream
 none_wanted old mid reader some lacks = known old.coming mid.coming some.taken lacks
   where
-    known : (old mid : Option (List ℕ)) → TakesKnown old mid (λ b. BeginText b reader.header some.claims) → IfSome mid
+    known : (old mid : Option (List ℕ)) → ConsumesKnownText old mid (λ b. BeginText b reader.header some.claims) → IfSome mid
         (λ bytes. (text rest : List ℕ) → IsWanted reader text → bytes ≡ text ++ rest → ⊥)
         → IfSome old (λ bytes. (text rest : List ℕ) → IsStream text → bytes ≡ text ++ rest → ⊥)
     known None mid taken lacks = tt
@@ -194,7 +194,7 @@ step_explains fault old mid reader some says = known old.coming mid.coming some.
         let sum = some.counted in
         why_stream.user_state front now reader.header some.claims begun (omega (arith, sum, over)) parts why
 
-    known : (old mid : Option (List ℕ)) → TakesKnown old mid (λ b. BeginText b reader.header some.claims) → IfSome mid
+    known : (old mid : Option (List ℕ)) → ConsumesKnownText old mid (λ b. BeginText b reader.header some.claims) → IfSome mid
         (ExplainsStep reader fault) → IfSome old (ExplainsStream fault)
     known None mid taken says = tt
     known (Some bytes) None taken says = absurd taken
@@ -203,12 +203,12 @@ step_explains fault old mid reader some says = known old.coming mid.coming some.
 -- ---- which refusal
 
 -- a record that was read requested memory
-pub record_asks : (reader inside : Streaming) (old new : Source) (c : Claim) → inside ≡ reader → inside.left ≢ 0 → Takes old new (λ b. StateText b c)
+pub record_asks : (reader inside : Streaming) (old new : Source) (c : Claim) → inside ≡ reader → inside.left ≢ 0 → ConsumesText old new (λ b. StateText b c)
     → IfSome old.coming (ExplainsStep reader Memory)
 record_asks reader inside old new c same some taken =
     subst (λ (r : Streaming). IfSome old.coming (ExplainsStep r Memory)) same (known old.coming new.coming taken)
   where
-    known : (old new : Option (List ℕ)) → TakesKnown old new (λ b. StateText b c) → IfSome old (ExplainsStep inside Memory)
+    known : (old new : Option (List ℕ)) → ConsumesKnownText old new (λ b. StateText b c) → IfSome old (ExplainsStep inside Memory)
     known None new taken = tt
     known (Some bytes) None taken = absurd taken
     known (Some bytes) (Some rest) taken =
@@ -219,7 +219,7 @@ fewer : (bytes : List ℕ) (n : ℕ) → ((text rest : List ℕ) → length text
 fewer bytes n lacks = lt_of_not-le (λ le. lacks (take n bytes) (drop n bytes) (length-take-le n bytes le) (sym (take-append-drop n bytes)))
 
 pub user_explains : (reader inside : Streaming) (fault : WireFault) (old : Source) → inside ≡ reader → inside.left ≡ 0 → (fault ≡ Ended) ⊎ (fault ≡ Fault)
-    → UnlessFailed (wire_cause fault) (Lacks old (λ b. length b ≡ inside.header.user_len)) → IfSome old.coming (ExplainsStep reader fault)
+    → UnlessFailed (wire_cause fault) (NoTextAtFront old (λ b. length b ≡ inside.header.user_len)) → IfSome old.coming (ExplainsStep reader fault)
 user_explains reader inside fault old same over which lacks =
     subst (λ (r : Streaming). IfSome old.coming (ExplainsStep r fault)) same (known old.coming which lacks)
   where

@@ -2,7 +2,7 @@
 use Rattle.std.specs.Prelude.{◌≡◌, ◌≢◌, ℕ, ◌+◌, ◌<◌, Bool, List, [], ◌∷◌, ◌++◌, ◌⊎◌, length, Err}
 use Rattle.swim_claim.specs.declared.claim.Claim.{Claim}
 use Rattle.swim_pack.specs.Composing.{UnlessFailed}
-use Rattle.swim_pack.specs.Ends.{Source, Takes}
+use Rattle.swim_pack.specs.Ends.{Source, ConsumesText}
 use Rattle.swim_wire.specs.declared.fault.WireFault.{WireFault}
 use Rattle.swim_wire.specs.declared.fault.WireFault.TheVariants.{Ended, Fault, Trailing}
 use Rattle.swim_wire.specs.declared.stream.Header.{Header}
@@ -19,12 +19,13 @@ use Rattle.swim_table.specs.Table.{TableOf, Reduced}
 -- user state.
 pub data Steps (reader : Streaming) (old new : Source) (step : Step) : Type 0 where
   record_of : (c : Claim) (next : Streaming) → step ≡ More next → reader.left ≡ next.left + 1
-      → Takes old new (λ b. StateText b c) → TableOf next.table (Reduced reader.table ++ c ∷ [])
+      → ConsumesText old new (λ b. StateText b c)
+      → TableOf next.table (Reduced reader.table ++ c ∷ [])
       → ((claims : List Claim) → TableOf reader.table claims
       → TableOf next.table (claims ++ c ∷ []))
       → next.header ≡ reader.header → Steps reader old new step
   user_state : step ≡ End reader.table reader.header.join → reader.left ≡ 0
-      → Takes old new (λ b. length b ≡ reader.header.user_len) → Steps reader old new step
+      → ConsumesText old new (λ b. length b ≡ reader.header.user_len) → Steps reader old new step
 
 -- The bytes are what the next step wants: a record, or, at the end, the user state.
 pub data IsWanted (reader : Streaming) (b : List ℕ) : Type 0 where

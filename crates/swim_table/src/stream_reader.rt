@@ -2,7 +2,7 @@
 
 ghost use Rattle.std.specs.Prelude.{◌≡◌, ◌≢◌, ◌≤◌, ◌++◌, ◌⊎◌, ℕ, [], Bool, List, length, IfOk, IfErr, IsErrOf};
 ghost use Rattle.swim_claim.specs.declared.claim.Claim.{Claim};
-ghost use Rattle.swim_pack.specs.Ends.{Takes, Lacks, Draws, Rises};
+ghost use Rattle.swim_pack.specs.Ends.{ConsumesText, NoTextAtFront, Advances, CountsFault};
 ghost use Rattle.swim_pack.specs.Composing.{UnlessFailed};
 ghost use Rattle.swim_wire.specs.declared.stream.Header.{Header};
 ghost use Rattle.swim_wire.specs.Checks.{ExplainsStart};
@@ -57,7 +57,7 @@ impl StreamReader {
     pub fn begin<I: Inlet>(alloc: Global, inlet: &mut I) -> Result<StreamReader, WireFault>
         // The bytes taken are the header, and no claim was read yet.
         ensures takes { IfOk result (λ reader.
-            Takes (I.seen inlet.old) (I.seen inlet.new) (λ b. HeaderText b reader.header)) }
+            ConsumesText (I.seen inlet.old) (I.seen inlet.new) (λ b. HeaderText b reader.header)) }
         ensures fresh { IfOk result (λ reader. (reader.left ≡ reader.header.nodes)
             × (reader.table ≡ [])) }
 
@@ -68,13 +68,13 @@ impl StreamReader {
         // If refused, and the inlet did not fail, the bytes do not begin with a header, and the
         // fault says why.
         ensures lacks { IfErr result (λ fault. UnlessFailed (wire_cause fault)
-            (Lacks (I.seen inlet.old) (λ b. (header : Header) × HeaderText b header))) }
+            (NoTextAtFront (I.seen inlet.old) (λ b. (header : Header) × HeaderText b header))) }
         ensures explains { IfErr result (λ fault.
             ExplainsStart (ExplainsBegin fault) (I.seen inlet.old)) }
         ensures no_memory { ¬ IsErrOf result WireFault.Memory }
         ensures fault { IsErrOf result WireFault.Fault
-            → Rises (I.seen inlet.old).faults (I.seen inlet.new).faults }
-        ensures end { Draws (I.seen inlet.old) (I.seen inlet.new) }
+            → CountsFault (I.seen inlet.old).faults (I.seen inlet.new).faults }
+        ensures end { Advances (I.seen inlet.old) (I.seen inlet.new) }
     {
         let header = read_header(inlet)?;
         Ok(StreamReader {
@@ -122,13 +122,13 @@ impl StreamReader {
         // If refused, and neither the inlet failed nor memory ran out, the bytes do not begin with
         // what was wanted, and the fault says why. The end takes no memory.
         ensures lacks { IfErr result (λ fault.
-            UnlessFailed (wire_cause fault) (Lacks (I.seen inlet.old) (IsWanted self))) }
+            UnlessFailed (wire_cause fault) (NoTextAtFront (I.seen inlet.old) (IsWanted self))) }
         ensures explains { IfErr result (λ fault.
             ExplainsStart (ExplainsStep self fault) (I.seen inlet.old)) }
         ensures no_memory { self.left ≡ 0 → ¬ IsErrOf result WireFault.Memory }
         ensures fault { IsErrOf result WireFault.Fault
-            → Rises (I.seen inlet.old).faults (I.seen inlet.new).faults }
-        ensures end { Draws (I.seen inlet.old) (I.seen inlet.new) }
+            → CountsFault (I.seen inlet.old).faults (I.seen inlet.new).faults }
+        ensures end { Advances (I.seen inlet.old) (I.seen inlet.new) }
     {
         let StreamReader {
             alloc,
@@ -163,18 +163,18 @@ impl StreamReader {
 pub fn read_stream<I: Inlet>(alloc: Global, inlet: &mut I) -> Result<(Table, bool), WireFault>
     // The bytes taken are one stream, and the table is that of its claims.
     ensures takes { IfOk result (λ read. (claims : List Claim) × TableOf read.0 claims
-        × Takes (I.seen inlet.old) (I.seen inlet.new) (λ b. StreamText b claims read.1)) }
+        × ConsumesText (I.seen inlet.old) (I.seen inlet.new) (λ b. StreamText b claims read.1)) }
 
     // If refused, and neither the inlet failed nor memory ran out, the bytes do not begin with a
     // stream, and the fault says why.
     ensures lacks { IfErr result (λ fault. UnlessFailed (wire_cause fault)
-        (Lacks (I.seen inlet.old)
+        (NoTextAtFront (I.seen inlet.old)
         (λ b. (claims : List Claim) × (join : Bool) × StreamText b claims join))) }
     ensures explains { IfErr result (λ fault.
         ExplainsStart (ExplainsStream fault) (I.seen inlet.old)) }
     ensures fault { IsErrOf result WireFault.Fault
-        → Rises (I.seen inlet.old).faults (I.seen inlet.new).faults }
-    ensures end { Draws (I.seen inlet.old) (I.seen inlet.new) }
+        → CountsFault (I.seen inlet.old).faults (I.seen inlet.new).faults }
+    ensures end { Advances (I.seen inlet.old) (I.seen inlet.new) }
 {
     let mut reader = StreamReader::begin(alloc, inlet)?;
     loop {

@@ -3,7 +3,7 @@ use Rattle.std.proofs.Common.{◌≡◌, ◌≢◌, inl, inr, ℕ, zero, suc, �
 use Rattle.std.specs.Prelude.{IfSome, slice_index_or, ⊤}
 use Rattle.std.specs.Str.{bytes_eq}
 use Rattle.swim_claim.specs.declared.claim.Claim.{Claim}
-use Rattle.swim_pack.specs.Ends.{Source, TakesKnown, Begins}
+use Rattle.swim_pack.specs.Ends.{Source, ConsumesKnownText, Begins}
 use Rattle.swim_pack.specs.Composing.{Cause, Answers, ReadsAs, same, some_or, lift}
 use Rattle.swim_pack.specs.Composing as composing
 use Rattle.swim_pack.specs.Spelling.{RawLen}
@@ -53,7 +53,7 @@ Reads-asks {E} {X} {V} {cause} {view} {reading} {a} {b} {x} P Q step h asks = by
 
 -- ---- a value, a pair, a map
 
-pub raw_asks : (limit : ℕ) (a b : Option (List ℕ)) → TakesKnown a b (λ t. (n : ℕ) × (n ≤ limit) × RawLen t n) → IfSome a (ValueAsks (limits.Raw limit))
+pub raw_asks : (limit : ℕ) (a b : Option (List ℕ)) → ConsumesKnownText a b (λ t. (n : ℕ) × (n ≤ limit) × RawLen t n) → IfSome a (ValueAsks (limits.Raw limit))
 raw_asks limit None b h = tt
 raw_asks limit (Some bytes) None h = absurd h
 raw_asks limit (Some bytes) (Some rest) h = (h.0, rest, h.1.0, h.1.2, h.1.1, h.2)

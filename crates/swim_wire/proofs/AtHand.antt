@@ -5,7 +5,7 @@ use Rattle.std.specs.Io.KnownBytes.{Consumes}
 use Rattle.swim_claim.specs.declared.claim.Claim.{Claim}
 use Rattle.swim_pack.proofs.Prompt.{IsPrompt}
 use Rattle.swim_pack.specs.Composing.{Answers, TakesNoMore, ReadsAs, same}
-use Rattle.swim_pack.specs.Ends.{Source, Begins, Passes, TakesKnown}
+use Rattle.swim_pack.specs.Ends.{Source, Begins, ConsumesCount, ConsumesKnownText}
 use Rattle.swim_wire.specs.declared.fault.WireFault.{WireFault}
 use Rattle.swim_wire.specs.declared.stream.Header.{Header}
 use Rattle.swim_wire.specs.Reading.{Reading, wire_cause, state_at, header_at}
@@ -15,7 +15,7 @@ use Rattle.swim_wire.proofs.Readings.{read}
 -- a reading that consumes only what determines its result
 passed_over : {X : Type 0} {reading : Reading X} → IsPrompt wire_cause reading
     → (old new : Source) (hand rest : List ℕ) (x : X) (n : ℕ) → Begins old.coming hand → reading hand ≡ read x rest
-    → n + length rest ≡ length hand → Passes old new n
+    → n + length rest ≡ length hand → ConsumesCount old new n
     → ReadsAs {E = WireFault} {X = X} {V = X} wire_cause same reading old new (Ok x)
 passed_over {X} {reading} prompt old new hand rest x n begins e size passed = record {
   rest = (passed.0.0, passed.0.2);
@@ -48,18 +48,18 @@ passed_over {X} {reading} prompt old new hand rest x n begins e size passed = re
         rw (whole bytes begins.0 begins.1, behind bytes left taken begins.0 begins.1 long consumes) (settled.settles (rest ++ begins.0))
 
     taken_is : (a b : Option (List ℕ)) → Begins a hand → (taken : List ℕ) → length taken ≡ n → Consumes a b taken
-        → TakesKnown a b (TakesNoMore {X = X} wire_cause same reading (Ok x))
+        → ConsumesKnownText a b (TakesNoMore {X = X} wire_cause same reading (Ok x))
     taken_is None b begins taken long consumes = (text, settled)
     taken_is (Some bytes) None begins taken long consumes = consumes
     taken_is (Some bytes) (Some left) begins taken long consumes =
         (text, settled, whole bytes begins.0 begins.1 ∙ ap (λ (r : List ℕ). text ++ r) (sym (behind bytes left taken begins.0 begins.1 long consumes)))
 
 pub state_passed : (old new : Source) (hand rest : List ℕ) (claim : Claim) (n : ℕ) → Begins old.coming hand
-    → state_at hand ≡ read claim rest → n + length rest ≡ length hand → Passes old new n
+    → state_at hand ≡ read claim rest → n + length rest ≡ length hand → ConsumesCount old new n
     → ReadsAs {E = WireFault} {X = Claim} {V = Claim} wire_cause same state_at old new (Ok claim)
 state_passed = passed_over prompt-state
 
 pub header_passed : (old new : Source) (hand rest : List ℕ) (header : Header) (n : ℕ) → Begins old.coming hand
-    → header_at hand ≡ read header rest → n + length rest ≡ length hand → Passes old new n
+    → header_at hand ≡ read header rest → n + length rest ≡ length hand → ConsumesCount old new n
     → ReadsAs {E = WireFault} {X = Header} {V = Header} wire_cause same header_at old new (Ok header)
 header_passed = passed_over prompt-header

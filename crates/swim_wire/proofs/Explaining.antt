@@ -3,7 +3,7 @@
 use Rattle.std.proofs.Common.{◌≡◌, ◌≢◌, ◌⊎◌, inl, inr, ℕ, List, Option, Some, None, Result, Ok, Err, refl, sym, ap, subst}
 use Rattle.std.specs.Prelude.{IfOk, IfErr, IfSome}
 use Rattle.swim_claim.specs.declared.claim.Claim.{Claim}
-use Rattle.swim_pack.specs.Ends.{Source, Takes, Lacks}
+use Rattle.swim_pack.specs.Ends.{Source, ConsumesText, NoTextAtFront}
 use Rattle.swim_pack.specs.Composing.{UnlessFailed, Answers, ReadsAs}
 use Rattle.swim_pack.proofs.Composing.{Reads-takes, Reads-lacks, UnlessFailed-weaker}
 use Rattle.swim_wire.specs.declared.fault.WireFault.{WireFault}
@@ -42,11 +42,11 @@ Reads-explains {X} {V} {view} {reading} {a} {b} (Err error) P unless says memory
 -- ---- headers
 
 pub Header-takes : {X : Type 0} {view : X → Header} {a b : Source} (r : Result X WireFault) → ReadsAs wire_cause view header_at a b r
-    → IfOk r (λ x. Takes a b (λ text. HeaderText text (view x)))
+    → IfOk r (λ x. ConsumesText a b (λ text. HeaderText text (view x)))
 Header-takes r h = Reads-takes r (λ value text. HeaderText text value) header_takes h
 
 pub Header-lacks : {X : Type 0} {view : X → Header} {a b : Source} (r : Result X WireFault) → ReadsAs wire_cause view header_at a b r
-    → IfErr r (λ error. UnlessFailed (wire_cause error) (Lacks a (λ text. (value : Header) × HeaderText text value)))
+    → IfErr r (λ error. UnlessFailed (wire_cause error) (NoTextAtFront a (λ text. (value : Header) × HeaderText text value)))
 Header-lacks r h = Reads-lacks r (λ text. (value : Header) × HeaderText text value) (λ text rest is. (is.0, header_again text rest is.0 is.1)) h
 
 header_unless : (error : WireFault) (bytes : List ℕ) → error ≢ Memory → UnlessFailed (wire_cause error) (ExplainsHeader error bytes) → ExplainsHeader error bytes
@@ -61,11 +61,11 @@ Header-explains r none h = Reads-explains r ExplainsHeader header_unless header_
 -- ---- state records
 
 pub State-takes : {X : Type 0} {view : X → Claim} {a b : Source} (r : Result X WireFault) → ReadsAs wire_cause view state_at a b r
-    → IfOk r (λ x. Takes a b (λ text. StateText text (view x)))
+    → IfOk r (λ x. ConsumesText a b (λ text. StateText text (view x)))
 State-takes r h = Reads-takes r (λ claim text. StateText text claim) state_takes h
 
 pub State-lacks : {X : Type 0} {view : X → Claim} {a b : Source} (r : Result X WireFault) → ReadsAs wire_cause view state_at a b r
-    → IfErr r (λ error. UnlessFailed (wire_cause error) (Lacks a (λ text. (claim : Claim) × StateText text claim)))
+    → IfErr r (λ error. UnlessFailed (wire_cause error) (NoTextAtFront a (λ text. (claim : Claim) × StateText text claim)))
 State-lacks r h = Reads-lacks r (λ text. (claim : Claim) × StateText text claim) (λ text rest is. (is.0, state_again text rest is.0 is.1)) h
 
 state_unless : (error : WireFault) (bytes : List ℕ) → error ≢ Memory → UnlessFailed (wire_cause error) (ExplainsState error bytes) → ExplainsState error bytes

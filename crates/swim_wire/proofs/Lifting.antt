@@ -1,6 +1,6 @@
 -- Reads of the layer below.
 use Rattle.std.proofs.Common.{◌≡◌, ◌≤◌, ℕ, [], Ok, Err, refl}
-use Rattle.swim_pack.specs.Ends.{Source, IsShorter, Rises, Skips}
+use Rattle.swim_pack.specs.Ends.{Source, IsShorter, CountsFault, ConsumesSome}
 use Rattle.swim_pack.specs.Composing.{ReadsAs, lift, same}
 use Rattle.swim_pack.specs.Composing as composing
 use Rattle.swim_pack.specs.Reading.{cause_of, next_byte}
@@ -53,8 +53,8 @@ told_pull pulls.Ended = refl
 told_pull pulls.Fault = refl
 
 -- a byte that was not pulled
-pub Wire-pulled : {a b : Source} (pull : PullFault) → (pull ≡ pulls.Ended → IsShorter a.coming 1) → (pull ≡ pulls.Fault → Rises a.faults b.faults)
-    → Skips a.coming b.coming → a.faults ≤ b.faults → ReadsAs {X = ℕ} wire_cause same (lift fault_of_pack next_byte) a b (Err (fault_of_pull pull))
+pub Wire-pulled : {a b : Source} (pull : PullFault) → (pull ≡ pulls.Ended → IsShorter a.coming 1) → (pull ≡ pulls.Fault → CountsFault a.faults b.faults)
+    → ConsumesSome a.coming b.coming → a.faults ≤ b.faults → ReadsAs {X = ℕ} wire_cause same (lift fault_of_pack next_byte) a b (Err (fault_of_pull pull))
 Wire-pulled {a} {b} pull short rose over stay =
     rw (← told_pull pull) (Wire-err (Reads-no_byte {X = Unit {0}} {view = λ _. []} (Reads-refused 1 pull short rose over stay)))
 

@@ -10,7 +10,7 @@ use Rattle.std.specs.Str.{bytes_eq}
 use Rattle.swim_pack.specs.Composing.{◌>>=◌, gives, some_or, lift}
 use Rattle.swim_pack.specs.Spelling.{Raw}
 use Rattle.swim_pack.specs.Reading.{uint_at, flag_at, raw_at, count_at}
-use Rattle.swim_pack.proofs.Composing.{TakesText}
+use Rattle.swim_pack.proofs.Composing.{ConsumedText}
 use Rattle.swim_pack.proofs.Numbers.{uint_takes, uint_again, raw_takes, raw_again, flag_takes, flag_again, count_takes, count_again}
 use Rattle.swim_wire.specs.declared.fault.WireFault.TheVariants.{UnknownKey}
 use Rattle.swim_wire.specs.declared.layout.Limit.{Limit}
@@ -24,28 +24,28 @@ use Rattle.swim_wire.proofs.Keys.{IsLegalLayout, same_key, false≢true, first_f
 use Rattle.swim_wire.proofs.Filling.{HoldsSlots, Fills, fills_distinct, holds_from_fills, fills_from, all_vacant}
 
 value_takes : (limit : Limit) (bytes : List ℕ) (value : Spelled) (rest : List ℕ) → value_at limit bytes ≡ read value rest
-    → TakesText (λ b. Spells limit b value) bytes rest
+    → ConsumedText (λ b. Spells limit b value) bytes rest
 unfolding value_at
 value_takes (limits.Number max) bytes value rest e =
     let t = then_ok (lift fault_of_pack (uint_at max) bytes) (λ v. gives (number v)) value rest e in
     let h = uint_takes max bytes t.0 t.1 (lift_ok fault_of_pack (uint_at max bytes) t.0 t.1 t.2) in
     let is = read_value (number t.0) value t.1 rest t.3 in
     let rest_is = read_rest (number t.0) value t.1 rest t.3 in
-    subst (λ v. TakesText (λ b. Spells (limits.Number max) b v) bytes rest) is
+    subst (λ v. ConsumedText (λ b. Spells (limits.Number max) b v) bytes rest) is
     (record { text = h.text; is = (h.is.1, h.is.0); parts = parts_to h.text h.parts rest_is })
 value_takes (limits.Raw limit) bytes value rest e =
     let t = then_ok (lift fault_of_pack (raw_at limit) bytes) (λ s. gives (raw s)) value rest e in
     let h = raw_takes limit bytes t.0 t.1 (lift_ok fault_of_pack (raw_at limit bytes) t.0 t.1 t.2) in
     let is = read_value (raw t.0) value t.1 rest t.3 in
     let rest_is = read_rest (raw t.0) value t.1 rest t.3 in
-    subst (λ v. TakesText (λ b. Spells (limits.Raw limit) b v) bytes rest) is
+    subst (λ v. ConsumedText (λ b. Spells (limits.Raw limit) b v) bytes rest) is
     (record { text = h.text; is = (h.is.1, h.is.0); parts = parts_to h.text h.parts rest_is })
 value_takes limits.Flag bytes value rest e =
     let t = then_ok (lift fault_of_pack flag_at bytes) (λ f. gives (flag f)) value rest e in
     let h = flag_takes bytes t.0 t.1 (lift_ok fault_of_pack (flag_at bytes) t.0 t.1 t.2) in
     let is = read_value (flag t.0) value t.1 rest t.3 in
     let rest_is = read_rest (flag t.0) value t.1 rest t.3 in
-    subst (λ v. TakesText (λ b. Spells limits.Flag b v) bytes rest) is (record { text = h.text; is = h.is; parts = parts_to h.text h.parts rest_is })
+    subst (λ v. ConsumedText (λ b. Spells limits.Flag b v) bytes rest) is (record { text = h.text; is = h.is; parts = parts_to h.text h.parts rest_is })
 
 value_again : (limit : Limit) (b rest : List ℕ) (value : Spelled) → Spells limit b value → value_at limit (b ++ rest) ≡ read value rest
 unfolding value_at

@@ -5,7 +5,7 @@ use Rattle.std.proofs.lemmas.Bool.Decides.{nat_tests}
 use Rattle.std.specs.Str.{bytes_eq}
 use Rattle.swim_claim.specs.declared.claim.Claim.TheVariants.{Alive, Suspect}
 use Rattle.swim_claim.specs.Details.{DetailsValue}
-use Rattle.swim_pack.proofs.Composing.{TakesText}
+use Rattle.swim_pack.proofs.Composing.{ConsumedText}
 use Rattle.swim_pack.specs.Composing.{◌>>=◌, refuses}
 use Rattle.swim_wire.specs.declared.fault.WireFault.{WireFault}
 use Rattle.swim_wire.specs.declared.fault.WireFault.TheVariants.{Ended, Memory, NameEmpty, BadAddress, BadVersions, WrongType, BadState, TooManyNodes, UserTooLong, Trailing}
@@ -76,7 +76,7 @@ passed_is p q e = cc
 -- ---- a packet that was read
 
 alive_takes : (first : ℕ) (bytes : List ℕ) (p : PacketValue) (rest : List ℕ) → first ≡ 4 → alive_at bytes ≡ read p rest
-    → TakesText (λ b. PacketText b p) (first ∷ bytes) rest
+    → ConsumedText (λ b. PacketText b p) (first ∷ bytes) rest
 unfolding alive_at
 alive_takes first bytes p rest type e =
     let t = then_ok (map_at alive_layout bytes) (λ slots. checked (alive_of slots)) p rest e in
@@ -91,7 +91,7 @@ alive_takes first bytes p rest type e =
     }
 
 suspect_takes : (first : ℕ) (bytes : List ℕ) (p : PacketValue) (rest : List ℕ) → first ≡ 3 → suspect_at bytes ≡ read p rest
-    → TakesText (λ b. PacketText b p) (first ∷ bytes) rest
+    → ConsumedText (λ b. PacketText b p) (first ∷ bytes) rest
 unfolding suspect_at
 suspect_takes first bytes p rest type e =
     let t = then_ok (map_at accusation_layout bytes) (λ slots. checked (suspect_of slots)) p rest e in
@@ -105,7 +105,7 @@ suspect_takes first bytes p rest type e =
     }
 
 dead_takes : (first : ℕ) (bytes : List ℕ) (p : PacketValue) (rest : List ℕ) → first ≡ 5 → dead_at bytes ≡ read p rest
-    → TakesText (λ b. PacketText b p) (first ∷ bytes) rest
+    → ConsumedText (λ b. PacketText b p) (first ∷ bytes) rest
 unfolding dead_at
 dead_takes first bytes p rest type e =
     let t = then_ok (map_at accusation_layout bytes) (λ slots. checked (dead_of slots)) p rest e in
@@ -124,7 +124,7 @@ dead_takes first bytes p rest type e =
     by m pairs true own b text named is = leave m pairs b text named (same_key _ _ own) is
     by m pairs false own b text named is = confirm m pairs b text named (λ same. false≢true (sym own ∙ key_same _ _ same)) is
 
-pub packet_takes : (bytes : List ℕ) (p : PacketValue) (rest : List ℕ) → packet_at bytes ≡ read p rest → TakesText (λ b. PacketText b p) bytes rest
+pub packet_takes : (bytes : List ℕ) (p : PacketValue) (rest : List ℕ) → packet_at bytes ≡ read p rest → ConsumedText (λ b. PacketText b p) bytes rest
 unfolding packet_at
 packet_takes [] p rest e = absurd cc
 packet_takes (first ∷ bytes) p rest e =
@@ -133,7 +133,7 @@ packet_takes (first ∷ bytes) p rest e =
     (λ _. split (eqb first 5) P dead_at _ (λ t. dead_takes first bytes p rest (eqb-true _ _ t)) (λ _ none. absurd cc))) e
   where
     P : Reading PacketValue → Type 0
-    P reading = reading bytes ≡ read p rest → TakesText (λ b. PacketText b p) (first ∷ bytes) rest
+    P reading = reading bytes ≡ read p rest → ConsumedText (λ b. PacketText b p) (first ∷ bytes) rest
 
 -- ---- a text is read
 

@@ -5,7 +5,7 @@ use Rattle.std.proofs.lemmas.Bool.Decides.{nat_tests}
 use Rattle.swim_claim.specs.declared.claim.Claim.{Claim}
 use Rattle.swim_claim.specs.declared.claim.Claim.TheVariants.{Alive, Suspect, Confirm, Leave}
 use Rattle.swim_claim.specs.Details.{DetailsValue}
-use Rattle.swim_pack.proofs.Composing.{TakesText}
+use Rattle.swim_pack.proofs.Composing.{ConsumedText}
 use Rattle.swim_pack.specs.Composing.{◌>>=◌, then_read, refuses}
 use Rattle.swim_wire.specs.declared.fault.WireFault.{WireFault}
 use Rattle.swim_wire.specs.declared.fault.WireFault.TheVariants.{Ended, Memory, NameEmpty, BadAddress, BadVersions, WrongType, BadState, TooManyNodes, UserTooLong, Trailing}
@@ -70,7 +70,7 @@ abbrev header_after : Reading Header
 header_after = map_at header_layout >>= (λ slots. checked (header_of slots))
 
 header_after_takes : (first : ℕ) (bytes : List ℕ) (h : Header) (rest : List ℕ) → first ≡ 6 → header_after bytes ≡ read h rest
-    → TakesText (λ b. HeaderText b h) (first ∷ bytes) rest
+    → ConsumedText (λ b. HeaderText b h) (first ∷ bytes) rest
 header_after_takes first bytes h rest type e =
     let t = then_ok (map_at header_layout bytes) (λ slots. checked (header_of slots)) h rest e in
     let m = map_takes header_layout bytes t.0 t.1 header_legal t.2 in
@@ -89,11 +89,11 @@ by_type : (b : Bool) (first : ℕ) (bytes : List ℕ) → (P : Result (Header ×
 by_type true first bytes P t six other = six (eqb-true _ _ t)
 by_type false first bytes P t six other = other (λ same. grind (arith, nat_tests))
 
-pub header_takes : (bytes : List ℕ) (h : Header) (rest : List ℕ) → header_at bytes ≡ read h rest → TakesText (λ b. HeaderText b h) bytes rest
+pub header_takes : (bytes : List ℕ) (h : Header) (rest : List ℕ) → header_at bytes ≡ read h rest → ConsumedText (λ b. HeaderText b h) bytes rest
 unfolding header_at
 header_takes [] h rest e = absurd cc
 header_takes (first ∷ bytes) h rest e =
-    by_type (eqb first 6) first bytes (λ r. r ≡ read h rest → TakesText (λ b. HeaderText b h) (first ∷ bytes) rest) refl
+    by_type (eqb first 6) first bytes (λ r. r ≡ read h rest → ConsumedText (λ b. HeaderText b h) (first ∷ bytes) rest) refl
     (λ six. header_after_takes first bytes h rest six) (λ other wrong. absurd cc) e
 
 pub header_again : (b rest : List ℕ) (h : Header) → HeaderText b h → header_at (b ++ rest) ≡ read h rest
@@ -226,7 +226,7 @@ claim_err pairs state error same named fails Q address versions bad =
 
 -- ---- state records
 
-pub state_takes : (bytes : List ℕ) (c : Claim) (rest : List ℕ) → state_at bytes ≡ read c rest → TakesText (λ b. StateText b c) bytes rest
+pub state_takes : (bytes : List ℕ) (c : Claim) (rest : List ℕ) → state_at bytes ≡ read c rest → ConsumedText (λ b. StateText b c) bytes rest
 unfolding state_at
 state_takes bytes c rest e =
     let t = then_ok (map_at state_layout bytes) (λ slots. checked (state_of slots)) c rest e in

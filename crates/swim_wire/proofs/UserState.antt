@@ -4,12 +4,12 @@ use Rattle.std.specs.Io.KnownBytes.{Consumes}
 use Rattle.swim_pack.specs.declared.fault.PullFault.{PullFault}
 use Rattle.swim_pack.specs.declared.fault.PullFault.TheVariants as pulls
 use Rattle.swim_pack.specs.Composing.{UnlessFailed}
-use Rattle.swim_pack.specs.Ends.{Source, Lacks, IsShorter}
+use Rattle.swim_pack.specs.Ends.{Source, NoTextAtFront, IsShorter}
 use Rattle.swim_wire.specs.Fault.{fault_of_pull}
 use Rattle.swim_wire.specs.Reading.{wire_cause}
 
 too_few : (a b : Option (List ℕ)) (faults len left size : ℕ) (bytes : List ℕ) → Consumes a b bytes → length bytes + left ≡ len → size ≤ left → IsShorter b size
-    → Lacks (record { coming = a; faults = faults }) (λ b. length b ≡ len)
+    → NoTextAtFront (record { coming = a; faults = faults }) (λ b. length b ≡ len)
 too_few None b faults len left size bytes gone sum le short = tt
 too_few (Some all) None faults len left size bytes gone sum le short = absurd gone
 too_few (Some all) (Some rest) faults len left size bytes gone sum le short = λ text behind long parts.
@@ -20,6 +20,6 @@ too_few (Some all) (Some rest) faults len left size bytes gone sum le short = λ
 -- the pull of a piece was refused
 pub user_lacks : (a b : Source) (len left size : ℕ) (bytes : List ℕ) (pull : PullFault) → Consumes a.coming b.coming bytes
     → length bytes + left ≡ len → size ≤ left
-    → (pull ≡ pulls.Ended → IsShorter b.coming size) → UnlessFailed (wire_cause (fault_of_pull pull)) (Lacks a (λ b. length b ≡ len))
+    → (pull ≡ pulls.Ended → IsShorter b.coming size) → UnlessFailed (wire_cause (fault_of_pull pull)) (NoTextAtFront a (λ b. length b ≡ len))
 user_lacks a b len left size bytes pulls.Ended gone sum le short = too_few a.coming b.coming a.faults len left size bytes gone sum le (short refl)
 user_lacks a b len left size bytes pulls.Fault gone sum le short = tt

@@ -2,7 +2,7 @@
 
 ghost use Rattle.std.specs.Prelude.{◌≤◌, if◌then◌else◌, ◌==◌, IfOk, IfErr, IsErrOf};
 ghost use Rattle.swim_claim.specs.declared.claim.Claim.{Claim};
-ghost use Rattle.swim_pack.specs.Ends.{Takes, Lacks};
+ghost use Rattle.swim_pack.specs.Ends.{ConsumesText, NoTextAtFront};
 ghost use Rattle.swim_pack.specs.Composing.{ReadsAs, UnlessFailed, same, refuses};
 ghost use Rattle.swim_wire.specs.declared.stream.Header.{Header};
 ghost use Rattle.swim_wire.specs.Asking.{MapAsks};
@@ -52,11 +52,11 @@ pub struct Header {
 pub fn read_header<I: Inlet>(inlet: &mut I) -> Result<Header, WireFault>
     // The consumed bytes are the header.
     ensures takes { IfOk result (λ header.
-        Takes (I.seen inlet.old) (I.seen inlet.new) (λ b. HeaderText b header)) }
+        ConsumesText (I.seen inlet.old) (I.seen inlet.new) (λ b. HeaderText b header)) }
     // If refused for a reason other than a failed inlet, the bytes do not start with a header, and
     // the refusal says why.
     ensures lacks { IfErr result (λ fault. UnlessFailed (wire_cause fault)
-        (Lacks (I.seen inlet.old) (λ b. (header : Header) × HeaderText b header))) }
+        (NoTextAtFront (I.seen inlet.old) (λ b. (header : Header) × HeaderText b header))) }
     ensures explains { IfErr result (λ fault.
         ExplainsStart (ExplainsHeader fault) (I.seen inlet.old)) }
     ensures no_memory { ¬ IsErrOf result WireFault.Memory }
@@ -122,12 +122,12 @@ fn read_header_map<I: Inlet>(inlet: &mut I, found: u8) -> Result<Values, WireFau
 pub fn read_state<I: Inlet>(alloc: Global, inlet: &mut I) -> Result<Claim, WireFault>
     // The consumed bytes are the record.
     ensures takes { IfOk result (λ claim.
-        Takes (I.seen inlet.old) (I.seen inlet.new) (λ b. StateText b claim)) }
+        ConsumesText (I.seen inlet.old) (I.seen inlet.new) (λ b. StateText b claim)) }
     // If refused for a reason other than a failed inlet or memory, the bytes do not start with a
     // record, and the refusal says why. Memory is requested only after the length of a text or
     // bytes, within its limit, was read.
     ensures lacks { IfErr result (λ fault. UnlessFailed (wire_cause fault)
-        (Lacks (I.seen inlet.old) (λ b. (claim : Claim) × StateText b claim))) }
+        (NoTextAtFront (I.seen inlet.old) (λ b. (claim : Claim) × StateText b claim))) }
     ensures explains { IfErr result (λ fault.
         ExplainsStart (ExplainsState fault) (I.seen inlet.old)) }
     // What was read, what is left, and that a failure of the inlet was counted.

@@ -2,7 +2,7 @@
 
 ghost use Rattle.std.specs.Prelude.{◌≡◌, ◌⊎◌, length, OnOk, IfErr, IsErrOf};
 ghost use Rattle.swim_pack.specs.Composing.{UnlessFailed};
-ghost use Rattle.swim_pack.specs.Ends.{Takes, Lacks, Draws, Rises};
+ghost use Rattle.swim_pack.specs.Ends.{ConsumesText, NoTextAtFront, Advances, CountsFault};
 ghost use Rattle.swim_wire.specs.Reading.{wire_cause};
 
 use crate::WireFault;
@@ -16,18 +16,18 @@ use swim_pack::Inlet;
 /// `Ended` if fewer bytes are left, and `Fault` if the inlet failed.
 pub fn skip_user<I: Inlet>(inlet: &mut I, len: u32) -> Result<(), WireFault>
     ensures takes { OnOk result
-        (Takes (I.seen inlet.old) (I.seen inlet.new) (λ b. length b ≡ len)) }
+        (ConsumesText (I.seen inlet.old) (I.seen inlet.new) (λ b. length b ≡ len)) }
     // If refused for a reason other than a failed inlet, fewer bytes are left.
     ensures lacks { IfErr result (λ fault.
-        UnlessFailed (wire_cause fault) (Lacks (I.seen inlet.old) (λ b. length b ≡ len))) }
+        UnlessFailed (wire_cause fault) (NoTextAtFront (I.seen inlet.old) (λ b. length b ≡ len))) }
 
     // Which errors there are, and what is left.
     ensures refusals { IfErr result (λ fault. (fault ≡ WireFault.Ended)
         ⊎ (fault ≡ WireFault.Fault)) }
     ensures no_memory { ¬ IsErrOf result WireFault.Memory }
     ensures fault { IsErrOf result WireFault.Fault
-        → Rises (I.seen inlet.old).faults (I.seen inlet.new).faults }
-    ensures end { Draws (I.seen inlet.old) (I.seen inlet.new) }
+        → CountsFault (I.seen inlet.old).faults (I.seen inlet.new).faults }
+    ensures end { Advances (I.seen inlet.old) (I.seen inlet.new) }
 {
     let mut piece = [0; 4096];
     let mut left = len as usize;

@@ -3,7 +3,7 @@ use Rattle.std.proofs.Common.{◌≡◌, ℕ, ◌-◌, ◌<◌, List, [], ◌∷
 use Rattle.swim_claim.specs.declared.claim.Claim.{Claim}
 use Rattle.swim_pack.specs.Composing.{UnlessFailed}
 use Rattle.swim_pack.specs.Composing.Cause.{by_inlet}
-use Rattle.swim_pack.specs.Ends.{TakesKnown, Rises}
+use Rattle.swim_pack.specs.Ends.{ConsumesKnownText, CountsFault}
 use Rattle.swim_wire.specs.declared.fault.WireFault.{WireFault}
 use Rattle.swim_wire.specs.declared.fault.WireFault.TheVariants.{Fault, Memory}
 use Rattle.swim_wire.specs.Reading.{wire_cause}
@@ -22,7 +22,7 @@ pub record ReadSome (bytes now : List ℕ) (header : Header) (claims : List Clai
   pub begun : BeginText front header claims
   pub parts : bytes ≡ front ++ now
 
-pub started : (bytes now : List ℕ) (header : Header) → TakesKnown (Some bytes) (Some now) (λ b. HeaderText b header) → ReadSome bytes now header []
+pub started : (bytes now : List ℕ) (header : Header) → ConsumesKnownText (Some bytes) (Some now) (λ b. HeaderText b header) → ReadSome bytes now header []
 started bytes now header taken = record {
   front = taken.0;
   begun =
@@ -31,7 +31,7 @@ started bytes now header taken = record {
 }
 
 pub one_more : (bytes mid now : List ℕ) (header : Header) (claims : List Claim) (c : Claim) → ReadSome bytes mid header claims
-    → TakesKnown (Some mid) (Some now) (λ b. StateText b c) → ReadSome bytes now header (claims ++ c ∷ [])
+    → ConsumesKnownText (Some mid) (Some now) (λ b. StateText b c) → ReadSome bytes now header (claims ++ c ∷ [])
 one_more bytes mid now header claims c some taken = record {
   front = some.front ++ taken.0;
   begun = begun_more header claims c some.front taken.0 some.begun taken.1;
@@ -39,7 +39,7 @@ one_more bytes mid now header claims c some taken = record {
 }
 
 pub ended : (bytes mid now : List ℕ) (header : Header) (claims : List Claim) → length claims ≡ header.nodes → ReadSome bytes mid header claims
-    → TakesKnown (Some mid) (Some now) (λ b. length b ≡ header.user_len) → BeginsWithStream bytes claims
+    → ConsumesKnownText (Some mid) (Some now) (λ b. length b ≡ header.user_len) → BeginsWithStream bytes claims
 ended bytes mid now header claims count some taken = (
   some.front ++ taken.0,
   now,
@@ -50,10 +50,10 @@ ended bytes mid now header claims count some taken = (
 
 -- ---- bytes in memory never fail
 
-pub no_rise : Rises 0 0 → ⊥
+pub no_rise : CountsFault 0 0 → ⊥
 no_rise h = omega (arith, h)
 
-pub no_fault : (fault : WireFault) → (wire_cause fault ≡ by_inlet → Rises 0 0) → fault ≡ Fault → ⊥
+pub no_fault : (fault : WireFault) → (wire_cause fault ≡ by_inlet → CountsFault 0 0) → fault ≡ Fault → ⊥
 no_fault fault rises is = no_rise (rises (ap wire_cause is))
 
 -- what is reported unless the inlet failed or memory ran out

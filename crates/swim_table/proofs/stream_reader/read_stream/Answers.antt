@@ -1,6 +1,6 @@
 use Rattle.std.proofs.lemmas.Result.{err_from_is_err_and}
 use Rattle.swim_pack.proofs.Composing.{UnlessFailed-weaker}
-use Rattle.swim_pack.proofs.Ends.{Draws-trans}
+use Rattle.swim_pack.proofs.Ends.{Advances-trans}
 use Rattle.swim_wire.specs.Reading.{wire_cause}
 use Rattle.swim_table.proofs.Streams.{started, stepped, ended, none_wanted, step_explains}
 use Rattle.swim_table.proofs.stream_reader.read_stream.Goals as goal
@@ -28,14 +28,14 @@ returns-in_err-next-clause-explains g c =
     c.loop-next.reader c.loop-next.invariant.some c.in_err-next.ensures.explains)
 
 pub returns-in_err-next-clause-end : goal.returns-in_err-next-clause-end
-returns-in_err-next-clause-end g c = Draws-trans _ _ _ c.loop-next.invariant.end c.step.ensures.end
+returns-in_err-next-clause-end g c = Advances-trans _ _ _ c.loop-next.invariant.end c.step.ensures.end
 
 pub loop-next-preserved : goal.loop-next-preserved
 loop-next-preserved g c = record {
   some =
       stepped (g.I.Inlet.seen c.args.inlet.now) (g.I.Inlet.seen c.loop-next.inlet) (g.I.Inlet.seen c.step.new.inlet)
       c.loop-next.reader c.in-More.next c.loop-next.invariant.some (rw c.in-More.is at c.in_ok-next.ensures.takes);
-  end = Draws-trans _ _ _ c.loop-next.invariant.end c.step.ensures.end;
+  end = Advances-trans _ _ _ c.loop-next.invariant.end c.step.ensures.end;
 }
 
 pub returns-in-End-clause-takes : goal.returns-in-End-clause-takes
@@ -44,4 +44,4 @@ returns-in-End-clause-takes g c =
     c.loop-next.reader c.in-End.table c.in-End.join c.loop-next.invariant.some (rw c.in-End.is at c.in_ok-next.ensures.takes)
 
 pub returns-in-End-clause-end : goal.returns-in-End-clause-end
-returns-in-End-clause-end g c = Draws-trans _ _ _ c.loop-next.invariant.end c.step.ensures.end
+returns-in-End-clause-end g c = Advances-trans _ _ _ c.loop-next.invariant.end c.step.ensures.end

@@ -1,8 +1,8 @@
 use Rattle.std.proofs.Common.{◌≡◌, ◌≤◌, ◌+◌, ◌-◌, ◌++◌, length, length-append, arith, rules}
 use Rattle.std.proofs.KnownBytes.{Consumes-trans}
 use Rattle.std.proofs.lemmas.Result.{err_from_is_err_and}
-use Rattle.swim_pack.specs.Ends.{Skips}
-use Rattle.swim_pack.proofs.Composing.{Takes-consumed}
+use Rattle.swim_pack.specs.Ends.{ConsumesSome}
+use Rattle.swim_pack.proofs.Composing.{ConsumesText-consumed}
 use Rattle.swim_wire.proofs.UserState.{user_lacks}
 use Rattle.swim_wire.proofs.user_state.skip_user.Goals as goal
 
@@ -10,7 +10,7 @@ pub returns-clause-takes : goal.returns-clause-takes
 returns-clause-takes g c =
     let gone = c.loop-left.invariant.dropped in
     let sum = gone.2 in
-    Takes-consumed _ _ (λ b. length b ≡ c.args.len) gone.0 (omega (arith, sum, c.loop-left-test.false)) gone.1
+    ConsumesText-consumed _ _ (λ b. length b ≡ c.args.len) gone.0 (omega (arith, sum, c.loop-left-test.false)) gone.1
 
 pub returns-in_err-pull-clause-lacks : goal.returns-in_err-pull-clause-lacks
 returns-in_err-pull-clause-lacks g c =
@@ -27,7 +27,7 @@ returns-in_err-pull-clause-end g c =
     let more = c.in_err-pull.ensures.refused in
     let stay = c.loop-left.invariant.faults in
     let after = c.in_err-pull.ensures.faults_stay in
-    let taken : Skips (g.I.Inlet.seen c.args.inlet.now).coming (g.I.Inlet.seen c.pull.new.self).coming =
+    let taken : ConsumesSome (g.I.Inlet.seen c.args.inlet.now).coming (g.I.Inlet.seen c.pull.new.self).coming =
     (gone.0 ++ more.0, Consumes-trans _ _ _ gone.0 more.0 gone.1 more.1) in
     (taken, omega arith)
 

@@ -1,7 +1,7 @@
 use Rattle.std.proofs.Common.{◌≡◌, ◌∙◌, ◌-◌, ℕ, List, length, drop, true, Err, ap, subst}
 use Rattle.std.proofs.lemmas.Result.{err_from_is_err_and}
 use Rattle.swim_pack.specs.Composing.{UnlessFailed}
-use Rattle.swim_pack.specs.Ends.{Lacks, Takes}
+use Rattle.swim_pack.specs.Ends.{NoTextAtFront, ConsumesText}
 use Rattle.swim_table.specs.Steps.{ExplainsBegin}
 use Rattle.swim_wire.specs.declared.stream.Header.{Header}
 use Rattle.swim_wire.specs.Reading.{wire_cause}
@@ -18,7 +18,7 @@ returns-in_err-header-clause-lacks c =
     let is : c.new-inlet.result ≡ drop c.args.self.now.at c.args.bytes.now = c.new-inlet.ensures ∙ c.unread.ensures.unread in
     rw (p.1, p.2)
     (header_missing c.args.bytes.now c.args.self.now fault (λ e. why.no_memory (ap Err e)) why.exact.fault
-    (subst (λ (b : List ℕ). UnlessFailed (wire_cause fault) (Lacks (memory b) (λ t. (h : Header) × HeaderText t h))) is why.lacks)
+    (subst (λ (b : List ℕ). UnlessFailed (wire_cause fault) (NoTextAtFront (memory b) (λ t. (h : Header) × HeaderText t h))) is why.lacks)
     (subst (λ (b : List ℕ). ExplainsBegin fault b) is (why.explains, why.exact.answer)) c.requires)
 
 pub returns-clause-progress : goal.returns-clause-progress
@@ -26,5 +26,5 @@ returns-clause-progress c =
     let header = c.in_ok-header.header in
     let is : c.new-inlet.result ≡ drop c.args.self.now.at c.args.bytes.now = c.new-inlet.ensures ∙ c.unread.ensures.unread in
     header_read c.args.bytes.now c.read_header.new.inlet c.args.self.now _ header c.requires
-    (subst (λ (b : List ℕ). Takes (memory b) (memory c.read_header.new.inlet) (λ t. HeaderText t header)) is c.in_ok-header.ensures.takes)
+    (subst (λ (b : List ℕ). ConsumesText (memory b) (memory c.read_header.new.inlet) (λ t. HeaderText t header)) is c.in_ok-header.ensures.takes)
     (λ i. progress (length c.args.bytes.now - length (c.rest.ensures i)) header.nodes header.user_len true)

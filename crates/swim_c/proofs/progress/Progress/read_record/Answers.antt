@@ -2,7 +2,7 @@ use Rattle.std.proofs.Common.{◌≡◌, ◌∙◌, ◌-◌, ℕ, List, length, 
 use Rattle.std.proofs.lemmas.Result.{err_from_is_err_and}
 use Rattle.swim_claim.specs.declared.claim.Claim.{Claim}
 use Rattle.swim_pack.specs.Composing.{UnlessFailed}
-use Rattle.swim_pack.specs.Ends.{Lacks, Takes}
+use Rattle.swim_pack.specs.Ends.{NoTextAtFront, ConsumesText}
 use Rattle.swim_table.specs.Steps.{ExplainsRecord}
 use Rattle.swim_wire.specs.Reading.{wire_cause}
 use Rattle.swim_wire.specs.Texts.{StateText}
@@ -18,7 +18,7 @@ returns-in_err-read_state-clause-lacks c =
     let is : c.new-inlet.result ≡ drop c.args.self.now.at c.args.bytes.now = c.new-inlet.ensures ∙ c.unread.ensures.unread in
     rw (p.1, p.2)
     (λ at no_memory. record_missing c.args.bytes.now c.args.self.now fault no_memory why.exact.fault
-    (subst (λ (b : List ℕ). UnlessFailed (wire_cause fault) (Lacks (memory b) (λ t. (r : Claim) × StateText t r))) is why.lacks)
+    (subst (λ (b : List ℕ). UnlessFailed (wire_cause fault) (NoTextAtFront (memory b) (λ t. (r : Claim) × StateText t r))) is why.lacks)
     (subst (λ (b : List ℕ). ExplainsRecord fault b) is (why.explains, why.exact.answer)) c.requires.header c.requires.left at)
 
 pub returns-clause-progress : goal.returns-clause-progress
@@ -26,5 +26,5 @@ returns-clause-progress c =
     let claim = c.in_ok-read_state.field-0 in let old = c.args.self.now in let some = c.requires.left in
     let is : c.new-inlet.result ≡ drop old.at c.args.bytes.now = c.new-inlet.ensures ∙ c.unread.ensures.unread in
     record_read c.args.bytes.now c.read_state.new.inlet old _ claim c.requires.header (omega (arith, some))
-    (subst (λ (b : List ℕ). Takes (memory b) (memory c.read_state.new.inlet) (λ t. StateText t claim)) is c.in_ok-read_state.ensures.takes)
+    (subst (λ (b : List ℕ). ConsumesText (memory b) (memory c.read_state.new.inlet) (λ t. StateText t claim)) is c.in_ok-read_state.ensures.takes)
     (λ i. progress (length c.args.bytes.now - length (c.rest.ensures i)) (old.left - 1) old.user_len (c.requires.header i))

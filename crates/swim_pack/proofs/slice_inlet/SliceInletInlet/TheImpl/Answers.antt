@@ -1,6 +1,6 @@
 use Rattle.std.proofs.Common.{arith, rules, sym, ◌∙◌, []}
 use Rattle.std.proofs.lemmas.List.{append-nil}
-use Rattle.swim_pack.proofs.Refusals.{Skips-kept, short_where_refused, passed_front}
+use Rattle.swim_pack.proofs.Refusals.{ConsumesSome-kept, short_where_refused, passed_front}
 use Rattle.swim_pack.proofs.slice_inlet.SliceInletInlet.TheImpl.Goals as goal
 
 pub pull-tells : goal.pull-tells
@@ -9,7 +9,7 @@ pull-tells g c = record {
   empty = λ none. c.ensures.enough.1 (omega arith);
   ended = λ e. short_where_refused c.result _ _ _ c.ensures.enough e;
   fault = λ e. search rules;
-  refused = Skips-kept c.result _ _ c.ensures.kept;
+  refused = ConsumesSome-kept c.result _ _ c.ensures.kept;
   faults_stay = omega arith;
 }
 

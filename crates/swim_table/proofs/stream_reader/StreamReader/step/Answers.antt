@@ -1,7 +1,7 @@
 use Rattle.std.proofs.Common.{◌≡◌, ◌≢◌, ◌+◌, ◌-◌, ◌++◌, ◌∷◌, [], List, subst, refl, arith}
 use Rattle.std.proofs.lemmas.Result.{err_from_is_err_and}
 use Rattle.swim_claim.specs.declared.claim.Claim.{Claim}
-use Rattle.swim_pack.specs.Ends.{Source, Takes}
+use Rattle.swim_pack.specs.Ends.{Source, ConsumesText}
 use Rattle.swim_wire.specs.Texts.{StateText}
 use Rattle.swim_table.specs.declared.stream_reader.Step.TheVariants.{More}
 use Rattle.swim_table.specs.Streaming.{Streaming}
@@ -12,7 +12,7 @@ use Rattle.swim_table.proofs.Streams.{user_explains, record_asks}
 use Rattle.swim_table.proofs.stream_reader.StreamReader.step.Goals as goal
 
 one_record : (reader inside : Streaming) (old new : Source) (c : Claim) (table : Entries) → inside ≡ reader → inside.left ≢ 0
-    → Takes old new (λ b. StateText b c)
+    → ConsumesText old new (λ b. StateText b c)
     → TableOf table (Reduced inside.table ++ c ∷ []) → ((claims : List Claim) → TableOf inside.table claims → TableOf table (claims ++ c ∷ []))
     → Steps reader old new (More (record { header = inside.header; left = inside.left - 1; table = table }))
 one_record reader inside old new c table same some taken reduced all =
