@@ -7,7 +7,7 @@ use Rattle.std.specs.Io.KnownBytes.{Consumes}
 use Rattle.swim_pack.proofs.Composing.{Reads-exit, Reads-then, Reads-gives, Reads-refuses, Reads-some, Reads-none}
 use Rattle.swim_pack.specs.declared.fault.PullFault.{PullFault}
 use Rattle.swim_pack.specs.declared.fault.PullFault.TheVariants as pulls
-use Rattle.swim_pack.specs.Composing.{◌>>=◌, gives, Reading, Cause, Answers, TakesNoMore, ReadsAs, IsCutShort}
+use Rattle.swim_pack.specs.Composing.{◌>>=◌, gives, Reading, Cause, Answers, ConsumesMinimalPrefix, ReadsAs, IsIncomplete}
 use Rattle.swim_pack.specs.Ends.{Source, ConsumesSome, ConsumesKnownText, IsShorter, CountsFault}
 use Rattle.capture.specs.declared.capture_fault.CaptureFault.TheVariants.{Cut, Device, Memory, TooLong}
 use Rattle.capture.specs.declared.stop.Stop.{Stop}
@@ -23,7 +23,7 @@ next_part-whole n part more long =
     rw (fits, take_at part more n long, drop_at part more n long) refl
 
 next_part-front : (n : ℕ) (text front more : List ℕ) → length text ≤ n → text ≡ front ++ more → 0 < length more
-    → IsCutShort stop_cause (next_part n front)
+    → IsIncomplete stop_cause (next_part n front)
 next_part-front n text front more long parts some =
     let sum = ap length parts in
     let lengths = length-append front more in
@@ -31,7 +31,7 @@ next_part-front n text front more long parts some =
 
 -- a text is consumed that determines the value
 pub Reads-text : {E X V : Type 0} {cause : E → Cause} {view : X → V} {reading : Reading E V} {a b : Source} {x : X} (text : List ℕ)
-    → TakesNoMore cause view reading (Ok x) text → Consumes a.coming b.coming text → a.faults ≤ b.faults
+    → ConsumesMinimalPrefix cause view reading (Ok x) text → Consumes a.coming b.coming text → a.faults ≤ b.faults
     → ReadsAs cause view reading a b (Ok x)
 Reads-text {E} {X} {V} {cause} {view} {reading} {a} {b} {x} text h gone stay = record {
   rest = (text, gone);
@@ -44,9 +44,9 @@ Reads-text {E} {X} {V} {cause} {view} {reading} {a} {b} {x} text h gone stay = r
     answers : (old new : Option (List ℕ)) → Consumes old new text → Answers cause view reading old new (Ok x)
     answers None new gone = tt
     answers (Some bytes) None gone = absurd gone
-    answers (Some bytes) (Some rest) gone = ap reading gone ∙ h.settles rest
+    answers (Some bytes) (Some rest) gone = ap reading gone ∙ h.determines rest
 
-    takes : (old new : Option (List ℕ)) → Consumes old new text → ConsumesKnownText old new (TakesNoMore cause view reading (Ok x))
+    takes : (old new : Option (List ℕ)) → Consumes old new text → ConsumesKnownText old new (ConsumesMinimalPrefix cause view reading (Ok x))
     takes None new gone = (text, h)
     takes (Some bytes) None gone = absurd gone
     takes (Some bytes) (Some rest) gone = (text, h, gone)
@@ -54,14 +54,14 @@ Reads-text {E} {X} {V} {cause} {view} {reading} {a} {b} {x} text h gone stay = r
 -- the first byte is there
 pub first-taken : {X : Type 0} {view : X → List ℕ} {a b : Source} {x : X} (got : List ℕ) → length got ≡ 1 → view x ≡ got
     → Consumes a.coming b.coming got → a.faults ≤ b.faults → ReadsAs stop_cause view first_byte a b (Ok x)
-first-taken {X} {view} {a} {b} {x} got one is gone stay = Reads-text got (record { settles = settles got one is; waits = waits }) gone stay
+first-taken {X} {view} {a} {b} {x} got one is gone stay = Reads-text got (record { determines = determines got one is; waits = waits }) gone stay
   where
-    settles : (got : List ℕ) → length got ≡ 1 → view x ≡ got → (more : List ℕ) → first_byte (got ++ more) ≡ Ok (view x, more)
-    settles [] one is more = absurd (omega arith)
-    settles (byte ∷ []) one is more = rw is refl
-    settles (byte ∷ (next ∷ rest)) one is more = absurd (omega arith)
+    determines : (got : List ℕ) → length got ≡ 1 → view x ≡ got → (more : List ℕ) → first_byte (got ++ more) ≡ Ok (view x, more)
+    determines [] one is more = absurd (omega arith)
+    determines (byte ∷ []) one is more = rw is refl
+    determines (byte ∷ (next ∷ rest)) one is more = absurd (omega arith)
 
-    waits : (_ : Unit {0}) (front more : List ℕ) → got ≡ front ++ more → 0 < length more → IsCutShort stop_cause (first_byte front)
+    waits : (_ : Unit {0}) (front more : List ℕ) → got ≡ front ++ more → 0 < length more → IsIncomplete stop_cause (first_byte front)
     waits free [] more parts some = refl
     waits free (byte ∷ front) more parts some =
         let sum = ap length parts in
@@ -73,7 +73,7 @@ pub part-taken : {X : Type 0} {view : X → List ℕ} {a b : Source} {x : X} (n 
     → Consumes a.coming b.coming got → a.faults ≤ b.faults → ReadsAs stop_cause view (next_part n) a b (Ok x)
 part-taken {X} {view} {a} {b} {x} n got long is gone stay =
     Reads-text got (record {
-      settles = λ more. rw is (next_part-whole n got more long);
+      determines = λ more. rw is (next_part-whole n got more long);
       waits = λ free front more parts some. next_part-front n got front more (omega arith) parts some;
     })
     gone stay
@@ -107,13 +107,13 @@ part-cut {X} {view} {a} {b} m n k got long gone before short over after = record
     answers (Some bytes) None z gone short = absurd gone
     answers (Some bytes) (Some left) z gone short = next_part-cut n bytes (omega (arith, ap length gone, length-append got left, short, long))
 
-    own : TakesNoMore {X = X} stop_cause view (next_part n) (Err (Fault Cut)) got
-    own = record { settles = λ by more. absurd cc; waits = λ free front more parts some. next_part-front n got front more (omega (arith, long)) parts some }
+    own : ConsumesMinimalPrefix {X = X} stop_cause view (next_part n) (Err (Fault Cut)) got
+    own = record { determines = λ by more. absurd cc; waits = λ free front more parts some. next_part-front n got front more (omega (arith, long)) parts some }
 
     no_more : (bytes left rest : List ℕ) → bytes ≡ got ++ left → left ≡ over.0 ++ rest → length left < k
-        → TakesNoMore {X = X} stop_cause view (next_part n) (Err (Fault Cut)) (got ++ over.0)
+        → ConsumesMinimalPrefix {X = X} stop_cause view (next_part n) (Err (Fault Cut)) (got ++ over.0)
     no_more bytes left rest gone over_left short = record {
-      settles = λ by more. absurd cc;
+      determines = λ by more. absurd cc;
       waits = λ free front more parts some.
           next_part-front n (got ++ over.0) front more
           (omega (arith, length-append got over.0, ap length over_left, length-append over.0 rest, short, long)) parts some;
@@ -137,8 +137,8 @@ part-failed {X} {view} {a} {b} m n got gone before rise over after = record {
     answers None z = tt
     answers (Some bytes) z = tt
 
-    no_more : (taken : List ℕ) → TakesNoMore {X = X} stop_cause view (next_part n) (Err (Fault Device)) taken
-    no_more taken = record { settles = λ by more. absurd cc; waits = λ free front more parts some. absurd (free refl) }
+    no_more : (taken : List ℕ) → ConsumesMinimalPrefix {X = X} stop_cause view (next_part n) (Err (Fault Device)) taken
+    no_more taken = record { determines = λ by more. absurd cc; waits = λ free front more parts some. absurd (free refl) }
 
 -- not enough memory for a piece that was read
 pub part-memory : {X : Type 0} {view : X → List ℕ} {a b : Source} (n : ℕ) (got : List ℕ) → length got ≤ n
@@ -155,10 +155,10 @@ part-memory {X} {view} {a} {b} n got long gone stay = record {
     answers None z = tt
     answers (Some bytes) z = tt
 
-    own : TakesNoMore {X = X} stop_cause view (next_part n) (Err (Fault Memory)) got
-    own = record { settles = λ by more. absurd cc; waits = λ free front more parts some. next_part-front n got front more long parts some }
+    own : ConsumesMinimalPrefix {X = X} stop_cause view (next_part n) (Err (Fault Memory)) got
+    own = record { determines = λ by more. absurd cc; waits = λ free front more parts some. next_part-front n got front more long parts some }
 
-    takes : (x z : Option (List ℕ)) → Consumes x z got → ConsumesKnownText x z (TakesNoMore {X = X} stop_cause view (next_part n) (Err (Fault Memory)))
+    takes : (x z : Option (List ℕ)) → Consumes x z got → ConsumesKnownText x z (ConsumesMinimalPrefix {X = X} stop_cause view (next_part n) (Err (Fault Memory)))
     takes None z gone = (got, own)
     takes (Some bytes) None gone = absurd gone
     takes (Some bytes) (Some rest) gone =

@@ -6,15 +6,15 @@ use Rattle.swim_pack.specs.declared.fault.PackFault.{PackFault}
 use Rattle.swim_pack.specs.declared.fault.PackFault.TheVariants.{Ended}
 use Rattle.swim_pack.specs.declared.form.Form.{Form}
 use Rattle.swim_pack.specs.declared.form.Form.TheVariants.{Fixed, Unsigned, Signed}
-use Rattle.swim_pack.specs.Composing.{Reading, then_read, ◌>>=◌, gives, refuses, some_or, within, lift, lift_error, Cause, TakesNoMore, same}
+use Rattle.swim_pack.specs.Composing.{Reading, then_read, ◌>>=◌, gives, refuses, some_or, within, lift, lift_error, Cause, ConsumesMinimalPrefix, same}
 use Rattle.swim_pack.specs.Reading.{cause_of, next_bytes, next_byte, big_at, positive_at, after_form, head_at, number_form, raw_form, count_form, uint_at, count_at, raw_len_at, raw_at, flag_of_byte, flag_at}
-use Rattle.swim_pack.proofs.Composing.{ConsumedText, TakesNoMore-then, TakesNoMore-lift, none_shorter}
+use Rattle.swim_pack.proofs.Composing.{ConsumedText, ConsumesMinimalPrefix-then, ConsumesMinimalPrefix-lift, none_shorter}
 use Rattle.swim_pack.proofs.Pulls.{next_bytes-whole, next_bytes-short}
 
 -- if the reading returns a value, what it consumed determines it, and no shorter prefix does
 pub record IsPrompt {E V : Type 0} (cause : E → Cause) (reading : Reading E V) : Type 0 where
   pub by : (bytes : List ℕ) (value : V) (rest : List ℕ) → reading bytes ≡ Ok (value, rest) → ConsumedText
-      (TakesNoMore {X = V} cause same reading (Ok value)) bytes rest
+      (ConsumesMinimalPrefix {X = V} cause same reading (Ok value)) bytes rest
 
 abbrev pair_of : {A : Type 0} → A → List ℕ → A × List ℕ
 pair_of x r = (x, r)
@@ -35,13 +35,13 @@ pub prompt-then : {E V W : Type 0} {cause : E → Cause} {first : Reading E V} {
 prompt-then {E} {V} {W} {cause} {first} {next} p q = record { by = λ bytes value rest e. by_first bytes value rest (first bytes) refl e }
   where
     by_first : (bytes : List ℕ) (value : W) (rest : List ℕ) (r : Result (V × List ℕ) E) → first bytes ≡ r → then_read next r ≡ Ok (value, rest)
-        → ConsumedText (TakesNoMore {X = W} cause same (first >>= next) (Ok value)) bytes rest
+        → ConsumedText (ConsumesMinimalPrefix {X = W} cause same (first >>= next) (Ok value)) bytes rest
     by_first bytes value rest (Ok r) is e =
         let front = p.by bytes r.0 r.1 is in
         let back = (q r.0).by r.1 value rest e in
         record {
           text = front.text ++ back.text;
-          is = TakesNoMore-then cause same same first next r.0 (Ok value) front.text back.text front.is back.is;
+          is = ConsumesMinimalPrefix-then cause same same first next r.0 (Ok value) front.text back.text front.is back.is;
           parts = front.parts ∙ ap (λ (r : List ℕ). front.text ++ r) back.parts ∙ sym (append_assoc front.text back.text rest);
         }
     by_first bytes value rest (Err error) is e = absurd cc
@@ -51,7 +51,7 @@ prompt-gives {E} {V} {cause} value = record {
   by = λ bytes other rest e. record {
     text = [];
     is = record {
-      settles = λ more. ap (λ v. read v more) (same_value {E = E} value other bytes rest e);
+      determines = λ more. ap (λ v. read v more) (same_value {E = E} value other bytes rest e);
       waits = λ free front more parts some. absurd (none_shorter front more parts some);
     };
     parts = same_rest {E = E} value other bytes rest e;
@@ -75,10 +75,10 @@ pub prompt-lift : {E F V : Type 0} {cause : E → Cause} {above : F → Cause} {
 prompt-lift {E} {F} {V} {cause} {above} {reading} f same_cause p = record { by = λ bytes value rest e. by_read bytes value rest (reading bytes) refl e }
   where
     by_read : (bytes : List ℕ) (value : V) (rest : List ℕ) (r : Result (V × List ℕ) E) → reading bytes ≡ r → lift_error f r ≡ Ok (value, rest)
-        → ConsumedText (TakesNoMore {X = V} above same (lift f reading) (Ok value)) bytes rest
+        → ConsumedText (ConsumesMinimalPrefix {X = V} above same (lift f reading) (Ok value)) bytes rest
     by_read bytes value rest (Ok r) is e =
         let t = p.by bytes value rest (is ∙ cc) in
-        record { text = t.text; is = TakesNoMore-lift above f same_cause (Ok value) t.text t.is; parts = t.parts }
+        record { text = t.text; is = ConsumesMinimalPrefix-lift above f same_cause (Ok value) t.text t.is; parts = t.parts }
     by_read bytes value rest (Err error) is e = absurd cc
 
 -- ---- the values of MessagePack
@@ -91,12 +91,12 @@ prompt-next_byte = record { by = taken }
     waiting first (x ∷ front) more parts some = absurd (omega (arith, ap length parts ∙ length-append (x ∷ front) more, some))
 
     taken : (bytes : List ℕ) (value : ℕ) (rest : List ℕ) → next_byte bytes ≡ Ok (value, rest) → ConsumedText
-        (TakesNoMore {X = ℕ} cause_of same next_byte (Ok value)) bytes rest
+        (ConsumesMinimalPrefix {X = ℕ} cause_of same next_byte (Ok value)) bytes rest
     taken [] value rest e = absurd cc
     taken (first ∷ bytes) value rest e = record {
       text = first ∷ [];
       is = record {
-        settles = λ more. ap (λ v. read v more) (same_value {E = PackFault} first value bytes rest e);
+        determines = λ more. ap (λ v. read v more) (same_value {E = PackFault} first value bytes rest e);
         waits = λ free front more parts some. rw (waiting first front more parts some) refl;
       };
       parts = ap (λ (r : List ℕ). first ∷ r) (same_rest {E = PackFault} first value bytes rest e);
@@ -107,14 +107,14 @@ prompt-next_bytes n = record { by = λ bytes value rest e. by_length bytes value
   where
     by_length : (bytes value rest : List ℕ) (b : Bool) → ltb (length bytes) n ≡ b →
         (if b then Err Ended else read {E = PackFault} (take n bytes) (drop n bytes)) ≡ Ok (value, rest)
-        → ConsumedText (TakesNoMore {X = List ℕ} cause_of same (next_bytes n) (Ok value)) bytes rest
+        → ConsumedText (ConsumesMinimalPrefix {X = List ℕ} cause_of same (next_bytes n) (Ok value)) bytes rest
     by_length bytes value rest true is e = absurd cc
     by_length bytes value rest false is e =
         let long : length (take n bytes) ≡ n = length-take-le n bytes (ltb-false _ _ is) in
         record {
           text = take n bytes;
           is = record {
-            settles =
+            determines =
                 λ more. next_bytes-whole n (take n bytes) more long ∙ ap (λ (v : List ℕ). read v more)
                 (same_value {E = PackFault} (take n bytes) value (drop n bytes) rest e);
             waits = λ free front more parts some. rw (next_bytes-short n front (omega (arith, long, ap length parts ∙ length-append front more, some))) refl;

@@ -7,7 +7,7 @@ use Rattle.swim_pack.specs.declared.fault.PackFault.{PackFault}
 use Rattle.swim_pack.specs.declared.fault.PackFault.TheVariants.{Ended, Fault}
 use Rattle.swim_pack.specs.declared.fault.PullFault.{PullFault}
 use Rattle.swim_pack.specs.declared.fault.PullFault.TheVariants as pulls
-use Rattle.swim_pack.specs.Composing.{Answers, IsCutShort, TakesNoMore, same}
+use Rattle.swim_pack.specs.Composing.{Answers, IsIncomplete, ConsumesMinimalPrefix, same}
 use Rattle.swim_pack.specs.Ends.{Source, ConsumesSome, ConsumesKnownText, IsShorter, CountsFault}
 use Rattle.swim_pack.specs.Numbers.{pack_fault}
 use Rattle.swim_pack.specs.Reading.{Reads, cause_of, next_byte, next_bytes}
@@ -29,7 +29,7 @@ Reads-pulled {X} {a} {b} {x} n got long gone stay = record {
   answer = answered a.coming b.coming gone;
   takes = ConsumesText-consumed a.coming b.coming _ got
       (record {
-        settles = λ more. next_bytes-whole n got more long;
+        determines = λ more. next_bytes-whole n got more long;
         waits = λ free front more parts some. rw (next_bytes-short n front (omega (arith, long, ap length parts ∙ length-append front more, some))) refl;
       }) gone;
   fault = tt;
@@ -56,14 +56,14 @@ Reads-ended {X} {view} {a} {b} n short over stay = record {
     answered None new short = tt
     answered (Some bytes) new short = next_bytes-short n bytes short
 
-    no_more : (text : List ℕ) → length text ≤ n → TakesNoMore {X = X} cause_of view (next_bytes n) (Err Ended) text
+    no_more : (text : List ℕ) → length text ≤ n → ConsumesMinimalPrefix {X = X} cause_of view (next_bytes n) (Err Ended) text
     no_more text few = record {
-      settles = λ by. absurd cc;
+      determines = λ by. absurd cc;
       waits = λ free front more parts some. rw (next_bytes-short n front (omega (arith, few, ap length parts ∙ length-append front more, some))) refl;
     }
 
     taken : (old new : Option (List ℕ)) → IsShorter old n → ConsumesSome old new → ConsumesKnownText old new
-        (TakesNoMore {X = X} cause_of view (next_bytes n) (Err Ended))
+        (ConsumesMinimalPrefix {X = X} cause_of view (next_bytes n) (Err Ended))
     taken None new short over = ([], no_more [] (omega arith))
     taken (Some bytes) None short over = absurd over.1
     taken (Some bytes) (Some rest) short over =
@@ -75,7 +75,7 @@ pub Reads-failed : {X : Type 0} {view : X → List ℕ} {a b : Source} (n : ℕ)
 Reads-failed {X} {view} {a} {b} n rose over stay = record {
   rest = over;
   answer = answered a.coming b.coming;
-  takes = ConsumesText-consumed a.coming b.coming _ over.0 (record { settles = λ by. absurd cc; waits = λ free. absurd (free refl) }) over.1;
+  takes = ConsumesText-consumed a.coming b.coming _ over.0 (record { determines = λ by. absurd cc; waits = λ free. absurd (free refl) }) over.1;
   fault = λ e. rose;
   faults_stay = stay;
 }
@@ -100,7 +100,7 @@ byte_refused (first ∷ bytes) error e =
     let read : next_bytes 1 (first ∷ bytes) ≡ Ok (take 1 (first ∷ bytes), drop 1 (first ∷ bytes)) = rw some refl in
     absurd cc
 
-byte_cut : (bytes : List ℕ) → IsCutShort cause_of (next_bytes 1 bytes) → IsCutShort cause_of (next_byte bytes)
+byte_cut : (bytes : List ℕ) → IsIncomplete cause_of (next_bytes 1 bytes) → IsIncomplete cause_of (next_byte bytes)
 byte_cut [] h = refl
 byte_cut (first ∷ bytes) h =
     let some : ltb (length (first ∷ bytes)) 1 ≡ false = le-ltb _ _ (omega arith) in
@@ -111,7 +111,7 @@ one_of [] d one = absurd (omega (arith, one))
 one_of (byte ∷ []) d one = refl
 one_of (byte ∷ next ∷ rest) d one = absurd (omega (arith, one))
 
-byte_waits : (byte : ℕ) (front more : List ℕ) → byte ∷ [] ≡ front ++ more → 0 < length more → IsCutShort cause_of (next_byte front)
+byte_waits : (byte : ℕ) (front more : List ℕ) → byte ∷ [] ≡ front ++ more → 0 < length more → IsIncomplete cause_of (next_byte front)
 byte_waits byte [] more parts some = refl
 byte_waits byte (x ∷ front) more parts some = absurd (omega (arith, ap length parts ∙ length-append (x ∷ front) more, some))
 
@@ -123,7 +123,7 @@ Reads-byte {a} {b} got d one gone stay = record {
   answer = answered a.coming b.coming gone;
   takes = ConsumesText-consumed a.coming b.coming _ got
       (record {
-        settles = λ more. ap (λ (bytes : List ℕ). next_byte (bytes ++ more)) (one_of got d one);
+        determines = λ more. ap (λ (bytes : List ℕ). next_byte (bytes ++ more)) (one_of got d one);
         waits = λ free front more parts some. byte_waits (get_or got 0 d) front more (sym (one_of got d one) ∙ parts) some;
       }) gone;
   fault = tt;
@@ -151,9 +151,9 @@ Reads-no_byte {X} {view} {a} {b} {error} p = record {
     answered None h = tt
     answered (Some bytes) h = UnlessFailed-weaker (cause_of error) (byte_refused bytes error) h
 
-    no_more : (taken : List ℕ) → TakesNoMore {X = X} cause_of view (next_bytes 1) (Err error) taken
-        → TakesNoMore {X = ℕ} cause_of same next_byte (Err error) taken
+    no_more : (taken : List ℕ) → ConsumesMinimalPrefix {X = X} cause_of view (next_bytes 1) (Err error) taken
+        → ConsumesMinimalPrefix {X = ℕ} cause_of same next_byte (Err error) taken
     no_more taken h = record {
-      settles = λ by more. byte_refused (taken ++ more) error (h.settles by more);
+      determines = λ by more. byte_refused (taken ++ more) error (h.determines by more);
       waits = λ free front more parts some. byte_cut front (h.waits free front more parts some);
     }

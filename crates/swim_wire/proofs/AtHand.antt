@@ -4,7 +4,7 @@ use Rattle.std.proofs.lemmas.List.{drop_at, length-append}
 use Rattle.std.specs.Io.KnownBytes.{Consumes}
 use Rattle.swim_claim.specs.declared.claim.Claim.{Claim}
 use Rattle.swim_pack.proofs.Prompt.{IsPrompt}
-use Rattle.swim_pack.specs.Composing.{Answers, TakesNoMore, ReadsAs, same}
+use Rattle.swim_pack.specs.Composing.{Answers, ConsumesMinimalPrefix, ReadsAs, same}
 use Rattle.swim_pack.specs.Ends.{Source, Begins, ConsumesCount, ConsumesKnownText}
 use Rattle.swim_wire.specs.declared.fault.WireFault.{WireFault}
 use Rattle.swim_wire.specs.declared.stream.Header.{Header}
@@ -28,7 +28,7 @@ passed_over {X} {reading} prompt old new hand rest x n begins e size passed = re
     text : List ℕ
     text = let t = prompt.by hand x rest e in t.text
 
-    settled : TakesNoMore {X = X} wire_cause same reading (Ok x) text
+    settled : ConsumesMinimalPrefix {X = X} wire_cause same reading (Ok x) text
     settled = let t = prompt.by hand x rest e in t.is
 
     whole : (bytes more : List ℕ) → bytes ≡ hand ++ more → bytes ≡ text ++ (rest ++ more)
@@ -45,10 +45,10 @@ passed_over {X} {reading} prompt old new hand rest x n begins e size passed = re
     answers None b begins taken long consumes = tt
     answers (Some bytes) None begins taken long consumes = consumes
     answers (Some bytes) (Some left) begins taken long consumes =
-        rw (whole bytes begins.0 begins.1, behind bytes left taken begins.0 begins.1 long consumes) (settled.settles (rest ++ begins.0))
+        rw (whole bytes begins.0 begins.1, behind bytes left taken begins.0 begins.1 long consumes) (settled.determines (rest ++ begins.0))
 
     taken_is : (a b : Option (List ℕ)) → Begins a hand → (taken : List ℕ) → length taken ≡ n → Consumes a b taken
-        → ConsumesKnownText a b (TakesNoMore {X = X} wire_cause same reading (Ok x))
+        → ConsumesKnownText a b (ConsumesMinimalPrefix {X = X} wire_cause same reading (Ok x))
     taken_is None b begins taken long consumes = (text, settled)
     taken_is (Some bytes) None begins taken long consumes = consumes
     taken_is (Some bytes) (Some left) begins taken long consumes =
