@@ -87,7 +87,7 @@ impl Keyring {
         ensures stays { OnErr result (self.new ≡ self.old) }
         ensures refuses { IfErr result (λ fault. fault ≢ KeyFileFault.Memory
             → (keys : List (List ℕ)) → ¬ IsKeyFile text.now keys) }
-        ensures explains { IfErr result (λ fault. KeyFileCause fault text.now) }
+        ensures reason { IfErr result (λ fault. KeyFileCause fault text.now) }
     {
         let mut keys = keys_of(alloc, text)?;
         self.keys.append(&mut keys)?;
@@ -112,7 +112,7 @@ impl Keyring {
         ensures first { IfOk result (λ message. OpensFirst self.now bytes.now message.items) }
         ensures lacks { IfErr result (λ fault. fault ≢ CipherMemory
             → (message : List ℕ) → ¬ Opens self.now bytes.now message) }
-        ensures explains { IfErr result (λ fault. fault ≢ CipherMemory
+        ensures reason { IfErr result (λ fault. fault ≢ CipherMemory
             → IsRefused PacketCause self.now bytes.now fault) }
         ensures memory { IsErrOf result CipherMemory
             → AsksMemory PacketCause self.now bytes.now }
@@ -137,7 +137,7 @@ impl Keyring {
         ensures first { IfOk result (λ message. OpensStreamFirst self.now bytes.now message.items) }
         ensures lacks { IfErr result (λ fault. fault ≢ CipherMemory
             → (message : List ℕ) → ¬ OpensStream self.now bytes.now message) }
-        ensures explains { IfErr result (λ fault. fault ≢ CipherMemory
+        ensures reason { IfErr result (λ fault. fault ≢ CipherMemory
             → IsRefused StreamCause self.now bytes.now fault) }
         ensures memory { IsErrOf result CipherMemory
             → AsksMemory StreamCause self.now bytes.now }

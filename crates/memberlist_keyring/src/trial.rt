@@ -74,7 +74,7 @@ pub(crate) fn try_keys<E: Encrypted>(
         IsFirst (λ key m. E.encrypts key label.now rest.now m) keys.now message.items) }
     ensures lacks { IfErr result (λ fault. fault ≢ Memory → (key : List ℕ) → Contains keys.now key
         → (message : List ℕ) → ¬ E.encrypts key label.now rest.now message) }
-    ensures explains { IfErr result (λ fault. fault ≢ Memory
+    ensures reason { IfErr result (λ fault. fault ≢ Memory
         → IsFaultOfKeys (λ f key. E.causes f key label.now rest.now) keys.now fault) }
     ensures memory { IsErrOf result Memory → (key : List ℕ) × Contains keys.now key
         × E.causes Memory key label.now rest.now }

@@ -4,8 +4,8 @@ use Rattle.std.specs.Prelude.{◌≢◌}
 use Rattle.memberlist_cipher.specs.Label.{IsLabelled}
 use Rattle.memberlist_transport.specs.declared.fault.StreamFault.{StreamFault}
 use Rattle.memberlist_transport.specs.declared.fault.StreamFault.TheVariants.{Memory}
-use Rattle.memberlist_transport.specs.Stream.{IsStreamIn, Explains}
-use Rattle.memberlist_transport.specs.Reply.{BeginsAsLabel, IsReadAs, IsReplyIn, ExplainsReply}
+use Rattle.memberlist_transport.specs.Stream.{IsStreamIn, ReasonFor}
+use Rattle.memberlist_transport.specs.Reply.{BeginsAsLabel, IsReadAs, IsReplyIn, ReasonForReply}
 
 -- the same label before the same bytes is the same text
 one_text : (label bytes a b : List ℕ) → IsLabelled a label bytes → IsLabelled b label bytes → a ≡ b
@@ -39,7 +39,7 @@ module _ {X : Type 0} (limit : ℕ) (keys : List (List ℕ)) (label bytes whole 
   refuses (Err fault) read none = λ seen stream is.
       none seen stream (subst (λ (w : List ℕ). IsStreamIn limit keys w stream) (one_reading label bytes is.0 whole is.1 read) is.2)
 
-  pub explains : (result : Result X StreamFault) → IsReadAs label bytes whole → IfErr result (λ fault. fault ≢ Memory → Explains limit keys whole fault)
-      → IfErr result (λ fault. fault ≢ Memory → ExplainsReply limit keys label bytes fault)
-  explains (Ok stream) read why = tt
-  explains (Err fault) read why = λ seen. (whole, read, why seen)
+  pub reason : (result : Result X StreamFault) → IsReadAs label bytes whole → IfErr result (λ fault. fault ≢ Memory → ReasonFor limit keys whole fault)
+      → IfErr result (λ fault. fault ≢ Memory → ReasonForReply limit keys label bytes fault)
+  reason (Ok stream) read why = tt
+  reason (Err fault) read why = λ seen. (whole, read, why seen)

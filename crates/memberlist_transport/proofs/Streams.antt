@@ -10,7 +10,7 @@ use Rattle.memberlist_wrap.specs.Wrapping.{Unwraps}
 use Rattle.memberlist_wrap.proofs.Unwrapping.{one_message, no_message}
 use Rattle.memberlist_transport.specs.declared.fault.StreamFault.{StreamFault}
 use Rattle.memberlist_transport.specs.declared.fault.StreamFault.TheVariants.{Closed, Memory}
-use Rattle.memberlist_transport.specs.Stream.{BeginsAsStream, BeginsAsSealed, IsStreamIn, IsStreamIn as streams, IsClearStream, IsSealed, Explains, Explains as why, ExplainsClear, ExplainsClear as plainly, fault_of_start}
+use Rattle.memberlist_transport.specs.Stream.{BeginsAsStream, BeginsAsSealed, IsStreamIn, IsStreamIn as streams, IsClearStream, IsSealed, ReasonFor, ReasonFor as why, ReasonForClear, ReasonForClear as plainly, fault_of_start}
 
 same_message : (m n : ℕ) (bytes a b : List ℕ) → Unwraps m bytes a → Unwraps n bytes b → a ≡ b
 same_message m n bytes a b one other = (one_message m n bytes one.wrappers other.wrappers a b one.wraps other.wraps).1
@@ -35,8 +35,8 @@ module _ (limit : ℕ) where
   -- ---- refused bytes are not a stream
 
   -- bytes that a refusal says are not a stream in the clear are none
-  no_clear : (bytes : List ℕ) (fault : StreamFault) → ExplainsClear limit bytes fault → (stream : List ℕ) → ¬ IsClearStream limit bytes stream
-  no_clear bytes fault (plainly.broken cause explains same) stream is = no_message 4 limit cause bytes explains stream is.0
+  no_clear : (bytes : List ℕ) (fault : StreamFault) → ReasonForClear limit bytes fault → (stream : List ℕ) → ¬ IsClearStream limit bytes stream
+  no_clear bytes fault (plainly.broken cause reason same) stream is = no_message 4 limit cause bytes reason stream is.0
   no_clear bytes fault (plainly.other message wraps begins same) stream is =
       begins (subst BeginsAsStream (same_message limit limit bytes stream message is.0 wraps) is.1)
 
@@ -46,20 +46,20 @@ module _ (limit : ℕ) where
       absurd (omega (arith, ap length (sym opens.first.parts ∙ none), length-append opens.first.before (opens.first.key ∷ opens.first.after)))
 
   -- bytes that a refusal says are not a stream are none
-  pub no_stream : (keys : List (List ℕ)) (bytes : List ℕ) (fault : StreamFault) → Explains limit keys bytes fault → (stream : List ℕ) → ¬ IsStreamIn limit keys bytes stream
-  no_stream keys bytes fault (why.clear explains none) stream (streams.clear is) = no_clear bytes fault explains stream is
-  no_stream keys bytes fault (why.clear explains none) stream (streams.opened inner sealed opens is) = no_keys keys bytes inner (none sealed) opens
+  pub no_stream : (keys : List (List ℕ)) (bytes : List ℕ) (fault : StreamFault) → ReasonFor limit keys bytes fault → (stream : List ℕ) → ¬ IsStreamIn limit keys bytes stream
+  no_stream keys bytes fault (why.clear reason none) stream (streams.clear is) = no_clear bytes fault reason stream is
+  no_stream keys bytes fault (why.clear reason none) stream (streams.opened inner sealed opens is) = no_keys keys bytes inner (none sealed) opens
   no_stream keys bytes fault (why.closed cause sealed none refused same) stream (streams.clear is) = no_sealed_clear limit limit bytes sealed stream is
   no_stream keys bytes fault (why.closed cause sealed none refused same) stream (streams.opened inner also opens is) = none inner (opens_stream keys bytes inner opens)
-  no_stream keys bytes fault (why.opened inner sealed opens explains) stream (streams.clear is) = no_sealed_clear limit limit bytes sealed stream is
-  no_stream keys bytes fault (why.opened inner sealed opens explains) stream (streams.opened other also opened is) =
-      no_clear inner fault explains stream (subst (λ m. IsClearStream limit m stream) (one_opened_stream keys bytes other inner opened opens) is)
+  no_stream keys bytes fault (why.opened inner sealed opens reason) stream (streams.clear is) = no_sealed_clear limit limit bytes sealed stream is
+  no_stream keys bytes fault (why.opened inner sealed opens reason) stream (streams.opened other also opened is) =
+      no_clear inner fault reason stream (subst (λ m. IsClearStream limit m stream) (one_opened_stream keys bytes other inner opened opens) is)
 
   -- ---- refusals of a message
 
   pub clear_refused : {X : Type 0} (bytes message : List ℕ) (result : Result X StreamFault) → Unwraps limit bytes message
       → IfErr result (λ fault. (¬ BeginsAsStream message) × (fault ≡ fault_of_start message))
-      → IfErr result (λ fault. fault ≢ Memory → ExplainsClear limit bytes fault)
+      → IfErr result (λ fault. fault ≢ Memory → ReasonForClear limit bytes fault)
   clear_refused bytes message (Ok stream) wraps other = tt
   clear_refused bytes message (Err fault) wraps other = λ seen. plainly.other message wraps other.0 other.1
 
@@ -67,7 +67,7 @@ module _ (limit : ℕ) where
   pub untried : {X : Type 0} (keys : List (List ℕ)) (bytes message : List ℕ) (result : Result X StreamFault) → Unwraps limit bytes message
       → (keys ≡ []) ⊎ (¬ BeginsAsSealed message)
       → IfErr result (λ fault. (¬ BeginsAsStream message) × (fault ≡ fault_of_start message))
-      → IfErr result (λ fault. fault ≢ Memory → Explains limit keys bytes fault)
+      → IfErr result (λ fault. fault ≢ Memory → ReasonFor limit keys bytes fault)
   untried keys bytes message (Ok stream) wraps unclosed other = tt
   untried keys bytes message (Err fault) wraps (inl none) other = λ seen. why.clear (plainly.other message wraps other.0 other.1) (λ sealed. none)
   untried keys bytes message (Err fault) wraps (inr clear) other = λ seen.
@@ -78,8 +78,8 @@ module _ (limit : ℕ) where
   pub tried : {X : Type 0} (keys : List (List ℕ)) (bytes : List ℕ) (result : Result X StreamFault) → IsSealed limit bytes
       → IfErr result (λ fault. fault ≢ Memory → ((cause : CipherFault) × ((inner : List ℕ) → ¬ OpensStream keys bytes inner)
       × IsRefused StreamCause keys bytes cause × (fault ≡ Closed cause))
-      ⊎ ((inner : List ℕ) × OpensStreamFirst keys bytes inner × ExplainsClear limit inner fault))
-      → IfErr result (λ fault. fault ≢ Memory → Explains limit keys bytes fault)
+      ⊎ ((inner : List ℕ) × OpensStreamFirst keys bytes inner × ReasonForClear limit inner fault))
+      → IfErr result (λ fault. fault ≢ Memory → ReasonFor limit keys bytes fault)
   tried keys bytes (Ok stream) sealed refusal = tt
   tried keys bytes (Err fault) sealed refusal = λ seen. elim (refusal seen) [
     | inl closed ↦ why.closed closed.0 sealed closed.1 closed.2 closed.3

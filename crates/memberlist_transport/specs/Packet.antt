@@ -1,7 +1,7 @@
 -- The message of a packet: in the clear, or encrypted under a key.
 use Rattle.std.specs.Prelude.{◌≡◌, ◌≢◌, ◌⊎◌, ◌<◌, ℕ, List, [], Result, Err}
 use Rattle.memberlist_keyring.specs.Opening.{Opens, OpensFirst}
-use Rattle.memberlist_wrap.specs.Explaining.{ExplainsIn}
+use Rattle.memberlist_wrap.specs.Reasons.{ReasonForIn}
 use Rattle.memberlist_wrap.specs.Wrapping.{Unwraps}
 use Rattle.memberlist_transport.specs.declared.fault.PacketFault.{PacketFault}
 use Rattle.memberlist_transport.specs.declared.fault.PacketFault.TheVariants.{Wrapped, NoMessage, NoKeyFits}
@@ -21,7 +21,7 @@ HoldsClear bytes message =
 
 -- why the bytes hold no message: they wrap nothing, or the unwrapped bytes are not a message
 abbrev pub FailsClear : List ℕ → PacketFault → Type 0
-FailsClear bytes (Wrapped fault) = ExplainsIn 4 most_message fault bytes
+FailsClear bytes (Wrapped fault) = ReasonForIn 4 most_message fault bytes
     × ((message : List ℕ) → ¬ Unwraps most_message bytes message)
 FailsClear bytes (NoMessage first) =
     (message : List ℕ) × Unwraps most_message bytes message × IsNoMessage message first

@@ -2,7 +2,7 @@
 use Rattle.std.specs.Prelude.{◌≡◌, ◌⊎◌, ℕ, List, ◌∷◌}
 use Rattle.memberlist_cipher.specs.Label.{IsLabelled}
 use Rattle.memberlist_transport.specs.declared.fault.StreamFault.{StreamFault}
-use Rattle.memberlist_transport.specs.Stream.{IsStreamIn, Explains}
+use Rattle.memberlist_transport.specs.Stream.{IsStreamIn, ReasonFor}
 
 -- the first byte of labels
 abbrev pub BeginsAsLabel : List ℕ → Type 0
@@ -20,6 +20,6 @@ IsReplyIn limit keys label bytes stream =
     (whole : List ℕ) × IsReadAs label bytes whole × IsStreamIn limit keys whole stream
 
 -- a refusal says about a reply what it says about the bytes that it is read as
-abbrev pub ExplainsReply : ℕ → List (List ℕ) → List ℕ → List ℕ → StreamFault → Type 0
-ExplainsReply limit keys label bytes fault =
-    (whole : List ℕ) × IsReadAs label bytes whole × Explains limit keys whole fault
+abbrev pub ReasonForReply : ℕ → List (List ℕ) → List ℕ → List ℕ → StreamFault → Type 0
+ReasonForReply limit keys label bytes fault =
+    (whole : List ℕ) × IsReadAs label bytes whole × ReasonFor limit keys whole fault

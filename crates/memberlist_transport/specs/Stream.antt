@@ -5,7 +5,7 @@ use Rattle.memberlist_cipher.specs.Refusal.{StreamCause}
 use Rattle.memberlist_keyring.specs.Cutting.{IsRefused}
 use Rattle.memberlist_keyring.specs.Opening.{OpensStream, OpensStreamFirst}
 use Rattle.memberlist_wrap.specs.declared.fault.WrapFault.{WrapFault}
-use Rattle.memberlist_wrap.specs.Explaining.{ExplainsIn}
+use Rattle.memberlist_wrap.specs.Reasons.{ReasonForIn}
 use Rattle.memberlist_wrap.specs.Wrapping.{Unwraps}
 use Rattle.memberlist_transport.specs.declared.fault.StreamFault.{StreamFault}
 use Rattle.memberlist_transport.specs.declared.fault.StreamFault.TheVariants.{Wrapped, Closed, NoStream, Empty}
@@ -43,20 +43,21 @@ fault_of_start (first ∷ rest) = NoStream first
 
 -- What a refusal says about bytes in the clear: why they wrap no message, or how the message in
 -- them starts.
-pub data ExplainsClear (limit : ℕ) (bytes : List ℕ) (fault : StreamFault) : Type 0 where
-  broken : (cause : WrapFault) → ExplainsIn 4 limit cause bytes → fault ≡ Wrapped cause
-      → ExplainsClear limit bytes fault
+pub data ReasonForClear (limit : ℕ) (bytes : List ℕ) (fault : StreamFault) : Type 0 where
+  broken : (cause : WrapFault) → ReasonForIn 4 limit cause bytes → fault ≡ Wrapped cause
+      → ReasonForClear limit bytes fault
   other : (message : List ℕ) → Unwraps limit bytes message → ¬ BeginsAsStream message
-      → fault ≡ fault_of_start message → ExplainsClear limit bytes fault
+      → fault ≡ fault_of_start message → ReasonForClear limit bytes fault
 
 -- What a refusal says about bytes: what it says about them in the clear, if no key is tried; that
 -- no key decrypts them, and the keyring's fault; or what it says about what a key decrypts.
-pub data Explains (limit : ℕ) (keys : List (List ℕ)) (bytes : List ℕ) (fault : StreamFault) : Type 0
+pub data ReasonFor (limit : ℕ) (keys : List (List ℕ)) (bytes : List ℕ)
+    (fault : StreamFault) : Type 0
   where
-    clear : ExplainsClear limit bytes fault → (IsSealed limit bytes → keys ≡ [])
-        → Explains limit keys bytes fault
+    clear : ReasonForClear limit bytes fault → (IsSealed limit bytes → keys ≡ [])
+        → ReasonFor limit keys bytes fault
     closed : (cause : CipherFault) → IsSealed limit bytes
         → ((inner : List ℕ) → ¬ OpensStream keys bytes inner) → IsRefused StreamCause keys bytes cause
-        → fault ≡ Closed cause → Explains limit keys bytes fault
+        → fault ≡ Closed cause → ReasonFor limit keys bytes fault
     opened : (inner : List ℕ) → IsSealed limit bytes → OpensStreamFirst keys bytes inner
-        → ExplainsClear limit inner fault → Explains limit keys bytes fault
+        → ReasonForClear limit inner fault → ReasonFor limit keys bytes fault

@@ -36,7 +36,7 @@ pub fn open_packet(alloc: Global, keys: &Keyring, bytes: &[u8]) -> Result<Messag
     // why.
     ensures refuses { IfErr result (λ fault. fault ≢ PacketFault.Memory
         → (message : Message) → ¬ Holds keys.now bytes.now message) }
-    ensures explains { IfErr result (λ fault. fault ≢ PacketFault.Memory
+    ensures reason { IfErr result (λ fault. fault ≢ PacketFault.Memory
         → Fails keys.now bytes.now fault) }
 {
     message_of_packet(alloc, keys, bytes)
@@ -44,7 +44,7 @@ pub fn open_packet(alloc: Global, keys: &Keyring, bytes: &[u8]) -> Result<Messag
 
 fn message_of_packet(alloc: Global, keys: &Keyring, bytes: &[u8]) -> Result<Message, PacketFault>
     ensures holds { IfOk result (Holds keys.now bytes.now) }
-    ensures explains { IfErr result (λ fault. fault ≢ PacketFault.Memory
+    ensures reason { IfErr result (λ fault. fault ≢ PacketFault.Memory
         → Fails keys.now bytes.now fault) }
 {
     let clear = clear_message(alloc, bytes);
@@ -67,7 +67,7 @@ fn is_unclear(clear: &Result<Message, PacketFault>) -> bool
 /// The message in bytes that a key may decrypt.
 fn opened_message(alloc: Global, keys: &Keyring, bytes: &[u8]) -> Result<Message, PacketFault>
     ensures holds { IfOk result (HoldsOpened keys.now bytes.now) }
-    ensures explains { IfErr result (λ fault. fault ≢ PacketFault.Memory
+    ensures reason { IfErr result (λ fault. fault ≢ PacketFault.Memory
         → FailsOpened keys.now bytes.now fault) }
 {
     match keys.open(alloc, bytes) {
@@ -80,7 +80,7 @@ fn opened_message(alloc: Global, keys: &Keyring, bytes: &[u8]) -> Result<Message
 /// The message in bytes without keys.
 fn clear_message(alloc: Global, bytes: &[u8]) -> Result<Message, PacketFault>
     ensures holds { IfOk result (HoldsClear bytes.now) }
-    ensures explains { IfErr result (λ fault. fault ≢ PacketFault.Memory
+    ensures reason { IfErr result (λ fault. fault ≢ PacketFault.Memory
         → FailsClear bytes.now fault) }
 {
     match unwrap_in_place(bytes, MESSAGE_LIMIT) {
@@ -93,7 +93,7 @@ fn clear_message(alloc: Global, bytes: &[u8]) -> Result<Message, PacketFault>
 /// The same if a compression has to be removed.
 fn decompressed_message(alloc: Global, bytes: &[u8]) -> Result<Message, PacketFault>
     ensures holds { IfOk result (HoldsClear bytes.now) }
-    ensures explains { IfErr result (λ fault. fault ≢ PacketFault.Memory
+    ensures reason { IfErr result (λ fault. fault ≢ PacketFault.Memory
         → FailsClear bytes.now fault) }
 {
     match unwrap(alloc, bytes, MESSAGE_LIMIT) {
@@ -106,7 +106,7 @@ fn decompressed_message(alloc: Global, bytes: &[u8]) -> Result<Message, PacketFa
 /// The message in a packet's unwrapped bytes.
 fn message_of(alloc: Global, bytes: &[u8]) -> Result<Message, PacketFault>
     ensures holds { IfOk result (IsMessage bytes.now) }
-    ensures explains { IfErr result (λ fault. fault ≢ PacketFault.Memory
+    ensures reason { IfErr result (λ fault. fault ≢ PacketFault.Memory
         → (first : ℕ) × (fault ≡ PacketFault.NoMessage first) × IsNoMessage bytes.now first) }
 {
     let Some((first, _)) = bytes.split_first() else {

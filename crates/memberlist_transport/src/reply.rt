@@ -1,7 +1,7 @@
 //! The push/pull stream that replies to another one.
 
 ghost use Rattle.std.specs.Prelude.{◌≢◌, ◌<◌, List, ℕ, length, IfOk, IfErr, MatchBool};
-ghost use Rattle.memberlist_transport.specs.Reply.{BeginsAsLabel, IsReplyIn, ExplainsReply};
+ghost use Rattle.memberlist_transport.specs.Reply.{BeginsAsLabel, IsReplyIn, ReasonForReply};
 
 use crate::fault::StreamFault;
 use crate::stream::open_stream;
@@ -38,8 +38,8 @@ pub fn open_reply(
     // why.
     ensures refuses { IfErr result (λ fault. fault ≢ StreamFault.Memory
         → (stream : List ℕ) → ¬ IsReplyIn limit keys.now label.now bytes.now stream) }
-    ensures explains { IfErr result (λ fault. fault ≢ StreamFault.Memory
-        → ExplainsReply limit keys.now label.now bytes.now fault) }
+    ensures reason { IfErr result (λ fault. fault ≢ StreamFault.Memory
+        → ReasonForReply limit keys.now label.now bytes.now fault) }
 {
     if begins_as_label(bytes) || label.is_empty() {
         return open_stream(alloc, keys, bytes, limit);

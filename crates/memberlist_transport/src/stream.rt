@@ -6,7 +6,7 @@ ghost use Rattle.memberlist_cipher.specs.Refusal.{StreamCause};
 ghost use Rattle.memberlist_keyring.specs.Cutting.{IsRefused};
 ghost use Rattle.memberlist_keyring.specs.Opening.{OpensStream, OpensStreamFirst};
 ghost use Rattle.memberlist_wrap.specs.Wrapping.{Unwraps};
-ghost use Rattle.memberlist_transport.specs.Stream.{BeginsAsStream, BeginsAsSealed, IsStreamIn, IsClearStream, Explains, ExplainsClear, fault_of_start};
+ghost use Rattle.memberlist_transport.specs.Stream.{BeginsAsStream, BeginsAsSealed, IsStreamIn, IsClearStream, ReasonFor, ReasonForClear, fault_of_start};
 
 use crate::fault::StreamFault;
 use memberlist_cipher::CipherFault;
@@ -43,8 +43,8 @@ pub fn open_stream(
     // why.
     ensures refuses { IfErr result (λ fault. fault ≢ StreamFault.Memory
         → (stream : List ℕ) → ¬ IsStreamIn limit keys.now bytes.now stream) }
-    ensures explains { IfErr result (λ fault. fault ≢ StreamFault.Memory
-        → Explains limit keys.now bytes.now fault) }
+    ensures reason { IfErr result (λ fault. fault ≢ StreamFault.Memory
+        → ReasonFor limit keys.now bytes.now fault) }
 {
     stream_in(alloc, keys, bytes, limit)
 }
@@ -56,8 +56,8 @@ fn stream_in(
     limit: usize,
 ) -> Result<Vec<u8>, StreamFault>
     ensures unwraps { IfOk result (λ stream. IsStreamIn limit keys.now bytes.now stream.items) }
-    ensures explains { IfErr result (λ fault. fault ≢ StreamFault.Memory
-        → Explains limit keys.now bytes.now fault) }
+    ensures reason { IfErr result (λ fault. fault ≢ StreamFault.Memory
+        → ReasonFor limit keys.now bytes.now fault) }
 {
     match unwrap(alloc, bytes, limit) {
         Ok(message) => stream_behind(alloc, keys, bytes, message, limit),
@@ -76,8 +76,8 @@ fn stream_behind(
 ) -> Result<Vec<u8>, StreamFault>
     requires { Unwraps limit bytes.now message.items }
     ensures unwraps { IfOk result (λ stream. IsStreamIn limit keys.now bytes.now stream.items) }
-    ensures explains { IfErr result (λ fault. fault ≢ StreamFault.Memory
-        → Explains limit keys.now bytes.now fault) }
+    ensures reason { IfErr result (λ fault. fault ≢ StreamFault.Memory
+        → ReasonFor limit keys.now bytes.now fault) }
 {
     if keys.is_empty() || !is_sealed(&message) {
         return stream_of(message);
@@ -109,7 +109,7 @@ fn opened_stream(
         → ((cause : CipherFault) × ((inner : List ℕ) → ¬ OpensStream keys.now bytes.now inner)
         × IsRefused StreamCause keys.now bytes.now cause × (fault ≡ StreamFault.Closed cause))
         ⊎ ((inner : List ℕ) × OpensStreamFirst keys.now bytes.now inner
-        × ExplainsClear limit inner fault)) }
+        × ReasonForClear limit inner fault)) }
 {
     match keys.open_stream(alloc, bytes) {
         Ok(inner) => clear_stream(alloc, &inner, limit),
@@ -122,7 +122,7 @@ fn opened_stream(
 fn clear_stream(alloc: Global, bytes: &[u8], limit: usize) -> Result<Vec<u8>, StreamFault>
     ensures ok { IfOk result (λ stream. IsClearStream limit bytes.now stream.items) }
     ensures err { IfErr result (λ fault. fault ≢ StreamFault.Memory
-        → ExplainsClear limit bytes.now fault) }
+        → ReasonForClear limit bytes.now fault) }
 {
     match unwrap(alloc, bytes, limit) {
         Ok(message) => stream_of(message),

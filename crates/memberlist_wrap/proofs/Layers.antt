@@ -8,8 +8,8 @@ use Rattle.memberlist_wrap.specs.declared.fault.WrapFault.{WrapFault}
 use Rattle.memberlist_wrap.specs.declared.fault.WrapFault.TheVariants.{TooLarge}
 use Rattle.memberlist_wrap.specs.declared.wrappers.Core.{Core}
 use Rattle.memberlist_wrap.specs.declared.wrappers.Core.TheVariants as cores
-use Rattle.memberlist_wrap.specs.Explaining.{fault_of_map, FailsHere, ExplainsIn, AsksMemory}
-use Rattle.memberlist_wrap.specs.Explaining.FailsHere.{broken, large}
+use Rattle.memberlist_wrap.specs.Reasons.{fault_of_map, FailsHere, ReasonForIn, AsksMemory}
+use Rattle.memberlist_wrap.specs.Reasons.FailsHere.{broken, large}
 use Rattle.memberlist_wrap.specs.Peeling.{EndsWith, Holds, PackedUnwraps, PackedFails}
 use Rattle.memberlist_wrap.specs.Peeling.PackedFails.{here, inside}
 use Rattle.memberlist_wrap.specs.Wrapping.{Wrapper, kind, WrapText, Wrapped, IsBare, UnwrapsIn}
@@ -45,10 +45,10 @@ Holds-more depth bytes inner w rest (cores.Message message) some ends is text ho
 Holds-more depth bytes inner w rest (cores.Compression map left) some ends is text holds =
     (w ∷ holds.0, (let few = holds.1 in omega arith), λ limit. (rest, inner, is, text limit, holds.2 limit))
 
-pub Explains-more : (depth limit : ℕ) (fault : WrapFault) (bytes inner : List ℕ) (w : Wrapper) (rest : List ℕ) → 0 < depth
+pub ReasonFor-more : (depth limit : ℕ) (fault : WrapFault) (bytes inner : List ℕ) (w : Wrapper) (rest : List ℕ) → 0 < depth
     → bytes ≡ kind w ∷ rest → WrapText limit w rest inner
-    → ExplainsIn (depth - 1) limit fault inner → ExplainsIn depth limit fault bytes
-Explains-more depth limit fault bytes inner w rest some is text why =
+    → ReasonForIn (depth - 1) limit fault inner → ReasonForIn depth limit fault bytes
+ReasonFor-more depth limit fault bytes inner w rest some is text why =
     let few = why.few in
     let P : ℕ → Type 0 = λ d. FailsHere d limit fault why.inner in
     let left : depth - 1 - length why.wrappers ≡ depth - length (w ∷ why.wrappers) = omega arith in record {
@@ -59,8 +59,8 @@ Explains-more depth limit fault bytes inner w rest some is text why =
       fails = subst P left why.fails;
     }
 
-pub Explains-here : (depth limit : ℕ) (fault : WrapFault) (bytes : List ℕ) → FailsHere depth limit fault bytes → ExplainsIn depth limit fault bytes
-Explains-here depth limit fault bytes fails =
+pub ReasonFor-here : (depth limit : ℕ) (fault : WrapFault) (bytes : List ℕ) → FailsHere depth limit fault bytes → ReasonForIn depth limit fault bytes
+ReasonFor-here depth limit fault bytes fails =
     let P : ℕ → Type 0 = λ d. FailsHere d limit fault bytes in
     let all : depth ≡ depth - 0 = omega arith in record {
       wrappers = [];
@@ -80,7 +80,7 @@ message_unwraps depth limit bytes message ws few wrapped bare within =
 
 pub message_large : (depth limit : ℕ) (bytes message : List ℕ) (ws : List Wrapper) → length ws ≤ depth
     → Wrapped limit ws bytes message → IsBare message → limit < length message
-    → ExplainsIn depth limit TooLarge bytes
+    → ReasonForIn depth limit TooLarge bytes
 message_large depth limit bytes message ws few wrapped bare long =
     record { wrappers = ws; inner = message; few = few; wrapped = wrapped; fails = large bare long refl }
 
@@ -91,7 +91,7 @@ lengths [] b = omega arith
 lengths (w ∷ a) b = omega (arith, lengths a b)
 
 pub map_fails : (depth limit left : ℕ) (bytes map : List ℕ) (ws : List Wrapper) → length ws + (left + 1) ≡ depth → Wrapped limit ws bytes (9 ∷ map)
-    → (cause : WireFault) (fault : WrapFault) → whole_compression map ≡ Err cause → fault ≡ fault_of_map cause → ExplainsIn depth limit fault bytes
+    → (cause : WireFault) (fault : WrapFault) → whole_compression map ≡ Err cause → fault ≡ fault_of_map cause → ReasonForIn depth limit fault bytes
 map_fails depth limit left bytes map ws count wrapped cause fault no_map is =
     record { wrappers = ws; inner = 9 ∷ map; few = omega arith; wrapped = wrapped; fails = broken compression map refl (omega arith) (inl (cause, no_map, is)) }
 
@@ -105,7 +105,7 @@ packed_unwraps depth limit left bytes map ws count wrapped packed message text p
     p.unwraps.wraps.bare p.unwraps.wraps.within
 
 pub packed_fails : (depth limit left : ℕ) (bytes map : List ℕ) (ws : List Wrapper) → length ws + (left + 1) ≡ depth → Wrapped limit ws bytes (9 ∷ map)
-    → (packed : List ℕ) (fault : WrapFault) → CompressionText map packed → PackedFails left limit fault packed → ExplainsIn depth limit fault bytes
+    → (packed : List ℕ) (fault : WrapFault) → CompressionText map packed → PackedFails left limit fault packed → ReasonForIn depth limit fault bytes
 packed_fails depth limit left bytes map ws count wrapped packed fault text (here why) =
     record { wrappers = ws; inner = 9 ∷ map; few = omega arith; wrapped = wrapped; fails = broken compression map refl (omega arith) (inr (packed, text, why)) }
 packed_fails depth limit left bytes map ws count wrapped packed fault text (inside inner lzw within why) =

@@ -4,7 +4,7 @@ use Rattle.std.proofs.lemmas.List.{append-nil, length-append}
 use Rattle.memberlist_wrap.specs.Bits.{bits, bits_of}
 use Rattle.memberlist_wrap.specs.declared.fault.WrapFault.{WrapFault}
 use Rattle.memberlist_wrap.specs.declared.fault.WrapFault.TheVariants.{Ended, Trailing, BadCode, BadChecksum, BadMap, BadAlgo, BadLabel, TooLarge, TooDeep, Memory}
-use Rattle.memberlist_wrap.specs.Fault.{CodesStopAt, ExplainsLzw}
+use Rattle.memberlist_wrap.specs.Fault.{CodesStopAt, ReasonForLzw}
 use Rattle.memberlist_wrap.specs.Lzw.{NextCode, kept_words, width, StandsFor, ReadsCodes, CodesGive, Ends, Lzw}
 use Rattle.memberlist_wrap.proofs.Codes.{no_clear, no_end, wide}
 use Rattle.memberlist_wrap.proofs.Cutting.{AreFull, AreFull-take, one_word, full_word}
@@ -169,12 +169,12 @@ stopped limit BadLabel out words rest tail stops says other = stops
 stopped limit TooDeep out words rest tail stops says other = stops
 stopped limit Memory out words rest tail stops says other = stops
 
-pub no_lzw : (limit : ℕ) (fault : WrapFault) (bytes : List ℕ) → ExplainsLzw limit fault bytes → fault ≢ TooLarge → (out : List ℕ) → ¬ Lzw bytes out
+pub no_lzw : (limit : ℕ) (fault : WrapFault) (bytes : List ℕ) → ReasonForLzw limit fault bytes → fault ≢ TooLarge → (out : List ℕ) → ¬ Lzw bytes out
 no_lzw limit fault bytes why other out lzw =
     let on = Lzw-goes_on bytes why.out why.words why.rest out why.reaches lzw in
     stopped limit fault why.out why.words why.rest on.tail why.stops on.says other
 
-too_large : (limit : ℕ) (fault : WrapFault) (bytes : List ℕ) (why : ExplainsLzw limit fault bytes) → fault ≡ TooLarge → limit < length why.out
+too_large : (limit : ℕ) (fault : WrapFault) (bytes : List ℕ) (why : ReasonForLzw limit fault bytes) → fault ≡ TooLarge → limit < length why.out
 too_large limit TooLarge bytes why is = why.stops
 too_large limit Ended bytes why is = absurd cc
 too_large limit Trailing bytes why is = absurd cc
@@ -186,7 +186,7 @@ too_large limit BadLabel bytes why is = absurd cc
 too_large limit TooDeep bytes why is = absurd cc
 too_large limit Memory bytes why is = absurd cc
 
-within_large : (limit : ℕ) (fault : WrapFault) (bytes : List ℕ) → ExplainsLzw limit fault bytes → fault ≡ TooLarge →
+within_large : (limit : ℕ) (fault : WrapFault) (bytes : List ℕ) → ReasonForLzw limit fault bytes → fault ≡ TooLarge →
     (out : List ℕ) → Lzw bytes out → limit < length out
 within_large limit fault bytes why is out lzw =
     let on = Lzw-goes_on bytes why.out why.words why.rest out why.reaches lzw in
@@ -194,7 +194,7 @@ within_large limit fault bytes why is out lzw =
     omega (arith, ap length on.is, length-append why.out on.tail)
 
 -- what is refused is not a compression within the limit
-pub no_lzw_within : (limit : ℕ) (fault : WrapFault) (bytes : List ℕ) → ExplainsLzw limit fault bytes → (out : List ℕ) → Lzw bytes out → limit < length out
+pub no_lzw_within : (limit : ℕ) (fault : WrapFault) (bytes : List ℕ) → ReasonForLzw limit fault bytes → (out : List ℕ) → Lzw bytes out → limit < length out
 no_lzw_within limit TooLarge bytes why out lzw = within_large limit TooLarge bytes why refl out lzw
 no_lzw_within limit Ended bytes why out lzw = absurd (no_lzw limit Ended bytes why (λ e. cc) out lzw)
 no_lzw_within limit Trailing bytes why out lzw = absurd (no_lzw limit Trailing bytes why (λ e. cc) out lzw)

@@ -5,8 +5,8 @@ use Rattle.swim_wire.proofs.Compressions.{one_compression, whole_lacks}
 use Rattle.memberlist_cipher.proofs.Labels.{one_text, lacks_text}
 use Rattle.memberlist_wrap.specs.declared.fault.WrapFault.{WrapFault}
 use Rattle.memberlist_wrap.specs.declared.fault.WrapFault.TheVariants.{Ended, Trailing, BadCode, BadChecksum, BadMap, BadAlgo, BadLabel, TooLarge, TooDeep, Memory}
-use Rattle.memberlist_wrap.specs.Explaining.{WrapperFails, ChecksumFails, LabelFails, FailsHere, ExplainsIn}
-use Rattle.memberlist_wrap.specs.Explaining.FailsHere.{deep, broken, large}
+use Rattle.memberlist_wrap.specs.Reasons.{WrapperFails, ChecksumFails, LabelFails, FailsHere, ReasonForIn}
+use Rattle.memberlist_wrap.specs.Reasons.FailsHere.{deep, broken, large}
 use Rattle.memberlist_wrap.specs.Lzw.{Lzw}
 use Rattle.memberlist_wrap.specs.Wrapping.{CheckedText, Wrapper, kind, WrapText, Wrapped, IsBare, Wraps, UnwrapsIn}
 use Rattle.memberlist_wrap.specs.Wrapping.Wrapper.{compression, checksum, label}
@@ -145,7 +145,7 @@ fails_within depth limit fault inner others message (large none long name) few w
     let left = none_left limit others inner message wrapped none in
     omega (arith, ap length left.1)
 
-pub no_message : (depth limit : ℕ) (fault : WrapFault) (bytes : List ℕ) → ExplainsIn depth limit fault bytes →
+pub no_message : (depth limit : ℕ) (fault : WrapFault) (bytes : List ℕ) → ReasonForIn depth limit fault bytes →
     (message : List ℕ) → ¬ UnwrapsIn depth limit bytes message
 no_message depth limit fault bytes why message unwraps =
     let wraps = unwraps.wraps in
@@ -167,7 +167,7 @@ fails_at_all depth limit any fault inner (v ∷ others) message (broken w rest i
     no_inner_at_all limit any fault w rest wrapped.1 other fails (rw (one.0, one.1) wrapped.3)
 fails_at_all depth limit any fault inner others message (large none long name) other shallow wrapped bare = other name
 
-pub no_message_at_all : (depth limit : ℕ) (fault : WrapFault) (bytes : List ℕ) → ExplainsIn depth limit fault bytes → fault ≢ TooLarge → fault ≢ TooDeep
+pub no_message_at_all : (depth limit : ℕ) (fault : WrapFault) (bytes : List ℕ) → ReasonForIn depth limit fault bytes → fault ≢ TooLarge → fault ≢ TooDeep
     → (any : ℕ) (ws : List Wrapper) (message : List ℕ) → ¬ Wraps any ws bytes message
 no_message_at_all depth limit fault bytes why other shallow any ws message wraps =
     let on = goes_on limit any why.wrappers bytes why.inner ws message why.wrapped wraps.wrapped wraps.bare in

@@ -32,7 +32,7 @@ CodesStopAt limit TooLarge out words rest = limit < length out
 CodesStopAt limit fault out words rest = ⊥
 
 -- what a refusal says about bytes that are not a compression within the limit
-pub record ExplainsLzw (limit : ℕ) (fault : WrapFault) (bytes : List ℕ) : Type 0 where
+pub record ReasonForLzw (limit : ℕ) (fault : WrapFault) (bytes : List ℕ) : Type 0 where
   pub out : List ℕ
   pub words : List (List ℕ)
   pub rest : List ℕ

@@ -5,5 +5,5 @@ pub mod Lzw
 pub mod Words
 pub mod Wrapping
 pub mod Fault
-pub mod Explaining
+pub mod Reasons
 pub mod Peeling

@@ -5,8 +5,8 @@ use Rattle.memberlist_wrap.specs.declared.outer.Outer.{Outer}
 use Rattle.memberlist_wrap.specs.declared.outer.Outer.TheVariants as outers
 use Rattle.memberlist_wrap.specs.declared.wrappers.Core.{Core}
 use Rattle.memberlist_wrap.specs.declared.wrappers.Core.TheVariants as cores
-use Rattle.memberlist_wrap.specs.Explaining.{ExplainsIn}
-use Rattle.memberlist_wrap.specs.Fault.{ExplainsLzw}
+use Rattle.memberlist_wrap.specs.Reasons.{ReasonForIn}
+use Rattle.memberlist_wrap.specs.Fault.{ReasonForLzw}
 use Rattle.memberlist_wrap.specs.Lzw.{Lzw}
 use Rattle.memberlist_wrap.specs.Wrapping.{Wrapper, kind, WrapText, Wrapped, IsBare, UnwrapsIn}
 
@@ -42,6 +42,6 @@ pub record PackedUnwraps (depth limit : ℕ) (packed message : List ℕ) : Type 
 
 -- The compressed bytes are not a compression within the limit, or one of bytes that fail so.
 pub data PackedFails (depth limit : ℕ) (fault : WrapFault) (packed : List ℕ) : Type 0 where
-  here : ExplainsLzw limit fault packed → PackedFails depth limit fault packed
+  here : ReasonForLzw limit fault packed → PackedFails depth limit fault packed
   inside : (inner : List ℕ) → Lzw packed inner → length inner ≤ limit
-      → ExplainsIn depth limit fault inner → PackedFails depth limit fault packed
+      → ReasonForIn depth limit fault inner → PackedFails depth limit fault packed

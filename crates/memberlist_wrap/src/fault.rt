@@ -2,7 +2,7 @@
 
 ghost use Rattle.std.specs.Prelude.{◌≡◌};
 ghost use Rattle.memberlist_wrap.specs.declared.fault.WrapFault.TheVariants.{Memory};
-ghost use Rattle.memberlist_wrap.specs.Explaining.{fault_of_map, fault_of_label};
+ghost use Rattle.memberlist_wrap.specs.Reasons.{fault_of_map, fault_of_label};
 ghost use Rattle.memberlist_wrap.specs.Fault.{wrap_number};
 
 use memberlist_cipher::LabelFault;

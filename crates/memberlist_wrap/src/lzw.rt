@@ -1,7 +1,7 @@
 //! Decompresses what Go's compress/lzw writes, the lowest bit first and literals of 8 bits.
 
 ghost use Rattle.std.specs.Prelude.{◌≡◌, ◌≢◌, ◌<◌, ◌≤◌, List, ℕ, length, IfOk, IfErr};
-ghost use Rattle.memberlist_wrap.specs.Fault.{ExplainsLzw};
+ghost use Rattle.memberlist_wrap.specs.Fault.{ReasonForLzw};
 ghost use Rattle.memberlist_wrap.specs.Lzw.{Lzw};
 
 use crate::WrapFault;
@@ -34,8 +34,8 @@ pub fn lzw_decode(alloc: Global, bytes: &[u8], limit: usize) -> Result<Vec<u8>, 
     // limit, and the refusal says why.
     ensures limits { IfErr result (λ fault. fault ≢ WrapFault.Memory
         → (out : List ℕ) → Lzw bytes.now out → limit < length out) }
-    ensures explains { IfErr result (λ fault. fault ≢ WrapFault.Memory
-        → ExplainsLzw limit fault bytes.now) }
+    ensures reason { IfErr result (λ fault. fault ≢ WrapFault.Memory
+        → ReasonForLzw limit fault bytes.now) }
     // If they are refused, and not because of memory or the limit, they are not a compression at
     // all.
     ensures refuses { IfErr result (λ fault. fault ≢ WrapFault.Memory → fault ≢ WrapFault.TooLarge
@@ -48,7 +48,7 @@ fn read_codes(alloc: Global, bytes: &[u8], limit: usize) -> Result<Vec<u8>, Wrap
     ensures ok { IfOk result (λ out. Lzw bytes.now out.items) }
     ensures within { IfOk result (λ out. length out.items ≤ limit) }
     ensures err { IfErr result (λ fault. fault ≢ WrapFault.Memory
-        → ExplainsLzw limit fault bytes.now) }
+        → ReasonForLzw limit fault bytes.now) }
 {
     let mut held = HeldBits::new();
     let mut words = Words::new(alloc);

@@ -1,7 +1,7 @@
 //! The outer wrapper of bytes.
 
 ghost use Rattle.std.specs.Prelude.{◌≡◌, ◌↔◌, ◌⊎◌, ℕ, IsTrue, IfOk, IfErr, IsErrOf};
-ghost use Rattle.memberlist_wrap.specs.Explaining.{ChecksumFails, FailsHere};
+ghost use Rattle.memberlist_wrap.specs.Reasons.{ChecksumFails, FailsHere};
 ghost use Rattle.memberlist_wrap.specs.Peeling.{Shows};
 ghost use Rattle.memberlist_wrap.specs.Wrapping.{CheckedText};
 

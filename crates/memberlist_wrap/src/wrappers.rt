@@ -1,7 +1,7 @@
 //! Removes nested wrappers.
 
 ghost use Rattle.std.specs.Prelude.{◌≡◌, ◌≢◌, ◌≤◌, ℕ, List, length, drop, IfSome, IfOk, IfErr, IsErrOf};
-ghost use Rattle.memberlist_wrap.specs.Explaining.{ExplainsIn, AsksMemory};
+ghost use Rattle.memberlist_wrap.specs.Reasons.{ReasonForIn, AsksMemory};
 ghost use Rattle.memberlist_wrap.specs.Peeling.{Holds, PackedUnwraps, PackedFails};
 ghost use Rattle.memberlist_wrap.specs.Wrapping.{Wrapper, Wraps, Unwraps, UnwrapsIn};
 
@@ -45,8 +45,8 @@ pub fn unwrap(alloc: Global, bytes: &[u8], limit: usize) -> Result<Vec<u8>, Wrap
     // the refusal says why.
     ensures limits { IfErr result (λ fault. fault ≢ WrapFault.Memory
         → (message : List ℕ) → ¬ Unwraps limit bytes.now message) }
-    ensures explains { IfErr result (λ fault. fault ≢ WrapFault.Memory
-        → ExplainsIn 4 limit fault bytes.now) }
+    ensures reason { IfErr result (λ fault. fault ≢ WrapFault.Memory
+        → ReasonForIn 4 limit fault bytes.now) }
     // If they are refused, and not because of memory or the limits, they wrap nothing at all.
     ensures refuses { IfErr result (λ fault. fault ≢ WrapFault.Memory → fault ≢ WrapFault.TooLarge
         → fault ≢ WrapFault.TooDeep
@@ -67,7 +67,7 @@ pub fn unwrap(alloc: Global, bytes: &[u8], limit: usize) -> Result<Vec<u8>, Wrap
 pub fn unwrap_in_place(bytes: &[u8], limit: usize) -> Result<Option<&[u8]>, WrapFault>
     ensures unwraps { IfOk result (λ found. IfSome found (λ message.
         Unwraps limit bytes.now message.now)) }
-    ensures explains { IfErr result (λ fault. ExplainsIn 4 limit fault bytes.now) }
+    ensures reason { IfErr result (λ fault. ReasonForIn 4 limit fault bytes.now) }
     ensures no_memory { ¬ IsErrOf result WrapFault.Memory }
 {
     match peel(bytes, MAX_DEPTH)? {
@@ -80,7 +80,7 @@ pub fn unwrap_in_place(bytes: &[u8], limit: usize) -> Result<Option<&[u8]>, Wrap
 fn unwrap_slice(alloc: Global, bytes: &[u8], limit: usize) -> Result<Vec<u8>, WrapFault>
     ensures ok { IfOk result (λ message. UnwrapsIn 4 limit bytes.now message.items) }
     ensures err { IfErr result (λ fault. fault ≢ WrapFault.Memory
-        → ExplainsIn 4 limit fault bytes.now) }
+        → ReasonForIn 4 limit fault bytes.now) }
     ensures memory { IsErrOf result WrapFault.Memory → AsksMemory 4 limit bytes.now }
 {
     match peel(bytes, MAX_DEPTH)? {
@@ -126,7 +126,7 @@ fn unwrap_packed(
 /// What checksums and labels contain, at most `depth` of them.
 fn peel(bytes: &[u8], depth: u8) -> Result<Core, WrapFault>
     ensures ok { IfOk result (Holds depth bytes.now) }
-    ensures err { IfErr result (λ fault. (limit : ℕ) → ExplainsIn depth limit fault bytes.now) }
+    ensures err { IfErr result (λ fault. (limit : ℕ) → ReasonForIn depth limit fault bytes.now) }
     ensures no_memory { ¬ IsErrOf result WrapFault.Memory }
 {
     match take_off(bytes, depth)? {

@@ -5,7 +5,7 @@ use Rattle.std.proofs.Math.Seq.{split_at}
 use Rattle.swim_wire.specs.declared.fault.WireFault.{WireFault}
 use Rattle.swim_wire.specs.declared.fault.WireFault.TheVariants.{Ended, Fault, Trailing}
 use Rattle.swim_wire.specs.Asking.{PacketAsks}
-use Rattle.swim_wire.specs.Checks.{ExplainsWhole}
+use Rattle.swim_wire.specs.Checks.{ReasonForWhole}
 use Rattle.swim_wire.specs.Packet.{PacketValue}
 use Rattle.swim_wire.specs.Reading.{whole_packet}
 use Rattle.swim_wire.specs.Texts.{PacketText}
@@ -56,10 +56,10 @@ cut_off lens bytes i len d packets rest in_range is read short =
 pub no_packet : (lens bytes : List ℕ) (i len d : ℕ) (packets : List PacketValue) (rest text behind : List ℕ)
     (fault : WireFault) → i < length lens → len ≡ get_or lens i d
     → ReadTo lens bytes i packets rest → rest ≡ text ++ behind → length text ≡ len
-    → whole_packet text ≡ Err fault → ExplainsWhole fault text → fault ≢ Fault → LacksPackets lens bytes fault
-no_packet lens bytes i len d packets rest text behind error in_range is read parts size stops explains no_end =
+    → whole_packet text ≡ Err fault → ReasonForWhole fault text → fault ≢ Fault → LacksPackets lens bytes fault
+no_packet lens bytes i len d packets rest text behind error in_range is read parts size stops reason no_end =
     LacksPackets.wrong read.front text behind (take i lens) (drop (suc i) lens) packets read.texts (around lens i len d (length text) in_range is size)
-    (read.parts ∙ ap (λ (r : List ℕ). read.front ++ r) parts) stops explains no_end
+    (read.parts ∙ ap (λ (r : List ℕ). read.front ++ r) parts) stops reason no_end
 
 -- the next one takes memory
 pub next_asks : (lens bytes : List ℕ) (i len d : ℕ) (packets : List PacketValue) (rest text behind : List ℕ) → i < length lens → len ≡ get_or lens i d

@@ -6,12 +6,12 @@ use Rattle.swim_pack.specs.Ends.{Source, NoTextAtFront, CountsFault}
 use Rattle.swim_wire.specs.declared.fault.WireFault.{WireFault}
 use Rattle.swim_wire.specs.declared.fault.WireFault.TheVariants as wire
 use Rattle.swim_wire.specs.Asking.{PacketAsks, DatagramAsks}
-use Rattle.swim_wire.specs.Checks.{ExplainsStart, ExplainsWhole}
-use Rattle.swim_wire.specs.Datagrams.{ExplainsDatagram}
+use Rattle.swim_wire.specs.Checks.{ReasonForStart, ReasonForWhole}
+use Rattle.swim_wire.specs.Datagrams.{ReasonForDatagram}
 use Rattle.swim_wire.specs.Fault.{wire_number}
 use Rattle.swim_wire.specs.Reading.{wire_cause}
 use Rattle.swim_wire.specs.Streams.{StreamText}
-use Rattle.swim_wire.proofs.Explaining.{memory_or}
+use Rattle.swim_wire.proofs.Reasons.{memory_or}
 use Rattle.swim_table.proofs.WholeStreams.{HasNone, refused_front}
 use Rattle.swim_table.specs.declared.fault.EncodeFault.{EncodeFault}
 use Rattle.swim_table.specs.declared.fault.EncodeFault.TheVariants as encode
@@ -20,7 +20,7 @@ use Rattle.swim_table.specs.declared.fault.RefuteFault.TheVariants as refute
 use Rattle.swim_table.specs.Fault.{refute_number}
 use Rattle.swim_table.specs.Node.{NodeValue}
 use Rattle.swim_table.specs.Refuting.{IsDueInRange, IsExhausted, IsGone}
-use Rattle.swim_table.specs.Steps.{ExplainsStream}
+use Rattle.swim_table.specs.Steps.{ReasonForStream}
 use Rattle.swim_table.specs.Table.{Entries}
 use Rattle.swim_sync.specs.declared.fault.SyncFault.{SyncFault}
 use Rattle.swim_sync.specs.declared.fault.SyncFault.TheVariants as sync
@@ -47,17 +47,17 @@ lacks bytes rest fault why =
       no_memory = why.no_memory;
       no_end = no_end;
       lacks = λ text rest claims join stream parts. why.no_memory (refused_front fault bytes text rest claims join why.lacks no_end stream parts);
-      explains = why.explains;
+      reason = why.reason;
     }
 
 -- if memory was refused, the datagram requested some
-pub explained_memory : {X : Type 0} (bytes : List ℕ) (fault : WireFault) → refused X fault ≡ refused X wire.Memory → ExplainsDatagram fault bytes
+pub explained_memory : {X : Type 0} (bytes : List ℕ) (fault : WireFault) → refused X fault ≡ refused X wire.Memory → ReasonForDatagram fault bytes
     → DatagramAsks bytes
-explained_memory bytes fault e why = let is : fault ≡ wire.Memory = cc in subst (λ (f : WireFault). ExplainsDatagram f bytes) is why
+explained_memory bytes fault e why = let is : fault ≡ wire.Memory = cc in subst (λ (f : WireFault). ReasonForDatagram f bytes) is why
 
 -- the same for a packet
-pub packet_memory : {X : Type 0} (text : List ℕ) (fault : WireFault) → refused X fault ≡ refused X wire.Memory → ExplainsWhole fault text → PacketAsks text
-packet_memory text fault e why = let is : fault ≡ wire.Memory = cc in subst (λ (f : WireFault). ExplainsWhole f text) is why
+pub packet_memory : {X : Type 0} (text : List ℕ) (fault : WireFault) → refused X fault ≡ refused X wire.Memory → ReasonForWhole fault text → PacketAsks text
+packet_memory text fault e why = let is : fault ≡ wire.Memory = cc in subst (λ (f : WireFault). ReasonForWhole f text) is why
 
 -- a datagram was refused, because memory was, or because it is invalid
 pub take_done : {X : Type 0} (bytes : List ℕ) (status : ℕ) (before after : NodeValue) (fault : WireFault) → status ≡ wire_number fault → after ≡ before
@@ -84,24 +84,24 @@ is_wire error other = refl
 -- a reply was refused, because memory was, or because it is invalid
 pub unread : (bytes inlet rest : List ℕ) (fault : WireFault) → inlet ≡ bytes
     → UnlessFailed (wire_cause fault) (NoTextAtFront (memory inlet) (λ b. (claims : List Claim) × (join : Bool) × StreamText b claims join))
-    → ExplainsStart (ExplainsStream fault) (memory inlet) → (fault ≡ wire.Fault → CountsFault 0 0)
+    → ReasonForStart (ReasonForStream fault) (memory inlet) → (fault ≡ wire.Fault → CountsFault 0 0)
     → FinishCause bytes (fault_of_wire fault)
-unread bytes inlet rest fault is none explains failed = elim (memory_or fault) [
+unread bytes inlet rest fault is none reason failed = elim (memory_or fault) [
   | inl wants ↦ subst (λ (f : WireFault). FinishCause bytes (fault_of_wire f)) (sym wants) tt
   | inr other ↦
       subst (FinishCause bytes) (sym (is_wire fault other))
       (lacks bytes rest fault (subst (λ (b : List ℕ). exchanging.LacksStream (memory b) (memory rest) fault) is
-      (record { no_memory = other; lacks = none; explains = explains; failed = failed })))
+      (record { no_memory = other; lacks = none; reason = reason; failed = failed })))
 ]
 
 -- no stream was read, so none is answered
 pub stream_unread : (form : Form) (bytes inlet rest : List ℕ) (table : Entries) (fault : WireFault) → inlet ≡ bytes
-    → UnlessFailed (wire_cause fault) (HasNone inlet) → ExplainsStream fault inlet
+    → UnlessFailed (wire_cause fault) (HasNone inlet) → ReasonForStream fault inlet
     → (fault ≡ wire.Fault → CountsFault 0 0) → AnswerCause form bytes table (fault_of_wire fault)
-stream_unread form bytes inlet rest table fault is none explains failed = elim (memory_or fault) [
+stream_unread form bytes inlet rest table fault is none reason failed = elim (memory_or fault) [
   | inl wants ↦ subst (λ (f : WireFault). AnswerCause form bytes table (fault_of_wire f)) (sym wants) tt
   | inr other ↦
-      let why : exchanging.LacksStream (memory inlet) (memory rest) fault = record { no_memory = other; lacks = none; explains = explains; failed = failed } in
+      let why : exchanging.LacksStream (memory inlet) (memory rest) fault = record { no_memory = other; lacks = none; reason = reason; failed = failed } in
       subst (λ (f : SyncFault). AnswerCause form bytes table f) (sym (is_wire fault other))
       (subst (λ (b : List ℕ). HoldsNoStream b fault) is (lacks inlet rest fault why))
 ]

@@ -3,7 +3,7 @@ use Rattle.std.proofs.Common.{◌≢◌, ℕ, Option, Some, None, IsSome, List, 
 use Rattle.std.proofs.lemmas.List.Elements.{Contains-append_left}
 use Rattle.swim_claim.specs.declared.claim.Claim.{Claim}
 use Rattle.swim_table.specs.Standing.{Standing}
-use Rattle.swim_table.specs.Table.{Entries, Says, TableOf, Reduced, get}
+use Rattle.swim_table.specs.Table.{Entries, EntryOf, TableOf, Reduced, get}
 use Rattle.swim_table.specs.Node.{NodeValue}
 use Rattle.swim_table.proofs.Forgetting.{others_stay}
 use Rattle.swim_table.proofs.Showing.{name_shown}
@@ -16,7 +16,7 @@ stays_known : (before after : Entries) (claims : List Claim) → TableOf before 
     → IsSome (get before name) → IsSome (get after name)
 stays_known before after claims own took name known = by_answer (get before name) (own.each name) known
   where
-    by_answer : (o : Option Standing) → Says (Reduced before) name o → IsSome o → IsSome (get after name)
+    by_answer : (o : Option Standing) → EntryOf (Reduced before) name o → IsSome o → IsSome (get after name)
     by_answer None says some = absurd cc
     by_answer (Some s) says some =
         subst (λ n. IsSome (get after n)) says.about

@@ -10,7 +10,7 @@ use Rattle.swim_table.specs.News.{AreChanges, HasAlso}
 use Rattle.swim_table.specs.Node.{NodeValue}
 use Rattle.swim_table.specs.Refuting.{IsAtRest, IsDueInRange, IsRefutedBy}
 use Rattle.swim_table.specs.Standing.{Standing}
-use Rattle.swim_table.specs.Table.{Entries, get, IsAscending, IsLegalTable, IsStandingOf, Says, TableOf, Reduced, about_others}
+use Rattle.swim_table.specs.Table.{Entries, get, IsAscending, IsLegalTable, IsStandingOf, EntryOf, TableOf, Reduced, about_others}
 use Rattle.swim_table.proofs.Changed.{get-Join, also_noted}
 use Rattle.swim_table.proofs.Forgetting.{forgotten, others_stay}
 use Rattle.swim_table.proofs.Lookups.{get_cases, get_here, get_later, joined_both, joined-none, same_table}
@@ -113,7 +113,7 @@ named_tells empty before other names h changes is =
 -- ---- a refutation
 
 standing : (table : Entries) (claims : List Claim) (name : List ℕ) (s : Standing) → TableOf table claims → get table name ≡ Some s → IsStandingOf claims name s
-standing table claims name s h is = subst (Says claims name) is (h.each name)
+standing table claims name s h is = subst (EntryOf claims name) is (h.each name)
 
 -- a refutation changes the entry of the member
 own_changes : (before after : NodeValue) (inc : ℕ) → IsLegalTable before.table → IsRefutedBy before after inc

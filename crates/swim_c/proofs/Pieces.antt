@@ -10,16 +10,16 @@ use Rattle.swim_pack.specs.Ends.{NoTextAtFront, CountsFault, ConsumesText}
 use Rattle.swim_wire.specs.declared.fault.WireFault.{WireFault}
 use Rattle.swim_wire.specs.declared.fault.WireFault.TheVariants as wire
 use Rattle.swim_wire.specs.declared.stream.Header.{Header}
-use Rattle.swim_wire.proofs.Explaining.{memory_or}
+use Rattle.swim_wire.proofs.Reasons.{memory_or}
 use Rattle.swim_wire.specs.Fault.{wire_number}
 use Rattle.swim_wire.specs.Reading.{wire_cause}
 use Rattle.swim_wire.specs.Streams.{StateTexts}
 use Rattle.swim_wire.specs.Texts.{HeaderText, StateText}
-use Rattle.swim_table.proofs.Streams.{ReadSome, begun_more, none_wanted, step_explains, whole}
+use Rattle.swim_table.proofs.Streams.{ReadSome, begun_more, none_wanted, step_reason, whole}
 use Rattle.swim_table.proofs.Tables.{TableOf-table_of}
 use Rattle.swim_table.proofs.WholeStreams.{HasNone}
 use Rattle.swim_table.specs.Join.{table_of}
-use Rattle.swim_table.specs.Steps.{BeginText, IsWanted, ExplainsBegin, ExplainsRecord, ExplainsStep, ExplainsStream}
+use Rattle.swim_table.specs.Steps.{BeginText, IsWanted, ReasonForBegin, ReasonForRecord, ReasonForStep, ReasonForStream}
 use Rattle.swim_table.specs.Streaming.{Streaming}
 use Rattle.swim_c.specs.declared.progress.Progress.{Progress}
 use Rattle.swim_c.specs.Exchanges.{HoldsNoStream}
@@ -74,9 +74,9 @@ record_read bytes rest old new c begun_it left taken is (IsProgressIn.some front
 
 -- no stream is there, and this is why
 none_there : (bytes : List ℕ) (fault : WireFault) → fault ≢ wire.Memory → (wire_cause fault ≡ by_inlet → CountsFault 0 0) → UnlessFailed (wire_cause fault) (HasNone bytes)
-    → ExplainsStream fault bytes → HoldsNoStream bytes fault
+    → ReasonForStream fault bytes → HoldsNoStream bytes fault
 none_there bytes fault no_memory failed none why =
-    lacks bytes [] fault (record { no_memory = no_memory; lacks = none; explains = why; failed = λ e. failed (ap wire_cause e) })
+    lacks bytes [] fault (record { no_memory = no_memory; lacks = none; reason = why; failed = λ e. failed (ap wire_cause e) })
 
 in_parts : (head records user more : List ℕ) → (head ++ records ++ user) ++ more ≡ head ++ (records ++ (user ++ more))
 in_parts head records user more = simp append_assoc
@@ -88,14 +88,14 @@ no_stream bytes none text rest is parts =
     (parts ∙ ap (λ (t : List ℕ). t ++ rest) s.bytes ∙ in_parts s.head s.records s.user rest)
 
 pub header_missing : (bytes : List ℕ) (p : Progress) (fault : WireFault) → fault ≢ wire.Memory → (wire_cause fault ≡ by_inlet → CountsFault 0 0)
-    → UnlessFailed (wire_cause fault) (NoTextAtFront (memory (drop p.at bytes)) (λ b. (h : Header) × HeaderText b h)) → ExplainsBegin fault (drop p.at bytes)
+    → UnlessFailed (wire_cause fault) (NoTextAtFront (memory (drop p.at bytes)) (λ b. (h : Header) × HeaderText b h)) → ReasonForBegin fault (drop p.at bytes)
     → p.has_header ≡ false → IsProgressIn bytes p → HoldsNoStream bytes fault
 header_missing bytes p error no_memory failed none why fresh (IsProgressIn.none is) =
     let all : drop p.at bytes ≡ bytes = ap (λ (q : Progress). drop q.at bytes) is in
     none_there bytes error no_memory failed
     (UnlessFailed-weaker (wire_cause error) (λ (n : NoTextAtFront (memory (drop p.at bytes)) (λ b. (h : Header) × HeaderText b h)).
     no_stream bytes (subst (λ (b : List ℕ). NoTextAtFront (memory b) (λ b. (h : Header) × HeaderText b h)) all n)) none)
-    (ExplainsStream.header (subst (λ (b : List ℕ). ExplainsBegin error b) all why))
+    (ReasonForStream.header (subst (λ (b : List ℕ). ReasonForBegin error b) all why))
 header_missing bytes p error no_memory failed none why fresh (IsProgressIn.some front more header claims begun parts sum is) = absurd (has_one p _ _ _ is fresh)
 
 not_next : (header : Header) (left : ℕ) (claims : List Claim) (rest : List ℕ) → 0 < left → NoTextAtFront (memory rest) (λ b. (c : Claim) × StateText b c)
@@ -104,7 +104,7 @@ not_next header left claims rest some none text more (IsWanted.record_of c lt is
 not_next header left claims rest some none text more (IsWanted.user_state over long) parts = absurd (omega (arith, some, over))
 
 pub record_missing : (bytes : List ℕ) (p : Progress) (fault : WireFault) → fault ≢ wire.Memory → (wire_cause fault ≡ by_inlet → CountsFault 0 0)
-    → UnlessFailed (wire_cause fault) (NoTextAtFront (memory (drop p.at bytes)) (λ b. (c : Claim) × StateText b c)) → ExplainsRecord fault (drop p.at bytes)
+    → UnlessFailed (wire_cause fault) (NoTextAtFront (memory (drop p.at bytes)) (λ b. (c : Claim) × StateText b c)) → ReasonForRecord fault (drop p.at bytes)
     → p.has_header ≡ true → 0 < p.left → IsProgressIn bytes p → HoldsNoStream bytes fault
 record_missing bytes p error no_memory failed none why begun_it more (IsProgressIn.none is) = absurd (has_none p is begun_it)
 record_missing bytes p error no_memory failed none why begun_it more (IsProgressIn.some front rest header claims begun parts sum is) =
@@ -115,7 +115,7 @@ record_missing bytes p error no_memory failed none why begun_it more (IsProgress
     (UnlessFailed-weaker (wire_cause error) (λ (n : NoTextAtFront (memory (drop p.at bytes)) (λ b. (c : Claim) × StateText b c)).
     none_wanted (memory bytes) (memory rest) reader some
     (not_next header p.left claims rest more (subst (λ (b : List ℕ). NoTextAtFront (memory b) (λ b. (c : Claim) × StateText b c)) here n))) none)
-    (step_explains error (memory bytes) (memory rest) reader some (ExplainsStep.record_of more (subst (λ (b : List ℕ). ExplainsRecord error b) here why)))
+    (step_reason error (memory bytes) (memory rest) reader some (ReasonForStep.record_of more (subst (λ (b : List ℕ). ReasonForRecord error b) here why)))
 
 not_enough : (header : Header) (claims : List Claim) (rest : List ℕ) → length rest < header.user_len
     → NoTextAtFront (memory rest) (IsWanted (record { header = header; left = 0; table = table_of claims }))
@@ -135,7 +135,7 @@ user_missing bytes p short begun_it over (IsProgressIn.some front rest header cl
     let reader : Streaming = record { header = header; left = 0; table = table_of claims } in
     none_there bytes wire.Ended (λ e. cc) (λ e. cc)
     (none_wanted (memory bytes) (memory rest) reader some (not_enough header claims rest few))
-    (step_explains wire.Ended (memory bytes) (memory rest) reader some (ExplainsStep.user_state refl (inl (refl, few))))
+    (step_reason wire.Ended (memory bytes) (memory rest) reader some (ReasonForStep.user_state refl (inl (refl, few))))
 
 -- ---- a whole stream
 

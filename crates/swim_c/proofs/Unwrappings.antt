@@ -10,7 +10,7 @@ use Rattle.memberlist_transport.specs.declared.fault.StreamFault.{StreamFault}
 use Rattle.memberlist_transport.specs.declared.fault.StreamFault.TheVariants as stream_fault
 use Rattle.memberlist_transport.specs.declared.message.Message.{Message}
 use Rattle.memberlist_transport.specs.Packet.{Holds, Fails}
-use Rattle.memberlist_transport.specs.Reply.{IsReplyIn, ExplainsReply}
+use Rattle.memberlist_transport.specs.Reply.{IsReplyIn, ReasonForReply}
 use Rattle.swim_c.specs.declared.copy.Written.{Written}
 use Rattle.swim_c.specs.Keyring.{keys_of}
 use Rattle.swim_c.specs.Sealing.{Sealed}
@@ -35,7 +35,7 @@ packet_refused keys packet old new status len packet_fault.NoKeyFits is why none
 
 -- a stream was refused
 pub stream_refused : (keys : List (List ℕ)) (label bytes old new : List ℕ) (status len : ℕ) (fault : StreamFault)
-    → length label < 256 → IsUnwritten (stream_status fault) old new status len → (fault ≢ stream_fault.Memory → ExplainsReply most_stream keys label bytes fault)
+    → length label < 256 → IsUnwritten (stream_status fault) old new status len → (fault ≢ stream_fault.Memory → ReasonForReply most_stream keys label bytes fault)
     → (fault ≢ stream_fault.Memory → (stream : List ℕ) → ¬ IsReplyIn most_stream keys label bytes stream) → StreamUnwrapped keys label bytes old new status len
 stream_refused keys label bytes old new status len stream_fault.Memory few is why none = StreamUnwrapped.memory few is
 stream_refused keys label bytes old new status len (stream_fault.Wrapped cause) few is why none =

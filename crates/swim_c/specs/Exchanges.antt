@@ -5,7 +5,7 @@ use Rattle.swim_wire.specs.declared.fault.WireFault.{WireFault}
 use Rattle.swim_wire.specs.declared.fault.WireFault.TheVariants as wire
 use Rattle.swim_wire.specs.Streams.{StreamText}
 use Rattle.swim_table.specs.Node.{NodeValue, SameMember}
-use Rattle.swim_table.specs.Steps.{ExplainsStream}
+use Rattle.swim_table.specs.Steps.{ReasonForStream}
 use Rattle.swim_table.specs.Table.{Entries}
 use Rattle.swim_sync.specs.declared.fault.SyncFault.{SyncFault}
 use Rattle.swim_sync.specs.declared.fault.SyncFault.TheVariants.{Wire, TooManyRecords, Push, Memory}
@@ -42,7 +42,7 @@ pub record HoldsNoStream (bytes : List ℕ) (fault : WireFault) : Type 0 where
   pub no_end : fault ≢ wire.Fault
   pub lacks : (text rest : List ℕ) (claims : List Claim) (join : Bool) → StreamText text claims join
       → bytes ≢ text ++ rest
-  pub explains : ExplainsStream fault bytes
+  pub reason : ReasonForStream fault bytes
 
 -- why a table has no dump in a form: it has too many records (23)
 abbrev pub LacksDump : Form → Entries → ℕ → Type 0

@@ -4,7 +4,7 @@ use Rattle.swim_wire.specs.declared.fault.WireFault.{WireFault}
 use Rattle.swim_wire.specs.declared.fault.WireFault.TheVariants.{Ended, Fault, Memory, Trailing}
 use Rattle.swim_wire.specs.Asking.{PacketAsks}
 use Rattle.swim_wire.specs.Canonical.{packets_bytes}
-use Rattle.swim_wire.specs.Checks.{ExplainsWhole}
+use Rattle.swim_wire.specs.Checks.{ReasonForWhole}
 use Rattle.swim_wire.specs.Fault.{wire_number}
 use Rattle.swim_wire.specs.Packet.{PacketValue}
 use Rattle.swim_wire.specs.Reading.{whole_packet}
@@ -26,7 +26,7 @@ pub data LacksPackets (lens bytes : List ℕ) (fault : WireFault) : Type 0 where
   wrong : (front text rest before later : List ℕ) (packets : List PacketValue)
       → PacketTexts before front packets
       → lens ≡ before ++ length text ∷ later → bytes ≡ front ++ (text ++ rest)
-      → whole_packet text ≡ Err fault → ExplainsWhole fault text → fault ≢ Fault
+      → whole_packet text ≡ Err fault → ReasonForWhole fault text → fault ≢ Fault
       → LacksPackets lens bytes fault
   trailing : (front rest : List ℕ) (packets : List PacketValue) → PacketTexts lens front packets
       → bytes ≡ front ++ rest → rest ≢ []

@@ -5,7 +5,7 @@ use Rattle.swim_wire.specs.declared.fault.WireFault.{WireFault}
 use Rattle.swim_wire.specs.declared.fault.WireFault.TheVariants.{Memory}
 use Rattle.swim_wire.specs.declared.stream.Header.{Header}
 use Rattle.swim_wire.specs.Fault.{wire_number}
-use Rattle.swim_table.specs.Steps.{BeginText, ExplainsBegin, ExplainsRecord, ExplainsUser}
+use Rattle.swim_table.specs.Steps.{BeginText, ReasonForBegin, ReasonForRecord, ReasonForUser}
 use Rattle.swim_c.specs.declared.progress.Progress.{Progress}
 use Rattle.swim_c.specs.Exchanges.{HoldsNoStream, ReadsStream}
 
@@ -27,10 +27,10 @@ pub data IsProgressIn (bytes : List ℕ) (p : Progress) : Type 0 where
 -- Reading stops with this fault at the first byte that was not read: there is no header, or no
 -- further record, or the user state is cut short.
 pub data StopsAt (p : Progress) (fault : WireFault) (bytes : List ℕ) : Type 0 where
-  header : p.has_header ≡ false → ExplainsBegin fault (drop p.at bytes) → StopsAt p fault bytes
-  record_of : p.has_header ≡ true → 0 < p.left → ExplainsRecord fault (drop p.at bytes)
+  header : p.has_header ≡ false → ReasonForBegin fault (drop p.at bytes) → StopsAt p fault bytes
+  record_of : p.has_header ≡ true → 0 < p.left → ReasonForRecord fault (drop p.at bytes)
       → StopsAt p fault bytes
-  user_state : p.has_header ≡ true → p.left ≡ 0 → ExplainsUser p.user_len fault (drop p.at bytes)
+  user_state : p.has_header ≡ true → p.left ≡ 0 → ReasonForUser p.user_len fault (drop p.at bytes)
       → StopsAt p fault bytes
 
 -- The bytes begin with a stream, and only its user state was not read (0). Or they do not: the

@@ -4,7 +4,7 @@ use Rattle.swim_claim.specs.declared.claim.Claim.{Claim}
 use Rattle.swim_wire.specs.declared.fault.WireFault.{WireFault}
 use Rattle.swim_wire.specs.declared.fault.WireFault.TheVariants.{Memory, Fault}
 use Rattle.swim_wire.specs.Asking.{DatagramAsks}
-use Rattle.swim_wire.specs.Datagrams.{whole_datagram, ExplainsDatagram}
+use Rattle.swim_wire.specs.Datagrams.{whole_datagram, ReasonForDatagram}
 use Rattle.swim_wire.specs.Fault.{wire_number}
 use Rattle.swim_wire.specs.Packet.{PacketValue}
 use Rattle.swim_wire.specs.Texts.{DatagramText}
@@ -27,7 +27,7 @@ pub record TakesDatagram (bytes : List ℕ) (before after : NodeValue) : Type 0 
 -- The bytes are neither, and this is the fault at which reading stops.
 pub record IsNoDatagram (bytes : List ℕ) (fault : WireFault) : Type 0 where
   pub none : (packets : List PacketValue) → ¬ DatagramText bytes packets
-  pub explains : ExplainsDatagram fault bytes
+  pub reason : ReasonForDatagram fault bytes
   pub exact : whole_datagram bytes ≡ Err fault
   pub no_end : fault ≢ Fault
 

@@ -7,7 +7,7 @@ use Rattle.memberlist_transport.specs.declared.fault.StreamFault.TheVariants as 
 use Rattle.memberlist_transport.specs.declared.message.Message.{Message}
 use Rattle.memberlist_transport.specs.declared.message.Message.TheVariants.{Claims, Claimless, Empty}
 use Rattle.memberlist_transport.specs.Packet.{Holds, Fails}
-use Rattle.memberlist_transport.specs.Reply.{IsReplyIn, ExplainsReply}
+use Rattle.memberlist_transport.specs.Reply.{IsReplyIn, ReasonForReply}
 use Rattle.swim_c.specs.Buffers.{Copied}
 use Rattle.swim_c.specs.Statuses.{packet_status, stream_status}
 
@@ -48,7 +48,7 @@ pub data StreamUnwrapped (keys : List (List ℕ)) (label bytes old new : List �
   stream : (stream : List ℕ) → length label < 256 → IsReplyIn most_stream keys label bytes stream
       → Copied stream old new status len → StreamUnwrapped keys label bytes old new status len
   refused : (fault : StreamFault) → length label < 256 → fault ≢ stream_fault.Memory
-      → ExplainsReply most_stream keys label bytes fault
+      → ReasonForReply most_stream keys label bytes fault
       → ((stream : List ℕ) → ¬ IsReplyIn most_stream keys label bytes stream)
       → IsUnwritten (stream_status fault) old new status len
       → StreamUnwrapped keys label bytes old new status len

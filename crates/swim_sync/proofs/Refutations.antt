@@ -14,7 +14,7 @@ use Rattle.swim_claim.specs.Claim.{name_of, inc_of, details_of, Overrides}
 use Rattle.swim_claim.proofs.OverridingOrder.{overrides_irreflexive}
 use Rattle.swim_claim.specs.Details.{details_cmp}
 use Rattle.swim_table.specs.Standing.{Standing}
-use Rattle.swim_table.specs.Table.{get, name_cmp, Says, Stands, IsStandingOf, TableOf}
+use Rattle.swim_table.specs.Table.{get, name_cmp, EntryOf, Stands, IsStandingOf, TableOf}
 use Rattle.swim_table.specs.Join.{greater_home, table_of}
 use Rattle.swim_table.specs.Node.{NodeValue}
 use Rattle.swim_table.specs.Refuting.{Due, IsFinal, IsNext, IsRefutedBy, IsAtRest, IsExhausted, IsGone}
@@ -133,7 +133,7 @@ module _ (claims : List Claim) (member : Member) where
   refutes_top s (Confirm name inc) is h = never (λ due. due.not_final s.top h.top.made h.about (subst IsFinal (sym is) tt))
   refutes_top s (Leave name inc) is h = never (λ due. due.not_final s.top h.top.made h.about (subst IsFinal (sym is) tt))
 
-  refutes_by : (o : Option Standing) → Says claims member.name o → Refutes claims member (refuted member (top_of o))
+  refutes_by : (o : Option Standing) → EntryOf claims member.name o → Refutes claims member (refuted member (top_of o))
   refutes_by None says = never (λ due. says due.claimed.0 due.claimed.1 due.claimed.2)
   refutes_by (Some s) says = refutes_top s s.top refl says
 

@@ -7,12 +7,12 @@ use Rattle.swim_pack.specs.Composing.{UnlessFailed}
 use Rattle.swim_pack.specs.Ends.{Source, Sink, ConsumesText, NoTextAtFront, CountsFault, AppendsFront}
 use Rattle.swim_wire.specs.declared.fault.WireFault.{WireFault}
 use Rattle.swim_wire.specs.declared.fault.WireFault.TheVariants as wire
-use Rattle.swim_wire.specs.Checks.{ExplainsStart}
+use Rattle.swim_wire.specs.Checks.{ReasonForStart}
 use Rattle.swim_wire.specs.Limits.{most_nodes}
 use Rattle.swim_wire.specs.Reading.{wire_cause}
 use Rattle.swim_wire.specs.Streams.{StreamText}
 use Rattle.swim_table.specs.Dump.{dump_bytes}
-use Rattle.swim_table.specs.Steps.{ExplainsStream}
+use Rattle.swim_table.specs.Steps.{ReasonForStream}
 use Rattle.swim_table.specs.Table.{Entries, Reduced, TableOf, IsLegalTable}
 use Rattle.swim_sync.specs.declared.fault.SyncFault.{SyncFault}
 use Rattle.swim_sync.specs.declared.fault.SyncFault.TheVariants.{Wire, TooManyRecords, Push, Memory}
@@ -59,7 +59,7 @@ pub record LacksStream (old new : Source) (fault : WireFault) : Type 0 where
   pub no_memory : fault ≢ wire.Memory
   pub lacks : UnlessFailed (wire_cause fault)
       (NoTextAtFront old (λ b. (claims : List Claim) × (join : Bool) × StreamText b claims join))
-  pub explains : ExplainsStart (ExplainsStream fault) old
+  pub reason : ReasonForStart (ReasonForStream fault) old
   pub failed : fault ≡ wire.Fault → CountsFault old.faults new.faults
 
 -- The outlet failed, and a prefix of the table's dump with this join flag was pushed.

@@ -10,11 +10,11 @@ use Rattle.std.proofs.lemmas.Map.Lookups.{exact_bytes}
 use Rattle.swim_claim.specs.declared.claim.Claim.{Claim}
 use Rattle.swim_claim.specs.Claim.{name_of, IsLegalClaim}
 use Rattle.swim_table.specs.Standing.{Standing}
-use Rattle.swim_table.specs.Table.{Entries, name_cmp, get, IsAscending, IsHomeOf, Says, TableOf, Reduced, IsLegalTable, about_others}
+use Rattle.swim_table.specs.Table.{Entries, name_cmp, get, IsAscending, IsHomeOf, EntryOf, TableOf, Reduced, IsLegalTable, about_others}
 use Rattle.swim_table.specs.Place.{IsAt, IsGapFor}
 use Rattle.swim_table.proofs.Lookups.{only_one, get_cases, get_here, get_later, get_below, IsBelowAll, IsAscending-head, IsAscending-tail, IsAscending-cons, IsAscending-nil}
 use Rattle.swim_table.proofs.Place.{less_at, get_in_gap}
-use Rattle.swim_table.proofs.Tables.{Says-unique}
+use Rattle.swim_table.proofs.Tables.{EntryOf-unique}
 use Rattle.swim_table.proofs.Taking.{legal_table}
 
 -- ---- the claims about other names
@@ -59,8 +59,8 @@ stays name (d ∷ claims) c made other = by_test (is_other name d) refl (Contain
     by_test false e (inr later) again = again later other
 
 -- they say nothing about the name
-Says-none : (name : List ℕ) (claims : List Claim) → Says (about_others name claims) name None
-Says-none name claims = other_named name claims
+EntryOf-none : (name : List ℕ) (claims : List Claim) → EntryOf (about_others name claims) name None
+EntryOf-none name claims = other_named name claims
 
 -- and about another name what all claims say about it
 IsHomeOf-others : (name n : List ℕ) (claims : List Claim) (o : Option Claim) → n ≢ name → IsHomeOf claims n o → IsHomeOf (about_others name claims) n o
@@ -74,9 +74,9 @@ IsHomeOf-others name n claims (Some a) other h = (
   },
 )
 
-Says-others : (name n : List ℕ) (claims : List Claim) (o : Option Standing) → n ≢ name → Says claims n o → Says (about_others name claims) n o
-Says-others name n claims None other h = λ c made. h c (within name claims c made)
-Says-others name n claims (Some s) other h = record {
+EntryOf-others : (name n : List ℕ) (claims : List Claim) (o : Option Standing) → n ≢ name → EntryOf claims n o → EntryOf (about_others name claims) n o
+EntryOf-others name n claims None other h = λ c made. h c (within name claims c made)
+EntryOf-others name n claims (Some s) other h = record {
   about = h.about;
   top =
       record {
@@ -94,14 +94,14 @@ TableOf-others table whole name claims up none same h = record { ascending = up;
     other_than : (n : List ℕ) (o : Ordering) → o ≢ Equal → name_cmp name n ≡ o → n ≢ name
     other_than n o unequal e is = unequal (sym e ∙ ap (name_cmp name) is ∙ tied_itself nat_list_cmp_total name)
 
-    of_other : (n : List ℕ) → n ≢ name → Says (about_others name claims) n (get whole n)
-    of_other n other = subst (Says (about_others name claims) n) (sym (same n other)) (Says-others name n claims (get table n) other (h.each n))
+    of_other : (n : List ℕ) → n ≢ name → EntryOf (about_others name claims) n (get whole n)
+    of_other n other = subst (EntryOf (about_others name claims) n) (sym (same n other)) (EntryOf-others name n claims (get table n) other (h.each n))
 
-    by_answer : (n : List ℕ) (o : Ordering) → name_cmp name n ≡ o → Says (about_others name claims) n (get whole n)
+    by_answer : (n : List ℕ) (o : Ordering) → name_cmp name n ≡ o → EntryOf (about_others name claims) n (get whole n)
     by_answer n Less e = of_other n (other_than n Less (λ h. cc) e)
     by_answer n Equal e =
-        subst (λ m. Says (about_others name claims) m (get whole m)) (exact_bytes name n e)
-        (subst (Says (about_others name claims) name) (sym none) (Says-none name claims))
+        subst (λ m. EntryOf (about_others name claims) m (get whole m)) (exact_bytes name n e)
+        (subst (EntryOf (about_others name claims) name) (sym none) (EntryOf-none name claims))
     by_answer n Greater e = of_other n (other_than n Greater (λ h. cc) e)
 
 -- ---- the laws
@@ -109,14 +109,14 @@ TableOf-others table whole name claims up none same h = record { ascending = up;
 pub forgotten : (table : Entries) (claims : List Claim) (name : List ℕ) → TableOf table (about_others name claims) → get table name ≡ None
 forgotten table claims name h =
     let others = about_others name claims in
-    Says-unique others others name (get table name) None (λ c made. made) (λ c made. made) (h.each name) (Says-none name claims)
+    EntryOf-unique others others name (get table name) None (λ c made. made) (λ c made. made) (h.each name) (EntryOf-none name claims)
 
 pub others_stay : (table other : Entries) (claims : List Claim) (name n : List ℕ) → TableOf table claims → TableOf other
     (about_others name claims) → n ≢ name → get other n ≡ get table n
 others_stay table other claims name n h g differ =
     let others = about_others name claims in
-    Says-unique others others n (get other n) (get table n) (λ c made. made) (λ c made. made) (g.each n)
-    (Says-others name n claims (get table n) differ (h.each n))
+    EntryOf-unique others others n (get other n) (get table n) (λ c made. made) (λ c made. made) (g.each n)
+    (EntryOf-others name n claims (get table n) differ (h.each n))
 
 -- ---- the removal of an entry
 

@@ -3,7 +3,7 @@ use Rattle.std.proofs.Common.{◌≡◌, ◌↔◌, Option, Some, None, List, �
 use Rattle.swim_claim.specs.declared.claim.Claim.{Claim}
 use Rattle.swim_claim.specs.Claim.{name_of, Overrides}
 use Rattle.swim_table.specs.Standing.{Standing}
-use Rattle.swim_table.specs.Table.{Entries, get, IsHomeOf, IsStandingOf, Says, TableOf, Home, Reduced}
+use Rattle.swim_table.specs.Table.{Entries, get, IsHomeOf, IsStandingOf, EntryOf, TableOf, Home, Reduced}
 use Rattle.swim_table.specs.Join.{Join, Below}
 use Rattle.swim_table.proofs.Lookups.{get_contained}
 use Rattle.swim_table.proofs.Tables.{TableOf-table_of, TableOf-unique, TableOf-same, TableOf-instead, Same-append_comm}
@@ -12,7 +12,7 @@ use Rattle.swim_table.proofs.Tables.{TableOf-table_of, TableOf-unique, TableOf-s
 pub name_shown : (table : Entries) (claims : List Claim) → TableOf table claims → (c : Claim) → Contains claims c → IsSome (get table (name_of c))
 name_shown table claims h c made = by_answer (get table (name_of c)) (h.each (name_of c))
   where
-    by_answer : (o : Option Standing) → Says claims (name_of c) o → IsSome o
+    by_answer : (o : Option Standing) → EntryOf claims (name_of c) o → IsSome o
     by_answer None says = absurd (says c made refl)
     by_answer (Some s) says = refl
 

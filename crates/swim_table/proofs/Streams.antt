@@ -19,8 +19,8 @@ use Rattle.swim_wire.specs.Texts.{HeaderText, StateText}
 use Rattle.swim_wire.proofs.Asking.{StateText-asks}
 use Rattle.swim_wire.proofs.OneMessage.{header_one, state_one}
 use Rattle.swim_table.specs.declared.stream_reader.Step.TheVariants.{More, End}
-use Rattle.swim_table.specs.Steps.{Steps, IsWanted, BeginText, ExplainsStep, ExplainsStream}
-use Rattle.swim_table.specs.Steps.{Steps as steps, IsWanted as wants, ExplainsStep as why_step, ExplainsStream as why_stream}
+use Rattle.swim_table.specs.Steps.{Steps, IsWanted, BeginText, ReasonForStep, ReasonForStream}
+use Rattle.swim_table.specs.Steps.{Steps as steps, IsWanted as wants, ReasonForStep as why_step, ReasonForStream as why_stream}
 use Rattle.swim_table.specs.Streaming.{Streaming}
 use Rattle.swim_table.specs.Table.{Entries, TableOf}
 use Rattle.swim_table.proofs.Tables.{TableOf-table_of}
@@ -181,12 +181,12 @@ none_wanted old mid reader some lacks = known old.coming mid.coming some.taken l
         let w = wanted reader some.claims is.0 is.1 taken.0 now text rest taken.1 some.counted is.2 (sym taken.2 ∙ parts) in
         lacks w.0 w.1 w.2 w.3
 
-pub step_explains : (fault : WireFault) (old mid : Source) (reader : Streaming) → ReadSome old mid reader → IfSome mid.coming
-    (ExplainsStep reader fault) → IfSome old.coming (ExplainsStream fault)
-step_explains fault old mid reader some says = known old.coming mid.coming some.taken says
+pub step_reason : (fault : WireFault) (old mid : Source) (reader : Streaming) → ReadSome old mid reader → IfSome mid.coming
+    (ReasonForStep reader fault) → IfSome old.coming (ReasonForStream fault)
+step_reason fault old mid reader some says = known old.coming mid.coming some.taken says
   where
     because : (bytes front now : List ℕ) → BeginText front reader.header some.claims → bytes ≡ front ++ now
-        → ExplainsStep reader fault now → ExplainsStream fault bytes
+        → ReasonForStep reader fault now → ReasonForStream fault bytes
     because bytes front now begun parts (why_step.record_of more why) =
         let sum = some.counted in
         why_stream.record_of front now reader.header some.claims begun (omega (arith, sum, more)) parts why
@@ -195,7 +195,7 @@ step_explains fault old mid reader some says = known old.coming mid.coming some.
         why_stream.user_state front now reader.header some.claims begun (omega (arith, sum, over)) parts why
 
     known : (old mid : Option (List ℕ)) → ConsumesKnownText old mid (λ b. BeginText b reader.header some.claims) → IfSome mid
-        (ExplainsStep reader fault) → IfSome old (ExplainsStream fault)
+        (ReasonForStep reader fault) → IfSome old (ReasonForStream fault)
     known None mid taken says = tt
     known (Some bytes) None taken says = absurd taken
     known (Some bytes) (Some now) taken says = because bytes taken.0 now taken.1 taken.2 says
@@ -204,11 +204,11 @@ step_explains fault old mid reader some says = known old.coming mid.coming some.
 
 -- a record that was read requested memory
 pub record_asks : (reader inside : Streaming) (old new : Source) (c : Claim) → inside ≡ reader → inside.left ≢ 0 → ConsumesText old new (λ b. StateText b c)
-    → IfSome old.coming (ExplainsStep reader Memory)
+    → IfSome old.coming (ReasonForStep reader Memory)
 record_asks reader inside old new c same some taken =
-    subst (λ (r : Streaming). IfSome old.coming (ExplainsStep r Memory)) same (known old.coming new.coming taken)
+    subst (λ (r : Streaming). IfSome old.coming (ReasonForStep r Memory)) same (known old.coming new.coming taken)
   where
-    known : (old new : Option (List ℕ)) → ConsumesKnownText old new (λ b. StateText b c) → IfSome old (ExplainsStep inside Memory)
+    known : (old new : Option (List ℕ)) → ConsumesKnownText old new (λ b. StateText b c) → IfSome old (ReasonForStep inside Memory)
     known None new taken = tt
     known (Some bytes) None taken = absurd taken
     known (Some bytes) (Some rest) taken =
@@ -218,14 +218,14 @@ record_asks reader inside old new c same some taken =
 fewer : (bytes : List ℕ) (n : ℕ) → ((text rest : List ℕ) → length text ≡ n → bytes ≡ text ++ rest → ⊥) → length bytes < n
 fewer bytes n lacks = lt_of_not-le (λ le. lacks (take n bytes) (drop n bytes) (length-take-le n bytes le) (sym (take-append-drop n bytes)))
 
-pub user_explains : (reader inside : Streaming) (fault : WireFault) (old : Source) → inside ≡ reader → inside.left ≡ 0 → (fault ≡ Ended) ⊎ (fault ≡ Fault)
-    → UnlessFailed (wire_cause fault) (NoTextAtFront old (λ b. length b ≡ inside.header.user_len)) → IfSome old.coming (ExplainsStep reader fault)
-user_explains reader inside fault old same over which lacks =
-    subst (λ (r : Streaming). IfSome old.coming (ExplainsStep r fault)) same (known old.coming which lacks)
+pub user_reason : (reader inside : Streaming) (fault : WireFault) (old : Source) → inside ≡ reader → inside.left ≡ 0 → (fault ≡ Ended) ⊎ (fault ≡ Fault)
+    → UnlessFailed (wire_cause fault) (NoTextAtFront old (λ b. length b ≡ inside.header.user_len)) → IfSome old.coming (ReasonForStep reader fault)
+user_reason reader inside fault old same over which lacks =
+    subst (λ (r : Streaming). IfSome old.coming (ReasonForStep r fault)) same (known old.coming which lacks)
   where
     known : (old : Option (List ℕ)) → (fault ≡ Ended) ⊎ (fault ≡ Fault)
         → UnlessFailed (wire_cause fault) (IfSome old (λ bytes. (text rest : List ℕ) → length text ≡ inside.header.user_len → bytes ≡ text ++ rest → ⊥))
-        → IfSome old (ExplainsStep inside fault)
+        → IfSome old (ReasonForStep inside fault)
     known None which lacks = tt
     known (Some bytes) (inl is) lacks =
         let short =

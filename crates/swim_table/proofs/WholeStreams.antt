@@ -9,8 +9,8 @@ use Rattle.swim_wire.specs.Reading.{wire_cause}
 use Rattle.swim_wire.specs.Streams.{StreamText}
 use Rattle.swim_wire.proofs.OneStream.{one_stream}
 use Rattle.swim_table.specs.Dump.{dump_bytes}
-use Rattle.swim_table.specs.Steps.{ExplainsStream, ExplainsDump}
-use Rattle.swim_table.specs.Steps.ExplainsStream.{header, record_of, user_state}
+use Rattle.swim_table.specs.Steps.{ReasonForStream, ReasonForDump}
+use Rattle.swim_table.specs.Steps.ReasonForStream.{header, record_of, user_state}
 use Rattle.swim_table.specs.Table.{Entries, Reduced, TableOf, IsLegalTable}
 use Rattle.swim_table.proofs.Dumps.{dump_is_stream, dump_read_back}
 
@@ -57,14 +57,14 @@ read_back bytes table other join flag claims legal few is of text =
     dump_read_back table other join flag claims legal few of (subst (λ (b : List ℕ). StreamText b claims flag) is text)
 
 -- no part of a stream is followed by bytes
-not_trailing : (bytes : List ℕ) → ¬ ExplainsStream Trailing bytes
+not_trailing : (bytes : List ℕ) → ¬ ReasonForStream Trailing bytes
 not_trailing bytes (header why) = why.0
 not_trailing bytes (record_of front rest h claims begun more parts why) = why.0
 not_trailing bytes (user_state front rest h claims begun all parts (inl (is, short))) = cc
 not_trailing bytes (user_state front rest h claims begun all parts (inr is)) = cc
 
 -- why the bytes do not begin with a stream is why they are not a dump
-pub no_dump : (fault : WireFault) (bytes : List ℕ) → (fault ≡ Fault → ⊥) → ExplainsStream fault bytes → ExplainsDump fault bytes
+pub no_dump : (fault : WireFault) (bytes : List ℕ) → (fault ≡ Fault → ⊥) → ReasonForStream fault bytes → ReasonForDump fault bytes
 no_dump Trailing bytes no_fault why = absurd (not_trailing bytes why)
 no_dump Fault bytes no_fault why = absurd (no_fault refl)
 no_dump fault bytes no_fault why = why

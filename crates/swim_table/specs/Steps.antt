@@ -6,7 +6,7 @@ use Rattle.swim_pack.specs.Ends.{Source, ConsumesText}
 use Rattle.swim_wire.specs.declared.fault.WireFault.{WireFault}
 use Rattle.swim_wire.specs.declared.fault.WireFault.TheVariants.{Ended, Fault, Trailing}
 use Rattle.swim_wire.specs.declared.stream.Header.{Header}
-use Rattle.swim_wire.specs.Checks.{ExplainsHeader, ExplainsState}
+use Rattle.swim_wire.specs.Checks.{ReasonForHeader, ReasonForState}
 use Rattle.swim_wire.specs.Reading.{Reading, wire_cause, header_at, state_at}
 use Rattle.swim_wire.specs.Streams.{StateTexts, StreamText}
 use Rattle.swim_wire.specs.Texts.{HeaderText, StateText}
@@ -45,36 +45,36 @@ abbrev pub StreamStopsAt : {A : Type 0} → Reading A → WireFault → List ℕ
 StreamStopsAt reading fault bytes = UnlessFailed (wire_cause fault) (reading bytes ≡ Err fault)
 
 -- What a fault says about bytes that do not begin with a header, and where reading one stops.
-abbrev pub ExplainsBegin : WireFault → List ℕ → Type 0
-ExplainsBegin fault bytes = ExplainsHeader fault bytes × StreamStopsAt header_at fault bytes
+abbrev pub ReasonForBegin : WireFault → List ℕ → Type 0
+ReasonForBegin fault bytes = ReasonForHeader fault bytes × StreamStopsAt header_at fault bytes
 
 -- The same for a state record.
-abbrev pub ExplainsRecord : WireFault → List ℕ → Type 0
-ExplainsRecord fault bytes = ExplainsState fault bytes × StreamStopsAt state_at fault bytes
+abbrev pub ReasonForRecord : WireFault → List ℕ → Type 0
+ReasonForRecord fault bytes = ReasonForState fault bytes × StreamStopsAt state_at fault bytes
 
 -- What a fault says about bytes that should begin with this much user state: fewer are left, or the
 -- inlet failed.
-abbrev pub ExplainsUser : ℕ → WireFault → List ℕ → Type 0
-ExplainsUser user_len fault bytes = ((fault ≡ Ended) × (length bytes < user_len)) ⊎ (fault ≡ Fault)
+abbrev pub ReasonForUser : ℕ → WireFault → List ℕ → Type 0
+ReasonForUser user_len fault bytes = ((fault ≡ Ended) × (length bytes < user_len)) ⊎ (fault ≡ Fault)
 
 -- What a step's fault says about the bytes: they do not begin with a record, or the user state is
 -- cut short.
-pub data ExplainsStep (reader : Streaming) (fault : WireFault) (bytes : List ℕ) : Type 0 where
-  record_of : 0 < reader.left → ExplainsRecord fault bytes → ExplainsStep reader fault bytes
-  user_state : reader.left ≡ 0 → ExplainsUser reader.header.user_len fault bytes
-      → ExplainsStep reader fault bytes
+pub data ReasonForStep (reader : Streaming) (fault : WireFault) (bytes : List ℕ) : Type 0 where
+  record_of : 0 < reader.left → ReasonForRecord fault bytes → ReasonForStep reader fault bytes
+  user_state : reader.left ≡ 0 → ReasonForUser reader.header.user_len fault bytes
+      → ReasonForStep reader fault bytes
 
 -- What a stream's fault says about the bytes: they do not begin with a header, or no further record
 -- follows the header and some of the records that it announces, or the user state after all of them
 -- is cut short.
-pub data ExplainsStream (fault : WireFault) (bytes : List ℕ) : Type 0 where
-  header : ExplainsBegin fault bytes → ExplainsStream fault bytes
+pub data ReasonForStream (fault : WireFault) (bytes : List ℕ) : Type 0 where
+  header : ReasonForBegin fault bytes → ReasonForStream fault bytes
   record_of : (front rest : List ℕ) (h : Header) (claims : List Claim) → BeginText front h claims
-      → length claims < h.nodes → bytes ≡ front ++ rest → ExplainsRecord fault rest
-      → ExplainsStream fault bytes
+      → length claims < h.nodes → bytes ≡ front ++ rest → ReasonForRecord fault rest
+      → ReasonForStream fault bytes
   user_state : (front rest : List ℕ) (h : Header) (claims : List Claim) → BeginText front h claims
-      → length claims ≡ h.nodes → bytes ≡ front ++ rest → ExplainsUser h.user_len fault rest
-      → ExplainsStream fault bytes
+      → length claims ≡ h.nodes → bytes ≡ front ++ rest → ReasonForUser h.user_len fault rest
+      → ReasonForStream fault bytes
 
 -- a stream, and at least one byte after it
 abbrev pub HasTrailingStream : List ℕ → Type 0
@@ -83,7 +83,7 @@ HasTrailingStream bytes = (front rest : List ℕ) × (claims : List Claim) × (j
 
 -- What a dump's fault says about its bytes: something follows a stream, or they do not begin with
 -- one. Bytes do not fail.
-abbrev pub ExplainsDump : WireFault → List ℕ → Type 0
-ExplainsDump Trailing bytes = HasTrailingStream bytes
-ExplainsDump Fault bytes = ⊥
-ExplainsDump fault bytes = ExplainsStream fault bytes
+abbrev pub ReasonForDump : WireFault → List ℕ → Type 0
+ReasonForDump Trailing bytes = HasTrailingStream bytes
+ReasonForDump Fault bytes = ⊥
+ReasonForDump fault bytes = ReasonForStream fault bytes

@@ -5,13 +5,13 @@ ghost use Rattle.swim_claim.specs.declared.claim.Claim.{Claim};
 ghost use Rattle.swim_pack.specs.Ends.{ConsumesText, NoTextAtFront, Advances, CountsFault};
 ghost use Rattle.swim_pack.specs.Composing.{UnlessFailed};
 ghost use Rattle.swim_wire.specs.declared.stream.Header.{Header};
-ghost use Rattle.swim_wire.specs.Checks.{ExplainsStart};
+ghost use Rattle.swim_wire.specs.Checks.{ReasonForStart};
 ghost use Rattle.swim_wire.specs.Limits.{most_nodes, most_user_state};
 ghost use Rattle.swim_wire.specs.Reading.{wire_cause};
 ghost use Rattle.swim_wire.specs.Streams.{StreamText};
 ghost use Rattle.swim_wire.specs.Texts.{HeaderText};
 ghost use Rattle.swim_table.specs.Dump.{dump_bytes};
-ghost use Rattle.swim_table.specs.Steps.{Steps, IsWanted, ExplainsBegin, ExplainsStep, ExplainsStream, ExplainsDump};
+ghost use Rattle.swim_table.specs.Steps.{Steps, IsWanted, ReasonForBegin, ReasonForStep, ReasonForStream, ReasonForDump};
 ghost use Rattle.swim_table.specs.Table.{Entries, Reduced, TableOf, IsLegalTable};
 
 use crate::table::Table;
@@ -69,8 +69,8 @@ impl StreamReader {
         // fault says why.
         ensures lacks { IfErr result (λ fault. UnlessFailed (wire_cause fault)
             (NoTextAtFront (I.seen inlet.old) (λ b. (header : Header) × HeaderText b header))) }
-        ensures explains { IfErr result (λ fault.
-            ExplainsStart (ExplainsBegin fault) (I.seen inlet.old)) }
+        ensures reason { IfErr result (λ fault.
+            ReasonForStart (ReasonForBegin fault) (I.seen inlet.old)) }
         ensures no_memory { ¬ IsErrOf result WireFault.Memory }
         ensures fault { IsErrOf result WireFault.Fault
             → CountsFault (I.seen inlet.old).faults (I.seen inlet.new).faults }
@@ -123,8 +123,8 @@ impl StreamReader {
         // what was wanted, and the fault says why. The end takes no memory.
         ensures lacks { IfErr result (λ fault.
             UnlessFailed (wire_cause fault) (NoTextAtFront (I.seen inlet.old) (IsWanted self))) }
-        ensures explains { IfErr result (λ fault.
-            ExplainsStart (ExplainsStep self fault) (I.seen inlet.old)) }
+        ensures reason { IfErr result (λ fault.
+            ReasonForStart (ReasonForStep self fault) (I.seen inlet.old)) }
         ensures no_memory { self.left ≡ 0 → ¬ IsErrOf result WireFault.Memory }
         ensures fault { IsErrOf result WireFault.Fault
             → CountsFault (I.seen inlet.old).faults (I.seen inlet.new).faults }
@@ -170,8 +170,8 @@ pub fn read_stream<I: Inlet>(alloc: Global, inlet: &mut I) -> Result<(Table, boo
     ensures lacks { IfErr result (λ fault. UnlessFailed (wire_cause fault)
         (NoTextAtFront (I.seen inlet.old)
         (λ b. (claims : List Claim) × (join : Bool) × StreamText b claims join))) }
-    ensures explains { IfErr result (λ fault.
-        ExplainsStart (ExplainsStream fault) (I.seen inlet.old)) }
+    ensures reason { IfErr result (λ fault.
+        ReasonForStart (ReasonForStream fault) (I.seen inlet.old)) }
     ensures fault { IsErrOf result WireFault.Fault
         → CountsFault (I.seen inlet.old).faults (I.seen inlet.new).faults }
     ensures end { Advances (I.seen inlet.old) (I.seen inlet.new) }
@@ -199,7 +199,7 @@ pub fn read_dump(alloc: Global, bytes: &[u8]) -> Result<(Table, bool), WireFault
     // If refused, and memory did not run out, the bytes are not a stream, and the fault says why.
     ensures refuses { IfErr result (λ fault. fault ≢ WireFault.Memory
         → (claims : List Claim) (join : Bool) → ¬ StreamText bytes.now claims join) }
-    ensures explains { IfErr result (λ fault. ExplainsDump fault bytes.now) }
+    ensures reason { IfErr result (λ fault. ReasonForDump fault bytes.now) }
 
     // If bytes follow a stream, the only other fault is `Memory`.
     ensures after { (front rest : List ℕ) (claims : List Claim) (join : Bool)

@@ -12,7 +12,7 @@ use Rattle.swim_wire.specs.declared.message.PushNodeState.{PushNodeState}
 use Rattle.swim_wire.specs.declared.message.PushPullHeader.{PushPullHeader}
 use Rattle.swim_wire.specs.declared.stream.Header.{Header}
 use Rattle.swim_wire.specs.Limits.{most_nodes, most_user_state}
-use Rattle.swim_wire.specs.Message.{SaysAlive, SaysAccusation, SaysHeader, SaysState, slots_of_alive, slots_of_accusation, slots_of_header, slots_of_state}
+use Rattle.swim_wire.specs.Message.{HasAliveFields, HasAccusationFields, HasHeaderFields, HasStateFields, slots_of_alive, slots_of_accusation, slots_of_header, slots_of_state}
 use Rattle.swim_wire.specs.Places.{header_nodes, header_user_state_len, state_name, state_state}
 use Rattle.swim_wire.specs.Reading.{Slots, wire_cause, AnswersUnlessMemory, number_in, raw_in, with_name, with_details, alive_of, suspect_of, dead_of, header_of, state_of, claim_of_state}
 use Rattle.swim_wire.proofs.Checking.{split}
@@ -92,17 +92,17 @@ no_memory {A} (Err error) result check e is =
 
 -- ---- what the slots of a map mean
 
-pub alive_said : (slots : Slots) (alive : Alive) → SaysAlive slots alive → alive_of (slots_of_alive alive) ≡ alive_of slots
+pub alive_said : (slots : Slots) (alive : Alive) → HasAliveFields slots alive → alive_of (slots_of_alive alive) ≡ alive_of slots
 alive_said slots alive says = rw (says.addr, says.incarnation, says.meta, says.node, says.port, says.vsn) refl
 
-pub suspect_said : (slots : Slots) (suspect : Accusation) → SaysAccusation slots suspect → suspect_of (slots_of_accusation suspect) ≡ suspect_of slots
+pub suspect_said : (slots : Slots) (suspect : Accusation) → HasAccusationFields slots suspect → suspect_of (slots_of_accusation suspect) ≡ suspect_of slots
 suspect_said slots suspect says = rw (says.from, says.incarnation, says.node) refl
 
-pub dead_said : (slots : Slots) (dead : Accusation) → SaysAccusation slots dead → dead_of (slots_of_accusation dead) ≡ dead_of slots
+pub dead_said : (slots : Slots) (dead : Accusation) → HasAccusationFields slots dead → dead_of (slots_of_accusation dead) ≡ dead_of slots
 dead_said slots dead says = rw (says.from, says.incarnation, says.node) refl
 
-pub header_said : (slots : Slots) (header : PushPullHeader) → SaysHeader slots header → header_of (slots_of_header header) ≡ header_of slots
+pub header_said : (slots : Slots) (header : PushPullHeader) → HasHeaderFields slots header → header_of (slots_of_header header) ≡ header_of slots
 header_said slots header says = rw (says.join, says.nodes, says.user_state_len) refl
 
-pub state_said : (slots : Slots) (state : PushNodeState) → SaysState slots state → state_of (slots_of_state state) ≡ state_of slots
+pub state_said : (slots : Slots) (state : PushNodeState) → HasStateFields slots state → state_of (slots_of_state state) ≡ state_of slots
 state_said slots state says = rw (says.addr, says.incarnation, says.meta, says.name, says.port, says.number, says.vsn) refl

@@ -7,8 +7,8 @@ use Rattle.swim_pack.specs.Composing.{◌>>=◌, gives, lift}
 use Rattle.swim_pack.specs.Reading.{next_bytes}
 use Rattle.swim_wire.specs.declared.fault.WireFault.{WireFault}
 use Rattle.swim_wire.specs.declared.fault.WireFault.TheVariants.{Ended, Memory, NameEmpty, BadAddress, BadVersions, WrongType, BadState, TooManyNodes, UserTooLong, Trailing}
-use Rattle.swim_wire.specs.Checks.{ExplainsWhole}
-use Rattle.swim_wire.specs.Datagrams.{length_at, lengths_at, alone, is_packet_type, packets_of, parts_at, compound_at, whole_datagram, HasBadPart, ExplainsDatagram}
+use Rattle.swim_wire.specs.Checks.{ReasonForWhole}
+use Rattle.swim_wire.specs.Datagrams.{length_at, lengths_at, alone, is_packet_type, packets_of, parts_at, compound_at, whole_datagram, HasBadPart, ReasonForDatagram}
 use Rattle.swim_wire.specs.Fault.{fault_of_pack}
 use Rattle.swim_wire.specs.Packet.{PacketValue}
 use Rattle.swim_wire.specs.Reading.{checked, nothing_after, whole_packet}
@@ -26,11 +26,11 @@ alone_err : (r : Result PacketValue WireFault) (error : WireFault) → alone r �
 alone_err (Ok p) error e = absurd cc
 alone_err (Err other) error e = cc
 
-part_refusal : (part : List ℕ) (error : WireFault) → error ≢ Memory → packets_of part ≡ failed (List PacketValue) error → IsPacketPart part × ExplainsWhole error part
+part_refusal : (part : List ℕ) (error : WireFault) → error ≢ Memory → packets_of part ≡ failed (List PacketValue) error → IsPacketPart part × ReasonForWhole error part
 part_refusal [] error other e = absurd cc
 part_refusal (first ∷ rest) error other e =
     split (is_packet_type first)
-    (λ r. r ≡ failed (List PacketValue) error → IsPacketPart (first ∷ rest) × ExplainsWhole error (first ∷ rest))
+    (λ r. r ≡ failed (List PacketValue) error → IsPacketPart (first ∷ rest) × ReasonForWhole error (first ∷ rest))
     (alone (whole_packet (first ∷ rest))) (Ok [])
     (λ t own. (type_is first t, whole_refusal (first ∷ rest) error other (alone_err (whole_packet (first ∷ rest)) error own))) (λ t none. absurd cc) e
 
@@ -46,7 +46,7 @@ record PartRefused (lens : List ℕ) (bytes : List ℕ) (error : WireFault) : Ty
   lengths : lens ≡ map length before ++ length part ∷ later
   text : bytes ≡ flat_map (λ p. p) before ++ (part ++ rest)
   right : PartTexts before packets
-  wrong : IsPacketPart part × ExplainsWhole error part
+  wrong : IsPacketPart part × ReasonForWhole error part
 
 one_more : (len : ℕ) (lens : List ℕ) (bytes mid part : List ℕ) (own : List PacketValue) (error : WireFault)
     → length part ≡ len → bytes ≡ part ++ mid → PartText part own
@@ -83,7 +83,7 @@ parts_refusal (len ∷ lens) packets bytes error other e =
     Q : Type 0
     Q = IsMapFault error ⊎ PartRefused (len ∷ lens) bytes error
 
-    first : (part mid : List ℕ) → length part ≡ len → bytes ≡ part ++ mid → IsPacketPart part × ExplainsWhole error part → PartRefused (len ∷ lens) bytes error
+    first : (part mid : List ℕ) → length part ≡ len → bytes ≡ part ++ mid → IsPacketPart part × ReasonForWhole error part → PartRefused (len ∷ lens) bytes error
     first part mid long parts wrong = record {
       before = [];
       packets = [];
@@ -144,7 +144,7 @@ compound_refusal (count ∷ bytes) error other are e =
 
 -- ---- datagrams
 
-by_reading : (error : WireFault) (bytes : List ℕ) → error ≢ Memory → IsMapFault error → ExplainsDatagram error bytes
+by_reading : (error : WireFault) (bytes : List ℕ) → error ≢ Memory → IsMapFault error → ReasonForDatagram error bytes
 by_reading NameEmpty bytes other h = absurd h
 by_reading BadAddress bytes other h = absurd h
 by_reading BadVersions bytes other h = absurd h
@@ -157,14 +157,14 @@ by_reading Memory bytes other h = absurd (other refl)
 by_reading error bytes other h = tt
 
 -- a part that is a packet by its first byte does not have a wrong type
-no_wrong_type : (found : ℕ) (part : List ℕ) → IsPacketPart part → ¬ ExplainsWhole (WrongType found) part
+no_wrong_type : (found : ℕ) (part : List ℕ) → IsPacketPart part → ¬ ReasonForWhole (WrongType found) part
 no_wrong_type found [] type h = absurd type
 no_wrong_type found (first ∷ rest) type h =
     let first_is : first ≡ found = cc (h.0.1) in
     let other = h.1 in
     grind arith
 
-by_part : (error : WireFault) (bytes : List ℕ) → error ≢ Memory → HasBadPart error bytes → ExplainsDatagram error bytes
+by_part : (error : WireFault) (bytes : List ℕ) → error ≢ Memory → HasBadPart error bytes → ReasonForDatagram error bytes
 by_part NameEmpty bytes other h = inr h
 by_part BadAddress bytes other h = inr h
 by_part BadVersions bytes other h = inr h
@@ -176,8 +176,8 @@ by_part Trailing bytes other h = inr h
 by_part Memory bytes other h = absurd (other refl)
 by_part error bytes other h = tt
 
-by_packet : (error : WireFault) (first : ℕ) (bytes : List ℕ) → error ≢ Memory → eqb first 7 ≡ false → ExplainsWhole error (first ∷ bytes)
-    → ExplainsDatagram error (first ∷ bytes)
+by_packet : (error : WireFault) (first : ℕ) (bytes : List ℕ) → error ≢ Memory → eqb first 7 ≡ false → ReasonForWhole error (first ∷ bytes)
+    → ReasonForDatagram error (first ∷ bytes)
 by_packet NameEmpty first bytes other t h = inl h
 by_packet BadAddress first bytes other t h = inl h
 by_packet BadVersions first bytes other t h = inl h
@@ -191,14 +191,14 @@ by_packet Trailing first bytes other t h = inl (h.0, h.1 ∷ [], h.2, h.3, packe
 by_packet Memory first bytes other t h = absurd (other refl)
 by_packet error first bytes other t h = tt
 
-pub datagram_refusal : (b : List ℕ) (error : WireFault) → error ≢ Memory → AreBytes b → whole_datagram b ≡ failed (List PacketValue) error → ExplainsDatagram error b
-datagram_refusal [] error memory are e = let is : Ended ≡ error = cc in subst (λ f. ExplainsDatagram f []) is tt
+pub datagram_refusal : (b : List ℕ) (error : WireFault) → error ≢ Memory → AreBytes b → whole_datagram b ≡ failed (List PacketValue) error → ReasonForDatagram error b
+datagram_refusal [] error memory are e = let is : Ended ≡ error = cc in subst (λ f. ReasonForDatagram f []) is tt
 datagram_refusal (first ∷ bytes) error memory are e =
     split (eqb first 7) P _ _ (λ t. explained (eqb-true _ _ t) (compound_at bytes) refl)
     (λ t own. by_packet error first bytes memory t (whole_refusal (first ∷ bytes) error memory (alone_err (whole_packet (first ∷ bytes)) error own))) e
   where
     P : Result (List PacketValue) WireFault → Type 0
-    P r = r ≡ failed (List PacketValue) error → ExplainsDatagram error (first ∷ bytes)
+    P r = r ≡ failed (List PacketValue) error → ReasonForDatagram error (first ∷ bytes)
 
     tail : AreBytes bytes
     tail k d lt = are (suc k) d (omega arith)
@@ -208,7 +208,7 @@ datagram_refusal (first ∷ bytes) error memory are e =
     explained seven (Ok (ps, byte ∷ rest)) at fails =
         let c = compound_takes bytes ps (byte ∷ rest) tail at in
         let is : Trailing ≡ error = cc in
-        subst (λ f. ExplainsDatagram f (first ∷ bytes)) is
+        subst (λ f. ReasonForDatagram f (first ∷ bytes)) is
         (inl (compound_bytes c.parts, ps, byte, rest, compound c.parts c.few c.short refl c.texts, ap (λ (n : ℕ). n ∷ bytes) seven ∙ c.text))
     explained seven (Err other) at fails =
         let is : other ≡ error = cc in

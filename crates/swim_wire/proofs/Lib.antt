@@ -24,7 +24,7 @@ pub mod SpelledSteps
 pub mod SpelledTexts
 pub mod SpelledLengths
 pub mod SpelledCompounds
-pub mod Explaining
+pub mod Reasons
 pub mod Parts
 pub mod WholeDatagrams
 pub mod UserState

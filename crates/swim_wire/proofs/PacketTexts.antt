@@ -10,7 +10,7 @@ use Rattle.swim_pack.specs.Composing.{◌>>=◌, refuses}
 use Rattle.swim_wire.specs.declared.fault.WireFault.{WireFault}
 use Rattle.swim_wire.specs.declared.fault.WireFault.TheVariants.{Ended, Memory, NameEmpty, BadAddress, BadVersions, WrongType, BadState, TooManyNodes, UserTooLong, Trailing}
 use Rattle.swim_wire.specs.declared.layout.Key.TheVariants as keys
-use Rattle.swim_wire.specs.Checks.{AliveFails, BeginsFailing, ExplainsPacket, ExplainsWhole}
+use Rattle.swim_wire.specs.Checks.{AliveFails, BeginsFailing, ReasonForPacket, ReasonForWhole}
 use Rattle.swim_wire.specs.Keys.{key_text}
 use Rattle.swim_wire.specs.Layout.{Pairs, MapText, of_key, number_of, raw_of, alive_layout, accusation_layout}
 use Rattle.swim_wire.specs.Packet.{PacketValue}
@@ -161,7 +161,7 @@ packet_again b rest p (confirm m pairs type text named other is) =
 
 -- ---- a refusal
 
-explained_by_map : (error : WireFault) (bytes : List ℕ) → error ≢ Memory → IsMapFault error → ExplainsPacket error bytes
+explained_by_map : (error : WireFault) (bytes : List ℕ) → error ≢ Memory → IsMapFault error → ReasonForPacket error bytes
 explained_by_map NameEmpty bytes other h = absurd h
 explained_by_map BadAddress bytes other h = absurd h
 explained_by_map BadVersions bytes other h = absurd h
@@ -174,60 +174,60 @@ explained_by_map Memory bytes other h = absurd (other refl)
 explained_by_map error bytes other h = tt
 
 alive_refusal : (first : ℕ) (bytes : List ℕ) (error : WireFault) → error ≢ Memory → first ≡ 4 → alive_at bytes ≡ refused PacketValue error
-    → ExplainsPacket error (first ∷ bytes)
+    → ReasonForPacket error (first ∷ bytes)
 unfolding alive_at
 alive_refusal first bytes error other type e =
-    then_err (map_at alive_layout bytes) (λ slots. checked (alive_of slots)) error e (ExplainsPacket error (first ∷ bytes))
+    then_err (map_at alive_layout bytes) (λ slots. checked (alive_of slots)) error e (ReasonForPacket error (first ∷ bytes))
     (λ map. explained_by_map error (first ∷ bytes) other (map_refusal alive_layout bytes error map))
     (λ slots mid ok check. failing slots mid (map_takes alive_layout bytes slots mid alive_legal ok) (checked_err (alive_of slots) mid error check))
   where
     failing : (slots : Slots) (mid : List ℕ) → (m : List ℕ) × (pairs : Pairs) × MapText alive_layout m pairs ×
         (bytes ≡ m ++ mid) × HoldsSlots alive_layout pairs slots
-        → alive_of slots ≡ failed PacketValue error → ExplainsPacket error (first ∷ bytes)
+        → alive_of slots ≡ failed PacketValue error → ReasonForPacket error (first ∷ bytes)
     failing slots mid m fails =
         let begins : (F : Pairs → Type 0) → F m.1 → BeginsFailing alive_layout F bytes =
         λ F h. record { map_text = m.0; pairs = m.1; rest = mid; text = m.2; parts = m.3; failing = h } in
         with_name_err (raw_of keys.Node m.1) (with_details (told_details m.1) (alive_with m.1)) error
-        (sym (alive_same m.1 slots m.4) ∙ fails) (ExplainsPacket error (first ∷ bytes))
-        (λ empty is. subst (λ f. ExplainsPacket f (first ∷ bytes)) is (inl (type, begins (AliveFails NameEmpty) empty)))
-        (λ named more. with_details_err (told_details m.1) (alive_with m.1) error more (ExplainsPacket error (first ∷ bytes))
-        (λ address is. subst (λ f. ExplainsPacket f (first ∷ bytes)) is (inl (type, begins (AliveFails BadAddress) (named, address))))
-        (λ address versions is. subst (λ f. ExplainsPacket f (first ∷ bytes)) is (inl (type, begins (AliveFails BadVersions) (named, (address, versions))))))
+        (sym (alive_same m.1 slots m.4) ∙ fails) (ReasonForPacket error (first ∷ bytes))
+        (λ empty is. subst (λ f. ReasonForPacket f (first ∷ bytes)) is (inl (type, begins (AliveFails NameEmpty) empty)))
+        (λ named more. with_details_err (told_details m.1) (alive_with m.1) error more (ReasonForPacket error (first ∷ bytes))
+        (λ address is. subst (λ f. ReasonForPacket f (first ∷ bytes)) is (inl (type, begins (AliveFails BadAddress) (named, address))))
+        (λ address versions is. subst (λ f. ReasonForPacket f (first ∷ bytes)) is (inl (type, begins (AliveFails BadVersions) (named, (address, versions))))))
 
 -- a suspect or dead message, whose only check is that of its name
 accusation_refusal : (value : Pairs → PacketValue) (of_slots : Slots → Result PacketValue WireFault)
     → ((pairs : Pairs) (slots : Slots) → HoldsSlots accusation_layout pairs slots → of_slots slots ≡ with_name (raw_of keys.Node pairs) (Ok (value pairs)))
     → (first : ℕ) (bytes : List ℕ) (error : WireFault) → error ≢ Memory → (first ≡ 3) ⊎ (first ≡ 5)
     → (map_at accusation_layout >>= (λ slots. checked (of_slots slots))) bytes ≡ refused PacketValue error
-    → ExplainsPacket error (first ∷ bytes)
+    → ReasonForPacket error (first ∷ bytes)
 accusation_refusal value of_slots same first bytes error other type e =
-    then_err (map_at accusation_layout bytes) (λ slots. checked (of_slots slots)) error e (ExplainsPacket error (first ∷ bytes))
+    then_err (map_at accusation_layout bytes) (λ slots. checked (of_slots slots)) error e (ReasonForPacket error (first ∷ bytes))
     (λ map. explained_by_map error (first ∷ bytes) other (map_refusal accusation_layout bytes error map))
     (λ slots mid ok check. failing slots mid (map_takes accusation_layout bytes slots mid accusation_legal ok) (checked_err (of_slots slots) mid error check))
   where
     failing : (slots : Slots) (mid : List ℕ) → (m : List ℕ) × (pairs : Pairs) × MapText accusation_layout m pairs ×
         (bytes ≡ m ++ mid) × HoldsSlots accusation_layout pairs slots
-        → of_slots slots ≡ failed PacketValue error → ExplainsPacket error (first ∷ bytes)
+        → of_slots slots ≡ failed PacketValue error → ReasonForPacket error (first ∷ bytes)
     failing slots mid m fails =
-        with_name_err (raw_of keys.Node m.1) (passed (value m.1)) error (sym (same m.1 slots m.4) ∙ fails) (ExplainsPacket error (first ∷ bytes))
-        (λ empty is. subst (λ f. ExplainsPacket f (first ∷ bytes)) is
+        with_name_err (raw_of keys.Node m.1) (passed (value m.1)) error (sym (same m.1 slots m.4) ∙ fails) (ReasonForPacket error (first ∷ bytes))
+        (λ empty is. subst (λ f. ReasonForPacket f (first ∷ bytes)) is
         (inr (type, record { map_text = m.0; pairs = m.1; rest = mid; text = m.2; parts = m.3; failing = empty })))
         (λ named more. absurd cc)
 
-ended : (error : WireFault) → Ended ≡ error → ExplainsPacket error []
-ended error is = subst (λ f. ExplainsPacket f []) is tt
+ended : (error : WireFault) → Ended ≡ error → ReasonForPacket error []
+ended error is = subst (λ f. ReasonForPacket f []) is tt
 
 wrong_type : (first : ℕ) (bytes : List ℕ) (error : WireFault) → eqb first 4 ≡ false → eqb first 3 ≡ false
     → eqb first 5 ≡ false → refuses (WrongType first) bytes ≡ refused PacketValue error
-    → ExplainsPacket error (first ∷ bytes)
+    → ReasonForPacket error (first ∷ bytes)
 wrong_type first bytes error four three five e =
     let is : WrongType first ≡ error = cc in
-    subst (λ f. ExplainsPacket f (first ∷ bytes)) is ((bytes, refl), (differs 3 three, differs 4 four, differs 5 five))
+    subst (λ f. ReasonForPacket f (first ∷ bytes)) is ((bytes, refl), (differs 3 three, differs 4 four, differs 5 five))
   where
     differs : (n : ℕ) → eqb first n ≡ false → first ≢ n
     differs n no_match same = grind (arith, nat_tests)
 
-pub packet_refusal : (bytes : List ℕ) (error : WireFault) → error ≢ Memory → packet_at bytes ≡ refused PacketValue error → ExplainsPacket error bytes
+pub packet_refusal : (bytes : List ℕ) (error : WireFault) → error ≢ Memory → packet_at bytes ≡ refused PacketValue error → ReasonForPacket error bytes
 unfolding packet_at suspect_at dead_at
 packet_refusal [] error other e = ended error cc
 packet_refusal (first ∷ bytes) error other e =
@@ -236,7 +236,7 @@ packet_refusal (first ∷ bytes) error other e =
     (λ three. split (eqb first 5) P dead_at _ (λ t. deads (inr (eqb-true _ _ t))) (λ five. wrong_type first bytes error four three five))) e
   where
     P : Reading PacketValue → Type 0
-    P reading = reading bytes ≡ refused PacketValue error → ExplainsPacket error (first ∷ bytes)
+    P reading = reading bytes ≡ refused PacketValue error → ReasonForPacket error (first ∷ bytes)
 
     suspects : (first ≡ 3) ⊎ (first ≡ 5) → P suspect_at
     suspects type = accusation_refusal suspect_packet suspect_of suspect_same first bytes error other type
@@ -264,17 +264,17 @@ whole_again b p text = ap nothing_after (ap packet_at (sym (append-nil b)) ∙ p
 pub whole_lacks : (b : List ℕ) (error : WireFault) → whole_packet b ≡ failed PacketValue error → (p : PacketValue) → PacketText b p → ⊥
 whole_lacks b error e p text = let read_again = whole_again b p text in cc
 
-pub whole_refusal : (b : List ℕ) (error : WireFault) → error ≢ Memory → whole_packet b ≡ failed PacketValue error → ExplainsWhole error b
+pub whole_refusal : (b : List ℕ) (error : WireFault) → error ≢ Memory → whole_packet b ≡ failed PacketValue error → ReasonForWhole error b
 whole_refusal b error memory e = explained (packet_at b) refl e
   where
-    as_whole : (f : WireFault) → ExplainsPacket f b → ExplainsWhole f b
+    as_whole : (f : WireFault) → ReasonForPacket f b → ReasonForWhole f b
     as_whole Trailing h = absurd h
     as_whole f h = h
 
-    explained : (r : Result (PacketValue × List ℕ) WireFault) → packet_at b ≡ r → nothing_after r ≡ failed PacketValue error → ExplainsWhole error b
+    explained : (r : Result (PacketValue × List ℕ) WireFault) → packet_at b ≡ r → nothing_after r ≡ failed PacketValue error → ReasonForWhole error b
     explained (Ok (q, [])) at e = absurd cc
     explained (Ok (q, byte ∷ rest)) at e =
         let t = packet_takes b q (byte ∷ rest) at in
         let is : Trailing ≡ error = cc in
-        subst (λ f. ExplainsWhole f b) is (t.text, q, byte, rest, t.is, t.parts)
+        subst (λ f. ReasonForWhole f b) is (t.text, q, byte, rest, t.is, t.parts)
     explained (Err other) at e = let is : other ≡ error = cc in as_whole error (packet_refusal b error memory (at ∙ ap (refused PacketValue) is))

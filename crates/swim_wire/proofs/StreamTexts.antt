@@ -11,7 +11,7 @@ use Rattle.swim_wire.specs.declared.fault.WireFault.{WireFault}
 use Rattle.swim_wire.specs.declared.fault.WireFault.TheVariants.{Ended, Memory, NameEmpty, BadAddress, BadVersions, WrongType, BadState, TooManyNodes, UserTooLong, Trailing}
 use Rattle.swim_wire.specs.declared.layout.Key.TheVariants as keys
 use Rattle.swim_wire.specs.declared.stream.Header.{Header}
-use Rattle.swim_wire.specs.Checks.{HeaderFails, StateFails, BeginsFailing, ExplainsHeader, ExplainsState}
+use Rattle.swim_wire.specs.Checks.{HeaderFails, StateFails, BeginsFailing, ReasonForHeader, ReasonForState}
 use Rattle.swim_wire.specs.Keys.{key_text}
 use Rattle.swim_wire.specs.Layout.{Pairs, MapText, of_key, number_of, raw_of, flag_of, header_layout, state_layout}
 use Rattle.swim_wire.specs.Reading.{Reading, Slots, slot, checked, with_name, with_details, map_at, header_of, header_at, state_of, state_at}
@@ -106,7 +106,7 @@ header_again b rest h text =
     let value : header_of a.0 ≡ passed h = header_same text.pairs a.0 a.2 ∙ passes ∙ ap passed (sym text.header) in
     rw (text.bytes, a.1) (ap (λ (r : Result Header WireFault). checked r rest) value)
 
-header_by_map : (error : WireFault) (bytes : List ℕ) → error ≢ Memory → IsMapFault error → ExplainsHeader error bytes
+header_by_map : (error : WireFault) (bytes : List ℕ) → error ≢ Memory → IsMapFault error → ReasonForHeader error bytes
 header_by_map NameEmpty bytes other h = absurd h
 header_by_map BadAddress bytes other h = absurd h
 header_by_map BadVersions bytes other h = absurd h
@@ -119,30 +119,30 @@ header_by_map Memory bytes other h = absurd (other refl)
 header_by_map error bytes other h = tt
 
 header_after_refusal : (first : ℕ) (bytes : List ℕ) (error : WireFault) → error ≢ Memory → first ≡ 6
-    → header_after bytes ≡ refused Header error → ExplainsHeader error (first ∷ bytes)
+    → header_after bytes ≡ refused Header error → ReasonForHeader error (first ∷ bytes)
 header_after_refusal first bytes error other type e =
-    then_err (map_at header_layout bytes) (λ slots. checked (header_of slots)) error e (ExplainsHeader error (first ∷ bytes))
+    then_err (map_at header_layout bytes) (λ slots. checked (header_of slots)) error e (ReasonForHeader error (first ∷ bytes))
     (λ map. header_by_map error (first ∷ bytes) other (map_refusal header_layout bytes error map))
     (λ slots mid ok check. failing slots mid (map_takes header_layout bytes slots mid header_legal ok) (checked_err (header_of slots) mid error check))
   where
     failing : (slots : Slots) (mid : List ℕ) → (m : List ℕ) × (pairs : Pairs) × MapText header_layout m pairs ×
         (bytes ≡ m ++ mid) × HoldsSlots header_layout pairs slots
-        → header_of slots ≡ failed Header error → ExplainsHeader error (first ∷ bytes)
+        → header_of slots ≡ failed Header error → ReasonForHeader error (first ∷ bytes)
     failing slots mid m fails =
         let begins : (F : Pairs → Type 0) → F m.1 → BeginsFailing header_layout F bytes =
         λ F h. record { map_text = m.0; pairs = m.1; rest = mid; text = m.2; parts = m.3; failing = h } in
         let six : first ∷ bytes ≡ 6 ∷ bytes = ap (λ (x : ℕ). x ∷ bytes) type in
-        header_err m.1 error (sym (header_same m.1 slots m.4) ∙ fails) (ExplainsHeader error (first ∷ bytes))
-        (λ many is. subst (λ f. ExplainsHeader f (first ∷ bytes)) is (bytes, six, begins (HeaderFails TooManyNodes) many))
-        (λ long is. subst (λ f. ExplainsHeader f (first ∷ bytes)) is (bytes, six, begins (HeaderFails UserTooLong) long))
+        header_err m.1 error (sym (header_same m.1 slots m.4) ∙ fails) (ReasonForHeader error (first ∷ bytes))
+        (λ many is. subst (λ f. ReasonForHeader f (first ∷ bytes)) is (bytes, six, begins (HeaderFails TooManyNodes) many))
+        (λ long is. subst (λ f. ReasonForHeader f (first ∷ bytes)) is (bytes, six, begins (HeaderFails UserTooLong) long))
 
-pub header_refusal : (bytes : List ℕ) (error : WireFault) → error ≢ Memory → header_at bytes ≡ refused Header error → ExplainsHeader error bytes
+pub header_refusal : (bytes : List ℕ) (error : WireFault) → error ≢ Memory → header_at bytes ≡ refused Header error → ReasonForHeader error bytes
 unfolding header_at
-header_refusal [] error memory e = let is : Ended ≡ error = cc in subst (λ f. ExplainsHeader f []) is tt
+header_refusal [] error memory e = let is : Ended ≡ error = cc in subst (λ f. ReasonForHeader f []) is tt
 header_refusal (first ∷ bytes) error memory e =
-    by_type (eqb first 6) first bytes (λ r. r ≡ refused Header error → ExplainsHeader error (first ∷ bytes)) refl
+    by_type (eqb first 6) first bytes (λ r. r ≡ refused Header error → ReasonForHeader error (first ∷ bytes)) refl
     (λ six. header_after_refusal first bytes error memory six)
-    (λ other wrong. let is : WrongType first ≡ error = cc in subst (λ f. ExplainsHeader f (first ∷ bytes)) is ((bytes, refl), other)) e
+    (λ other wrong. let is : WrongType first ≡ error = cc in subst (λ f. ReasonForHeader f (first ∷ bytes)) is ((bytes, refl), other)) e
 
 -- ---- the claim in the pairs of a map, or the first check that they fail
 
@@ -246,7 +246,7 @@ state_again b rest c text =
     let value : state_of a.0 ≡ passed c = state_same text.pairs a.0 a.2 ∙ with_name_again _ _ text.name ∙ claim_again text.pairs c text.state in
     rw a.1 (ap (λ (r : Result Claim WireFault). checked r rest) value)
 
-state_by_map : (error : WireFault) (bytes : List ℕ) → error ≢ Memory → IsMapFault error → ExplainsState error bytes
+state_by_map : (error : WireFault) (bytes : List ℕ) → error ≢ Memory → IsMapFault error → ReasonForState error bytes
 state_by_map NameEmpty bytes other h = absurd h
 state_by_map BadAddress bytes other h = absurd h
 state_by_map BadVersions bytes other h = absurd h
@@ -258,23 +258,23 @@ state_by_map Trailing bytes other h = absurd h
 state_by_map Memory bytes other h = absurd (other refl)
 state_by_map error bytes other h = tt
 
-pub state_refusal : (bytes : List ℕ) (error : WireFault) → error ≢ Memory → state_at bytes ≡ refused Claim error → ExplainsState error bytes
+pub state_refusal : (bytes : List ℕ) (error : WireFault) → error ≢ Memory → state_at bytes ≡ refused Claim error → ReasonForState error bytes
 unfolding state_at
 state_refusal bytes error other e =
-    then_err (map_at state_layout bytes) (λ slots. checked (state_of slots)) error e (ExplainsState error bytes)
+    then_err (map_at state_layout bytes) (λ slots. checked (state_of slots)) error e (ReasonForState error bytes)
     (λ map. state_by_map error bytes other (map_refusal state_layout bytes error map))
     (λ slots mid ok check. failing slots mid (map_takes state_layout bytes slots mid state_legal ok) (checked_err (state_of slots) mid error check))
   where
     failing : (slots : Slots) (mid : List ℕ) → (m : List ℕ) × (pairs : Pairs) × MapText state_layout m pairs ×
         (bytes ≡ m ++ mid) × HoldsSlots state_layout pairs slots
-        → state_of slots ≡ failed Claim error → ExplainsState error bytes
+        → state_of slots ≡ failed Claim error → ReasonForState error bytes
     failing slots mid m fails =
         let begins : (F : Pairs → Type 0) → F m.1 → BeginsFailing state_layout F bytes =
         λ F h. record { map_text = m.0; pairs = m.1; rest = mid; text = m.2; parts = m.3; failing = h } in
         let state = number_of keys.State m.1 in
-        with_name_err (raw_of keys.Name m.1) (claim_from m.1 state) error (sym (state_same m.1 slots m.4) ∙ fails) (ExplainsState error bytes)
-        (λ empty is. subst (λ f. ExplainsState f bytes) is (begins (StateFails NameEmpty) empty))
-        (λ named more. claim_err m.1 state error refl named more (ExplainsState error bytes)
-        (λ address is. subst (λ f. ExplainsState f bytes) is (begins (StateFails BadAddress) address))
-        (λ versions is. subst (λ f. ExplainsState f bytes) is (begins (StateFails BadVersions) versions))
-        (λ bad is. subst (λ f. ExplainsState f bytes) is (begins (StateFails (BadState state)) bad)))
+        with_name_err (raw_of keys.Name m.1) (claim_from m.1 state) error (sym (state_same m.1 slots m.4) ∙ fails) (ReasonForState error bytes)
+        (λ empty is. subst (λ f. ReasonForState f bytes) is (begins (StateFails NameEmpty) empty))
+        (λ named more. claim_err m.1 state error refl named more (ReasonForState error bytes)
+        (λ address is. subst (λ f. ReasonForState f bytes) is (begins (StateFails BadAddress) address))
+        (λ versions is. subst (λ f. ReasonForState f bytes) is (begins (StateFails BadVersions) versions))
+        (λ bad is. subst (λ f. ReasonForState f bytes) is (begins (StateFails (BadState state)) bad)))

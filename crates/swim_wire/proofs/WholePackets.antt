@@ -3,11 +3,11 @@ use Rattle.std.proofs.Common.{◌≡◌, ◌≢◌, ◌⊎◌, inl, inr, List, �
 use Rattle.swim_wire.specs.declared.fault.WireFault.{WireFault}
 use Rattle.swim_wire.specs.declared.fault.WireFault.TheVariants.{Memory}
 use Rattle.swim_wire.specs.Asking.{PacketAsks}
-use Rattle.swim_wire.specs.Checks.{ExplainsWhole}
+use Rattle.swim_wire.specs.Checks.{ReasonForWhole}
 use Rattle.swim_wire.specs.Packet.{PacketValue}
 use Rattle.swim_wire.specs.Reading.{whole_packet, AnswersUnlessMemory}
 use Rattle.swim_wire.specs.Texts.{PacketText}
-use Rattle.swim_wire.proofs.Explaining.{memory_or}
+use Rattle.swim_wire.proofs.Reasons.{memory_or}
 use Rattle.swim_wire.proofs.PacketTexts.{whole_takes, whole_lacks, whole_refusal}
 
 ok≢memory : (p : PacketValue) (r : Result PacketValue WireFault) → r ≡ Ok p → r ≡ Err Memory → ⊥
@@ -27,17 +27,17 @@ packet_refuses b (Ok p) h = tt
 packet_refuses b (Err error) (inl e) = λ _ p text. whole_lacks b error (sym e) p text
 packet_refuses b (Err error) (inr e) = λ other. absurd (other (memory_is error (Err error) refl e))
 
-pub packet_explains : (b : List ℕ) (r : Result PacketValue WireFault) → AnswersUnlessMemory (whole_packet b) r
-    → (r ≡ Err Memory → PacketAsks b) → IfErr r (λ error. ExplainsWhole error b)
-packet_explains b (Ok p) h memory = tt
-packet_explains b (Err error) (inl e) memory = by (memory_or error)
+pub packet_reason : (b : List ℕ) (r : Result PacketValue WireFault) → AnswersUnlessMemory (whole_packet b) r
+    → (r ≡ Err Memory → PacketAsks b) → IfErr r (λ error. ReasonForWhole error b)
+packet_reason b (Ok p) h memory = tt
+packet_reason b (Err error) (inl e) memory = by (memory_or error)
   where
-    by : (error ≡ Memory) ⊎ (error ≢ Memory) → ExplainsWhole error b
-    by (inl is) = subst (λ (f : WireFault). ExplainsWhole f b) (sym is) (memory (ap Err is))
+    by : (error ≡ Memory) ⊎ (error ≢ Memory) → ReasonForWhole error b
+    by (inl is) = subst (λ (f : WireFault). ReasonForWhole f b) (sym is) (memory (ap Err is))
     by (inr other) = whole_refusal b error other (sym e)
-packet_explains b (Err error) (inr e) memory =
+packet_reason b (Err error) (inr e) memory =
     let is = memory_is error (Err error) refl e in
-    subst (λ (f : WireFault). ExplainsWhole f b) (sym is) (memory e)
+    subst (λ (f : WireFault). ReasonForWhole f b) (sym is) (memory e)
 
 -- the refusal is the one at which the reading stops
 pub packet_exact : (b : List ℕ) (r : Result PacketValue WireFault) → AnswersUnlessMemory (whole_packet b) r

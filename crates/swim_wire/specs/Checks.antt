@@ -74,17 +74,17 @@ BeginsWith found bytes = (rest : List ℕ) × (bytes ≡ found ∷ rest)
 
 -- What a refusal means for bytes that do not start with a packet; `Memory` means that they
 -- requested memory. The other faults say where the reading of a map stopped.
-abbrev pub ExplainsPacket : WireFault → List ℕ → Type 0
-ExplainsPacket (WrongType found) bytes = BeginsWith found bytes × IsNoPacketType found
-ExplainsPacket NameEmpty bytes = PacketFails NameEmpty bytes
-ExplainsPacket BadAddress bytes = PacketFails BadAddress bytes
-ExplainsPacket BadVersions bytes = PacketFails BadVersions bytes
-ExplainsPacket (BadState found) bytes = ⊥
-ExplainsPacket TooManyNodes bytes = ⊥
-ExplainsPacket UserTooLong bytes = ⊥
-ExplainsPacket Trailing bytes = ⊥
-ExplainsPacket Memory bytes = PacketAsks bytes
-ExplainsPacket error bytes = ⊤
+abbrev pub ReasonForPacket : WireFault → List ℕ → Type 0
+ReasonForPacket (WrongType found) bytes = BeginsWith found bytes × IsNoPacketType found
+ReasonForPacket NameEmpty bytes = PacketFails NameEmpty bytes
+ReasonForPacket BadAddress bytes = PacketFails BadAddress bytes
+ReasonForPacket BadVersions bytes = PacketFails BadVersions bytes
+ReasonForPacket (BadState found) bytes = ⊥
+ReasonForPacket TooManyNodes bytes = ⊥
+ReasonForPacket UserTooLong bytes = ⊥
+ReasonForPacket Trailing bytes = ⊥
+ReasonForPacket Memory bytes = PacketAsks bytes
+ReasonForPacket error bytes = ⊤
 
 -- a packet, and at least one byte after it
 abbrev pub HasTrailing : List ℕ → Type 0
@@ -92,40 +92,40 @@ HasTrailing bytes = (front : List ℕ) × (p : PacketValue) × (byte : ℕ) × (
     × PacketText front p × (bytes ≡ front ++ byte ∷ rest)
 
 -- what a refusal means for bytes that are not a packet
-abbrev pub ExplainsWhole : WireFault → List ℕ → Type 0
-ExplainsWhole Trailing bytes = HasTrailing bytes
-ExplainsWhole error bytes = ExplainsPacket error bytes
+abbrev pub ReasonForWhole : WireFault → List ℕ → Type 0
+ReasonForWhole Trailing bytes = HasTrailing bytes
+ReasonForWhole error bytes = ReasonForPacket error bytes
 
 -- What a refusal means for bytes that do not start with a header. It is never `Memory`.
-abbrev pub ExplainsHeader : WireFault → List ℕ → Type 0
-ExplainsHeader (WrongType found) bytes = BeginsWith found bytes × (found ≢ 6)
-ExplainsHeader TooManyNodes bytes = (rest : List ℕ) × (bytes ≡ 6 ∷ rest)
+abbrev pub ReasonForHeader : WireFault → List ℕ → Type 0
+ReasonForHeader (WrongType found) bytes = BeginsWith found bytes × (found ≢ 6)
+ReasonForHeader TooManyNodes bytes = (rest : List ℕ) × (bytes ≡ 6 ∷ rest)
     × BeginsFailing header_layout (HeaderFails TooManyNodes) rest
-ExplainsHeader UserTooLong bytes = (rest : List ℕ) × (bytes ≡ 6 ∷ rest)
+ReasonForHeader UserTooLong bytes = (rest : List ℕ) × (bytes ≡ 6 ∷ rest)
     × BeginsFailing header_layout (HeaderFails UserTooLong) rest
-ExplainsHeader NameEmpty bytes = ⊥
-ExplainsHeader BadAddress bytes = ⊥
-ExplainsHeader BadVersions bytes = ⊥
-ExplainsHeader (BadState found) bytes = ⊥
-ExplainsHeader Trailing bytes = ⊥
-ExplainsHeader Memory bytes = ⊥
-ExplainsHeader error bytes = ⊤
+ReasonForHeader NameEmpty bytes = ⊥
+ReasonForHeader BadAddress bytes = ⊥
+ReasonForHeader BadVersions bytes = ⊥
+ReasonForHeader (BadState found) bytes = ⊥
+ReasonForHeader Trailing bytes = ⊥
+ReasonForHeader Memory bytes = ⊥
+ReasonForHeader error bytes = ⊤
 
 -- What a refusal means for bytes that do not start with a state record; `Memory` means that they
 -- requested memory.
-abbrev pub ExplainsState : WireFault → List ℕ → Type 0
-ExplainsState NameEmpty bytes = BeginsFailing state_layout (StateFails NameEmpty) bytes
-ExplainsState BadAddress bytes = BeginsFailing state_layout (StateFails BadAddress) bytes
-ExplainsState BadVersions bytes = BeginsFailing state_layout (StateFails BadVersions) bytes
-ExplainsState (BadState found) bytes =
+abbrev pub ReasonForState : WireFault → List ℕ → Type 0
+ReasonForState NameEmpty bytes = BeginsFailing state_layout (StateFails NameEmpty) bytes
+ReasonForState BadAddress bytes = BeginsFailing state_layout (StateFails BadAddress) bytes
+ReasonForState BadVersions bytes = BeginsFailing state_layout (StateFails BadVersions) bytes
+ReasonForState (BadState found) bytes =
     BeginsFailing state_layout (StateFails (BadState found)) bytes
-ExplainsState (WrongType found) bytes = ⊥
-ExplainsState TooManyNodes bytes = ⊥
-ExplainsState UserTooLong bytes = ⊥
-ExplainsState Trailing bytes = ⊥
-ExplainsState Memory bytes = MapAsks state_layout bytes
-ExplainsState error bytes = ⊤
+ReasonForState (WrongType found) bytes = ⊥
+ReasonForState TooManyNodes bytes = ⊥
+ReasonForState UserTooLong bytes = ⊥
+ReasonForState Trailing bytes = ⊥
+ReasonForState Memory bytes = MapAsks state_layout bytes
+ReasonForState error bytes = ⊤
 
 -- it holds for the bytes that were to come, if the inlet's are known
-abbrev pub ExplainsStart : (List ℕ → Type 0) → Source → Type 0
-ExplainsStart explains old = IfSome old.coming explains
+abbrev pub ReasonForStart : (List ℕ → Type 0) → Source → Type 0
+ReasonForStart reason old = IfSome old.coming reason

@@ -7,7 +7,7 @@ use Rattle.swim_pack.specs.Reading.{next_byte, next_bytes}
 use Rattle.swim_wire.specs.declared.fault.WireFault.{WireFault}
 use Rattle.swim_wire.specs.declared.fault.WireFault.TheVariants.{Ended, Memory, NameEmpty, BadAddress, BadVersions, WrongType, BadState, TooManyNodes, UserTooLong, Trailing}
 use Rattle.swim_wire.specs.Asking.{DatagramAsks}
-use Rattle.swim_wire.specs.Checks.{BeginsWith, IsNoPacketType, ExplainsWhole}
+use Rattle.swim_wire.specs.Checks.{BeginsWith, IsNoPacketType, ReasonForWhole}
 use Rattle.swim_wire.specs.Fault.{fault_of_pack}
 use Rattle.swim_wire.specs.Packet.{PacketValue}
 use Rattle.swim_wire.specs.Reading.{Reading, checked, nothing_after, whole_packet}
@@ -80,7 +80,7 @@ pub record HasBadPart (error : WireFault) (bytes : List ℕ) : Type 0 where
       ++ (flat_map (λ p. p) before ++ (part ++ rest))
   pub right : PartTexts before packets
   pub is_packet : IsPacketPart part
-  pub wrong : ExplainsWhole error part
+  pub wrong : ReasonForWhole error part
 
 -- a datagram, and at least one byte after it
 abbrev pub HasTrailingDatagram : List ℕ → Type 0
@@ -90,19 +90,19 @@ HasTrailingDatagram bytes =
 
 -- the datagram is one packet refused with this error, or has such a part
 abbrev pub PacketOrPart : WireFault → List ℕ → Type 0
-PacketOrPart error bytes = ExplainsWhole error bytes ⊎ HasBadPart error bytes
+PacketOrPart error bytes = ReasonForWhole error bytes ⊎ HasBadPart error bytes
 
 -- What a refusal means for bytes that are not a datagram; `Memory` means that they requested
 -- memory.
-abbrev pub ExplainsDatagram : WireFault → List ℕ → Type 0
-ExplainsDatagram (WrongType found) bytes = BeginsWith found bytes × IsNoPacketType found
+abbrev pub ReasonForDatagram : WireFault → List ℕ → Type 0
+ReasonForDatagram (WrongType found) bytes = BeginsWith found bytes × IsNoPacketType found
     × (found ≢ 7)
-ExplainsDatagram Trailing bytes = HasTrailingDatagram bytes ⊎ HasBadPart Trailing bytes
-ExplainsDatagram NameEmpty bytes = PacketOrPart NameEmpty bytes
-ExplainsDatagram BadAddress bytes = PacketOrPart BadAddress bytes
-ExplainsDatagram BadVersions bytes = PacketOrPart BadVersions bytes
-ExplainsDatagram (BadState found) bytes = ⊥
-ExplainsDatagram TooManyNodes bytes = ⊥
-ExplainsDatagram UserTooLong bytes = ⊥
-ExplainsDatagram Memory bytes = DatagramAsks bytes
-ExplainsDatagram error bytes = ⊤
+ReasonForDatagram Trailing bytes = HasTrailingDatagram bytes ⊎ HasBadPart Trailing bytes
+ReasonForDatagram NameEmpty bytes = PacketOrPart NameEmpty bytes
+ReasonForDatagram BadAddress bytes = PacketOrPart BadAddress bytes
+ReasonForDatagram BadVersions bytes = PacketOrPart BadVersions bytes
+ReasonForDatagram (BadState found) bytes = ⊥
+ReasonForDatagram TooManyNodes bytes = ⊥
+ReasonForDatagram UserTooLong bytes = ⊥
+ReasonForDatagram Memory bytes = DatagramAsks bytes
+ReasonForDatagram error bytes = ⊤

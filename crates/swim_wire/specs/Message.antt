@@ -10,7 +10,7 @@ use Rattle.swim_wire.specs.Places.{alive_addr, alive_incarnation, alive_meta, al
 use Rattle.swim_wire.specs.Reading.{Slots, number_in, raw_in, flag_in}
 
 -- memberlist's alive
-pub record SaysAlive (slots : Slots) (alive : Alive) : Type 0 where
+pub record HasAliveFields (slots : Slots) (alive : Alive) : Type 0 where
   pub addr : alive.addr.now ≡ raw_in slots alive_addr
   pub incarnation : alive.incarnation ≡ number_in slots alive_incarnation
   pub meta : alive.meta.now ≡ raw_in slots alive_meta
@@ -19,19 +19,19 @@ pub record SaysAlive (slots : Slots) (alive : Alive) : Type 0 where
   pub vsn : alive.vsn.now ≡ raw_in slots alive_vsn
 
 -- memberlist's suspect and dead
-pub record SaysAccusation (slots : Slots) (accusation : Accusation) : Type 0 where
+pub record HasAccusationFields (slots : Slots) (accusation : Accusation) : Type 0 where
   pub from : accusation.from.now ≡ raw_in slots accusation_from
   pub incarnation : accusation.incarnation ≡ number_in slots accusation_incarnation
   pub node : accusation.node.now ≡ raw_in slots accusation_node
 
 -- memberlist's pushPullHeader
-pub record SaysHeader (slots : Slots) (header : PushPullHeader) : Type 0 where
+pub record HasHeaderFields (slots : Slots) (header : PushPullHeader) : Type 0 where
   pub join : header.join ≡ flag_in slots header_join
   pub nodes : header.nodes ≡ number_in slots header_nodes
   pub user_state_len : header.user_state_len ≡ number_in slots header_user_state_len
 
 -- memberlist's pushNodeState
-pub record SaysState (slots : Slots) (state : PushNodeState) : Type 0 where
+pub record HasStateFields (slots : Slots) (state : PushNodeState) : Type 0 where
   pub addr : state.addr.now ≡ raw_in slots state_addr
   pub incarnation : state.incarnation ≡ number_in slots state_incarnation
   pub meta : state.meta.now ≡ raw_in slots state_meta

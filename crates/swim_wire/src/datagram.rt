@@ -3,7 +3,7 @@
 ghost use Rattle.std.specs.Prelude.{◌≡◌, ◌≢◌, ◌↔◌, [], List, Err, IfOk, IfErr, OnErr, IsErrOf};
 ghost use Rattle.swim_wire.specs.Asking.{PacketAsks, PartsAsk, CompoundAsks, DatagramAsks};
 ghost use Rattle.swim_wire.specs.Checks.{BeginsWith};
-ghost use Rattle.swim_wire.specs.Datagrams.{alone, packets_of, parts_at, compound_at, whole_datagram, ExplainsDatagram};
+ghost use Rattle.swim_wire.specs.Datagrams.{alone, packets_of, parts_at, compound_at, whole_datagram, ReasonForDatagram};
 ghost use Rattle.swim_wire.specs.PacketList.{packets_in, claims_in, IsCompound};
 ghost use Rattle.swim_wire.specs.Packet.{PacketValue};
 ghost use Rattle.swim_wire.specs.Reading.{nothing_after, whole_packet};
@@ -42,7 +42,7 @@ impl Datagram {
         // was read.
         ensures refuses { IfErr result (λ fault. fault ≢ WireFault.Memory
             → (packets : List PacketValue) → ¬ DatagramText bytes.now packets) }
-        ensures explains { IfErr result (λ fault. ExplainsDatagram fault bytes.now) }
+        ensures reason { IfErr result (λ fault. ReasonForDatagram fault bytes.now) }
 
         // The error is the one at which the reading stops. A slice never fails.
         ensures exact { IfErr result (λ fault. fault ≢ WireFault.Memory
@@ -115,7 +115,7 @@ pub fn decode_datagram(alloc: Global, bytes: &[u8]) -> Result<Vec<Packet>, WireF
     // read.
     ensures refuses { IfErr result (λ fault. fault ≢ WireFault.Memory
         → (packets : List PacketValue) → ¬ DatagramText bytes.now packets) }
-    ensures explains { IfErr result (λ fault. ExplainsDatagram fault bytes.now) }
+    ensures reason { IfErr result (λ fault. ReasonForDatagram fault bytes.now) }
 
     // The error is the one at which the reading stops. A slice never fails.
     ensures exact { IfErr result (λ fault. fault ≢ WireFault.Memory

@@ -8,7 +8,7 @@ ghost use Rattle.std.specs.Prelude.{◌≡◌, ◌≤◌, ◌++◌, ◌∷◌, L
 ghost use Rattle.swim_pack.specs.Composing.{ReadsAs, same};
 ghost use Rattle.swim_wire.specs.declared.layout.Limit.TheVariants as limits;
 ghost use Rattle.swim_wire.specs.Asking.{MapAsks, PacketAsks};
-ghost use Rattle.swim_wire.specs.Checks.{ExplainsStart};
+ghost use Rattle.swim_wire.specs.Checks.{ReasonForStart};
 ghost use Rattle.swim_wire.specs.Layout.{alive_layout, state_layout, accusation_layout, header_layout};
 ghost use Rattle.swim_wire.specs.Layout.Spelled.{number, raw, flag};
 ghost use Rattle.swim_wire.specs.Limits.{most_nodes, most_user_state};
@@ -235,7 +235,7 @@ pub(crate) fn read_state_in_order<I: Inlet>(
     ensures read { IfSome result (λ read.
         ReadsAs wire_cause same state_at (I.seen inlet.old) (I.seen inlet.new) read) }
     ensures memory { IfSome result (λ read. IsErrOf read WireFault.Memory
-        → ExplainsStart (MapAsks state_layout) (I.seen inlet.old)) }
+        → ReasonForStart (MapAsks state_layout) (I.seen inlet.old)) }
     ensures left { IsNone result → I.seen inlet.new ≡ I.seen inlet.old }
 {
     let hand = inlet.at_hand();

@@ -5,7 +5,7 @@ ghost use Rattle.std.specs.Str.{bytes_eq};
 ghost use Rattle.swim_pack.specs.Composing.{ReadsAs, same, lift};
 ghost use Rattle.swim_pack.specs.Reading.{raw_at};
 ghost use Rattle.swim_wire.specs.Asking.{ValueAsks, PairAsks, MapAsks};
-ghost use Rattle.swim_wire.specs.Checks.{ExplainsStart};
+ghost use Rattle.swim_wire.specs.Checks.{ReasonForStart};
 ghost use Rattle.swim_wire.specs.Fault.{fault_of_key};
 ghost use Rattle.swim_wire.specs.Reading.{wire_cause, value_at, key_at, pair_at, map_at};
 ghost use Rattle.swim_wire.specs.Keys.{key_text};
@@ -45,7 +45,7 @@ pub(crate) fn read_map<I: Inlet>(
         (I.seen inlet.old) (I.seen inlet.new) result }
     ensures within { IfOk result (FitsEach layout.now) }
     ensures memory { IsErrOf result WireFault.Memory
-        → ExplainsStart (MapAsks (layout_of layout.now)) (I.seen inlet.old) }
+        → ReasonForStart (MapAsks (layout_of layout.now)) (I.seen inlet.old) }
     ensures no_memory { IsNone alloc → ¬ IsErrOf result WireFault.Memory }
 {
     let count = read_map_len(inlet, layout.len() as u32)?;
@@ -70,7 +70,7 @@ fn read_pair<I: Inlet>(
         (I.seen inlet.old) (I.seen inlet.new) result }
     ensures within { FitsEach layout.now values.new }
     ensures memory { IsErrOf result WireFault.Memory
-        → ExplainsStart (PairAsks (layout_of layout.now)) (I.seen inlet.old) }
+        → ReasonForStart (PairAsks (layout_of layout.now)) (I.seen inlet.old) }
     ensures no_memory { IsNone alloc → ¬ IsErrOf result WireFault.Memory }
 {
     let place = read_place(inlet, layout)?;
@@ -134,7 +134,7 @@ fn read_value<I: Inlet>(
         (I.seen inlet.old) (I.seen inlet.new) result }
     ensures within { IfOk result (Fits limit) }
     ensures memory { IsErrOf result WireFault.Memory
-        → ExplainsStart (ValueAsks limit) (I.seen inlet.old) }
+        → ReasonForStart (ValueAsks limit) (I.seen inlet.old) }
     ensures no_memory { IsNone alloc → ¬ IsErrOf result WireFault.Memory }
 {
     match limit {

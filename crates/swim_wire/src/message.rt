@@ -1,6 +1,6 @@
 //! The fields of messages, with memberlist's names, before the message is checked as a whole.
 
-ghost use Rattle.swim_wire.specs.Message.{SaysAlive, SaysAccusation, SaysHeader, SaysState, IsShortAlive, IsShortAccusation, IsShortState};
+ghost use Rattle.swim_wire.specs.Message.{HasAliveFields, HasAccusationFields, HasHeaderFields, HasStateFields, IsShortAlive, IsShortAccusation, IsShortState};
 ghost use Rattle.swim_wire.specs.Slots.{FitsEach, slots_of};
 
 use crate::layout::{ACCUSATION, ALIVE, HEADER, STATE};
@@ -63,7 +63,7 @@ pub(crate) struct PushNodeState<'a> {
 impl<'a> Alive<'a> {
     pub(crate) fn new(values: &'a Values) -> Alive<'a>
         requires { FitsEach ALIVE values.now }
-        ensures says { SaysAlive (slots_of values.now) result }
+        ensures says { HasAliveFields (slots_of values.now) result }
         ensures short { IsShortAlive result }
     {
         let [addr, incarnation, meta, node, port, vsn, ..] = values;
@@ -81,7 +81,7 @@ impl<'a> Alive<'a> {
 impl<'a> Accusation<'a> {
     pub(crate) fn new(values: &'a Values) -> Accusation<'a>
         requires { FitsEach ACCUSATION values.now }
-        ensures says { SaysAccusation (slots_of values.now) result }
+        ensures says { HasAccusationFields (slots_of values.now) result }
         ensures short { IsShortAccusation result }
     {
         let [from, incarnation, node, ..] = values;
@@ -96,7 +96,7 @@ impl<'a> Accusation<'a> {
 impl PushPullHeader {
     pub(crate) fn new(values: &Values) -> PushPullHeader
         requires { FitsEach HEADER values.now }
-        ensures { SaysHeader (slots_of values.now) result }
+        ensures { HasHeaderFields (slots_of values.now) result }
     {
         let [join, nodes, user_state_len, ..] = values;
         PushPullHeader {
@@ -110,7 +110,7 @@ impl PushPullHeader {
 impl<'a> PushNodeState<'a> {
     pub(crate) fn new(values: &'a Values) -> PushNodeState<'a>
         requires { FitsEach STATE values.now }
-        ensures says { SaysState (slots_of values.now) result }
+        ensures says { HasStateFields (slots_of values.now) result }
         ensures short { IsShortState result }
     {
         let [addr, incarnation, meta, name, port, state, vsn, _] = values;

@@ -4,7 +4,7 @@ ghost use Rattle.std.specs.Prelude.{◌≡◌, ◌≢◌, Err, IfOk, IfErr, IsEr
 ghost use Rattle.swim_pack.specs.Composing.{ReadsAs, same, lift};
 ghost use Rattle.swim_pack.specs.Reading.{next_byte};
 ghost use Rattle.swim_wire.specs.Asking.{MapAsks, PacketAsks};
-ghost use Rattle.swim_wire.specs.Checks.{ExplainsStart, ExplainsWhole};
+ghost use Rattle.swim_wire.specs.Checks.{ReasonForStart, ReasonForWhole};
 ghost use Rattle.swim_wire.specs.Fault.{fault_of_pack};
 ghost use Rattle.swim_wire.specs.Layout.{alive_layout, accusation_layout};
 ghost use Rattle.swim_wire.specs.Packet.{PacketValue, IsLegalPacket};
@@ -89,7 +89,7 @@ pub fn decode_packet(alloc: Global, bytes: &[u8]) -> Result<Packet, WireFault>
     // read.
     ensures refuses { IfErr result (λ fault. fault ≢ WireFault.Memory
         → (p : PacketValue) → ¬ PacketText bytes.now p) }
-    ensures explains { IfErr result (λ fault. ExplainsWhole fault bytes.now) }
+    ensures reason { IfErr result (λ fault. ReasonForWhole fault bytes.now) }
 
     // The error is the one at which the reading stops. A slice never fails.
     ensures exact { IfErr result (λ fault. fault ≢ WireFault.Memory
@@ -129,7 +129,7 @@ fn read_packet<I: Inlet>(alloc: Global, inlet: &mut I) -> Result<Packet, WireFau
     ensures exact { ReadsAs wire_cause same packet_at
         (I.seen inlet.old) (I.seen inlet.new) result }
     ensures memory { IsErrOf result WireFault.Memory
-        → ExplainsStart PacketAsks (I.seen inlet.old) }
+        → ReasonForStart PacketAsks (I.seen inlet.old) }
 {
     let found = read_type(inlet)?;
     match found {
@@ -154,7 +154,7 @@ pub(crate) fn read_type<I: Inlet>(inlet: &mut I) -> Result<u8, WireFault>
 fn read_alive<I: Inlet>(alloc: Global, inlet: &mut I) -> Result<Packet, WireFault>
     ensures exact { ReadsAs wire_cause same alive_at (I.seen inlet.old) (I.seen inlet.new) result }
     ensures memory { IsErrOf result WireFault.Memory
-        → ExplainsStart (MapAsks alive_layout) (I.seen inlet.old) }
+        → ReasonForStart (MapAsks alive_layout) (I.seen inlet.old) }
 {
     let values = read_map(Some(alloc), inlet, &ALIVE)?;
     packet_of_alive(alloc, &Alive::new(&values))
@@ -164,7 +164,7 @@ fn read_suspect<I: Inlet>(alloc: Global, inlet: &mut I) -> Result<Packet, WireFa
     ensures exact { ReadsAs wire_cause same suspect_at
         (I.seen inlet.old) (I.seen inlet.new) result }
     ensures memory { IsErrOf result WireFault.Memory
-        → ExplainsStart (MapAsks accusation_layout) (I.seen inlet.old) }
+        → ReasonForStart (MapAsks accusation_layout) (I.seen inlet.old) }
 {
     let values = read_map(Some(alloc), inlet, &ACCUSATION)?;
     packet_of_suspect(alloc, &Accusation::new(&values))
@@ -173,7 +173,7 @@ fn read_suspect<I: Inlet>(alloc: Global, inlet: &mut I) -> Result<Packet, WireFa
 fn read_dead<I: Inlet>(alloc: Global, inlet: &mut I) -> Result<Packet, WireFault>
     ensures exact { ReadsAs wire_cause same dead_at (I.seen inlet.old) (I.seen inlet.new) result }
     ensures memory { IsErrOf result WireFault.Memory
-        → ExplainsStart (MapAsks accusation_layout) (I.seen inlet.old) }
+        → ReasonForStart (MapAsks accusation_layout) (I.seen inlet.old) }
 {
     let values = read_map(Some(alloc), inlet, &ACCUSATION)?;
     packet_of_dead(alloc, &Accusation::new(&values))

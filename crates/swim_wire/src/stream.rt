@@ -6,7 +6,7 @@ ghost use Rattle.swim_pack.specs.Ends.{ConsumesText, NoTextAtFront};
 ghost use Rattle.swim_pack.specs.Composing.{ReadsAs, UnlessFailed, same, refuses};
 ghost use Rattle.swim_wire.specs.declared.stream.Header.{Header};
 ghost use Rattle.swim_wire.specs.Asking.{MapAsks};
-ghost use Rattle.swim_wire.specs.Checks.{ExplainsHeader, ExplainsState, ExplainsStart};
+ghost use Rattle.swim_wire.specs.Checks.{ReasonForHeader, ReasonForState, ReasonForStart};
 ghost use Rattle.swim_wire.specs.Layout.{header_layout, state_layout};
 ghost use Rattle.swim_wire.specs.Limits.{most_nodes, most_user_state};
 ghost use Rattle.swim_wire.specs.Reading.{wire_cause, map_at, header_at, state_at};
@@ -57,8 +57,8 @@ pub fn read_header<I: Inlet>(inlet: &mut I) -> Result<Header, WireFault>
     // the refusal says why.
     ensures lacks { IfErr result (λ fault. UnlessFailed (wire_cause fault)
         (NoTextAtFront (I.seen inlet.old) (λ b. (header : Header) × HeaderText b header))) }
-    ensures explains { IfErr result (λ fault.
-        ExplainsStart (ExplainsHeader fault) (I.seen inlet.old)) }
+    ensures reason { IfErr result (λ fault.
+        ReasonForStart (ReasonForHeader fault) (I.seen inlet.old)) }
     ensures no_memory { ¬ IsErrOf result WireFault.Memory }
     // What was read, what is left, and that a failure of the inlet was counted.
     ensures exact { ReadsAs wire_cause same header_at (I.seen inlet.old) (I.seen inlet.new) result }
@@ -128,8 +128,8 @@ pub fn read_state<I: Inlet>(alloc: Global, inlet: &mut I) -> Result<Claim, WireF
     // bytes, within its limit, was read.
     ensures lacks { IfErr result (λ fault. UnlessFailed (wire_cause fault)
         (NoTextAtFront (I.seen inlet.old) (λ b. (claim : Claim) × StateText b claim))) }
-    ensures explains { IfErr result (λ fault.
-        ExplainsStart (ExplainsState fault) (I.seen inlet.old)) }
+    ensures reason { IfErr result (λ fault.
+        ReasonForStart (ReasonForState fault) (I.seen inlet.old)) }
     // What was read, what is left, and that a failure of the inlet was counted.
     ensures exact { ReadsAs wire_cause same state_at (I.seen inlet.old) (I.seen inlet.new) result }
 {
@@ -139,7 +139,7 @@ pub fn read_state<I: Inlet>(alloc: Global, inlet: &mut I) -> Result<Claim, WireF
 fn read_whole_state<I: Inlet>(alloc: Global, inlet: &mut I) -> Result<Claim, WireFault>
     ensures exact { ReadsAs wire_cause same state_at (I.seen inlet.old) (I.seen inlet.new) result }
     ensures memory { IsErrOf result WireFault.Memory
-        → ExplainsStart (MapAsks state_layout) (I.seen inlet.old) }
+        → ReasonForStart (MapAsks state_layout) (I.seen inlet.old) }
 {
     match read_state_in_order(alloc, inlet) {
         Some(read) => read,
@@ -151,7 +151,7 @@ fn read_whole_state<I: Inlet>(alloc: Global, inlet: &mut I) -> Result<Claim, Wir
 fn read_any_state<I: Inlet>(alloc: Global, inlet: &mut I) -> Result<Claim, WireFault>
     ensures exact { ReadsAs wire_cause same state_at (I.seen inlet.old) (I.seen inlet.new) result }
     ensures memory { IsErrOf result WireFault.Memory
-        → ExplainsStart (MapAsks state_layout) (I.seen inlet.old) }
+        → ReasonForStart (MapAsks state_layout) (I.seen inlet.old) }
 {
     let values = read_map(Some(alloc), inlet, &STATE)?;
     claim_of_state(alloc, &PushNodeState::new(&values))

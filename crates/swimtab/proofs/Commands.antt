@@ -10,7 +10,7 @@ use Rattle.clap.specs.declared.parser.matches.ArgMatches.TheViews.{out-ArgMatche
 use Rattle.clap.proofs.OnLiterals.{clap_on_literals}
 use Rattle.swim_program.proofs.Commands.{IsIn, is_command, names_agree}
 use Rattle.swimtab.specs.Chosen.{Choice}
-use Rattle.swimtab.specs.Words.{AsksFor, program, verb_of}
+use Rattle.swimtab.specs.Words.{ParsesTo, program, verb_of}
 
 -- the words of this program are among those whose matches `clap` specifies
 pub program_is_simple : is_simple program ≡ true
@@ -40,7 +40,7 @@ found_verb m words n rows name =
     (ap (option_map (λ p. p.0)) (sym rows) ∙ names_agree (out-ArgMatches m).subcommand ∙ sym name))
 
 asked : (o : Option (Text × List Row)) (n : Text) (rows : List Row) (choice : Choice) → option_map (λ p. p.0) o ≡ Some n → option_map (λ p. p.1) o ≡ Some rows
-    → verb_of n ≡ Some choice.verb → choice.files ≡ unwrap_or (all_of (codes "FILE") rows) [] → AsksFor o choice
+    → verb_of n ≡ Some choice.verb → choice.files ≡ unwrap_or (all_of (codes "FILE") rows) [] → ParsesTo o choice
 asked None n rows choice name found verb files = absurd cc
 asked (Some p) n rows choice name found verb files =
     let first : p.0 ≡ n = cc in
@@ -50,6 +50,6 @@ asked (Some p) n rows choice name found verb files =
 -- what is chosen is what the words ask for
 pub asks : (m : ArgMatches) (words : List Text) (n : Text) (rows : List Row) (choice : Choice) → subcommand_rows_of m ≡ subcommand_of program words
     → Some n ≡ subcommand_name_of m → Some rows ≡ option_map (λ p. p.1) (subcommand_rows_of m)
-    → verb_of n ≡ Some choice.verb → choice.files ≡ unwrap_or (all_of (codes "FILE") rows) [] → AsksFor (subcommand_of program words) choice
+    → verb_of n ≡ Some choice.verb → choice.files ≡ unwrap_or (all_of (codes "FILE") rows) [] → ParsesTo (subcommand_of program words) choice
 asks m words n rows choice is name found verb files =
     rw (sym is) (asked (subcommand_rows_of m) n rows choice (names_agree (out-ArgMatches m).subcommand ∙ sym name) (sym found) verb files)

@@ -12,7 +12,7 @@ use Rattle.swim_program.specs.declared.report.What.{What}
 use Rattle.swim_program.specs.declared.report.What.TheVariants.{Memory, Refused}
 use Rattle.swim_program.specs.declared.report.Place.TheVariants.{File}
 use Rattle.swim_program.specs.declared.report.Report.{Report}
-use Rattle.swim_table.specs.Steps.{ExplainsDump}
+use Rattle.swim_table.specs.Steps.{ReasonForDump}
 use Rattle.swimtab.specs.Files.{FileClaims, FilesClaims, IsNoDump, AreShortFiles, AreRefused}
 use Rattle.swimtab.specs.Files.AreRefused.{too_long, no_stream, memory}
 use Rattle.swim_program.specs.Report.{what_of}
@@ -42,7 +42,7 @@ is_memory wire.Trailing = inr (λ e. cc)
 
 -- a dump is refused because memory ran out, or because it is not a stream
 pub refused_for : (file : List ℕ) (fault : WireFault) (what : What) → what ≡ what_of fault
-    → (fault ≢ wire.Memory → (claims : List Claim) (join : Bool) → ¬ StreamText file claims join) → ExplainsDump fault file
+    → (fault ≢ wire.Memory → (claims : List Claim) (join : Bool) → ¬ StreamText file claims join) → ReasonForDump fault file
     → (what ≡ Memory) ⊎ IsNoDump file what
 refused_for file fault what is none why = elim (is_memory fault) [
   | inl e ↦ inl (is ∙ ap what_of e)

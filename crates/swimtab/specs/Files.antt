@@ -8,7 +8,7 @@ use Rattle.swim_wire.specs.Limits.{most_nodes}
 use Rattle.swim_wire.specs.Streams.{StreamText}
 use Rattle.swim_table.specs.declared.table.Relation.{Relation}
 use Rattle.swim_table.specs.declared.table.Relation.TheVariants.{Equal, Behind, Ahead, Apart}
-use Rattle.swim_table.specs.Steps.{ExplainsDump}
+use Rattle.swim_table.specs.Steps.{ReasonForDump}
 use Rattle.swim_table.specs.Table.{Entries, TableOf, Reduced}
 use Rattle.swim_program.specs.declared.report.Place.TheVariants.{File, Output}
 use Rattle.swim_program.specs.declared.report.What.{What}
@@ -35,7 +35,7 @@ FilesClaims (file ∷ files) claims =
 pub record IsNoDump (file : List ℕ) (what : What) : Type 0 where
   pub fault : WireFault
   pub none : (claims : List Claim) → ¬ FileClaims file claims
-  pub why : ExplainsDump fault file
+  pub why : ReasonForDump fault file
   pub told : what ≡ what_of fault
 
 -- no file is longer than allowed

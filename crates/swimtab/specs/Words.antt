@@ -68,7 +68,7 @@ verb_of name =
     else None))))
 
 -- without a command the packets are listed, and a command has the files that its words name
-abbrev pub AsksFor : Option (Text × List Row) → Choice → Type 0
-AsksFor None choice = (choice.verb ≡ verb.Packets) × (choice.files ≡ [])
-AsksFor (Some command) choice = (verb_of command.0 ≡ Some choice.verb)
+abbrev pub ParsesTo : Option (Text × List Row) → Choice → Type 0
+ParsesTo None choice = (choice.verb ≡ verb.Packets) × (choice.files ≡ [])
+ParsesTo (Some command) choice = (verb_of command.0 ≡ Some choice.verb)
     × (choice.files ≡ unwrap_or (all_of (codes "FILE") command.1) [])

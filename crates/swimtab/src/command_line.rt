@@ -3,7 +3,7 @@
 ghost use Rattle.std.specs.Prelude.{◌≡◌, true, [], map, string_bytes, IfOk, IfErr};
 ghost use Rattle.clap.specs.Words.{app_of, fault_of, takes, subcommand_of, new_app};
 ghost use Rattle.swim_program.specs.Words.{IsRefusal};
-ghost use Rattle.swimtab.specs.Words.{program, bare, beside, files_command, pair_command, AsksFor};
+ghost use Rattle.swimtab.specs.Words.{program, bare, beside, files_command, pair_command, ParsesTo};
 
 use crate::help;
 use crate::verb::{Chosen, Verb};
@@ -23,7 +23,7 @@ static PAIR: [&str; 2] = ["A", "B"];
 /// `Memory` if out of memory.
 pub fn chosen(alloc: Global, words: &[String]) -> Result<Chosen, WordFault>
     // The verb and the files are those of the command that clap finds in the words.
-    ensures asks { IfOk result (AsksFor (subcommand_of program (map string_bytes words.now))) }
+    ensures asks { IfOk result (ParsesTo (subcommand_of program (map string_bytes words.now))) }
     // They are accepted only if clap finds no fault in them, and otherwise refused with a fault
     // that it finds.
     ensures faultless { IfOk result (λ _. fault_of program (map string_bytes words.now) ≡ []) }

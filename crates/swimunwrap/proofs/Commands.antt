@@ -7,7 +7,7 @@ use Rattle.clap.specs.Words.{Row, Text, first_of, is_simple, is_simple_and_free}
 use Rattle.clap.proofs.OnLiterals.{clap_on_literals}
 use Rattle.swimunwrap.specs.Chosen.{Choice}
 use Rattle.swimunwrap.specs.declared.verb.Verb.TheVariants as verb
-use Rattle.swimunwrap.specs.Words.{AsksFor, at_most_one, key_words, program, verb_of_flag}
+use Rattle.swimunwrap.specs.Words.{ParsesTo, at_most_one, key_words, program, verb_of_flag}
 
 -- this program is one whose matches `clap` specifies
 pub program_is_simple : is_simple program ≡ true
@@ -21,7 +21,7 @@ program_is_free = refl
 
 -- the choice is what the arguments ask for, if they name the command
 pub asks_stream : (o : Option (Text × List Row)) (flags rows : List Row) (choice : Choice) → Some rows ≡ option_map (λ p. p.1) o → choice.verb ≡ verb.Stream
-    → choice.files ≡ at_most_one (first_of (codes "FILE") rows) → choice.key_files ≡ key_words flags ++ key_words rows → AsksFor o flags choice
+    → choice.files ≡ at_most_one (first_of (codes "FILE") rows) → choice.key_files ≡ key_words flags ++ key_words rows → ParsesTo o flags choice
 asks_stream None flags rows choice found verb files keys = absurd cc
 asks_stream (Some p) flags rows choice found verb files keys =
     let same : rows ≡ p.1 = cc in
@@ -29,7 +29,7 @@ asks_stream (Some p) flags rows choice found verb files keys =
 
 -- and if they do not
 pub asks_lines : (o : Option (Text × List Row)) (flags rows : List Row) (choice : Choice) → None ≡ option_map (λ (p : Text × List Row). p.1) o → rows ≡ flags
-    → choice.verb ≡ verb_of_flag (first_of (codes "skip") rows) → choice.files ≡ [] → choice.key_files ≡ key_words rows → AsksFor o flags choice
+    → choice.verb ≡ verb_of_flag (first_of (codes "skip") rows) → choice.files ≡ [] → choice.key_files ≡ key_words rows → ParsesTo o flags choice
 asks_lines None flags rows choice none same verb files keys = (verb ∙ ap (λ r. verb_of_flag (first_of (codes "skip") r)) same, files, keys ∙ ap key_words same)
 asks_lines (Some p) flags rows choice none same verb files keys = absurd cc
 

@@ -5,7 +5,7 @@ use Rattle.memberlist_cipher.specs.declared.fault.CipherFault.TheVariants as cip
 use Rattle.memberlist_cipher.specs.Fault.{cipher_number}
 use Rattle.memberlist_transport.specs.declared.fault.StreamFault.{StreamFault}
 use Rattle.memberlist_transport.specs.declared.fault.StreamFault.TheVariants as stream
-use Rattle.memberlist_transport.specs.Stream.{Explains as ExplainsFault, IsStreamIn as IsStreamWithin}
+use Rattle.memberlist_transport.specs.Stream.{ReasonFor as ReasonForFault, IsStreamIn as IsStreamWithin}
 use Rattle.memberlist_wrap.specs.declared.fault.WrapFault.{WrapFault}
 use Rattle.memberlist_wrap.specs.declared.fault.WrapFault.TheVariants as wrap
 use Rattle.memberlist_wrap.specs.Fault.{wrap_number}
@@ -36,7 +36,7 @@ what_of_stream stream.Empty = Refused 1 None
 what_of_stream stream.Memory = Memory
 
 -- what a refusal says about bytes: the fault for which they hold none
-abbrev pub Explains : List (List ℕ) → List ℕ → What → Type 0
-Explains keys bytes what =
-    (fault : StreamFault) × ExplainsFault most_bytes keys bytes fault
+abbrev pub ReasonFor : List (List ℕ) → List ℕ → What → Type 0
+ReasonFor keys bytes what =
+    (fault : StreamFault) × ReasonForFault most_bytes keys bytes fault
     × (what ≡ what_of_stream fault)

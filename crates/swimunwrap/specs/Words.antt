@@ -61,11 +61,11 @@ key_words rows = unwrap_or (all_of (codes "key-file") rows) []
 
 -- the command is `stream`, and has the file that its argument names; key files are named before it
 -- and after it
-abbrev pub AsksFor : Option (Text × List Row) → List Row → Choice → Type 0
-AsksFor None rows choice =
+abbrev pub ParsesTo : Option (Text × List Row) → List Row → Choice → Type 0
+ParsesTo None rows choice =
     (choice.verb ≡ verb_of_flag (first_of (codes "skip") rows)) × (choice.files ≡ [])
     × (choice.key_files ≡ key_words rows)
-AsksFor (Some command) rows choice =
+ParsesTo (Some command) rows choice =
     (choice.verb ≡ verb.Stream)
     × (choice.files ≡ at_most_one (first_of (codes "FILE") command.1))
     × (choice.key_files ≡ key_words rows ++ key_words command.1)

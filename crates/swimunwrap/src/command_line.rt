@@ -3,7 +3,7 @@
 ghost use Rattle.std.specs.Prelude.{◌≡◌, true, false, [], codes, map, string_bytes, IfOk, IfErr};
 ghost use Rattle.clap.specs.Words.{app_of, fault_of, found_of, rows_of, first_of, matches_of, rule_of, takes, subcommand_of, with_subcommand};
 ghost use Rattle.swim_program.specs.Words.{IsRefusal};
-ghost use Rattle.swimunwrap.specs.Words.{program, bare, key_rule, stream_command, at_most_one, verb_of_flag, AsksFor};
+ghost use Rattle.swimunwrap.specs.Words.{program, bare, key_rule, stream_command, at_most_one, verb_of_flag, ParsesTo};
 
 use crate::help;
 use crate::verb::{Chosen, Verb};
@@ -21,7 +21,7 @@ use swim_program::{WordFault, texts_of};
 pub fn chosen(alloc: Global, words: &[String]) -> Result<Chosen, WordFault>
     // The verb and the file are those of the command, or of the flag, that clap finds in the
     // arguments.
-    ensures asks { IfOk result (AsksFor (subcommand_of program (map string_bytes words.now))
+    ensures asks { IfOk result (ParsesTo (subcommand_of program (map string_bytes words.now))
         (matches_of program (map string_bytes words.now))) }
     // They are accepted only if clap finds no fault in them, and refused with a fault that it
     // finds.

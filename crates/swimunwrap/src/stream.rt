@@ -2,7 +2,7 @@
 
 ghost use Rattle.std.specs.Prelude.{◌≡◌, ◌≢◌, ◌↔◌, ◌<◌, ◌≤◌, List, ℕ, None, length, IfOk, IfErr};
 ghost use Rattle.swim_program.specs.Limits.{most_bytes};
-ghost use Rattle.swimunwrap.specs.Stream.{IsStreamIn, Explains, what_of_stream, what_of_wrap, what_of_cipher};
+ghost use Rattle.swimunwrap.specs.Stream.{IsStreamIn, ReasonFor, what_of_stream, what_of_wrap, what_of_cipher};
 
 use memberlist_cipher::CipherFault;
 use memberlist_keyring::Keyring;
@@ -30,8 +30,8 @@ pub fn unwrap_stream(alloc: Global, keys: &Keyring, bytes: &[u8]) -> Result<Vec<
     ensures refuses { IfErr result (λ what. what ≢ What.Memory → length bytes.now ≤ most_bytes
         → (stream : List ℕ) → ¬ IsStreamIn keys.now bytes.now stream) }
     // And the refusal says why.
-    ensures explains { IfErr result (λ what. what ≢ What.Memory → length bytes.now ≤ most_bytes
-        → Explains keys.now bytes.now what) }
+    ensures reason { IfErr result (λ what. what ≢ What.Memory → length bytes.now ≤ most_bytes
+        → ReasonFor keys.now bytes.now what) }
     ensures long { (most_bytes < length bytes.now) ↔ (result ≡ Err (What.Refused 32 None)) }
     ensures no_device { IfErr result (λ what. what ≢ What.Device) }
 {

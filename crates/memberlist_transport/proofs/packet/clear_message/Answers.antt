@@ -10,11 +10,11 @@ returns-in-Ok-Some-clause-holds c =
     let unwraps : Unwraps 1048576 c.args.bytes.now c.in-Ok-Some.inner.now = search rules in
     IfOk-weaker c.message_of.result _ _ (λ message h. (c.in-Ok-Some.inner.now, unwraps, h)) c.message_of.ensures.holds
 
-pub returns-in-Ok-Some-clause-explains : goal.returns-in-Ok-Some-clause-explains
-returns-in-Ok-Some-clause-explains c =
+pub returns-in-Ok-Some-clause-reason : goal.returns-in-Ok-Some-clause-reason
+returns-in-Ok-Some-clause-reason c =
     let unwraps : Unwraps 1048576 c.args.bytes.now c.in-Ok-Some.inner.now = search rules in
-    IfErr-weaker c.message_of.result _ _ (λ fault h seen. none_inside c.args.bytes.now c.in-Ok-Some.inner.now fault unwraps (h seen)) c.message_of.ensures.explains
+    IfErr-weaker c.message_of.result _ _ (λ fault h seen. none_inside c.args.bytes.now c.in-Ok-Some.inner.now fault unwraps (h seen)) c.message_of.ensures.reason
 
-pub returns-in-Err-clause-explains : goal.returns-in-Err-clause-explains
-returns-in-Err-clause-explains c = λ seen.
-    (c.in-Err.ensures.explains, no_message 4 1048576 c.in-Err.fault c.args.bytes.now c.in-Err.ensures.explains)
+pub returns-in-Err-clause-reason : goal.returns-in-Err-clause-reason
+returns-in-Err-clause-reason c = λ seen.
+    (c.in-Err.ensures.reason, no_message 4 1048576 c.in-Err.fault c.args.bytes.now c.in-Err.ensures.reason)

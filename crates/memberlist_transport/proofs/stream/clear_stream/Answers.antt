@@ -1,7 +1,7 @@
 use Rattle.std.proofs.Common.{refl, rules}
 use Rattle.std.specs.Prelude.{◌≢◌}
 use Rattle.memberlist_wrap.specs.declared.fault.WrapFault.TheVariants.{Memory}
-use Rattle.memberlist_transport.specs.Stream.{ExplainsClear as plainly}
+use Rattle.memberlist_transport.specs.Stream.{ReasonForClear as plainly}
 use Rattle.memberlist_transport.proofs.Streams.{clear_refused}
 use Rattle.memberlist_transport.proofs.stream.clear_stream.Goals as goal
 
@@ -12,4 +12,4 @@ returns-in-Ok-clause-err c =
 pub returns-in-Err-clause-err : goal.returns-in-Err-clause-err
 returns-in-Err-clause-err c = λ seen.
     let other : c.in-Err.cause ≢ Memory = search rules in
-    plainly.broken c.in-Err.cause (c.in-Err.ensures.explains other) refl
+    plainly.broken c.in-Err.cause (c.in-Err.ensures.reason other) refl

@@ -18,4 +18,4 @@ returns-in-Ok-clause-err c =
 pub returns-in-Err-clause-err : goal.returns-in-Err-clause-err
 returns-in-Err-clause-err c = λ seen.
     let other : c.in-Err.cause ≢ Memory = search rules in
-    inl (c.in-Err.cause, c.in-Err.ensures.lacks other, c.in-Err.ensures.explains other, refl)
+    inl (c.in-Err.cause, c.in-Err.ensures.lacks other, c.in-Err.ensures.reason other, refl)

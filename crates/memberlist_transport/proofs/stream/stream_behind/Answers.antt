@@ -5,8 +5,8 @@ use Rattle.memberlist_transport.proofs.Streams.{untried, tried}
 use Rattle.memberlist_transport.proofs.stream.stream_behind.Goals.{then-is_empty-via-then-is_empty, then-is_empty-via-else-is_empty+then-not-is_sealed}
 use Rattle.memberlist_transport.proofs.stream.stream_behind.Goals as goal
 
-pub returns-then-is_empty-clause-explains : goal.returns-then-is_empty-clause-explains
-returns-then-is_empty-clause-explains c = elim c.then-is_empty.branch [
+pub returns-then-is_empty-clause-reason : goal.returns-then-is_empty-clause-reason
+returns-then-is_empty-clause-reason c = elim c.then-is_empty.branch [
   | then-is_empty-via-then-is_empty w ↦
       let none : c.args.keys.now ≡ [] = search rules in
       untried c.args.limit c.args.keys.now c.args.bytes.now c.args.message.items c.stream_of.result c.requires (inl none) c.stream_of.ensures.err
@@ -21,8 +21,8 @@ returns-clause-unwraps c =
     let sealed : IsSealed c.args.limit c.args.bytes.now = (c.args.message.items, c.requires, begins) in
     IfOk-weaker c.opened_stream.result _ _ (λ stream h. streams.opened h.0 sealed h.1 h.2) c.opened_stream.ensures.ok
 
-pub returns-clause-explains : goal.returns-clause-explains
-returns-clause-explains c =
+pub returns-clause-reason : goal.returns-clause-reason
+returns-clause-reason c =
     let begins : BeginsAsSealed c.args.message.items = search rules in
     let sealed : IsSealed c.args.limit c.args.bytes.now = (c.args.message.items, c.requires, begins) in
     tried c.args.limit c.args.keys.now c.args.bytes.now c.opened_stream.result sealed c.opened_stream.ensures.err

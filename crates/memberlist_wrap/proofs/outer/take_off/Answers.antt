@@ -1,6 +1,6 @@
 use Rattle.std.proofs.Common.{◌≡◌, ◌∷◌, true, IsTrue, refl, ap, ◌∙◌, rules, arith, inl, inr}
 use Rattle.std.proofs.lemmas.Result.{err_from_is_err_and}
-use Rattle.memberlist_wrap.specs.Explaining.FailsHere.{deep, broken}
+use Rattle.memberlist_wrap.specs.Reasons.FailsHere.{deep, broken}
 use Rattle.memberlist_wrap.specs.Wrapping.Wrapper.{compression, checksum, label}
 use Rattle.memberlist_wrap.proofs.Layers.{off_label}
 use Rattle.memberlist_wrap.proofs.outer.take_off.Goals as goal

@@ -1,6 +1,6 @@
 use Rattle.std.proofs.Common.{◌≡◌, ◌-◌, length, drop, ap, ◌∙◌, arith, inl, inr}
 use Rattle.std.proofs.lemmas.Result.{err_from_is_err_and}
-use Rattle.memberlist_wrap.specs.Explaining.{fault_of_map}
+use Rattle.memberlist_wrap.specs.Reasons.{fault_of_map}
 use Rattle.memberlist_wrap.specs.Peeling.PackedFails.{inside}
 use Rattle.memberlist_wrap.proofs.Weakening.{IfOk-weaker, IfErr-weaker}
 use Rattle.memberlist_wrap.proofs.Layers.{behind_front, no_longer, message_unwraps, map_fails, packed_unwraps, packed_fails}

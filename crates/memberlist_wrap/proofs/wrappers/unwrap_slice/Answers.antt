@@ -1,6 +1,6 @@
 use Rattle.std.proofs.Common.{ap, ◌∙◌, inl, inr}
 use Rattle.std.proofs.lemmas.Result.{err_from_is_err_and}
-use Rattle.memberlist_wrap.specs.Explaining.{fault_of_map}
+use Rattle.memberlist_wrap.specs.Reasons.{fault_of_map}
 use Rattle.memberlist_wrap.proofs.Weakening.{IfOk-weaker, IfErr-weaker}
 use Rattle.memberlist_wrap.proofs.Layers.{map_fails, packed_unwraps, packed_fails, compression_asks}
 use Rattle.memberlist_wrap.proofs.wrappers.unwrap_slice.Goals as goal

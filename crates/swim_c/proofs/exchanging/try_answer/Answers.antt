@@ -21,7 +21,7 @@ returns-in_err-offered-clause-refused c =
     let why = c.in_err-offered.ensures in
     rw (p.1, p.2)
     (stream_unread c.args.form c.args.stream.now c.new-inlet.result c.read_stream.new.inlet c.args.held.now.node.table c.in_err-offered.field-0.0
-    c.new-inlet.ensures why.lacks why.explains (λ e. why.fault (ap Err e)))
+    c.new-inlet.ensures why.lacks why.reason (λ e. why.fault (ap Err e)))
 
 pub returns-in_err-reply_len-clause-refused : goal.returns-in_err-reply_len-clause-refused
 returns-in_err-reply_len-clause-refused c =

@@ -10,7 +10,7 @@ returns-in_err-replied-clause-refused c =
     let p = err_from_is_err_and c.from_residual.result c.from_residual.ensures.1 in
     let why = c.in_err-replied.ensures in
     rw (p.1, p.2)
-    (unread c.args.stream.now c.new-inlet.result c.read_stream.new.inlet c.in_err-replied.field-0.0 c.new-inlet.ensures why.lacks why.explains
+    (unread c.args.stream.now c.new-inlet.result c.read_stream.new.inlet c.in_err-replied.field-0.0 c.new-inlet.ensures why.lacks why.reason
     (λ is. why.fault (ap (refused (Entries × Bool)) is)))
 
 pub returns-clause-finishes : goal.returns-clause-finishes

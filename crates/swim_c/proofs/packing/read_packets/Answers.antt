@@ -26,7 +26,7 @@ returns-in_err-packet-clause-refused c =
     rw (p.1, p.2)
     (λ no_memory. no_packet c.args.lens.now c.args.bytes.now c.loop-len.len-index _ _
     c.loop-len.packets.items c.loop-len.rest.now c.in-Some.text.now c.in-Some.behind.now _ c.loop-len-test.true refl c.loop-len.invariant
-    (in_parts _ _ _ _ parts.1 parts.2) parts.3 (why.exact no_memory) why.explains (λ e. why.no_fault (ap Err e)))
+    (in_parts _ _ _ _ parts.1 parts.2) parts.3 (why.exact no_memory) why.reason (λ e. why.no_fault (ap Err e)))
 
 pub loop-len-preserved : goal.loop-len-preserved
 loop-len-preserved c =
@@ -52,7 +52,7 @@ returns-in_err-packet-clause-memory c =
     rw (p.1, p.2)
     (λ is. next_asks c.args.lens.now c.args.bytes.now c.loop-len.len-index _ _
     c.loop-len.packets.items c.loop-len.rest.now c.in-Some.text.now c.in-Some.behind.now c.loop-len-test.true refl c.loop-len.invariant
-    (in_parts _ _ _ _ parts.1 parts.2) parts.3 (packet_memory _ _ is why.explains))
+    (in_parts _ _ _ _ parts.1 parts.2) parts.3 (packet_memory _ _ is why.reason))
 
 pub returns-in_err-map_err-clause-memory : goal.returns-in_err-map_err-clause-memory
 returns-in_err-map_err-clause-memory c =

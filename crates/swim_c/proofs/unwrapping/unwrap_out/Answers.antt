@@ -10,4 +10,4 @@ pub returns-in-Err : goal.returns-in-Err
 returns-in-Err c =
     packet_refused c.args.keys.now c.args.packet.now c.args.out.now c.args.out.now _ _ c.in-Err.fault
     (unwritten _ c.args.out.now c.refused.result (c.refused.ensures ∙ ap (λ (n : ℕ). record { status = n; len = 0 }) c.packet_status.ensures))
-    c.in-Err.ensures.explains c.in-Err.ensures.refuses
+    c.in-Err.ensures.reason c.in-Err.ensures.refuses

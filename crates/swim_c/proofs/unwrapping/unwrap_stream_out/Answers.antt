@@ -15,4 +15,4 @@ returns-in-Err c =
     let few : length c.args.label.now < 256 = search rules in
     stream_refused c.args.keys.now c.args.label.now c.args.bytes.now c.args.out.now c.args.out.now _ _ c.in-Err.fault few
     (unwritten _ c.args.out.now c.refused-in-Err.result (c.refused-in-Err.ensures ∙ ap (λ (n : ℕ). record { status = n; len = 0 }) c.stream_status.ensures))
-    c.in-Err.ensures.explains c.in-Err.ensures.refuses
+    c.in-Err.ensures.reason c.in-Err.ensures.refuses

@@ -12,14 +12,14 @@ returns-in_err-read-clause-refuses c =
     let why = c.in_err-read.ensures in
     rw (p.1, p.2) (refused_whole c.in_err-read.field-0.0 c.args.bytes.now (rw c.new-inlet.ensures at why.lacks) (λ e. absurd (search rules)))
 
-pub returns-in_err-read-clause-explains : goal.returns-in_err-read-clause-explains
-returns-in_err-read-clause-explains c =
+pub returns-in_err-read-clause-reason : goal.returns-in_err-read-clause-reason
+returns-in_err-read-clause-reason c =
     let p = err_from_is_err_and c.from_residual.result c.from_residual.ensures.1 in
     let why = c.in_err-read.ensures in
-    rw (p.1, p.2) (no_dump c.in_err-read.field-0.0 c.args.bytes.now (λ e. absurd (search rules)) (rw c.new-inlet.ensures at why.explains))
+    rw (p.1, p.2) (no_dump c.in_err-read.field-0.0 c.args.bytes.now (λ e. absurd (search rules)) (rw c.new-inlet.ensures at why.reason))
 
-pub returns-else-is_empty-clause-explains : goal.returns-else-is_empty-clause-explains
-returns-else-is_empty-clause-explains c =
+pub returns-else-is_empty-clause-reason : goal.returns-else-is_empty-clause-reason
+returns-else-is_empty-clause-reason c =
     let read = c.in_ok-read.ensures.takes in
     let more : c.read_stream.new.inlet ≢ [] = search rules in
     (read.2.0, c.read_stream.new.inlet, read.0, c.in_ok-read.read.1, read.2.1, more, sym c.new-inlet.ensures ∙ read.2.2)

@@ -2,7 +2,7 @@ use Rattle.std.proofs.lemmas.Result.{err_from_is_err_and}
 use Rattle.swim_pack.proofs.Composing.{UnlessFailed-weaker}
 use Rattle.swim_pack.proofs.Ends.{Advances-trans}
 use Rattle.swim_wire.specs.Reading.{wire_cause}
-use Rattle.swim_table.proofs.Streams.{started, stepped, ended, none_wanted, step_explains}
+use Rattle.swim_table.proofs.Streams.{started, stepped, ended, none_wanted, step_reason}
 use Rattle.swim_table.proofs.stream_reader.read_stream.Goals as goal
 
 pub loop-next-init : goal.loop-next-init
@@ -20,12 +20,12 @@ returns-in_err-next-clause-lacks g c =
     (none_wanted (g.I.Inlet.seen c.args.inlet.now) (g.I.Inlet.seen c.loop-next.inlet) c.loop-next.reader c.loop-next.invariant.some)
     c.in_err-next.ensures.lacks)
 
-pub returns-in_err-next-clause-explains : goal.returns-in_err-next-clause-explains
-returns-in_err-next-clause-explains g c =
+pub returns-in_err-next-clause-reason : goal.returns-in_err-next-clause-reason
+returns-in_err-next-clause-reason g c =
     let p = err_from_is_err_and c.from_residual-in_err-next.result c.from_residual-in_err-next.ensures.1 in
     rw (p.1, p.2)
-    (step_explains c.in_err-next.field-0.0 (g.I.Inlet.seen c.args.inlet.now) (g.I.Inlet.seen c.loop-next.inlet)
-    c.loop-next.reader c.loop-next.invariant.some c.in_err-next.ensures.explains)
+    (step_reason c.in_err-next.field-0.0 (g.I.Inlet.seen c.args.inlet.now) (g.I.Inlet.seen c.loop-next.inlet)
+    c.loop-next.reader c.loop-next.invariant.some c.in_err-next.ensures.reason)
 
 pub returns-in_err-next-clause-end : goal.returns-in_err-next-clause-end
 returns-in_err-next-clause-end g c = Advances-trans _ _ _ c.loop-next.invariant.end c.step.ensures.end

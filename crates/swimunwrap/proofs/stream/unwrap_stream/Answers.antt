@@ -7,10 +7,10 @@ pub returns-in-Err-clause-refuses : goal.returns-in-Err-clause-refuses
 returns-in-Err-clause-refuses c = λ seen within.
     c.in-Err.ensures.refuses (λ memory. seen (c.what_of_stream.ensures ∙ ap what_of_stream memory))
 
-pub returns-in-Err-clause-explains : goal.returns-in-Err-clause-explains
-returns-in-Err-clause-explains c = λ seen within. (
+pub returns-in-Err-clause-reason : goal.returns-in-Err-clause-reason
+returns-in-Err-clause-reason c = λ seen within. (
   c.in-Err.fault,
-  c.in-Err.ensures.explains (λ memory. seen (c.what_of_stream.ensures ∙ ap what_of_stream memory)),
+  c.in-Err.ensures.reason (λ memory. seen (c.what_of_stream.ensures ∙ ap what_of_stream memory)),
   c.what_of_stream.ensures,
 )
 

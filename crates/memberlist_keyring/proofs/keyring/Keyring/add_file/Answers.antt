@@ -9,8 +9,8 @@ returns-in_err-keys-clause-refuses c =
     let exit = err_from_is_err_and c.from_residual.result c.from_residual.ensures.1 in
     rw (exit.1, exit.2) (λ other. no_key_file _ c.args.text.now other c.in_err-keys.ensures.err)
 
-pub returns-in_err-append-clause-explains : goal.returns-in_err-append-clause-explains
-returns-in_err-append-clause-explains c =
+pub returns-in_err-append-clause-reason : goal.returns-in_err-append-clause-reason
+returns-in_err-append-clause-reason c =
     let exit = err_from_is_err_and c.from_residual-in_err-append.result c.from_residual-in_err-append.ensures.1 in
     let ours = c.self.inside.keys.ok in
     let theirs = c.in_ok-keys.keys.ok in

@@ -26,10 +26,10 @@ returns-clause-lacks c =
     opens_none Encryption c.try_keys.result c.args.self.now c.deref.result.now c.args.bytes.now _ _ (c.deref.ensures.value ∙ c.self.view_is) c.cut_label.ensures
     c.try_keys.ensures.lacks
 
-pub returns-clause-explains : goal.returns-clause-explains
-returns-clause-explains c =
+pub returns-clause-reason : goal.returns-clause-reason
+returns-clause-reason c =
     refused PacketCause c.try_keys.result c.args.self.now c.deref.result.now c.args.bytes.now _ _ (c.deref.ensures.value ∙ c.self.view_is) c.cut_label.ensures
-    c.try_keys.ensures.explains
+    c.try_keys.ensures.reason
 
 pub returns-clause-memory : goal.returns-clause-memory
 returns-clause-memory c =

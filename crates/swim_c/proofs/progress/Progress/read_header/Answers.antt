@@ -2,7 +2,7 @@ use Rattle.std.proofs.Common.{◌≡◌, ◌∙◌, ◌-◌, ℕ, List, length, 
 use Rattle.std.proofs.lemmas.Result.{err_from_is_err_and}
 use Rattle.swim_pack.specs.Composing.{UnlessFailed}
 use Rattle.swim_pack.specs.Ends.{NoTextAtFront, ConsumesText}
-use Rattle.swim_table.specs.Steps.{ExplainsBegin}
+use Rattle.swim_table.specs.Steps.{ReasonForBegin}
 use Rattle.swim_wire.specs.declared.stream.Header.{Header}
 use Rattle.swim_wire.specs.Reading.{wire_cause}
 use Rattle.swim_wire.specs.Texts.{HeaderText}
@@ -19,7 +19,7 @@ returns-in_err-header-clause-lacks c =
     rw (p.1, p.2)
     (header_missing c.args.bytes.now c.args.self.now fault (λ e. why.no_memory (ap Err e)) why.exact.fault
     (subst (λ (b : List ℕ). UnlessFailed (wire_cause fault) (NoTextAtFront (memory b) (λ t. (h : Header) × HeaderText t h))) is why.lacks)
-    (subst (λ (b : List ℕ). ExplainsBegin fault b) is (why.explains, why.exact.answer)) c.requires)
+    (subst (λ (b : List ℕ). ReasonForBegin fault b) is (why.reason, why.exact.answer)) c.requires)
 
 pub returns-clause-progress : goal.returns-clause-progress
 returns-clause-progress c =

@@ -3,7 +3,7 @@ use Rattle.std.proofs.lemmas.Result.{err_from_is_err_and}
 use Rattle.swim_claim.specs.declared.claim.Claim.{Claim}
 use Rattle.swim_pack.specs.Composing.{UnlessFailed}
 use Rattle.swim_pack.specs.Ends.{NoTextAtFront, ConsumesText}
-use Rattle.swim_table.specs.Steps.{ExplainsRecord}
+use Rattle.swim_table.specs.Steps.{ReasonForRecord}
 use Rattle.swim_wire.specs.Reading.{wire_cause}
 use Rattle.swim_wire.specs.Texts.{StateText}
 use Rattle.swim_c.specs.Progressing.{progress}
@@ -19,7 +19,7 @@ returns-in_err-read_state-clause-lacks c =
     rw (p.1, p.2)
     (λ at no_memory. record_missing c.args.bytes.now c.args.self.now fault no_memory why.exact.fault
     (subst (λ (b : List ℕ). UnlessFailed (wire_cause fault) (NoTextAtFront (memory b) (λ t. (r : Claim) × StateText t r))) is why.lacks)
-    (subst (λ (b : List ℕ). ExplainsRecord fault b) is (why.explains, why.exact.answer)) c.requires.header c.requires.left at)
+    (subst (λ (b : List ℕ). ReasonForRecord fault b) is (why.reason, why.exact.answer)) c.requires.header c.requires.left at)
 
 pub returns-clause-progress : goal.returns-clause-progress
 returns-clause-progress c =

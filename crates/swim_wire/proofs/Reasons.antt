@@ -10,7 +10,7 @@ use Rattle.swim_wire.specs.declared.fault.WireFault.{WireFault}
 use Rattle.swim_wire.specs.declared.fault.WireFault.TheVariants.{Fault, Memory}
 use Rattle.swim_wire.specs.declared.stream.Header.{Header}
 use Rattle.swim_wire.specs.Asking.{MapAsks}
-use Rattle.swim_wire.specs.Checks.{ExplainsHeader, ExplainsState}
+use Rattle.swim_wire.specs.Checks.{ReasonForHeader, ReasonForState}
 use Rattle.swim_wire.specs.Layout.{state_layout}
 use Rattle.swim_wire.specs.Reading.{Reading, wire_cause, header_at, state_at}
 use Rattle.swim_wire.specs.Texts.{HeaderText, StateText}
@@ -24,12 +24,12 @@ memory_or error = inr (λ e. absurd cc)
 
 -- if the refusal of the reading means something for the bytes, and so does `Memory`, so does the
 -- refusal of the read
-pub Reads-explains : {X V : Type 0} {view : X → V} {reading : Reading V} {a b : Source} (r : Result X WireFault) (P : WireFault → List ℕ → Type 0)
+pub Reads-reason : {X V : Type 0} {view : X → V} {reading : Reading V} {a b : Source} (r : Result X WireFault) (P : WireFault → List ℕ → Type 0)
     → ((error : WireFault) (bytes : List ℕ) → error ≢ Memory → UnlessFailed (wire_cause error) (P error bytes) → P error bytes)
     → ((bytes : List ℕ) (error : WireFault) → error ≢ Memory → reading bytes ≡ refused V error → P error bytes)
     → (r ≡ Err Memory → IfSome a.coming (P Memory)) → ReadsAs wire_cause view reading a b r → IfErr r (λ error. IfSome a.coming (P error))
-Reads-explains (Ok x) P unless says memory h = tt
-Reads-explains {X} {V} {view} {reading} {a} {b} (Err error) P unless says memory h = by (memory_or error)
+Reads-reason (Ok x) P unless says memory h = tt
+Reads-reason {X} {V} {view} {reading} {a} {b} (Err error) P unless says memory h = by (memory_or error)
   where
     explained : (known : Option (List ℕ)) → error ≢ Memory → Answers {X = X} wire_cause view reading known b.coming (Err error) → IfSome known (P error)
     explained None other e = tt
@@ -49,14 +49,14 @@ pub Header-lacks : {X : Type 0} {view : X → Header} {a b : Source} (r : Result
     → IfErr r (λ error. UnlessFailed (wire_cause error) (NoTextAtFront a (λ text. (value : Header) × HeaderText text value)))
 Header-lacks r h = Reads-lacks r (λ text. (value : Header) × HeaderText text value) (λ text rest is. (is.0, header_again text rest is.0 is.1)) h
 
-header_unless : (error : WireFault) (bytes : List ℕ) → error ≢ Memory → UnlessFailed (wire_cause error) (ExplainsHeader error bytes) → ExplainsHeader error bytes
+header_unless : (error : WireFault) (bytes : List ℕ) → error ≢ Memory → UnlessFailed (wire_cause error) (ReasonForHeader error bytes) → ReasonForHeader error bytes
 header_unless Fault bytes other h = tt
 header_unless Memory bytes other h = absurd (other refl)
 header_unless error bytes other h = h
 
-pub Header-explains : {X : Type 0} {view : X → Header} {a b : Source} (r : Result X WireFault) → ¬ (r ≡ Err Memory) → ReadsAs wire_cause view header_at a b r
-    → IfErr r (λ error. IfSome a.coming (ExplainsHeader error))
-Header-explains r none h = Reads-explains r ExplainsHeader header_unless header_refusal (λ is. absurd (none is)) h
+pub Header-reason : {X : Type 0} {view : X → Header} {a b : Source} (r : Result X WireFault) → ¬ (r ≡ Err Memory) → ReadsAs wire_cause view header_at a b r
+    → IfErr r (λ error. IfSome a.coming (ReasonForHeader error))
+Header-reason r none h = Reads-reason r ReasonForHeader header_unless header_refusal (λ is. absurd (none is)) h
 
 -- ---- state records
 
@@ -68,12 +68,12 @@ pub State-lacks : {X : Type 0} {view : X → Claim} {a b : Source} (r : Result X
     → IfErr r (λ error. UnlessFailed (wire_cause error) (NoTextAtFront a (λ text. (claim : Claim) × StateText text claim)))
 State-lacks r h = Reads-lacks r (λ text. (claim : Claim) × StateText text claim) (λ text rest is. (is.0, state_again text rest is.0 is.1)) h
 
-state_unless : (error : WireFault) (bytes : List ℕ) → error ≢ Memory → UnlessFailed (wire_cause error) (ExplainsState error bytes) → ExplainsState error bytes
+state_unless : (error : WireFault) (bytes : List ℕ) → error ≢ Memory → UnlessFailed (wire_cause error) (ReasonForState error bytes) → ReasonForState error bytes
 state_unless Fault bytes other h = tt
 state_unless Memory bytes other h = absurd (other refl)
 state_unless error bytes other h = h
 
-pub State-explains : {X : Type 0} {view : X → Claim} {a b : Source} (r : Result X WireFault)
+pub State-reason : {X : Type 0} {view : X → Claim} {a b : Source} (r : Result X WireFault)
     → (r ≡ Err Memory → IfSome a.coming (MapAsks state_layout)) → ReadsAs wire_cause view state_at a b r
-    → IfErr r (λ error. IfSome a.coming (ExplainsState error))
-State-explains r memory h = Reads-explains r ExplainsState state_unless state_refusal memory h
+    → IfErr r (λ error. IfSome a.coming (ReasonForState error))
+State-reason r memory h = Reads-reason r ReasonForState state_unless state_refusal memory h

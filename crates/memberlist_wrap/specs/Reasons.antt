@@ -10,7 +10,7 @@ use Rattle.memberlist_cipher.specs.Label.{LabelCause}
 use Rattle.memberlist_wrap.specs.declared.fault.WrapFault.{WrapFault}
 use Rattle.memberlist_wrap.specs.declared.fault.WrapFault.TheVariants.{Ended, Trailing, BadChecksum, BadMap, BadAlgo, BadLabel, TooLarge, TooDeep, Memory}
 use Rattle.memberlist_wrap.specs.Crc.{IsCrc}
-use Rattle.memberlist_wrap.specs.Fault.{ExplainsLzw}
+use Rattle.memberlist_wrap.specs.Fault.{ReasonForLzw}
 use Rattle.memberlist_wrap.specs.Wrapping.{Wrapper, kind, Wrapped, IsBare}
 use Rattle.memberlist_wrap.specs.Wrapping.Wrapper.{compression, checksum, label}
 
@@ -29,7 +29,7 @@ fault_of_map cause = BadMap
 abbrev pub CompressionFails : ℕ → WrapFault → List ℕ → Type 0
 CompressionFails limit fault bytes =
     ((cause : WireFault) × (whole_compression bytes ≡ Err cause) × (fault ≡ fault_of_map cause))
-    ⊎ ((packed : List ℕ) × CompressionText bytes packed × ExplainsLzw limit fault packed)
+    ⊎ ((packed : List ℕ) × CompressionText bytes packed × ReasonForLzw limit fault packed)
 
 -- there are no four bytes, or they are not the CRC-32 of the rest
 abbrev pub ChecksumFails : WrapFault → List ℕ → Type 0
@@ -65,7 +65,7 @@ pub data FailsHere (depth limit : ℕ) (fault : WrapFault) (bytes : List ℕ) : 
   large : IsBare bytes → limit < length bytes → fault ≡ TooLarge → FailsHere depth limit fault bytes
 
 -- What a refusal says about bytes: they are wrappers, at most depth, around bytes that fail so.
-pub record ExplainsIn (depth limit : ℕ) (fault : WrapFault) (bytes : List ℕ) : Type 0 where
+pub record ReasonForIn (depth limit : ℕ) (fault : WrapFault) (bytes : List ℕ) : Type 0 where
   pub wrappers : List Wrapper
   pub inner : List ℕ
   pub few : length wrappers ≤ depth
