@@ -2,6 +2,6 @@
 use Rattle.std.specs.Prelude.{ℕ, List, [], ◌∷◌}
 
 -- those on the heap, or if there are none those inline
-abbrev pub held_bytes : List ℕ → List ℕ → List ℕ
-held_bytes in_place [] = in_place
-held_bytes in_place (byte ∷ bytes) = byte ∷ bytes
+abbrev pub small_bytes : List ℕ → List ℕ → List ℕ
+small_bytes inline [] = inline
+small_bytes inline (byte ∷ bytes) = byte ∷ bytes

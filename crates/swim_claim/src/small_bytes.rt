@@ -1,8 +1,8 @@
 //! Bytes, stored inline if they are few.
 ghost use Rattle.std.specs.Prelude.{◌≡◌, IfOk};
-ghost use Rattle.swim_claim.specs.Held.{held_bytes};
+ghost use Rattle.swim_claim.specs.SmallBytes.{small_bytes};
 
-use crate::short::Short;
+use crate::inline_bytes::InlineBytes;
 use std::alloc::{AllocError, Global};
 use std::marker::Model;
 
@@ -14,54 +14,54 @@ const IN_PLACE: usize = 30;
 /// It is not an enum of both forms, since each form would be a case of its own wherever a name is
 /// dropped.
 #[derive(Drop, Debug)]
-pub(crate) struct Held {
+pub(crate) struct SmallBytes {
     // empty if the bytes are on the heap
-    in_place: Short<IN_PLACE>,
+    inline: InlineBytes<IN_PLACE>,
     // empty, and then without memory, if the bytes are inline
-    apart: Vec<u8>,
+    heap: Vec<u8>,
 }
 
-impl Model for Held {
+impl Model for SmallBytes {
     ghost use Rattle.std.specs.Prelude.{ℕ, List};
-    ghost use Rattle.swim_claim.specs.Held.{held_bytes};
+    ghost use Rattle.swim_claim.specs.SmallBytes.{small_bytes};
 
     ghost Value = { List ℕ };
 
-    ghost view = { λ held. held_bytes held.in_place held.apart.items };
+    ghost view = { λ held. small_bytes held.inline held.heap.items };
 }
 
-impl Held {
+impl SmallBytes {
     /// These bytes.
-    pub(crate) fn new(alloc: Global, bytes: Vec<u8>) -> Held
+    pub(crate) fn new(alloc: Global, bytes: Vec<u8>) -> SmallBytes
         ensures { result ≡ bytes.items }
     {
         if bytes.len() <= IN_PLACE {
-            Held {
-                in_place: Short::new(&bytes),
-                apart: Vec::new(alloc),
+            SmallBytes {
+                inline: InlineBytes::new(&bytes),
+                heap: Vec::new(alloc),
             }
         } else {
-            Held {
-                in_place: Short::new(&[]),
-                apart: bytes,
+            SmallBytes {
+                inline: InlineBytes::new(&[]),
+                heap: bytes,
             }
         }
     }
 
     /// A copy of these bytes.
     #[inline(always)]
-    pub(crate) fn copied(alloc: Global, bytes: &[u8]) -> Result<Held, AllocError>
+    pub(crate) fn copied(alloc: Global, bytes: &[u8]) -> Result<SmallBytes, AllocError>
         ensures { IfOk result (λ held. held ≡ bytes.now) }
     {
         if bytes.len() <= IN_PLACE {
-            Ok(Held {
-                in_place: Short::new(bytes),
-                apart: Vec::new(alloc),
+            Ok(SmallBytes {
+                inline: InlineBytes::new(bytes),
+                heap: Vec::new(alloc),
             })
         } else {
-            Ok(Held {
-                in_place: Short::new(&[]),
-                apart: bytes.to_vec(alloc)?,
+            Ok(SmallBytes {
+                inline: InlineBytes::new(&[]),
+                heap: bytes.to_vec(alloc)?,
             })
         }
     }
@@ -69,10 +69,10 @@ impl Held {
     pub(crate) fn bytes(&self) -> &[u8]
         ensures { result.now ≡ self.now }
     {
-        if self.apart.is_empty() {
-            self.in_place.bytes()
+        if self.heap.is_empty() {
+            self.inline.bytes()
         } else {
-            &self.apart
+            &self.heap
         }
     }
 }

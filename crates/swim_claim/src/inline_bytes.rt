@@ -5,12 +5,12 @@ use std::marker::Model;
 
 /// At most N bytes, without memory of their own.
 #[derive(Drop, Debug)]
-pub(crate) struct Short<const N: usize> {
+pub(crate) struct InlineBytes<const N: usize> {
     bytes: [u8; N],
     len: u8,
 }
 
-impl<const N: usize> Model for Short<N> {
+impl<const N: usize> Model for InlineBytes<N> {
     ghost use Rattle.std.specs.Prelude.{ℕ, List, ◌≤◌, take};
 
     ghost Value = { List ℕ };
@@ -20,16 +20,16 @@ impl<const N: usize> Model for Short<N> {
     ghost invariant = { λ s. s.len ≤ N };
 }
 
-impl<const N: usize> Short<N> {
+impl<const N: usize> InlineBytes<N> {
     #[inline(always)]
-    pub(crate) fn new(bytes: &[u8]) -> Short<N>
+    pub(crate) fn new(bytes: &[u8]) -> InlineBytes<N>
         requires fits { length bytes.now ≤ N }
         requires small { length bytes.now ≤ 255 }
         ensures { result ≡ bytes.now }
     {
         let mut held = [0; N];
         held[..bytes.len()].copy_from_slice(bytes);
-        Short {
+        InlineBytes {
             bytes: held,
             len: bytes.len() as u8,
         }
@@ -42,10 +42,10 @@ impl<const N: usize> Short<N> {
     }
 
     /// A copy of the bytes.
-    pub(crate) fn again(&self) -> Short<N>
+    pub(crate) fn copy(&self) -> InlineBytes<N>
         ensures { result ≡ self.now }
     {
-        Short {
+        InlineBytes {
             bytes: self.bytes,
             len: self.len,
         }
