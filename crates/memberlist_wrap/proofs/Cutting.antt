@@ -6,7 +6,7 @@ use Rattle.std.proofs.lemmas.List.{append-nil, take_rest, get_or-take, drop-drop
 use Rattle.std.proofs.lemmas.Bool.{cases_lt}
 use Rattle.memberlist_wrap.specs.Lzw.{StandsFor}
 use Rattle.memberlist_wrap.specs.Lzw.StandsFor.{literal, again as repeated}
-use Rattle.memberlist_wrap.specs.Words.{next_start, words_at, AreStarts, again}
+use Rattle.memberlist_wrap.specs.Dictionary.{next_start, words_at, AreStarts, again}
 
 pub AreStarts-tail : (end s : ℕ) (r : List ℕ) → AreStarts end (s ∷ r) → AreStarts end r
 AreStarts-tail end s r are = record {

@@ -3,20 +3,20 @@ use Rattle.std.proofs.Common.{◌≡◌, ℕ, ◌<◌, ◌≤◌, inl, inr, fals
 use Rattle.std.proofs.lemmas.Bool.{cases_lt}
 use Rattle.std.proofs.lemmas.List.{length-append, length-take}
 use Rattle.memberlist_wrap.specs.Lzw.{kept_words, width}
-use Rattle.memberlist_wrap.specs.Words.{Made, made, words_at, AreKept}
+use Rattle.memberlist_wrap.specs.Dictionary.{DecoderState, decoder_state, words_at, AreKept}
 use Rattle.memberlist_wrap.proofs.Cutting.{AreStarts-kept, AreStarts-longer, words_at_kept, length-words_at}
 
-abbrev of : List ℕ → List (List ℕ) → Made
+abbrev of : List ℕ → List (List ℕ) → DecoderState
 of output words = record { output = output; words = words }
 
 -- what is seen after a word and its place were appended
-pub made_kept : (output starts v output' starts' : List ℕ) (n : ℕ) (now : Made) → n ≡ length output → made output starts ≡ now → AreKept (length output) starts
-    → output' ≡ output ++ v → starts' ≡ take 3840 (starts ++ n ∷ []) → made output' starts' ≡ of (now.output ++ v) (kept_words now.words v)
+pub made_kept : (output starts v output' starts' : List ℕ) (n : ℕ) (now : DecoderState) → n ≡ length output → decoder_state output starts ≡ now → AreKept (length output) starts
+    → output' ≡ output ++ v → starts' ≡ take 3840 (starts ++ n ∷ []) → decoder_state output' starts' ≡ of (now.output ++ v) (kept_words now.words v)
 made_kept output starts v output' starts' n now end seen are e f =
-    ap (λ o. made o starts') e
-    ∙ ap (λ s. made (output ++ v) s) (f ∙ ap (λ k. take 3840 (starts ++ k ∷ [])) end)
+    ap (λ o. decoder_state o starts') e
+    ∙ ap (λ s. decoder_state (output ++ v) s) (f ∙ ap (λ k. take 3840 (starts ++ k ∷ [])) end)
     ∙ ap (λ ws. of (output ++ v) ws) (words_at_kept 3839 output v starts are.0 are.1)
-    ∙ ap (λ (m : Made). of (m.output ++ v) (kept_words m.words v)) seen
+    ∙ ap (λ (m : DecoderState). of (m.output ++ v) (kept_words m.words v)) seen
 
 -- the places are kept
 pub AreKept-kept : (output v output' starts starts' : List ℕ) (n : ℕ) → n ≡ length output → AreKept (length output) starts
@@ -32,10 +32,10 @@ pub AreKept-longer : (end more : ℕ) (starts starts' : List ℕ) → AreKept en
 AreKept-longer end more starts starts' are up same = rw same (AreStarts-longer end more starts are.0 up, are.1)
 
 -- how many words are seen
-pub few_words : (output starts : List ℕ) (now : Made) → made output starts ≡ now → length now.words ≤ length starts
+pub few_words : (output starts : List ℕ) (now : DecoderState) → decoder_state output starts ≡ now → length now.words ≤ length starts
 few_words output starts now seen = omega (
   arith,
-  ap (λ (m : Made). length m.words) seen,
+  ap (λ (m : DecoderState). length m.words) seen,
   length-take 3839 (words_at output starts),
   length-words_at output starts,
 )
@@ -48,9 +48,9 @@ width_most n many =
     rw (first, second, third) refl
 
 -- a code is as wide after all places as after the words that are kept
-pub width_kept : (output starts : List ℕ) (now : Made) → made output starts ≡ now → width (length starts) ≡ width (length now.words)
+pub width_kept : (output starts : List ℕ) (now : DecoderState) → decoder_state output starts ≡ now → width (length starts) ≡ width (length now.words)
 width_kept output starts now seen =
-    let size : length now.words ≡ length (take 3839 (words_at output starts)) = ap (λ (m : Made). length m.words) (sym seen) in
+    let size : length now.words ≡ length (take 3839 (words_at output starts)) = ap (λ (m : DecoderState). length m.words) (sym seen) in
     let kept_size = length-take 3839 (words_at output starts) in
     let all = length-words_at output starts in
     elim (cases_lt (length starts) 3840) [

@@ -2,7 +2,7 @@ pub mod Bits
 pub mod Crc
 pub mod Registers
 pub mod Lzw
-pub mod Words
+pub mod Dictionary
 pub mod Wrapping
 pub mod Fault
 pub mod Reasons

@@ -4,21 +4,21 @@
 //! |---|---|
 //! | `fault` | why bytes are refused |
 //! | `crc` | the checksum before a packet |
-//! | `held_bits` | bits that were read and are not used yet |
-//! | `words` | the dictionary |
+//! | `bit_buffer` | bits that were read and are not used yet |
+//! | `dictionary` | the dictionary |
 //! | `lzw` | compressed bytes |
 //! | `outer` | the outer wrapper of bytes |
 //! | `wrappers` | nested wrappers |
 //! | `laws` | what holds for the definitions |
 #![tactic(auto)]
 
+mod bit_buffer;
 mod crc;
+mod dictionary;
 mod fault;
-mod held_bits;
 pub mod laws;
 mod lzw;
 mod outer;
-mod words;
 mod wrappers;
 
 pub use crc::crc32;

@@ -5,8 +5,8 @@ ghost use Rattle.memberlist_wrap.specs.Fault.{ReasonForLzw};
 ghost use Rattle.memberlist_wrap.specs.Lzw.{Lzw};
 
 use crate::WrapFault;
-use crate::held_bits::HeldBits;
-use crate::words::Words;
+use crate::bit_buffer::BitBuffer;
+use crate::dictionary::Dictionary;
 use std::alloc::Global;
 
 /// The code that resets the dictionary.
@@ -50,8 +50,8 @@ fn read_codes(alloc: Global, bytes: &[u8], limit: usize) -> Result<Vec<u8>, Wrap
     ensures err { IfErr result (λ fault. fault ≢ WrapFault.Memory
         → ReasonForLzw limit fault bytes.now) }
 {
-    let mut held = HeldBits::new();
-    let mut words = Words::new(alloc);
+    let mut held = BitBuffer::new();
+    let mut words = Dictionary::new(alloc);
     for (i, byte) in bytes.iter().enumerate() {
         held.add(*byte);
         match held.take(words.width()) {

@@ -1,5 +1,5 @@
 use Rattle.std.proofs.Common.{◌≡◌, ℕ, ◌+◌, ◌-◌, ◌<◌, ◌≤◌, ◌⊎◌, arith}
-use Rattle.memberlist_wrap.proofs.words.Words.append.Goals as goal
+use Rattle.memberlist_wrap.proofs.dictionary.Dictionary.append.Goals as goal
 
 of_place : (code : ℕ) → (code < 256) ⊎ (258 ≤ code) → 256 ≤ code → 258 + (code - 258) ≡ code
 of_place code known high = omega arith

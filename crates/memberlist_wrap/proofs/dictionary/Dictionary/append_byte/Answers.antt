@@ -1,6 +1,6 @@
 use Rattle.std.proofs.Common.{◌≡◌, length, [], ◌∷◌, arith}
 use Rattle.memberlist_wrap.proofs.Keeping.{made_kept, AreKept-kept}
-use Rattle.memberlist_wrap.proofs.words.Words.append_byte.Goals as goal
+use Rattle.memberlist_wrap.proofs.dictionary.Dictionary.append_byte.Goals as goal
 
 pub invariant_of-self-2 : goal.invariant_of-self-2
 invariant_of-self-2 c =

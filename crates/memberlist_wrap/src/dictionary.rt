@@ -2,7 +2,7 @@
 
 ghost use Rattle.std.specs.Prelude.{◌≡◌, ℕ, List, [], ◌∷◌, ◌++◌, ◌+◌, ◌-◌, ◌<◌, ◌≤◌, ◌⊎◌, length, take, drop, IfOk, IfErr, IsErrOf, IsOkUnless, OnOk, OnErr, vec_len};
 ghost use Rattle.memberlist_wrap.specs.Lzw.{kept_words, width, StandsFor};
-ghost use Rattle.memberlist_wrap.specs.Words.{Made, made, AreKept, next_start, again};
+ghost use Rattle.memberlist_wrap.specs.Dictionary.{DecoderState, decoder_state, AreKept, next_start, again};
 
 use crate::WrapFault;
 use std::alloc::Global;
@@ -17,25 +17,25 @@ const MOST_STARTS: usize = 3840;
 
 /// The output so far, and where in it the words since the last clear code start.
 #[derive(Drop)]
-pub(crate) struct Words {
+pub(crate) struct Dictionary {
     output: Vec<u8>,
     starts: Vec<usize>,
 }
 
-impl Model for Words {
-    ghost Value = { Made };
+impl Model for Dictionary {
+    ghost Value = { DecoderState };
 
-    ghost view = { λ words. made words.output.items words.starts.items };
+    ghost view = { λ words. decoder_state words.output.items words.starts.items };
 
     ghost invariant = { λ words. AreKept (length words.output.items) words.starts.items };
 }
 
-impl Words {
+impl Dictionary {
     /// No output, and no words.
-    pub(crate) fn new(alloc: Global) -> Words
+    pub(crate) fn new(alloc: Global) -> Dictionary
         ensures { result ≡ record { output = []; words = [] } }
     {
-        Words {
+        Dictionary {
             output: Vec::new(alloc),
             starts: Vec::new(alloc),
         }
@@ -59,7 +59,7 @@ impl Words {
     pub(crate) fn into_output(self) -> Vec<u8>
         ensures { result.items ≡ self.output }
     {
-        let Words { output, starts: _ } = self;
+        let Dictionary { output, starts: _ } = self;
         output
     }
 

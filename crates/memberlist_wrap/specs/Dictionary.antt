@@ -2,7 +2,7 @@
 use Rattle.std.specs.Prelude.{ℕ, suc, ◌-◌, ◌<◌, ◌≤◌, List, [], ◌∷◌, ◌++◌, length, take, drop, slice_index}
 
 -- the output, and the words since the last clear code
-pub record Made : Type 0 where
+pub record DecoderState : Type 0 where
   pub output : List ℕ
   pub words : List (List ℕ)
 
@@ -18,8 +18,8 @@ words_at output (start ∷ starts) =
     take (next_start (length output) starts - start) (drop start output) ∷ words_at output starts
 
 -- the state of the decoder: the place after the words that are kept ends the last of them
-abbrev pub made : List ℕ → List ℕ → Made
-made output starts = record { output = output; words = take 3839 (words_at output starts) }
+abbrev pub decoder_state : List ℕ → List ℕ → DecoderState
+decoder_state output starts = record { output = output; words = take 3839 (words_at output starts) }
 
 -- the places ascend, and there is a byte at each
 pub record AreStarts (end : ℕ) (starts : List ℕ) : Type 0 where

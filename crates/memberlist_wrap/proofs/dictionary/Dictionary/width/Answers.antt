@@ -1,7 +1,7 @@
 use Rattle.std.proofs.Common.{◌≡◌, length, arith, ap, ◌∙◌}
 use Rattle.memberlist_wrap.specs.Lzw.{width}
 use Rattle.memberlist_wrap.proofs.Keeping.{width_kept}
-use Rattle.memberlist_wrap.proofs.words.Words.width.Goals as goal
+use Rattle.memberlist_wrap.proofs.dictionary.Dictionary.width.Goals as goal
 
 pub returns : goal.returns
 returns c =

@@ -1,9 +1,9 @@
 use Rattle.std.proofs.Common.{◌≡◌, ◌+◌, length, arith, ap, subst}
 use Rattle.memberlist_wrap.specs.Lzw.{StandsFor}
-use Rattle.memberlist_wrap.specs.Words.{Made, made, again}
+use Rattle.memberlist_wrap.specs.Dictionary.{DecoderState, decoder_state, again}
 use Rattle.memberlist_wrap.proofs.Cutting.{length-again, read_ends, Stands-read}
 use Rattle.memberlist_wrap.proofs.Keeping.{made_kept, AreKept-kept, few_words}
-use Rattle.memberlist_wrap.proofs.words.Words.append_again.Goals as goal
+use Rattle.memberlist_wrap.proofs.dictionary.Dictionary.append_again.Goals as goal
 
 pub returns-then-place-len-clause-bad : goal.returns-then-place-len-clause-bad
 returns-then-place-len-clause-bad c e =
@@ -31,12 +31,12 @@ returns-then-to-from-clause-large c e =
     (omega (arith, c.len-start.ensures, inside.output.ok.0)) c.deref.ensures.value c.index-from.ensures c.start_after-to.ensures
     in
     let word = again inside.output.items c.index-from.result.now c.start_after-to.result in
-    let P : Made → Type 0 = λ m. StandsFor m.words (258 + c.args.place) word in
-    let stands : P (made inside.output.items inside.starts.items) =
+    let P : DecoderState → Type 0 = λ m. StandsFor m.words (258 + c.args.place) word in
+    let stands : P (decoder_state inside.output.items inside.starts.items) =
     Stands-read 3839 inside.output.items inside.starts.items c.args.place _ _ c.self.invariant.0
     (omega (arith, c.len.ensures, inside.starts.ok.0)) (omega arith) ends in
     let start : c.len-start.result ≡ length c.args.self.now.output =
-    omega (arith, c.len-start.ensures, inside.output.ok.0, ap (λ (m : Made). length m.output) c.self.view_is) in (
+    omega (arith, c.len-start.ensures, inside.output.ok.0, ap (λ (m : DecoderState). length m.output) c.self.view_is) in (
       word,
       subst P c.self.view_is stands,
       omega (arith, start, ends.some, c.requires.short, length-again inside.output.items c.index-from.result.now c.start_after-to.result ends.some ends.within),
@@ -92,8 +92,8 @@ returns-clause-appends c =
     in
     let start : c.len-start.result ≡ length inside.output.items = omega (arith, c.len-start.ensures, inside.output.ok.0) in
     let word = again inside.output.items c.index-from.result.now c.start_after-to.result in
-    let P : Made → Type 0 = λ m. StandsFor m.words (258 + c.args.place) word in
-    let stands : P (made inside.output.items inside.starts.items) =
+    let P : DecoderState → Type 0 = λ m. StandsFor m.words (258 + c.args.place) word in
+    let stands : P (decoder_state inside.output.items inside.starts.items) =
     Stands-read 3839 inside.output.items inside.starts.items c.args.place _ _ c.self.invariant.0
     (omega (arith, c.len.ensures, inside.starts.ok.0)) (omega arith) ends in (
       word,
