@@ -17,14 +17,14 @@ pad_once a b e =
     let size : length a ≡ length b = omega (arith, whole, last, pad_length a, pad_length b) in
     (append_split a b (replicate (16 - length a % 16) (16 - length a % 16)) (replicate (16 - length b % 16) (16 - length b % 16)) size e).0
 
-pub one_message : (key associated bytes x y : List ℕ) → Encryption key associated bytes x → Encryption key associated bytes y → x ≡ y
-one_message key associated bytes x y a b =
+pub one_message : (key aad bytes x y : List ℕ) → Encryption key aad bytes x → Encryption key aad bytes y → x ≡ y
+one_message key aad bytes x y a b =
     let sizes = good_sizes key a.good_key in
-    let p = made key associated bytes x sizes a in
-    let q = made key associated bytes y sizes b in
-    let one = cut_once p.version q.version p.nonce q.nonce p.inner q.inner _ _ p.size q.size
-    (length-tag (aes key) sizes p.nonce associated p.inner) (length-tag (aes key) sizes q.nonce associated q.inner) (sym p.text ∙ q.text) in
-    let same : ctr (aes key) p.nonce p.inner ≡ ctr (aes key) q.nonce q.inner = ap₂ (λ (m n : List ℕ). ctr (aes key) m n) one.1 one.2 in
+    let p = made key aad bytes x sizes a in
+    let q = made key aad bytes y sizes b in
+    let one = cut_once p.version q.version p.nonce q.nonce p.ciphertext q.ciphertext _ _ p.size q.size
+    (length-tag (aes key) sizes p.nonce aad p.ciphertext) (length-tag (aes key) sizes q.nonce aad q.ciphertext) (sym p.text ∙ q.text) in
+    let same : ctr (aes key) p.nonce p.ciphertext ≡ ctr (aes key) q.nonce q.ciphertext = ap₂ (λ (m n : List ℕ). ctr (aes key) m n) one.1 one.2 in
     elim (cases_lt p.version 1) [
       | inl none ↦ pad_once x y (p.is_padded (omega arith) ∙ same ∙ sym (q.is_padded (omega (arith, one.0))))
       | inr some ↦ p.is_plain (omega arith) ∙ same ∙ sym (q.is_plain (omega (arith, one.0)))
@@ -32,5 +32,5 @@ one_message key associated bytes x y a b =
 
 pub one_stream_message : (key label bytes x y : List ℕ) → StreamEncryption key label bytes x → StreamEncryption key label bytes y → x ≡ y
 one_stream_message key label bytes x y a b =
-    let same = one_inner bytes b.inner a.inner b.stream a.stream in
-    one_message key (head (length a.inner) ++ label) a.inner x y a.encryption (encryption_along key label b.inner a.inner y same b.encryption)
+    let same = one_inner bytes b.ciphertext a.ciphertext b.stream a.stream in
+    one_message key (head (length a.ciphertext) ++ label) a.ciphertext x y a.encryption (encryption_along key label b.ciphertext a.ciphertext y same b.encryption)

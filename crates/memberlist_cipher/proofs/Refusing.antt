@@ -15,31 +15,31 @@ append_split (p ∷ a) (q ∷ b) x y size e =
     let heads : p ≡ q = cc in
     (ap₂ (λ (z : ℕ) (zs : List ℕ). z ∷ zs) heads rest.0, rest.1)
 
-pub length-tag : (f : List ℕ → List ℕ) → ((s : List ℕ) → length (f s) ≡ 16) → (nonce associated c : List ℕ) → length (tag f nonce associated c) ≡ 16
+pub length-tag : (f : List ℕ → List ℕ) → ((s : List ℕ) → length (f s) ≡ 16) → (nonce aad c : List ℕ) → length (tag f nonce aad c) ≡ 16
 unfolding tag
-length-tag f sizes nonce associated c = length-plus _ (f (counter_block nonce 1)) (omega (arith, sizes (counter_block nonce 1)))
+length-tag f sizes nonce aad c = length-plus _ (f (counter_block nonce 1)) (omega (arith, sizes (counter_block nonce 1)))
 
 -- the parts of encrypted bytes
-pub record Made (key associated bytes message : List ℕ) : Type 0 where
+pub record Made (key aad bytes message : List ℕ) : Type 0 where
   pub version : ℕ
   pub nonce : List ℕ
-  pub inner : List ℕ
+  pub ciphertext : List ℕ
   pub small : version < 2
   pub size : length nonce ≡ 12
-  pub text : bytes ≡ version ∷ (nonce ++ (inner ++ tag (aes key) nonce associated inner))
-  pub is_padded : version ≡ 0 → padded message ≡ ctr (aes key) nonce inner
-  pub is_plain : 0 < version → message ≡ ctr (aes key) nonce inner
+  pub text : bytes ≡ version ∷ (nonce ++ (ciphertext ++ tag (aes key) nonce aad ciphertext))
+  pub is_padded : version ≡ 0 → padded message ≡ ctr (aes key) nonce ciphertext
+  pub is_plain : 0 < version → message ≡ ctr (aes key) nonce ciphertext
 
-pub made : (key associated bytes message : List ℕ) → ((s : List ℕ) → length (aes key s) ≡ 16)
-    → Encryption key associated bytes message → Made key associated bytes message
+pub made : (key aad bytes message : List ℕ) → ((s : List ℕ) → length (aes key s) ≡ 16)
+    → Encryption key aad bytes message → Made key aad bytes message
 unfolding sealed
-made key associated bytes message sizes s =
+made key aad bytes message sizes s =
     elim s.text [
       | inl e ↦
           record {
             version = 0;
             nonce = s.nonce;
-            inner = ctr (aes key) s.nonce (padded message);
+            ciphertext = ctr (aes key) s.nonce (padded message);
             small = omega arith;
             size = s.nonce_size;
             text = e;
@@ -50,7 +50,7 @@ made key associated bytes message sizes s =
           record {
             version = 1;
             nonce = s.nonce;
-            inner = ctr (aes key) s.nonce message;
+            ciphertext = ctr (aes key) s.nonce message;
             small = omega arith;
             size = s.nonce_size;
             text = e;
@@ -71,16 +71,16 @@ cut_once v w n m c d t u hn hm ht hu e =
     let second = append_split c d t u (omega arith) first.1 in
     (head, first.0, second.0, second.1)
 
-pub bad_tag : (key associated bytes message : List ℕ) → ((s : List ℕ) → length (aes key s) ≡ 16) → (v : ℕ) (n c t : List ℕ)
-    → length n ≡ 12 → length t ≡ 16 → bytes ≡ v ∷ (n ++ (c ++ t)) → t ≢ tag (aes key) n associated c → ¬ Encryption key associated bytes message
-bad_tag key associated bytes message sizes v n c t hn ht e wrong s =
-    let x = made key associated bytes message sizes s in
-    let one = cut_once v x.version n x.nonce c x.inner t _ hn x.size ht (length-tag (aes key) sizes x.nonce associated x.inner) (sym e ∙ x.text) in
-    wrong (one.3 ∙ ap₂ (λ (a b : List ℕ). tag (aes key) a associated b) (sym one.1) (sym one.2))
+pub bad_tag : (key aad bytes message : List ℕ) → ((s : List ℕ) → length (aes key s) ≡ 16) → (v : ℕ) (n c t : List ℕ)
+    → length n ≡ 12 → length t ≡ 16 → bytes ≡ v ∷ (n ++ (c ++ t)) → t ≢ tag (aes key) n aad c → ¬ Encryption key aad bytes message
+bad_tag key aad bytes message sizes v n c t hn ht e wrong s =
+    let x = made key aad bytes message sizes s in
+    let one = cut_once v x.version n x.nonce c x.ciphertext t _ hn x.size ht (length-tag (aes key) sizes x.nonce aad x.ciphertext) (sym e ∙ x.text) in
+    wrong (one.3 ∙ ap₂ (λ (a b : List ℕ). tag (aes key) a aad b) (sym one.1) (sym one.2))
 
-pub bad_padding : (key associated bytes message : List ℕ) → ((s : List ℕ) → length (aes key s) ≡ 16) → (v : ℕ) (n c t : List ℕ)
-    → length n ≡ 12 → length t ≡ 16 → bytes ≡ v ∷ (n ++ (c ++ t)) → v ≡ 0 → padded message ≢ ctr (aes key) n c → ¬ Encryption key associated bytes message
-bad_padding key associated bytes message sizes v n c t hn ht e none wrong s =
-    let x = made key associated bytes message sizes s in
-    let one = cut_once v x.version n x.nonce c x.inner t _ hn x.size ht (length-tag (aes key) sizes x.nonce associated x.inner) (sym e ∙ x.text) in
+pub bad_padding : (key aad bytes message : List ℕ) → ((s : List ℕ) → length (aes key s) ≡ 16) → (v : ℕ) (n c t : List ℕ)
+    → length n ≡ 12 → length t ≡ 16 → bytes ≡ v ∷ (n ++ (c ++ t)) → v ≡ 0 → padded message ≢ ctr (aes key) n c → ¬ Encryption key aad bytes message
+bad_padding key aad bytes message sizes v n c t hn ht e none wrong s =
+    let x = made key aad bytes message sizes s in
+    let one = cut_once v x.version n x.nonce c x.ciphertext t _ hn x.size ht (length-tag (aes key) sizes x.nonce aad x.ciphertext) (sym e ∙ x.text) in
     wrong (x.is_padded (sym one.0 ∙ none) ∙ ap₂ (λ (a b : List ℕ). ctr (aes key) a b) (sym one.1) (sym one.2))

@@ -17,23 +17,23 @@ pub good_sizes : (key : List ℕ) → IsKey key → (s : List ℕ) → length (a
 good_sizes key good = aes_sizes key (length-schedule key good)
 
 -- a tag and a text by the schedule are those by the key
-pub tag_is : (key w words nonce associated inner t : List ℕ) → w ≡ words → words ≡ schedule key
-    → t ≡ tag (cipher w (length key / 4 + 5)) nonce associated inner → t ≡ tag (aes key) nonce associated inner
+pub tag_is : (key w words nonce aad ciphertext t : List ℕ) → w ≡ words → words ≡ schedule key
+    → t ≡ tag (cipher w (length key / 4 + 5)) nonce aad ciphertext → t ≡ tag (aes key) nonce aad ciphertext
 unfolding aes
-tag_is key w words nonce associated inner t same is e = e ∙ ap (λ (x : List ℕ). tag (cipher x (length key / 4 + 5)) nonce associated inner) (same ∙ is)
+tag_is key w words nonce aad ciphertext t same is e = e ∙ ap (λ (x : List ℕ). tag (cipher x (length key / 4 + 5)) nonce aad ciphertext) (same ∙ is)
 
-pub ctr_is : (key w words nonce inner t : List ℕ) → w ≡ words → words ≡ schedule key
-    → t ≡ ctr (cipher w (length key / 4 + 5)) nonce inner → t ≡ ctr (aes key) nonce inner
+pub ctr_is : (key w words nonce ciphertext t : List ℕ) → w ≡ words → words ≡ schedule key
+    → t ≡ ctr (cipher w (length key / 4 + 5)) nonce ciphertext → t ≡ ctr (aes key) nonce ciphertext
 unfolding aes
-ctr_is key w words nonce inner t same is e = e ∙ ap (λ (x : List ℕ). ctr (cipher x (length key / 4 + 5)) nonce inner) (same ∙ is)
+ctr_is key w words nonce ciphertext t same is e = e ∙ ap (λ (x : List ℕ). ctr (cipher x (length key / 4 + 5)) nonce ciphertext) (same ∙ is)
 
 -- bytes with their tag are the encrypted message
-pub seal_again : (key nonce associated c t m : List ℕ) → ((s : List ℕ) → length (aes key s) ≡ 16)
-    → t ≡ tag (aes key) nonce associated c → m ≡ ctr (aes key) nonce c → c ++ t ≡ sealed key nonce associated m
+pub seal_again : (key nonce aad c t m : List ℕ) → ((s : List ℕ) → length (aes key s) ≡ 16)
+    → t ≡ tag (aes key) nonce aad c → m ≡ ctr (aes key) nonce c → c ++ t ≡ sealed key nonce aad m
 unfolding sealed
-seal_again key nonce associated c t m sizes is plain =
+seal_again key nonce aad c t m sizes is plain =
     let back : ctr (aes key) nonce m ≡ c = ap (ctr (aes key) nonce) plain ∙ ctr_twice (aes key) sizes nonce c in
-    ap (λ (x : List ℕ). c ++ x) is ∙ sym (ap (λ (x : List ℕ). x ++ tag (aes key) nonce associated x) back)
+    ap (λ (x : List ℕ). c ++ x) is ∙ sym (ap (λ (x : List ℕ). x ++ tag (aes key) nonce aad x) back)
 
 pub pad_back : (items : List ℕ) (more : ℕ) → length items % 16 ≡ 0 → 0 < more → more ≤ 16 → more ≤ length items
     → drop (length items - more) items ≡ replicate more more → padded (take (length items - more) items) ≡ items

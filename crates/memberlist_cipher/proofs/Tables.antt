@@ -5,7 +5,7 @@ use Rattle.memberlist_cipher.specs.Field.{carryless, modulo, product, inverse_up
 use Rattle.memberlist_cipher.specs.Gcm.{times_x}
 use Rattle.memberlist_cipher.specs.Products.{shifted}
 use Rattle.memberlist_cipher.specs.declared.field.TheConstants.{SBOX, POWERS}
-use Rattle.memberlist_cipher.specs.declared.hashing.TheConstants.{REDUCE}
+use Rattle.memberlist_cipher.specs.declared.ghash.TheConstants.{REDUCE}
 
 agree : (ℕ → ℕ) → ℕ → List ℕ → Bool
 agree f i [] = true

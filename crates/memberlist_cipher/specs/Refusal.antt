@@ -12,20 +12,20 @@ use Rattle.memberlist_cipher.specs.Encryption.{IsKey, IsWithin, padded, head, Is
 pub record PacketParts (bytes : List ℕ) : Type 0 where
   pub version : ℕ
   pub nonce : List ℕ
-  pub inner : List ℕ
-  pub mark : List ℕ
+  pub ciphertext : List ℕ
+  pub tag : List ℕ
   pub known : version < 2
   pub nonce_size : length nonce ≡ 12
-  pub mark_size : length mark ≡ 16
-  pub text : bytes ≡ version ∷ (nonce ++ (inner ++ mark))
+  pub tag_size : length tag ≡ 16
+  pub text : bytes ≡ version ∷ (nonce ++ (ciphertext ++ tag))
 
 -- the tag is right
-abbrev pub IsTagged : (key associated bytes : List ℕ) → PacketParts bytes → Type 0
-IsTagged key associated bytes l = l.mark ≡ tag (aes key) l.nonce associated l.inner
+abbrev pub IsTagged : (key aad bytes : List ℕ) → PacketParts bytes → Type 0
+IsTagged key aad bytes l = l.tag ≡ tag (aes key) l.nonce aad l.ciphertext
 
 -- the plaintext is not a padded message
 abbrev pub IsUnpadded : (key bytes : List ℕ) → PacketParts bytes → Type 0
-IsUnpadded key bytes l = (message : List ℕ) → padded message ≢ ctr (aes key) l.nonce l.inner
+IsUnpadded key bytes l = (message : List ℕ) → padded message ≢ ctr (aes key) l.nonce l.ciphertext
 
 -- why bytes do not have the layout
 abbrev pub FormCause : CipherFault → List ℕ → Type 0
@@ -53,21 +53,21 @@ KeyCause Trailing key = ⊥
 
 -- why decrypt refuses
 abbrev pub PacketCause : CipherFault → List ℕ → List ℕ → List ℕ → Type 0
-PacketCause BadKey key associated bytes = ¬ IsKey key
-PacketCause TooLong key associated bytes = IsKey key × ¬ IsWithin associated bytes
-PacketCause TooShort key associated bytes =
-    IsKey key × IsWithin associated bytes × (length bytes < 29)
-PacketCause WrongVersion key associated bytes =
-    IsKey key × IsWithin associated bytes × (29 ≤ length bytes) × (1 < slice_index bytes 0)
-PacketCause WrongTag key associated bytes =
-    IsKey key × IsWithin associated bytes × (l : PacketParts bytes)
-    × ¬ IsTagged key associated bytes l
-PacketCause BadPadding key associated bytes =
-    IsKey key × IsWithin associated bytes × (l : PacketParts bytes)
-    × IsTagged key associated bytes l × (l.version ≡ 0) × IsUnpadded key bytes l
-PacketCause Memory key associated bytes = IsKey key × IsWithin associated bytes × PacketParts bytes
-PacketCause NotEncrypted key associated bytes = ⊥
-PacketCause Trailing key associated bytes = ⊥
+PacketCause BadKey key aad bytes = ¬ IsKey key
+PacketCause TooLong key aad bytes = IsKey key × ¬ IsWithin aad bytes
+PacketCause TooShort key aad bytes =
+    IsKey key × IsWithin aad bytes × (length bytes < 29)
+PacketCause WrongVersion key aad bytes =
+    IsKey key × IsWithin aad bytes × (29 ≤ length bytes) × (1 < slice_index bytes 0)
+PacketCause WrongTag key aad bytes =
+    IsKey key × IsWithin aad bytes × (l : PacketParts bytes)
+    × ¬ IsTagged key aad bytes l
+PacketCause BadPadding key aad bytes =
+    IsKey key × IsWithin aad bytes × (l : PacketParts bytes)
+    × IsTagged key aad bytes l × (l.version ≡ 0) × IsUnpadded key bytes l
+PacketCause Memory key aad bytes = IsKey key × IsWithin aad bytes × PacketParts bytes
+PacketCause NotEncrypted key aad bytes = ⊥
+PacketCause Trailing key aad bytes = ⊥
 
 -- how many bytes a stream's head announces
 abbrev pub announced : List ℕ → ℕ
@@ -96,8 +96,8 @@ HeadCause Memory bytes = ⊥
 abbrev pub StreamCause : CipherFault → List ℕ → List ℕ → List ℕ → Type 0
 StreamCause fault key label bytes =
     HeadCause fault bytes
-    ⊎ ((inner : List ℕ) × IsStream bytes inner
-    × ((fault ≡ Memory) ⊎ PacketCause fault key (head (length inner) ++ label) inner))
+    ⊎ ((ciphertext : List ℕ) × IsStream bytes ciphertext
+    × ((fault ≡ Memory) ⊎ PacketCause fault key (head (length ciphertext) ++ label) ciphertext))
 
 -- why encryption is refused, for bytes that may or may not be encrypted
 abbrev pub EncryptCause : Type 0 → CipherFault → Type 0

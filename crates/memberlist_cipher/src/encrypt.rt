@@ -6,11 +6,11 @@ ghost use Rattle.memberlist_cipher.specs.Refusal.{EncryptCause};
 
 use crate::CipherFault;
 use crate::appending::append;
-use crate::counting::append_ctr;
+use crate::ctr::append_ctr;
+use crate::decryption::{MOST_ASSOCIATED, MOST_BYTES};
 use crate::key::Key;
-use crate::opening::{MOST_ASSOCIATED, MOST_BYTES};
-use crate::stream::{MOST_BYTES as MOST_STREAM_BYTES, associated_bytes};
-use crate::tagging::tag;
+use crate::stream::{MOST_BYTES as MOST_STREAM_BYTES, stream_aad};
+use crate::tag::tag;
 use std::alloc::Global;
 
 /// How many bytes longer an encryption is than its message: its version, its nonce and its tag.
@@ -33,22 +33,22 @@ impl Key {
         &self,
         alloc: Global,
         nonce: &[u8; 12],
-        associated: &[u8],
+        aad: &[u8],
         message: &[u8],
     ) -> Result<Vec<u8>, CipherFault>
         ensures encrypts { IfOk result (λ bytes.
-            Encryption self.now associated.now bytes.items message.now) }
+            Encryption self.now aad.now bytes.items message.now) }
         ensures bytes { IfOk result (λ bytes.
-            bytes.items ≡ encrypted self.now nonce.now associated.now message.now) }
+            bytes.items ≡ encrypted self.now nonce.now aad.now message.now) }
         ensures size { IfOk result (λ bytes. vec_capacity bytes ≡ 29 + length message.now) }
-        ensures within { OnOk result (MayEncrypt associated.now message.now) }
-        ensures refuses { IfErr result (EncryptCause (MayEncrypt associated.now message.now)) }
+        ensures within { OnOk result (MayEncrypt aad.now message.now) }
+        ensures refuses { IfErr result (EncryptCause (MayEncrypt aad.now message.now)) }
     {
-        if !may_encrypt(associated, message) {
+        if !may_encrypt(aad, message) {
             return Err(CipherFault::TooLong);
         }
         let mut bytes = Vec::with_capacity(alloc, MORE + message.len())?;
-        append_encrypted(&mut bytes, self, nonce, associated, message);
+        append_encrypted(&mut bytes, self, nonce, aad, message);
         Ok(bytes)
     }
 
@@ -84,20 +84,20 @@ impl Key {
         }
         let len = MORE + message.len();
         let head = head_of(len);
-        let associated = associated_bytes(alloc, &head, label)?;
+        let aad = stream_aad(alloc, &head, label)?;
         let mut bytes = Vec::with_capacity(alloc, head.len() + len)?;
         append(&mut bytes, &head);
-        append_encrypted(&mut bytes, self, nonce, &associated, message);
+        append_encrypted(&mut bytes, self, nonce, &aad, message);
         Ok(bytes)
     }
 }
 
 /// Whether the standard allows this many bytes.
-fn may_encrypt(associated: &[u8], message: &[u8]) -> bool
-    ensures { MatchBool result (MayEncrypt associated.now message.now)
-        (¬ MayEncrypt associated.now message.now) }
+fn may_encrypt(aad: &[u8], message: &[u8]) -> bool
+    ensures { MatchBool result (MayEncrypt aad.now message.now)
+        (¬ MayEncrypt aad.now message.now) }
 {
-    message.len() <= MOST_BYTES - MORE && associated.len() <= MOST_ASSOCIATED
+    message.len() <= MOST_BYTES - MORE && aad.len() <= MOST_ASSOCIATED
 }
 
 /// Whether a stream may hold this many bytes.
@@ -118,18 +118,12 @@ fn head_of(len: usize) -> [u8; 5]
 }
 
 /// Appends the encryption of a message. There is room for it.
-fn append_encrypted(
-    to: &mut Vec<u8>,
-    key: &Key,
-    nonce: &[u8; 12],
-    associated: &[u8],
-    message: &[u8],
-)
+fn append_encrypted(to: &mut Vec<u8>, key: &Key, nonce: &[u8; 12], aad: &[u8], message: &[u8])
     requires room { vec_len to.old + 29 + length message.now ≤ vec_capacity to.old }
     requires message { length message.now < 2 ^ 36 }
-    requires associated { length associated.now < 2 ^ 61 }
+    requires aad { length aad.now < 2 ^ 61 }
     ensures items { to.new.items
-        ≡ to.old.items ++ encrypted key.now nonce.now associated.now message.now }
+        ≡ to.old.items ++ encrypted key.now nonce.now aad.now message.now }
     ensures good_key { IsKey key.now }
     ensures in_place { vec_capacity to.new ≡ vec_capacity to.old }
 {
@@ -139,6 +133,6 @@ fn append_encrypted(
     append(to, nonce);
     let start = to.len();
     append_ctr(to, words, count, nonce, message);
-    let mark = tag(words, count, &key.factor, associated, nonce, &to[start..]);
-    append(to, &mark);
+    let tag_bytes = tag(words, count, &key.ghash_key, aad, nonce, &to[start..]);
+    append(to, &tag_bytes);
 }

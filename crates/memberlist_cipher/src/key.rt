@@ -7,7 +7,7 @@ ghost use Rattle.memberlist_cipher.specs.Refusal.{KeyCause};
 
 use crate::CipherFault;
 use crate::block::cipher;
-use crate::hashing::Factor;
+use crate::ghash::GhashKey;
 use crate::schedule::{RoundKeys, round_keys};
 use std::alloc::{AllocError, Global};
 use std::marker::Model;
@@ -19,7 +19,7 @@ use std::marker::Model;
 #[derive(Drop)]
 pub struct Key {
     pub(crate) round_keys: RoundKeys,
-    pub(crate) factor: Factor,
+    pub(crate) ghash_key: GhashKey,
 }
 
 impl Model for Key {
@@ -28,7 +28,7 @@ impl Model for Key {
     ghost view = { λ key. scheduled_key key.round_keys.words.items };
 
     ghost invariant = { λ key. IsPrepared (scheduled_key key.round_keys.words.items)
-        key.round_keys.words.items key.factor };
+        key.round_keys.words.items key.ghash_key };
 }
 
 impl Key {
@@ -60,8 +60,11 @@ pub(crate) fn prepared(alloc: Global, bytes: &[u8]) -> Result<Key, AllocError>
     let round_keys = round_keys(alloc, bytes)?;
     let count = bytes.len() / 4 + 5;
     let h = u128::from_be_bytes(cipher(&round_keys.words, count, [0u8; 16]));
-    let factor = Factor::new(alloc, h)?;
-    Ok(Key { round_keys, factor })
+    let ghash_key = GhashKey::new(alloc, h)?;
+    Ok(Key {
+        round_keys,
+        ghash_key,
+    })
 }
 
 /// Whether bytes can be a key, that is, are 16, 24 or 32 (FIPS 197; memberlist's security.go).

@@ -7,17 +7,17 @@ ghost use Rattle.memberlist_cipher.specs.Label.{IsLabelled, IsLabelText};
 
 /// For one key and the same associated bytes, bytes are the encryption of at most one message.
 pub fn one_message()
-    ensures packet { (key associated bytes x y : List ℕ) → Encryption key associated bytes x
-        → Encryption key associated bytes y → x ≡ y }
+    ensures packet { (key aad bytes x y : List ℕ) → Encryption key aad bytes x
+        → Encryption key aad bytes y → x ≡ y }
     ensures stream { (key label bytes x y : List ℕ) → StreamEncryption key label bytes x
         → StreamEncryption key label bytes y → x ≡ y }
 {}
 
 /// What is encrypted is an encryption of its message, and of no other.
 pub fn encrypted_is_opened()
-    ensures packet { (key nonce associated message : List ℕ) → IsKey key → length nonce ≡ 12
-        → MayEncrypt associated message
-        → HoldsOnly (Encryption key associated (encrypted key nonce associated message)) message }
+    ensures packet { (key nonce aad message : List ℕ) → IsKey key → length nonce ≡ 12
+        → MayEncrypt aad message
+        → HoldsOnly (Encryption key aad (encrypted key nonce aad message)) message }
     ensures stream { (key nonce label message : List ℕ) → IsKey key → length nonce ≡ 12
         → MayEncryptStream label message
         → HoldsOnly (StreamEncryption key label (encrypted_stream key nonce label message))

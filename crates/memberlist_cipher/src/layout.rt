@@ -10,8 +10,8 @@ use crate::CipherFault;
 pub(crate) struct Parts<'a> {
     pub(crate) version: u8,
     pub(crate) nonce: &'a [u8],
-    pub(crate) inner: &'a [u8],
-    pub(crate) mark: &'a [u8],
+    pub(crate) ciphertext: &'a [u8],
+    pub(crate) tag: &'a [u8],
 }
 
 /// Splits encrypted bytes into their parts.
@@ -21,10 +21,10 @@ pub(crate) struct Parts<'a> {
 /// `TooShort` if there are fewer than 29 bytes, `WrongVersion` if the first byte is above 1.
 pub(crate) fn parts_of(bytes: &[u8]) -> Result<Parts<'_>, CipherFault>
     ensures nonce { IfOk result (λ parts. length parts.nonce.now ≡ 12) }
-    ensures mark { IfOk result (λ parts. length parts.mark.now ≡ 16) }
-    ensures size { IfOk result (λ parts. length parts.inner.now + 29 ≡ length bytes.now) }
+    ensures tag { IfOk result (λ parts. length parts.tag.now ≡ 16) }
+    ensures size { IfOk result (λ parts. length parts.ciphertext.now + 29 ≡ length bytes.now) }
     ensures text { IfOk result (λ parts. bytes.now
-        ≡ parts.version ∷ (parts.nonce.now ++ (parts.inner.now ++ parts.mark.now))) }
+        ≡ parts.version ∷ (parts.nonce.now ++ (parts.ciphertext.now ++ parts.tag.now))) }
     ensures version { IfOk result (λ parts. parts.version < 2) }
     ensures refuses { IfErr result (λ fault. FormCause fault bytes.now) }
 {
@@ -39,11 +39,11 @@ pub(crate) fn parts_of(bytes: &[u8]) -> Result<Parts<'_>, CipherFault>
         return Err(CipherFault::WrongVersion);
     }
     let (nonce, body) = rest.split_at(12);
-    let (inner, mark) = body.split_at(body.len() - 16);
+    let (ciphertext, tag) = body.split_at(body.len() - 16);
     Ok(Parts {
         version,
         nonce,
-        inner,
-        mark,
+        ciphertext,
+        tag,
     })
 }

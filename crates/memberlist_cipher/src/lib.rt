@@ -8,15 +8,15 @@
 //! | `block` | AES on one block |
 //! | `appending` | appending to a vector that has room |
 //! | `schedule` | the key schedule |
-//! | `hashing` | the product and the hash of blocks |
-//! | `counting` | counter mode |
-//! | `tagging` | the tag |
+//! | `ghash` | the product and the hash of blocks |
+//! | `ctr` | counter mode |
+//! | `tag` | the tag |
 //! | `encrypt` | encrypts a message, as a packet or a stream |
-//! | `unpadding` | removes padding |
+//! | `pkcs7` | removes padding |
 //! | `key` | a prepared key |
 //! | `label` | the label of a packet or a stream |
 //! | `layout` | the parts of encrypted bytes |
-//! | `opening` | the message of a packet |
+//! | `decryption` | the message of a packet |
 //! | `stream` | the message of a stream |
 //! | `laws` | what holds for the definitions, apart from any code |
 #![tactic(auto)]
@@ -24,25 +24,25 @@
 mod appending;
 mod block;
 mod columns;
-mod counting;
+mod ctr;
+mod decryption;
 mod encrypt;
 mod fault;
 mod field;
-mod hashing;
+mod ghash;
 mod key;
 mod label;
 pub mod laws;
 mod layout;
-mod opening;
+mod pkcs7;
 mod schedule;
 mod stream;
-mod tagging;
-mod unpadding;
+mod tag;
 
+pub use decryption::decrypt;
 pub use fault::CipherFault;
 pub use key::{Key, is_key};
 pub use label::{LABEL, LABEL_MAX_SIZE, LabelFault, labelled, split_label};
-pub use opening::decrypt;
 pub use stream::decrypt_stream;
 
 #[cfg(test)]

@@ -7,8 +7,8 @@ ghost use Rattle.memberlist_cipher.specs.Refusal.{HeadCause, StreamCause};
 
 use crate::CipherFault;
 use crate::appending::append;
+use crate::decryption::decrypt;
 use crate::key::Key;
-use crate::opening::decrypt;
 use std::alloc::{AllocError, Global};
 
 /// The most bytes that a stream may announce (own).
@@ -53,9 +53,9 @@ fn opened_stream(
         StreamEncryption key.now label.now bytes.now message.items) }
     ensures refuses { IfErr result (λ fault. StreamCause fault key.now label.now bytes.now) }
 {
-    let (head, inner) = stream_parts(bytes)?;
-    let associated = associated_bytes(alloc, head, label)?;
-    let message = decrypt(alloc, key, &associated, inner)?;
+    let (head, ciphertext) = stream_parts(bytes)?;
+    let aad = stream_aad(alloc, head, label)?;
+    let message = decrypt(alloc, key, &aad, ciphertext)?;
     Ok(message)
 }
 
@@ -92,18 +92,14 @@ fn opened_stream_under(
         StreamEncryption key.now label.now bytes.now message.items) }
     ensures refuses { IfErr result (λ fault. StreamCause fault key.now label.now bytes.now) }
 {
-    let (head, inner) = stream_parts(bytes)?;
-    let associated = associated_bytes(alloc, head, label)?;
-    let message = key.decrypt(alloc, &associated, inner)?;
+    let (head, ciphertext) = stream_parts(bytes)?;
+    let aad = stream_aad(alloc, head, label)?;
+    let message = key.decrypt(alloc, &aad, ciphertext)?;
     Ok(message)
 }
 
 /// The associated bytes: a stream's head, and the label.
-pub(crate) fn associated_bytes(
-    alloc: Global,
-    head: &[u8],
-    label: &[u8],
-) -> Result<Vec<u8>, AllocError>
+pub(crate) fn stream_aad(alloc: Global, head: &[u8], label: &[u8]) -> Result<Vec<u8>, AllocError>
     requires { length head.now ≡ 5 }
     ensures bytes { IfOk result (λ all. all.items ≡ head.now ++ label.now) }
     ensures size { IfOk result (λ all. vec_capacity all ≡ 5 + length label.now) }
@@ -131,12 +127,12 @@ fn stream_parts(bytes: &[u8]) -> Result<(&[u8], &[u8]), CipherFault>
     if announced > MOST_BYTES {
         return Err(CipherFault::TooLong);
     }
-    let (head, inner) = bytes.split_at(5);
-    if inner.len() < announced {
+    let (head, ciphertext) = bytes.split_at(5);
+    if ciphertext.len() < announced {
         return Err(CipherFault::TooShort);
     }
-    if inner.len() > announced {
+    if ciphertext.len() > announced {
         return Err(CipherFault::Trailing);
     }
-    Ok((head, inner))
+    Ok((head, ciphertext))
 }

@@ -13,14 +13,9 @@ mod refusals;
 mod standards;
 
 /// Decrypts a packet, once more if out of memory.
-fn open(
-    alloc: Global,
-    key: &[u8],
-    associated: &[u8],
-    bytes: &[u8],
-) -> Result<Vec<u8>, CipherFault> {
-    match decrypt(alloc, key, associated, bytes) {
-        Err(CipherFault::Memory) => decrypt(alloc, key, associated, bytes),
+fn open(alloc: Global, key: &[u8], aad: &[u8], bytes: &[u8]) -> Result<Vec<u8>, CipherFault> {
+    match decrypt(alloc, key, aad, bytes) {
+        Err(CipherFault::Memory) => decrypt(alloc, key, aad, bytes),
         answer => answer,
     }
 }
@@ -43,11 +38,11 @@ fn assert_opens(
     rt: &impl Abort,
     alloc: Global,
     key: &[u8],
-    associated: &[u8],
+    aad: &[u8],
     bytes: &[u8],
     message: &[u8],
 ) -> Result<(), CipherFault> {
-    let answer = open(alloc, key, associated, bytes)?;
+    let answer = open(alloc, key, aad, bytes)?;
     assert_eq!(rt; answer.as_slice(), message);
     Ok(())
 }
@@ -71,11 +66,11 @@ fn assert_refused(
     rt: &impl Abort,
     alloc: Global,
     key: &[u8],
-    associated: &[u8],
+    aad: &[u8],
     bytes: &[u8],
     fault: CipherFault,
 ) {
-    let answer = open(alloc, key, associated, bytes).err();
+    let answer = open(alloc, key, aad, bytes).err();
     assert_eq!(rt; answer, Some(fault), "{bytes:?}");
 }
 

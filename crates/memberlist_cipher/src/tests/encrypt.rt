@@ -22,13 +22,13 @@ fn assert_encrypts(
     alloc: Global,
     key: &[u8],
     nonce: &[u8; 12],
-    associated: &[u8],
+    aad: &[u8],
     message: &[u8],
     wanted: &[u8],
 ) -> Result<(), CipherFault> {
     let key = Key::new(alloc, key)?;
-    let answer = match key.encrypt(alloc, nonce, associated, message) {
-        Err(CipherFault::Memory) => key.encrypt(alloc, nonce, associated, message)?,
+    let answer = match key.encrypt(alloc, nonce, aad, message) {
+        Err(CipherFault::Memory) => key.encrypt(alloc, nonce, aad, message)?,
         answer => answer?,
     };
     assert_eq!(rt; answer.as_slice(), wanted);
@@ -57,7 +57,7 @@ fn assert_encrypts_stream(
 #[test]
 fn the_cases_are_encrypted(rt: HostRuntime) -> Result<(), Fail> {
     let zeros = [0; 32];
-    for (key, nonce, associated, message, wanted) in [
+    for (key, nonce, aad, message, wanted) in [
         (
             &zeros[..16],
             [0; 12],
@@ -77,7 +77,7 @@ fn the_cases_are_encrypted(rt: HostRuntime) -> Result<(), Fail> {
         (VECTOR_32, NONCE, b"", PLAIN, CASE_15),
         (VECTOR_32, NONCE, EXTRA, SHORTER, CASE_16),
     ] {
-        assert_encrypts(&rt, rt.alloc(), key, &nonce, associated, message, wanted)?;
+        assert_encrypts(&rt, rt.alloc(), key, &nonce, aad, message, wanted)?;
     }
     Ok(())
 }

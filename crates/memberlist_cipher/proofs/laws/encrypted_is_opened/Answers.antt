@@ -4,9 +4,9 @@ use Rattle.memberlist_cipher.proofs.Once.{one_message, one_stream_message}
 use Rattle.memberlist_cipher.proofs.laws.encrypted_is_opened.Goals as goal
 
 pub returns-clause-packet : goal.returns-clause-packet
-returns-clause-packet c key nonce associated message good size may =
-    let e = is_encryption key nonce associated _ message good size may refl in
-    (e, λ other o. one_message key associated _ other message o e)
+returns-clause-packet c key nonce aad message good size may =
+    let e = is_encryption key nonce aad _ message good size may refl in
+    (e, λ other o. one_message key aad _ other message o e)
 
 pub returns-clause-stream : goal.returns-clause-stream
 returns-clause-stream c key nonce label message good size may =
