@@ -9,8 +9,8 @@ use Rattle.swim_wire.specs.Checks.{ReasonForWhole}
 use Rattle.swim_wire.specs.Packet.{PacketValue}
 use Rattle.swim_wire.specs.Reading.{whole_packet}
 use Rattle.swim_wire.specs.Texts.{PacketText}
-use Rattle.swim_c.specs.Packing.{PacketTexts, LacksPackets, PackingAsks}
-use Rattle.swim_c.specs.Packing.PacketTexts.{none, one}
+use Rattle.swim_c.specs.Compound.{PacketTexts, LacksPackets, PackingAsks}
+use Rattle.swim_c.specs.Compound.PacketTexts.{none, one}
 
 -- the bytes begin with the first packets, and the rest is still to come
 pub record ReadTo (lens bytes : List ℕ) (i : ℕ) (packets : List PacketValue) (rest : List ℕ) : Type 0 where

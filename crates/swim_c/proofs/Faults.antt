@@ -30,7 +30,7 @@ use Rattle.swim_c.specs.declared.form.Form.{Form}
 use Rattle.swim_c.specs.Exchanges.{HoldsNoStream, FinishCause, AnswerCause}
 use Rattle.swim_c.specs.Forms.{HasTooManyIn}
 use Rattle.swim_c.specs.Taking.{IsNoDatagram, HearingAsks, TakeDone, RefuteDone}
-use Rattle.swim_c.specs.Packing.{LacksPackets, PackingAsks, CompoundDone}
+use Rattle.swim_c.specs.Compound.{LacksPackets, PackingAsks, CompoundDone}
 use Rattle.swim_c.proofs.WholeStreams.{begins}
 
 abbrev pub refused : (X : Type 0) → WireFault → Result X WireFault

@@ -10,7 +10,7 @@ pub mod Known
 pub mod NodeCalls
 pub mod Noting
 pub mod Pieces
-pub mod Sayings
+pub mod OwnPackets
 pub mod Unsealing
 pub mod Unwrappings
 pub mod WholeStreams

@@ -10,10 +10,10 @@ pub mod Members
 pub mod NewBytes
 pub mod OnNode
 pub mod Opening
-pub mod Packing
+pub mod Compound
 pub mod Progressing
 pub mod Relating
-pub mod Saying
+pub mod OwnPackets
 pub mod Sealing
 pub mod Statuses
 pub mod Taking

@@ -3,7 +3,7 @@
 mod buffers;
 mod forgetting;
 mod keyrings;
-mod life;
+mod open_close;
 mod packets;
 mod streams;
 mod table;

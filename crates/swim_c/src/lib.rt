@@ -13,11 +13,11 @@
 //! | `opening` | a node from its parts |
 //! | `watching` | a node, and the names in it that changed |
 //! | `next_change` | these names, read one by one |
-//! | `hearing` | taking in a packet or a compound packet |
+//! | `take` | taking in a packet or a compound packet |
 //! | `refuting` | refuting what others say about a node's member |
-//! | `saying` | what a member says, as packets |
-//! | `packing` | several packets as one compound packet |
-//! | `telling` | what a node reports: its listing, members and relations |
+//! | `own_packets` | what a member says, as packets |
+//! | `compound` | several packets as one compound packet |
+//! | `query` | what a node reports: its listing, members and relations |
 //! | `member` | a member as a table has it, in the caller's memory |
 //! | `form` | the two forms of a dump |
 //! | `exchanging` | the two halves of an exchange, over the caller's memory |
@@ -30,6 +30,7 @@
 #![tactic(auto)]
 
 mod buffer;
+mod compound;
 mod copy;
 mod exchanging;
 mod exports;
@@ -38,7 +39,6 @@ mod filling;
 mod forgetting;
 mod form;
 mod handle;
-mod hearing;
 mod kept;
 mod kept_handle;
 mod keyring;
@@ -46,12 +46,12 @@ mod laws;
 mod member;
 mod next_change;
 mod opening;
-mod packing;
+mod own_packets;
 mod progress;
+mod query;
 mod refuting;
-mod saying;
 mod sealing;
 mod status;
-mod telling;
+mod take;
 mod unwrapping;
 mod watching;

@@ -5,19 +5,19 @@ ghost use Rattle.swim_claim.specs.declared.claim.Claim.TheVariants.{Alive, Suspe
 ghost use Rattle.swim_c.specs.Buffers.{IsNoMemory};
 ghost use Rattle.swim_c.specs.OnNode.{OnNode, OnSame};
 ghost use Rattle.swim_c.specs.Opening.{IsUnmade, told};
-ghost use Rattle.swim_c.specs.Packing.{CompoundDone};
-ghost use Rattle.swim_c.specs.Saying.{SaidOr, IsNoName, IsUnsaid};
+ghost use Rattle.swim_c.specs.Compound.{CompoundDone};
+ghost use Rattle.swim_c.specs.OwnPackets.{SaidOr, IsNoName, IsUnsaid};
 ghost use Rattle.swim_c.specs.Taking.{TakeDone, RefuteDone};
 ghost use Rattle.swim_c.specs.Watching.{Noted, TellsNews};
 
+use crate::compound::compound_out;
 use crate::copy::Written;
 use crate::handle::Handle;
-use crate::hearing::{Taken, hear};
 use crate::opening::Parts;
-use crate::packing::compound_out;
+use crate::own_packets::{say_alive, say_alive_of, say_confirm, say_leave, say_suspect};
 use crate::refuting::{Refuted, refute};
-use crate::saying::{say_alive, say_alive_of, say_confirm, say_leave, say_suspect};
 use crate::status::NO_NODE;
+use crate::take::{Taken, hear};
 use std::alloc::Global;
 
 /// Takes in all claims of a packet or compound packet, or none. Reading texts and bytes of a packet

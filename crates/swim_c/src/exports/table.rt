@@ -12,8 +12,8 @@ ghost use Rattle.swim_c.specs.Relating.{IsRelationNumber};
 use crate::copy::Written;
 use crate::handle::Handle;
 use crate::member::Member;
+use crate::query::{list_out, member_at, member_named, relation_of};
 use crate::status::{DONE, NO_NODE};
-use crate::telling::{list_out, member_at, member_named, relation_of};
 use std::alloc::Global;
 
 /// The number of members that the node knows, itself included, or 0 if the handle has no node.

@@ -5,7 +5,7 @@ mod keyrings;
 mod streams;
 mod watch;
 
-use super::life::{swimtab_raw_close, swimtab_raw_open};
+use super::open_close::{swimtab_raw_close, swimtab_raw_open};
 use super::packets::{
     swimtab_raw_alive, swimtab_raw_compound, swimtab_raw_confirm, swimtab_raw_leave,
     swimtab_raw_refute, swimtab_raw_suspect, swimtab_raw_take,

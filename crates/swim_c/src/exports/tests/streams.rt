@@ -8,7 +8,7 @@ use crate::exports::buffers::{
     swimtab_raw_answer_new, swimtab_raw_free, swimtab_raw_list_new, swimtab_raw_offer_new,
 };
 use crate::exports::forgetting::swimtab_raw_forget;
-use crate::exports::life::swimtab_raw_close;
+use crate::exports::open_close::swimtab_raw_close;
 use crate::exports::packets::swimtab_raw_alive_of;
 use crate::exports::streams::{swimtab_raw_offer, swimtab_raw_whole};
 use crate::exports::table::{swimtab_raw_count, swimtab_raw_find};

@@ -2,7 +2,7 @@
 
 use super::{ALIVE, SUSPECT, SUSPICION, opened, room};
 use crate::exports::forgetting::swimtab_raw_forget;
-use crate::exports::life::swimtab_raw_close;
+use crate::exports::open_close::swimtab_raw_close;
 use crate::exports::packets::{swimtab_raw_refute, swimtab_raw_take};
 use crate::exports::streams::{swimtab_raw_answer, swimtab_raw_finish, swimtab_raw_offer};
 use crate::exports::watch::{swimtab_raw_next_change, swimtab_raw_watch};

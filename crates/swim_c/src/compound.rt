@@ -1,7 +1,7 @@
 //! Several packets as one compound packet.
 
 ghost use Rattle.std.specs.Prelude.{◌≡◌, ◌≢◌, ◌≤◌, length, IfOk, IfErr, IsErrOf};
-ghost use Rattle.swim_c.specs.Packing.{PacketTexts, LacksPackets, PackingAsks, IsPacked, CompoundDone};
+ghost use Rattle.swim_c.specs.Compound.{PacketTexts, LacksPackets, PackingAsks, IsPacked, CompoundDone};
 ghost use Rattle.swim_wire.specs.declared.fault.WireFault.TheVariants.{Memory};
 
 use crate::copy::{Written, copy_out};

@@ -2,10 +2,10 @@ use Rattle.std.proofs.Common.{◌≡◌, ◌<◌, ◌+◌, [], ◌∷◌, ◌++�
 use Rattle.std.proofs.lemmas.Result.{err_from_is_err_and}
 use Rattle.swim_wire.specs.Packet.{PacketValue}
 use Rattle.swim_wire.proofs.Asking.{PacketText-asks}
-use Rattle.swim_c.specs.Packing.PacketTexts.{none}
+use Rattle.swim_c.specs.Compound.PacketTexts.{none}
 use Rattle.swim_c.proofs.BehindOneAnother.{ReadTo, ReadTo-more, cut_off, no_packet, next_asks, left_over, in_parts}
 use Rattle.swim_c.proofs.Faults.{packet_memory}
-use Rattle.swim_c.proofs.packing.read_packets.Goals as goal
+use Rattle.swim_c.proofs.compound.read_packets.Goals as goal
 
 pub loop-len-init : goal.loop-len-init
 loop-len-init c =

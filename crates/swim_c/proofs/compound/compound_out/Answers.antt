@@ -1,7 +1,7 @@
 use Rattle.std.proofs.Common.{refl, subst, List, ℕ, rules}
-use Rattle.swim_c.specs.Packing.{CompoundDone, IsPacked}
+use Rattle.swim_c.specs.Compound.{CompoundDone, IsPacked}
 use Rattle.swim_c.proofs.Faults.{compound_refused}
-use Rattle.swim_c.proofs.packing.compound_out.Goals as goal
+use Rattle.swim_c.proofs.compound.compound_out.Goals as goal
 
 pub returns-in-Ok : goal.returns-in-Ok
 returns-in-Ok c =

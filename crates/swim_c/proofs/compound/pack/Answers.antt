@@ -4,9 +4,9 @@ use Rattle.swim_wire.specs.Packet.{PacketValue}
 use Rattle.swim_wire.specs.Texts.{DatagramText}
 use Rattle.std.proofs.lemmas.Result.{err_from_is_err_and}
 use Rattle.swim_wire.proofs.Asking.{same_fault}
-use Rattle.swim_c.specs.Packing.{PackingAsks}
+use Rattle.swim_c.specs.Compound.{PackingAsks}
 use Rattle.swim_c.proofs.BehindOneAnother.{length-packets}
-use Rattle.swim_c.proofs.packing.pack.Goals as goal
+use Rattle.swim_c.proofs.compound.pack.Goals as goal
 
 pub encode_compound-requires : goal.encode_compound-requires
 encode_compound-requires c =

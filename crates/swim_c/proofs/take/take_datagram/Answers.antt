@@ -2,7 +2,7 @@ use Rattle.std.proofs.Common.{Err, ap, inl, inr}
 use Rattle.std.proofs.lemmas.Result.{err_from_is_err_and}
 use Rattle.swim_wire.specs.PacketList.{packets_in}
 use Rattle.swim_c.proofs.Faults.{explained_memory}
-use Rattle.swim_c.proofs.hearing.take_datagram.Goals as goal
+use Rattle.swim_c.proofs.take.take_datagram.Goals as goal
 
 pub returns-in_err-datagram-clause-refused : goal.returns-in_err-datagram-clause-refused
 returns-in_err-datagram-clause-refused c =

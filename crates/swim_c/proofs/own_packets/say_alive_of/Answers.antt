@@ -2,8 +2,8 @@ use Rattle.std.proofs.Common.{◌∙◌}
 use Rattle.swim_claim.specs.declared.claim.Claim.TheVariants.{Alive}
 use Rattle.swim_c.specs.declared.opening.OpenFault.TheVariants as opening
 use Rattle.swim_c.specs.Buffers.{IsNoMemory}
-use Rattle.swim_c.proofs.Sayings.{said}
-use Rattle.swim_c.proofs.saying.say_alive_of.Goals as goal
+use Rattle.swim_c.proofs.OwnPackets.{said}
+use Rattle.swim_c.proofs.own_packets.say_alive_of.Goals as goal
 
 pub returns-in-Ok : goal.returns-in-Ok
 returns-in-Ok c =

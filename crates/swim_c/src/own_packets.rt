@@ -5,7 +5,7 @@ ghost use Rattle.std.specs.Prelude.{◌≡◌, ◌≤◌, [], length, IfOk, IfEr
 ghost use Rattle.swim_claim.specs.declared.claim.Claim.TheVariants.{Alive, Suspect, Confirm, Leave};
 ghost use Rattle.swim_c.specs.Buffers.{IsNoMemory};
 ghost use Rattle.swim_c.specs.Opening.{IsUnmade, told};
-ghost use Rattle.swim_c.specs.Saying.{SaidOr, IsNoName, IsUnsaid};
+ghost use Rattle.swim_c.specs.OwnPackets.{SaidOr, IsNoName, IsUnsaid};
 ghost use Rattle.swim_claim.specs.Limits.{longest_name};
 
 use crate::copy::{Written, copy_out};

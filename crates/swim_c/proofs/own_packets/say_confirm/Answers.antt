@@ -1,9 +1,9 @@
 use Rattle.std.proofs.Common.{◌∙◌, inr}
 use Rattle.swim_claim.specs.declared.claim.Claim.TheVariants.{Confirm}
 use Rattle.swim_c.specs.Buffers.{IsNoMemory}
-use Rattle.swim_c.specs.Saying.{IsUnsaid}
-use Rattle.swim_c.proofs.Sayings.{said}
-use Rattle.swim_c.proofs.saying.say_confirm.Goals as goal
+use Rattle.swim_c.specs.OwnPackets.{IsUnsaid}
+use Rattle.swim_c.proofs.OwnPackets.{said}
+use Rattle.swim_c.proofs.own_packets.say_confirm.Goals as goal
 
 pub returns-in-Ok : goal.returns-in-Ok
 returns-in-Ok c =

@@ -1,8 +1,8 @@
 use Rattle.std.proofs.Common.{ℕ, List, ◌∙◌, subst}
 use Rattle.swim_wire.specs.Texts.{PacketText}
 use Rattle.swim_c.specs.Buffers.{Copied}
-use Rattle.swim_c.specs.Saying.{SaidOr}
-use Rattle.swim_c.proofs.saying.packet_out.Goals as goal
+use Rattle.swim_c.specs.OwnPackets.{SaidOr}
+use Rattle.swim_c.proofs.own_packets.packet_out.Goals as goal
 
 pub returns-in-Ok : goal.returns-in-Ok
 returns-in-Ok c =

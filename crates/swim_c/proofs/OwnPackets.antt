@@ -1,7 +1,7 @@
 -- Packets that were written, with other names and causes.
 use Rattle.std.proofs.Common.{◌≡◌, ℕ, List, subst}
 use Rattle.swim_wire.specs.Packet.{PacketValue}
-use Rattle.swim_c.specs.Saying.{SaidOr}
+use Rattle.swim_c.specs.OwnPackets.{SaidOr}
 
 by_cause : (p : PacketValue) (old new : List ℕ) (status len : ℕ) (Was Is : ℕ → Type 0) → (Was status → Is status) → SaidOr p old new status len Was
     → SaidOr p old new status len Is

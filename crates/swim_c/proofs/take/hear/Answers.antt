@@ -2,7 +2,7 @@ use Rattle.std.proofs.Common.{ap}
 use Rattle.swim_c.specs.declared.watching.Watched.{Watched}
 use Rattle.swim_c.proofs.Faults.{take_done}
 use Rattle.swim_c.proofs.Noting.{refused_news, refused_noted}
-use Rattle.swim_c.proofs.hearing.hear.Goals as goal
+use Rattle.swim_c.proofs.take.hear.Goals as goal
 
 pub returns-in-Err : goal.returns-in-Err
 returns-in-Err c =

@@ -1,9 +1,9 @@
 use Rattle.std.proofs.Common.{◌∙◌, inr}
 use Rattle.swim_claim.specs.declared.claim.Claim.TheVariants.{Suspect}
 use Rattle.swim_c.specs.Buffers.{IsNoMemory}
-use Rattle.swim_c.specs.Saying.{IsNoName}
-use Rattle.swim_c.proofs.Sayings.{said}
-use Rattle.swim_c.proofs.saying.say_suspect.Goals as goal
+use Rattle.swim_c.specs.OwnPackets.{IsNoName}
+use Rattle.swim_c.proofs.OwnPackets.{said}
+use Rattle.swim_c.proofs.own_packets.say_suspect.Goals as goal
 
 pub returns-in-Ok : goal.returns-in-Ok
 returns-in-Ok c =
