@@ -12,7 +12,7 @@ use crate::order::Order;
 use crate::stop::Stop;
 
 /// The most interfaces of a section.
-const MOST_INTERFACES: usize = 4096;
+const MAX_INTERFACES: usize = 4096;
 
 /// Checks that the major version of a format is this one.
 pub(crate) fn check_version(wanted: u16, major: u16) -> Result<(), Stop>
@@ -75,7 +75,7 @@ pub(crate) fn check_total(again: u32, total: u32) -> Result<(), Stop>
 pub(crate) fn check_place(count: usize) -> Result<(), Stop>
     ensures { (at : Source) → ReadsAs stop_cause (λ _. tt) (has_place count) at at result }
 {
-    if count < MOST_INTERFACES {
+    if count < MAX_INTERFACES {
         Ok(())
     } else {
         Err(Stop::Fault(CaptureFault::TooManyInterfaces))

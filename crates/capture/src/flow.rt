@@ -11,10 +11,10 @@ use std::alloc::{AllocError, Global};
 const WINDOW: usize = 16_777_216;
 
 /// The most bytes of a flow.
-const MOST_BYTES: usize = 33_554_432;
+const MAX_FLOW_LEN: usize = 33_554_432;
 
 /// The most segments that wait.
-const MOST_WAITING: usize = 4096;
+const MAX_WAITING: usize = 4096;
 
 /// Whether a segment that ends at `end` ends too far after the first `len` bytes.
 fn is_beyond(len: usize, end: usize) -> bool
@@ -22,7 +22,7 @@ fn is_beyond(len: usize, end: usize) -> bool
     ensures { MatchBool result ((2 ^ 24 < end - len) ⊎ (2 ^ 25 < end))
         ((end - len ≤ 2 ^ 24) × (end ≤ 2 ^ 25)) }
 {
-    WINDOW < end - len || MOST_BYTES < end
+    WINDOW < end - len || MAX_FLOW_LEN < end
 }
 
 /// One direction of a TCP connection: the bytes from a sequence number on.
@@ -120,7 +120,7 @@ impl Flow {
         if end <= reach(&self.waiting, at) {
             return Ok(Taken::Known);
         }
-        if MOST_WAITING <= self.waiting.len() {
+        if MAX_WAITING <= self.waiting.len() {
             return Ok(Taken::Crowded);
         }
         self.hold(alloc, at, bytes)?;

@@ -9,7 +9,7 @@ use crate::stop::Stop;
 use swim_pack::{Inlet, PullFault};
 
 /// The most captured bytes of a record.
-pub(crate) const MOST_CAPTURED: u32 = 262_144;
+pub(crate) const MAX_CAPTURED_LEN: u32 = 262_144;
 
 /// Fills the buffer with the next bytes of a record.
 pub(crate) fn fill<I: Inlet>(inlet: &mut I, part: &mut [u8]) -> Result<(), Stop>
@@ -76,7 +76,7 @@ pub(crate) fn read_captured<I: Inlet>(
     ensures { ReadsAs stop_cause (λ _. bytes.new.items) (captured_at length)
         (I.seen inlet.old) (I.seen inlet.new) result }
 {
-    if length > MOST_CAPTURED {
+    if length > MAX_CAPTURED_LEN {
         return Err(Stop::Fault(CaptureFault::TooLong { length }));
     }
     read_part(inlet, bytes, length as usize)

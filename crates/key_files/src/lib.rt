@@ -2,11 +2,11 @@
 #![tactic(auto)]
 
 ghost use Rattle.std.specs.Prelude.{◌≤◌, length, IfOk};
-ghost use Rattle.swim_program.specs.Limits.{most_bytes};
+ghost use Rattle.swim_program.specs.Limits.{max_input_len};
 
 use memberlist_keyring::{KeyFileFault, Keyring};
 use std::alloc::{AllocError, Global};
-use swim_program::{BOUND, Failure, Place, What, read_file};
+use swim_program::{Failure, MAX_INPUT_LEN, Place, What, read_file};
 
 /// The keys in these files, in the order of the arguments.
 ///
@@ -33,10 +33,10 @@ pub fn keyring_of(rt: &HostRuntime, program: &str, files: &[String]) -> Result<K
 
 /// The bytes of a file of keys.
 fn text_of(rt: &HostRuntime, file: &str) -> Result<Vec<u8>, What>
-    ensures { IfOk result (λ text. length text.items ≤ most_bytes) }
+    ensures { IfOk result (λ text. length text.items ≤ max_input_len) }
 {
     let text = read_file(rt, file)?;
-    if text.len() > BOUND {
+    if text.len() > MAX_INPUT_LEN {
         return Err(What::input_too_long());
     }
     Ok(text)

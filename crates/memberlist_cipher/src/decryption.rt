@@ -14,10 +14,10 @@ use crate::tag::{is_same, tag};
 use std::alloc::Global;
 
 /// The most bytes: 2^36 - 32 of text (SP 800-38D, 5.2.1.1), and 29 more.
-pub(crate) const MOST_BYTES: usize = 0xf_ffff_fffd;
+pub(crate) const MAX_SEALED_LEN: usize = 0xf_ffff_fffd;
 
 /// The most associated bytes (SP 800-38D, 5.2.1.1).
-pub(crate) const MOST_ASSOCIATED: usize = 0x1fff_ffff_ffff_ffff;
+pub(crate) const MAX_AAD_LEN: usize = 0x1fff_ffff_ffff_ffff;
 
 /// Decrypts bytes under the key, of 16, 24 or 32 bytes, and returns the message.
 ///
@@ -117,5 +117,5 @@ fn is_within(aad: &[u8], bytes: &[u8]) -> bool
     ensures { MatchBool result (IsWithin aad.now bytes.now)
         (¬ IsWithin aad.now bytes.now) }
 {
-    bytes.len() <= MOST_BYTES && aad.len() <= MOST_ASSOCIATED
+    bytes.len() <= MAX_SEALED_LEN && aad.len() <= MAX_AAD_LEN
 }

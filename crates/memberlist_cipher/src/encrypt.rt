@@ -7,9 +7,9 @@ ghost use Rattle.memberlist_cipher.specs.Refusal.{EncryptCause};
 use crate::CipherFault;
 use crate::appending::append;
 use crate::ctr::append_ctr;
-use crate::decryption::{MOST_ASSOCIATED, MOST_BYTES};
+use crate::decryption::{MAX_AAD_LEN, MAX_SEALED_LEN};
 use crate::key::Key;
-use crate::stream::{MOST_BYTES as MOST_STREAM_BYTES, stream_aad};
+use crate::stream::{MAX_STREAM_LEN, stream_aad};
 use crate::tag::tag;
 use std::alloc::Global;
 
@@ -97,7 +97,7 @@ fn may_encrypt(aad: &[u8], message: &[u8]) -> bool
     ensures { MatchBool result (MayEncrypt aad.now message.now)
         (¬ MayEncrypt aad.now message.now) }
 {
-    message.len() <= MOST_BYTES - MORE && aad.len() <= MOST_ASSOCIATED
+    message.len() <= MAX_SEALED_LEN - MORE && aad.len() <= MAX_AAD_LEN
 }
 
 /// Whether a stream may hold this many bytes.
@@ -105,7 +105,7 @@ fn may_encrypt_stream(label: &[u8], message: &[u8]) -> bool
     ensures { MatchBool result (MayEncryptStream label.now message.now)
         (¬ MayEncryptStream label.now message.now) }
 {
-    message.len() <= MOST_STREAM_BYTES - MORE && label.len() <= MOST_ASSOCIATED - 5
+    message.len() <= MAX_STREAM_LEN - MORE && label.len() <= MAX_AAD_LEN - 5
 }
 
 /// The head of a stream in which `len` bytes follow.

@@ -11,7 +11,7 @@ use thiserror::Error;
 pub const LABEL: u8 = 244;
 
 /// The most bytes of a label (memberlist's label.go).
-pub const LABEL_MAX_SIZE: usize = 255;
+pub const MAX_LABEL_LEN: usize = 255;
 
 /// Why bytes that start as a label have none (own).
 #[derive(Clone, Copy, Debug, PartialEq, Eq, Error)]

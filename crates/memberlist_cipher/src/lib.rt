@@ -42,7 +42,7 @@ mod tag;
 pub use decryption::decrypt;
 pub use fault::CipherFault;
 pub use key::{Key, is_key};
-pub use label::{LABEL, LABEL_MAX_SIZE, LabelFault, labelled, split_label};
+pub use label::{LABEL, LabelFault, MAX_LABEL_LEN, labelled, split_label};
 pub use stream::decrypt_stream;
 
 #[cfg(test)]

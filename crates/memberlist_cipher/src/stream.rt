@@ -12,7 +12,7 @@ use crate::key::Key;
 use std::alloc::{AllocError, Global};
 
 /// The most bytes that a stream may announce (own).
-pub(crate) const MOST_BYTES: usize = 268_435_456;
+pub(crate) const MAX_STREAM_LEN: usize = 268_435_456;
 
 /// Decrypts a stream and returns its message. A stream is the byte 10, a length of four bytes, the
 /// highest first, and that many bytes as [`decrypt`] takes them.
@@ -124,7 +124,7 @@ fn stream_parts(bytes: &[u8]) -> Result<(&[u8], &[u8]), CipherFault>
         return Err(CipherFault::NotEncrypted);
     }
     let announced = u32::from_be_bytes([bytes[1], bytes[2], bytes[3], bytes[4]]) as usize;
-    if announced > MOST_BYTES {
+    if announced > MAX_STREAM_LEN {
         return Err(CipherFault::TooLong);
     }
     let (head, ciphertext) = bytes.split_at(5);

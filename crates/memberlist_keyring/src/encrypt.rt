@@ -8,7 +8,7 @@ ghost use Rattle.memberlist_keyring.specs.Sending.{MaySend, MaySendStream, Sends
 
 use crate::Keyring;
 use crate::label::behind_label;
-use memberlist_cipher::{CipherFault, LABEL_MAX_SIZE};
+use memberlist_cipher::{CipherFault, MAX_LABEL_LEN};
 use std::alloc::Global;
 
 impl Keyring {
@@ -45,7 +45,7 @@ impl Keyring {
         let Some(key) = self.keys.first() else {
             return Ok(None);
         };
-        if label.len() > LABEL_MAX_SIZE {
+        if label.len() > MAX_LABEL_LEN {
             return Err(CipherFault::TooLong);
         }
         let bytes = key.encrypt(alloc, nonce, label, message)?;
@@ -120,7 +120,7 @@ impl Keyring {
         let Some(key) = self.keys.first() else {
             return Ok(None);
         };
-        if label.len() > LABEL_MAX_SIZE {
+        if label.len() > MAX_LABEL_LEN {
             return Err(CipherFault::TooLong);
         }
         let bytes = key.encrypt_stream(alloc, nonce, label, message)?;

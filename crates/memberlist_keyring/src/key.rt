@@ -27,7 +27,7 @@ fn overwrite(bytes: &mut [u8])
 }
 
 /// The maximum number of bytes in base64 of the length of a key's text.
-const MOST_BYTES: usize = 33;
+const MAX_DECODED_LEN: usize = 33;
 
 /// The key whose base64 the text is, ready for use, or `None` if the text is not that of a key.
 pub(crate) fn key_of(alloc: Global, text: &[u8]) -> Result<Option<Key>, AllocError>
@@ -39,7 +39,7 @@ pub(crate) fn key_of(alloc: Global, text: &[u8]) -> Result<Option<Key>, AllocErr
         return Ok(None);
     }
     let mut decoded = Decoded {
-        bytes: vec![in alloc; 0u8; MOST_BYTES]?,
+        bytes: vec![in alloc; 0u8; MAX_DECODED_LEN]?,
     };
     if !decode_over(text, &mut decoded.bytes) {
         return Ok(None);

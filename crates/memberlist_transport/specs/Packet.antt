@@ -9,22 +9,22 @@ use Rattle.memberlist_transport.specs.declared.message.Message.{Message}
 use Rattle.memberlist_transport.specs.Message.{IsMessage, IsNoMessage}
 
 -- how many bytes a packet's message may have
-abbrev pub most_message : ℕ
-most_message = 1048576
+abbrev pub max_message_len : ℕ
+max_message_len = 1048576
 
 -- ---- in the clear
 
 -- the bytes wrap the message
 abbrev pub HoldsClear : List ℕ → Message → Type 0
 HoldsClear bytes message =
-    (inner : List ℕ) × Unwraps most_message bytes inner × IsMessage inner message
+    (inner : List ℕ) × Unwraps max_message_len bytes inner × IsMessage inner message
 
 -- why the bytes hold no message: they wrap nothing, or the unwrapped bytes are not a message
 abbrev pub FailsClear : List ℕ → PacketFault → Type 0
-FailsClear bytes (Wrapped fault) = ReasonForIn 4 most_message fault bytes
-    × ((message : List ℕ) → ¬ Unwraps most_message bytes message)
+FailsClear bytes (Wrapped fault) = ReasonForIn 4 max_message_len fault bytes
+    × ((message : List ℕ) → ¬ Unwraps max_message_len bytes message)
 FailsClear bytes (NoMessage first) =
-    (message : List ℕ) × Unwraps most_message bytes message × IsNoMessage message first
+    (message : List ℕ) × Unwraps max_message_len bytes message × IsNoMessage message first
 FailsClear bytes fault = ⊥
 
 -- ---- with keys

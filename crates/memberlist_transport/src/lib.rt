@@ -19,7 +19,7 @@ mod stream;
 
 pub use fault::{PacketFault, StreamFault};
 pub use message::{Claiming, Message};
-pub use packet::{MESSAGE_LIMIT, open_packet};
+pub use packet::{MAX_MESSAGE_LEN, open_packet};
 pub use reply::open_reply;
 pub use stream::open_stream;
 

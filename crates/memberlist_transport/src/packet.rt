@@ -14,7 +14,7 @@ use std::alloc::Global;
 use swim_wire::{WireFault, decode_claimless};
 
 /// The most bytes of a packet's message (own).
-pub const MESSAGE_LIMIT: usize = 1_048_576;
+pub const MAX_MESSAGE_LEN: usize = 1_048_576;
 
 /// The message of a packet: checksums, compressions and labels are removed, as in memberlist's
 /// `net.go` (`handleCommand`), `util.go` and `label.go`. Bytes that are not a message in the clear
@@ -83,7 +83,7 @@ fn clear_message(alloc: Global, bytes: &[u8]) -> Result<Message, PacketFault>
     ensures reason { IfErr result (λ fault. fault ≢ PacketFault.Memory
         → FailsClear bytes.now fault) }
 {
-    match unwrap_in_place(bytes, MESSAGE_LIMIT) {
+    match unwrap_in_place(bytes, MAX_MESSAGE_LEN) {
         Ok(Some(inner)) => message_of(alloc, inner),
         Ok(None) => decompressed_message(alloc, bytes),
         Err(fault) => Err(PacketFault::Wrapped(fault)),
@@ -96,7 +96,7 @@ fn decompressed_message(alloc: Global, bytes: &[u8]) -> Result<Message, PacketFa
     ensures reason { IfErr result (λ fault. fault ≢ PacketFault.Memory
         → FailsClear bytes.now fault) }
 {
-    match unwrap(alloc, bytes, MESSAGE_LIMIT) {
+    match unwrap(alloc, bytes, MAX_MESSAGE_LEN) {
         Ok(inner) => message_of(alloc, &inner),
         Err(WrapFault::Memory) => Err(PacketFault::Memory),
         Err(fault) => Err(PacketFault::Wrapped(fault)),

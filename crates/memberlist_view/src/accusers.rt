@@ -10,7 +10,7 @@ use std::marker::Model;
 
 /// The most accusers of a member that are noted (own), so that a list of them is cheap to copy
 /// whoever accuses.
-const MOST: usize = 255;
+const MAX_ACCUSERS: usize = 255;
 
 /// Who suspects a member, at most 255, in the order in which they were heard.
 #[derive(Drop, Debug)]
@@ -56,7 +56,7 @@ impl Accusers {
     pub(crate) fn is_full(&self) -> bool
         ensures { result ≡ nat_le 255 (length self.now) }
     {
-        MOST <= self.names.len()
+        MAX_ACCUSERS <= self.names.len()
     }
 
     /// A copy.

@@ -13,7 +13,7 @@ const FIRST_WORD: u32 = 258;
 
 /// The most places of words: those of the 3,838 words that a code can name, of the word whose first
 /// byte ends the last of them, and of what follows it.
-const MOST_STARTS: usize = 3840;
+const MAX_STARTS: usize = 3840;
 
 /// The output so far, and where in it the words since the last clear code start.
 #[derive(Drop)]
@@ -174,7 +174,7 @@ fn keep_start(starts: &mut Vec<usize>, start: usize) -> Result<(), WrapFault>
     ensures err { OnErr result (starts.new.items ≡ starts.old.items) }
     ensures only { IsOkUnless result WrapFault.Memory }
 {
-    if starts.len() < MOST_STARTS {
+    if starts.len() < MAX_STARTS {
         starts.push(start)?;
     }
     Ok(())

@@ -10,11 +10,11 @@ use Rattle.memberlist_wrap.proofs.Unwrapping.{one_message}
 use Rattle.memberlist_transport.specs.declared.message.Message.{Message}
 use Rattle.memberlist_transport.specs.declared.message.Message.TheVariants.{Claims, Claimless, Empty}
 use Rattle.memberlist_transport.specs.Message.{claiming_of, IsMessage}
-use Rattle.memberlist_transport.specs.Packet.{most_message, HoldsClear, IsUnclear, Holds}
+use Rattle.memberlist_transport.specs.Packet.{max_message_len, HoldsClear, IsUnclear, Holds}
 use Rattle.memberlist_transport.specs.Reply.{IsReadAs, IsReplyIn}
 use Rattle.memberlist_transport.specs.Stream.{IsClearStream, IsSealed, IsStreamIn}
 use Rattle.swim_c.specs.Sealing.{IsSealedPacket, IsSealedStream, IsSealedReply}
-use Rattle.swim_c.specs.Unwrapping.{most_stream}
+use Rattle.swim_c.specs.Unwrapping.{max_stream_len}
 
 -- bytes that do not begin with a wrapper's byte are bare
 bare_from : (bytes rest : List ℕ) (first : ℕ) → bytes ≡ first ∷ rest → ((w : Wrapper) → first ≢ kind w) → IsBare bytes
@@ -52,10 +52,10 @@ not_one checksum e = omega (arith, e)
 not_one labelling e = omega (arith, e)
 
 wraps_packet : (keys : List (List ℕ)) (nonce label message packet : List ℕ) → (s : IsSealedPacket keys nonce label message packet)
-    → Unwraps most_message packet (encrypted s.sends.key nonce label message)
+    → Unwraps max_message_len packet (encrypted s.sends.key nonce label message)
 wraps_packet keys nonce label message packet s =
     let key = s.sends.key in
-    label_wraps most_message packet label (encrypted key nonce label message) s.sends.labelled
+    label_wraps max_message_len packet label (encrypted key nonce label message) s.sends.labelled
     (bare_from (encrypted key nonce label message) (nonce ++ sealed key nonce label message) 1 (begins_packet key nonce label message) not_one) s.within
 
 unclear : (keys : List (List ℕ)) (nonce label message packet : List ℕ) → IsSealedPacket keys nonce label message packet → IsUnclear packet
@@ -90,7 +90,7 @@ pub no_other : (keys : List (List ℕ)) (nonce label message packet : List ℕ) 
     → Holds keys packet inner → HoldsClear message inner
 no_other keys nonce label message packet inner s (Holds.clear holds) =
     let wraps = wraps_packet keys nonce label message packet s in
-    let one = (one_message most_message most_message packet holds.1.wrappers wraps.wrappers holds.0 _ holds.1.wraps wraps.wraps).1 in
+    let one = (one_message max_message_len max_message_len packet holds.1.wrappers wraps.wrappers holds.0 _ holds.1.wraps wraps.wraps).1 in
     absurd (is_none keys nonce label message packet s inner (subst (λ (b : List ℕ). IsMessage b inner) one holds.2))
 no_other keys nonce label message packet inner s (Holds.opened other is opens holds) =
     subst (λ (m : List ℕ). HoldsClear m inner) (one_opened keys packet other message opens s.opens) holds
@@ -110,16 +110,16 @@ not_ten compression e = omega (arith, e)
 not_ten checksum e = omega (arith, e)
 not_ten labelling e = omega (arith, e)
 
-is_sealed : (keys : List (List ℕ)) (nonce label message bytes : List ℕ) → IsSealedStream keys nonce label message bytes → IsSealed most_stream bytes
+is_sealed : (keys : List (List ℕ)) (nonce label message bytes : List ℕ) → IsSealedStream keys nonce label message bytes → IsSealed max_stream_len bytes
 is_sealed keys nonce label message bytes s =
     let key = s.sends.key in let made = encrypted_stream key nonce label message in let begins = begins_stream key nonce label message in (
       made,
-      label_wraps most_stream bytes label made s.sends.labelled (bare_from made (stream_rest key nonce label message) 10 begins not_ten) s.within,
+      label_wraps max_stream_len bytes label made s.sends.labelled (bare_from made (stream_rest key nonce label message) 10 begins not_ten) s.within,
       (stream_rest key nonce label message, begins),
     )
 
 pub stream_again : (keys : List (List ℕ)) (nonce label message bytes stream : List ℕ) → IsSealedStream keys nonce label message bytes
-    → IsClearStream most_stream message stream → IsStreamIn most_stream keys bytes stream
+    → IsClearStream max_stream_len message stream → IsStreamIn max_stream_len keys bytes stream
 stream_again keys nonce label message bytes stream s clear = IsStreamIn.opened message (is_sealed keys nonce label message bytes s) s.opens clear
 
 -- ---- streams after their label, and replies, which have none before them
@@ -130,7 +130,7 @@ read_behind label own bytes rest (inl none) same = inr (λ begins. none.2 begins
 read_behind label own bytes rest (inr some) same = inl ((length label ∷ label ++ rest, some.1), refl)
 
 pub behind_again : (keys : List (List ℕ)) (nonce label own message bytes stream : List ℕ) → IsSealedStream keys nonce label message bytes
-    → IsClearStream most_stream message stream → (label ≡ [] → own ≡ []) → IsReplyIn most_stream keys own bytes stream
+    → IsClearStream max_stream_len message stream → (label ≡ [] → own ≡ []) → IsReplyIn max_stream_len keys own bytes stream
 behind_again keys nonce label own message bytes stream s clear same =
     (bytes, read_behind label own bytes _ s.sends.labelled same, stream_again keys nonce label message bytes stream s clear)
 
@@ -154,7 +154,7 @@ sealed_behind keys nonce label message bytes s = record {
 }
 
 pub reply_again : (keys : List (List ℕ)) (nonce label message bytes stream : List ℕ) → IsSealedReply keys nonce label message bytes
-    → IsClearStream most_stream message stream → IsReplyIn most_stream keys label bytes stream
+    → IsClearStream max_stream_len message stream → IsReplyIn max_stream_len keys label bytes stream
 reply_again keys nonce label message bytes stream s clear =
     let bare = (is_bare bytes _ s.sends.labelled).1 in
     (s.opens.0, inr (λ begins. bare begins.0 begins.1, s.opens.1), stream_again keys nonce label message s.opens.0 stream (sealed_behind keys nonce label message bytes s) clear)

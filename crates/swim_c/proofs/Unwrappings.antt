@@ -15,7 +15,7 @@ use Rattle.swim_c.specs.declared.copy.Written.{Written}
 use Rattle.swim_c.specs.Keyring.{keys_of}
 use Rattle.swim_c.specs.Sealing.{Sealed}
 use Rattle.swim_c.specs.Statuses.{packet_status, stream_status, cipher_status}
-use Rattle.swim_c.specs.Unwrapping.{most_stream, IsUnwritten, PacketUnwrapped, StreamUnwrapped}
+use Rattle.swim_c.specs.Unwrapping.{max_stream_len, IsUnwritten, PacketUnwrapped, StreamUnwrapped}
 
 -- nothing was written
 pub unwritten : (number : ℕ) (bytes : List ℕ) (w : Written) → w ≡ record { status = number; len = 0 } → IsUnwritten number bytes bytes w.status w.len
@@ -35,8 +35,8 @@ packet_refused keys packet old new status len packet_fault.NoKeyFits is why none
 
 -- a stream was refused
 pub stream_refused : (keys : List (List ℕ)) (label bytes old new : List ℕ) (status len : ℕ) (fault : StreamFault)
-    → length label < 256 → IsUnwritten (stream_status fault) old new status len → (fault ≢ stream_fault.Memory → ReasonForReply most_stream keys label bytes fault)
-    → (fault ≢ stream_fault.Memory → (stream : List ℕ) → ¬ IsReplyIn most_stream keys label bytes stream) → StreamUnwrapped keys label bytes old new status len
+    → length label < 256 → IsUnwritten (stream_status fault) old new status len → (fault ≢ stream_fault.Memory → ReasonForReply max_stream_len keys label bytes fault)
+    → (fault ≢ stream_fault.Memory → (stream : List ℕ) → ¬ IsReplyIn max_stream_len keys label bytes stream) → StreamUnwrapped keys label bytes old new status len
 stream_refused keys label bytes old new status len stream_fault.Memory few is why none = StreamUnwrapped.memory few is
 stream_refused keys label bytes old new status len (stream_fault.Wrapped cause) few is why none =
     let other : stream_fault.Wrapped cause ≢ stream_fault.Memory = λ e. absurd cc in StreamUnwrapped.refused (stream_fault.Wrapped cause) few other (why other) (none other) is

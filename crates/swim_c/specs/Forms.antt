@@ -1,7 +1,7 @@
 -- The two forms of a table's dump, by number.
 use Rattle.std.specs.Prelude.{◌≢◌, ℕ, ◌<◌, Bool, List, length}
 use Rattle.swim_claim.specs.declared.claim.Claim.{Claim}
-use Rattle.swim_wire.specs.Limits.{most_nodes}
+use Rattle.swim_wire.specs.Limits.{max_nodes}
 use Rattle.swim_table.specs.Dump.{dump_bytes}
 use Rattle.swim_table.specs.MemberlistDump.{memberlist_dump_bytes, with_homes}
 use Rattle.swim_table.specs.Table.{Entries, Reduced}
@@ -25,7 +25,7 @@ claims_in Memberlist table = with_homes table
 
 -- the table has more records in a form than a stream may have
 abbrev pub HasTooManyIn : Form → Entries → Type 0
-HasTooManyIn form table = most_nodes < length (claims_in form table)
+HasTooManyIn form table = max_nodes < length (claims_in form table)
 
 -- no form has this number
 abbrev pub IsNoForm : ℕ → Type 0

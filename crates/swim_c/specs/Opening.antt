@@ -4,7 +4,7 @@ use Rattle.swim_claim.specs.declared.claim.Claim.TheVariants.{Alive}
 use Rattle.swim_claim.specs.declared.fault.ClaimFault.TheVariants.{NameEmpty, NameTooLong, BadAddress, MetaTooLong, BadVersions}
 use Rattle.swim_claim.specs.Details.{DetailsValue, IsAddress, IsVersions}
 use Rattle.swim_claim.specs.Fault.{claim_number}
-use Rattle.swim_claim.specs.Limits.{longest_meta, longest_name}
+use Rattle.swim_claim.specs.Limits.{max_meta_len, max_name_len}
 use Rattle.swim_claim.specs.Name.{IsLegalName}
 use Rattle.swim_table.specs.Node.{NodeValue}
 use Rattle.swim_table.specs.Table.{TableOf}
@@ -32,12 +32,12 @@ pub record IsNewMember (name : List ℕ) (details : DetailsValue) (inc : ℕ)
 -- refused at any time.
 abbrev pub IsUnopened : List ℕ → DetailsValue → OpenFault → Type 0
 IsUnopened name details (Claim NameEmpty) = name ≡ []
-IsUnopened name details (Claim NameTooLong) = longest_name < length name
+IsUnopened name details (Claim NameTooLong) = max_name_len < length name
 IsUnopened name details (Claim BadAddress) = IsLegalName name × (¬ IsAddress details.addr)
 IsUnopened name details (Claim MetaTooLong) = IsLegalName name × IsAddress details.addr
-    × (longest_meta < length details.meta)
+    × (max_meta_len < length details.meta)
 IsUnopened name details (Claim BadVersions) =
-    IsLegalName name × IsAddress details.addr × (length details.meta ≤ longest_meta)
+    IsLegalName name × IsAddress details.addr × (length details.meta ≤ max_meta_len)
     × (¬ IsVersions details.vsn)
 IsUnopened name details Memory = ⊤
 

@@ -1,6 +1,6 @@
 -- Packets that a member makes.
 use Rattle.std.specs.Prelude.{◌≡◌, ℕ, ◌<◌, ◌⊎◌, List, [], length}
-use Rattle.swim_claim.specs.Limits.{longest_name}
+use Rattle.swim_claim.specs.Limits.{max_name_len}
 use Rattle.swim_wire.specs.Canonical.{packet_bytes}
 use Rattle.swim_wire.specs.Packet.{PacketValue}
 use Rattle.swim_wire.specs.Texts.{PacketText}
@@ -17,7 +17,7 @@ pub data SaidOr (packet : PacketValue) (old new : List ℕ) (status len : ℕ)
 -- the name is empty (11) or too long (12), or memory was refused (10)
 abbrev pub IsNoName : List ℕ → ℕ → Type 0
 IsNoName name status =
-    ((status ≡ 11) × (name ≡ [])) ⊎ ((status ≡ 12) × (longest_name < length name))
+    ((status ≡ 11) × (name ≡ [])) ⊎ ((status ≡ 12) × (max_name_len < length name))
     ⊎ (status ≡ 10)
 
 -- the name is the member's own (68), or invalid

@@ -4,11 +4,11 @@ use Rattle.memberlist_cipher.specs.Encryption.{encrypted, encrypted_stream}
 use Rattle.memberlist_cipher.specs.Label.{IsLabelled}
 use Rattle.memberlist_keyring.specs.Opening.{OpensFirst, OpensStreamFirst, OpensReplyFirst}
 use Rattle.memberlist_keyring.specs.Sending.{MaySend, MaySendStream, SendsFirst}
-use Rattle.memberlist_transport.specs.Packet.{most_message}
+use Rattle.memberlist_transport.specs.Packet.{max_message_len}
 use Rattle.swim_wire.specs.declared.claimless.Claimless.{Claimless}
 use Rattle.swim_wire.specs.Claimless.{ClaimlessText}
 use Rattle.swim_c.specs.Buffers.{Copied}
-use Rattle.swim_c.specs.Unwrapping.{most_stream, IsUnwritten}
+use Rattle.swim_c.specs.Unwrapping.{max_stream_len, IsUnwritten}
 
 -- what is sent if there is no key: the message, after its label if that is not empty
 abbrev pub in_the_clear : List ℕ → List ℕ → List ℕ
@@ -73,7 +73,7 @@ pub record IsSealedPacket (keys : List (List ℕ)) (nonce label message packet :
   where
     pub sends : SendsFirst (λ key. encrypted key nonce label message) keys label packet
     pub opens : OpensFirst keys packet message
-    pub within : length packet ≤ most_message
+    pub within : length packet ≤ max_message_len
     pub no_ping : (kind : Claimless) → ¬ ClaimlessText (encrypted sends.key nonce label message) kind
 
 -- With the keys the stream was made from this message.
@@ -81,11 +81,11 @@ pub record IsSealedStream (keys : List (List ℕ)) (nonce label message stream :
   where
     pub sends : SendsFirst (λ key. encrypted_stream key nonce label message) keys label stream
     pub opens : OpensStreamFirst keys stream message
-    pub within : length stream ≤ most_stream
+    pub within : length stream ≤ max_stream_len
 
 -- With the keys the reply was made from this message, and authenticates this label.
 pub record IsSealedReply (keys : List (List ℕ)) (nonce label message reply : List ℕ) : Type 0
   where
     pub sends : SendsFirst (λ key. encrypted_stream key nonce label message) keys [] reply
     pub opens : OpensReplyFirst keys label reply message
-    pub within : (stream : List ℕ) → IsLabelled stream label reply → length stream ≤ most_stream
+    pub within : (stream : List ℕ) → IsLabelled stream label reply → length stream ≤ max_stream_len

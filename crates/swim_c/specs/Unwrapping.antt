@@ -12,8 +12,8 @@ use Rattle.swim_c.specs.Buffers.{Copied}
 use Rattle.swim_c.specs.Statuses.{packet_status, stream_status}
 
 -- the most bytes of a stream, and of what is compressed or encrypted in it
-abbrev pub most_stream : ℕ
-most_stream = 268435456
+abbrev pub max_stream_len : ℕ
+max_stream_len = 268435456
 
 -- the call has this status, and wrote nothing
 pub record IsUnwritten (number : ℕ) (old new : List ℕ) (status len : ℕ) : Type 0 where
@@ -45,11 +45,11 @@ pub data PacketUnwrapped (keys : List (List ℕ)) (packet old new : List ℕ) (s
 -- long (51).
 pub data StreamUnwrapped (keys : List (List ℕ)) (label bytes old new : List ℕ) (status len : ℕ)
     : Type 0 where
-  stream : (stream : List ℕ) → length label < 256 → IsReplyIn most_stream keys label bytes stream
+  stream : (stream : List ℕ) → length label < 256 → IsReplyIn max_stream_len keys label bytes stream
       → Copied stream old new status len → StreamUnwrapped keys label bytes old new status len
   refused : (fault : StreamFault) → length label < 256 → fault ≢ stream_fault.Memory
-      → ReasonForReply most_stream keys label bytes fault
-      → ((stream : List ℕ) → ¬ IsReplyIn most_stream keys label bytes stream)
+      → ReasonForReply max_stream_len keys label bytes fault
+      → ((stream : List ℕ) → ¬ IsReplyIn max_stream_len keys label bytes stream)
       → IsUnwritten (stream_status fault) old new status len
       → StreamUnwrapped keys label bytes old new status len
   too_long : 255 < length label → IsUnwritten 51 old new status len

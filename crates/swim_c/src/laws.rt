@@ -13,7 +13,7 @@ ghost use Rattle.swim_c.specs.Forgetting.{ForgetsName, LetsNameGo};
 ghost use Rattle.swim_c.specs.Progressing.{IsProgressIn};
 ghost use Rattle.swim_c.specs.Sealing.{IsSealedPacket, IsSealedStream, IsSealedReply};
 ghost use Rattle.swim_c.specs.Taking.{TakesClaims};
-ghost use Rattle.swim_c.specs.Unwrapping.{most_stream};
+ghost use Rattle.swim_c.specs.Unwrapping.{max_stream_len};
 ghost use Rattle.swim_c.specs.Watching.{IsNoted, LetsGo, NotesChanges};
 
 /// Progress in a stream stays valid when more bytes follow.
@@ -35,15 +35,16 @@ pub fn sealed_is_unwrapped()
         → Holds keys packet inner → HoldsClear message inner }
     ensures stream { (keys : List (List ℕ)) (nonce label message bytes stream : List ℕ)
         → IsSealedStream keys nonce label message bytes
-        → IsClearStream most_stream message stream → IsStreamIn most_stream keys bytes stream }
+        → IsClearStream max_stream_len message stream
+        → IsStreamIn max_stream_len keys bytes stream }
     ensures behind { (keys : List (List ℕ)) (nonce label own message bytes stream : List ℕ)
         → IsSealedStream keys nonce label message bytes
-        → IsClearStream most_stream message stream → (label ≡ [] → own ≡ [])
-        → IsReplyIn most_stream keys own bytes stream }
+        → IsClearStream max_stream_len message stream → (label ≡ [] → own ≡ [])
+        → IsReplyIn max_stream_len keys own bytes stream }
     ensures reply { (keys : List (List ℕ)) (nonce label message bytes stream : List ℕ)
         → IsSealedReply keys nonce label message bytes
-        → IsClearStream most_stream message stream
-        → IsReplyIn most_stream keys label bytes stream }
+        → IsClearStream max_stream_len message stream
+        → IsReplyIn max_stream_len keys label bytes stream }
 {}
 
 /// A node knows each name that it noted, whatever claims it takes in and names it returns or

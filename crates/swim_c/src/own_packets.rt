@@ -6,7 +6,7 @@ ghost use Rattle.swim_claim.specs.declared.claim.Claim.TheVariants.{Alive, Suspe
 ghost use Rattle.swim_c.specs.Buffers.{IsNoMemory};
 ghost use Rattle.swim_c.specs.Opening.{IsUnmade, told};
 ghost use Rattle.swim_c.specs.OwnPackets.{SaidOr, IsNoName, IsUnsaid};
-ghost use Rattle.swim_claim.specs.Limits.{longest_name};
+ghost use Rattle.swim_claim.specs.Limits.{max_name_len};
 
 use crate::copy::{Written, copy_out};
 use crate::opening::{Parts, copied};
@@ -111,7 +111,7 @@ pub fn say_confirm(alloc: Global, node: &Node, name: &[u8], inc: u32, out: &mut 
 fn accusation(alloc: Global, node: &Node, name: &[u8]) -> Result<(Name, Vec<u8>), u32>
     ensures names { IfOk result (λ names.
         (names.0 ≡ name.now) × (names.1.items ≡ node.now.name)) }
-    ensures short { IfOk result (λ names. length names.1.items ≤ longest_name) }
+    ensures short { IfOk result (λ names. length names.1.items ≤ max_name_len) }
     ensures refused { IfErr result (IsNoName name.now) }
 {
     let Ok(made) = Name::copied(alloc, name) else {

@@ -6,7 +6,7 @@ ghost use Rattle.swim_c.specs.Sealing.{IsSentClear, PacketSealed, StreamSealed, 
 use crate::copy::{Written, copy_out};
 use crate::fault::cipher_status;
 use crate::status::MEMORY;
-use memberlist_cipher::{CipherFault, LABEL_MAX_SIZE, labelled};
+use memberlist_cipher::{CipherFault, MAX_LABEL_LEN, labelled};
 use memberlist_keyring::Keyring;
 use std::alloc::Global;
 
@@ -108,7 +108,7 @@ fn label_out(alloc: Global, label: &[u8], message: &[u8], out: &mut [u8]) -> Wri
     if label.is_empty() {
         return copy_out(message, out);
     }
-    if label.len() > LABEL_MAX_SIZE {
+    if label.len() > MAX_LABEL_LEN {
         return Written::refused(CipherFault::TooLong.number());
     }
     match labelled(alloc, label, message) {

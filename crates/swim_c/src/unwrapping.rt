@@ -5,14 +5,14 @@ ghost use Rattle.swim_c.specs.Unwrapping.{GivesMessage, PacketUnwrapped, StreamU
 use crate::copy::{Written, copy_out};
 use crate::fault::{packet_status, stream_status};
 use crate::status::WRONG_TYPE;
-use memberlist_cipher::{CipherFault, LABEL_MAX_SIZE};
+use memberlist_cipher::{CipherFault, MAX_LABEL_LEN};
 use memberlist_keyring::Keyring;
 use memberlist_transport::{Message, open_packet, open_reply};
 use std::alloc::Global;
 use swim_wire::WireFault;
 
 /// The most bytes of a stream, and of what is compressed or encrypted in it (own).
-const STREAM_LIMIT: usize = 268_435_456;
+const MAX_STREAM_LEN: usize = 268_435_456;
 
 /// Writes the message of a packet to the buffer, if it makes claims.
 pub fn unwrap_out(alloc: Global, keys: &Keyring, packet: &[u8], out: &mut [u8]) -> Written
@@ -46,10 +46,10 @@ pub fn unwrap_stream_out(
     ensures { StreamUnwrapped keys.now label.now bytes.now
         out.old out.new result.status result.len }
 {
-    if label.len() > LABEL_MAX_SIZE {
+    if label.len() > MAX_LABEL_LEN {
         return Written::refused(CipherFault::TooLong.number());
     }
-    match open_reply(alloc, keys, label, bytes, STREAM_LIMIT) {
+    match open_reply(alloc, keys, label, bytes, MAX_STREAM_LEN) {
         Ok(stream) => copy_out(&stream, out),
         Err(fault) => Written::refused(stream_status(fault)),
     }

@@ -2,9 +2,9 @@
 use Rattle.std.specs.Prelude.{ℕ}
 
 -- a member's name
-abbrev pub longest_name : ℕ
-longest_name = 1024
+abbrev pub max_name_len : ℕ
+max_name_len = 1024
 
 -- what the member's program adds, as in memberlist
-abbrev pub longest_meta : ℕ
-longest_meta = 512
+abbrev pub max_meta_len : ℕ
+max_meta_len = 512

@@ -7,7 +7,7 @@ use std::alloc::{AllocError, Global};
 use std::marker::Model;
 
 /// The most bytes that are stored inline.
-const IN_PLACE: usize = 30;
+const MAX_INLINE_LEN: usize = 30;
 
 /// Bytes, of which up to 30 take no memory of their own.
 ///
@@ -16,7 +16,7 @@ const IN_PLACE: usize = 30;
 #[derive(Drop, Debug)]
 pub(crate) struct SmallBytes {
     // empty if the bytes are on the heap
-    inline: InlineBytes<IN_PLACE>,
+    inline: InlineBytes<MAX_INLINE_LEN>,
     // empty, and then without memory, if the bytes are inline
     heap: Vec<u8>,
 }
@@ -35,7 +35,7 @@ impl SmallBytes {
     pub(crate) fn new(alloc: Global, bytes: Vec<u8>) -> SmallBytes
         ensures { result ≡ bytes.items }
     {
-        if bytes.len() <= IN_PLACE {
+        if bytes.len() <= MAX_INLINE_LEN {
             SmallBytes {
                 inline: InlineBytes::new(&bytes),
                 heap: Vec::new(alloc),
@@ -53,7 +53,7 @@ impl SmallBytes {
     pub(crate) fn copied(alloc: Global, bytes: &[u8]) -> Result<SmallBytes, AllocError>
         ensures { IfOk result (λ held. held ≡ bytes.now) }
     {
-        if bytes.len() <= IN_PLACE {
+        if bytes.len() <= MAX_INLINE_LEN {
             Ok(SmallBytes {
                 inline: InlineBytes::new(bytes),
                 heap: Vec::new(alloc),

@@ -2,5 +2,5 @@
 use Rattle.std.specs.Prelude.{ℕ}
 
 -- bytes of one input or output
-abbrev pub most_bytes : ℕ
-most_bytes = 268435456
+abbrev pub max_input_len : ℕ
+max_input_len = 268435456

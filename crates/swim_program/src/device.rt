@@ -3,7 +3,7 @@
 ghost use Rattle.std.specs.Prelude.{◌≤◌, length, IfOk, IfErr, IsOkUnless, OnOk, OnErr};
 ghost use Rattle.std.specs.Io.KnownBytes.{Appends, Consumes, IsAtEnd};
 ghost use Rattle.swim_pack.specs.Ends.{AppendsFront};
-ghost use Rattle.swim_program.specs.Limits.{most_bytes};
+ghost use Rattle.swim_program.specs.Limits.{max_input_len};
 ghost use Rattle.swim_program.specs.Report.{IsAmong};
 
 use crate::report::{Place, Report, What};
@@ -13,7 +13,7 @@ use std::io::{ErrorKind, IsTerminal, Read, Write};
 use swim_pack::write_whole;
 
 /// The maximum length of an input in bytes. Every canonical dump is shorter.
-pub const BOUND: usize = 268_435_456;
+pub const MAX_INPUT_LEN: usize = 268_435_456;
 
 /// How many interrupted reads of one input are retried.
 const RETRIES: u32 = 1000;
@@ -28,15 +28,15 @@ pub fn read_to_bound<R: Read>(alloc: Global, reader: &mut R) -> Result<Vec<u8>, 
     // bound.
     ensures reads { IfOk result (λ bytes.
         Consumes (R.remaining reader.old) (R.remaining reader.new) bytes.items) }
-    ensures whole { IfOk result (λ bytes. length bytes.items ≤ most_bytes
+    ensures whole { IfOk result (λ bytes. length bytes.items ≤ max_input_len
         → IsAtEnd (R.remaining reader.new)) }
     ensures within { IfOk result (λ bytes. length bytes.items ≤ 268435457) }
 {
     let mut bytes = Vec::new(alloc);
     let mut piece = [0; PIECE];
     let mut interruptions = 0;
-    while bytes.len() <= BOUND {
-        let wanted = (BOUND + 1 - bytes.len()).min(PIECE);
+    while bytes.len() <= MAX_INPUT_LEN {
+        let wanted = (MAX_INPUT_LEN + 1 - bytes.len()).min(PIECE);
         match reader.read(&mut piece[..wanted]) {
             Ok(0) => return Ok(bytes),
             Ok(count) => bytes.extend_from_slice(&piece[..count])?,

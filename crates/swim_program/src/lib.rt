@@ -20,7 +20,7 @@ mod tests;
 mod until;
 mod words;
 
-pub use device::{BOUND, read_file, read_input, read_to_bound, write_out};
+pub use device::{MAX_INPUT_LEN, read_file, read_input, read_to_bound, write_out};
 pub use failure::Failure;
 pub use lines::{Lines, lines_of, without_return};
 pub use report::{Place, Report, What, report_text, status};

@@ -5,7 +5,7 @@ use Rattle.swim_claim.specs.declared.fault.ClaimFault.{ClaimFault}
 use Rattle.swim_claim.specs.declared.fault.ClaimFault.TheVariants as claim
 use Rattle.swim_claim.specs.Details.{DetailsValue, IsAddress, IsVersions}
 use Rattle.swim_claim.specs.Fault.{claim_number}
-use Rattle.swim_claim.specs.Limits.{longest_meta, longest_name}
+use Rattle.swim_claim.specs.Limits.{max_meta_len, max_name_len}
 use Rattle.swim_program.specs.declared.report.What.{What}
 use Rattle.swim_program.specs.declared.report.What.TheVariants.{Refused}
 use Rattle.swim_program.specs.Report.{TellsDatagram}
@@ -42,7 +42,7 @@ node_wrong fields d what l own = inr (
 
 -- what is said of a name that is none
 pub name_wrong : {V : Type 0} (result : Result V ClaimFault) (fault : ClaimFault) (name : List ℕ) (what : What) → result ≡ Err fault
-    → ((result ≡ Err claim.NameEmpty) ↔ (name ≡ [])) → ((result ≡ Err claim.NameTooLong) ↔ (longest_name < length name))
+    → ((result ≡ Err claim.NameEmpty) ↔ (name ≡ [])) → ((result ≡ Err claim.NameTooLong) ↔ (max_name_len < length name))
     → (fault ≡ claim.NameEmpty) ⊎ (fault ≡ claim.NameTooLong) → what ≡ Refused (claim_number fault) None → NoName name what
 name_wrong result fault name what err empty long (inl is) told = inl (empty.0 (err ∙ ap Err is), told ∙ ap (λ f. Refused (claim_number f) None) is)
 name_wrong result fault name what err empty long (inr is) told = inr (long.0 (err ∙ ap Err is), told ∙ ap (λ f. Refused (claim_number f) None) is)
@@ -50,8 +50,8 @@ name_wrong result fault name what err empty long (inr is) told = inr (long.0 (er
 -- what is said of details that are none
 pub details_wrong : {V : Type 0} (result : Result V ClaimFault) (fault : ClaimFault) (details : DetailsValue) (what : What) → result ≡ Err fault
     → ((result ≡ Err claim.BadAddress) ↔ (¬ IsAddress details.addr))
-    → ((result ≡ Err claim.MetaTooLong) ↔ (IsAddress details.addr × (longest_meta < length details.meta)))
-    → ((result ≡ Err claim.BadVersions) ↔ (IsAddress details.addr × (length details.meta ≤ longest_meta) × (¬ IsVersions details.vsn)))
+    → ((result ≡ Err claim.MetaTooLong) ↔ (IsAddress details.addr × (max_meta_len < length details.meta)))
+    → ((result ≡ Err claim.BadVersions) ↔ (IsAddress details.addr × (length details.meta ≤ max_meta_len) × (¬ IsVersions details.vsn)))
     → (fault ≡ claim.BadAddress) ⊎ (fault ≡ claim.MetaTooLong) ⊎ (fault ≡ claim.BadVersions)
     → what ≡ Refused (claim_number fault) None → NoDetails details what
 details_wrong result fault details what err addr meta vsn (inl is) told =

@@ -4,7 +4,7 @@ use Rattle.std.specs.Prelude.{◌≡◌, ◌≢◌, ◌⊎◌, ℕ, ◌+◌, ◌
 use Rattle.std.specs.Str.Lines.{strip_carriage_return}
 use Rattle.percent_encoding.specs.Percent.{percent_decode}
 use Rattle.swim_claim.specs.Details.{DetailsValue, IsAddress, IsVersions}
-use Rattle.swim_claim.specs.Limits.{longest_meta, longest_name}
+use Rattle.swim_claim.specs.Limits.{max_meta_len, max_name_len}
 use Rattle.swim_claim.specs.Name.{IsLegalName}
 use Rattle.swim_sync.specs.declared.event.Event.{Event}
 use Rattle.swim_program.specs.declared.report.Place.{Place}
@@ -42,14 +42,14 @@ NoBytes word what = ((bytes : List ℕ) → ¬ HexBytes word bytes) × (what ≡
 -- the name is empty (11) or too long (12)
 abbrev pub NoName : List ℕ → What → Type 0
 NoName name what = ((name ≡ []) × (what ≡ Refused 11 None))
-    ⊎ ((longest_name < length name) × (what ≡ Refused 12 None))
+    ⊎ ((max_name_len < length name) × (what ≡ Refused 12 None))
 
 -- the address is none (13), or else the metadata is too long (14), or else the versions are none
 -- (15)
 abbrev pub NoDetails : DetailsValue → What → Type 0
 NoDetails details what = ((¬ IsAddress details.addr) × (what ≡ Refused 13 None))
-    ⊎ (IsAddress details.addr × (longest_meta < length details.meta) × (what ≡ Refused 14 None))
-    ⊎ (IsAddress details.addr × (length details.meta ≤ longest_meta) × (¬ IsVersions details.vsn)
+    ⊎ (IsAddress details.addr × (max_meta_len < length details.meta) × (what ≡ Refused 14 None))
+    ⊎ (IsAddress details.addr × (length details.meta ≤ max_meta_len) × (¬ IsVersions details.vsn)
     × (what ≡ Refused 15 None))
 
 -- ---- the words of a line

@@ -1,7 +1,7 @@
 //! Scripts: the nodes of a cluster, and what happens in it.
 
 ghost use Rattle.std.specs.Prelude.{◌≡◌, ◌≢◌, ◌↔◌, ◌<◌, ◌≤◌, [], List, length, None, IfOk, IfErr, OnOk};
-ghost use Rattle.swim_program.specs.Limits.{most_bytes};
+ghost use Rattle.swim_program.specs.Limits.{max_input_len};
 ghost use Rattle.swim_program.specs.Lines.{input_lines};
 ghost use Rattle.swim_program.specs.Report.{IsAmong};
 ghost use Rattle.swim_script.specs.Refusals.{IsFirstWrongLine, IsOfReading};
@@ -10,7 +10,7 @@ ghost use Rattle.swim_script.specs.ScriptReading.{Adds, AreNumbered, TakesLine, 
 
 use crate::script_line::{Line, read_line};
 use std::alloc::{AllocError, Global};
-use swim_program::{BOUND, Place, Report, What, lines_of, without_return};
+use swim_program::{MAX_INPUT_LEN, Place, Report, What, lines_of, without_return};
 use swim_sync::Event;
 use swim_table::Node;
 
@@ -99,14 +99,15 @@ pub fn read_script(alloc: Global, input: &[u8]) -> Result<Plan, Report>
 
     // Refused for another cause than memory and its length, the report names the first line that
     // makes the input no script, and its fault.
-    ensures line { IfErr result (λ report. report.what ≢ What.Memory → length input.now ≤ most_bytes
+    ensures line { IfErr result
+        (λ report. report.what ≢ What.Memory → length input.now ≤ max_input_len
         → IsFirstWrongLine input.now report.place report.what) }
-    ensures long { (most_bytes < length input.now)
+    ensures long { (max_input_len < length input.now)
         ↔ (result ≡ Err (record { place = Place.Input; what = What.Refused 32 None })) }
     ensures kind { IfErr result (λ report. IsOfReading report.what) }
     ensures place { IfErr result (λ report. IsAmong report.place 0) }
 {
-    if input.len() > BOUND {
+    if input.len() > MAX_INPUT_LEN {
         return Err(What::input_too_long().at(Place::Input));
     }
     let mut plan = Plan::new(alloc);

@@ -17,13 +17,13 @@ use swim_table::Node;
 use swim_wire::Datagram;
 
 /// The greatest port.
-const MOST_PORT: u64 = 65_535;
+const MAX_PORT: u64 = 65_535;
 
 /// The greatest incarnation.
-const MOST_INC: u64 = 4_294_967_295;
+const MAX_INC: u64 = 4_294_967_295;
 
 /// The greatest number of a node, which need not be there.
-const MOST_NODE: u64 = 18_446_744_073_709_551_615;
+const MAX_NODE: u64 = 18_446_744_073_709_551_615;
 
 /// What a line of a script says.
 #[derive(Debug, Drop)]
@@ -84,10 +84,10 @@ fn read_node(alloc: Global, fields: &[&[u8]]) -> Result<Node, What>
     };
     let name = name_of(alloc, name)?;
     let addr = bytes_of(alloc, addr)?;
-    let port = number_of(port, MOST_PORT)? as u16;
+    let port = number_of(port, MAX_PORT)? as u16;
     let meta = bytes_of(alloc, meta)?;
     let vsn = bytes_of(alloc, vsn)?;
-    let inc = number_of(inc, MOST_INC)? as u32;
+    let inc = number_of(inc, MAX_INC)? as u32;
     let name = Name::new(name)?;
     let details = Details::new(addr, port, meta, vsn)?;
     Ok(Node::new(alloc, name, details, inc)?)
@@ -185,5 +185,5 @@ fn node_number(word: &[u8]) -> Result<usize, What>
     ensures refuses { IfErr result (λ what. (k : ℕ) → ¬ NodeNumber word.now k) }
     ensures fault { IfErr result (λ what. what ≡ What.Refused 31 None) }
 {
-    Ok(number_of(word, MOST_NODE)? as usize)
+    Ok(number_of(word, MAX_NODE)? as usize)
 }

@@ -9,10 +9,10 @@ use std::alloc::{AllocError, Global};
 use swim_program::What;
 
 /// The most words of a line: those of a node.
-const MOST_WORDS: usize = 7;
+const MAX_WORDS: usize = 7;
 
 /// The most digits of a number. Each number of 64 bits has at most as many.
-const MOST_DIGITS: usize = 20;
+const MAX_DIGITS: usize = 20;
 
 /// The words of a line, which stand between its spaces.
 ///
@@ -26,9 +26,9 @@ pub(crate) fn split_words(alloc: Global, line: &[u8]) -> Result<Vec<&[u8]>, What
 {
     let words = line
         .split(|byte| *byte == b' ')
-        .take(MOST_WORDS + 1)
+        .take(MAX_WORDS + 1)
         .collect::<Vec<&[u8]>>(alloc)?;
-    if words.len() > MOST_WORDS {
+    if words.len() > MAX_WORDS {
         return Err(What::bad_script());
     }
     Ok(words)
@@ -45,7 +45,7 @@ pub(crate) fn number_of(word: &[u8], most: u64) -> Result<u64, What>
     ensures fault { IfErr result (λ what. what ≡ What.Refused 31 None) }
 {
     // parse takes a plus, and a text of any length
-    if word.len() > MOST_DIGITS || word.first() == Some(&b'+') {
+    if word.len() > MAX_DIGITS || word.first() == Some(&b'+') {
         return Err(What::bad_script());
     }
     let Ok(text) = str::from_utf8(word) else {

@@ -8,7 +8,7 @@ use Rattle.swim_pack.specs.Ends.{Source, Sink, ConsumesText, NoTextAtFront, Coun
 use Rattle.swim_wire.specs.declared.fault.WireFault.{WireFault}
 use Rattle.swim_wire.specs.declared.fault.WireFault.TheVariants as wire
 use Rattle.swim_wire.specs.Checks.{ReasonForStart}
-use Rattle.swim_wire.specs.Limits.{most_nodes}
+use Rattle.swim_wire.specs.Limits.{max_nodes}
 use Rattle.swim_wire.specs.Reading.{wire_cause}
 use Rattle.swim_wire.specs.Streams.{StreamText}
 use Rattle.swim_table.specs.Dump.{dump_bytes}
@@ -33,7 +33,7 @@ ReadsOffer old new offered join = (claims : List Claim) × TableOf offered claim
 -- A table that can be sent: its claims are within their limits, and a dump has room for them.
 pub record IsSendable (table : Entries) : Type 0 where
   pub legal : IsLegalTable table
-  pub few : length (Reduced table) ≤ most_nodes
+  pub few : length (Reduced table) ≤ max_nodes
 
 -- The dump of the table is to come with this join flag, and after it these bytes.
 abbrev pub Brings : Source → Entries → Bool → List ℕ → Type 0
@@ -52,7 +52,7 @@ pub record TakesDump (before after other : Entries) : Type 0 where
 
 -- more records than a dump may have
 abbrev pub HasTooMany : Entries → Type 0
-HasTooMany table = most_nodes < length (Reduced table)
+HasTooMany table = max_nodes < length (Reduced table)
 
 -- The bytes do not start with a stream, and the fault says why; or the inlet failed.
 pub record LacksStream (old new : Source) (fault : WireFault) : Type 0 where

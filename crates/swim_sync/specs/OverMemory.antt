@@ -5,12 +5,12 @@ use Rattle.swim_table.specs.Dump.{dump_bytes}
 use Rattle.swim_table.specs.Table.{Entries, Reduced, TableOf, IsLegalTable}
 use Rattle.swim_sync.specs.declared.stop.Why.{Why}
 use Rattle.swim_sync.specs.declared.stop.Why.TheVariants.{NoSuchNode, SameNode, TooManyRecords, Memory}
-use Rattle.swim_wire.specs.Limits.{most_nodes}
+use Rattle.swim_wire.specs.Limits.{max_nodes}
 
 -- the bytes are the canonical dump of the table, without the join flag
 pub record IsOffer (table : Entries) (bytes : List ℕ) : Type 0 where
   pub legal : IsLegalTable table
-  pub few : length (Reduced table) ≤ most_nodes
+  pub few : length (Reduced table) ≤ max_nodes
   pub dump : bytes ≡ dump_bytes table false
 
 -- the table has the other one's claims too

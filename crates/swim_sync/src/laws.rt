@@ -4,7 +4,7 @@ ghost use Rattle.swim_claim.specs.declared.claim.Claim.{Claim};
 ghost use Rattle.swim_claim.specs.declared.claim.Claim.TheVariants.{Alive};
 ghost use Rattle.swim_claim.specs.Claim.{name_of, Overrides};
 ghost use Rattle.swim_pack.specs.Ends.{Source};
-ghost use Rattle.swim_wire.specs.Limits.{most_nodes};
+ghost use Rattle.swim_wire.specs.Limits.{max_nodes};
 ghost use Rattle.swim_wire.specs.Streams.{StreamText};
 ghost use Rattle.swim_table.specs.Standing.{Standing};
 ghost use Rattle.swim_table.specs.Table.{Entries, TableOf, Same, Reduced, IsLegalTable};
@@ -46,7 +46,7 @@ pub fn two_members()
         → TableOf table claims → TableOf other others → Same claims others
         → dump_bytes table join ≡ dump_bytes other join }
     ensures read_back { (table : Entries) (join flag : Bool) (claims : List Claim)
-        → IsLegalTable table → length (Reduced table) ≤ most_nodes
+        → IsLegalTable table → length (Reduced table) ≤ max_nodes
         → StreamText (dump_bytes table join) claims flag
         → (claims ≡ Reduced table) × (flag ≡ join) }
 {}

@@ -17,7 +17,7 @@ ghost use Rattle.swim_sync.specs.Exchanging.{HasTooMany, TakesStream, ReadsOffer
 use crate::fault::SyncFault;
 use std::alloc::Global;
 use swim_pack::{Inlet, Outlet};
-use swim_table::{MOST_RECORDS, Room, Table, encode, read_dump, read_stream};
+use swim_table::{MAX_RECORDS, Room, Table, encode, read_dump, read_stream};
 
 /// Offers a table: writes its canonical dump, with this join flag, in one push. This starts an
 /// exchange (memberlist's `net.go`).
@@ -207,10 +207,10 @@ pub(crate) fn has_too_many(table: &Table) -> bool
     ensures { MatchBool result (HasTooMany table.now) (¬ HasTooMany table.now) }
 {
     // an entry keeps at most two records, so most tables need no count
-    if table.len() <= MOST_RECORDS as usize / 2 {
+    if table.len() <= MAX_RECORDS as usize / 2 {
         return false;
     }
-    table.records() > MOST_RECORDS
+    table.records() > MAX_RECORDS
 }
 
 /// Exchanges two tables, neither of which has too many records.

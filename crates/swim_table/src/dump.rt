@@ -3,7 +3,7 @@
 ghost use Rattle.std.specs.Prelude.{◌≡◌, ◌↔◌, ◌+◌, ◌*◌, ◌^◌, ◌<◌, ◌≤◌, ◌++◌, take, length, IsErr, IfOk, IfErr};
 ghost use Rattle.std.specs.List.{flat_map};
 ghost use Rattle.swim_wire.specs.Canonical.{state_bytes};
-ghost use Rattle.swim_wire.specs.Limits.{most_nodes};
+ghost use Rattle.swim_wire.specs.Limits.{max_nodes};
 ghost use Rattle.swim_wire.specs.Streams.{StreamText};
 ghost use Rattle.swim_table.specs.Dump.{dump_bytes};
 ghost use Rattle.swim_table.specs.Table.{kept, Reduced};
@@ -15,7 +15,7 @@ use std::alloc::Global;
 use swim_wire::{Header, header_len, put_header, put_state, state_len};
 
 /// The most records in a stream.
-pub const MOST_RECORDS: u128 = 131_072;
+pub const MAX_RECORDS: u128 = 131_072;
 
 /// The canonical dump of the table: a push/pull stream with the names in ascending byte order. Each
 /// has the record of its home, if there is one, and then the record of its top if that is not the
@@ -30,7 +30,7 @@ pub fn encode(alloc: Global, table: &Table, join: bool) -> Result<Vec<u8>, Encod
     ensures canonical { IfOk result (λ bytes. bytes.items ≡ dump_bytes table.now join) }
     ensures text { IfOk result (λ bytes. StreamText bytes.items (Reduced table.now) join) }
     ensures too_many { (result ≡ Err EncodeFault.TooManyRecords)
-        ↔ (most_nodes < length (Reduced table.now)) }
+        ↔ (max_nodes < length (Reduced table.now)) }
 {
     let len = dump_len(table, join)?;
     let mut out = Vec::with_capacity(alloc, len)?;
@@ -46,11 +46,11 @@ pub fn encode(alloc: Global, table: &Table, join: bool) -> Result<Vec<u8>, Encod
 /// `TooManyRecords`, as for [`encode`], and nothing else.
 pub fn dump_len(table: &Table, join: bool) -> Result<usize, EncodeFault>
     ensures len { IfOk result (λ len. len ≡ length (dump_bytes table.now join)) }
-    ensures too_many { IsErr result ↔ (most_nodes < length (Reduced table.now)) }
+    ensures too_many { IsErr result ↔ (max_nodes < length (Reduced table.now)) }
     ensures no_memory { IfErr result (λ fault. fault ≡ EncodeFault.TooManyRecords) }
 {
     let records = table.records();
-    if records > MOST_RECORDS {
+    if records > MAX_RECORDS {
         return Err(EncodeFault::TooManyRecords);
     }
     let mut len = header_len(&dump_header(records as u32, join));
@@ -63,7 +63,7 @@ pub fn dump_len(table: &Table, join: bool) -> Result<usize, EncodeFault>
 /// Writes the canonical dump into a buffer of its length, which [`dump_len`] returns. It takes no
 /// memory.
 pub fn encode_into(table: &Table, join: bool, out: &mut [u8])
-    requires few { length (Reduced table.now) ≤ most_nodes }
+    requires few { length (Reduced table.now) ≤ max_nodes }
     requires fits { length out.old ≡ length (dump_bytes table.now join) }
     ensures canonical { out.new ≡ dump_bytes table.now join }
     ensures text { StreamText (dump_bytes table.now join) (Reduced table.now) join }

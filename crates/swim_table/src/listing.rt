@@ -3,7 +3,7 @@
 ghost use Rattle.std.specs.Prelude.{◌≡◌, ◌≤◌, ◌++◌, length, decimal, IfOk, OnOk};
 ghost use Rattle.hex.specs.Hex.{encode_lower};
 ghost use Rattle.percent_encoding.specs.Percent as percent;
-ghost use Rattle.swim_claim.specs.Limits.{longest_meta};
+ghost use Rattle.swim_claim.specs.Limits.{max_meta_len};
 ghost use Rattle.swim_table.specs.declared.listing.TheConstants.{ESCAPED};
 ghost use Rattle.swim_table.specs.Listing.{state_word, address_text, home_text, line, listing};
 
@@ -113,7 +113,7 @@ fn write_number(text: &mut Vec<u8>, number: u32) -> Result<(), AllocError>
 
 /// Adds bytes in hexadecimal.
 fn write_hexadecimal(text: &mut Vec<u8>, bytes: &[u8]) -> Result<(), AllocError>
-    requires { length bytes.now ≤ longest_meta }
+    requires { length bytes.now ≤ max_meta_len }
     ensures { OnOk result (text.new.items ≡ text.old.items ++ encode_lower bytes.now) }
 {
     let start = text.len();

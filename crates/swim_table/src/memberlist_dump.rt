@@ -4,12 +4,12 @@ ghost use Rattle.std.specs.Prelude.{◌≡◌, ◌↔◌, ◌+◌, ◌*◌, ◌^
 ghost use Rattle.std.specs.List.{flat_map};
 ghost use Rattle.std.specs.Option.{option_copied};
 ghost use Rattle.swim_wire.specs.Canonical.{state_bytes_with};
-ghost use Rattle.swim_wire.specs.Limits.{most_nodes};
+ghost use Rattle.swim_wire.specs.Limits.{max_nodes};
 ghost use Rattle.swim_wire.specs.Streams.{StreamText};
 ghost use Rattle.swim_table.specs.MemberlistDump.{memberlist_dump_bytes, entry_bytes, home_details, kept_with_home, with_homes};
 ghost use Rattle.swim_table.specs.Table.{kept};
 
-use crate::dump::{MOST_RECORDS, dump_header};
+use crate::dump::{MAX_RECORDS, dump_header};
 use crate::entry::Entry;
 use crate::fault::EncodeFault;
 use crate::table::Table;
@@ -33,7 +33,7 @@ pub fn encode_memberlist(alloc: Global, table: &Table, join: bool) -> Result<Vec
     ensures bytes { IfOk result (λ bytes. bytes.items ≡ memberlist_dump_bytes table.now join) }
     ensures text { IfOk result (λ bytes. StreamText bytes.items (with_homes table.now) join) }
     ensures too_many { (result ≡ Err EncodeFault.TooManyRecords)
-        ↔ (most_nodes < length (with_homes table.now)) }
+        ↔ (max_nodes < length (with_homes table.now)) }
 {
     let len = memberlist_dump_len(table, join)?;
     let mut out = Vec::with_capacity(alloc, len)?;
@@ -49,11 +49,11 @@ pub fn encode_memberlist(alloc: Global, table: &Table, join: bool) -> Result<Vec
 /// `TooManyRecords`, as for [`encode_memberlist`], and nothing else.
 pub fn memberlist_dump_len(table: &Table, join: bool) -> Result<usize, EncodeFault>
     ensures len { IfOk result (λ len. len ≡ length (memberlist_dump_bytes table.now join)) }
-    ensures too_many { IsErr result ↔ (most_nodes < length (with_homes table.now)) }
+    ensures too_many { IsErr result ↔ (max_nodes < length (with_homes table.now)) }
     ensures no_memory { IfErr result (λ fault. fault ≡ EncodeFault.TooManyRecords) }
 {
     let records = records_with_homes(table);
-    if records > MOST_RECORDS {
+    if records > MAX_RECORDS {
         return Err(EncodeFault::TooManyRecords);
     }
     let mut len = header_len(&dump_header(records as u32, join));
@@ -66,7 +66,7 @@ pub fn memberlist_dump_len(table: &Table, join: bool) -> Result<usize, EncodeFau
 /// Writes the dump that memberlist merges into a buffer of its length, which
 /// [`memberlist_dump_len`] returns. It takes no memory.
 pub fn encode_memberlist_into(table: &Table, join: bool, out: &mut [u8])
-    requires few { length (with_homes table.now) ≤ most_nodes }
+    requires few { length (with_homes table.now) ≤ max_nodes }
     requires fits { length out.old ≡ length (memberlist_dump_bytes table.now join) }
     ensures bytes { out.new ≡ memberlist_dump_bytes table.now join }
     ensures text { StreamText (memberlist_dump_bytes table.now join) (with_homes table.now) join }

@@ -3,7 +3,7 @@
 
 ghost use Rattle.std.specs.Prelude.{◌≡◌, ◌≤◌, Bool, List, All, Contains, IsSome, length};
 ghost use Rattle.swim_claim.specs.declared.claim.Claim.{Claim};
-ghost use Rattle.swim_wire.specs.Limits.{most_nodes};
+ghost use Rattle.swim_wire.specs.Limits.{max_nodes};
 ghost use Rattle.swim_wire.specs.Streams.{StreamText};
 ghost use Rattle.swim_table.specs.MemberlistDump.{memberlist_dump_bytes, with_homes};
 ghost use Rattle.swim_table.specs.Standing.{Standing};
@@ -24,10 +24,10 @@ pub fn homes_are_told()
 /// about names with a home and with the join flag, and of no other claims and no other flag.
 pub fn memberlist_dump()
     ensures stream { (table : Entries) (join : Bool) → IsLegalTable table
-        → length (with_homes table) ≤ most_nodes
+        → length (with_homes table) ≤ max_nodes
         → StreamText (memberlist_dump_bytes table join) (with_homes table) join }
     ensures no_other { (table : Entries) (join flag : Bool) (claims : List Claim)
-        → IsLegalTable table → length (with_homes table) ≤ most_nodes
+        → IsLegalTable table → length (with_homes table) ≤ max_nodes
         → StreamText (memberlist_dump_bytes table join) claims flag
         → (claims ≡ with_homes table) × (flag ≡ join) }
 {}

@@ -6,7 +6,7 @@ ghost use Rattle.swim_pack.specs.Ends.{ConsumesText, NoTextAtFront, Advances, Co
 ghost use Rattle.swim_pack.specs.Composing.{UnlessFailed};
 ghost use Rattle.swim_wire.specs.declared.stream.Header.{Header};
 ghost use Rattle.swim_wire.specs.Checks.{ReasonForStart};
-ghost use Rattle.swim_wire.specs.Limits.{most_nodes, most_user_state};
+ghost use Rattle.swim_wire.specs.Limits.{max_nodes, max_user_state_len};
 ghost use Rattle.swim_wire.specs.Reading.{wire_cause};
 ghost use Rattle.swim_wire.specs.Streams.{StreamText};
 ghost use Rattle.swim_wire.specs.Texts.{HeaderText};
@@ -62,8 +62,8 @@ impl StreamReader {
             × (reader.table ≡ [])) }
 
         // Also if the inlet does not say what its bytes are.
-        ensures within { IfOk result (λ reader. (reader.header.nodes ≤ most_nodes)
-            × (reader.header.user_len ≤ most_user_state)) }
+        ensures within { IfOk result (λ reader. (reader.header.nodes ≤ max_nodes)
+            × (reader.header.user_len ≤ max_user_state_len)) }
 
         // If refused, and the inlet did not fail, the bytes do not begin with a header, and the
         // fault says why.
@@ -208,7 +208,7 @@ pub fn read_dump(alloc: Global, bytes: &[u8]) -> Result<(Table, bool), WireFault
 
     // A canonical dump is read back, and refused only if out of memory.
     ensures back { (table : Entries) (join : Bool) → IsLegalTable table
-        → length (Reduced table) ≤ most_nodes → bytes.now ≡ dump_bytes table join
+        → length (Reduced table) ≤ max_nodes → bytes.now ≡ dump_bytes table join
         → IfOk result (λ read. (read.0 ≡ table) × (read.1 ≡ join))
         × IfErr result (λ fault. fault ≡ WireFault.Memory) }
 {

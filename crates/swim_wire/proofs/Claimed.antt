@@ -11,7 +11,7 @@ use Rattle.swim_wire.specs.declared.message.Alive.{Alive}
 use Rattle.swim_wire.specs.declared.message.PushNodeState.{PushNodeState}
 use Rattle.swim_wire.specs.declared.message.PushPullHeader.{PushPullHeader}
 use Rattle.swim_wire.specs.declared.stream.Header.{Header}
-use Rattle.swim_wire.specs.Limits.{most_nodes, most_user_state}
+use Rattle.swim_wire.specs.Limits.{max_nodes, max_user_state_len}
 use Rattle.swim_wire.specs.Message.{HasAliveFields, HasAccusationFields, HasHeaderFields, HasStateFields, slots_of_alive, slots_of_accusation, slots_of_header, slots_of_state}
 use Rattle.swim_wire.specs.Places.{header_nodes, header_user_state_len, state_name, state_state}
 use Rattle.swim_wire.specs.Reading.{Slots, wire_cause, AnswersUnlessMemory, number_in, raw_in, with_name, with_details, alive_of, suspect_of, dead_of, header_of, state_of, claim_of_state}
@@ -66,8 +66,8 @@ state_check slots = name_check (raw_in slots state_name) (claim_of_state slots (
 
 pub header_check : (slots : Slots) → IsCheck (header_of slots)
 header_check slots =
-    split (ltb most_nodes (number_in slots header_nodes)) P _ _ (λ _. record { by = refl })
-    (λ _. split (ltb most_user_state (number_in slots header_user_state_len)) P _ _ (λ _. record { by = refl }) (λ _. record { by = tt }))
+    split (ltb max_nodes (number_in slots header_nodes)) P _ _ (λ _. record { by = refl })
+    (λ _. split (ltb max_user_state_len (number_in slots header_user_state_len)) P _ _ (λ _. record { by = refl }) (λ _. record { by = tt }))
   where
     P : Result Header WireFault → Type 0
     P r = IsCheck r

@@ -8,7 +8,7 @@ use Rattle.swim_wire.specs.declared.fault.WireFault.TheVariants.{Memory, NameEmp
 use Rattle.swim_wire.specs.declared.layout.Key.TheVariants as keys
 use Rattle.swim_wire.specs.Asking.{MapAsks, PacketAsks}
 use Rattle.swim_wire.specs.Layout.{Layout, Pairs, MapText, number_of, raw_of, alive_layout, accusation_layout, header_layout, state_layout}
-use Rattle.swim_wire.specs.Limits.{most_nodes, most_user_state}
+use Rattle.swim_wire.specs.Limits.{max_nodes, max_user_state_len}
 use Rattle.swim_wire.specs.Packet.{PacketValue}
 use Rattle.swim_wire.specs.Texts.{PacketText}
 
@@ -33,9 +33,9 @@ AccusationFails error pairs = ⊥
 
 -- the count of members is checked before the length of the user state
 abbrev pub HeaderFails : WireFault → Pairs → Type 0
-HeaderFails TooManyNodes pairs = most_nodes < number_of keys.Nodes pairs
-HeaderFails UserTooLong pairs = (number_of keys.Nodes pairs ≤ most_nodes)
-    × (most_user_state < number_of keys.UserStateLen pairs)
+HeaderFails TooManyNodes pairs = max_nodes < number_of keys.Nodes pairs
+HeaderFails UserTooLong pairs = (number_of keys.Nodes pairs ≤ max_nodes)
+    × (max_user_state_len < number_of keys.UserStateLen pairs)
 HeaderFails error pairs = ⊥
 
 -- a state record needs a name, a state of 0 to 3, and, if it is alive, legal details

@@ -1,6 +1,6 @@
 -- The messages that make no claim: which bytes are which kind, and their reading.
 use Rattle.std.specs.Prelude.{◌≡◌, ◌⊎◌, ℕ, ◌==◌, List, [], ◌∷◌, length, Option, Some, None, Result, Ok, Err, if◌then◌else◌}
-use Rattle.swim_claim.specs.Limits.{longest_name}
+use Rattle.swim_claim.specs.Limits.{max_name_len}
 use Rattle.swim_wire.specs.declared.claimless.Claimless.{Claimless}
 use Rattle.swim_wire.specs.declared.claimless.Claimless.TheVariants.{Ping, IndirectPing, Ack, User, Nack, Error}
 use Rattle.swim_wire.specs.declared.fault.WireFault.{WireFault}
@@ -24,15 +24,15 @@ type_of Error = 13
 -- length of a payload and of the text of an error. A user message has no map.
 abbrev pub claimless_layout : ℕ → Claimless → Layout
 claimless_layout limit Ping =
-    (key_text keys.Node, limits.Raw longest_name) ∷ (key_text keys.SeqNo, limits.Number 0xffff_ffff)
+    (key_text keys.Node, limits.Raw max_name_len) ∷ (key_text keys.SeqNo, limits.Number 0xffff_ffff)
     ∷ (key_text keys.SourceAddr, limits.Raw 16)
-    ∷ (key_text keys.SourceNode, limits.Raw longest_name)
+    ∷ (key_text keys.SourceNode, limits.Raw max_name_len)
     ∷ (key_text keys.SourcePort, limits.Number 0xffff) ∷ []
 claimless_layout limit IndirectPing =
-    (key_text keys.Nack, limits.Flag) ∷ (key_text keys.Node, limits.Raw longest_name)
+    (key_text keys.Nack, limits.Flag) ∷ (key_text keys.Node, limits.Raw max_name_len)
     ∷ (key_text keys.Port, limits.Number 0xffff) ∷ (key_text keys.SeqNo, limits.Number 0xffff_ffff)
     ∷ (key_text keys.SourceAddr, limits.Raw 16)
-    ∷ (key_text keys.SourceNode, limits.Raw longest_name)
+    ∷ (key_text keys.SourceNode, limits.Raw max_name_len)
     ∷ (key_text keys.SourcePort, limits.Number 0xffff) ∷ (key_text keys.Target, limits.Raw 16) ∷ []
 claimless_layout limit Ack =
     (key_text keys.Payload, limits.Raw limit)

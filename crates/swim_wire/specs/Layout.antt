@@ -4,7 +4,7 @@ use Rattle.std.specs.Prelude.{◌≡◌, ℕ, ◌≤◌, Bool, false, List, [], 
 use Rattle.std.specs.List.{IsDistinct}
 use Rattle.std.specs.Map.{lookup}
 use Rattle.std.specs.Str.{bytes_eq}
-use Rattle.swim_claim.specs.Limits.{longest_meta, longest_name}
+use Rattle.swim_claim.specs.Limits.{max_meta_len, max_name_len}
 use Rattle.swim_pack.specs.Spelling.{Number, Raw, Flag, Count}
 use Rattle.swim_wire.specs.declared.layout.Key.{Key}
 use Rattle.swim_wire.specs.declared.layout.Key.TheVariants as keys
@@ -93,15 +93,15 @@ flag_of key pairs = flag_or_false (of_key (key_text key) pairs)
 abbrev pub alive_layout : Layout
 alive_layout =
     (key_text keys.Addr, limits.Raw 16) ∷ (key_text keys.Incarnation, limits.Number 0xffff_ffff)
-    ∷ (key_text keys.Meta, limits.Raw longest_meta) ∷ (key_text keys.Node, limits.Raw longest_name)
+    ∷ (key_text keys.Meta, limits.Raw max_meta_len) ∷ (key_text keys.Node, limits.Raw max_name_len)
     ∷ (key_text keys.Port, limits.Number 0xffff) ∷ (key_text keys.Vsn, limits.Raw 6) ∷ []
 
 -- memberlist's suspect and dead
 abbrev pub accusation_layout : Layout
 accusation_layout =
-    (key_text keys.From, limits.Raw longest_name)
+    (key_text keys.From, limits.Raw max_name_len)
     ∷ (key_text keys.Incarnation, limits.Number 0xffff_ffff)
-    ∷ (key_text keys.Node, limits.Raw longest_name) ∷ []
+    ∷ (key_text keys.Node, limits.Raw max_name_len) ∷ []
 
 -- memberlist's pushPullHeader
 abbrev pub header_layout : Layout
@@ -113,7 +113,7 @@ header_layout =
 abbrev pub state_layout : Layout
 state_layout =
     (key_text keys.Addr, limits.Raw 16) ∷ (key_text keys.Incarnation, limits.Number 0xffff_ffff)
-    ∷ (key_text keys.Meta, limits.Raw longest_meta) ∷ (key_text keys.Name, limits.Raw longest_name)
+    ∷ (key_text keys.Meta, limits.Raw max_meta_len) ∷ (key_text keys.Name, limits.Raw max_name_len)
     ∷ (key_text keys.Port, limits.Number 0xffff)
     ∷ (key_text keys.State, limits.Number 0xffff_ffff_ffff_ffff)
     ∷ (key_text keys.Vsn, limits.Raw 6) ∷ []

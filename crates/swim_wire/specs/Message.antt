@@ -1,6 +1,6 @@
 -- The fields of a message are the values in the slots of its map.
 use Rattle.std.specs.Prelude.{◌≡◌, ◌≤◌, length}
-use Rattle.swim_claim.specs.Limits.{longest_meta, longest_name}
+use Rattle.swim_claim.specs.Limits.{max_meta_len, max_name_len}
 use Rattle.swim_wire.specs.declared.message.Alive.{Alive}
 use Rattle.swim_wire.specs.declared.message.Accusation.{Accusation}
 use Rattle.swim_wire.specs.declared.message.PushPullHeader.{PushPullHeader}
@@ -62,13 +62,13 @@ slots_of_state state =
 -- ---- the fields are within the limits of names and metadata
 
 pub record IsShortAlive (alive : Alive) : Type 0 where
-  pub node : length alive.node.now ≤ longest_name
-  pub meta : length alive.meta.now ≤ longest_meta
+  pub node : length alive.node.now ≤ max_name_len
+  pub meta : length alive.meta.now ≤ max_meta_len
 
 pub record IsShortAccusation (accusation : Accusation) : Type 0 where
-  pub from : length accusation.from.now ≤ longest_name
-  pub node : length accusation.node.now ≤ longest_name
+  pub from : length accusation.from.now ≤ max_name_len
+  pub node : length accusation.node.now ≤ max_name_len
 
 pub record IsShortState (state : PushNodeState) : Type 0 where
-  pub name : length state.name.now ≤ longest_name
-  pub meta : length state.meta.now ≤ longest_meta
+  pub name : length state.name.now ≤ max_name_len
+  pub meta : length state.meta.now ≤ max_meta_len

@@ -15,7 +15,7 @@ use Rattle.swim_wire.specs.declared.layout.Limit.TheVariants as limits
 use Rattle.swim_wire.specs.declared.stream.Header.{Header}
 use Rattle.swim_wire.specs.Fault.{fault_of_pack, fault_of_key}
 use Rattle.swim_wire.specs.Layout.{Layout, Spelled, number_or_zero, raw_or_empty, flag_or_false, alive_layout, accusation_layout, header_layout, state_layout}
-use Rattle.swim_wire.specs.Limits.{most_nodes, most_user_state}
+use Rattle.swim_wire.specs.Limits.{max_nodes, max_user_state_len}
 use Rattle.swim_wire.specs.Places.{alive_addr, alive_incarnation, alive_meta, alive_node, alive_port, alive_vsn, accusation_from, accusation_incarnation, accusation_node, header_join, header_nodes, header_user_state_len, state_addr, state_incarnation, state_meta, state_name, state_port, state_state, state_vsn}
 use Rattle.swim_wire.specs.Layout.Spelled.{number, raw, flag}
 use Rattle.swim_wire.specs.Packet.{PacketValue}
@@ -214,8 +214,8 @@ whole_packet bytes = nothing_after (packet_at bytes)
 -- the header in the values; its count of members is checked first
 abbrev pub header_of : Slots → Result Header WireFault
 header_of slots =
-    if nat_lt most_nodes (number_in slots header_nodes) then Err TooManyNodes else
-    if nat_lt most_user_state (number_in slots header_user_state_len) then Err UserTooLong else
+    if nat_lt max_nodes (number_in slots header_nodes) then Err TooManyNodes else
+    if nat_lt max_user_state_len (number_in slots header_user_state_len) then Err UserTooLong else
     Ok (record {
       nodes = number_in slots header_nodes;
       user_len = number_in slots header_user_state_len;

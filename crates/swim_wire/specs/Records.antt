@@ -3,7 +3,7 @@ use Rattle.std.specs.Prelude.{ℕ, ◌≤◌, List, length}
 use Rattle.std.specs.Option.{option_copied, unwrap_or}
 use Rattle.swim_claim.specs.declared.claim.Facts.{Facts}
 use Rattle.swim_claim.specs.Details.{DetailsValue}
-use Rattle.swim_claim.specs.Limits.{longest_name, longest_meta}
+use Rattle.swim_claim.specs.Limits.{max_name_len, max_meta_len}
 use Rattle.swim_wire.specs.declared.canonical.records.Record.{Record}
 use Rattle.swim_wire.specs.Canonical.{record_bytes}
 use Rattle.swim_wire.specs.Pairs.{state_number, details_or_none}
@@ -28,7 +28,7 @@ bytes_of r =
 
 -- its parts are within the limits of names and details
 pub record IsShortRecord (r : Record) : Type 0 where
-  pub name : length r.name.now ≤ longest_name
+  pub name : length r.name.now ≤ max_name_len
   pub addr : length r.addr.now ≤ 16
-  pub meta : length r.meta.now ≤ longest_meta
+  pub meta : length r.meta.now ≤ max_meta_len
   pub vsn : length r.vsn.now ≤ 6

@@ -8,7 +8,7 @@ use Rattle.swim_claim.specs.Details.{DetailsValue, IsAddress, IsVersions}
 use Rattle.swim_wire.specs.declared.layout.Key.TheVariants as keys
 use Rattle.swim_wire.specs.declared.stream.Header.{Header}
 use Rattle.swim_wire.specs.Layout.{Pairs, MapText, number_of, raw_of, flag_of, alive_layout, accusation_layout, header_layout, state_layout}
-use Rattle.swim_wire.specs.Limits.{most_nodes, most_user_state}
+use Rattle.swim_wire.specs.Limits.{max_nodes, max_user_state_len}
 use Rattle.swim_wire.specs.Packet.{PacketValue}
 
 -- the details in the pairs
@@ -64,8 +64,8 @@ pub record HeaderText (b : List ℕ) (h : Header) : Type 0 where
   pub pairs : Pairs
   pub bytes : b ≡ 6 ∷ map_text
   pub text : MapText header_layout map_text pairs
-  pub few_nodes : number_of keys.Nodes pairs ≤ most_nodes
-  pub short_user : number_of keys.UserStateLen pairs ≤ most_user_state
+  pub few_nodes : number_of keys.Nodes pairs ≤ max_nodes
+  pub short_user : number_of keys.UserStateLen pairs ≤ max_user_state_len
   pub header : h ≡ record {
     nodes = number_of keys.Nodes pairs;
     user_len = number_of keys.UserStateLen pairs;

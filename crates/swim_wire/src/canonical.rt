@@ -7,9 +7,9 @@ mod records;
 ghost use Rattle.std.specs.Prelude.{◌≡◌, ◌≤◌, ◌++◌, length, IfOk, OnOk, OnErr};
 ghost use Rattle.swim_claim.specs.declared.claim.Claim.{Claim};
 ghost use Rattle.swim_claim.specs.Claim.{name_of, HasFacts, IsLegalClaim, IsLegalFacts};
-ghost use Rattle.swim_claim.specs.Limits.{longest_name};
+ghost use Rattle.swim_claim.specs.Limits.{max_name_len};
 ghost use Rattle.swim_wire.specs.Canonical.{packet_bytes, packets_bytes, header_bytes, state_bytes, alive_bytes, accusation_bytes};
-ghost use Rattle.swim_wire.specs.Limits.{most_nodes, most_user_state};
+ghost use Rattle.swim_wire.specs.Limits.{max_nodes, max_user_state_len};
 ghost use Rattle.swim_wire.specs.Packet.{IsLegalPacket};
 ghost use Rattle.swim_wire.specs.Texts.{PacketText, HeaderText, StateText, DatagramText};
 
@@ -33,7 +33,7 @@ use swim_claim::{Claim, Details, Facts, Name};
 /// `AllocError` if the vector had to grow and memory ran out. Its contents are then unchanged.
 pub fn write_header(out: &mut Vec<u8>, header: &Header) -> Result<(), AllocError>
     ensures ok { OnOk result (out.new.items ≡ out.old.items ++ header_bytes header.now) }
-    ensures text { header.now.nodes ≤ most_nodes → header.now.user_len ≤ most_user_state
+    ensures text { header.now.nodes ≤ max_nodes → header.now.user_len ≤ max_user_state_len
         → HeaderText (header_bytes header.now) header.now }
     ensures refused { OnErr result (out.new.items ≡ out.old.items) }
 {
@@ -157,7 +157,7 @@ fn write_accusation<'a>(
     inc: u32,
     from: &'a [u8],
 ) -> Result<(), AllocError>
-    requires { length from.now ≤ longest_name }
+    requires { length from.now ≤ max_name_len }
     ensures { OnOk result
         (out.new.items ≡ out.old.items ++ accusation_bytes message name.now inc from.now) }
 {

@@ -6,7 +6,7 @@ ghost use Rattle.swim_claim.specs.Claim.{IsLegalClaim};
 ghost use Rattle.swim_wire.specs.declared.stream.Header.{Header};
 ghost use Rattle.swim_claim.specs.Details.{DetailsValue, IsLegalDetails};
 ghost use Rattle.swim_wire.specs.Canonical.{packet_bytes, packets_bytes, header_bytes, state_bytes, state_bytes_with};
-ghost use Rattle.swim_wire.specs.Limits.{most_nodes, most_user_state};
+ghost use Rattle.swim_wire.specs.Limits.{max_nodes, max_user_state_len};
 ghost use Rattle.swim_wire.specs.Packet.{PacketValue, IsLegalPacket};
 ghost use Rattle.swim_wire.specs.Texts.{PacketText, HeaderText, StateText, DatagramText};
 
@@ -16,7 +16,7 @@ ghost use Rattle.swim_wire.specs.Texts.{PacketText, HeaderText, StateText, Datag
 pub fn canonical()
     ensures packet { (p : PacketValue) → IsLegalClaim p.claim → IsLegalPacket p.claim p.from
         → PacketText (packet_bytes p) p }
-    ensures header { (h : Header) → h.nodes ≤ most_nodes → h.user_len ≤ most_user_state
+    ensures header { (h : Header) → h.nodes ≤ max_nodes → h.user_len ≤ max_user_state_len
         → HeaderText (header_bytes h) h }
     ensures state { (c : Claim) → IsLegalClaim c → StateText (state_bytes c) c }
     ensures state_with { (c : Claim) (details : DetailsValue) → IsLegalClaim c

@@ -2,16 +2,16 @@
 //! the header of a stream.
 
 ghost use Rattle.std.specs.Prelude.{◌≡◌, ◌≢◌, ◌≤◌, [], Ok, length, IfOk, IsErrOf};
-ghost use Rattle.swim_claim.specs.Limits.{longest_meta, longest_name};
+ghost use Rattle.swim_claim.specs.Limits.{max_meta_len, max_name_len};
 ghost use Rattle.swim_pack.specs.Composing.{same};
-ghost use Rattle.swim_wire.specs.Limits.{most_nodes, most_user_state};
+ghost use Rattle.swim_wire.specs.Limits.{max_nodes, max_user_state_len};
 ghost use Rattle.swim_wire.specs.Message.{IsShortAlive, IsShortAccusation, IsShortState, slots_of_alive, slots_of_accusation, slots_of_header, slots_of_state};
 ghost use Rattle.swim_wire.specs.Reading.{AnswersUnlessMemory, with_name, with_details, alive_of, suspect_of, dead_of, header_of, state_of};
 
 use crate::WireFault;
 use crate::message::{Accusation, Alive, PushNodeState, PushPullHeader};
 use crate::packet::Packet;
-use crate::stream::{Header, MOST_NODES, MOST_USER_STATE};
+use crate::stream::{Header, MAX_NODES, MAX_USER_STATE_LEN};
 use std::alloc::Global;
 use swim_claim::{Claim, Details, Name};
 
@@ -87,13 +87,13 @@ pub(crate) fn claim_of_state(alloc: Global, state: &PushNodeState) -> Result<Cla
 /// The header of a stream.
 pub(crate) fn header_of(header: &PushPullHeader) -> Result<Header, WireFault>
     ensures answers { result ≡ header_of (slots_of_header header.now) }
-    ensures within { IfOk result (λ header. (header.nodes ≤ most_nodes)
-        × (header.user_len ≤ most_user_state)) }
+    ensures within { IfOk result (λ header. (header.nodes ≤ max_nodes)
+        × (header.user_len ≤ max_user_state_len)) }
 {
-    if header.nodes > MOST_NODES {
+    if header.nodes > MAX_NODES {
         return Err(WireFault::TooManyNodes);
     }
-    if header.user_state_len > MOST_USER_STATE {
+    if header.user_state_len > MAX_USER_STATE_LEN {
         return Err(WireFault::UserTooLong);
     }
     Ok(Header {
@@ -106,7 +106,7 @@ pub(crate) fn header_of(header: &PushPullHeader) -> Result<Header, WireFault>
 /// The name of a member.
 #[inline(always)]
 fn name_of(alloc: Global, bytes: &[u8]) -> Result<Name, WireFault>
-    requires { length bytes.now ≤ longest_name }
+    requires { length bytes.now ≤ max_name_len }
     ensures answers { AnswersUnlessMemory (with_name bytes.now (Ok bytes.now)) result }
     ensures memory { IsErrOf result WireFault.Memory → bytes.now ≢ [] }
 {
@@ -125,7 +125,7 @@ fn details_of(
     meta: &[u8],
     vsn: &[u8],
 ) -> Result<Details, WireFault>
-    requires { length meta.now ≤ longest_meta }
+    requires { length meta.now ≤ max_meta_len }
     ensures { AnswersUnlessMemory (with_details
         (record { addr = addr.now; port = port; meta = meta.now; vsn = vsn.now }) same) result }
 {

@@ -11,7 +11,7 @@ ghost use Rattle.swim_wire.specs.Asking.{MapAsks, PacketAsks};
 ghost use Rattle.swim_wire.specs.Checks.{ReasonForStart};
 ghost use Rattle.swim_wire.specs.Layout.{alive_layout, state_layout, accusation_layout, header_layout};
 ghost use Rattle.swim_wire.specs.Layout.Spelled.{number, raw, flag};
-ghost use Rattle.swim_wire.specs.Limits.{most_nodes, most_user_state};
+ghost use Rattle.swim_wire.specs.Limits.{max_nodes, max_user_state_len};
 ghost use Rattle.swim_wire.specs.Message.{IsShortAlive, IsShortAccusation, IsShortState, slots_of_alive, slots_of_accusation, slots_of_header, slots_of_state};
 ghost use Rattle.swim_wire.specs.Reading.{wire_cause, value_at, map_at, state_at, alive_at, suspect_at, dead_at, header_at, nothing_after, whole_packet, AnswersUnlessMemory};
 
@@ -19,7 +19,7 @@ use crate::WireFault;
 use crate::claims::{
     claim_of_state, header_of, packet_of_alive, packet_of_dead, packet_of_suspect,
 };
-use crate::layout::{ADDRESS, META, NAME, VERSIONS};
+use crate::layout::{MAX_ADDRESS_LEN, MAX_META_LEN, MAX_NAME_LEN, MAX_VERSIONS_LEN};
 use crate::message::{
     ALIVE_MESSAGE, Accusation, Alive, DEAD_MESSAGE, PushNodeState, PushPullHeader, SUSPECT_MESSAGE,
 };
@@ -85,13 +85,13 @@ fn state_in_order(bytes: &[u8]) -> Option<(PushNodeState, &[u8])>
     ensures short { IfSome result (λ found. IsShortState found.0) }
     ensures shorter { IfSome result (λ found. length found.1.now ≤ length bytes.now) }
 {
-    let (addr, bytes) = raw_behind(bytes, b"\x87\xa4Addr", ADDRESS)?;
+    let (addr, bytes) = raw_behind(bytes, b"\x87\xa4Addr", MAX_ADDRESS_LEN)?;
     let (incarnation, bytes) = number_behind(bytes, b"\xabIncarnation", u32::MAX as u64)?;
-    let (meta, bytes) = raw_behind(bytes, b"\xa4Meta", META)?;
-    let (name, bytes) = raw_behind(bytes, b"\xa4Name", NAME)?;
+    let (meta, bytes) = raw_behind(bytes, b"\xa4Meta", MAX_META_LEN)?;
+    let (name, bytes) = raw_behind(bytes, b"\xa4Name", MAX_NAME_LEN)?;
     let (port, bytes) = number_behind(bytes, b"\xa4Port", u16::MAX as u64)?;
     let (state, bytes) = number_behind(bytes, b"\xa5State", u64::MAX)?;
-    let (vsn, rest) = raw_behind(bytes, b"\xa3Vsn", VERSIONS)?;
+    let (vsn, rest) = raw_behind(bytes, b"\xa3Vsn", MAX_VERSIONS_LEN)?;
     let state = PushNodeState {
         addr,
         incarnation: incarnation as u32,
@@ -111,12 +111,12 @@ fn alive_in_order(bytes: &[u8]) -> Option<(Alive, &[u8])>
         ≡ Ok (slots_of_alive found.0, found.1.now)) }
     ensures short { IfSome result (λ found. IsShortAlive found.0) }
 {
-    let (addr, bytes) = raw_behind(bytes, b"\x86\xa4Addr", ADDRESS)?;
+    let (addr, bytes) = raw_behind(bytes, b"\x86\xa4Addr", MAX_ADDRESS_LEN)?;
     let (incarnation, bytes) = number_behind(bytes, b"\xabIncarnation", u32::MAX as u64)?;
-    let (meta, bytes) = raw_behind(bytes, b"\xa4Meta", META)?;
-    let (node, bytes) = raw_behind(bytes, b"\xa4Node", NAME)?;
+    let (meta, bytes) = raw_behind(bytes, b"\xa4Meta", MAX_META_LEN)?;
+    let (node, bytes) = raw_behind(bytes, b"\xa4Node", MAX_NAME_LEN)?;
     let (port, bytes) = number_behind(bytes, b"\xa4Port", u16::MAX as u64)?;
-    let (vsn, rest) = raw_behind(bytes, b"\xa3Vsn", VERSIONS)?;
+    let (vsn, rest) = raw_behind(bytes, b"\xa3Vsn", MAX_VERSIONS_LEN)?;
     let alive = Alive {
         addr,
         incarnation: incarnation as u32,
@@ -136,9 +136,9 @@ fn accusation_in_order(bytes: &[u8]) -> Option<(Accusation, &[u8])>
         ≡ Ok (slots_of_accusation found.0, found.1.now)) }
     ensures short { IfSome result (λ found. IsShortAccusation found.0) }
 {
-    let (from, bytes) = raw_behind(bytes, b"\x83\xa4From", NAME)?;
+    let (from, bytes) = raw_behind(bytes, b"\x83\xa4From", MAX_NAME_LEN)?;
     let (incarnation, bytes) = number_behind(bytes, b"\xabIncarnation", u32::MAX as u64)?;
-    let (node, rest) = raw_behind(bytes, b"\xa4Node", NAME)?;
+    let (node, rest) = raw_behind(bytes, b"\xa4Node", MAX_NAME_LEN)?;
     let accusation = Accusation {
         from,
         incarnation: incarnation as u32,
@@ -257,8 +257,8 @@ pub(crate) fn read_state_in_order<I: Inlet>(
 pub(crate) fn read_header_in_order<I: Inlet>(inlet: &mut I) -> Option<Header>
     ensures read { IfSome result (λ header.
         ReadsAs wire_cause same header_at (I.seen inlet.old) (I.seen inlet.new) (Ok header)) }
-    ensures within { IfSome result (λ header. (header.nodes ≤ most_nodes)
-        × (header.user_len ≤ most_user_state)) }
+    ensures within { IfSome result (λ header. (header.nodes ≤ max_nodes)
+        × (header.user_len ≤ max_user_state_len)) }
     ensures left { IsNone result → I.seen inlet.new ≡ I.seen inlet.old }
 {
     let hand = inlet.at_hand();

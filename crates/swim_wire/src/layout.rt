@@ -49,22 +49,22 @@ pub(crate) struct Field {
 }
 
 /// The maximum length of an address in bytes, that of IPv6.
-pub(crate) const ADDRESS: usize = 16;
+pub(crate) const MAX_ADDRESS_LEN: usize = 16;
 
 /// The maximum length of metadata in bytes, as in memberlist.
-pub(crate) const META: usize = 512;
+pub(crate) const MAX_META_LEN: usize = 512;
 
 /// The maximum length of a member's name in bytes.
-pub(crate) const NAME: usize = 1024;
+pub(crate) const MAX_NAME_LEN: usize = 1024;
 
 /// The versions of memberlist's protocol and of its user's, three bytes each.
-pub(crate) const VERSIONS: usize = 6;
+pub(crate) const MAX_VERSIONS_LEN: usize = 6;
 
 /// memberlist's `alive`.
 pub(crate) const ALIVE: [Field; 6] = [
     Field {
         key: Key::Addr,
-        limit: Limit::Raw(ADDRESS),
+        limit: Limit::Raw(MAX_ADDRESS_LEN),
     },
     Field {
         key: Key::Incarnation,
@@ -72,11 +72,11 @@ pub(crate) const ALIVE: [Field; 6] = [
     },
     Field {
         key: Key::Meta,
-        limit: Limit::Raw(META),
+        limit: Limit::Raw(MAX_META_LEN),
     },
     Field {
         key: Key::Node,
-        limit: Limit::Raw(NAME),
+        limit: Limit::Raw(MAX_NAME_LEN),
     },
     Field {
         key: Key::Port,
@@ -84,7 +84,7 @@ pub(crate) const ALIVE: [Field; 6] = [
     },
     Field {
         key: Key::Vsn,
-        limit: Limit::Raw(VERSIONS),
+        limit: Limit::Raw(MAX_VERSIONS_LEN),
     },
 ];
 
@@ -92,7 +92,7 @@ pub(crate) const ALIVE: [Field; 6] = [
 pub(crate) const ACCUSATION: [Field; 3] = [
     Field {
         key: Key::From,
-        limit: Limit::Raw(NAME),
+        limit: Limit::Raw(MAX_NAME_LEN),
     },
     Field {
         key: Key::Incarnation,
@@ -100,7 +100,7 @@ pub(crate) const ACCUSATION: [Field; 3] = [
     },
     Field {
         key: Key::Node,
-        limit: Limit::Raw(NAME),
+        limit: Limit::Raw(MAX_NAME_LEN),
     },
 ];
 
@@ -124,7 +124,7 @@ pub(crate) const HEADER: [Field; 3] = [
 pub(crate) const STATE: [Field; 7] = [
     Field {
         key: Key::Addr,
-        limit: Limit::Raw(ADDRESS),
+        limit: Limit::Raw(MAX_ADDRESS_LEN),
     },
     Field {
         key: Key::Incarnation,
@@ -132,11 +132,11 @@ pub(crate) const STATE: [Field; 7] = [
     },
     Field {
         key: Key::Meta,
-        limit: Limit::Raw(META),
+        limit: Limit::Raw(MAX_META_LEN),
     },
     Field {
         key: Key::Name,
-        limit: Limit::Raw(NAME),
+        limit: Limit::Raw(MAX_NAME_LEN),
     },
     Field {
         key: Key::Port,
@@ -148,7 +148,7 @@ pub(crate) const STATE: [Field; 7] = [
     },
     Field {
         key: Key::Vsn,
-        limit: Limit::Raw(VERSIONS),
+        limit: Limit::Raw(MAX_VERSIONS_LEN),
     },
 ];
 
@@ -156,7 +156,7 @@ pub(crate) const STATE: [Field; 7] = [
 pub(crate) const PING: [Field; 5] = [
     Field {
         key: Key::Node,
-        limit: Limit::Raw(NAME),
+        limit: Limit::Raw(MAX_NAME_LEN),
     },
     Field {
         key: Key::SeqNo,
@@ -164,11 +164,11 @@ pub(crate) const PING: [Field; 5] = [
     },
     Field {
         key: Key::SourceAddr,
-        limit: Limit::Raw(ADDRESS),
+        limit: Limit::Raw(MAX_ADDRESS_LEN),
     },
     Field {
         key: Key::SourceNode,
-        limit: Limit::Raw(NAME),
+        limit: Limit::Raw(MAX_NAME_LEN),
     },
     Field {
         key: Key::SourcePort,
@@ -184,7 +184,7 @@ pub(crate) const INDIRECT_PING: [Field; 8] = [
     },
     Field {
         key: Key::Node,
-        limit: Limit::Raw(NAME),
+        limit: Limit::Raw(MAX_NAME_LEN),
     },
     Field {
         key: Key::Port,
@@ -196,11 +196,11 @@ pub(crate) const INDIRECT_PING: [Field; 8] = [
     },
     Field {
         key: Key::SourceAddr,
-        limit: Limit::Raw(ADDRESS),
+        limit: Limit::Raw(MAX_ADDRESS_LEN),
     },
     Field {
         key: Key::SourceNode,
-        limit: Limit::Raw(NAME),
+        limit: Limit::Raw(MAX_NAME_LEN),
     },
     Field {
         key: Key::SourcePort,
@@ -208,7 +208,7 @@ pub(crate) const INDIRECT_PING: [Field; 8] = [
     },
     Field {
         key: Key::Target,
-        limit: Limit::Raw(ADDRESS),
+        limit: Limit::Raw(MAX_ADDRESS_LEN),
     },
 ];
 

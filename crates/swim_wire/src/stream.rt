@@ -8,7 +8,7 @@ ghost use Rattle.swim_wire.specs.declared.stream.Header.{Header};
 ghost use Rattle.swim_wire.specs.Asking.{MapAsks};
 ghost use Rattle.swim_wire.specs.Checks.{ReasonForHeader, ReasonForState, ReasonForStart};
 ghost use Rattle.swim_wire.specs.Layout.{header_layout, state_layout};
-ghost use Rattle.swim_wire.specs.Limits.{most_nodes, most_user_state};
+ghost use Rattle.swim_wire.specs.Limits.{max_nodes, max_user_state_len};
 ghost use Rattle.swim_wire.specs.Reading.{wire_cause, map_at, header_at, state_at};
 ghost use Rattle.swim_wire.specs.Slots.{FitsEach, slots_of};
 ghost use Rattle.swim_wire.specs.Texts.{HeaderText, StateText};
@@ -25,10 +25,10 @@ use swim_claim::Claim;
 use swim_pack::Inlet;
 
 /// The maximum number of state records in a stream.
-pub(crate) const MOST_NODES: u64 = 131_072;
+pub(crate) const MAX_NODES: u64 = 131_072;
 
 /// The maximum length of a stream's user state in bytes.
-pub(crate) const MOST_USER_STATE: u64 = 20_971_520;
+pub(crate) const MAX_USER_STATE_LEN: u64 = 20_971_520;
 
 /// The header of a push/pull stream.
 #[derive(Clone, Copy, Debug, PartialEq, Eq)]
@@ -63,8 +63,8 @@ pub fn read_header<I: Inlet>(inlet: &mut I) -> Result<Header, WireFault>
     // What was read, what is left, and that a failure of the inlet was counted.
     ensures exact { ReadsAs wire_cause same header_at (I.seen inlet.old) (I.seen inlet.new) result }
     // Also if the inlet's bytes are unknown.
-    ensures within { IfOk result (λ header. (header.nodes ≤ most_nodes)
-        × (header.user_len ≤ most_user_state)) }
+    ensures within { IfOk result (λ header. (header.nodes ≤ max_nodes)
+        × (header.user_len ≤ max_user_state_len)) }
 {
     read_whole_header(inlet)
 }
@@ -72,8 +72,8 @@ pub fn read_header<I: Inlet>(inlet: &mut I) -> Result<Header, WireFault>
 fn read_whole_header<I: Inlet>(inlet: &mut I) -> Result<Header, WireFault>
     ensures exact { ReadsAs wire_cause same header_at (I.seen inlet.old) (I.seen inlet.new) result }
     ensures no_memory { ¬ IsErrOf result WireFault.Memory }
-    ensures within { IfOk result (λ header. (header.nodes ≤ most_nodes)
-        × (header.user_len ≤ most_user_state)) }
+    ensures within { IfOk result (λ header. (header.nodes ≤ max_nodes)
+        × (header.user_len ≤ max_user_state_len)) }
 {
     match read_header_in_order(inlet) {
         Some(header) => Ok(header),
@@ -85,8 +85,8 @@ fn read_whole_header<I: Inlet>(inlet: &mut I) -> Result<Header, WireFault>
 fn read_any_header<I: Inlet>(inlet: &mut I) -> Result<Header, WireFault>
     ensures exact { ReadsAs wire_cause same header_at (I.seen inlet.old) (I.seen inlet.new) result }
     ensures no_memory { ¬ IsErrOf result WireFault.Memory }
-    ensures within { IfOk result (λ header. (header.nodes ≤ most_nodes)
-        × (header.user_len ≤ most_user_state)) }
+    ensures within { IfOk result (λ header. (header.nodes ≤ max_nodes)
+        × (header.user_len ≤ max_user_state_len)) }
 {
     let found = read_type(inlet)?;
     let values = read_header_map(inlet, found)?;

@@ -23,7 +23,7 @@ const ACCUSER: &[u8] = b"node-accuser";
 const RECORD: usize = 128;
 
 /// The most claims that compounds bring.
-const MOST_SPREAD: u32 = 960;
+const MAX_SPREAD: u32 = 960;
 
 /// Which claims a measurement has: about `count` names in this order. The lowest of them has the
 /// number `first`, and each other one the number of the one below it plus `step`.
@@ -83,7 +83,7 @@ impl Workload {
     pub(crate) fn spread_over(count: u32) -> u32
         ensures { 0 < result }
     {
-        count.max(1).min(MOST_SPREAD)
+        count.max(1).min(MAX_SPREAD)
     }
 
     /// Alive claims about the members.

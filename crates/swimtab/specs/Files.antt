@@ -2,9 +2,9 @@
 use Rattle.std.specs.Prelude.{◌≡◌, ℕ, ◌<◌, ◌≤◌, Bool, List, [], ◌∷◌, ◌++◌, length, map, codes, All, None}
 use Rattle.std.specs.declared.vec.Vec.{Vec}
 use Rattle.swim_claim.specs.declared.claim.Claim.{Claim}
-use Rattle.swim_program.specs.Limits.{most_bytes}
+use Rattle.swim_program.specs.Limits.{max_input_len}
 use Rattle.swim_wire.specs.declared.fault.WireFault.{WireFault}
-use Rattle.swim_wire.specs.Limits.{most_nodes}
+use Rattle.swim_wire.specs.Limits.{max_nodes}
 use Rattle.swim_wire.specs.Streams.{StreamText}
 use Rattle.swim_table.specs.declared.table.Relation.{Relation}
 use Rattle.swim_table.specs.declared.table.Relation.TheVariants.{Equal, Behind, Ahead, Apart}
@@ -40,7 +40,7 @@ pub record IsNoDump (file : List ℕ) (what : What) : Type 0 where
 
 -- no file is longer than allowed
 abbrev pub AreShortFiles : List (List ℕ) → Type 0
-AreShortFiles files = All (λ file. length file ≤ most_bytes) files
+AreShortFiles files = All (λ file. length file ≤ max_input_len) files
 
 -- the k-th file is longer than allowed, and none before it is
 pub record IsFirstLong (files : List (List ℕ)) (k : ℕ) : Type 0 where
@@ -50,7 +50,7 @@ pub record IsFirstLong (files : List (List ℕ)) (k : ℕ) : Type 0 where
   pub parts : files ≡ before ++ file ∷ after
   pub place : length before ≡ k
   pub short : AreShortFiles before
-  pub long : most_bytes < length file
+  pub long : max_input_len < length file
 
 -- the k-th file is not a stream, with this fault, and each before it is one
 pub record IsFirstNoDump (files : List (List ℕ)) (k : ℕ) (what : What) : Type 0 where
@@ -78,7 +78,7 @@ pub record HaveTooMany (files : List (List ℕ)) (report : Report) : Type 0 wher
   pub short : AreShortFiles files
   pub made : FilesClaims files claims
   pub table_of : TableOf table claims
-  pub many : most_nodes < length (Reduced table)
+  pub many : max_nodes < length (Reduced table)
   pub place : report.place ≡ Output
   pub what : report.what ≡ Refused 23 None
 

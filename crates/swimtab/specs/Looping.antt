@@ -1,7 +1,7 @@
 -- Exchanging tables over a connection, and why it fails.
 use Rattle.std.specs.Prelude.{◌≡◌, ◌⊎◌, ◌↔◌, ◌<◌, ◌≤◌, ℕ, Bool, false, None, List, ◌++◌, length, IsTrue}
 use Rattle.swim_claim.specs.declared.claim.Claim.{Claim}
-use Rattle.swim_program.specs.Limits.{most_bytes}
+use Rattle.swim_program.specs.Limits.{max_input_len}
 use Rattle.swim_wire.specs.declared.fault.WireFault.{WireFault}
 use Rattle.swim_wire.specs.Streams.{StreamText}
 use Rattle.swim_table.specs.Dump.{dump_bytes}
@@ -20,7 +20,7 @@ FitsLoop table = length (dump_bytes table false) ≤ 16384
 
 -- The table is that of the file's claims, and can be sent.
 pub record IsLoopTable (file : List ℕ) (table : Entries) : Type 0 where
-  pub short : length file ≤ most_bytes
+  pub short : length file ≤ max_input_len
   pub claims : List Claim
   pub made : FileClaims file claims
   pub table_of : TableOf table claims
@@ -29,12 +29,12 @@ pub record IsLoopTable (file : List ℕ) (table : Entries) : Type 0 where
 -- Why a file has no table that can be sent: the file is too long or not a stream, the table is too
 -- large, or memory ran out.
 pub data IsLoopRefused (file : List ℕ) (what : What) : Type 0 where
-  too_long : most_bytes < length file → what ≡ Refused 32 None → IsLoopRefused file what
-  no_stream : length file ≤ most_bytes → IsNoDump file what → IsLoopRefused file what
-  too_large : (claims : List Claim) (table : Entries) → length file ≤ most_bytes
+  too_long : max_input_len < length file → what ≡ Refused 32 None → IsLoopRefused file what
+  no_stream : length file ≤ max_input_len → IsNoDump file what → IsLoopRefused file what
+  too_large : (claims : List Claim) (table : Entries) → length file ≤ max_input_len
       → FileClaims file claims → TableOf table claims → 16384 < length (dump_bytes table false)
       → what ≡ Refused 28 None → IsLoopRefused file what
-  memory : length file ≤ most_bytes → what ≡ Memory → IsLoopRefused file what
+  memory : length file ≤ max_input_len → what ≡ Memory → IsLoopRefused file what
 
 -- The table took in these claims, which are those of a stream, and lost none of its own.
 pub record TakesIn (before after : Entries) (claims : List Claim) : Type 0 where

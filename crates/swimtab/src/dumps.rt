@@ -2,7 +2,7 @@
 
 ghost use Rattle.std.specs.Prelude.{◌≡◌, ◌⊎◌, ◌<◌, ◌≤◌, ◌∷◌, [], false, List, length, IfOk, IfErr, OnOk};
 ghost use Rattle.swim_claim.specs.declared.claim.Claim.{Claim};
-ghost use Rattle.swim_program.specs.Limits.{most_bytes};
+ghost use Rattle.swim_program.specs.Limits.{max_input_len};
 ghost use Rattle.swim_table.specs.Covering.{IsRelation};
 ghost use Rattle.swim_table.specs.Dump.{dump_bytes};
 ghost use Rattle.swim_table.specs.Listing.{listing};
@@ -11,7 +11,7 @@ ghost use Rattle.swimtab.specs.Files.{bytes_of, FileClaims, FilesClaims, IsNoDum
 ghost use Rattle.swim_program.specs.Report.{IsAmong};
 
 use std::alloc::{AllocError, Global};
-use swim_program::{BOUND, Place, Report, What};
+use swim_program::{MAX_INPUT_LEN, Place, Report, What};
 use swim_table::{EncodeFault, Relation, Table, encode, list, read_dump, relation};
 
 /// The listing of the table of all claims in the files, each of which is a dump: one push/pull
@@ -125,11 +125,11 @@ fn check_lengths(files: &[Vec<u8>]) -> Result<(), Report>
 
 /// Checks that a file is not longer than allowed.
 pub(crate) fn check_length(file: &[u8], place: usize) -> Result<(), Report>
-    ensures short { OnOk result (length file.now ≤ most_bytes) }
-    ensures long { IfErr result (λ report. (most_bytes < length file.now)
+    ensures short { OnOk result (length file.now ≤ max_input_len) }
+    ensures long { IfErr result (λ report. (max_input_len < length file.now)
         × (report ≡ record { place = Place.File place; what = What.Refused 32 None })) }
 {
-    if file.len() > BOUND {
+    if file.len() > MAX_INPUT_LEN {
         Err(What::input_too_long().at(Place::File(place)))
     } else {
         Ok(())

@@ -2,7 +2,7 @@
 
 ghost use Rattle.std.specs.Prelude.{◌≡◌, ◌≢◌, ◌↔◌, ◌<◌, List, length, None, IfOk, IfErr, OnOk};
 ghost use Rattle.swim_claim.specs.declared.claim.Claim.{Claim};
-ghost use Rattle.swim_program.specs.Limits.{most_bytes};
+ghost use Rattle.swim_program.specs.Limits.{max_input_len};
 ghost use Rattle.swim_wire.specs.declared.fault.WireFault.{WireFault};
 ghost use Rattle.swimtab.specs.Looping.{FitsLoop, IsLoopTable, IsLoopRefused, TakesIn, IsLooped, IsLoopStopped};
 ghost use Rattle.swim_program.specs.Report.{IsAmong, what_of};
@@ -20,7 +20,7 @@ use swim_sync::{SyncFault, answer, finish, offer};
 use swim_table::{EncodeFault, Relation, Table, encode, list, relation};
 
 /// The most bytes of a canonical dump that is sent over a connection of this process to itself.
-const MOST_BYTES: usize = 16_384;
+const MAX_DUMP_LEN: usize = 16_384;
 
 /// How many seconds all reads and writes of one exchange may wait in total.
 const PATIENCE: u64 = 10;
@@ -41,14 +41,14 @@ pub fn loop_table(alloc: Global, dump: &[u8], file: usize) -> Result<Table, Repo
     ensures reads { IfOk result (IsLoopTable dump.now) }
 
     ensures refuses { IfErr result (λ report. IsLoopRefused dump.now report.what) }
-    ensures long { (most_bytes < length dump.now)
+    ensures long { (max_input_len < length dump.now)
         ↔ (result ≡ Err (record { place = Place.File file; what = What.Refused 32 None })) }
     ensures place { IfErr result (λ report. report.place ≡ Place.File file) }
 {
     check_length(dump, file)?;
     let table = table_of_file(alloc, dump, file)?;
     let what = match encode(alloc, &table, false) {
-        Ok(bytes) if bytes.len() <= MOST_BYTES => return Ok(table),
+        Ok(bytes) if bytes.len() <= MAX_DUMP_LEN => return Ok(table),
         Ok(_) => What::too_large_for_loop(),
         // one stream has no more records than a dump
         Err(EncodeFault::TooManyRecords) => unreachable!(),

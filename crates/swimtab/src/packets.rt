@@ -3,7 +3,7 @@
 ghost use Rattle.std.specs.Prelude.{◌≡◌, ◌≢◌, ◌↔◌, ◌<◌, ◌≤◌, ◌++◌, List, map, length, IfOk, IfErr, OnOk};
 ghost use Rattle.std.specs.Str.Lines.{strip_carriage_return};
 ghost use Rattle.swim_claim.specs.declared.claim.Claim.{Claim};
-ghost use Rattle.swim_program.specs.Limits.{most_bytes};
+ghost use Rattle.swim_program.specs.Limits.{max_input_len};
 ghost use Rattle.swim_table.specs.Listing.{listing};
 ghost use Rattle.swim_table.specs.Table.{Entries, TableOf};
 ghost use Rattle.swim_wire.specs.Packet.{PacketValue};
@@ -12,7 +12,7 @@ ghost use Rattle.swimtab.specs.Lines.{TextClaims, LineClaims, PacketLines, Tells
 ghost use Rattle.swim_program.specs.Report.{IsAmong, TellsDatagram};
 
 use std::alloc::{AllocError, Global};
-use swim_program::{BOUND, Place, Report, What, lines_of, without_return};
+use swim_program::{MAX_INPUT_LEN, Place, Report, What, lines_of, without_return};
 use swim_table::{Table, list};
 use swim_wire::Datagram;
 
@@ -30,16 +30,18 @@ pub fn packets(alloc: Global, input: &[u8]) -> Result<Vec<u8>, Report>
 
     // If refused, and not for memory or its length, the lines make no claims.
     ensures refuses { IfErr result (λ report. report.what ≢ What.Memory
-        → length input.now ≤ most_bytes → (claims : List Claim) → ¬ PacketLines input.now claims) }
+        → length input.now ≤ max_input_len → (claims : List Claim)
+        → ¬ PacketLines input.now claims) }
     // Then the report names the first line that makes none, and its fault.
-    ensures line { IfErr result (λ report. report.what ≢ What.Memory → length input.now ≤ most_bytes
+    ensures line { IfErr result
+        (λ report. report.what ≢ What.Memory → length input.now ≤ max_input_len
         → IsFirstWrong input.now report.place report.what) }
-    ensures long { (most_bytes < length input.now)
+    ensures long { (max_input_len < length input.now)
         ↔ (result ≡ Err (record { place = Place.Input; what = What.Refused 32 None })) }
     ensures no_device { IfErr result (λ report. report.what ≢ What.Device) }
     ensures place { IfErr result (λ report. IsAmong report.place 0) }
 {
-    if input.len() > BOUND {
+    if input.len() > MAX_INPUT_LEN {
         return Err(What::input_too_long().at(Place::Input));
     }
     let mut table = Table::new(alloc);

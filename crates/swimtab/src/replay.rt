@@ -1,7 +1,7 @@
 //! Replaying scripts: what the nodes of a cluster list after all events.
 
 ghost use Rattle.std.specs.Prelude.{◌≡◌, ◌≢◌, ◌↔◌, ◌<◌, ◌≤◌, ◌++◌, [], List, length, map, Some, None, IfOk, IfErr, OnOk};
-ghost use Rattle.swim_program.specs.Limits.{most_bytes};
+ghost use Rattle.swim_program.specs.Limits.{max_input_len};
 ghost use Rattle.swim_sync.specs.declared.event.Event.{Event};
 ghost use Rattle.swim_sync.specs.Cluster.{Ran};
 ghost use Rattle.swim_sync.specs.Levels.{level_list};
@@ -36,11 +36,12 @@ pub fn script(alloc: Global, input: &[u8]) -> Result<Vec<u8>, Report>
     ensures events { IfErr result (λ report. IsOfEvent report.what
         → RefusedEvent input.now report) }
     ensures refuses { IfErr result (λ report. report.what ≢ What.Memory
-        → length input.now ≤ most_bytes → ¬ IsOfEvent report.what
+        → length input.now ≤ max_input_len → ¬ IsOfEvent report.what
         → (starts : List Start) → (events : List Event) → ¬ Script input.now starts events) }
-    ensures line { IfErr result (λ report. report.what ≢ What.Memory → length input.now ≤ most_bytes
+    ensures line { IfErr result
+        (λ report. report.what ≢ What.Memory → length input.now ≤ max_input_len
         → ¬ IsOfEvent report.what → IsFirstWrongLine input.now report.place report.what) }
-    ensures long { (most_bytes < length input.now)
+    ensures long { (max_input_len < length input.now)
         ↔ (result ≡ Err (record { place = Place.Input; what = What.Refused 32 None })) }
     ensures no_device { IfErr result (λ report. report.what ≢ What.Device) }
     ensures place { IfErr result (λ report. IsAmong report.place 0) }

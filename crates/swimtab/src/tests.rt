@@ -12,7 +12,7 @@ use dumps::too_long;
 use std::alloc::Global;
 use std::process::Abort;
 use std::test::Fail;
-use swim_program::{BOUND, Place, Report, What, report_text, status};
+use swim_program::{MAX_INPUT_LEN, Place, Report, What, report_text, status};
 
 /// An Alive of `a`, an empty line, and a Suspect of `b` in upper case.
 const PACKETS: &str =
@@ -99,7 +99,7 @@ fn a_refused_line_is_reported(rt: HostRuntime) -> Result<(), Fail> {
 #[test]
 fn an_input_past_its_bound_is_refused_as_a_whole(rt: HostRuntime) -> Result<(), Fail> {
     let mut input = too_long(rt.alloc())?;
-    input.truncate(BOUND + 1);
+    input.truncate(MAX_INPUT_LEN + 1);
     let wanted = What::input_too_long().at(Place::Input);
     assert_report(
         &rt,

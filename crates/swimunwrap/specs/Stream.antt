@@ -11,11 +11,11 @@ use Rattle.memberlist_wrap.specs.declared.fault.WrapFault.TheVariants as wrap
 use Rattle.memberlist_wrap.specs.Fault.{wrap_number}
 use Rattle.swim_program.specs.declared.report.What.{What}
 use Rattle.swim_program.specs.declared.report.What.TheVariants.{Refused, Memory}
-use Rattle.swim_program.specs.Limits.{most_bytes}
+use Rattle.swim_program.specs.Limits.{max_input_len}
 
 -- the bytes are the stream, in wrappers, or encrypted under the first key that decrypts them
 abbrev pub IsStreamIn : List (List ℕ) → List ℕ → List ℕ → Type 0
-IsStreamIn keys bytes stream = IsStreamWithin most_bytes keys bytes stream
+IsStreamIn keys bytes stream = IsStreamWithin max_input_len keys bytes stream
 
 -- the error for bytes that wrap no message
 abbrev pub what_of_wrap : WrapFault → What
@@ -38,5 +38,5 @@ what_of_stream stream.Memory = Memory
 -- what a refusal says about bytes: the fault for which they hold none
 abbrev pub ReasonFor : List (List ℕ) → List ℕ → What → Type 0
 ReasonFor keys bytes what =
-    (fault : StreamFault) × ReasonForFault most_bytes keys bytes fault
+    (fault : StreamFault) × ReasonForFault max_input_len keys bytes fault
     × (what ≡ what_of_stream fault)

@@ -1,7 +1,7 @@
 //! Packets in hexadecimal, one per line, unwrapped.
 
 ghost use Rattle.std.specs.Prelude.{◌≡◌, ◌≢◌, ◌↔◌, ◌⊎◌, ◌<◌, ◌≤◌, ◌++◌, ◌∷◌, [], ℕ, List, length, None, IfOk, IfErr, OnOk};
-ghost use Rattle.swim_program.specs.Limits.{most_bytes};
+ghost use Rattle.swim_program.specs.Limits.{max_input_len};
 ghost use Rattle.swim_program.specs.Lines.{input_lines};
 ghost use Rattle.swim_program.specs.Report.{IsAmong};
 ghost use Rattle.swimunwrap.specs.declared.cause.Cause.{Cause};
@@ -14,7 +14,7 @@ use memberlist_keyring::Keyring;
 use memberlist_wrap::WrapFault;
 use std::alloc::{AllocError, Global};
 use std::marker::Model;
-use swim_program::{BOUND, Place, Report, What, lines_of};
+use swim_program::{MAX_INPUT_LEN, Place, Report, What, lines_of};
 
 /// What became of lines: their text, and why each line that was left out was. Contracts see it as
 /// these two.
@@ -109,18 +109,18 @@ pub fn unwrap_lines(
     // Each line becomes what the definitions say.
     ensures each { IfOk result (λ u.
         AllBecome keys.now skip (input_lines input.now) u.text u.causes) }
-    ensures within { IfOk result (λ u. length u.text ≤ most_bytes) }
+    ensures within { IfOk result (λ u. length u.text ≤ max_input_len) }
 
-    ensures long { (most_bytes < length input.now)
+    ensures long { (max_input_len < length input.now)
         ↔ (result ≡ Err (record { place = Place.Input; what = What.Refused 32 None })) }
     // It is otherwise refused only if memory runs out, or the output is too long.
     ensures large { IfErr result (λ report. report.what ≢ What.Memory
-        → length input.now ≤ most_bytes
+        → length input.now ≤ max_input_len
         → (report ≡ record { place = Place.Output; what = What.Refused 47 None })
-        × BecomeTooLong keys.now skip most_bytes (input_lines input.now)) }
+        × BecomeTooLong keys.now skip max_input_len (input_lines input.now)) }
     ensures place { IfErr result (λ report. IsAmong report.place 0) }
 {
-    if input.len() > BOUND {
+    if input.len() > MAX_INPUT_LEN {
         return Err(What::input_too_long().at(Place::Input));
     }
     let mut unwrapped = Unwrapped::new(alloc);
@@ -128,7 +128,7 @@ pub fn unwrap_lines(
         if let Err(AllocError) = add_line(alloc, keys, &mut unwrapped, index, line, skip) {
             return Err(What::Memory.at(Place::Line(index as u64 + 1)));
         }
-        if unwrapped.text.len() > BOUND {
+        if unwrapped.text.len() > MAX_INPUT_LEN {
             return Err(too_large().at(Place::Output));
         }
     }

@@ -1,7 +1,7 @@
 //! A push/pull stream, unwrapped.
 
 ghost use Rattle.std.specs.Prelude.{◌≡◌, ◌≢◌, ◌↔◌, ◌<◌, ◌≤◌, List, ℕ, None, length, IfOk, IfErr};
-ghost use Rattle.swim_program.specs.Limits.{most_bytes};
+ghost use Rattle.swim_program.specs.Limits.{max_input_len};
 ghost use Rattle.swimunwrap.specs.Stream.{IsStreamIn, ReasonFor, what_of_stream, what_of_wrap, what_of_cipher};
 
 use memberlist_cipher::CipherFault;
@@ -9,7 +9,7 @@ use memberlist_keyring::Keyring;
 use memberlist_transport::{StreamFault, open_stream};
 use memberlist_wrap::WrapFault;
 use std::alloc::Global;
-use swim_program::{BOUND, What};
+use swim_program::{MAX_INPUT_LEN, What};
 use swim_wire::WireFault;
 
 /// The push/pull stream in one direction of a TCP connection, unwrapped, and decrypted with the
@@ -27,18 +27,18 @@ pub fn unwrap_stream(alloc: Global, keys: &Keyring, bytes: &[u8]) -> Result<Vec<
     ensures unwraps { IfOk result (λ stream. IsStreamIn keys.now bytes.now stream.items) }
 
     // If they are refused, and not because of memory or their length, they hold none.
-    ensures refuses { IfErr result (λ what. what ≢ What.Memory → length bytes.now ≤ most_bytes
+    ensures refuses { IfErr result (λ what. what ≢ What.Memory → length bytes.now ≤ max_input_len
         → (stream : List ℕ) → ¬ IsStreamIn keys.now bytes.now stream) }
     // And the refusal says why.
-    ensures reason { IfErr result (λ what. what ≢ What.Memory → length bytes.now ≤ most_bytes
+    ensures reason { IfErr result (λ what. what ≢ What.Memory → length bytes.now ≤ max_input_len
         → ReasonFor keys.now bytes.now what) }
-    ensures long { (most_bytes < length bytes.now) ↔ (result ≡ Err (What.Refused 32 None)) }
+    ensures long { (max_input_len < length bytes.now) ↔ (result ≡ Err (What.Refused 32 None)) }
     ensures no_device { IfErr result (λ what. what ≢ What.Device) }
 {
-    if bytes.len() > BOUND {
+    if bytes.len() > MAX_INPUT_LEN {
         return Err(What::input_too_long());
     }
-    match open_stream(alloc, keys, bytes, BOUND) {
+    match open_stream(alloc, keys, bytes, MAX_INPUT_LEN) {
         Ok(stream) => Ok(stream),
         Err(fault) => Err(what_of_stream(fault)),
     }

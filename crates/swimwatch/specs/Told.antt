@@ -2,7 +2,7 @@
 use Rattle.std.specs.Prelude.{ℕ, Bool, true, false, if◌then◌else◌, Option, Some, None, List, [], nat_lt, nat_le, ◌&&◌, length}
 use Rattle.swim_claim.specs.declared.claim.Claim.{Claim}
 use Rattle.swim_claim.specs.declared.claim.Claim.TheVariants as claim
-use Rattle.swim_claim.specs.Limits.{longest_name}
+use Rattle.swim_claim.specs.Limits.{max_name_len}
 use Rattle.swim_wire.specs.Packet.{PacketValue}
 use Rattle.memberlist_view.specs.declared.heard.Heard.{Heard}
 use Rattle.memberlist_view.specs.declared.heard.Said.{Said}
@@ -30,7 +30,7 @@ record_told c = record { claim = c; from = []; is_record = true }
 -- who makes a claim: somebody if the bytes are a name, of 1 to 1,024 bytes
 abbrev pub accuser_of : List ℕ → Option (List ℕ)
 accuser_of from =
-    if nat_lt 0 (length from) && nat_le (length from) longest_name then Some from else None
+    if nat_lt 0 (length from) && nat_le (length from) max_name_len then Some from else None
 
 -- a death is declared by somebody; one that nobody declares is a suspicion (own)
 abbrev pub death : List ℕ → ℕ → Option (List ℕ) → Said

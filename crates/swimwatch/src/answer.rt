@@ -5,8 +5,8 @@ ghost use Rattle.memberlist_transport.specs.Reply.{IsReplyIn};
 ghost use Rattle.swimwatch.specs.declared.answer.NoAnswer.TheVariants as answers;
 ghost use Rattle.swimwatch.specs.declared.carriage.NoStream.TheVariants as causes;
 
-use crate::carriage::{NoStream, STREAM_LIMIT, cause_of};
-use memberlist_cipher::{LABEL, LABEL_MAX_SIZE};
+use crate::carriage::{MAX_STREAM_LEN, NoStream, cause_of};
+use memberlist_cipher::{LABEL, MAX_LABEL_LEN};
 use memberlist_keyring::{Keyring, behind_label};
 use memberlist_transport::{StreamFault, open_reply};
 use memberlist_wrap::unwrap;
@@ -21,7 +21,7 @@ const ERROR_MESSAGE: u8 = 13;
 const ENCRYPTED: u8 = 10;
 
 /// The most bytes of an error message that are shown.
-const MOST_WORDS: usize = 1024;
+const MAX_ERROR_LEN: usize = 1024;
 
 /// What a line escapes in a member's words, in addition to bytes outside ASCII.
 const ESCAPED: AsciiSet = ascii_set!(CONTROLS.add(b'%').add(b'"'));
@@ -61,10 +61,10 @@ pub(crate) fn stream_in(
         → length label.now < 256
         → (stream : List ℕ) → ¬ IsReplyIn 33554432 keys.now label.now answer.items stream) }
 {
-    if label.len() > LABEL_MAX_SIZE {
+    if label.len() > MAX_LABEL_LEN {
         return Err(NoAnswer::NoStream(NoStream::Closed));
     }
-    match open_reply(alloc, keys, label, &answer, STREAM_LIMIT) {
+    match open_reply(alloc, keys, label, &answer, MAX_STREAM_LEN) {
         Ok(stream) => Ok(stream),
         Err(StreamFault::NoStream(ERROR_MESSAGE)) => {
             let message = message_in(alloc, keys, label, answer)?;
@@ -87,14 +87,14 @@ fn message_in(
         Some(&LABEL) => answer,
         _ => behind_label(alloc, label, answer)?,
     };
-    let Ok(message) = unwrap(alloc, &bytes, STREAM_LIMIT) else {
+    let Ok(message) = unwrap(alloc, &bytes, MAX_STREAM_LEN) else {
         return Err(AllocError);
     };
     if message.first() != Some(&ENCRYPTED) {
         return Ok(message);
     }
     match keys.open_stream(alloc, &bytes) {
-        Ok(inner) => match unwrap(alloc, &inner, STREAM_LIMIT) {
+        Ok(inner) => match unwrap(alloc, &inner, MAX_STREAM_LEN) {
             Ok(message) => Ok(message),
             Err(_) => Err(AllocError),
         },
@@ -109,7 +109,7 @@ fn words_of(alloc: Global, message: &[u8]) -> Result<String, AllocError> {
         Some(map) => text_in(map).unwrap_or(map),
         None => &[],
     };
-    let shown = words.get(..MOST_WORDS).unwrap_or(words);
+    let shown = words.get(..MAX_ERROR_LEN).unwrap_or(words);
     let mut text = String::new(alloc);
     percent_encode(shown, ESCAPED).append_to(&mut text)?;
     Ok(text)

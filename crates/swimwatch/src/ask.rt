@@ -4,7 +4,7 @@ use crate::NAME;
 use crate::answer::{NoAnswer, stream_in};
 use crate::carriage::NoStream;
 use crate::chosen::Asking;
-use crate::connection::{MOST_BYTES, NoReply, reply_to};
+use crate::connection::{MAX_ANSWER_LEN, NoReply, reply_to};
 use crate::host::Host;
 use crate::request::request;
 use crate::roster::Roster;
@@ -113,7 +113,7 @@ fn no_reply(alloc: Global, host: &str, or_file: bool, cause: NoReply) -> Failure
         ),
         NoReply::TooLong => {
             let text = format!(in alloc;
-                "{NAME}: {host}: the answer has more than {MOST_BYTES} bytes"
+                "{NAME}: {host}: the answer has more than {MAX_ANSWER_LEN} bytes"
             );
             return said(text, 3);
         }

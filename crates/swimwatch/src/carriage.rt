@@ -15,7 +15,7 @@ use swim_claim::Claim;
 use swim_wire::{Claimless, Datagram, Packet, WireFault};
 
 /// The most bytes of a stream without its wrappers, and of one direction of a connection.
-pub(crate) const STREAM_LIMIT: usize = 33_554_432;
+pub(crate) const MAX_STREAM_LEN: usize = 33_554_432;
 
 /// The first byte of an encrypted stream, as in memberlist's `net.go`.
 const ENCRYPTED: u8 = 10;
@@ -98,7 +98,7 @@ pub(crate) fn stream_claims(
     ensures none { IfErr result (λ cause. cause ≢ NoStream.Memory → (claims : List Claim)
         → ¬ IsStreamOf keys.now bytes.now claims) }
 {
-    match open_stream(alloc, keys, bytes, STREAM_LIMIT) {
+    match open_stream(alloc, keys, bytes, MAX_STREAM_LEN) {
         Ok(stream) => match claims_of_stream(alloc, &stream)? {
             Some(claims) => Ok(claims),
             None => Err(NoStream::Cut),

@@ -5,7 +5,7 @@ use crate::help;
 use crate::moment::moment_of;
 use crate::names::name_bytes;
 use clap::{Arg, ArgAction, ArgMatches, Command};
-use memberlist_cipher::LABEL_MAX_SIZE;
+use memberlist_cipher::MAX_LABEL_LEN;
 use std::alloc::{AllocError, Global};
 use swim_program::{WordFault, texts_of};
 
@@ -91,7 +91,7 @@ fn asking_of(alloc: Global, found: &ArgMatches) -> Result<Asking, Refusal> {
     };
     let label = match found.get_str("label") {
         None => Vec::new(alloc),
-        Some(word) if matches!(word.len(), 1..=LABEL_MAX_SIZE) => word.as_bytes().to_vec(alloc)?,
+        Some(word) if matches!(word.len(), 1..=MAX_LABEL_LEN) => word.as_bytes().to_vec(alloc)?,
         Some(_) => return Err(Refusal::Value("--label wants 1 to 255 bytes")),
     };
     Ok(Asking { timeout, label })

@@ -12,7 +12,7 @@ use swim_pack::write_whole;
 use swim_program::Until;
 
 /// The most bytes that are read of an answer.
-pub(crate) const MOST_BYTES: usize = 33_554_432;
+pub(crate) const MAX_ANSWER_LEN: usize = 33_554_432;
 
 /// How many bytes are requested at once.
 const PIECE: usize = 65_536;
@@ -134,7 +134,7 @@ pub(crate) fn read_to_end<R: Read>(alloc: Global, reader: &mut R) -> Result<Repl
                 _ => return Err(NoReply::Broken(error)),
             },
         }
-        if bytes.len() > MOST_BYTES {
+        if bytes.len() > MAX_ANSWER_LEN {
             break;
         }
     }

@@ -8,7 +8,7 @@ use swim_pack::{SliceInlet, raw_at_hand, read_map_len, uint_at_hand};
 const FIELDS: u32 = 7;
 
 /// The most bytes of a text in a record: the length of a name.
-const MOST_BYTES: usize = 1024;
+const MAX_TEXT_LEN: usize = 1024;
 
 /// What a record says about a member's details (memberlist's `pushNodeState`).
 #[derive(Clone, Copy)]
@@ -22,7 +22,7 @@ struct Place<'a> {
 impl<'a> Place<'a> {
     /// The place with the key and value at the start of the bytes added, and the bytes after them.
     fn with_pair(self, bytes: &'a [u8]) -> Option<(Place<'a>, &'a [u8])> {
-        let (key, behind) = raw_at_hand(bytes, MOST_BYTES)?;
+        let (key, behind) = raw_at_hand(bytes, MAX_TEXT_LEN)?;
         let mut place = self;
         if matches!(key, b"Incarnation" | b"Port" | b"State") {
             let (number, rest) = uint_at_hand(behind, u64::MAX)?;
@@ -31,7 +31,7 @@ impl<'a> Place<'a> {
             }
             return Some((place, rest));
         }
-        let (value, rest) = raw_at_hand(behind, MOST_BYTES)?;
+        let (value, rest) = raw_at_hand(behind, MAX_TEXT_LEN)?;
         match key {
             b"Addr" => place.addr = value,
             b"Meta" => place.meta = value,

@@ -3,7 +3,7 @@
 ghost use Rattle.std.specs.Prelude.{◌≡◌, ◌≢◌, ◌∷◌, [], ℕ, List, IfOk};
 ghost use Rattle.swimwatch.specs.Asking.{empty_offer, AsksInClear, AsksEncrypted};
 
-use memberlist_cipher::{CipherFault, LABEL_MAX_SIZE};
+use memberlist_cipher::{CipherFault, MAX_LABEL_LEN};
 use memberlist_keyring::{Keyring, behind_label};
 use std::alloc::{AllocError, Global};
 use swim_wire::{Header, write_header};
@@ -25,7 +25,7 @@ pub(crate) fn request(
     ensures encrypted { IfOk result (λ sent. keys.now ≢ []
         → AsksEncrypted keys.now nonce.now label.now sent.items) }
 {
-    if label.len() > LABEL_MAX_SIZE {
+    if label.len() > MAX_LABEL_LEN {
         return Err(CipherFault::TooLong);
     }
     let offer = empty_offer(alloc)?;

@@ -8,7 +8,7 @@ use swim_pack::{SliceInlet, raw_at_hand, read_map_len};
 const TAGS: u8 = 0xff;
 
 /// The most bytes of a member's metadata, and so of a key or a value.
-const MOST_META: usize = 512;
+const MAX_META_LEN: usize = 512;
 
 /// What a line escapes in a key or a value: what it escapes in a name, and the separators of keys,
 /// values and tags.
@@ -37,8 +37,8 @@ impl Tag<'_> {
 
 /// The tag at the start of the bytes, and the bytes after it.
 fn tag_at_hand(bytes: &[u8]) -> Option<(Tag, &[u8])> {
-    let (key, rest) = raw_at_hand(bytes, MOST_META)?;
-    let (value, rest) = raw_at_hand(rest, MOST_META)?;
+    let (key, rest) = raw_at_hand(bytes, MAX_META_LEN)?;
+    let (value, rest) = raw_at_hand(rest, MAX_META_LEN)?;
     Some((Tag { key, value }, rest))
 }
 
@@ -49,7 +49,7 @@ pub(crate) fn tags_of(alloc: Global, meta: &[u8]) -> Result<Option<Vec<Tag>>, Al
         return Ok(None);
     };
     let mut inlet = SliceInlet::new(body);
-    let Ok(count) = read_map_len(&mut inlet, MOST_META as u32) else {
+    let Ok(count) = read_map_len(&mut inlet, MAX_META_LEN as u32) else {
         return Ok(None);
     };
     let start = body.len().saturating_sub(inlet.rest().len());

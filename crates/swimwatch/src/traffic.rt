@@ -64,7 +64,7 @@ impl Progress {
 }
 
 /// The most tries to read a stream before its end.
-const MOST_TRIES: u8 = 8;
+const MAX_TRIES: u8 = 8;
 
 /// The open connections.
 #[derive(Drop)]
@@ -199,7 +199,7 @@ impl Traffic {
         ends: Ends,
         is_pushed: bool,
     ) -> Result<(), AllocError> {
-        if progress.is_read || !is_pushed || progress.tries == MOST_TRIES {
+        if progress.is_read || !is_pushed || progress.tries == MAX_TRIES {
             return Ok(());
         }
         progress.tries = progress.tries.saturating_add(1);

@@ -17,7 +17,7 @@ pub(crate) const BLOCK: usize = 128;
 pub(crate) const HALF: usize = BLOCK / 2;
 
 /// The most blocks.
-const MOST: usize = 1 << 54;
+const MAX_BLOCKS: usize = 1 << 54;
 
 /// Makes empty blocks until there are n, with a place for each among the blocks, and for each block
 /// among the empty ones. If there are n already it takes no memory.
@@ -43,7 +43,7 @@ pub(crate) fn make_spares<T>(
     if n <= spares.len() {
         return Ok(());
     }
-    if n > MOST - blocks.len() {
+    if n > MAX_BLOCKS - blocks.len() {
         return Err(AllocError);
     }
     blocks.reserve(n)?;

@@ -2,7 +2,7 @@
 
 ghost use Rattle.std.specs.Prelude.{◌≤◌, IfOk};
 
-use crate::{BOUND, What, read_file, read_to_bound, write_out};
+use crate::{MAX_INPUT_LEN, What, read_file, read_to_bound, write_out};
 use std::alloc::Global;
 use std::io;
 use std::io::{Error, ErrorKind, Read, Write};
@@ -165,12 +165,12 @@ fn an_error_of_any_kind_but_an_interruption_is_a_device_fault(rt: HostRuntime) {
 
 #[test]
 fn a_longer_input_is_read_to_one_byte_past_the_bound(rt: HostRuntime) -> Result<(), Fail> {
-    let mut reader = Stream::new(0, BOUND + 5, usize::MAX, true);
+    let mut reader = Stream::new(0, MAX_INPUT_LEN + 5, usize::MAX, true);
     let input = match read_to_bound(rt.alloc(), &mut reader) {
         Ok(input) => input,
         Err(what) => return Err(Fail::from(what)),
     };
-    assert_eq!(rt; input.len(), BOUND + 1);
+    assert_eq!(rt; input.len(), MAX_INPUT_LEN + 1);
     assert_eq!(rt; reader.left, 4);
     Ok(())
 }

@@ -6,7 +6,7 @@ use std::alloc::{AllocError, Global};
 use std::process::Abort;
 use std::test::Fail;
 use swim_claim::{Claim, Name};
-use swim_program::{BOUND, Report};
+use swim_program::{MAX_INPUT_LEN, Report};
 use swim_table::{Relation, Table, encode};
 
 /// An Alive of `a`.
@@ -173,8 +173,8 @@ fn a_file_that_is_no_dump_is_named(rt: HostRuntime) -> Result<(), Fail> {
 /// Zeros, 65,536 more than an input may have.
 pub(crate) fn too_long(alloc: Global) -> Result<Vec<u8>, AllocError> {
     let piece = [0; 65536];
-    let mut long = Vec::with_capacity(alloc, BOUND + piece.len())?;
-    for _ in 0..=BOUND / 65536 {
+    let mut long = Vec::with_capacity(alloc, MAX_INPUT_LEN + piece.len())?;
+    for _ in 0..=MAX_INPUT_LEN / 65536 {
         long.extend_from_slice(&piece)?;
     }
     Ok(long)

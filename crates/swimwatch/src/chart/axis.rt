@@ -14,7 +14,7 @@ const MINUTE: u64 = 60 * SECOND;
 const HOUR: u64 = 60 * MINUTE;
 
 /// One less than the most times on an axis.
-const MOST: u64 = 9;
+const MAX_TICKS: u64 = 9;
 
 /// The possible steps between round times, in microseconds.
 const STEPS: [u64; 59] = [
@@ -95,7 +95,7 @@ impl Ticks {
             0 => Some(span.first),
             over => span.first.checked_add(step.saturating_sub(over)),
         };
-        for _ in 0..=MOST {
+        for _ in 0..=MAX_TICKS {
             let Some(time) = tick.filter(|time| *time <= span.last) else {
                 break;
             };
@@ -127,7 +127,7 @@ fn step_of(micros: u64) -> u64
     ensures { 0 < result }
 {
     for step in &STEPS {
-        if micros <= step.saturating_mul(MOST) {
+        if micros <= step.saturating_mul(MAX_TICKS) {
             return (*step).max(1);
         }
     }

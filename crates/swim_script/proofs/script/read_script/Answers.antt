@@ -92,4 +92,4 @@ returns-clause-few c =
     let nodes =
     few_nodes c.args.input.now c.loop-index.plan.nodes.items were.starts _ were.was.started
     (was_read_whole (input_lines c.args.input.now) were.starts c.loop-index.plan were.was) in
-    omega (arith, nodes, c.if-input-gt-BOUND.false)
+    omega (arith, nodes, c.if-input-gt-MAX_INPUT_LEN.false)

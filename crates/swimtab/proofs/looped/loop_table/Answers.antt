@@ -26,7 +26,7 @@ returns-clause-refuses c =
     elim c.match-encode.branch [
       | in-Ok-2 w ↦
           too_large read.0 c.in_ok-table.table short read.1 read.2
-          (omega (arith, w.if-len-le-MOST_BYTES.false, w.len.ensures, ap length w.in-Ok.ensures.canonical))
+          (omega (arith, w.if-len-le-MAX_DUMP_LEN.false, w.len.ensures, ap length w.in-Ok.ensures.canonical))
           (what ∙ w.what-is ∙ w.too_large_for_loop-what.ensures)
       | in-Err-Memory w ↦ memory short (what ∙ w.what-is)
     ]

@@ -8,8 +8,8 @@ use Rattle.swimunwrap.specs.Unwrapped.{Shown}
 use Rattle.swimunwrap.proofs.LineByLine.{AllBecome-next, too_long}
 use Rattle.swimunwrap.proofs.lines.unwrap_lines.Goals as goal
 
-pub returns-then-len-gt-BOUND-clause-large : goal.returns-then-len-gt-BOUND-clause-large
-returns-then-len-gt-BOUND-clause-large c = λ seen within.
+pub returns-then-len-gt-MAX_INPUT_LEN-clause-large : goal.returns-then-len-gt-MAX_INPUT_LEN-clause-large
+returns-then-len-gt-MAX_INPUT_LEN-clause-large c = λ seen within.
     let start : c.into_iter-index-iterator.result ≡ c.enumerate-index-items.result = search rules in
     let here =
     yielded_at
