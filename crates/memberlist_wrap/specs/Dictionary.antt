@@ -1,6 +1,10 @@
 -- Words as parts of the output.
 use Rattle.std.specs.Prelude.{ℕ, suc, ◌-◌, ◌<◌, ◌≤◌, List, [], ◌∷◌, ◌++◌, length, take, drop, slice_index}
 
+-- places of words that are kept
+abbrev pub max_starts : ℕ
+max_starts = 3840
+
 -- the output, and the words since the last clear code
 pub record DecoderState : Type 0 where
   pub output : List ℕ
@@ -29,7 +33,7 @@ pub record AreStarts (end : ℕ) (starts : List ℕ) : Type 0 where
 
 -- this many places are kept, and they ascend so
 abbrev pub AreKept : ℕ → List ℕ → Type 0
-AreKept end starts = AreStarts end starts × (length starts ≤ 3840)
+AreKept end starts = AreStarts end starts × (length starts ≤ max_starts)
 
 -- a part of the output, and the byte after it, which may be the part's own first
 abbrev pub again : List ℕ → ℕ → ℕ → List ℕ

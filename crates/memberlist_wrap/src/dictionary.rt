@@ -2,7 +2,7 @@
 
 ghost use Rattle.std.specs.Prelude.{◌≡◌, ℕ, List, [], ◌∷◌, ◌++◌, ◌+◌, ◌-◌, ◌<◌, ◌≤◌, ◌⊎◌, length, take, drop, IfOk, IfErr, IsErrOf, IsOkUnless, OnOk, OnErr, vec_len};
 ghost use Rattle.memberlist_wrap.specs.Lzw.{kept_words, width, StandsFor};
-ghost use Rattle.memberlist_wrap.specs.Dictionary.{DecoderState, decoder_state, AreKept, next_start, again};
+ghost use Rattle.memberlist_wrap.specs.Dictionary.{DecoderState, decoder_state, AreKept, next_start, again, max_starts};
 
 use crate::WrapFault;
 use std::alloc::Global;
@@ -169,8 +169,8 @@ fn start_after(starts: &[usize], place: usize, end: usize) -> usize
 
 /// Appends a place to those that are kept, unless they are the most already.
 fn keep_start(starts: &mut Vec<usize>, start: usize) -> Result<(), WrapFault>
-    requires { vec_len starts.old ≤ 3840 }
-    ensures ok { OnOk result (starts.new.items ≡ take 3840 (starts.old.items ++ start ∷ [])) }
+    requires { vec_len starts.old ≤ max_starts }
+    ensures ok { OnOk result (starts.new.items ≡ take max_starts (starts.old.items ++ start ∷ [])) }
     ensures err { OnErr result (starts.new.items ≡ starts.old.items) }
     ensures only { IsOkUnless result WrapFault.Memory }
 {

@@ -1,17 +1,19 @@
 -- Bytes that are written to a buffer of the caller.
 use Rattle.std.specs.Prelude.{◌≡◌, ℕ, ◌<◌, ◌≤◌, List, ◌++◌, length, drop}
+use Rattle.swim_c.specs.Statuses as statuses
 
 -- The bytes are at the start of the buffer (status 0), or they do not fit and the buffer is
 -- unchanged (66). The length is theirs.
 pub data Copied (bytes old new : List ℕ) (status len : ℕ) : Type 0 where
   done : status ≡ 0 → len ≡ length bytes → length bytes ≤ length old
       → new ≡ bytes ++ drop (length bytes) old → Copied bytes old new status len
-  too_small : status ≡ 66 → len ≡ length bytes → length old < length bytes → new ≡ old
+  too_small : status ≡ statuses.too_small → len ≡ length bytes → length old < length bytes
+      → new ≡ old
       → Copied bytes old new status len
 
 -- the status of a lack of memory is 10
 abbrev pub IsNoMemory : ℕ → Type 0
-IsNoMemory status = status ≡ 10
+IsNoMemory status = status ≡ statuses.memory
 
 -- The bytes were copied or did not fit, or there are none for this reason and the buffer is
 -- unchanged.

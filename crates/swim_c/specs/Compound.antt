@@ -10,6 +10,7 @@ use Rattle.swim_wire.specs.Packet.{PacketValue}
 use Rattle.swim_wire.specs.Reading.{whole_packet}
 use Rattle.swim_wire.specs.Texts.{PacketText, DatagramText}
 use Rattle.swim_c.specs.Buffers.{Copied}
+use Rattle.swim_c.specs.Statuses as statuses
 
 -- the bytes are these packets, one after another, with these lengths
 pub data PacketTexts : List ℕ → List ℕ → List PacketValue → Type 0 where
@@ -53,10 +54,11 @@ pub record IsPacked (lens bytes compound : List ℕ) : Type 0 where
 pub data CompoundDone (bytes lens old new : List ℕ) (status len : ℕ) : Type 0 where
   packed : (compound : List ℕ) → IsPacked lens bytes compound → Copied compound old new status len
       → CompoundDone bytes lens old new status len
-  too_many : 255 < length lens → status ≡ 69 → len ≡ 0 → new ≡ old
+  too_many : 255 < length lens → status ≡ statuses.too_many_packets → len ≡ 0 → new ≡ old
       → CompoundDone bytes lens old new status len
   refused : length lens ≤ 255 → (fault : WireFault) → status ≡ wire_number fault → fault ≢ Memory
       → LacksPackets lens bytes fault
       → len ≡ 0 → new ≡ old → CompoundDone bytes lens old new status len
-  memory : length lens ≤ 255 → status ≡ 10 → PackingAsks lens bytes → len ≡ 0 → new ≡ old
+  memory : length lens ≤ 255 → status ≡ statuses.memory → PackingAsks lens bytes → len ≡ 0
+      → new ≡ old
       → CompoundDone bytes lens old new status len

@@ -14,6 +14,7 @@ use Rattle.swim_c.specs.declared.form.Form.{Form}
 use Rattle.swim_c.specs.Buffers.{Copied, WrittenOr}
 use Rattle.swim_c.specs.Forms.{form_number, bytes_in, HasTooManyIn, IsNoForm}
 use Rattle.swim_c.specs.Taking.{TakesClaims}
+use Rattle.swim_c.specs.Statuses as statuses
 
 -- the bytes begin with a stream of these claims, with this length and flag
 pub record BeginsStream (bytes : List ℕ) (claims : List Claim) (join : Bool)
@@ -86,7 +87,7 @@ pub data AnswersOffer (form : Form) (stream old new : List ℕ) (status : ℕ) (
   answered : status ≡ 0 → NodeTakesStream stream join used before after
       → Copied (bytes_in form before.table join) old new status len
       → AnswersOffer form stream old new status join used len before after
-  too_small : status ≡ 66 → ReadsStream stream join used
+  too_small : status ≡ statuses.too_small → ReadsStream stream join used
       → Copied (bytes_in form before.table join) old new status len → after ≡ before
       → AnswersOffer form stream old new status join used len before after
 
@@ -108,7 +109,7 @@ pub data OfferedInForm (number : ℕ) (table : Entries) (join : Bool) (old new :
   in_form : (form : Form) → number ≡ form_number form
       → WrittenOr (bytes_in form table join) old new status len (LacksDump form table)
       → OfferedInForm number table join old new status len
-  bad_form : IsNoForm number → status ≡ 70 → len ≡ 0 → new ≡ old
+  bad_form : IsNoForm number → status ≡ statuses.bad_form → len ≡ 0 → new ≡ old
       → OfferedInForm number table join old new status len
 
 -- An offer was answered in the form with this number, or refused. Or there is no such form (70),
@@ -118,5 +119,6 @@ pub data AnsweredInForm (number : ℕ) (stream old new : List ℕ) (status : ℕ
   in_form : (form : Form) → number ≡ form_number form
       → AnswerDone form stream old new status join used len before after
       → AnsweredInForm number stream old new status join used len before after
-  bad_form : IsNoForm number → status ≡ 70 → IsUntold join used len → after ≡ before → new ≡ old
+  bad_form : IsNoForm number → status ≡ statuses.bad_form → IsUntold join used len → after ≡ before
+      → new ≡ old
       → AnsweredInForm number stream old new status join used len before after

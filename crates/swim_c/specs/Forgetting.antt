@@ -3,6 +3,7 @@ use Rattle.std.specs.Prelude.{◌≡◌, ◌≢◌, ◌↔◌, ℕ, List, Option
 use Rattle.swim_claim.specs.declared.claim.Claim.{Claim}
 use Rattle.swim_table.specs.Node.{NodeValue, SameMember}
 use Rattle.swim_table.specs.Table.{Entries, get, about_others, Reduced, TableOf}
+use Rattle.swim_c.specs.Statuses as statuses
 
 -- the table had the name, and is that of the claims taken in about other names
 pub record ForgetsName (name : List ℕ) (before after : NodeValue) : Type 0 where
@@ -15,7 +16,7 @@ pub record ForgetsName (name : List ℕ) (before after : NodeValue) : Type 0 whe
 -- The name was forgotten (0), or the table has no such name and the node is unchanged (67).
 pub data ForgetDone (name : List ℕ) (status : ℕ) (before after : NodeValue) : Type 0 where
   forgotten : status ≡ 0 → ForgetsName name before after → ForgetDone name status before after
-  unknown : status ≡ 67 → get before.table name ≡ None → after ≡ before
+  unknown : status ≡ statuses.no_member → get before.table name ≡ None → after ≡ before
       → ForgetDone name status before after
 
 -- if names are noted, those of before are still noted, except this one

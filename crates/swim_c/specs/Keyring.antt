@@ -9,6 +9,7 @@ use Rattle.std.specs.contracts.impls.GlobalAllocator.TheImpl.{ghosts}
 use Rattle.memberlist_cipher.specs.Encryption.{IsKey}
 use Rattle.memberlist_keyring.specs.contracts.keyring.Keyring.{the_row}
 use Rattle.swim_c.specs.Handle.{heap}
+use Rattle.swim_c.specs.Statuses as statuses
 
 -- how proofs distinguish a keyring from another one, and from none
 abbrev pub keyring_coded : Coded (Option the_row.Denot)
@@ -31,4 +32,4 @@ keys_of (Some keys) = keys
 pub data KeyAdded (key : List ℕ) (status : ℕ) (old new : Option (List (List ℕ))) : Type 0 where
   added : status ≡ 0 → IsKey key → new ≡ Some (keys_of old ++ key ∷ []) → KeyAdded key status old new
   bad_key : status ≡ 50 → ¬ IsKey key → new ≡ old → KeyAdded key status old new
-  memory : status ≡ 10 → IsKey key → new ≡ old → KeyAdded key status old new
+  memory : status ≡ statuses.memory → IsKey key → new ≡ old → KeyAdded key status old new

@@ -6,6 +6,7 @@ use Rattle.swim_claim.specs.Details.{DetailsValue}
 use Rattle.swim_wire.specs.Pairs.{state_number}
 use Rattle.swim_table.specs.Standing.{Standing}
 use Rattle.swim_c.specs.declared.member.Member.{Member}
+use Rattle.swim_c.specs.Statuses as statuses
 
 -- everything except the newest Alive, and also whether the member came back, is unchanged
 pub record KeepsName (old new : Member) : Type 0 where
@@ -53,5 +54,5 @@ pub record IsMember (entry : Standing) (m : Member) : Type 0 where
 
 -- The entry was copied (0), or there is none and the data are unchanged (67).
 abbrev pub MemberDone : Option Standing → Member → Member → ℕ → Type 0
-MemberDone None old new status = (status ≡ 67) × (new ≡ old)
+MemberDone None old new status = (status ≡ statuses.no_member) × (new ≡ old)
 MemberDone (Some entry) old new status = (status ≡ 0) × IsMember entry new

@@ -9,6 +9,7 @@ use Rattle.swim_c.specs.declared.form.Form.{Form}
 use Rattle.swim_c.specs.Buffers.{IsNoMemory}
 use Rattle.swim_c.specs.Exchanges.{AnswerCause, IsUntold, LacksDump, NodeTakesStream}
 use Rattle.swim_c.specs.Forms.{form_number, bytes_in, IsNoForm}
+use Rattle.swim_c.specs.Statuses as statuses
 
 -- The library keeps these bytes in the buffer: its pointer is their address, and its length is
 -- theirs.
@@ -33,7 +34,8 @@ pub data OfferedNew (number : ℕ) (table : Entries) (join : Bool) (old new : Bu
   in_form : (form : Form) → number ≡ form_number form
       → FilledOr (bytes_in form table join) old new status (IsUndumped form table)
       → OfferedNew number table join old new status
-  bad_form : IsNoForm number → status ≡ 70 → new ≡ old → OfferedNew number table join old new status
+  bad_form : IsNoForm number → status ≡ statuses.bad_form → new ≡ old
+      → OfferedNew number table join old new status
 
 -- A stream was taken in, and the buffer has the dump of before in the form (0). Or the node and the
 -- buffer are unchanged: there is no stream, and the status is that of the fault; the node's table
@@ -55,5 +57,6 @@ pub data AnsweredNew (number : ℕ) (stream : List ℕ) (old new : Buffer) (stat
   in_form : (form : Form) → number ≡ form_number form
       → AnswersNew form stream old new status join used len before after
       → AnsweredNew number stream old new status join used len before after
-  bad_form : IsNoForm number → status ≡ 70 → IsUntold join used len → after ≡ before → new ≡ old
+  bad_form : IsNoForm number → status ≡ statuses.bad_form → IsUntold join used len → after ≡ before
+      → new ≡ old
       → AnsweredNew number stream old new status join used len before after

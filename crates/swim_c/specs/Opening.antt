@@ -10,6 +10,7 @@ use Rattle.swim_table.specs.Node.{NodeValue}
 use Rattle.swim_table.specs.Table.{TableOf}
 use Rattle.swim_c.specs.declared.opening.OpenFault.{OpenFault}
 use Rattle.swim_c.specs.declared.opening.OpenFault.TheVariants.{Claim, Memory}
+use Rattle.swim_c.specs.Statuses as statuses
 
 -- the status that says why no node was made
 abbrev pub open_number : OpenFault → ℕ
@@ -49,7 +50,8 @@ IsUnmade name details status = (fault : OpenFault) × (status ≡ open_number fa
 -- A handle with a node keeps it (65). An empty one gets such a node (0), or stays empty, and the
 -- status says why.
 abbrev pub OpenDone : List ℕ → DetailsValue → ℕ → Option NodeValue → Option NodeValue → ℕ → Type 0
-OpenDone name details inc (Some before) new status = (status ≡ 65) × (new ≡ Some before)
+OpenDone name details inc (Some before) new status =
+    (status ≡ statuses.node_there) × (new ≡ Some before)
 OpenDone name details inc None (Some after) status =
     (status ≡ 0) × IsNewMember name details inc after
 OpenDone name details inc None None status = IsUnmade name details status

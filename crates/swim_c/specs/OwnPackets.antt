@@ -5,6 +5,7 @@ use Rattle.swim_wire.specs.Canonical.{packet_bytes}
 use Rattle.swim_wire.specs.Packet.{PacketValue}
 use Rattle.swim_wire.specs.Texts.{PacketText}
 use Rattle.swim_c.specs.Buffers.{Copied}
+use Rattle.swim_c.specs.Statuses as statuses
 
 -- The canonical bytes of the packet were written or did not fit. Or there is none for this reason,
 -- and the buffer is unchanged.
@@ -18,8 +19,8 @@ pub data SaidOr (packet : PacketValue) (old new : List ℕ) (status len : ℕ)
 abbrev pub IsNoName : List ℕ → ℕ → Type 0
 IsNoName name status =
     ((status ≡ 11) × (name ≡ [])) ⊎ ((status ≡ 12) × (max_name_len < length name))
-    ⊎ (status ≡ 10)
+    ⊎ (status ≡ statuses.memory)
 
 -- the name is the member's own (68), or invalid
 abbrev pub IsUnsaid : List ℕ → List ℕ → ℕ → Type 0
-IsUnsaid own name status = ((status ≡ 68) × (name ≡ own)) ⊎ IsNoName name status
+IsUnsaid own name status = ((status ≡ statuses.own_name) × (name ≡ own)) ⊎ IsNoName name status

@@ -8,6 +8,7 @@ use Rattle.swim_wire.specs.Fault.{wire_number}
 use Rattle.swim_table.specs.Steps.{BeginText, ReasonForBegin, ReasonForRecord, ReasonForUser}
 use Rattle.swim_c.specs.declared.progress.Progress.{Progress}
 use Rattle.swim_c.specs.Exchanges.{HoldsNoStream, ReadsStream}
+use Rattle.swim_c.specs.Statuses as statuses
 
 -- the offset of the first byte that was not read, the records left, the length of the user state,
 -- and whether the header was read
@@ -41,4 +42,4 @@ pub data WholeDone (bytes : List ℕ) (p : Progress) (status : ℕ) : Type 0 whe
       → WholeDone bytes p status
   refused : (fault : WireFault) → status ≡ wire_number fault → HoldsNoStream bytes fault
       → StopsAt p fault bytes → WholeDone bytes p status
-  memory : status ≡ 10 → StopsAt p Memory bytes → WholeDone bytes p status
+  memory : status ≡ statuses.memory → StopsAt p Memory bytes → WholeDone bytes p status

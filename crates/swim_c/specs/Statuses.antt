@@ -12,24 +12,60 @@ use Rattle.memberlist_wrap.specs.declared.fault.WrapFault.{WrapFault}
 use Rattle.memberlist_wrap.specs.declared.fault.WrapFault.TheVariants as wrap
 use Rattle.memberlist_wrap.specs.Fault.{wrap_number}
 
+-- a growth of memory was refused
+abbrev pub memory : ℕ
+memory = 10
+
+-- a message makes no claims
+abbrev pub wrong_type : ℕ
+wrong_type = 16
+
+-- the handle has no node
+abbrev pub no_node : ℕ
+no_node = 64
+
+-- the handle has a node already
+abbrev pub node_there : ℕ
+node_there = 65
+
+-- the buffer is too small
+abbrev pub too_small : ℕ
+too_small = 66
+
+-- there is no member at this place, or of this name
+abbrev pub no_member : ℕ
+no_member = 67
+
+-- a member that confirms its own death has left
+abbrev pub own_name : ℕ
+own_name = 68
+
+-- a compound packet has at most 255 packets
+abbrev pub too_many_packets : ℕ
+too_many_packets = 69
+
+-- a dump has form 0 or 1
+abbrev pub bad_form : ℕ
+bad_form = 70
+
 abbrev pub cipher_status : CipherFault → ℕ
-cipher_status cipher.Memory = 10
+cipher_status cipher.Memory = memory
 cipher_status fault = cipher_number fault
 
 abbrev pub wrap_status : WrapFault → ℕ
-wrap_status wrap.Memory = 10
+wrap_status wrap.Memory = memory
 wrap_status fault = wrap_number fault
 
 -- a packet that no key decrypts has the tag of another key (54)
 abbrev pub packet_status : PacketFault → ℕ
 packet_status (packet.Wrapped fault) = wrap_status fault
-packet_status (packet.NoMessage first) = 16
+packet_status (packet.NoMessage first) = wrong_type
 packet_status packet.NoKeyFits = 54
-packet_status packet.Memory = 10
+packet_status packet.Memory = memory
 
 abbrev pub stream_status : StreamFault → ℕ
 stream_status (stream.Wrapped fault) = wrap_status fault
 stream_status (stream.Closed fault) = cipher_status fault
-stream_status (stream.NoStream first) = 16
+stream_status (stream.NoStream first) = wrong_type
 stream_status stream.Empty = 1
-stream_status stream.Memory = 10
+stream_status stream.Memory = memory

@@ -11,6 +11,7 @@ use Rattle.swim_wire.specs.Texts.{DatagramText}
 use Rattle.swim_table.specs.Node.{NodeValue, SameMember}
 use Rattle.swim_table.specs.Refuting.{IsAtRest, IsDueInRange, IsExhausted, IsGone, IsRefutedBy}
 use Rattle.swim_table.specs.Table.{Entries, Reduced, TableOf}
+use Rattle.swim_c.specs.Statuses as statuses
 
 -- the table took in these claims and no others
 pub record TakesClaims (claims : List Claim) (before after : Entries) : Type 0 where
@@ -43,7 +44,8 @@ pub data TakeDone (bytes : List ℕ) (status : ℕ) (before after : NodeValue) :
   refused : (fault : WireFault) → status ≡ wire_number fault → fault ≢ Memory
       → IsNoDatagram bytes fault → after ≡ before
       → TakeDone bytes status before after
-  memory : status ≡ 10 → HearingAsks bytes → after ≡ before → TakeDone bytes status before after
+  memory : status ≡ statuses.memory → HearingAsks bytes → after ≡ before
+      → TakeDone bytes status before after
 
 -- A refutation was made at this incarnation, or none is due. Or one is due, and there is no
 -- incarnation for it (24), or memory was refused (10). Or the member is gone (25).
@@ -56,5 +58,5 @@ pub data RefuteDone (status : ℕ) (due : Bool) (inc : ℕ) (before after : Node
       → RefuteDone status due inc before after
   gone : (at : ℕ) → status ≡ 25 → due ≡ false → inc ≡ 0 → IsGone before at → after ≡ before
       → RefuteDone status due inc before after
-  memory : status ≡ 10 → due ≡ false → inc ≡ 0 → IsDueInRange before → after ≡ before
+  memory : status ≡ statuses.memory → due ≡ false → inc ≡ 0 → IsDueInRange before → after ≡ before
       → RefuteDone status due inc before after

@@ -26,6 +26,7 @@ use Rattle.swim_sync.specs.Paths.{AreTwoNodes}
 use Rattle.swim_sync.proofs.Nodes.{replaced, kept_at, members_same, in_parts, set_swap, at_front, at_back}
 use Rattle.swim_sync.proofs.Refutations.{refuted_table, at_rest_adds, exhausted_adds, gone_adds}
 use Rattle.swim_sync.proofs.Runs.{heard-append, hear_same, hear_other, both_first, both_second, both_other, two_nodes_test}
+use Rattle.swim_wire.specs.Limits.{max_nodes}
 
 -- ---- answers
 
@@ -323,7 +324,7 @@ too_many_at nodes j k first second event at_first at_second dumps many = elim ma
   | inr theirs ↦ (k, second, dumps k (inr refl), at_second, theirs)
 ]
 
-pub few_enough : (table : Entries) → length (Reduced table) ≤ 131072 → ¬ HasTooMany table
+pub few_enough : (table : Entries) → length (Reduced table) ≤ max_nodes → ¬ HasTooMany table
 few_enough table few many = omega (arith, few, many)
 
 -- why an exchange, or half of one, of two nodes does not happen

@@ -9,6 +9,7 @@ use Rattle.swim_pack.specs.declared.fault.PushFault.{PushFault}
 use Rattle.swim_pack.specs.declared.fault.PushFault.TheVariants as push
 use Rattle.swim_pack.specs.Ends.{Source, Sink, ConsumesText, CountsFault, AppendsFront}
 use Rattle.swim_wire.specs.Streams.{StreamText}
+use Rattle.swim_wire.specs.Limits.{max_nodes}
 use Rattle.swim_table.specs.declared.fault.EncodeFault.TheVariants.{TooManyRecords}
 use Rattle.swim_table.specs.Dump.{dump_bytes}
 use Rattle.swim_table.specs.Join.{Join, Below}
@@ -37,7 +38,7 @@ joined_in old new before theirs after join read is all =
     }
 
 -- a table that has a dump has few enough records
-few_enough : {V : Type 0} (bytes : V) (table : Entries) → ((Ok bytes ≡ Err TooManyRecords) ↔ HasTooMany table) → length (Reduced table) ≤ 131072
+few_enough : {V : Type 0} (bytes : V) (table : Entries) → ((Ok bytes ≡ Err TooManyRecords) ↔ HasTooMany table) → length (Reduced table) ≤ max_nodes
 few_enough bytes table many =
     let few : ¬ HasTooMany table = λ h. let e = many.1 h in absurd cc in
     omega (arith, few)
@@ -46,7 +47,7 @@ few_enough bytes table many =
 pub sent : {V : Type 0} (bytes : V) (dump : List ℕ) (table other : Entries) (flag : Bool) → IsLegalTable table →
     ((Ok bytes ≡ Err TooManyRecords) ↔ HasTooMany table)
     → dump ≡ dump_bytes table false
-    → ((t : Entries) (join : Bool) → IsLegalTable t → length (Reduced t) ≤ 131072 → dump ≡ dump_bytes t join → ((other ≡ t) × (flag ≡ join)) × Unit {0})
+    → ((t : Entries) (join : Bool) → IsLegalTable t → length (Reduced t) ≤ max_nodes → dump ≡ dump_bytes t join → ((other ≡ t) × (flag ≡ join)) × Unit {0})
     → other ≡ table
 sent bytes dump table other flag legal many is back = (back table false legal (few_enough bytes table many) is).0.0
 

@@ -10,6 +10,7 @@ use Rattle.swim_wire.specs.Streams.{StateTexts, StreamText}
 use Rattle.swim_wire.specs.Streams.StateTexts.{none, one}
 use Rattle.swim_wire.proofs.OneStream.{one_stream}
 use Rattle.swim_wire.proofs.SpelledTexts.{HeaderText-canonical, StateText-canonical}
+use Rattle.swim_wire.specs.Limits.{max_nodes}
 use Rattle.swim_table.specs.Dump.{dump_bytes}
 use Rattle.swim_table.specs.Table.{Entries, Reduced, TableOf, IsLegalTable}
 use Rattle.swim_table.proofs.Tables.{TableOf-unique}
@@ -25,7 +26,7 @@ StateTexts-canonical (c ∷ claims) legal =
 abbrev pub dump_header : Entries → Bool → Header
 dump_header table join = record { nodes = length (Reduced table); user_len = 0; join = join }
 
-pub dump_is_stream : (table : Entries) (join : Bool) → IsLegalTable table → length (Reduced table) ≤ 131072 → StreamText
+pub dump_is_stream : (table : Entries) (join : Bool) → IsLegalTable table → length (Reduced table) ≤ max_nodes → StreamText
     (dump_bytes table join) (Reduced table) join
 dump_is_stream table join legal few = record {
   header = dump_header table join;
@@ -41,7 +42,7 @@ dump_is_stream table join legal few = record {
 }
 
 -- a stream text of the dump has its claims and its flag
-pub dump_claims : (table : Entries) (join flag : Bool) (claims : List Claim) → IsLegalTable table → length (Reduced table) ≤ 131072
+pub dump_claims : (table : Entries) (join flag : Bool) (claims : List Claim) → IsLegalTable table → length (Reduced table) ≤ max_nodes
     → StreamText (dump_bytes table join) claims flag → (claims ≡ Reduced table) × (flag ≡ join)
 dump_claims table join flag claims legal few text =
     let same =
@@ -49,7 +50,7 @@ dump_claims table join flag claims legal few text =
     (same.1, same.2)
 
 -- and is read as the table
-pub dump_read_back : (table other : Entries) (join flag : Bool) (claims : List Claim) → IsLegalTable table → length (Reduced table) ≤ 131072
+pub dump_read_back : (table other : Entries) (join flag : Bool) (claims : List Claim) → IsLegalTable table → length (Reduced table) ≤ max_nodes
     → TableOf other claims → StreamText (dump_bytes table join) claims flag → (other ≡ table) × (flag ≡ join)
 dump_read_back table other join flag claims legal few is text =
     let same = dump_claims table join flag claims legal few text in (
@@ -59,7 +60,7 @@ dump_read_back table other join flag claims legal few is text =
 
 -- tables with the same dump are the same
 pub same_table_dumped : (table other : Entries) (join flag : Bool) → IsLegalTable table → IsLegalTable other → length
-    (Reduced table) ≤ 131072 → length (Reduced other) ≤ 131072
+    (Reduced table) ≤ max_nodes → length (Reduced other) ≤ max_nodes
     → dump_bytes table join ≡ dump_bytes other flag → (table ≡ other) × (join ≡ flag)
 same_table_dumped table other join flag h g few few' same =
     dump_read_back other table flag join (Reduced table) g few' h.own (subst (λ b. StreamText b (Reduced table) join) same (dump_is_stream table join h few))

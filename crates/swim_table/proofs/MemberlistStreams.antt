@@ -15,6 +15,7 @@ use Rattle.swim_wire.specs.Streams.{StateTexts, StreamText}
 use Rattle.swim_wire.specs.Streams.StateTexts.{none, one}
 use Rattle.swim_wire.proofs.OneStream.{one_stream}
 use Rattle.swim_wire.proofs.SpelledTexts.{Fits, Fits-legal, Fits-none, HeaderText-canonical, StateText-beside}
+use Rattle.swim_wire.specs.Limits.{max_nodes}
 use Rattle.swim_table.specs.MemberlistDump.{kept_with_home, with_homes, home_details, entry_bytes, memberlist_dump_bytes}
 use Rattle.swim_table.specs.Standing.{Standing}
 use Rattle.swim_table.specs.Table.{Entries, Reduced, IsLegalTable, kept}
@@ -114,7 +115,7 @@ table_texts (entry ∷ rest) legal =
 abbrev memberlist_header : Entries → Bool → Header
 memberlist_header table join = record { nodes = length (with_homes table); user_len = 0; join = join }
 
-pub memberlist_dump_is_stream : (table : Entries) (join : Bool) → IsLegalTable table → length (with_homes table) ≤ 131072 → StreamText
+pub memberlist_dump_is_stream : (table : Entries) (join : Bool) → IsLegalTable table → length (with_homes table) ≤ max_nodes → StreamText
     (memberlist_dump_bytes table join) (with_homes table) join
 memberlist_dump_is_stream table join legal few = record {
   header = memberlist_header table join;
@@ -130,7 +131,7 @@ memberlist_dump_is_stream table join legal few = record {
 }
 
 -- a stream text of the dump has its claims and its flag
-pub memberlist_dump_claims : (table : Entries) (join flag : Bool) (claims : List Claim) → IsLegalTable table → length (with_homes table) ≤ 131072
+pub memberlist_dump_claims : (table : Entries) (join flag : Bool) (claims : List Claim) → IsLegalTable table → length (with_homes table) ≤ max_nodes
     → StreamText (memberlist_dump_bytes table join) claims flag → (claims ≡ with_homes table) × (flag ≡ join)
 memberlist_dump_claims table join flag claims legal few text =
     let same =

@@ -8,6 +8,7 @@ use Rattle.swim_wire.specs.declared.fault.WireFault.TheVariants.{Fault, Memory, 
 use Rattle.swim_wire.specs.Reading.{wire_cause}
 use Rattle.swim_wire.specs.Streams.{StreamText}
 use Rattle.swim_wire.proofs.OneStream.{one_stream}
+use Rattle.swim_wire.specs.Limits.{max_nodes}
 use Rattle.swim_table.specs.Dump.{dump_bytes}
 use Rattle.swim_table.specs.Steps.{ReasonForStream, ReasonForDump}
 use Rattle.swim_table.specs.Steps.ReasonForStream.{header, record_of, user_state}
@@ -46,12 +47,12 @@ all_taken bytes text rest claims join whole parts none =
     subst (λ (b : List ℕ). StreamText b claims join) (sym (parts ∙ ap (λ (r : List ℕ). text ++ r) none ∙ append-nil text)) whole
 
 -- the bytes are the canonical dump of a table
-pub dumped : (bytes : List ℕ) (table : Entries) (join : Bool) → IsLegalTable table → length (Reduced table) ≤ 131072
+pub dumped : (bytes : List ℕ) (table : Entries) (join : Bool) → IsLegalTable table → length (Reduced table) ≤ max_nodes
     → bytes ≡ dump_bytes table join → StreamText bytes (Reduced table) join
 dumped bytes table join legal few is = subst (λ (b : List ℕ). StreamText b (Reduced table) join) (sym is) (dump_is_stream table join legal few)
 
 pub read_back : (bytes : List ℕ) (table other : Entries) (join flag : Bool) (claims : List Claim) → IsLegalTable table
-    → length (Reduced table) ≤ 131072 → bytes ≡ dump_bytes table join
+    → length (Reduced table) ≤ max_nodes → bytes ≡ dump_bytes table join
     → TableOf other claims → StreamText bytes claims flag → (other ≡ table) × (flag ≡ join)
 read_back bytes table other join flag claims legal few is of text =
     dump_read_back table other join flag claims legal few of (subst (λ (b : List ℕ). StreamText b claims flag) is text)

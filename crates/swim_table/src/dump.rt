@@ -12,10 +12,10 @@ use crate::entry::Entry;
 use crate::fault::EncodeFault;
 use crate::table::Table;
 use std::alloc::Global;
-use swim_wire::{Header, header_len, put_header, put_state, state_len};
+use swim_wire::{Header, MAX_NODES, header_len, put_header, put_state, state_len};
 
 /// The most records in a stream.
-pub const MAX_RECORDS: u128 = 131_072;
+pub const MAX_RECORDS: u128 = MAX_NODES as u128;
 
 /// The canonical dump of the table: a push/pull stream with the names in ascending byte order. Each
 /// has the record of its home, if there is one, and then the record of its top if that is not the

@@ -4,6 +4,7 @@ ghost use Rattle.std.specs.Prelude.{◌≡◌, ◌≢◌, ◌≤◌, length, Som
 ghost use Rattle.swim_wire.specs.Claimless.{ClaimlessText, IsReadUnlessMemory, claimless_kind, whole_map, whole_body, whole_claimless, claimless_layout};
 ghost use Rattle.swim_wire.specs.Reading.{AnswersUnlessMemory};
 ghost use Rattle.swim_wire.specs.Slots.{layout_of};
+ghost use Rattle.swim_wire.specs.declared.map.TheConstants.{SLOTS};
 
 use crate::WireFault;
 use crate::layout::{Field, INDIRECT_PING, Key, Limit, NACK, PING};
@@ -124,7 +125,7 @@ fn error_layout(limit: usize) -> [Field; 1]
 
 /// Reads a map of the layout with nothing after it.
 fn read_whole_map(alloc: Global, bytes: &[u8], layout: &[Field]) -> Result<(), WireFault>
-    requires { length layout.now ≤ 8 }
+    requires { length layout.now ≤ SLOTS }
     ensures { IsReadUnlessMemory (whole_map (layout_of layout.now) bytes.now) result }
 {
     let mut inlet = SliceInlet::new(bytes);

@@ -46,7 +46,7 @@ pub use message::{
     ALIVE_MESSAGE, COMPOUND_MESSAGE, DEAD_MESSAGE, PUSH_PULL_MESSAGE, SUSPECT_MESSAGE,
 };
 pub use packet::{Packet, decode_packet};
-pub use stream::{Header, read_header, read_state};
+pub use stream::{Header, MAX_NODES, read_header, read_state};
 pub use user_state::skip_user;
 
 #[cfg(test)]

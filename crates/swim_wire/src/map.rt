@@ -11,6 +11,7 @@ ghost use Rattle.swim_wire.specs.Reading.{wire_cause, value_at, key_at, pair_at,
 ghost use Rattle.swim_wire.specs.Keys.{key_text};
 ghost use Rattle.swim_wire.specs.Slots.{Fits, FitsEach, CanRead, CanReadEach, spelled, slots_of, layout_of};
 ghost use Rattle.swim_wire.specs.Layout.{number_or_zero, raw_or_empty, flag_or_false};
+ghost use Rattle.swim_wire.specs.declared.map.TheConstants.{SLOTS};
 ghost use Rattle.std.specs.Option.{option_map};
 
 use crate::WireFault;
@@ -39,7 +40,7 @@ pub(crate) fn read_map<I: Inlet>(
     inlet: &mut I,
     layout: &[Field],
 ) -> Result<Values, WireFault>
-    requires few { length layout.now ≤ 8 }
+    requires few { length layout.now ≤ SLOTS }
     requires memory { CanReadEach alloc layout.now }
     ensures exact { ReadsAs wire_cause slots_of (map_at (layout_of layout.now))
         (I.seen inlet.old) (I.seen inlet.new) result }
@@ -62,7 +63,7 @@ fn read_pair<I: Inlet>(
     layout: &[Field],
     values: &mut Values,
 ) -> Result<(), WireFault>
-    requires few { length layout.now ≤ 8 }
+    requires few { length layout.now ≤ SLOTS }
     requires memory { CanReadEach alloc layout.now }
     requires within { FitsEach layout.now values.old }
     ensures exact { ReadsAs wire_cause (λ _. slots_of values.new)

@@ -25,7 +25,7 @@ use swim_claim::Claim;
 use swim_pack::Inlet;
 
 /// The maximum number of state records in a stream.
-pub(crate) const MAX_NODES: u64 = 131_072;
+pub const MAX_NODES: u64 = 131_072;
 
 /// The maximum length of a stream's user state in bytes.
 pub(crate) const MAX_USER_STATE_LEN: u64 = 20_971_520;

@@ -10,6 +10,7 @@ use Rattle.swim_claim.specs.declared.claim.Claim.TheVariants.{Alive, Suspect, Co
 use Rattle.swim_claim.specs.Claim.{name_of}
 use Rattle.swim_claim.specs.Rank.{claim_cmp}
 use Rattle.swim_wire.specs.Canonical.{header_bytes, state_bytes}
+use Rattle.swim_wire.specs.Limits.{max_nodes}
 use Rattle.swim_table.specs.Join.{combined, greater, greater_home, standing_of, by_order, put, table_of}
 use Rattle.swim_table.specs.Standing.{Standing}
 use Rattle.swim_table.specs.Table.{Entries, Reduced, TableOf, name_cmp, kept, beside_home}
@@ -70,7 +71,7 @@ stream_few file claims table made h many =
     let text = made.1 in
     let same = TableOf-unique table (table_of claims) claims claims h (TableOf-table_of claims) (λ c. (λ m. m, λ m. m)) in
     let few : length (Reduced table) ≤ length claims = rw same (records_of claims) in
-    let nodes : length claims ≤ 131072 = rw (text.nodes, text.head_text.header) text.head_text.few_nodes in
+    let nodes : length claims ≤ max_nodes = rw (text.nodes, text.head_text.header) text.head_text.few_nodes in
     omega (arith, many, few, nodes)
 
 -- ---- as bytes

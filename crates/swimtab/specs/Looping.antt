@@ -14,9 +14,13 @@ use Rattle.swim_program.specs.declared.report.Report.{Report}
 use Rattle.swimtab.specs.Files.{FileClaims, IsNoDump}
 use Rattle.swim_program.specs.Report.{what_of}
 
+-- bytes of a dump that is sent to this process itself
+abbrev pub max_dump_len : ℕ
+max_dump_len = 16384
+
 -- the canonical dump of the table is short enough to be sent to this process itself
 abbrev pub FitsLoop : Entries → Type 0
-FitsLoop table = length (dump_bytes table false) ≤ 16384
+FitsLoop table = length (dump_bytes table false) ≤ max_dump_len
 
 -- The table is that of the file's claims, and can be sent.
 pub record IsLoopTable (file : List ℕ) (table : Entries) : Type 0 where
@@ -32,7 +36,8 @@ pub data IsLoopRefused (file : List ℕ) (what : What) : Type 0 where
   too_long : max_input_len < length file → what ≡ Refused 32 None → IsLoopRefused file what
   no_stream : length file ≤ max_input_len → IsNoDump file what → IsLoopRefused file what
   too_large : (claims : List Claim) (table : Entries) → length file ≤ max_input_len
-      → FileClaims file claims → TableOf table claims → 16384 < length (dump_bytes table false)
+      → FileClaims file claims → TableOf table claims
+      → max_dump_len < length (dump_bytes table false)
       → what ≡ Refused 28 None → IsLoopRefused file what
   memory : length file ≤ max_input_len → what ≡ Memory → IsLoopRefused file what
 

@@ -2,6 +2,7 @@
 
 ghost use Rattle.std.specs.Prelude.{◌≡◌, ◌<◌};
 ghost use Rattle.swimunwrap.specs.Cause.{cause_place};
+ghost use Rattle.swimunwrap.specs.declared.cause.TheConstants.{PLACES};
 
 use memberlist_wrap::WrapFault;
 use std::fmt;
@@ -27,7 +28,7 @@ impl Cause {
     /// Its place among all causes. Each has its own.
     pub(crate) fn place(self) -> usize
         ensures is { result ≡ cause_place self }
-        ensures bound { result < 307 }
+        ensures bound { result < PLACES }
     {
         match self {
             Cause::NotHex => 0,

@@ -6,6 +6,7 @@ ghost use Rattle.swim_c.specs.Buffers.{IsNoMemory};
 ghost use Rattle.swim_c.specs.NewBytes.{AnsweredNew, FilledOr, OfferedNew};
 ghost use Rattle.swim_c.specs.OnNode.{OnNode, OnSame};
 ghost use Rattle.swim_c.specs.Watching.{Noted, TellsNews};
+ghost use Rattle.swim_c.specs.Statuses as statuses;
 
 use crate::buffer::Buffer;
 use crate::exchanging::Exchanged;
@@ -34,7 +35,7 @@ pub extern "C" fn swimtab_raw_offer_new(
     buffer: &mut Buffer,
 ) -> u32
     ensures tells { OnSame node.old.node node.new.node
-        ((result ≡ 64) × (buffer.new ≡ buffer.old))
+        ((result ≡ statuses.no_node) × (buffer.new ≡ buffer.old))
         (λ held. OfferedNew form held.table join buffer.old buffer.new result) }
     ensures noted { node.new.changes ≡ node.old.changes }
 {
@@ -67,7 +68,8 @@ pub extern "C" fn swimtab_raw_answer_new(
     buffer: &mut Buffer,
 ) -> Exchanged
     ensures answers { OnNode node.old.node node.new.node
-        ((result ≡ record { status = 64; join = false; news = false; used = 0; len = 0 })
+        ((result
+        ≡ record { status = statuses.no_node; join = false; news = false; used = 0; len = 0 })
         × (buffer.new ≡ buffer.old))
         (AnsweredNew form stream.now buffer.old buffer.new
         result.status result.join result.used result.len) }
@@ -97,7 +99,7 @@ pub extern "C" fn swimtab_raw_answer_new(
 #[unsafe(no_mangle)]
 pub extern "C" fn swimtab_raw_list_new(alloc: Global, node: &mut Handle, buffer: &mut Buffer) -> u32
     ensures tells { OnSame node.old.node node.new.node
-        ((result ≡ 64) × (buffer.new ≡ buffer.old))
+        ((result ≡ statuses.no_node) × (buffer.new ≡ buffer.old))
         (λ held. FilledOr (listing held.table) buffer.old buffer.new result IsNoMemory) }
     ensures noted { node.new.changes ≡ node.old.changes }
 {

@@ -3,6 +3,7 @@
 ghost use Rattle.std.specs.Prelude.{◌≡◌};
 ghost use Rattle.swim_c.specs.Forgetting.{ForgetDone, LetsNameGo};
 ghost use Rattle.swim_c.specs.OnNode.{OnNode};
+ghost use Rattle.swim_c.specs.Statuses as statuses;
 
 use crate::forgetting::forget;
 use crate::handle::Handle;
@@ -25,7 +26,7 @@ use std::alloc::Global;
 #[unsafe(no_mangle)]
 pub extern "C" fn swimtab_raw_forget(alloc: Global, node: &mut Handle, name: &[u8]) -> u32
     ensures forgets { OnNode node.old.node node.new.node
-        (result ≡ 64) (ForgetDone name.now result) }
+        (result ≡ statuses.no_node) (ForgetDone name.now result) }
     ensures noted { LetsNameGo name.now node.old.changes node.new.changes result }
 {
     let Some(mut held) = node.take(alloc) else {

@@ -4,6 +4,7 @@ ghost use Rattle.std.specs.Prelude.{◌≡◌, ◌∷◌, [], None, MatchOption,
 ghost use Rattle.memberlist_cipher.specs.Encryption.{IsKey};
 ghost use Rattle.memberlist_cipher.specs.Refusal.{KeyCause};
 ghost use Rattle.swim_c.specs.Keyring.{KeyAdded};
+ghost use Rattle.swim_c.specs.Statuses as statuses;
 
 use crate::fault::cipher_status;
 use crate::keyring::KeyringHandle;
@@ -74,7 +75,7 @@ fn keyring_of(alloc: Global, key: &[u8]) -> Result<Box<Keyring>, CipherFault>
 #[unsafe(no_mangle)]
 pub extern "C" fn swimtab_raw_keyring_close(alloc: Global, keyring: &mut KeyringHandle) -> u32
     ensures none { keyring.new.keys ≡ None }
-    ensures status { MatchOption keyring.old.keys (result ≡ 64) (λ _. result ≡ 0) }
+    ensures status { MatchOption keyring.old.keys (result ≡ statuses.no_node) (λ _. result ≡ 0) }
 {
     match keyring.take(alloc) {
         Some(_) => DONE,

@@ -2,6 +2,7 @@
 
 ghost use Rattle.std.specs.Prelude.{◌≡◌, ◌≢◌, None, MatchOption};
 ghost use Rattle.swim_c.specs.Opening.{OpenDone, told};
+ghost use Rattle.swim_c.specs.Statuses as statuses;
 
 use crate::handle::Handle;
 use crate::opening::{Parts, open};
@@ -66,7 +67,7 @@ pub extern "C" fn swimtab_raw_open(
 pub extern "C" fn swimtab_raw_close(alloc: Global, node: &mut Handle) -> u32
     ensures none { node.new.node ≡ None }
     ensures unnoted { node.new.changes ≡ None }
-    ensures status { MatchOption node.old.node (result ≡ 64) (λ _. result ≡ 0) }
+    ensures status { MatchOption node.old.node (result ≡ statuses.no_node) (λ _. result ≡ 0) }
 {
     match node.take(alloc) {
         Some(_) => DONE,

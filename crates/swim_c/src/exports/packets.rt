@@ -9,6 +9,7 @@ ghost use Rattle.swim_c.specs.Compound.{CompoundDone};
 ghost use Rattle.swim_c.specs.OwnPackets.{SaidOr, IsNoName, IsUnsaid};
 ghost use Rattle.swim_c.specs.Taking.{TakeDone, RefuteDone};
 ghost use Rattle.swim_c.specs.Watching.{Noted, TellsNews};
+ghost use Rattle.swim_c.specs.Statuses as statuses;
 
 use crate::compound::compound_out;
 use crate::copy::Written;
@@ -34,7 +35,8 @@ use std::alloc::Global;
 #[unsafe(no_mangle)]
 pub extern "C" fn swimtab_raw_take(alloc: Global, node: &mut Handle, bytes: &[u8]) -> Taken
     ensures takes { OnNode node.old.node node.new.node
-        (result ≡ record { status = 64; news = false }) (TakeDone bytes.now result.status) }
+        (result ≡ record { status = statuses.no_node; news = false })
+        (TakeDone bytes.now result.status) }
     ensures news { OnNode node.old.node node.new.node
         (result.news ≡ false) (TellsNews result.status result.news) }
     ensures noted { OnNode node.old.node node.new.node
@@ -63,7 +65,7 @@ pub extern "C" fn swimtab_raw_take(alloc: Global, node: &mut Handle, bytes: &[u8
 #[unsafe(no_mangle)]
 pub extern "C" fn swimtab_raw_refute(alloc: Global, node: &mut Handle) -> Refuted
     ensures refutes { OnNode node.old.node node.new.node
-        (result ≡ record { status = 64; due = false; inc = 0 })
+        (result ≡ record { status = statuses.no_node; due = false; inc = 0 })
         (RefuteDone result.status result.due result.inc) }
     ensures noted { OnNode node.old.node node.new.node
         (node.new.changes ≡ node.old.changes)
@@ -95,7 +97,7 @@ pub extern "C" fn swimtab_raw_alive(
     out: &mut [u8],
 ) -> Written
     ensures tells { OnSame node.old.node node.new.node
-        ((result ≡ record { status = 64; len = 0 }) × (out.new ≡ out.old))
+        ((result ≡ record { status = statuses.no_node; len = 0 }) × (out.new ≡ out.old))
         (λ held. SaidOr (record { claim = Alive held.name inc held.details; from = [] })
         out.old out.new result.status result.len IsNoMemory) }
     ensures noted { node.new.changes ≡ node.old.changes }
@@ -167,7 +169,7 @@ pub extern "C" fn swimtab_raw_suspect(
     out: &mut [u8],
 ) -> Written
     ensures tells { OnSame node.old.node node.new.node
-        ((result ≡ record { status = 64; len = 0 }) × (out.new ≡ out.old))
+        ((result ≡ record { status = statuses.no_node; len = 0 }) × (out.new ≡ out.old))
         (λ held. SaidOr (record { claim = Suspect name.now inc; from = held.name })
         out.old out.new result.status result.len (IsNoName name.now)) }
     ensures noted { node.new.changes ≡ node.old.changes }
@@ -201,7 +203,7 @@ pub extern "C" fn swimtab_raw_confirm(
     out: &mut [u8],
 ) -> Written
     ensures tells { OnSame node.old.node node.new.node
-        ((result ≡ record { status = 64; len = 0 }) × (out.new ≡ out.old))
+        ((result ≡ record { status = statuses.no_node; len = 0 }) × (out.new ≡ out.old))
         (λ held. SaidOr (record { claim = Confirm name.now inc; from = held.name })
         out.old out.new result.status result.len (IsUnsaid held.name name.now)) }
     ensures noted { node.new.changes ≡ node.old.changes }
@@ -232,7 +234,7 @@ pub extern "C" fn swimtab_raw_leave(
     out: &mut [u8],
 ) -> Written
     ensures tells { OnSame node.old.node node.new.node
-        ((result ≡ record { status = 64; len = 0 }) × (out.new ≡ out.old))
+        ((result ≡ record { status = statuses.no_node; len = 0 }) × (out.new ≡ out.old))
         (λ held. SaidOr (record { claim = Leave held.name inc; from = held.name })
         out.old out.new result.status result.len IsNoMemory) }
     ensures noted { node.new.changes ≡ node.old.changes }

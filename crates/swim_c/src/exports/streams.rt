@@ -5,6 +5,7 @@ ghost use Rattle.swim_c.specs.Exchanges.{FinishDone, OfferedInForm, AnsweredInFo
 ghost use Rattle.swim_c.specs.OnNode.{OnNode, OnSame};
 ghost use Rattle.swim_c.specs.Progressing.{IsProgressIn, WholeDone};
 ghost use Rattle.swim_c.specs.Watching.{Noted, TellsNews};
+ghost use Rattle.swim_c.specs.Statuses as statuses;
 
 use crate::copy::Written;
 use crate::exchanging::{Exchanged, answer_in_form, finish_stream, offer_in_form};
@@ -36,7 +37,7 @@ pub extern "C" fn swimtab_raw_offer(
     out: &mut [u8],
 ) -> Written
     ensures tells { OnSame node.old.node node.new.node
-        ((result ≡ record { status = 64; len = 0 }) × (out.new ≡ out.old))
+        ((result ≡ record { status = statuses.no_node; len = 0 }) × (out.new ≡ out.old))
         (λ held. OfferedInForm form held.table join
         out.old out.new result.status result.len) }
     ensures noted { node.new.changes ≡ node.old.changes }
@@ -74,7 +75,8 @@ pub extern "C" fn swimtab_raw_answer(
     out: &mut [u8],
 ) -> Exchanged
     ensures answers { OnNode node.old.node node.new.node
-        ((result ≡ record { status = 64; join = false; news = false; used = 0; len = 0 })
+        ((result
+        ≡ record { status = statuses.no_node; join = false; news = false; used = 0; len = 0 })
         × (out.new ≡ out.old))
         (AnsweredInForm form stream.now
         out.old out.new result.status result.join result.used result.len) }
@@ -105,7 +107,8 @@ pub extern "C" fn swimtab_raw_answer(
 #[unsafe(no_mangle)]
 pub extern "C" fn swimtab_raw_finish(alloc: Global, node: &mut Handle, stream: &[u8]) -> Exchanged
     ensures finishes { OnNode node.old.node node.new.node
-        (result ≡ record { status = 64; join = false; news = false; used = 0; len = 0 })
+        (result
+        ≡ record { status = statuses.no_node; join = false; news = false; used = 0; len = 0 })
         (FinishDone stream.now result.status result.join result.used result.len) }
     ensures news { OnNode node.old.node node.new.node
         (result.news ≡ false) (TellsNews result.status result.news) }

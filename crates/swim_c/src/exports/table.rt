@@ -8,6 +8,7 @@ ghost use Rattle.swim_c.specs.Buffers.{WrittenOr, IsNoMemory};
 ghost use Rattle.swim_c.specs.Members.{MemberDone};
 ghost use Rattle.swim_c.specs.OnNode.{OnSame};
 ghost use Rattle.swim_c.specs.Relating.{IsRelationNumber};
+ghost use Rattle.swim_c.specs.Statuses as statuses;
 
 use crate::copy::Written;
 use crate::handle::Handle;
@@ -49,7 +50,7 @@ pub extern "C" fn swimtab_raw_member(
     member: &mut Member,
 ) -> u32
     ensures tells { OnSame node.old.node node.new.node
-        ((result ≡ 64) × (member.new ≡ member.old))
+        ((result ≡ statuses.no_node) × (member.new ≡ member.old))
         (λ held. MemberDone (slice_get held.table i) member.old member.new result) }
     ensures noted { node.new.changes ≡ node.old.changes }
 {
@@ -77,7 +78,7 @@ pub extern "C" fn swimtab_raw_find(
     member: &mut Member,
 ) -> u32
     ensures tells { OnSame node.old.node node.new.node
-        ((result ≡ 64) × (member.new ≡ member.old))
+        ((result ≡ statuses.no_node) × (member.new ≡ member.old))
         (λ held. MemberDone (get held.table name.now) member.old member.new result) }
     ensures noted { node.new.changes ≡ node.old.changes }
 {
@@ -101,7 +102,7 @@ pub extern "C" fn swimtab_raw_find(
 #[unsafe(no_mangle)]
 pub extern "C" fn swimtab_raw_list(alloc: Global, node: &mut Handle, out: &mut [u8]) -> Written
     ensures tells { OnSame node.old.node node.new.node
-        ((result ≡ record { status = 64; len = 0 }) × (out.new ≡ out.old))
+        ((result ≡ record { status = statuses.no_node; len = 0 }) × (out.new ≡ out.old))
         (λ held. WrittenOr (listing held.table)
         out.old out.new result.status result.len IsNoMemory) }
     ensures noted { node.new.changes ≡ node.old.changes }
@@ -139,7 +140,7 @@ pub extern "C" fn swimtab_raw_relate(
     ensures first_noted { first.new.changes ≡ first.old.changes }
     ensures second_noted { second.new.changes ≡ second.old.changes }
     ensures none { (first.old.node ≡ None) ⊎ (second.old.node ≡ None)
-        → result ≡ record { status = 64; relation = 0 } }
+        → result ≡ record { status = statuses.no_node; relation = 0 } }
     ensures relation { (left right : NodeValue)
         → first.old.node ≡ Some left → second.old.node ≡ Some right
         → (result.status ≡ 0) × IsRelationNumber left.table right.table result.relation }
@@ -164,7 +165,7 @@ pub extern "C" fn swimtab_raw_relate(
 
 impl Related {
     fn refused() -> Related
-        ensures { result ≡ record { status = 64; relation = 0 } }
+        ensures { result ≡ record { status = statuses.no_node; relation = 0 } }
     {
         Related {
             status: NO_NODE,

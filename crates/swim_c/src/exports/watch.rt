@@ -4,6 +4,7 @@ ghost use Rattle.std.specs.Prelude.{◌≡◌, MatchOption};
 ghost use Rattle.swim_c.specs.Members.{MemberDone};
 ghost use Rattle.swim_c.specs.OnNode.{OnSame};
 ghost use Rattle.swim_c.specs.Watching.{LetsGo, next_entry, start};
+ghost use Rattle.swim_c.specs.Statuses as statuses;
 
 use crate::handle::Handle;
 use crate::member::Member;
@@ -19,7 +20,8 @@ use std::alloc::Global;
 /// 64 if the handle has no node.
 #[unsafe(no_mangle)]
 pub extern "C" fn swimtab_raw_watch(alloc: Global, node: &mut Handle, on: bool) -> u32
-    ensures status { OnSame node.old.node node.new.node (result ≡ 64) (λ _. result ≡ 0) }
+    ensures status { OnSame node.old.node node.new.node (result ≡ statuses.no_node)
+        (λ _. result ≡ 0) }
     ensures changes { MatchOption node.old.node (node.new.changes ≡ node.old.changes)
         (λ _. node.new.changes ≡ start on) }
 {
@@ -47,7 +49,7 @@ pub extern "C" fn swimtab_raw_next_change(
     member: &mut Member,
 ) -> u32
     ensures tells { OnSame node.old.node node.new.node
-        ((result ≡ 64) × (member.new ≡ member.old))
+        ((result ≡ statuses.no_node) × (member.new ≡ member.old))
         (λ held. MemberDone (next_entry held.table node.old.changes)
         member.old member.new result) }
     ensures changes { LetsGo node.old.changes node.new.changes result }
