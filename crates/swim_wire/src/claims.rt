@@ -117,6 +117,7 @@ fn name_of(alloc: Global, bytes: &[u8]) -> Result<Name, WireFault>
     Ok(named?)
 }
 
+/// The details that an Alive gives.
 #[inline(always)]
 fn details_of(
     alloc: Global,
