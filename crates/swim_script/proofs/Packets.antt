@@ -10,7 +10,7 @@ use Rattle.swim_wire.specs.Texts.DatagramText.{packet, compound}
 pub one_packet : (bytes : List ℕ) (p : PacketValue) → PacketText bytes p → DatagramText bytes (p ∷ [])
 one_packet bytes p text = packet p text refl
 
--- a datagram of one packet that is no compound packet is that packet
+-- a datagram of one packet that is not a compound packet is that packet
 pub lone_packet : (bytes : List ℕ) (p : PacketValue) → DatagramText bytes (p ∷ []) → ¬ BeginsWith 7 bytes → PacketText bytes p
 lone_packet bytes p (packet q text is) other = let same : p ≡ q = cc in subst (PacketText bytes) (sym same) text
 lone_packet bytes p (compound parts few short is texts) other =

@@ -1,4 +1,4 @@
--- What is said of lines that are refused.
+-- What is reported about lines that are refused.
 use Rattle.std.proofs.Common.{◌≡◌, ◌≢◌, ◌⊎◌, ◌↔◌, inl, inr, ℕ, ◌<◌, ◌≤◌, Bool, true, List, [], ◌∷◌, None, Result, Err, length, map, get_or, codes, Bor, refl, sym, ap, ◌∙◌}
 use Rattle.std.proofs.lemmas.List.{length-map}
 use Rattle.swim_claim.specs.declared.fault.ClaimFault.{ClaimFault}
@@ -24,7 +24,7 @@ use Rattle.swim_script.proofs.ScriptLines.{two_words, six_words, other_line, fir
 pub not_six : (fields : List (Bor (List ℕ))) (what : What) → length fields ≢ 6 → what ≡ Refused 31 None → RefusesNode (map (λ w. w.now) fields) what
 not_six fields what many is = inl (λ same. many (sym (length-map fields (λ w. w.now)) ∙ same), is)
 
--- the six words are those of no node
+-- the six words do not describe a node
 pub node_wrong : (fields : List (Bor (List ℕ))) (d : Bor (List ℕ)) (what : What) → length fields ≡ 6
     → NoNode (get_or fields 0 d).now (get_or fields 1 d).now (get_or fields 2 d).now
     (get_or fields 3 d).now (get_or fields 4 d).now (get_or fields 5 d).now what
@@ -40,14 +40,14 @@ node_wrong fields d what l own = inr (
   own,
 )
 
--- what is said of a name that is none
+-- what is reported about an invalid name
 pub name_wrong : {V : Type 0} (result : Result V ClaimFault) (fault : ClaimFault) (name : List ℕ) (what : What) → result ≡ Err fault
     → ((result ≡ Err claim.NameEmpty) ↔ (name ≡ [])) → ((result ≡ Err claim.NameTooLong) ↔ (max_name_len < length name))
     → (fault ≡ claim.NameEmpty) ⊎ (fault ≡ claim.NameTooLong) → what ≡ Refused (claim_number fault) None → NoName name what
 name_wrong result fault name what err empty long (inl is) told = inl (empty.0 (err ∙ ap Err is), told ∙ ap (λ f. Refused (claim_number f) None) is)
 name_wrong result fault name what err empty long (inr is) told = inr (long.0 (err ∙ ap Err is), told ∙ ap (λ f. Refused (claim_number f) None) is)
 
--- what is said of details that are none
+-- what is reported about invalid details
 pub details_wrong : {V : Type 0} (result : Result V ClaimFault) (fault : ClaimFault) (details : DetailsValue) (what : What) → result ≡ Err fault
     → ((result ≡ Err claim.BadAddress) ↔ (¬ IsAddress details.addr))
     → ((result ≡ Err claim.MetaTooLong) ↔ (IsAddress details.addr × (max_meta_len < length details.meta)))
@@ -81,14 +81,14 @@ hear_no_datagram fields d k bytes what l n h told = no_datagram (get_or fields 0
 
 -- ---- a line
 
--- the first word is none of a line
+-- no line begins with the first word
 pub unknown_wrong : (nodes : Bool) (first : List ℕ) (fields : List (List ℕ)) (what : What) → ((keyword : Keyword) → first ≢ word_of keyword)
     → what ≡ Refused 31 None → RefusesWords nodes (first ∷ fields) what
 unknown_wrong nodes first fields what unknown is =
     other (λ may more e. unknown key.Node (first_word first (codes "node") fields more e))
     (λ more e. unknown key.Hear (first_word first (codes "hear") fields more e)) is
 
--- the first word is that of a line
+-- a line begins with the first word
 pub event_wrong : (nodes : Bool) (keyword : Keyword) (fields : List (List ℕ)) (what : What) → (keyword ≡ key.Node → nodes ≡ true → ⊥)
     → RefusesEvent keyword fields what → RefusesWords nodes (word_of keyword ∷ fields) what
 event_wrong nodes key.Node fields what no_node is =

@@ -28,7 +28,7 @@ use Rattle.swim_script.proofs.Packets.{one_packet}
 
 -- ---- fields by their places
 
--- two words are all that there are
+-- there are two words and no others
 pub two_words : (fields : List (Bor (List ℕ))) (d : Bor (List ℕ)) → length fields ≡ 2
     → map (λ w. w.now) fields ≡ (get_or fields 0 d).now ∷ (get_or fields 1 d).now ∷ []
 two_words [] d l = absurd (omega (arith, l))
@@ -36,7 +36,7 @@ two_words (a ∷ []) d l = absurd (omega (arith, l))
 two_words (a ∷ b ∷ []) d l = refl
 two_words (a ∷ b ∷ e ∷ more) d l = absurd (omega (arith, l))
 
--- six words are all that there are
+-- there are six words and no others
 pub six_words : (fields : List (Bor (List ℕ))) (d : Bor (List ℕ)) → length fields ≡ 6
     → map (λ w. w.now) fields ≡ (get_or fields 0 d).now ∷ (get_or fields 1 d).now ∷ (get_or fields 2 d).now
     ∷ (get_or fields 3 d).now ∷ (get_or fields 4 d).now ∷ (get_or fields 5 d).now ∷ []
@@ -49,7 +49,7 @@ six_words (a ∷ b ∷ e ∷ f ∷ g ∷ []) d l = absurd (omega (arith, l))
 six_words (a ∷ b ∷ e ∷ f ∷ g ∷ h ∷ []) d l = refl
 six_words (a ∷ b ∷ e ∷ f ∷ g ∷ h ∷ i ∷ more) d l = absurd (omega (arith, l))
 
--- what the six words after `node` tell
+-- what the six words after `node` say
 pub node_told : (fields : List (Bor (List ℕ))) (d : Bor (List ℕ)) (start : Start) → length fields ≡ 6 → NodeWords (codes "node" ∷ map (λ w. w.now) fields) start
     → NodeFields (get_or fields 0 d).now (get_or fields 1 d).now (get_or fields 2 d).now
     (get_or fields 3 d).now (get_or fields 4 d).now (get_or fields 5 d).now start
@@ -58,7 +58,7 @@ node_told fields d start l own =
     λ line. NodeFields (get_or line 1 []) (get_or line 2 []) (get_or line 3 []) (get_or line 4 []) (get_or line 5 []) (get_or line 6 []) start in
     subst P (sym own.6 ∙ ap (λ t. codes "node" ∷ t) (six_words fields d l)) own.7
 
--- and where they tell it, the line is that of the node
+-- and if they say it, the line is that of the node
 pub node_tells : (fields : List (Bor (List ℕ))) (d : Bor (List ℕ)) (start : Start) → length fields ≡ 6
     → NodeFields (get_or fields 0 d).now (get_or fields 1 d).now (get_or fields 2 d).now
     (get_or fields 3 d).now (get_or fields 4 d).now (get_or fields 5 d).now start
@@ -87,7 +87,7 @@ one_bytes word bytes others (inr a) (inr b) = let same : Ok bytes ≡ Ok others 
 
 -- ---- what is heard
 
--- what is no datagram is not heard
+-- what is not a datagram is not heard
 pub not_heard : (k : ℕ) (bytes : List ℕ) → ((packets : List PacketValue) → ¬ DatagramText bytes packets) → (event : Event)
     → ¬ HearsBytes k bytes event
 not_heard k bytes none event (packet p t e) = none (p ∷ []) (one_packet bytes p t)
@@ -113,15 +113,15 @@ details_told name addr port meta vsn inc start a p m v own one two three four =
 
 -- ---- an event
 
--- words that are told apart byte by byte are not the same
+-- words that differ byte by byte are not the same
 differ : (a b : List ℕ) → bytes_eq a b ≡ false → a ≢ b
 differ a b apart same = false≢true (sym apart ∙ (bytes_eq-Decides a b).1 same)
 
--- the first words of two lines that are the same
+-- the first words of two equal lines
 pub first_word : (a b : List ℕ) (xs ys : List (List ℕ)) → a ∷ xs ≡ b ∷ ys → a ≡ b
 first_word a b xs ys e = ap (λ l. get_or l 0 []) e
 
--- lines whose first words are told apart are not the same
+-- lines whose first words differ are not the same
 pub other_line : (a b : List ℕ) (xs ys : List (List ℕ)) → bytes_eq a b ≡ false → a ∷ xs ≢ b ∷ ys
 other_line a b xs ys apart e = differ a b apart (first_word a b xs ys e)
 
@@ -129,7 +129,7 @@ other_line a b xs ys apart e = differ a b apart (first_word a b xs ys e)
 later_words : (a b : List ℕ) (xs ys : List (List ℕ)) → a ∷ xs ≡ b ∷ ys → xs ≡ ys
 later_words a b xs ys e = ap (drop 1) e
 
--- what the words after `hear` tell
+-- what the words after `hear` say
 pub record IsHeard (fields : List (List ℕ)) (event : Event) : Type 0 where
   pub node : List ℕ
   pub datagram : List ℕ
@@ -185,14 +185,14 @@ event_first word fields event (exchange first second j k e m n is) = inr (inl (f
 event_first word fields event (half first second j k e m n is) = inr (inr (inl (first_word word (codes "half") fields (first ∷ second ∷ []) e)))
 event_first word fields event (refute node k e n is) = inr (inr (inr (first_word word (codes "refute") fields (node ∷ []) e)))
 
--- what is told of is heard
+-- what the words say is heard
 pub hear_told : (fields : List (Bor (List ℕ))) (d : Bor (List ℕ)) (k : ℕ) (bytes : List ℕ) (event : Event) → length fields ≡ 2
     → NodeNumber (get_or fields 0 d).now k → HexBytes (get_or fields 1 d).now bytes → HearsBytes k bytes event
     → EventWords (codes "hear" ∷ map (λ w. w.now) fields) event
 hear_told fields d k bytes event l n h b =
     hear (get_or fields 0 d).now (get_or fields 1 d).now k bytes (ap (λ t. codes "hear" ∷ t) (two_words fields d l)) n h b
 
--- where the second word is no bytes, nothing is heard
+-- if the second word is not bytes, nothing is heard
 pub no_hex : (fields : List (Bor (List ℕ))) (d : Bor (List ℕ)) (event : Event) → length fields ≡ 2
     → ((bytes : List ℕ) → ¬ HexBytes (get_or fields 1 d).now bytes) → ¬ EventWords (codes "hear" ∷ map (λ w. w.now) fields) event
 no_hex fields d event l none own =
@@ -200,7 +200,7 @@ no_hex fields d event l none own =
     let same : told.datagram ≡ (get_or fields 1 d).now = ap (λ t. get_or t 1 []) (sym told.words ∙ two_words fields d l) in
     none told.bytes (subst (λ w. HexBytes w told.bytes) same told.hex)
 
--- where the bytes are heard by no such event, nor is the line
+-- if the event is not that of the bytes, it is not that of the line
 pub no_heard : (fields : List (Bor (List ℕ))) (d : Bor (List ℕ)) (k : ℕ) (bytes : List ℕ) (event : Event) → length fields ≡ 2
     → NodeNumber (get_or fields 0 d).now k → HexBytes (get_or fields 1 d).now bytes → (¬ HearsBytes k bytes event)
     → ¬ EventWords (codes "hear" ∷ map (λ w. w.now) fields) event
@@ -223,7 +223,7 @@ half_told fields j k own = half own.0 own.1 j k (ap (λ t. codes "half" ∷ t) o
 pub refute_told : (fields : List (List ℕ)) (k : ℕ) → OneNumber fields k → EventWords (codes "refute" ∷ fields) (Refute k)
 refute_told fields k own = refute own.0 k (ap (λ t. codes "refute" ∷ t) own.1) own.2 refl
 
--- and where there are no such numbers, there is no event
+-- and if there are no such numbers, there is no event
 pub no_exchange : (fields : List (List ℕ)) → ((j k : ℕ) → ¬ TwoNumbers fields j k) → (event : Event) → ¬ EventWords (codes "exchange" ∷ fields) event
 no_exchange fields none event own = let told = exchanged_by_words fields event own in none told.0 told.1 told.2
 
@@ -235,7 +235,7 @@ no_refute fields none event own = let told = refuted_by_words fields event own i
 
 -- ---- a line that says nothing
 
--- its first word is that of no line
+-- no line begins with its first word
 pub unknown_first : (nodes : Bool) (first : List ℕ) (fields : List (List ℕ)) → ((keyword : Keyword) → first ≢ word_of keyword)
     → SpellsNothing nodes (first ∷ fields)
 unknown_first nodes first fields none = record {
@@ -249,7 +249,7 @@ unknown_first nodes first fields none = record {
   level = λ own. none key.Level (ap (λ l. get_or l 0 []) own);
 }
 
--- the first word `node` is that of a node, and no other is
+-- only the first word of a node is `node`
 node_word : (keyword : Keyword) → word_of keyword ≡ codes "node" → keyword ≡ key.Node
 node_word key.Node e = refl
 node_word key.Hear e = absurd (differ (codes "hear") (codes "node") refl e)
@@ -258,7 +258,7 @@ node_word key.Half e = absurd (differ (codes "half") (codes "node") refl e)
 node_word key.Refute e = absurd (differ (codes "refute") (codes "node") refl e)
 node_word key.Level e = absurd (differ (codes "level") (codes "node") refl e)
 
--- and `level` that of the levelling
+-- and only that of the levelling is `level`
 level_word : (keyword : Keyword) → word_of keyword ≡ codes "level" → keyword ≡ key.Level
 level_word key.Node e = absurd (differ (codes "node") (codes "level") refl e)
 level_word key.Hear e = absurd (differ (codes "hear") (codes "level") refl e)
@@ -267,7 +267,7 @@ level_word key.Half e = absurd (differ (codes "half") (codes "level") refl e)
 level_word key.Refute e = absurd (differ (codes "refute") (codes "level") refl e)
 level_word key.Level e = refl
 
--- a line that is no event, no node that may come, and `level` only with words after it
+-- a line that is not an event, not a node that may come, and not `level` alone
 pub nothing_told : (nodes : Bool) (keyword : Keyword) (fields : List (List ℕ)) → (keyword ≡ key.Node → nodes ≡ true → ⊥) →
     (keyword ≡ key.Level → 0 < length fields)
     → ((event : Event) → ¬ EventWords (word_of keyword ∷ fields) event) → SpellsNothing nodes (word_of keyword ∷ fields)
@@ -283,7 +283,7 @@ nothing_told nodes keyword fields node level none = record {
       omega (arith, some, ap length (later_words (word_of keyword) (codes "level") fields [] own));
 }
 
--- a line of a node that is none
+-- a line that begins as a node and does not describe one
 pub no_node_told : (nodes : Bool) (fields : List (List ℕ)) → ((start : Start) → ¬ NodeWords (codes "node" ∷ fields) start)
     → SpellsNothing nodes (codes "node" ∷ fields)
 no_node_told nodes fields none = record {
@@ -313,7 +313,7 @@ level_first words own = ap first_of own
 pub node_no_level : (words : List (List ℕ)) (start : Start) → NodeWords words start → ¬ LevelWords words
 node_no_level words start own level = differ (codes "node") (codes "level") refl (sym (node_first words start own) ∙ level_first words level)
 
--- a line whose first word is told apart from both is neither that of a node nor `level`
+-- a line whose first word differs from both is neither that of a node nor `level`
 neither : (words : List (List ℕ)) (word : List ℕ) → first_of words ≡ word → bytes_eq word (codes "node") ≡ false → bytes_eq word (codes "level") ≡ false
     → (first_of words ≢ codes "node") × (first_of words ≢ codes "level")
 neither words word is node level = (λ e. differ word (codes "node") node (sym is ∙ e), λ e. differ word (codes "level") level (sym is ∙ e))
@@ -327,7 +327,7 @@ event_first_other words event (refute node k e n is) = neither words (codes "ref
 
 -- ---- why a line is not read
 
--- no message is refused for an event, and one that does not fail for no device
+-- the fault of a message is never that of an event, nor that of a device unless the device failed
 pub wire_of_reading : (fault : WireFault) → (fault ≡ wire.Fault → ⊥) → IsOfReading (what_of fault)
 wire_of_reading wire.Ended other = refl
 wire_of_reading wire.NotUnsigned other = refl
@@ -350,7 +350,7 @@ wire_of_reading wire.TooManyNodes other = refl
 wire_of_reading wire.UserTooLong other = refl
 wire_of_reading wire.Trailing other = refl
 
--- nor is a name, or are details
+-- nor is that of a name or of details
 pub claim_of_reading : (fault : ClaimFault) → IsOfReading (Refused (claim_number fault) None)
 claim_of_reading claim.NameEmpty = refl
 claim_of_reading claim.NameTooLong = refl
@@ -358,7 +358,7 @@ claim_of_reading claim.BadAddress = refl
 claim_of_reading claim.MetaTooLong = refl
 claim_of_reading claim.BadVersions = refl
 
--- nor a text that is no hexadecimal
+-- nor is that of a text that is not hexadecimal
 pub hex_of_reading : (error : FromHexError) → IsOfReading (what_of_hex error)
 hex_of_reading hex.OddLength = refl
 hex_of_reading hex.InvalidStringLength = refl

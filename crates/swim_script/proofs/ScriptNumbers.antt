@@ -88,7 +88,7 @@ comes_last lines text starts events own k number without tells from below counte
   named = ap place.Line counted;
 }
 
--- one line more, which tells of more events
+-- one more line, which describes more events
 numbered_more : (lines : List (List ℕ)) (text : List ℕ) (starts : List Start) (events own : List Event) (numbers : List ℕ) (last k number : ℕ)
     → AreNumbered lines starts events numbers None → length numbers ≡ length events → last ≡ length lines + 1
     → ScriptOf lines starts events → ScriptOf (lines ++ text ∷ []) starts (events ++ own) → k < length (events ++ own) → IsEarlierOr numbers last k number
@@ -110,13 +110,13 @@ pub record WereRead (lines : List (List ℕ)) (plan : Plan) : Type 0 where
   pub was : WasRead (script_lines lines) starts plan
   pub numbered : AreNumbered lines starts (events_of plan) plan.lines.items plan.level
 
--- where there are no numbers, each is right
+-- if there are no numbers, each is right
 none_numbered : (lines : List (List ℕ)) (starts : List Start) (events : List Event) (numbers : List ℕ) (level : Option ℕ)
     → numbers ≡ [] → level ≡ None → AreNumbered lines starts events numbers level
 none_numbered lines starts events numbers level none unended = λ k number below is.
     let bad : None ≡ Some number = sym (ap₂ (λ (l : List ℕ) (o : Option ℕ). event_line l o k) none unended) ∙ is in absurd cc
 
--- nothing yet
+-- nothing was read yet
 pub none_read : (plan : Plan) → plan.nodes.items ≡ [] → plan.events.items ≡ [] → plan.lines.items ≡ [] → plan.level ≡ None → WereRead [] plan
 none_read plan nodes events lines level = record {
   starts = [];
@@ -129,7 +129,7 @@ one_more : (lines : List (List ℕ)) (raw text : List ℕ) → text ≡ strip_ca
     → script_lines lines ++ text ∷ [] ≡ script_lines (lines ++ raw ∷ [])
 one_more lines raw text strips some = sym (one_more_line lines raw text strips ∙ ap (λ l. script_lines lines ++ l) (not_empty_one text some))
 
--- a line that tells of events
+-- a line that describes events
 were_more : (lines : List (List ℕ)) (raw : List ℕ) (starts : List Start) (number : ℕ) (old new : Plan) (own : List Event)
     → WasRead (script_lines lines) starts old → AreNumbered lines starts (events_of old) old.lines.items old.level
     → WasRead (script_lines (lines ++ raw ∷ [])) starts new
@@ -150,7 +150,7 @@ were_more lines raw starts number old new own was numbered now counted unended a
           (subst (λ (e : List Event). k < length e) all below) (split k n is));
     }
 
--- one line more was read
+-- one more line was read
 pub read_more : (lines : List (List ℕ)) (raw text : List ℕ) (number : ℕ) (old new : Plan) → text ≡ strip_carriage_return raw → number ≡ length lines + 1
     → WereRead lines old → TakesLine text number old new → WereRead (lines ++ raw ∷ []) new
 read_more lines raw text number old new strips counted were (inl (none, same)) =

@@ -1,11 +1,11 @@
--- Which lines of a script may still follow, apart from what they say.
+-- Which lines of a script may still follow, whatever else they say.
 use Rattle.std.proofs.Common.{◌≡◌, ℕ, ◌⊎◌, inl, inr, Bool, true, false, List, [], ◌∷◌, ◌++◌, length, refl, sym, subst, ◌∙◌, append_assoc}
 use Rattle.swim_sync.specs.declared.event.Event.{Event}
 use Rattle.swim_script.specs.Script.{Start, NodeWords, EventWords, LevelWords, NodeLines, EventLines, LastLine, ScriptOf, script_lines, words}
 use Rattle.swim_script.specs.ScriptReading.{SpellsNothing}
 use Rattle.swim_script.proofs.ScriptLines.{node_first, level_first, node_no_level, event_first_other}
 
--- lines of nodes where they may come, then lines of events, then `level`, unless that came
+-- lines of nodes if they may come, then lines of events, then `level`, unless it came already
 abbrev pub Follows : Bool → Bool → List (List ℕ) → Type 0
 Follows nodes ended [] = Unit {0}
 Follows nodes ended (line ∷ lines) =
@@ -35,7 +35,7 @@ follows_nodes count (line ∷ first) lines last [] told levelled nodes each own 
 follows_nodes count (line ∷ first) lines last (start ∷ starts) told levelled nodes each own =
     (refl, inl (refl, (start, nodes.0), follows_nodes count first lines last starts told levelled nodes.1 each own))
 
--- a script is lines that may follow from the start on
+-- a script consists of lines that may follow from the start on
 pub script_follows : (lines : List (List ℕ)) (starts : List Start) (events : List Event)
     → ScriptOf lines starts events → Follows true false (script_lines lines)
 script_follows lines starts events script =

@@ -1,4 +1,4 @@
--- What was read of a script, line by line.
+-- What was read from a script, line by line.
 use Rattle.std.proofs.Common.{◌≡◌, ◌≢◌, ℕ, zero, suc, ◌+◌, ◌<◌, ◌≤◌, Bool, true, false, List, [], ◌∷◌, ◌++◌, Option, Some, None, is_some, length, map, take, drop, get_or, Bor, refl, sym, ap, ap₂, subst, ◌∙◌, append_assoc, append-nil, eqb-true, ne_eqb, arith}
 use Rattle.std.proofs.lemmas.List.Splits.{length-slice_split}
 use Rattle.std.proofs.lemmas.Slice.Zip.{AllZip-long, all_zipped_more}
@@ -24,12 +24,12 @@ use Rattle.swim_script.proofs.ScriptOrder.{Follows, script_follows, after_node, 
 
 -- ---- what was read so far
 
--- `level` was read, or was not
+-- either no last line was read, or it is `level`
 abbrev EndsWith : List (List ℕ) → Option ℕ → Type 0
 EndsWith last None = last ≡ []
 EndsWith last (Some number) = (line : List ℕ) × (last ≡ line ∷ []) × LevelWords (words line)
 
--- these lines that are not empty were read into the plan, with nodes that start so
+-- these lines, none of them empty, were read into the plan, with nodes that start so
 pub record WasRead (lines : List (List ℕ)) (starts : List Start) (plan : Plan) : Type 0 where
   pub node_lines : List (List ℕ)
   pub event_lines : List (List ℕ)
@@ -42,7 +42,7 @@ pub record WasRead (lines : List (List ℕ)) (starts : List Start) (plan : Plan)
   pub count : length plan.lines.items ≡ length plan.events.items
   pub follows : (rest : List (List ℕ)) → Follows true false (lines ++ rest) → Follows (length plan.events.items == 0) (is_some plan.level) rest
 
--- nothing yet
+-- nothing was read yet
 pub nothing_read : (plan : Plan) → plan.nodes.items ≡ [] → plan.events.items ≡ [] → plan.lines.items ≡ [] → plan.level ≡ None → WasRead [] [] plan
 nothing_read plan nodes events lines level = record {
   node_lines = [];
@@ -62,7 +62,7 @@ not_empty_append [] others = refl
 not_empty_append ([] ∷ lines) others = not_empty_append lines others
 not_empty_append ((byte ∷ bytes) ∷ lines) others = ap (λ l. (byte ∷ bytes) ∷ l) (not_empty_append lines others)
 
--- a line that is not empty stays
+-- a line that is not empty is kept
 pub not_empty_one : (line : List ℕ) → line ≢ [] → not_empty (line ∷ []) ≡ line ∷ []
 not_empty_one [] none = absurd (none refl)
 not_empty_one (byte ∷ bytes) none = refl
@@ -74,12 +74,12 @@ nil_of_length (x ∷ xs) l = absurd (omega (arith, l))
 pushed_some : {A : Type 0} (xs : List A) (x : A) → (length (xs ++ x ∷ []) == 0) ≡ false
 pushed_some xs x = ne_eqb (length (xs ++ x ∷ [])) 0 (λ e. omega (arith, e, length-append xs (x ∷ [])))
 
--- where nothing was read after the lines of nodes, those are all
+-- if nothing was read after the lines of nodes, they are all lines
 only_nodes : (node_lines event_lines last : List (List ℕ)) → event_lines ≡ [] → last ≡ [] → node_lines ++ event_lines ++ last ≡ node_lines
 only_nodes node_lines event_lines last none nothing =
     ap₂ (λ e l. node_lines ++ e ++ l) none nothing ∙ append-nil (node_lines ++ []) ∙ append-nil node_lines
 
--- the rest after one line more
+-- the rest after one more line
 after_one : (lines : List (List ℕ)) (text : List ℕ) (rest : List (List ℕ)) → Follows true false ((lines ++ text ∷ []) ++ rest)
     → Follows true false (lines ++ text ∷ rest)
 after_one lines text rest f = subst (Follows true false) (append_assoc lines (text ∷ []) rest) f
@@ -234,12 +234,12 @@ read_parts lines starts plan was =
     whole_parts lines was.node_lines was.event_lines was.last starts plan.events.items plan.level (length plan.nodes.items)
     was.whole was.nodes was.each was.ends (started_length plan.nodes.items starts was.started)
 
--- where the line of the levelling was read there is its number, and else there is none
+-- there is a number for the line of the levelling exactly if that line was read
 ended : (last : List (List ℕ)) (level : Option ℕ) → EndsWith last level → (last ≢ [] → level ≢ None) × (last ≡ [] → level ≡ None)
 ended last None ends = (λ some none. some ends, λ none. refl)
 ended last (Some number) ends = (λ some none. absurd cc, λ none. let bad : ends.0 ∷ [] ≡ [] = sym ends.1 ∙ none in absurd cc)
 
--- what is said of the next line is said of it as one of the script
+-- what is reported about the next line is reported about it as a line of the script
 refuses_line : (lines : List (List ℕ)) (starts : List Start) (plan : Plan) (was : WasRead (script_lines lines) starts plan) (line text : List ℕ) (what : What)
     → text ≡ strip_carriage_return line → RefusesNext plan text what
     → RefusesLine (was_read_whole lines starts plan was).told (was_read_whole lines starts plan was).last (strip_carriage_return line) what
@@ -258,7 +258,7 @@ no_follow : (nodes : Bool) (level : Option ℕ) (text : List ℕ) (rest : List (
 no_follow nodes None text rest none f = nothing_follows nodes false text rest (none refl) f
 no_follow nodes (Some number) text rest none f = let bad : true ≡ false = f.0 in absurd cc
 
--- the lines are no script
+-- the lines are not a script
 no_script : (all lines : List (List ℕ)) (text : List ℕ) (rest : List (List ℕ)) (starts : List Start) (plan : Plan)
     → script_lines all ≡ lines ++ text ∷ rest → WasRead lines starts plan
     → IsOutOfPlace text plan → (nodes : List Start) (events : List Event) → ¬ ScriptOf all nodes events
@@ -295,7 +295,7 @@ script_parts before line text after strips some =
     ∙ ap (λ t. script_lines before ++ not_empty (t ∷ map strip_carriage_return after)) (sym strips)
     ∙ ap (λ l. script_lines before ++ l) (not_empty_first text (map strip_carriage_return after) some)
 
--- the line that is out of place is the first that makes the input no script
+-- the line that is out of place is the first with which the input is not a script
 pub first_wrong_line : (input : List ℕ) (before : List (List ℕ)) (line text : List ℕ) (starts : List Start) (plan : Plan) (at : Place) (what : What)
     → before ≡ take (length before) (input_lines input) → length before < length (input_lines input) → line ≡ get_or (input_lines input) (length before) line
     → text ≡ strip_carriage_return line → WasRead (script_lines before) starts plan → IsOutOfPlace text plan
@@ -318,12 +318,12 @@ first_wrong_line input before line text starts plan at what first within here st
       named = named;
     }
 
--- an input with such a line is no script
+-- an input with such a line is not a script
 pub wrong_line_no_script : (input : List ℕ) (at : Place) (what : What) → IsFirstWrongLine input at what → (starts : List Start)
     (events : List Event) → ¬ Script input starts events
 wrong_line_no_script input at what own starts events script = own.wrong own.after starts events (subst (λ l. ScriptOf l starts events) own.parts script)
 
--- one line more of those that are not empty
+-- the lines that are not empty, with one more line
 pub one_more_line : (read : List (List ℕ)) (line text : List ℕ) → text ≡ strip_carriage_return line → script_lines
     (read ++ line ∷ []) ≡ script_lines read ++ not_empty (text ∷ [])
 one_more_line read line text strips =
@@ -338,7 +338,7 @@ few_kept [] = omega arith
 few_kept ([] ∷ lines) = omega (arith, few_kept lines)
 few_kept ((byte ∷ bytes) ∷ lines) = omega (arith, few_kept lines)
 
--- no more than there are bytes, and one
+-- at most one more than there are bytes
 pub few_nodes : (input : List ℕ) (nodes : List NodeValue) (starts : List Start) (events : List Event)
     → AreStarted nodes starts → Script input starts events → length nodes ≤ length input + 1
 few_nodes input nodes starts events started script =

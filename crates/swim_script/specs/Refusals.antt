@@ -1,5 +1,5 @@
--- Why a line is refused, and what is said of it. Words are read from left to right, and the first
--- that is wrong counts.
+-- Why a line is refused, and what is reported about it. Words are read from left to right, and the
+-- first wrong one counts.
 use Rattle.std.specs.Prelude.{◌≡◌, ◌≢◌, ◌⊎◌, ℕ, ◌+◌, ◌<◌, ◌≤◌, Bool, true, false, ◌||◌, List, [], ◌∷◌, ◌++◌, None, length, codes, ◌==◌}
 use Rattle.std.specs.Str.Lines.{strip_carriage_return}
 use Rattle.percent_encoding.specs.Percent.{percent_decode}
@@ -23,7 +23,7 @@ use Rattle.swim_script.specs.Script.{Start, Decimal, HexBytes, NodeNumber, Scrip
 abbrev pub is_of_event : ℕ → Bool
 is_of_event number = (number == 23 || number == 26) || number == 27
 
--- it is no fault of an event, and none of a device
+-- it is not the fault of an event, nor that of a device
 abbrev pub IsOfReading : What → Type 0
 IsOfReading (Refused number found) = is_of_event number ≡ false
 IsOfReading Device = ⊥
@@ -31,11 +31,11 @@ IsOfReading Memory = Unit {0}
 
 -- ---- one word
 
--- it is no number of this place (31)
+-- the word is not a number that may be in this place (31)
 abbrev pub NoNumber : ℕ → List ℕ → What → Type 0
 NoNumber most word what = ((n : ℕ) → ¬ Decimal most word n) × (what ≡ Refused 31 None)
 
--- it is no hexadecimal (30)
+-- the word is not hexadecimal (30)
 abbrev pub NoBytes : List ℕ → What → Type 0
 NoBytes word what = ((bytes : List ℕ) → ¬ HexBytes word bytes) × (what ≡ Refused 30 None)
 
@@ -44,8 +44,8 @@ abbrev pub NoName : List ℕ → What → Type 0
 NoName name what = ((name ≡ []) × (what ≡ Refused 11 None))
     ⊎ ((max_name_len < length name) × (what ≡ Refused 12 None))
 
--- the address is none (13), or else the metadata is too long (14), or else the versions are none
--- (15)
+-- the address is invalid (13), or else the metadata is too long (14), or else the versions are
+-- invalid (15)
 abbrev pub NoDetails : DetailsValue → What → Type 0
 NoDetails details what = ((¬ IsAddress details.addr) × (what ≡ Refused 13 None))
     ⊎ (IsAddress details.addr × (max_meta_len < length details.meta) × (what ≡ Refused 14 None))
@@ -54,8 +54,8 @@ NoDetails details what = ((¬ IsAddress details.addr) × (what ≡ Refused 13 No
 
 -- ---- the words of a line
 
--- Of the words after `node` one is wrong, and those before it are right; or all are right, and the
--- name is none; or the name is right, and the details are none.
+-- One of the words after `node` is wrong, and those before it are right; or all are right, and the
+-- name is invalid; or the name is valid, and the details are invalid.
 pub data NoNode (name addr port meta vsn inc : List ℕ) (what : What) : Type 0 where
   no_addr : NoBytes addr what → NoNode name addr port meta vsn inc what
   no_port : (a : List ℕ) → HexBytes addr a → NoNumber 65535 port what
@@ -74,15 +74,15 @@ pub data NoNode (name addr port meta vsn inc : List ℕ) (what : What) : Type 0 
       → IsLegalName (percent_decode name) → NoDetails d what
       → NoNode name addr port meta vsn inc what
 
--- the words after `node` are not six (31), or else are those of no node
+-- there are not six words after `node` (31), or else they do not describe a node
 abbrev pub RefusesNode : List (List ℕ) → What → Type 0
 RefusesNode fields what = ((length fields ≢ 6) × (what ≡ Refused 31 None))
     ⊎ ((name addr port meta vsn inc : List ℕ)
     × (fields ≡ name ∷ addr ∷ port ∷ meta ∷ vsn ∷ inc ∷ [])
     × NoNode name addr port meta vsn inc what)
 
--- The words after `hear` are not two (31), or else the first is no node's number, or else the
--- second is no hexadecimal, or else that of no datagram.
+-- There are not two words after `hear` (31), or else the first is not the number of a node, or else
+-- the second is not hexadecimal, or else its bytes are not a datagram.
 pub data RefusesHear (fields : List (List ℕ)) (what : What) : Type 0 where
   not_two : length fields ≢ 2 → what ≡ Refused 31 None → RefusesHear fields what
   no_number : (node datagram : List ℕ) → fields ≡ node ∷ datagram ∷ []
@@ -93,15 +93,15 @@ pub data RefusesHear (fields : List (List ℕ)) (what : What) : Type 0 where
       → NodeNumber node k → HexBytes datagram bytes → TellsDatagram bytes what
       → RefusesHear fields what
 
--- what is said of the words after the first one, where that tells of an event: all but `hear` take
--- numbers alone
+-- what is reported about the words after the first one, if that is the first word of an event: all
+-- but `hear` take only numbers
 abbrev pub RefusesEvent : Keyword → List (List ℕ) → What → Type 0
 RefusesEvent key.Hear fields what = RefusesHear fields what
 RefusesEvent keyword fields what = what ≡ Refused 31 None
 
--- What is said of the words of a line, where lines of nodes may still come or not: they are more
--- than seven (31); or they are those of a node or of what is heard, and wrong; or they begin
--- otherwise (31).
+-- What is reported about the words of a line; `nodes` says whether lines of nodes may still come.
+-- There are more than seven (31); or they begin with `node`, which may come, or with `hear`, and
+-- are wrong; or they begin otherwise (31).
 pub data RefusesWords (nodes : Bool) (line : List (List ℕ)) (what : What) : Type 0 where
   many : 7 < length line → what ≡ Refused 31 None → RefusesWords nodes line what
   node : (fields : List (List ℕ)) → nodes ≡ true → line ≡ codes "node" ∷ fields
@@ -114,15 +114,15 @@ pub data RefusesWords (nodes : Bool) (line : List (List ℕ)) (what : What) : Ty
 
 -- ---- the first wrong line
 
--- what is said of a line after the events told so far and the line `level`, if it came: no line may
--- follow that (31)
+-- what is reported about a line after the events so far and the line `level`, if it came: no line
+-- may follow that one (31)
 pub record RefusesLine (told : List Event) (last : List (List ℕ)) (line : List ℕ) (what : What)
     : Type 0 where
   pub ended : last ≢ [] → what ≡ Refused 31 None
   pub open_still : last ≡ [] → RefusesWords (length told == 0) (words line) what
 
--- The place names the line, counted from 1, that makes the input no script: those before it are
--- one, and with it, whatever follows, they are none. And this is said of it.
+-- The place names the line, counted from 1, with which the input is not a script: the lines before
+-- it are one, and with it they are not, whatever follows. This is reported about it.
 pub record IsFirstWrongLine (input : List ℕ) (place : Place) (what : What) : Type 0 where
   pub before : List (List ℕ)
   pub line : List ℕ

@@ -1,4 +1,4 @@
--- Scripts: which lines spell which nodes and which events.
+-- Scripts: which lines describe which nodes and which events.
 use Rattle.std.specs.Prelude.{◌≡◌, ℕ, ◌+◌, ◌<◌, ◌≤◌, ◌⊎◌, List, [], ◌∷◌, ◌++◌, length, map, Ok, codes, ◌==◌}
 use Rattle.std.specs.List.{AllZip, slice_split}
 use Rattle.std.specs.Str.Lines.{strip_carriage_return}
@@ -23,7 +23,7 @@ use Rattle.swim_program.specs.Lines.{input_lines}
 
 -- ---- words
 
--- the words of a line: what stands between its spaces, which may be nothing
+-- the words of a line, separated by its spaces; a word may be empty
 abbrev pub words : List ℕ → List (List ℕ)
 words line = slice_split (λ b. b == 32) line
 
@@ -34,11 +34,11 @@ pub record Decimal (most : ℕ) (word : List ℕ) (n : ℕ) : Type 0 where
   pub value : n ≡ digits_value 10 word
   pub within : n ≤ most
 
--- the number of a node, which need not be there
+-- the number of a node; the node need not exist
 abbrev pub NodeNumber : List ℕ → ℕ → Type 0
 NodeNumber word k = Decimal 18446744073709551615 word k
 
--- the word is `-` for no bytes, or the hexadecimal of one byte or more
+-- the word is `-`, for no bytes, or at least one byte in hexadecimal
 abbrev pub HexBytes : List ℕ → List ℕ → Type 0
 HexBytes word bytes = ((word ≡ codes "-") × (bytes ≡ []))
     ⊎ ((0 < length word) × (decode_of word ≡ Ok bytes))
@@ -51,7 +51,7 @@ pub record Start : Type 0 where
   pub details : DetailsValue
   pub inc : ℕ
 
--- the member that the node stands for
+-- the member that the node is
 abbrev pub started_member : Start → Member
 started_member start = record { name = start.name; details = start.details }
 
@@ -64,11 +64,11 @@ abbrev pub IsStarted : NodeValue → Start → Type 0
 IsStarted node start = (node.name ≡ start.name) × (node.details ≡ start.details)
     × TableOf node.table (start_claims start)
 
--- so is each node, in their order
+-- so is each node, in order
 abbrev pub AreStarted : List NodeValue → List Start → Type 0
 AreStarted nodes starts = AllZip IsStarted nodes starts
 
--- The words after `node` tell who the node is.
+-- The words after `node` say who the node is.
 pub record NodeFields (name_word addr_word port_word meta_word vsn_word inc_word : List ℕ)
     (start : Start) : Type 0 where
   pub name : start.name ≡ percent_decode name_word
@@ -125,30 +125,30 @@ not_empty ((byte ∷ bytes) ∷ lines) = (byte ∷ bytes) ∷ not_empty lines
 abbrev pub script_lines : List (List ℕ) → List (List ℕ)
 script_lines lines = not_empty (map strip_carriage_return lines)
 
--- the line tells of this node
+-- the line describes this node
 abbrev pub NodeLine : List ℕ → Start → Type 0
 NodeLine line start = NodeWords (words line) start
 
--- each line tells of one node
+-- each line describes one node
 abbrev pub NodeLines : List (List ℕ) → List Start → Type 0
 NodeLines lines starts = AllZip NodeLine lines starts
 
--- the line tells of this event
+-- the line describes this event
 abbrev pub EventLine : List ℕ → Event → Type 0
 EventLine line event = EventWords (words line) event
 
--- each line tells of one event
+-- each line describes one event
 abbrev pub EventLines : List (List ℕ) → List Event → Type 0
 EventLines lines events = AllZip EventLine lines events
 
--- nothing, or one line that levels so many nodes
+-- nothing, or one line that levels this many nodes
 abbrev pub LastLine : ℕ → List (List ℕ) → List Event → Type 0
 LastLine nodes [] events = events ≡ []
 LastLine nodes (line ∷ lines) events = LevelWords (words line) × (lines ≡ [])
     × (events ≡ level_list nodes)
 
 -- The lines are the script of these nodes and these events: lines of nodes, then lines of events,
--- and `level` may end it.
+-- and possibly `level` at the end.
 pub record ScriptOf (all : List (List ℕ)) (starts : List Start) (events : List Event) : Type 0 where
   pub node_lines : List (List ℕ)
   pub event_lines : List (List ℕ)
@@ -165,8 +165,8 @@ pub record ScriptOf (all : List (List ℕ)) (starts : List Start) (events : List
 abbrev pub Script : List ℕ → List Start → List Event → Type 0
 Script input starts events = ScriptOf (input_lines input) starts events
 
--- Event k comes with the line, counted from 1, that the place names: the lines before it tell of
--- earlier events alone, and with it also of that one.
+-- Event k comes with the line, counted from 1, that the place names: the lines before it describe
+-- only earlier events, and with it also that one.
 pub record ComesWith (lines : List (List ℕ)) (starts : List Start) (events : List Event) (k : ℕ)
     (place : Place) : Type 0 where
   pub before : List (List ℕ)

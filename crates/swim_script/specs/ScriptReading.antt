@@ -1,4 +1,4 @@
--- What a reader of scripts knows of the words of one line, and of the lines so far.
+-- What a reader of scripts knows about the words of one line, and about the lines so far.
 use Rattle.std.specs.Prelude.{◌≡◌, ◌≢◌, ℕ, zero, suc, ◌<◌, Bool, true, ◌⊎◌, Option, Some, None, List, [], ◌∷◌, ◌++◌, length, codes, ◌==◌}
 use Rattle.swim_sync.specs.declared.event.Event.{Event}
 use Rattle.swim_sync.specs.Levels.{level_list}
@@ -31,14 +31,14 @@ TwoNumbers fields j k = (first second : List ℕ) × (fields ≡ first ∷ secon
 abbrev pub OneNumber : List (List ℕ) → ℕ → Type 0
 OneNumber fields k = (word : List ℕ) × (fields ≡ word ∷ []) × NodeNumber word k
 
--- what the words of a line say, where lines of nodes may still come or not
+-- what the words of a line say; `nodes` says whether lines of nodes may still come
 abbrev pub SpellsLine : Bool → List (List ℕ) → Line → Type 0
 SpellsLine nodes words (line.Node node) = (nodes ≡ true) × (start : Start) × NodeWords words start
     × IsStarted node start
 SpellsLine nodes words (line.Event event) = EventWords words event
 SpellsLine nodes words line.Level = LevelWords words
 
--- The words of a line say nothing that may stand here.
+-- The words of a line say nothing that may come here.
 pub record SpellsNothing (nodes : Bool) (words : List (List ℕ)) : Type 0 where
   pub node : nodes ≡ true → (start : Start) → ¬ NodeWords words start
   pub event : (event : Event) → ¬ EventWords words event
@@ -46,7 +46,7 @@ pub record SpellsNothing (nodes : Bool) (words : List (List ℕ)) : Type 0 where
 
 -- ---- line by line
 
--- the line of this number is added to the plan
+-- the line with this number is added to the plan
 abbrev pub Adds : ℕ → Plan → Line → Plan → Type 0
 Adds number old (line.Node node) new =
     (new.nodes.items ≡ old.nodes.items ++ node ∷ []) × (new.events.items ≡ old.events.items)
@@ -58,7 +58,7 @@ Adds number old line.Level new =
     (new.nodes.items ≡ old.nodes.items) × (new.events.items ≡ old.events.items)
     × (new.level ≡ Some number) × (new.lines.items ≡ old.lines.items)
 
--- an empty line is skipped; another one is added, nodes only before all events, and nothing after
+-- an empty line is skipped; any other is added: nodes only before all events, and nothing after
 -- `level`
 abbrev pub TakesLine : List ℕ → ℕ → Plan → Plan → Type 0
 TakesLine text number old new =
@@ -67,18 +67,17 @@ TakesLine text number old new =
     × ((said : Line) × SpellsLine (length old.events.items == 0) (words text) said
     × Adds number old said new))
 
--- the line is not empty, and after `level` or says nothing that may stand here
+-- the line is not empty, and comes after `level` or says nothing that may come here
 abbrev pub IsOutOfPlace : List ℕ → Plan → Type 0
 IsOutOfPlace text old = (text ≢ [])
     × (old.level ≡ None → SpellsNothing (length old.events.items == 0) (words text))
 
--- what is said of a line that is not empty and may not stand behind those of the plan
+-- what is reported about a line that is not empty and may not follow those of the plan
 abbrev pub RefusesNext : Plan → List ℕ → What → Type 0
 RefusesNext old text what = (old.level ≢ None → what ≡ Refused 31 None)
     × (old.level ≡ None → RefusesWords (length old.events.items == 0) (words text) what)
 
--- the events of a plan: those of its lines, and then those that level its nodes, where `level` ends
--- it
+-- the events of a plan: those of its lines, and then those that level its nodes, if `level` ends it
 abbrev pub plan_events : List Event → ℕ → Option ℕ → List Event
 plan_events events nodes None = events
 plan_events events nodes (Some number) = events ++ level_list nodes
@@ -89,7 +88,7 @@ event_line [] level k = level
 event_line (number ∷ numbers) level zero = Some number
 event_line (number ∷ numbers) level (suc k) = event_line numbers level k
 
--- each event comes with the line of its number
+-- each event comes with the line that has its number
 abbrev pub AreNumbered : List (List ℕ) → List Start → List Event → List ℕ → Option ℕ → Type 0
 AreNumbered lines starts events numbers level =
     (k number : ℕ) → k < length events → event_line numbers level k ≡ Some number

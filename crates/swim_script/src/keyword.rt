@@ -4,7 +4,7 @@ ghost use Rattle.std.specs.Prelude.{◌≡◌, ◌≢◌, None, IfSome};
 ghost use Rattle.swim_script.specs.declared.keyword.Keyword.{Keyword};
 ghost use Rattle.swim_script.specs.ScriptReading.{word_of};
 
-/// What a line of a script tells of, by its first word (own).
+/// What a line of a script describes, by its first word (own).
 #[derive(Clone, Copy, Debug, PartialEq, Eq)]
 pub(crate) enum Keyword {
     /// A node.
@@ -22,7 +22,7 @@ pub(crate) enum Keyword {
 }
 
 impl Keyword {
-    /// What a line with this first word tells of.
+    /// What a line with this first word describes, or `None` if no line begins with it.
     pub(crate) fn named(word: &[u8]) -> Option<Keyword>
         ensures known { IfSome result (λ keyword. word.now ≡ word_of keyword) }
         ensures unknown { result ≡ None → (keyword : Keyword) → word.now ≢ word_of keyword }

@@ -14,16 +14,16 @@ use swim_program::{MAX_INPUT_LEN, Place, Report, What, lines_of, without_return}
 use swim_sync::Event;
 use swim_table::Node;
 
-/// What a script asks for.
+/// What a script describes.
 #[derive(Debug, Drop)]
 pub struct Plan {
-    /// The nodes, each with its start claim alone.
+    /// The nodes, each with only its start claim.
     pub nodes: Vec<Node>,
     /// The events of the lines before `level`.
     pub events: Vec<Event>,
-    /// For each event the number of its line, from 1.
+    /// The number of each event's line, counted from 1.
     pub lines: Vec<u64>,
-    /// The number of the line `level`, where the script ends with it.
+    /// The number of the line `level`, if the script ends with it.
     pub level: Option<u64>,
 }
 
@@ -42,7 +42,7 @@ impl Plan {
         }
     }
 
-    /// Takes in the line of this number, if the line is not empty.
+    /// Adds the line with this number, unless it is empty.
     fn take_line(&mut self, alloc: Global, line: &[u8], number: u64) -> Result<(), What>
         ensures takes { OnOk result (TakesLine line.now number self.old self.new) }
         ensures refuses { IfErr result (λ what. what ≢ What.Memory
@@ -62,7 +62,7 @@ impl Plan {
         Ok(())
     }
 
-    /// One line more, by its number.
+    /// Adds what the line with this number says.
     fn add(&mut self, line: Line, number: u64) -> Result<(), AllocError>
         ensures { OnOk result (Adds number self.old line self.new) }
     {
@@ -78,14 +78,15 @@ impl Plan {
     }
 }
 
-/// The nodes and events that a script spells.
+/// The nodes and events that a script describes.
 ///
-/// Lines end as those of packets do, and empty ones are skipped. First come the lines of nodes,
-/// then those of events; the last may be `level`. The first line that is refused is reported by its
-/// number from 1, and an input of more than 268,435,456 bytes is refused as a whole (InputTooLong).
+/// Lines end like those of packets, and empty ones are skipped. The lines of nodes come first, then
+/// those of events; the last line may be `level`. A refusal names the first wrong line by its
+/// number, counted from 1. An input of more than 268,435,456 bytes is refused as a whole
+/// (InputTooLong).
 pub fn read_script(alloc: Global, input: &[u8]) -> Result<Plan, Report>
-    // The lines spell the nodes of the plan and its events, and each event comes with the line of
-    // its number.
+    // The lines describe the nodes of the plan and its events, and each event comes with the line
+    // that has its number.
     ensures reads { IfOk result (λ plan. (starts : List Start) × AreStarted plan.nodes.items starts
         × Script input.now starts
         (plan_events plan.events.items (length plan.nodes.items) plan.level)
@@ -93,12 +94,13 @@ pub fn read_script(alloc: Global, input: &[u8]) -> Result<Plan, Report>
         (plan_events plan.events.items (length plan.nodes.items) plan.level)
         plan.lines.items plan.level) }
 
-    // There are at most as many nodes as bytes, and one event for each number of a line.
+    // There are no more nodes than an input can have lines, and there is a line number for each
+    // event.
     ensures few { IfOk result (λ plan. length plan.nodes.items ≤ 268435457) }
     ensures lines { IfOk result (λ plan. length plan.lines.items ≡ length plan.events.items) }
 
-    // Refused for another cause than memory and its length, the report names the first line that
-    // makes the input no script, and its fault.
+    // If the input is refused, and not because of memory or its length, the report names the first
+    // line with which it is not a script, and the fault of that line.
     ensures line { IfErr result
         (λ report. report.what ≢ What.Memory → length input.now ≤ max_input_len
         → IsFirstWrongLine input.now report.place report.what) }

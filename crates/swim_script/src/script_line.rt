@@ -22,30 +22,29 @@ const MAX_PORT: u64 = 65_535;
 /// The greatest incarnation.
 const MAX_INC: u64 = 4_294_967_295;
 
-/// The greatest number of a node, which need not be there.
+/// The greatest number of a node. The node need not exist.
 const MAX_NODE: u64 = 18_446_744_073_709_551_615;
 
 /// What a line of a script says.
 #[derive(Debug, Drop)]
 pub(crate) enum Line {
-    /// That there is this node. Its table has its start claim alone.
+    /// There is this node. Its table has only its start claim.
     Node(Node),
-    /// That this happens.
+    /// This happens.
     Event(Event),
-    /// That all nodes are levelled.
+    /// All nodes are levelled.
     Level,
 }
 
-/// Reads a line of a script that is not empty. It may be that of a node only where
-/// `nodes_may_come`.
+/// Reads a line of a script that is not empty. It may be that of a node only if `nodes_may_come`.
 ///
 /// # Errors
 ///
-/// The first of these that holds: `BadScript` where the first word is none of a line, where a node
-/// stands after another line, or where there are more or fewer words; in the fields from left to
-/// right, `BadScript` for a number and `BadHex` for bytes; then for a node `NameEmpty` or
+/// The first of these that holds: `BadScript` if no line begins with the first word, if a node
+/// comes after a line of another kind, or if the number of words is wrong; in the fields, from left
+/// to right, `BadScript` for a number and `BadHex` for bytes; then for a node `NameEmpty` or
 /// `NameTooLong`, `BadAddress`, `MetaTooLong` and `BadVersions`, and for what a node hears the
-/// fault of its packet.
+/// fault of the packet.
 pub(crate) fn read_line(alloc: Global, line: &[u8], nodes_may_come: bool) -> Result<Line, What>
     ensures reads { IfOk result (SpellsLine nodes_may_come (words line.now)) }
     ensures refuses { IfErr result (λ what. what ≢ What.Memory
@@ -68,7 +67,7 @@ pub(crate) fn read_line(alloc: Global, line: &[u8], nodes_may_come: bool) -> Res
     }
 }
 
-/// The node of which the words after `node` tell.
+/// The node that the words after `node` describe.
 fn read_node(alloc: Global, fields: &[&[u8]]) -> Result<Node, What>
     ensures reads { IfOk result (λ node. (start : Start)
         × NodeWords (codes "node" ∷ map (λ word. word.now) fields.now) start
@@ -93,7 +92,7 @@ fn read_node(alloc: Global, fields: &[&[u8]]) -> Result<Node, What>
     Ok(Node::new(alloc, name, details, inc)?)
 }
 
-/// The event that the words after the first one tell of.
+/// The event that the words after the first one describe.
 fn read_event(alloc: Global, keyword: Keyword, fields: &[&[u8]]) -> Result<Event, What>
     ensures reads { IfOk result (EventWords (word_of keyword ∷ map (λ word. word.now) fields.now)) }
     ensures refuses { IfErr result (λ what. what ≢ What.Memory → (event : Event)
@@ -117,7 +116,7 @@ fn read_event(alloc: Global, keyword: Keyword, fields: &[&[u8]]) -> Result<Event
     }
 }
 
-/// What a node hears by the words after `hear`.
+/// What a node hears, from the words after `hear`.
 fn read_hear(alloc: Global, fields: &[&[u8]]) -> Result<Event, What>
     ensures reads { IfOk result (EventWords (codes "hear" ∷ map (λ word. word.now) fields.now)) }
     ensures refuses { IfErr result (λ what. what ≢ What.Memory
@@ -134,7 +133,7 @@ fn read_hear(alloc: Global, fields: &[&[u8]]) -> Result<Event, What>
     event_of_datagram(alloc, node, &datagram)
 }
 
-/// That a node hears the claim of a packet, or all the claims of a compound packet.
+/// The event that a node hears the claim of a packet, or all claims of a compound packet.
 fn event_of_datagram(alloc: Global, node: usize, datagram: &[u8]) -> Result<Event, What>
     ensures reads { IfOk result (HearsBytes node datagram.now) }
     ensures refuses { IfErr result (λ what. what ≢ What.Memory
@@ -152,7 +151,7 @@ fn event_of_datagram(alloc: Global, node: usize, datagram: &[u8]) -> Result<Even
     }
 }
 
-/// The numbers of two nodes, which are all the fields.
+/// The numbers of two nodes. There are no other fields.
 fn two_numbers(fields: &[&[u8]]) -> Result<(usize, usize), What>
     ensures reads { IfOk result (λ nodes.
         TwoNumbers (map (λ word. word.now) fields.now) nodes.0 nodes.1) }
@@ -166,7 +165,7 @@ fn two_numbers(fields: &[&[u8]]) -> Result<(usize, usize), What>
     Ok((node_number(first)?, node_number(second)?))
 }
 
-/// The number of one node, which is all the fields.
+/// The number of one node. There are no other fields.
 fn one_number(fields: &[&[u8]]) -> Result<usize, What>
     ensures reads { IfOk result (OneNumber (map (λ word. word.now) fields.now)) }
     ensures refuses { IfErr result (λ what.
@@ -179,7 +178,7 @@ fn one_number(fields: &[&[u8]]) -> Result<usize, What>
     node_number(node)
 }
 
-/// The number of a node, which need not be there.
+/// The number of a node. The node need not exist.
 fn node_number(word: &[u8]) -> Result<usize, What>
     ensures reads { IfOk result (NodeNumber word.now) }
     ensures refuses { IfErr result (λ what. (k : ℕ) → ¬ NodeNumber word.now k) }

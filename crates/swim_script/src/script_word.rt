@@ -11,14 +11,14 @@ use swim_program::What;
 /// The most words of a line: those of a node.
 const MAX_WORDS: usize = 7;
 
-/// The most digits of a number. Each number of 64 bits has at most as many.
+/// The most digits of a number. No number of 64 bits has more.
 const MAX_DIGITS: usize = 20;
 
-/// The words of a line, which stand between its spaces.
+/// The words of a line, separated by its spaces.
 ///
 /// # Errors
 ///
-/// `BadScript` where there are more than seven, which no line has.
+/// `BadScript` if there are more than seven, as no line has that many.
 pub(crate) fn split_words(alloc: Global, line: &[u8]) -> Result<Vec<&[u8]>, What>
     ensures words { IfOk result (λ list. map (λ word. word.now) list.items ≡ words line.now) }
     ensures many { IfErr result (λ what. what ≢ What.Memory → 7 < length (words line.now)) }
@@ -38,13 +38,13 @@ pub(crate) fn split_words(alloc: Global, line: &[u8]) -> Result<Vec<&[u8]>, What
 ///
 /// # Errors
 ///
-/// `BadScript` where the word is no such number.
+/// `BadScript` if the word is not such a number.
 pub(crate) fn number_of(word: &[u8], most: u64) -> Result<u64, What>
     ensures reads { IfOk result (Decimal most word.now) }
     ensures refuses { IfErr result (λ what. (n : ℕ) → ¬ Decimal most word.now n) }
     ensures fault { IfErr result (λ what. what ≡ What.Refused 31 None) }
 {
-    // parse takes a plus, and a text of any length
+    // parse also accepts a plus, and a text of any length
     if word.len() > MAX_DIGITS || word.first() == Some(&b'+') {
         return Err(What::bad_script());
     }
@@ -57,11 +57,11 @@ pub(crate) fn number_of(word: &[u8], most: u64) -> Result<u64, What>
     }
 }
 
-/// The bytes that a word is in hexadecimal, of which there is at least one, or `-` for none.
+/// The bytes of a word: at least one in hexadecimal, or `-` for no bytes.
 ///
 /// # Errors
 ///
-/// `BadHex` where the word is neither.
+/// `BadHex` if the word is neither.
 pub(crate) fn bytes_of(alloc: Global, word: &[u8]) -> Result<Vec<u8>, What>
     ensures reads { IfOk result (λ bytes. HexBytes word.now bytes.items) }
     ensures refuses { IfErr result (λ what. what ≢ What.Memory
@@ -75,8 +75,8 @@ pub(crate) fn bytes_of(alloc: Global, word: &[u8]) -> Result<Vec<u8>, What>
     }
 }
 
-/// The bytes of a name: `%` and two hexadecimal digits are one byte, and everything else stands as
-/// it is.
+/// The bytes of a name: `%` and two hexadecimal digits are one byte, and everything else is taken
+/// literally.
 pub(crate) fn name_of(alloc: Global, word: &[u8]) -> Result<Vec<u8>, AllocError>
     ensures { IfOk result (λ name. name.items ≡ percent_decode word.now) }
 {

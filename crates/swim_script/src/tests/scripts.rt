@@ -1,4 +1,4 @@
-//! What scripts are read as.
+//! The plans that scripts are read as.
 
 use crate::tests::wrong_scripts::REFUSED;
 use crate::{Plan, read_script};
@@ -17,7 +17,7 @@ const HALF: &str = "node a 7f000001 7946 - - 0\nnode b 7f000002 7946 - - 0\nhalf
 const LEVELLED: &str =
     "node a 7f000001 7946 - - 0\nnode b 7f000002 7946 - - 0\nnode c 7f000003 7946 - - 0\nlevel\n";
 
-/// What is said of a script that is refused.
+/// The report about a script that is refused.
 fn refusal(rt: &impl Abort, alloc: Global, input: &[u8]) -> Result<String, Fail> {
     match read_script(alloc, input) {
         Ok(_plan) => panic!(rt; "{input:?} is read"),
@@ -34,7 +34,7 @@ fn plan_of(alloc: Global, input: &str) -> Result<Plan, Fail> {
     Ok(read_script(alloc, input.as_bytes())?)
 }
 
-/// That a node has this name and this listing.
+/// Asserts that a node has this name and this listing.
 fn check_node(
     rt: &impl Abort,
     alloc: Global,
@@ -47,7 +47,7 @@ fn check_node(
     Ok(())
 }
 
-/// That a claim is a Suspect of `b` at incarnation 1.
+/// Asserts that a claim is a Suspect about `b` at incarnation 1.
 fn check_suspect(rt: &impl Abort, claim: &Claim) {
     assert_eq!(rt; claim.kind(), Kind::Suspect);
     assert_eq!(rt; claim.name().bytes(), b"b".as_slice());

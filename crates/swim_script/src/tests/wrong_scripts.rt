@@ -1,6 +1,6 @@
 //! Scripts that are refused.
 
-/// What is wrong, a script that is refused, and what is said of it.
+/// What is wrong, a script that is refused for it, and the report.
 pub(crate) const REFUSED: [(&str, &str, &str); 53] = [
     (
         "a first word of no line",

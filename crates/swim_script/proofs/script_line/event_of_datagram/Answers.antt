@@ -30,7 +30,7 @@ returns-in-Packet-clause-reads c =
     let seven : IsCompound (Packet c.in-Packet.packet) ↔ BeginsWith 7 bytes = rw c.in-Packet.is at c.in_ok-compound.ensures.compound in
     packet c.in-Packet.packet (lone_packet bytes c.in-Packet.packet text seven.1) (ap (Hear c.args.node) c.into_claim.ensures)
 
--- what is no packet by itself is a compound packet
+-- what is not a packet by itself is a compound packet
 not_alone : (d : Datagram) → ((p : PacketValue) → d ≢ Packet p) → IsCompound d
 not_alone (Packet p) other = absurd (other p refl)
 not_alone (Compound packets) other = tt
