@@ -112,7 +112,7 @@ impl<T> TieredVec<T> {
 
     /// Puts an element at a place: those from there on come after it. While there is room this
     /// takes no memory. At most one block of elements is moved, and if a full block is cut in two,
-    /// one word for each block that follows it.
+    /// three words for each block that follows it.
     ///
     /// # Errors
     ///
