@@ -1,4 +1,4 @@
-//! Laws of the definitions, apart from any code. Each is the contract of a function that does
+//! Laws of the definitions, independent of any code. Each is the contract of a function that does
 //! nothing.
 
 ghost use Rattle.std.specs.Prelude.{◌≡◌, List, ℕ, length};

@@ -18,7 +18,7 @@
 //! | `layout` | the parts of encrypted bytes |
 //! | `decryption` | the message of a packet |
 //! | `stream` | the message of a stream |
-//! | `laws` | what holds for the definitions, apart from any code |
+//! | `laws` | what holds for the definitions, independent of any code |
 #![tactic(auto)]
 
 mod appending;

@@ -34,7 +34,7 @@ one_stream m n keys bytes a b (streams.opened inner sealed opens is) (streams.op
 module _ (limit : ℕ) where
   -- ---- refused bytes are not a stream
 
-  -- bytes that a refusal says are not a stream in the clear are none
+  -- bytes that a refusal says are not a stream in the clear are not one
   no_clear : (bytes : List ℕ) (fault : StreamFault) → ReasonForClear limit bytes fault → (stream : List ℕ) → ¬ IsClearStream limit bytes stream
   no_clear bytes fault (plainly.broken cause reason same) stream is = no_message 4 limit cause bytes reason stream is.0
   no_clear bytes fault (plainly.other message wraps begins same) stream is =
@@ -45,7 +45,7 @@ module _ (limit : ℕ) where
   no_keys keys bytes inner none opens =
       absurd (omega (arith, ap length (sym opens.first.parts ∙ none), length-append opens.first.before (opens.first.key ∷ opens.first.after)))
 
-  -- bytes that a refusal says are not a stream are none
+  -- bytes that a refusal says are not a stream are not one
   pub no_stream : (keys : List (List ℕ)) (bytes : List ℕ) (fault : StreamFault) → ReasonFor limit keys bytes fault → (stream : List ℕ) → ¬ IsStreamIn limit keys bytes stream
   no_stream keys bytes fault (why.clear reason none) stream (streams.clear is) = no_clear bytes fault reason stream is
   no_stream keys bytes fault (why.clear reason none) stream (streams.opened inner sealed opens is) = no_keys keys bytes inner (none sealed) opens

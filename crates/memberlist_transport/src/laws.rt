@@ -1,4 +1,4 @@
-//! What holds for the definitions, apart from any code.
+//! What holds for the definitions, independent of any code.
 
 ghost use Rattle.std.specs.Prelude.{◌≡◌, ℕ, List};
 ghost use Rattle.memberlist_transport.specs.Stream.{IsStreamIn};

@@ -7,7 +7,7 @@
 //! | `stream` | the push/pull stream of a connection |
 //! | `reply` | the push/pull stream that replies to one |
 //! | `fault` | why a packet or a stream is refused |
-//! | `laws` | what holds for the definitions, apart from any code |
+//! | `laws` | what holds for the definitions, independent of any code |
 #![tactic(auto)]
 
 mod fault;

@@ -9,7 +9,7 @@
 //! | `event` | what changed |
 //! | `change` | the rules, one name at a time |
 //! | `view` | the view of all names |
-//! | `laws` | what holds for every view, apart from any code |
+//! | `laws` | what holds for every view, independent of any code |
 #![tactic(auto)]
 
 mod accusers;

@@ -135,7 +135,7 @@ Reads-byte {a} {b} got d one gone stay = record {
     answered (Some bytes) None gone = absurd gone
     answered (Some bytes) (Some rest) gone = ap next_byte (gone ∙ ap (λ (first : List ℕ). first ++ rest) (one_of got d one))
 
--- where one byte is refused as a list, so is the byte
+-- if one byte is refused as a list, so is the byte
 pub Reads-no_byte : {X : Type 0} {view : X → List ℕ} {a b : Source} {error : PackFault} → Reads {X = X} view (next_bytes 1) a b (Err error)
     → Reads {X = ℕ} same next_byte a b (Err error)
 Reads-no_byte {X} {view} {a} {b} {error} p = record {

@@ -133,8 +133,8 @@ pub fn paths()
         ↔ Reaches members start events claim k) }
 {}
 
-/// Sending the claims that a table keeps is as good as sending all claims of which it is the table,
-/// whatever was heard before.
+/// Sending the claims that a table keeps has the same effect as sending all claims of which it is
+/// the table, whatever was heard before.
 pub fn reduced_enough()
     ensures { (table whole : Entries) (claims more : List Claim) → TableOf table claims
         → (TableOf whole (more ++ Reduced table) ↔ TableOf whole (more ++ claims)) }

@@ -64,7 +64,7 @@ by_records reader now user rest _ _ (one b records c claims text texts) left lon
 in_parts : (head records user more : List ℕ) → (head ++ records ++ user) ++ more ≡ head ++ (records ++ (user ++ more))
 in_parts head records user more = simp append_assoc
 
--- in a stream it is what the next step wants
+-- in a stream it is what the next step expects
 pub wanted : (reader : Streaming) (claims all : List Claim) (join : Bool) (begun now text rest : List ℕ)
     → BeginText begun reader.header claims → length claims + reader.left ≡ reader.header.nodes
     → StreamText text all join → begun ++ now ≡ text ++ rest → (front : List ℕ) × (back : List ℕ) × IsWanted reader front × (now ≡ front ++ back)

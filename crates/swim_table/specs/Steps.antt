@@ -27,7 +27,7 @@ pub data Steps (reader : Streaming) (old new : Source) (step : Step) : Type 0 wh
   user_state : step ≡ End reader.table reader.header.join → reader.left ≡ 0
       → ConsumesText old new (λ b. length b ≡ reader.header.user_len) → Steps reader old new step
 
--- The bytes are what the next step wants: a record, or, at the end, the user state.
+-- The bytes are what the next step expects: a record, or, at the end, the user state.
 pub data IsWanted (reader : Streaming) (b : List ℕ) : Type 0 where
   record_of : (c : Claim) → 0 < reader.left → StateText b c → IsWanted reader b
   user_state : reader.left ≡ 0 → length b ≡ reader.header.user_len → IsWanted reader b

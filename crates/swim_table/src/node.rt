@@ -220,7 +220,7 @@ impl Node {
     ///
     /// This is due if the member's top is a Suspect, or an Alive with details other than its own.
     /// The table then takes in an Alive with the member's own details and the incarnation after the
-    /// top's, which is returned. If nothing is due, the result is none, and nothing changes.
+    /// top's, which is returned. If nothing is due, the result is `None`, and nothing changes.
     ///
     /// # Errors
     ///

@@ -1,4 +1,4 @@
-//! The texts of help and version, apart from what `clap` generates for the commands.
+//! The texts of help and version, except what `clap` generates for the commands.
 
 /// The version of the program, and what it was proved with.
 pub(crate) static VERSION: &str = "0.2.0, proved with rattle-kit-13f, logic dac8208d650f15bf";

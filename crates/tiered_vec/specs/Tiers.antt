@@ -122,7 +122,7 @@ module _ {T : Type 0} where
     blocks = slice_set v.blocks p.block (slice_set (block_at v.blocks p.block) p.at x);
   }
 
-  -- The n-th place was made ready for an element: where it is then.
+  -- The n-th place was prepared for an element: where it is then.
   pub record IsOpened (old new : List (List T)) (n : ℕ) (p : Position) : Type 0 where
     pub in_block : p.block < length new
     pub in_range : p.at ≤ length (block_at new p.block)

@@ -53,7 +53,7 @@ pub extern "C" fn swimtab_raw_unwrap(
 ///
 /// The side that replies does not write the label before its stream, but authenticates it. So bytes
 /// that do not begin with a label are read as if they began with this one, the cluster's; an empty
-/// one is no label.
+/// one means no label.
 ///
 /// # Statuses
 ///

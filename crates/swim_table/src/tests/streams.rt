@@ -89,7 +89,7 @@ fn read_steps_once(alloc: Global, bytes: &[u8]) -> Result<Table, WireFault> {
             Step::End(table, _) => return Ok(table),
         }
     }
-    // more steps than records and an end, which is no expected cause
+    // more steps than records and an end, which is not an expected cause
     Err(WireFault::Fault)
 }
 
