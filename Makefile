@@ -4,7 +4,7 @@
 #   make            builds the programs (build/swimwatch, build/swimtab and build/swimunwrap) and the
 #                   library for C (build/libswimtab.a and, if there is a C compiler, build/libswimtab.so)
 #   make run        lists examples/packets.hex within a minute or two, before any proof; then proves and
-#                   builds swimtab alone, and lists the file again
+#                   builds only swimtab, and lists the same file with it
 #   make test       runs the gate: all proofs from nothing, and all tests; README says how long it takes
 #   make wrong-bodies
 #                   tries the wrong bodies of the crates that changed and of one more crate; with ANEW=1,
@@ -15,10 +15,10 @@
 #                   share/man/man3, and the file for pkg-config to LIBDIR/pkgconfig; it builds everything
 #                   first if nothing is built yet, so after make, root needs no kit for it
 #   make install-library
-#                   does the same for the library alone
+#                   does the same for only the library
 #   make uninstall  removes what make install copies
-#   make programs   builds the programs alone
-#   make library    builds the library alone
+#   make programs   builds only the programs
+#   make library    builds only the library
 #   make clean      removes everything that was built
 #   make help       prints these lines
 
@@ -55,7 +55,7 @@ $(programs:%=build/%) build/swimbench: build/%: $(SOURCES) | kit
 	@cp crates/$*/out/$* build/$*
 
 # One object from the crate's archive and the kit's few functions that call malloc, realloc and free. It exports
-# the functions of the header alone.
+# only the functions of the header.
 build/libswimtab.a: $(SOURCES) | kit
 	@echo 'proving and building swim_c and the libraries that it uses; the first time, each takes some minutes'
 	@.ci/prove swim_c rt lib

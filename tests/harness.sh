@@ -74,7 +74,7 @@ compare() {
     count "$case_name" "$fault"
 }
 
-# explains CASE: the last run ended with status 2, and printed text on standard error alone.
+# explains CASE: the last run ended with status 2, and printed text only on standard error.
 explains() {
     fault=
     [ "$status" -eq 2 ] || fault="$fault; status $status, not 2"

@@ -26,7 +26,7 @@ static void packets_tell_whether_they_have_news(void) {
     WANT(!has_news(&node, "0383a446726f6da178ab496e6361726e6174696f6ecc05a44e6f6465a161"));
     WANT(has_news(&node, CONFIRM_A_0) && has_news(&node, LEAVE_A_0) && !has_news(&node, CONFIRM_A_0));
     WANT(!has_news(&node, SUSPECT_A_5));
-    /* compound packets: an empty one, one with a ping alone, one that is known, and one with one new part */
+    /* compound packets: an empty one, one with only a ping, one that is known, and one with one new part */
     WANT(!has_news(&node, "0700") && !has_news(&node, "07010003" "008080"));
     WANT(!has_news(&node, "0702001d001d" SUSPECT_A_5 CONFIRM_A_0));
     WANT(has_news(&node, "0702001d001d" SUSPECT_A_5 SUSPECT_B_1));

@@ -144,7 +144,7 @@ static void put_packet(struct text *to, const struct claim *claim) {
     }
 }
 
-/* The record of a claim. The details are read for the state alive alone. */
+/* The record of a claim. The details are read only for the state alive. */
 static void put_record(struct text *to, const struct claim *claim) {
     unsigned first = any(7);
     put_byte(to, 0x87);

@@ -142,7 +142,7 @@ static void a_table_of_too_many_records_has_no_dump(void) {
     WANT(swimtab_offer_new(&node, false, SWIMTAB_CANONICAL, &buffer) == SWIMTAB_TOO_MANY_RECORDS);
     made = swimtab_answer_new(&node, small.at, small.len, SWIMTAB_CANONICAL, &buffer);
     WANT(made.status == SWIMTAB_TOO_MANY_RECORDS && !buffer.kept.held && buffer.at == NULL);
-    /* no Alive of the suspects is known, so the form for memberlist has the member alone */
+    /* no Alive of the suspects is known, so the form for memberlist has only the member */
     WANT(swimtab_offer_new(&node, false, SWIMTAB_MEMBERLIST, &buffer) == SWIMTAB_DONE);
     WANT(is_hex(buffer.at, buffer.len, DUMP_A_0));
     swimtab_free(&buffer);
