@@ -11,11 +11,11 @@ use thiserror::Error;
 #[derive(Clone, Copy, Debug, PartialEq, Eq, Error)]
 pub enum CipherFault {
     /// The key does not have 16, 24 or 32 bytes.
-    #[error("a key has 16, 24 or 32 bytes")]
+    #[error("the key does not have 16, 24 or 32 bytes")]
     BadKey,
     /// The bytes, or the associated bytes, are more than the standard allows, or a stream announces
     /// more than 268,435,456 bytes; or the bytes to be encrypted, or a label, are too long.
-    #[error("the encrypted bytes are too many")]
+    #[error("the label, or what is encrypted, is too long")]
     TooLong,
     /// The bytes end before a message or a stream can end.
     #[error("the encrypted bytes end too early")]
@@ -24,10 +24,10 @@ pub enum CipherFault {
     #[error("the version of encryption is neither 0 nor 1")]
     WrongVersion,
     /// The tag does not match these bytes and associated bytes under this key.
-    #[error("the tag is that of another key or of other bytes")]
+    #[error("the tag does not match the key and the bytes")]
     WrongTag,
     /// The tag is right, the version is 0, and the plaintext does not end in padding.
-    #[error("the decrypted bytes have no padding")]
+    #[error("the plaintext has no valid padding")]
     BadPadding,
     /// A stream's first byte is not 10.
     #[error("the stream is not encrypted")]

@@ -11,13 +11,13 @@ use thiserror::Error;
 #[derive(Clone, Copy, Debug, PartialEq, Eq, Error)]
 pub enum KeyFileFault {
     /// The line of this number, from 1, is neither empty nor a key in base64.
-    #[error("line {0} is no key of 16, 24 or 32 bytes in base64")]
+    #[error("line {0} is not a key of 16, 24 or 32 bytes in base64")]
     Line(u64),
     /// The text of this number in the list, from 1, is not a key in base64.
-    #[error("text {0} of the list is no key of 16, 24 or 32 bytes in base64")]
+    #[error("item {0} of the list is not a key of 16, 24 or 32 bytes in base64")]
     Item(u64),
     /// The file starts like a list, but is not a list of texts in JSON.
-    #[error("the file is no list of texts in JSON")]
+    #[error("the file is not a JSON list of strings")]
     NotList,
     /// Memory ran out.
     #[error("out of memory")]

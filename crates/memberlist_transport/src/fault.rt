@@ -16,10 +16,10 @@ pub enum PacketFault {
     Wrapped(WrapFault),
     /// The unwrapped bytes start with this byte, and are not a message of packets: they are
     /// encrypted, broken, or of another kind.
-    #[error("no message (first byte {0:02x})")]
+    #[error("not a message (first byte {0:02x})")]
     NoMessage(u8),
     /// It is encrypted, and none of the keys decrypts it.
-    #[error("encrypted, no key fits")]
+    #[error("no key decrypts the packet")]
     NoKeyFits,
     /// Out of memory.
     #[error("out of memory")]
@@ -44,7 +44,7 @@ pub enum StreamFault {
     #[error("{0}")]
     Closed(CipherFault),
     /// The unwrapped bytes start with this byte, and are not a push/pull stream.
-    #[error("no push/pull stream (first byte {0:02x})")]
+    #[error("not a push/pull stream (first byte {0:02x})")]
     NoStream(u8),
     /// It wraps no bytes.
     #[error("the stream is empty")]

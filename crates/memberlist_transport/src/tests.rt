@@ -324,14 +324,14 @@ fn a_fault_has_its_text(rt: HostRuntime) -> Result<(), Fail> {
             PacketFault::NoMessage(6),
             StreamFault::NoStream(2),
             [
-                "no message (first byte 06)",
-                "no push/pull stream (first byte 02)",
+                "not a message (first byte 06)",
+                "not a push/pull stream (first byte 02)",
             ],
         ),
         (
             PacketFault::NoKeyFits,
             StreamFault::Empty,
-            ["encrypted, no key fits", "the stream is empty"],
+            ["no key decrypts the packet", "the stream is empty"],
         ),
         (
             PacketFault::Wrapped(WrapFault::BadLabel),

@@ -20,25 +20,25 @@ pub enum WrapFault {
     #[error("there are bytes after the end")]
     Trailing,
     /// A code of a compression is not in the dictionary yet.
-    #[error("a code stands for nothing")]
+    #[error("a compression has a code that is not in the dictionary")]
     BadCode,
     /// The bytes after a checksum have a different one.
-    #[error("the checksum is another")]
+    #[error("the checksum is wrong")]
     BadChecksum,
     /// The first byte of a compression is not followed by its map.
-    #[error("not the map of a compression")]
+    #[error("the map of a compression is invalid")]
     BadMap,
     /// A compression that is not LZW.
-    #[error("an unknown compression")]
+    #[error("the compression is not LZW")]
     BadAlgo,
     /// A label of no bytes.
     #[error("the label is empty")]
     BadLabel,
     /// The result is longer than the limit.
-    #[error("what is wrapped is too large")]
+    #[error("the wrapped bytes exceed the limit")]
     TooLarge,
     /// There are more nested wrappers than are removed.
-    #[error("too many wrappers around each other")]
+    #[error("more than 4 wrappers are nested")]
     TooDeep,
     /// Out of memory.
     #[error("out of memory")]

@@ -28,8 +28,16 @@ fn assert_named(
 #[test]
 fn each_fault_has_its_number_and_its_text(rt: HostRuntime) -> Result<(), Fail> {
     for (fault, number, text) in [
-        (CipherFault::BadKey, 50, "a key has 16, 24 or 32 bytes"),
-        (CipherFault::TooLong, 51, "the encrypted bytes are too many"),
+        (
+            CipherFault::BadKey,
+            50,
+            "the key does not have 16, 24 or 32 bytes",
+        ),
+        (
+            CipherFault::TooLong,
+            51,
+            "the label, or what is encrypted, is too long",
+        ),
         (
             CipherFault::TooShort,
             52,
@@ -43,12 +51,12 @@ fn each_fault_has_its_number_and_its_text(rt: HostRuntime) -> Result<(), Fail> {
         (
             CipherFault::WrongTag,
             54,
-            "the tag is that of another key or of other bytes",
+            "the tag does not match the key and the bytes",
         ),
         (
             CipherFault::BadPadding,
             55,
-            "the decrypted bytes have no padding",
+            "the plaintext has no valid padding",
         ),
         (CipherFault::NotEncrypted, 56, "the stream is not encrypted"),
         (

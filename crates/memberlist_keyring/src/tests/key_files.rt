@@ -200,17 +200,17 @@ fn each_fault_has_its_number_and_its_text(rt: HostRuntime) -> Result<(), Fail> {
         (
             KeyFileFault::Line(7),
             50,
-            "line 7 is no key of 16, 24 or 32 bytes in base64",
+            "line 7 is not a key of 16, 24 or 32 bytes in base64",
         ),
         (
             KeyFileFault::Item(12),
             50,
-            "text 12 of the list is no key of 16, 24 or 32 bytes in base64",
+            "item 12 of the list is not a key of 16, 24 or 32 bytes in base64",
         ),
         (
             KeyFileFault::NotList,
             50,
-            "the file is no list of texts in JSON",
+            "the file is not a JSON list of strings",
         ),
         (KeyFileFault::Memory, 58, "out of memory"),
     ] {

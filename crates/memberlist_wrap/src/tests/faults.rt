@@ -23,31 +23,31 @@ fn each_fault_has_its_number_and_its_text(rt: HostRuntime) -> Result<(), Fail> {
         (
             b"\x09\x82\xa4Algo\0\xa3Buf\xa3\xff\xff\xff",
             42,
-            "a code stands for nothing",
+            "a compression has a code that is not in the dictionary",
         ),
-        (b"\x0c\0\0\0\x01", 43, "the checksum is another"),
+        (b"\x0c\0\0\0\x01", 43, "the checksum is wrong"),
         (
             b"\x09\x82\xa4Algo\0\xa4Algo\0",
             44,
-            "not the map of a compression",
+            "the map of a compression is invalid",
         ),
         (
             b"\x09\x82\xa4Alga\0\xa3Buf\xa3\0\x03\x02",
             44,
-            "not the map of a compression",
+            "the map of a compression is invalid",
         ),
-        (b"\x09\x90", 44, "not the map of a compression"),
+        (b"\x09\x90", 44, "the map of a compression is invalid"),
         (
             b"\x09\x82\xa4Algo\x01\xa3Buf\xa3\0\x03\x02",
             45,
-            "an unknown compression",
+            "the compression is not LZW",
         ),
         (b"\xf4\0\x04", 46, "the label is empty"),
-        (BANANA, 47, "what is wrapped is too large"),
+        (BANANA, 47, "the wrapped bytes exceed the limit"),
         (
             b"\xf4\x01x\xf4\x01x\xf4\x01x\xf4\x01x\x0c",
             48,
-            "too many wrappers around each other",
+            "more than 4 wrappers are nested",
         ),
     ] {
         let fault = refusal(&rt, rt.alloc(), bytes, 9)?;
