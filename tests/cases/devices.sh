@@ -55,7 +55,7 @@ if command -v script > /dev/null; then
         printf '\004' | timeout 60 script -qefc "'$program' $verb 2> err > out" typescript > /dev/null
         status=$?
         : > wanted
-        echo "swimtab: reading ${words#* } from the terminal, up to Ctrl-D" > wanted_err
+        echo "swimtab: reading ${words#* } from the terminal; Ctrl-D ends the input" > wanted_err
         case_name="a terminal as standard input of swimtab $verb"
         wanted_status=0
         compare

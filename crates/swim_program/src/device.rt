@@ -52,13 +52,15 @@ pub fn read_to_bound<R: Read>(alloc: Global, reader: &mut R) -> Result<Vec<u8>, 
 }
 
 /// Reads standard input as [`read_to_bound`] does. If it is a terminal, a note first says what is
-/// expected there: `swimtab: reading a script from the terminal, up to Ctrl-D`.
+/// expected there: `swimtab: reading a script from the terminal; Ctrl-D ends the input`.
 pub fn read_input(rt: &HostRuntime, program: &str, awaited: &str) -> Result<Vec<u8>, Report>
     ensures { IfErr result (λ report. IsAmong report.place 0) }
 {
     let mut input = rt.stdin();
     if input.is_terminal() {
-        let _ = eprintln!(rt; "{program}: reading {awaited} from the terminal, up to Ctrl-D");
+        let _ = eprintln!(rt;
+            "{program}: reading {awaited} from the terminal; Ctrl-D ends the input"
+        );
     }
     match read_to_bound(rt.alloc(), &mut input) {
         Ok(bytes) => Ok(bytes),

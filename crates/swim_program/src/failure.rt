@@ -69,7 +69,7 @@ impl Failure {
                 ExitCode::from(2)
             }
             Failure::UnreadableWords => {
-                let _ = eprintln!(rt; "{program}: a word is not UTF-8");
+                let _ = eprintln!(rt; "{program}: an argument is not valid UTF-8");
                 ExitCode::from(2)
             }
             Failure::Refused { text, status } => {
