@@ -59,8 +59,8 @@ fn refusal_text(
 ) -> Result<Option<String>, AllocError> {
     let place = match fault {
         KeyFileFault::Line(line) => format!(in alloc; "line {line}")?,
-        KeyFileFault::Item(item) => format!(in alloc; "text {item}")?,
-        KeyFileFault::NotList => String::from_str(alloc, "no list of texts")?,
+        KeyFileFault::Item(item) => format!(in alloc; "item {item}")?,
+        KeyFileFault::NotList => String::from_str(alloc, "not a JSON list of strings")?,
         KeyFileFault::Memory => return Ok(None),
     };
     let number = fault.number();

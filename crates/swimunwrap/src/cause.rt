@@ -45,10 +45,10 @@ impl fmt::Display for Cause {
             Cause::NotHex => f.write_str("not hexadecimal"),
             Cause::Wrapped(fault) => f.write_str(wording(fault)),
             Cause::NoMessage(first) if first < 2 => {
-                write!(f, "encrypted or no message (first byte {first:02x})")
+                write!(f, "encrypted or not a message (first byte {first:02x})")
             }
-            Cause::NoMessage(first) => write!(f, "no message (first byte {first:02x})"),
-            Cause::NoKeyFits => f.write_str("encrypted, no key fits"),
+            Cause::NoMessage(first) => write!(f, "not a message (first byte {first:02x})"),
+            Cause::NoKeyFits => f.write_str("that no key decrypts"),
         }
     }
 }
@@ -57,12 +57,12 @@ impl fmt::Display for Cause {
 fn wording(fault: WrapFault) -> &'static str {
     match fault {
         WrapFault::Ended => "wrapper cut short",
-        WrapFault::Trailing => "bytes behind a compression",
-        WrapFault::BadCode => "compression broken",
-        WrapFault::BadChecksum => "checksum wrong",
-        WrapFault::BadMap => "compression without its map",
-        WrapFault::BadAlgo => "compression unknown",
-        WrapFault::BadLabel => "label empty",
+        WrapFault::Trailing => "bytes after a compression",
+        WrapFault::BadCode => "invalid compressed bytes",
+        WrapFault::BadChecksum => "wrong checksum",
+        WrapFault::BadMap => "invalid map of a compression",
+        WrapFault::BadAlgo => "unknown compression",
+        WrapFault::BadLabel => "empty label",
         WrapFault::TooLarge => "message too large",
         WrapFault::TooDeep => "too many wrappers",
         WrapFault::Memory => "out of memory",

@@ -34,7 +34,7 @@ Exit status: 0 done, 2 bad usage or help, 3 input refused, 4 device failed,
 
 pub(crate) static STREAM: &str = "\
 A connection that carries no push/pull stream is refused: a ping, an ack, a user message,
-an error, or a stream that is encrypted and that none of the keys opens.
+an error, or an encrypted stream that none of the keys decrypts.
 
 Examples:
   $ swimunwrap stream flow > stream.bin

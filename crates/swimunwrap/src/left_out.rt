@@ -5,7 +5,7 @@ use crate::cause::{Cause, PLACES};
 use std::alloc::{AllocError, Global};
 
 /// How many lines were left out of how many, and the number for each cause, in the order in which
-/// the causes came: `swimunwrap: 3 of 217 lines left out: 2 not hexadecimal, 1 checksum wrong`.
+/// the causes came: `swimunwrap: 3 of 217 lines left out: 2 not hexadecimal, 1 wrong checksum`.
 pub fn left_out_text(alloc: Global, causes: &[Cause], input: &[u8]) -> Result<String, AllocError> {
     let mut counts = counts_of(causes);
     let mut text = format!(in alloc;
