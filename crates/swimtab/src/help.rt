@@ -52,8 +52,8 @@ Example:
 
 pub(crate) static LOOP: &str = "\
 A sends its table over a connection of 127.0.0.1, B answers with its own, and A takes in
-the answer. The stream that merge writes of each file may have 16,384 bytes. The exit
-status is 1 if the tables are not equal at the end.
+the answer. Each table may have at most 16,384 bytes as the stream that merge writes. The
+exit status is 1 if the tables are not equal at the end.
 
 Example:
   $ swimtab loop examples/three.bin examples/user-state.bin | cut -d ' ' -f 1-3
