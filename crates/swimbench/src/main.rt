@@ -41,7 +41,7 @@ const FEW: u32 = 100;
 
 /// How the program is called.
 const USAGE: &str =
-    "swimbench: takes no word, or the word check, or a count of 1 to 100000 records";
+    "swimbench: expects no argument, or check, or a number of records from 1 to 100000";
 
 /// What the arguments ask for.
 #[derive(Clone, Copy, Debug, PartialEq, Eq)]
@@ -95,7 +95,7 @@ fn print_all(rt: &HostRuntime, sizes: &[u32]) -> Result<(), Failure> {
 /// memory that another one freed.
 fn print_footprints(rt: &HostRuntime, sizes: &[u32]) -> Result<(), Failure> {
     println!(rt;
-        "bytes a record: what the resident pages of /proc/self/statm grew by, of 4,096 bytes each"
+        "bytes per record: growth of the resident pages in /proc/self/statm, of 4,096 bytes each"
     )?;
     println!(rt;
         "{:<24} {:<10} {:>7} {:>8}",
@@ -116,9 +116,7 @@ fn print_footprints(rt: &HostRuntime, sizes: &[u32]) -> Result<(), Failure> {
 
 /// Prints the nanoseconds per record.
 fn print_times(rt: &HostRuntime, sizes: &[u32]) -> Result<(), Failure> {
-    println!(rt;
-        "nanoseconds a record: processor time of the process, the least and the median of the runs"
-    )?;
+    println!(rt; "nanoseconds per record: processor time, the least and the median of the runs")?;
     println!(rt;
         "{:<24} {:<10} {:>7} {:>4} {:>8} {:>8}",
         "measured", "order", "records", "runs", "least", "median"
