@@ -9,10 +9,10 @@ pub enum CaptureFault {
     #[error("this is neither a pcap nor a pcapng capture")]
     NotCapture,
     /// The version of the format is not supported. Supported are 2 of pcap and 1 of pcapng.
-    #[error("version {major} of the capture's format is not read here")]
+    #[error("version {major} of the capture format is not supported")]
     Version { major: u16 },
     /// A record claims more than 262,144 captured bytes (own).
-    #[error("a record claims {length} captured bytes, which is too many")]
+    #[error("a record claims {length} captured bytes; the limit is 262,144")]
     TooLong { length: u32 },
     /// A block's lengths are not multiples of 4, do not agree, or leave no room for what it holds.
     #[error("the lengths of a block do not agree")]
@@ -21,7 +21,7 @@ pub enum CaptureFault {
     #[error("a packet names interface {interface}, which is not described")]
     UnknownInterface { interface: u32 },
     /// A section describes more than 4,096 interfaces (own).
-    #[error("a section describes too many interfaces")]
+    #[error("a section describes more than 4,096 interfaces")]
     TooManyInterfaces,
     /// 2^64 - 1 blocks in a row contain no record (own).
     #[error("too many blocks in a row hold no record")]

@@ -77,20 +77,21 @@ pub(crate) fn ask(
 fn fresh_request(rt: &HostRuntime, keys: &Keyring, label: &[u8]) -> Result<Vec<u8>, Failure> {
     let mut nonce = [0; 12];
     if rt.fill_bytes(&mut nonce).is_err() {
-        let text = format!(in rt.alloc(); "{NAME}: the system gives no random bytes");
+        let text = format!(in rt.alloc(); "{NAME}: cannot read random bytes from the system");
         return Err(said(text, 4));
     }
     match request(rt.alloc(), keys, &nonce, label) {
         Ok(request) => Ok(request),
         Err(CipherFault::Memory) => Err(Failure::Memory),
-        Err(_) => Err(misused(rt.alloc(), "--label wants 1 to 255 bytes")),
+        Err(_) => Err(misused(rt.alloc(), "--label must have 1 to 255 bytes")),
     }
 }
 
 fn no_host(alloc: Global, word: &str) -> Failure {
     said(
         format!(in alloc;
-            "{NAME}: {word}: a host is a name or an address, and may have a port: web-1, 10.20.1.11:7946, [fe80::1]:7946"
+            "{NAME}: {word}: invalid host; give a name or an address, with or without a port: \
+             web-1, 10.20.1.11:7946, [fe80::1]:7946"
         ),
         2,
     )
@@ -100,13 +101,13 @@ fn no_host(alloc: Global, word: &str) -> Failure {
 fn no_reply(alloc: Global, host: &str, or_file: bool, cause: NoReply) -> Failure {
     let text = match cause {
         NoReply::NoAddress(error) if or_file => format!(in alloc;
-            "{NAME}: {host}: there is no such file, and no address is known for this name ({error})"
+            "{NAME}: {host}: no such file, and cannot find an address for this name ({error})"
         ),
         NoReply::NoAddress(error) => format!(in alloc;
-            "{NAME}: {host}: no address is known for this name ({error})"
+            "{NAME}: {host}: cannot find an address for this name ({error})"
         ),
         NoReply::NoConnection(error) => format!(in alloc;
-            "{NAME}: {host}: no connection ({error}); is a member listening there?"
+            "{NAME}: {host}: cannot connect ({error}); is a member listening there?"
         ),
         NoReply::Broken(error) => format!(in alloc;
             "{NAME}: {host}: the connection failed ({error})"
@@ -126,7 +127,8 @@ fn no_reply(alloc: Global, host: &str, or_file: bool, cause: NoReply) -> Failure
 fn silent(alloc: Global, host: &str, len: usize, timeout: u64) -> Failure {
     said(
         format!(in alloc;
-            "{NAME}: {host}: no whole answer within {timeout} seconds, but {len} bytes; --timeout waits longer"
+            "{NAME}: {host}: no complete answer within {timeout} s ({len} bytes received); \
+             try a longer --timeout"
         ),
         4,
     )
@@ -136,23 +138,25 @@ fn silent(alloc: Global, host: &str, len: usize, timeout: u64) -> Failure {
 fn no_answer(alloc: Global, host: &str, len: usize, is_keyless: bool, cause: NoAnswer) -> Failure {
     let text = match cause {
         NoAnswer::Error(words) => format!(in alloc;
-            "{NAME}: {host}: the member answers \"{words}\""
+            "{NAME}: {host}: the member answered with an error: \"{words}\""
         ),
         NoAnswer::NoStream(NoStream::Memory) => Err(AllocError),
         NoAnswer::NoStream(_) if len == 0 => format!(in alloc;
-            "{NAME}: {host}: the member closes the connection without an answer; its cluster may want a key (--key-file) or a label (--label)"
+            "{NAME}: {host}: the member closed the connection without an answer; \
+             its cluster may need a key (--key-file) or a label (--label)"
         ),
         NoAnswer::NoStream(NoStream::Closed) if is_keyless => format!(in alloc;
-            "{NAME}: {host}: the answer is encrypted; --key-file gives the cluster's keys"
+            "{NAME}: {host}: the answer is encrypted; give the cluster's keys with --key-file"
         ),
         NoAnswer::NoStream(NoStream::Closed) => format!(in alloc;
-            "{NAME}: {host}: no key opens the answer; is it the cluster's, and is the label (--label) right?"
+            "{NAME}: {host}: no key decrypts the answer; \
+             check the keys (--key-file) and the label (--label)"
         ),
         NoAnswer::NoStream(NoStream::Cut) => format!(in alloc;
             "{NAME}: {host}: the answer ends in the middle of a stream"
         ),
         NoAnswer::NoStream(NoStream::Claimless | NoStream::Foreign) => format!(in alloc;
-            "{NAME}: {host}: the answer is no push/pull stream of memberlist"
+            "{NAME}: {host}: the answer is not a push/pull stream of memberlist"
         ),
     };
     said(text, 3)

@@ -48,9 +48,9 @@ pub(crate) fn chosen(alloc: Global, words: &[String]) -> Result<Chosen, Refusal>
     match matches.subcommand() {
         Some((name, found)) => match Verb::named(name) {
             Some(verb) => chosen_of(alloc, verb, found),
-            None => Err(Refusal::Value("there is no such command")),
+            None => Err(Refusal::Value("unknown command; --help lists the commands")),
         },
-        None => Err(Refusal::Value("a command is wanted; --help lists them")),
+        None => Err(Refusal::Value("no command given; --help lists the commands")),
     }
 }
 
@@ -59,12 +59,12 @@ fn chosen_of(alloc: Global, verb: Verb, found: &ArgMatches) -> Result<Chosen, Re
         None => None,
         Some(word) => match moment_of(word) {
             Some(moment) => Some(moment),
-            None => return Err(Refusal::Value("--at wants a time like 2026-11-25T02:01:43Z")),
+            None => return Err(Refusal::Value("--at needs a time like 2026-11-25T02:01:43Z")),
         },
     };
     let wait = seconds_of(found.get_str("wait"), WAIT);
     let Some(wait) = wait else {
-        return Err(Refusal::Value("--wait wants a number of seconds"));
+        return Err(Refusal::Value("--wait needs a number of seconds"));
     };
     let member = match found.get_str("member") {
         None => None,
@@ -87,12 +87,12 @@ fn chosen_of(alloc: Global, verb: Verb, found: &ArgMatches) -> Result<Chosen, Re
 fn asking_of(alloc: Global, found: &ArgMatches) -> Result<Asking, Refusal> {
     let timeout = match seconds_of(found.get_str("timeout"), TIMEOUT) {
         Some(seconds) if seconds > 0 => seconds,
-        _ => return Err(Refusal::Value("--timeout wants a number of seconds, at least 1")),
+        _ => return Err(Refusal::Value("--timeout needs a number of seconds, at least 1")),
     };
     let label = match found.get_str("label") {
         None => Vec::new(alloc),
         Some(word) if matches!(word.len(), 1..=MAX_LABEL_LEN) => word.as_bytes().to_vec(alloc)?,
-        Some(_) => return Err(Refusal::Value("--label wants 1 to 255 bytes")),
+        Some(_) => return Err(Refusal::Value("--label must have 1 to 255 bytes")),
     };
     Ok(Asking { timeout, label })
 }

@@ -46,7 +46,7 @@ pub(crate) fn count(number: &mut u64) {
 
 impl Counts {
     /// What was read, and what was left out and why, in one line: `670 records; 640 packets, 12
-    /// with claims; 24 streams; 3 not opened by any key; 1 fragmented`.
+    /// with claims; 24 streams; 3 that no key decrypts; 1 fragmented`.
     pub(crate) fn text(&self, alloc: Global, has_keys: bool) -> Result<String, AllocError> {
         let records = noun(self.records, "record", "records");
         let packets = noun(self.datagrams, "packet", "packets");
@@ -66,9 +66,9 @@ impl Counts {
     /// How often each other thing occurred, with its name.
     fn others(&self, has_keys: bool) -> [(u64, &'static str); 12] {
         let closed = if has_keys {
-            "not opened by any key"
+            "that no key decrypts"
         } else {
-            "encrypted (--key-file opens them)"
+            "encrypted (give the keys with --key-file)"
         };
         let other = noun(
             self.other_streams,
@@ -78,7 +78,7 @@ impl Counts {
         [
             (self.other_streams, other),
             (self.closed, closed),
-            (self.foreign, "not memberlist's"),
+            (self.foreign, "not from memberlist"),
             (self.gaps, "with bytes missing"),
             (self.not_ip, "not IP"),
             (self.fragments, "fragmented"),
@@ -86,7 +86,7 @@ impl Counts {
             (self.cut, "cut by the snap length"),
             (self.malformed, "malformed"),
             (self.timeless, "without a time"),
-            (self.later, "after that time"),
+            (self.later, "after the --at time"),
             (self.unknown_links, "of an unknown link type"),
         ]
     }

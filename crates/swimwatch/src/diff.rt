@@ -15,7 +15,7 @@ use swim_program::Failure;
 /// Those of [`roster_of`], for the first side that cannot be read.
 pub(crate) fn diff(rt: &HostRuntime, chosen: &Chosen) -> Result<ExitCode, Failure> {
     let [before, after] = chosen.inputs.as_slice() else {
-        return Err(misused(rt.alloc(), "diff wants two captures, dumps or members"));
+        return Err(misused(rt.alloc(), "diff needs two captures, streams or members"));
     };
     let before = roster_of(rt, chosen, before)?;
     let after = roster_of(rt, chosen, after)?;

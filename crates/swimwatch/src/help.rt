@@ -13,7 +13,7 @@ pub(crate) const WAIT: &str =
 
 pub(crate) const AT: &str = "Print the members as they were at this time (RFC 3339)";
 
-pub(crate) const MEMBER: &str = "Select this member";
+pub(crate) const MEMBER: &str = "Show only this member";
 
 pub(crate) const JSON: &str = "Print one JSON object on each line";
 
@@ -22,7 +22,7 @@ pub(crate) const HOST: &str =
 
 pub(crate) const SIDE: &str = "A capture, a file with a push/pull stream, or a member";
 
-pub(crate) const TIMEOUT: &str = "Seconds that a member may take in all [default: 5]";
+pub(crate) const TIMEOUT: &str = "Seconds to wait for the answer of a member [default: 5]";
 
 pub(crate) const LABEL: &str = "The label of the cluster, if it has one";
 

@@ -26,7 +26,10 @@ use swim_table::{EncodeFault, Table, encode};
 pub(crate) fn pull(rt: &HostRuntime, chosen: &Chosen) -> Result<ExitCode, Failure> {
     let alloc = rt.alloc();
     if chosen.dump && (chosen.json || chosen.inputs.len() != 1) {
-        return Err(misused(alloc, "--dump wants one member, and no --json"));
+        return Err(misused(
+            alloc,
+            "--dump needs exactly one member, and cannot be used with --json",
+        ));
     }
     let keys = keyring_of(rt, NAME, &chosen.key_files)?;
     let mut answers = Vec::new(alloc);

@@ -109,9 +109,11 @@ fn roster_of_file(
     };
     let why = match cause {
         NoAnswer::NoStream(NoStream::Memory) => return Err(Failure::Memory),
-        NoAnswer::NoStream(NoStream::Closed) => "it is encrypted, and no key opens it",
+        NoAnswer::NoStream(NoStream::Closed) =>
+            "it is encrypted, and no key decrypts it; check --key-file and --label",
         NoAnswer::NoStream(NoStream::Cut) => "it ends in the middle of a stream",
-        NoAnswer::NoStream(_) | NoAnswer::Error(_) => "it is no capture and no push/pull stream",
+        NoAnswer::NoStream(_) | NoAnswer::Error(_) =>
+            "it is neither a capture nor a push/pull stream",
     };
     Err(said(format!(in alloc; "{NAME}: {word}: {why}"), 3))
 }

@@ -126,7 +126,9 @@ fn open(rt: &HostRuntime, word: &str) -> Result<Counted<FromRead<Input>>, Failur
     match Input::open(rt, word) {
         Ok(input) => {
             if input.is_terminal() {
-                let _ = eprintln!(rt; "{NAME}: reading a capture from the terminal, up to Ctrl-D");
+                let _ = eprintln!(rt;
+                    "{NAME}: reading a capture from the terminal; Ctrl-D ends the input"
+                );
             }
             Ok(Counted::new(FromRead::new(input)))
         }
@@ -147,7 +149,10 @@ fn next_record(
     match reader.next(inlet, bytes) {
         Ok(record) => Ok(record),
         Err(CaptureFault::Cut) => {
-            let _ = eprintln!(rt; "{NAME}: {word}: byte {start}: cut in the middle of a record");
+            let _ = eprintln!(rt;
+                "{NAME}: {word}: byte {start}: the capture ends in the middle of this record, \
+                 which is left out"
+            );
             Ok(None)
         }
         Err(fault) => Err(refused(rt.alloc(), word, start, fault)),
@@ -178,7 +183,8 @@ fn cut_header(alloc: Global, word: &str) -> Failure {
 fn unknown_link(alloc: Global, word: &str, link: u32) -> Failure {
     said(
         format!(in alloc;
-            "{NAME}: {word}: frames of link type {link} are not read; Ethernet, Linux cooked, raw IP and loopback are"
+            "{NAME}: {word}: link type {link} is not supported; \
+             Ethernet, Linux cooked, raw IP and loopback are"
         ),
         3,
     )

@@ -103,7 +103,7 @@ impl Page {
     /// Adds the number of members shown.
     fn write_what(&self, text: &mut String) -> Result<(), AllocError> {
         match self.count {
-            0 => text.push_str("Nothing was heard of any member"),
+            0 => text.push_str("No members"),
             1 => text.push_str("1 member"),
             count => write!(text, "{count} members"),
         }

@@ -81,26 +81,26 @@ fn words_ask_for_a_verb(rt: HostRuntime) -> Result<(), Fail> {
 
 /// Words with invalid values for arguments.
 const REFUSED: [(&[&str], &str); 6] = [
-    (&[], "a command is wanted; --help lists them"),
+    (&[], "no command given; --help lists the commands"),
     (
         &["members", "--at", "noon", "x"],
-        "--at wants a time like 2026-11-25T02:01:43Z",
+        "--at needs a time like 2026-11-25T02:01:43Z",
     ),
     (
         &["members", "--wait", "-1", "x"],
-        "--wait wants a number of seconds",
+        "--wait needs a number of seconds",
     ),
     (
         &["dump", "--wait", "", "x"],
-        "--wait wants a number of seconds",
+        "--wait needs a number of seconds",
     ),
     (
         &["pull", "--timeout", "0", "x"],
-        "--timeout wants a number of seconds, at least 1",
+        "--timeout needs a number of seconds, at least 1",
     ),
     (
         &["pull", "--label", "", "x"],
-        "--label wants 1 to 255 bytes",
+        "--label must have 1 to 255 bytes",
     ),
 ];
 
