@@ -1,10 +1,12 @@
 -- Each step of the search for what a join changes.
-use Rattle.std.proofs.Common.{◌≡◌, ◌≢◌, ◌↔◌, ◌⊎◌, ℕ, Option, Some, None, IsSome, List, [], ◌∷◌, ◌++◌, MatchOption, refl, sym, ap, subst, ◌∙◌, inl, inr}
+use Rattle.std.proofs.Common.{◌≡◌, ◌≢◌, ◌↔◌, ◌⊎◌, ℕ, Option, Some, None, IsSome, List, [], ◌∷◌, ◌++◌, MatchOption, Bool, true, false, IsTrue, MatchBool, refl, sym, ap, subst, ◌∙◌, inl, inr}
+use mathlib.Core.Bool.{false≢true, not}
 use Rattle.swim_claim.specs.declared.claim.Claim.{Claim}
 use Rattle.swim_claim.specs.Claim.{name_of}
 use Rattle.swim_table.specs.Standing.{Standing}
 use Rattle.swim_table.specs.Table.{Entries, get, IsAscending, TableOf, Reduced}
-use Rattle.swim_table.specs.Join.{joined, Join, standing_of, table_of}
+use Rattle.swim_table.specs.Join.{joined, Join, standing_of}
+use Rattle.swim_table.specs.Covering.{IsCovered}
 use Rattle.swim_table.specs.News.{AreChanges, HasAlso}
 use Rattle.swim_table.proofs.Lookups.{IsAscending-head, IsAscending-tail, get_below, get_cases, get_here, joined_both, joined-none, same_table}
 use Rattle.swim_table.proofs.Tables.{get-append, standing_of_top, TableOf-one, TableOf-table_of}
@@ -28,6 +30,20 @@ pub get-Join : (table other : Entries) → TableOf table (Reduced table) → Tab
     → get (Join table other) name ≡ joined (get table name) (get other name)
 get-Join table other h g =
     get-append (Join table other) table other (Reduced table) (Reduced other) (TableOf-table_of (Reduced table ++ Reduced other)) h g
+
+-- a join changes a table unless the table covers the other one
+pub covered_is_unchanged : (table other : Entries) → TableOf table (Reduced table) → TableOf other (Reduced other)
+    → IsCovered other table ↔ (Join table other ≡ table)
+covered_is_unchanged table other h g = (
+  λ covered. same_table (Join table other) table (TableOf-table_of (Reduced table ++ Reduced other)).ascending h.ascending
+      (λ name. get-Join table other h g name ∙ covered name),
+  λ same name. sym (get-Join table other h g name) ∙ ap (λ t. get t name) same,
+)
+
+pub told_by_covering : (table other : Entries) → TableOf table (Reduced table) → TableOf other (Reduced other)
+    → (covered : Bool) → IsTrue covered ↔ IsCovered other table → MatchBool (not covered) (Join table other ≢ table) (Join table other ≡ table)
+told_by_covering table other h g true is = (covered_is_unchanged table other h g).0 (is.0 refl)
+told_by_covering table other h g false is = λ same. false≢true (is.1 ((covered_is_unchanged table other h g).1 same))
 
 -- one more claim adds its name
 pub also_noted : (before after : Entries) (c : Claim) → TableOf before (Reduced before) → TableOf after (Reduced before ++ c ∷ [])

@@ -6,8 +6,9 @@ ghost use Rattle.swim_table.specs.Table.{get, Reduced, TableOf};
 ghost use Rattle.swim_table.specs.Join.{joined, Join};
 ghost use Rattle.swim_table.specs.News.{AreChanges, HasAlso};
 
+use crate::comparing::is_covered;
 use crate::entry::Entry;
-use crate::table::Table;
+use crate::table::{FAR_SMALLER, Table};
 use std::alloc::{AllocError, Global};
 use swim_claim::Claim;
 
@@ -31,9 +32,22 @@ pub fn news_of(alloc: Global, table: &Table, other: &Table) -> Result<Table, All
     Ok(news)
 }
 
-/// Whether a join of the other table would change the table. It takes no memory. This searches the
-/// table for each name of the other one, up to the first that the join would add or change.
+/// Whether a join of the other table would change the table. It takes no memory. This walks over
+/// both tables side by side, up to the first name that the join would add or change. If the other
+/// table is far smaller, it searches the table for each of its names instead.
 pub fn has_news(table: &Table, other: &Table) -> bool
+    ensures { MatchBool result
+        (Join table.now other.now ≢ table.now) (Join table.now other.now ≡ table.now) }
+{
+    if other.len() < table.len() / FAR_SMALLER {
+        finds_news(table, other)
+    } else {
+        !is_covered(other.tiers(), table.tiers())
+    }
+}
+
+/// The same as [`has_news`], by a search for each name of the other table.
+fn finds_news(table: &Table, other: &Table) -> bool
     ensures { MatchBool result
         (Join table.now other.now ≢ table.now) (Join table.now other.now ≡ table.now) }
 {

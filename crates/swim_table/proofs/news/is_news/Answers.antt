@@ -1,5 +1,4 @@
-use Rattle.std.proofs.Common.{◌≡◌, ◌∙◌, ap, sym, Some, rules}
-use Rattle.swim_claim.specs.Claim.{name_of}
+use Rattle.std.proofs.Common.{◌≡◌, ◌∙◌, Some, rules}
 use Rattle.swim_table.specs.Table.{get}
 use Rattle.swim_table.proofs.Lookups.{get_found}
 use Rattle.swim_table.proofs.news.is_news.Goals as goal

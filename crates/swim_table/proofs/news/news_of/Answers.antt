@@ -1,4 +1,4 @@
-use Rattle.std.proofs.Common.{◌≡◌, ◌∷◌, ◌∙◌, subst, sym, rules}
+use Rattle.std.proofs.Common.{◌≡◌, ◌∷◌, subst, rules}
 use Rattle.swim_table.specs.Table.{TableOf, Reduced}
 use Rattle.swim_table.proofs.Changed.{IsSearching, searching_noted, searching_passed, searching_end}
 use Rattle.swim_table.proofs.news.news_of.Goals as goal

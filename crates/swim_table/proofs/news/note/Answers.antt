@@ -1,5 +1,4 @@
-use Rattle.std.proofs.Common.{◌≡◌, ◌∙◌, ap, subst, rules}
-use Rattle.swim_claim.specs.Claim.{name_of}
+use Rattle.std.proofs.Common.{◌∙◌, subst}
 use Rattle.swim_claim.specs.declared.claim.Claim.TheVariants.{Suspect}
 use Rattle.swim_table.specs.News.{HasAlso}
 use Rattle.swim_table.proofs.Changed.{also_noted}
