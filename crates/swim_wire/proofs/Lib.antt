@@ -12,6 +12,7 @@ pub mod MapFaults
 pub mod Maps
 pub mod Checking
 pub mod Claimed
+pub mod Messages
 pub mod PacketTexts
 pub mod StreamTexts
 pub mod DatagramTexts

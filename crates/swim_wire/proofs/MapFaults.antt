@@ -1,14 +1,16 @@
 -- Why a map is refused.
-use Rattle.std.proofs.Common.{◌≡◌, ℕ, zero, suc, List, length, Option, Some, None, Result, subst}
+use Rattle.std.proofs.Common.{◌≡◌, ◌≢◌, ℕ, zero, suc, List, length, Option, Some, None, Result, refl, subst}
 use Rattle.std.specs.Prelude.{slice_set}
 use Rattle.swim_pack.specs.declared.fault.PackFault.{PackFault}
 use Rattle.swim_pack.specs.declared.fault.PackFault.TheVariants as packs
 use Rattle.swim_pack.specs.Composing.{◌>>=◌, gives, some_or, lift, lift_error}
 use Rattle.swim_pack.specs.Reading.{uint_at, flag_at, raw_at, count_at}
 use Rattle.swim_wire.specs.declared.fault.WireFault.{WireFault}
-use Rattle.swim_wire.specs.declared.fault.WireFault.TheVariants.{NameEmpty, BadAddress, BadVersions, WrongType, BadState, TooManyNodes, UserTooLong, Trailing, UnknownKey, DuplicateKey}
+use Rattle.swim_wire.specs.declared.fault.WireFault.TheVariants.{Memory, NameEmpty, BadAddress, BadVersions, WrongType, BadState, TooManyNodes, UserTooLong, Trailing, UnknownKey, DuplicateKey}
 use Rattle.swim_wire.specs.declared.layout.Limit.{Limit}
 use Rattle.swim_wire.specs.declared.layout.Limit.TheVariants as limits
+use Rattle.swim_wire.specs.Checks.{ReasonForPacket, ReasonForHeader, ReasonForState}
+use Rattle.swim_wire.specs.Datagrams.{ReasonForDatagram}
 use Rattle.swim_wire.specs.Fault.{fault_of_pack, fault_of_key}
 use Rattle.swim_wire.specs.Layout.{Layout, Spelled}
 use Rattle.swim_wire.specs.Layout.Spelled.{number, raw, flag}
@@ -84,3 +86,17 @@ pub map_refusal : (layout : Layout) (bytes : List ℕ) (error : WireFault) → m
 unfolding map_at
 map_refusal layout bytes error e = then_err (lift fault_of_pack (count_at (length layout)) bytes) (λ n. pairs_at layout n no_slots) error e (IsMapFault error)
     (λ first. lift_fault fault_of_pack (count_at (length layout) bytes) error pack_fault first) (λ n mid ok more. pairs_fault layout n no_slots mid error more)
+
+-- so each reason says nothing more of it
+pub no_more : (error : WireFault) (bytes : List ℕ) → error ≢ Memory → IsMapFault error
+    → ReasonForPacket error bytes × ReasonForHeader error bytes × ReasonForState error bytes × ReasonForDatagram error bytes
+no_more NameEmpty bytes other h = absurd h
+no_more BadAddress bytes other h = absurd h
+no_more BadVersions bytes other h = absurd h
+no_more (WrongType found) bytes other h = absurd h
+no_more (BadState found) bytes other h = absurd h
+no_more TooManyNodes bytes other h = absurd h
+no_more UserTooLong bytes other h = absurd h
+no_more Trailing bytes other h = absurd h
+no_more Memory bytes other h = absurd (other refl)
+no_more error bytes other h = (tt, tt, tt, tt)

@@ -6,23 +6,21 @@ use Rattle.std.specs.Str.{bytes_eq}
 use Rattle.swim_claim.specs.declared.claim.Claim.TheVariants.{Alive, Suspect}
 use Rattle.swim_claim.specs.Details.{DetailsValue}
 use Rattle.swim_pack.proofs.Composing.{ConsumedText}
-use Rattle.swim_pack.specs.Composing.{◌>>=◌, refuses}
+use Rattle.swim_pack.specs.Composing.{refuses}
 use Rattle.swim_wire.specs.declared.fault.WireFault.{WireFault}
-use Rattle.swim_wire.specs.declared.fault.WireFault.TheVariants.{Ended, Memory, NameEmpty, BadAddress, BadVersions, WrongType, BadState, TooManyNodes, UserTooLong, Trailing}
+use Rattle.swim_wire.specs.declared.fault.WireFault.TheVariants.{Ended, Memory, NameEmpty, BadAddress, BadVersions, WrongType, Trailing}
 use Rattle.swim_wire.specs.declared.layout.Key.TheVariants as keys
-use Rattle.swim_wire.specs.Checks.{AliveFails, BeginsFailing, ReasonForPacket, ReasonForWhole}
-use Rattle.swim_wire.specs.Keys.{key_text}
-use Rattle.swim_wire.specs.Layout.{Pairs, MapText, of_key, number_of, raw_of, alive_layout, accusation_layout}
+use Rattle.swim_wire.specs.Checks.{AliveFails, AccusationFails, ReasonForPacket, ReasonForWhole}
+use Rattle.swim_wire.specs.Layout.{Pairs, MapText, number_of, raw_of, alive_layout, accusation_layout}
 use Rattle.swim_wire.specs.Packet.{PacketValue}
-use Rattle.swim_wire.specs.Reading.{Reading, Slots, slot, checked, with_name, with_details, map_at, alive_of, suspect_of, dead_of, dead_claim, alive_at, suspect_at, dead_at, packet_at, nothing_after, whole_packet}
+use Rattle.swim_wire.specs.Reading.{Reading, Slots, with_name, with_details, alive_of, suspect_of, dead_of, dead_claim, alive_at, suspect_at, dead_at, packet_at, nothing_after, whole_packet}
 use Rattle.swim_wire.specs.Texts.{PacketText, told_details}
 use Rattle.swim_wire.specs.Texts.PacketText.{alive, suspect, leave, confirm}
-use Rattle.swim_wire.proofs.Readings.{read, refused, then_ok, then_err}
+use Rattle.swim_wire.proofs.Readings.{read, refused}
 use Rattle.swim_wire.proofs.Keys.{alive_legal, accusation_legal, same_key, key_same, other_key, false≢true}
-use Rattle.swim_wire.proofs.Filling.{HoldsSlots}
-use Rattle.swim_wire.proofs.MapFaults.{IsMapFault, map_refusal}
-use Rattle.swim_wire.proofs.Maps.{map_takes, map_again}
-use Rattle.swim_wire.proofs.Checking.{passed, failed, split, checked_ok, checked_err, with_name_ok, with_name_again, with_name_err, with_details_ok, with_details_again, with_details_err}
+use Rattle.swim_wire.proofs.MapFaults.{no_more}
+use Rattle.swim_wire.proofs.Messages.{IsMessage, message_at, message_takes, message_again, message_refusal}
+use Rattle.swim_wire.proofs.Checking.{passed, failed, split, with_name_ok, with_name_again, with_name_err, with_details_ok, with_details_again, with_details_err}
 
 -- ---- the packet in the pairs of a map, or the first check that they fail
 
@@ -33,15 +31,12 @@ alive_with pairs details = record { claim = Alive (raw_of keys.Node pairs) (numb
 abbrev alive_from : Pairs → Result PacketValue WireFault
 alive_from pairs = with_name (raw_of keys.Node pairs) (with_details (told_details pairs) (alive_with pairs))
 
-alive_same : (pairs : Pairs) (slots : Slots) → HoldsSlots alive_layout pairs slots → alive_of slots ≡ alive_from pairs
-alive_same pairs slots holds =
-    let addr : slot slots 0 ≡ of_key (key_text keys.Addr) pairs = holds 0 (omega arith) in
-    let inc : slot slots 1 ≡ of_key (key_text keys.Incarnation) pairs = holds 1 (omega arith) in
-    let meta : slot slots 2 ≡ of_key (key_text keys.Meta) pairs = holds 2 (omega arith) in
-    let node : slot slots 3 ≡ of_key (key_text keys.Node) pairs = holds 3 (omega arith) in
-    let port : slot slots 4 ≡ of_key (key_text keys.Port) pairs = holds 4 (omega arith) in
-    let vsn : slot slots 5 ≡ of_key (key_text keys.Vsn) pairs = holds 5 (omega arith) in
-    rw (addr, inc, meta, node, port, vsn) refl
+alive_message : IsMessage alive_layout alive_of alive_from
+alive_message = record {
+  legal = alive_legal;
+  same = λ pairs slots holds. rw (holds 0 (omega arith), holds 1 (omega arith), holds 2 (omega arith), holds 3 (omega arith), holds 4 (omega arith),
+  holds 5 (omega arith)) refl;
+}
 
 abbrev suspect_packet : Pairs → PacketValue
 suspect_packet pairs = record { claim = Suspect (raw_of keys.Node pairs) (number_of keys.Incarnation pairs); from = raw_of keys.From pairs }
@@ -49,12 +44,11 @@ suspect_packet pairs = record { claim = Suspect (raw_of keys.Node pairs) (number
 abbrev suspect_from : Pairs → Result PacketValue WireFault
 suspect_from pairs = with_name (raw_of keys.Node pairs) (Ok (suspect_packet pairs))
 
-suspect_same : (pairs : Pairs) (slots : Slots) → HoldsSlots accusation_layout pairs slots → suspect_of slots ≡ suspect_from pairs
-suspect_same pairs slots holds =
-    let from : slot slots 0 ≡ of_key (key_text keys.From) pairs = holds 0 (omega arith) in
-    let inc : slot slots 1 ≡ of_key (key_text keys.Incarnation) pairs = holds 1 (omega arith) in
-    let node : slot slots 2 ≡ of_key (key_text keys.Node) pairs = holds 2 (omega arith) in
-    rw (from, inc, node) refl
+suspect_message : IsMessage accusation_layout suspect_of suspect_from
+suspect_message = record {
+  legal = accusation_legal;
+  same = λ pairs slots holds. rw (holds 0 (omega arith), holds 1 (omega arith), holds 2 (omega arith)) refl;
+}
 
 abbrev dead_packet : Bool → Pairs → PacketValue
 dead_packet own pairs =
@@ -63,12 +57,11 @@ dead_packet own pairs =
 abbrev dead_from : Pairs → Result PacketValue WireFault
 dead_from pairs = with_name (raw_of keys.Node pairs) (Ok (dead_packet (bytes_eq (raw_of keys.From pairs) (raw_of keys.Node pairs)) pairs))
 
-dead_same : (pairs : Pairs) (slots : Slots) → HoldsSlots accusation_layout pairs slots → dead_of slots ≡ dead_from pairs
-dead_same pairs slots holds =
-    let from : slot slots 0 ≡ of_key (key_text keys.From) pairs = holds 0 (omega arith) in
-    let inc : slot slots 1 ≡ of_key (key_text keys.Incarnation) pairs = holds 1 (omega arith) in
-    let node : slot slots 2 ≡ of_key (key_text keys.Node) pairs = holds 2 (omega arith) in
-    rw (from, inc, node) refl
+dead_message : IsMessage accusation_layout dead_of dead_from
+dead_message = record {
+  legal = accusation_legal;
+  same = λ pairs slots holds. rw (holds 0 (omega arith), holds 1 (omega arith), holds 2 (omega arith)) refl;
+}
 
 passed_is : (p q : PacketValue) → passed p ≡ passed q → q ≡ p
 passed_is p q e = cc
@@ -79,44 +72,38 @@ alive_takes : (first : ℕ) (bytes : List ℕ) (p : PacketValue) (rest : List �
     → ConsumedText (λ b. PacketText b p) (first ∷ bytes) rest
 unfolding alive_at
 alive_takes first bytes p rest type e =
-    let t = then_ok (map_at alive_layout bytes) (λ slots. checked (alive_of slots)) p rest e in
-    let m = map_takes alive_layout bytes t.0 t.1 alive_legal t.2 in
-    let c = checked_ok (alive_of t.0) t.1 p rest t.3 in
-    let named = with_name_ok (raw_of keys.Node m.1) _ p (sym (alive_same m.1 t.0 m.4) ∙ c.0) in
+    let m = message_takes alive_message bytes p rest e in
+    let named = with_name_ok (raw_of keys.Node m.1) _ p m.3 in
     let legal = with_details_ok (told_details m.1) (alive_with m.1) p named.1 in
     record {
       text = first ∷ m.0;
       is = alive m.0 m.1 (ap (λ (x : ℕ). x ∷ m.0) type) m.2 named.0 (legal.0, legal.1) legal.2;
-      parts = ap (λ (r : List ℕ). first ∷ r) (m.3 ∙ ap (λ (r : List ℕ). m.0 ++ r) c.1);
+      parts = ap (λ (r : List ℕ). first ∷ r) m.4;
     }
 
 suspect_takes : (first : ℕ) (bytes : List ℕ) (p : PacketValue) (rest : List ℕ) → first ≡ 3 → suspect_at bytes ≡ read p rest
     → ConsumedText (λ b. PacketText b p) (first ∷ bytes) rest
 unfolding suspect_at
 suspect_takes first bytes p rest type e =
-    let t = then_ok (map_at accusation_layout bytes) (λ slots. checked (suspect_of slots)) p rest e in
-    let m = map_takes accusation_layout bytes t.0 t.1 accusation_legal t.2 in
-    let c = checked_ok (suspect_of t.0) t.1 p rest t.3 in
-    let named = with_name_ok (raw_of keys.Node m.1) _ p (sym (suspect_same m.1 t.0 m.4) ∙ c.0) in
+    let m = message_takes suspect_message bytes p rest e in
+    let named = with_name_ok (raw_of keys.Node m.1) _ p m.3 in
     record {
       text = first ∷ m.0;
       is = suspect m.0 m.1 (ap (λ (x : ℕ). x ∷ m.0) type) m.2 named.0 (passed_is (suspect_packet m.1) p named.1);
-      parts = ap (λ (r : List ℕ). first ∷ r) (m.3 ∙ ap (λ (r : List ℕ). m.0 ++ r) c.1);
+      parts = ap (λ (r : List ℕ). first ∷ r) m.4;
     }
 
 dead_takes : (first : ℕ) (bytes : List ℕ) (p : PacketValue) (rest : List ℕ) → first ≡ 5 → dead_at bytes ≡ read p rest
     → ConsumedText (λ b. PacketText b p) (first ∷ bytes) rest
 unfolding dead_at
 dead_takes first bytes p rest type e =
-    let t = then_ok (map_at accusation_layout bytes) (λ slots. checked (dead_of slots)) p rest e in
-    let m = map_takes accusation_layout bytes t.0 t.1 accusation_legal t.2 in
-    let c = checked_ok (dead_of t.0) t.1 p rest t.3 in
-    let named = with_name_ok (raw_of keys.Node m.1) _ p (sym (dead_same m.1 t.0 m.4) ∙ c.0) in
+    let m = message_takes dead_message bytes p rest e in
+    let named = with_name_ok (raw_of keys.Node m.1) _ p m.3 in
     record {
       text = first ∷ m.0;
       is =
           by m.0 m.1 (bytes_eq (raw_of keys.From m.1) (raw_of keys.Node m.1)) refl (ap (λ (x : ℕ). x ∷ m.0) type) m.2 named.0 (passed_is _ p named.1);
-      parts = ap (λ (r : List ℕ). first ∷ r) (m.3 ∙ ap (λ (r : List ℕ). m.0 ++ r) c.1);
+      parts = ap (λ (r : List ℕ). first ∷ r) m.4;
     }
   where
     by : (m : List ℕ) (pairs : Pairs) (own : Bool) → bytes_eq (raw_of keys.From pairs) (raw_of keys.Node pairs) ≡ own → first ∷ m ≡ 5 ∷ m
@@ -140,79 +127,40 @@ packet_takes (first ∷ bytes) p rest e =
 pub packet_again : (b rest : List ℕ) (p : PacketValue) → PacketText b p → packet_at (b ++ rest) ≡ read p rest
 unfolding packet_at alive_at suspect_at dead_at
 packet_again b rest p (alive m pairs type text named legal is) =
-    let a = map_again alive_layout m pairs rest alive_legal text in
-    let value : alive_of a.0 ≡ passed p =
-    alive_same pairs a.0 a.2 ∙ with_name_again _ _ named ∙ with_details_again (told_details pairs) (alive_with pairs) legal.0 legal.1 ∙ ap passed (sym is) in
-    rw (type, a.1) (ap (λ (r : Result PacketValue WireFault). checked r rest) value)
+    let value = with_name_again _ _ named ∙ with_details_again (told_details pairs) (alive_with pairs) legal.0 legal.1 ∙ ap passed (sym is) in
+    rw type (message_again alive_message m rest pairs p text value)
 packet_again b rest p (suspect m pairs type text named is) =
-    let a = map_again accusation_layout m pairs rest accusation_legal text in
-    let value : suspect_of a.0 ≡ passed p = suspect_same pairs a.0 a.2 ∙ with_name_again _ _ named ∙ ap passed (sym is) in
-    rw (type, a.1) (ap (λ (r : Result PacketValue WireFault). checked r rest) value)
+    rw type (message_again suspect_message m rest pairs p text (with_name_again _ _ named ∙ ap passed (sym is)))
 packet_again b rest p (leave m pairs type text named own is) =
-    let a = map_again accusation_layout m pairs rest accusation_legal text in
     let left = ap (λ (same : Bool). passed (dead_packet same pairs)) (key_same (raw_of keys.From pairs) (raw_of keys.Node pairs) own) in
-    let value : dead_of a.0 ≡ passed p = dead_same pairs a.0 a.2 ∙ with_name_again _ _ named ∙ left ∙ ap passed (sym is) in
-    rw (type, a.1) (ap (λ (r : Result PacketValue WireFault). checked r rest) value)
+    rw type (message_again dead_message m rest pairs p text (with_name_again _ _ named ∙ left ∙ ap passed (sym is)))
 packet_again b rest p (confirm m pairs type text named other is) =
-    let a = map_again accusation_layout m pairs rest accusation_legal text in
     let confirmed = ap (λ (same : Bool). passed (dead_packet same pairs)) (other_key (raw_of keys.From pairs) (raw_of keys.Node pairs) other) in
-    let value : dead_of a.0 ≡ passed p = dead_same pairs a.0 a.2 ∙ with_name_again _ _ named ∙ confirmed ∙ ap passed (sym is) in
-    rw (type, a.1) (ap (λ (r : Result PacketValue WireFault). checked r rest) value)
+    rw type (message_again dead_message m rest pairs p text (with_name_again _ _ named ∙ confirmed ∙ ap passed (sym is)))
 
 -- ---- a refusal
-
-explained_by_map : (error : WireFault) (bytes : List ℕ) → error ≢ Memory → IsMapFault error → ReasonForPacket error bytes
-explained_by_map NameEmpty bytes other h = absurd h
-explained_by_map BadAddress bytes other h = absurd h
-explained_by_map BadVersions bytes other h = absurd h
-explained_by_map (WrongType found) bytes other h = absurd h
-explained_by_map (BadState found) bytes other h = absurd h
-explained_by_map TooManyNodes bytes other h = absurd h
-explained_by_map UserTooLong bytes other h = absurd h
-explained_by_map Trailing bytes other h = absurd h
-explained_by_map Memory bytes other h = absurd (other refl)
-explained_by_map error bytes other h = tt
 
 alive_refusal : (first : ℕ) (bytes : List ℕ) (error : WireFault) → error ≢ Memory → first ≡ 4 → alive_at bytes ≡ refused PacketValue error
     → ReasonForPacket error (first ∷ bytes)
 unfolding alive_at
 alive_refusal first bytes error other type e =
-    then_err (map_at alive_layout bytes) (λ slots. checked (alive_of slots)) error e (ReasonForPacket error (first ∷ bytes))
-    (λ map. explained_by_map error (first ∷ bytes) other (map_refusal alive_layout bytes error map))
-    (λ slots mid ok check. failing slots mid (map_takes alive_layout bytes slots mid alive_legal ok) (checked_err (alive_of slots) mid error check))
-  where
-    failing : (slots : Slots) (mid : List ℕ) → (m : List ℕ) × (pairs : Pairs) × MapText alive_layout m pairs ×
-        (bytes ≡ m ++ mid) × HoldsSlots alive_layout pairs slots
-        → alive_of slots ≡ failed PacketValue error → ReasonForPacket error (first ∷ bytes)
-    failing slots mid m fails =
-        let begins : (F : Pairs → Type 0) → F m.1 → BeginsFailing alive_layout F bytes =
-        λ F h. record { map_text = m.0; pairs = m.1; rest = mid; text = m.2; parts = m.3; failing = h } in
-        with_name_err (raw_of keys.Node m.1) (with_details (told_details m.1) (alive_with m.1)) error
-        (sym (alive_same m.1 slots m.4) ∙ fails) (ReasonForPacket error (first ∷ bytes))
-        (λ empty is. subst (λ f. ReasonForPacket f (first ∷ bytes)) is (inl (type, begins (AliveFails NameEmpty) empty)))
-        (λ named more. with_details_err (told_details m.1) (alive_with m.1) error more (ReasonForPacket error (first ∷ bytes))
-        (λ address is. subst (λ f. ReasonForPacket f (first ∷ bytes)) is (inl (type, begins (AliveFails BadAddress) (named, address))))
-        (λ address versions is. subst (λ f. ReasonForPacket f (first ∷ bytes)) is (inl (type, begins (AliveFails BadVersions) (named, (address, versions))))))
+    message_refusal alive_message bytes error e (ReasonForPacket error (first ∷ bytes)) (λ map. (no_more error (first ∷ bytes) other map).0)
+    (λ pairs fails begins. with_name_err (raw_of keys.Node pairs) (with_details (told_details pairs) (alive_with pairs)) error fails
+    (ReasonForPacket error (first ∷ bytes))
+    (λ empty is. subst (λ f. ReasonForPacket f (first ∷ bytes)) is (inl (type, begins (AliveFails NameEmpty) empty)))
+    (λ named more. with_details_err (told_details pairs) (alive_with pairs) error more (ReasonForPacket error (first ∷ bytes))
+    (λ address is. subst (λ f. ReasonForPacket f (first ∷ bytes)) is (inl (type, begins (AliveFails BadAddress) (named, address))))
+    (λ address versions is. subst (λ f. ReasonForPacket f (first ∷ bytes)) is (inl (type, begins (AliveFails BadVersions) (named, (address, versions)))))))
 
 -- a suspect or dead message, whose only check is that of its name
 accusation_refusal : (value : Pairs → PacketValue) (of_slots : Slots → Result PacketValue WireFault)
-    → ((pairs : Pairs) (slots : Slots) → HoldsSlots accusation_layout pairs slots → of_slots slots ≡ with_name (raw_of keys.Node pairs) (Ok (value pairs)))
+    → IsMessage accusation_layout of_slots (λ pairs. with_name (raw_of keys.Node pairs) (Ok (value pairs)))
     → (first : ℕ) (bytes : List ℕ) (error : WireFault) → error ≢ Memory → (first ≡ 3) ⊎ (first ≡ 5)
-    → (map_at accusation_layout >>= (λ slots. checked (of_slots slots))) bytes ≡ refused PacketValue error
-    → ReasonForPacket error (first ∷ bytes)
-accusation_refusal value of_slots same first bytes error other type e =
-    then_err (map_at accusation_layout bytes) (λ slots. checked (of_slots slots)) error e (ReasonForPacket error (first ∷ bytes))
-    (λ map. explained_by_map error (first ∷ bytes) other (map_refusal accusation_layout bytes error map))
-    (λ slots mid ok check. failing slots mid (map_takes accusation_layout bytes slots mid accusation_legal ok) (checked_err (of_slots slots) mid error check))
-  where
-    failing : (slots : Slots) (mid : List ℕ) → (m : List ℕ) × (pairs : Pairs) × MapText accusation_layout m pairs ×
-        (bytes ≡ m ++ mid) × HoldsSlots accusation_layout pairs slots
-        → of_slots slots ≡ failed PacketValue error → ReasonForPacket error (first ∷ bytes)
-    failing slots mid m fails =
-        with_name_err (raw_of keys.Node m.1) (passed (value m.1)) error (sym (same m.1 slots m.4) ∙ fails) (ReasonForPacket error (first ∷ bytes))
-        (λ empty is. subst (λ f. ReasonForPacket f (first ∷ bytes)) is
-        (inr (type, record { map_text = m.0; pairs = m.1; rest = mid; text = m.2; parts = m.3; failing = empty })))
-        (λ named more. absurd cc)
+    → message_at accusation_layout of_slots bytes ≡ refused PacketValue error → ReasonForPacket error (first ∷ bytes)
+accusation_refusal value of_slots message first bytes error other type e =
+    message_refusal message bytes error e (ReasonForPacket error (first ∷ bytes)) (λ map. (no_more error (first ∷ bytes) other map).0)
+    (λ pairs fails begins. with_name_err (raw_of keys.Node pairs) (passed (value pairs)) error fails (ReasonForPacket error (first ∷ bytes))
+    (λ empty is. subst (λ f. ReasonForPacket f (first ∷ bytes)) is (inr (type, begins (AccusationFails NameEmpty) empty))) (λ named more. absurd cc))
 
 ended : (error : WireFault) → Ended ≡ error → ReasonForPacket error []
 ended error is = subst (λ f. ReasonForPacket f []) is tt
@@ -239,12 +187,12 @@ packet_refusal (first ∷ bytes) error other e =
     P reading = reading bytes ≡ refused PacketValue error → ReasonForPacket error (first ∷ bytes)
 
     suspects : (first ≡ 3) ⊎ (first ≡ 5) → P suspect_at
-    suspects type = accusation_refusal suspect_packet suspect_of suspect_same first bytes error other type
+    suspects type = accusation_refusal suspect_packet suspect_of suspect_message first bytes error other type
 
     deads : (first ≡ 3) ⊎ (first ≡ 5) → P dead_at
     deads type =
         accusation_refusal (λ pairs. dead_packet (bytes_eq (raw_of keys.From pairs) (raw_of keys.Node pairs)) pairs)
-        dead_of dead_same first bytes error other type
+        dead_of dead_message first bytes error other type
 
 -- ---- packets with nothing after them
 
