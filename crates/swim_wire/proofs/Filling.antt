@@ -91,7 +91,7 @@ fills_hold layout slots (pair ∷ pairs) out distinct room fills place inside =
         let differ : place ≢ fills.0 = λ same. false≢true (sym t ∙ key_same (key_in layout place) pair.0 (ap (key_in layout) same ∙ first.here)) in
         later ∙ ap (or_kept (of_key (key_in layout place) pairs)) (get_or-set_other slots fills.0 place (Some pair.1) None differ)
 
-no_slot : (place : ℕ) → slot no_slots place ≡ None
+pub no_slot : (place : ℕ) → slot no_slots place ≡ None
 no_slot zero = refl
 no_slot (suc zero) = refl
 no_slot (suc (suc zero)) = refl

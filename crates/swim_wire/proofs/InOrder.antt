@@ -1,6 +1,6 @@
 -- Maps that have all their keys in alphabetical order, and their fields.
-use Rattle.std.proofs.Common.{◌≡◌, ℕ, suc, ◌<◌, ◌≤◌, Bool, List, [], ◌∷◌, ◌++◌, length, take, drop, Option, Some, None, Result, Ok, Err, refl, sym, ap, ◌∙◌, arith}
-use Rattle.std.proofs.lemmas.List.{length-append, take-append-drop}
+use Rattle.std.proofs.Common.{◌≡◌, ℕ, suc, ◌+◌, ◌<◌, ◌≤◌, true, eqb, eqb-true, List, [], ◌∷◌, ◌++◌, length, take, drop, Option, Some, None, Result, Ok, Err, refl, sym, ap, ◌∙◌, get_or-set_other, arith}
+use Rattle.std.proofs.lemmas.List.{length-append, nil_from_length, take-append-drop}
 use Rattle.std.specs.Prelude.{slice_set, IfSome}
 use Rattle.swim_claim.specs.declared.claim.Claim.{Claim}
 use Rattle.swim_pack.specs.Spelling.{raw_text, Count as counts}
@@ -8,12 +8,12 @@ use Rattle.swim_pack.proofs.Canonical.{raw_text_is}
 use Rattle.swim_pack.proofs.Numbers.{raw_again, count_again}
 use Rattle.swim_wire.specs.declared.fault.WireFault.{WireFault}
 use Rattle.swim_wire.specs.declared.stream.Header.{Header}
-use Rattle.swim_wire.specs.InOrder.{state_slots, alive_slots, accusation_slots, header_slots}
-use Rattle.swim_wire.specs.Layout.{Layout, Spelled, alive_layout, accusation_layout, header_layout, state_layout}
-use Rattle.swim_wire.specs.Layout.Spelled.{number, raw, flag}
-use Rattle.swim_wire.specs.Reading.{nothing_after, checked, alive_of, alive_at, suspect_of, suspect_at, dead_of, dead_at, packet_at, whole_packet, state_of, Slots, slot, value_at, limit_at, key_at, pair_at, pairs_at, no_slots, map_at, state_at, header_of, header_at}
-use Rattle.swim_wire.proofs.Keys.{IsLegalLayout, key_in, all_at, own_place, alive_legal, accusation_legal, header_legal, state_legal}
+use Rattle.swim_wire.specs.Layout.{Layout, Spelled, header_layout, state_layout}
+use Rattle.swim_wire.specs.Reading.{nothing_after, checked, state_of, Slots, slot, value_at, limit_at, key_at, pair_at, pairs_at, no_slots, map_at, state_at, header_of, header_at}
+use Rattle.swim_wire.proofs.Filling.{no_slot}
+use Rattle.swim_wire.proofs.Keys.{IsLegalLayout, key_in, all_at, own_place, header_legal, state_legal}
 use Rattle.swim_wire.proofs.Maps.{map_takes}
+use Rattle.swim_wire.proofs.Messages.{message_at}
 use Rattle.swim_wire.proofs.Readings.{read}
 
 -- the bytes are their prefix and what is after it
@@ -37,85 +37,35 @@ abbrev pub Behind : List ℕ → Layout → ℕ → List ℕ → Spelled → Lis
 Behind front layout place bytes value rest =
     (mid : List ℕ) × (bytes ≡ front ++ (raw_text (key_in layout place) ++ mid)) × (value_at (limit_at layout place) mid ≡ read value rest)
 
--- a pair, and then the others
-pairs_in_order : (layout : Layout) (n : ℕ) (slots : Slots) (place : ℕ) (bytes rest : List ℕ) (value : Spelled) (out : Slots) (end : List ℕ)
-    → IsLegalLayout layout → place < length layout → slot slots place ≡ None → Behind [] layout place bytes value rest
-    → pairs_at layout n (slice_set slots place (Some value)) rest ≡ read out end
-    → pairs_at layout (suc n) slots bytes ≡ read out end
+-- the last n keys of the layout, each after the value before it, fill the slots from this index on
+pub record InOrder (layout : Layout) (place n : ℕ) (slots : Slots) (bytes : List ℕ) (out : Slots) (rest : List ℕ) : Type 0 where
+  by : IsLegalLayout layout → place + n ≤ length layout → ((k : ℕ) → place ≤ k → slot slots k ≡ None) → pairs_at layout n slots bytes ≡ read out rest
+
+pub done : {layout : Layout} {place : ℕ} {slots : Slots} {rest : List ℕ} → InOrder layout place 0 slots rest slots rest
 unfolding pairs_at
-pairs_in_order layout n slots place bytes rest value out end legal inside vacant pair more =
-    rw (pair_in_order layout slots place bytes pair.0 rest value legal inside vacant pair.1 pair.2) more
+done = record { by = λ legal few vacant. refl }
 
--- ---- maps
+-- a pair, and then the others
+pub next : {layout : Layout} {place n : ℕ} {slots out : Slots} {bytes mid rest : List ℕ} {value : Spelled} → Behind [] layout place bytes value mid
+    → InOrder layout (suc place) n (slice_set slots place (Some value)) mid out rest → InOrder layout place (suc n) slots bytes out rest
+unfolding pairs_at
+next {layout} {place} {n} {slots} {out} {bytes} {mid} {rest} {value} pair more = record {
+  by = λ legal few vacant.
+      rw (pair_in_order layout slots place bytes pair.0 mid value legal (omega arith) (vacant place (omega arith)) pair.1 pair.2)
+      (more.by legal (omega arith) (λ k later. get_or-set_other slots place k (Some value) None (λ same. absurd (omega arith)) ∙ vacant k (omega arith)));
+}
 
--- a state record
-pub state_map : (bytes b1 b2 b3 b4 b5 b6 rest addr meta name vsn : List ℕ) (inc port state : ℕ)
-    → Behind (0x87 ∷ []) state_layout 0 bytes (raw addr) b1 → Behind [] state_layout 1 b1 (number inc) b2
-    → Behind [] state_layout 2 b2 (raw meta) b3 → Behind [] state_layout 3 b3 (raw name) b4 → Behind [] state_layout 4 b4 (number port) b5
-    → Behind [] state_layout 5 b5 (number state) b6 → Behind [] state_layout 6 b6 (raw vsn) rest
-    → map_at state_layout bytes ≡ read (state_slots addr inc meta name port state vsn) rest
-unfolding map_at pairs_at
-state_map bytes b1 b2 b3 b4 b5 b6 rest addr meta name vsn inc port state first second third fourth fifth sixth seventh =
-    let out = state_slots addr inc meta name port state vsn in
-    let p6 = pairs_in_order state_layout 0 _ 6 b6 rest (raw vsn) out rest state_legal (omega arith) refl seventh refl in
-    let p5 = pairs_in_order state_layout 1 _ 5 b5 b6 (number state) out rest state_legal (omega arith) refl sixth p6 in
-    let p4 = pairs_in_order state_layout 2 _ 4 b4 b5 (number port) out rest state_legal (omega arith) refl fifth p5 in
-    let p3 = pairs_in_order state_layout 3 _ 3 b3 b4 (raw name) out rest state_legal (omega arith) refl fourth p4 in
-    let p2 = pairs_in_order state_layout 4 _ 2 b2 b3 (raw meta) out rest state_legal (omega arith) refl third p3 in
-    let p1 = pairs_in_order state_layout 5 _ 1 b1 b2 (number inc) out rest state_legal (omega arith) refl second p2 in
-    let start = raw_text (key_in state_layout 0) ++ first.0 in
-    let p0 = pairs_in_order state_layout 6 no_slots 0 start b1 (raw addr) out rest state_legal (omega arith) refl (first.0, refl, first.2) p1 in
-    let count = count_again 7 (0x87 ∷ []) start 7 (omega arith) (counts.fixmap (omega arith) refl) in
-    rw (first.1, count) p0
-
--- an alive message after its type byte
-pub alive_map : (bytes b1 b2 b3 b4 b5 rest addr meta node vsn : List ℕ) (inc port : ℕ)
-    → Behind (0x86 ∷ []) alive_layout 0 bytes (raw addr) b1 → Behind [] alive_layout 1 b1 (number inc) b2
-    → Behind [] alive_layout 2 b2 (raw meta) b3 → Behind [] alive_layout 3 b3 (raw node) b4 → Behind [] alive_layout 4 b4 (number port) b5
-    → Behind [] alive_layout 5 b5 (raw vsn) rest
-    → map_at alive_layout bytes ≡ read (alive_slots addr inc meta node port vsn) rest
-unfolding map_at pairs_at
-alive_map bytes b1 b2 b3 b4 b5 rest addr meta node vsn inc port first second third fourth fifth sixth =
-    let out = alive_slots addr inc meta node port vsn in
-    let p5 = pairs_in_order alive_layout 0 _ 5 b5 rest (raw vsn) out rest alive_legal (omega arith) refl sixth refl in
-    let p4 = pairs_in_order alive_layout 1 _ 4 b4 b5 (number port) out rest alive_legal (omega arith) refl fifth p5 in
-    let p3 = pairs_in_order alive_layout 2 _ 3 b3 b4 (raw node) out rest alive_legal (omega arith) refl fourth p4 in
-    let p2 = pairs_in_order alive_layout 3 _ 2 b2 b3 (raw meta) out rest alive_legal (omega arith) refl third p3 in
-    let p1 = pairs_in_order alive_layout 4 _ 1 b1 b2 (number inc) out rest alive_legal (omega arith) refl second p2 in
-    let start = raw_text (key_in alive_layout 0) ++ first.0 in
-    let p0 = pairs_in_order alive_layout 5 no_slots 0 start b1 (raw addr) out rest alive_legal (omega arith) refl (first.0, refl, first.2) p1 in
-    let count = count_again 6 (0x86 ∷ []) start 6 (omega arith) (counts.fixmap (omega arith) refl) in
-    rw (first.1, count) p0
-
--- a suspect or dead message after its type byte
-pub accusation_map : (bytes b1 b2 rest from node : List ℕ) (inc : ℕ)
-    → Behind (0x83 ∷ []) accusation_layout 0 bytes (raw from) b1 → Behind [] accusation_layout 1 b1 (number inc) b2
-    → Behind [] accusation_layout 2 b2 (raw node) rest
-    → map_at accusation_layout bytes ≡ read (accusation_slots from inc node) rest
-unfolding map_at pairs_at
-accusation_map bytes b1 b2 rest from node inc first second third =
-    let out = accusation_slots from inc node in
-    let p2 = pairs_in_order accusation_layout 0 _ 2 b2 rest (raw node) out rest accusation_legal (omega arith) refl third refl in
-    let p1 = pairs_in_order accusation_layout 1 _ 1 b1 b2 (number inc) out rest accusation_legal (omega arith) refl second p2 in
-    let start = raw_text (key_in accusation_layout 0) ++ first.0 in
-    let p0 = pairs_in_order accusation_layout 2 no_slots 0 start b1 (raw from) out rest accusation_legal (omega arith) refl (first.0, refl, first.2) p1 in
-    let count = count_again 3 (0x83 ∷ []) start 3 (omega arith) (counts.fixmap (omega arith) refl) in
-    rw (first.1, count) p0
-
--- a header, type byte included
-pub header_map : (bytes b1 b2 rest : List ℕ) (join : Bool) (nodes user_len : ℕ)
-    → Behind (6 ∷ 0x83 ∷ []) header_layout 0 bytes (flag join) b1 → Behind [] header_layout 1 b1 (number nodes) b2
-    → Behind [] header_layout 2 b2 (number user_len) rest
-    → (body : List ℕ) × (bytes ≡ 6 ∷ body) × (map_at header_layout body ≡ read (header_slots join nodes user_len) rest)
-unfolding map_at pairs_at
-header_map bytes b1 b2 rest join nodes user_len first second third =
-    let out = header_slots join nodes user_len in
-    let p2 = pairs_in_order header_layout 0 _ 2 b2 rest (number user_len) out rest header_legal (omega arith) refl third refl in
-    let p1 = pairs_in_order header_layout 1 _ 1 b1 b2 (number nodes) out rest header_legal (omega arith) refl second p2 in
-    let start = raw_text (key_in header_layout 0) ++ first.0 in
-    let p0 = pairs_in_order header_layout 2 no_slots 0 start b1 (flag join) out rest header_legal (omega arith) refl (first.0, refl, first.2) p1 in
-    let count = count_again 3 (0x83 ∷ []) start 3 (omega arith) (counts.fixmap (omega arith) refl) in
-    (0x83 ∷ start, first.1, rw count p0)
+-- a map of fewer than 16 pairs, after their count in one byte
+pub map_in_order : {layout : Layout} {n : ℕ} {bytes mid rest : List ℕ} {value : Spelled} {out : Slots} → IsLegalLayout layout → length layout ≡ suc n
+    → Behind ((0x80 + suc n) ∷ []) layout 0 bytes value mid → InOrder layout 1 n (slice_set no_slots 0 (Some value)) mid out rest
+    → map_at layout bytes ≡ read out rest
+unfolding map_at
+map_in_order {layout} {n} {bytes} {mid} {rest} {value} {out} legal all first more =
+    let few = legal.few in
+    let start = raw_text (key_in layout 0) ++ first.0 in
+    let whole : InOrder layout 0 (suc n) no_slots start out rest = next (first.0, refl, first.2) more in
+    let count = count_again (length layout) ((0x80 + suc n) ∷ []) start (suc n) (omega (arith, all)) (counts.fixmap (omega (arith, few, all)) refl) in
+    rw (first.1, count) (whole.by legal (omega (arith, all)) (λ k _. no_slot k))
 
 -- ---- what is after them is shorter
 
@@ -138,32 +88,13 @@ checked_alone (Ok x) = refl
 checked_alone (Err error) = refl
 
 -- those of a map with nothing after it
-pub alive_told : (body rest : List ℕ) (slots : Slots) → map_at alive_layout body ≡ read slots rest → rest ≡ [] → nothing_after (alive_at body) ≡ alive_of slots
-unfolding alive_at
-alive_told body rest slots e none = rw (e, none) (checked_alone (alive_of slots))
+pub map_told : {A : Type 0} (layout : Layout) (of_slots : Slots → Result A WireFault) (body rest : List ℕ) (slots : Slots)
+    → map_at layout body ≡ read slots rest → eqb (length rest) 0 ≡ true → nothing_after (message_at layout of_slots body) ≡ of_slots slots
+map_told layout of_slots body rest slots e none = rw (e, nil_from_length rest (eqb-true _ _ none)) (checked_alone (of_slots slots))
 
-pub suspect_told : (body rest : List ℕ) (slots : Slots) → map_at accusation_layout body ≡ read slots rest → rest ≡ []
-    → nothing_after (suspect_at body) ≡ suspect_of slots
-unfolding suspect_at
-suspect_told body rest slots e none = rw (e, none) (checked_alone (suspect_of slots))
-
-pub dead_told : (body rest : List ℕ) (slots : Slots) → map_at accusation_layout body ≡ read slots rest → rest ≡ []
-    → nothing_after (dead_at body) ≡ dead_of slots
-unfolding dead_at
-dead_told body rest slots e none = rw (e, none) (checked_alone (dead_of slots))
-
--- after its type byte
-pub packet_of_alive : (bytes body : List ℕ) → bytes ≡ 4 ∷ body → whole_packet bytes ≡ nothing_after (alive_at body)
-unfolding packet_at
-packet_of_alive bytes body first = rw first refl
-
-pub packet_of_suspect : (bytes body : List ℕ) → bytes ≡ 3 ∷ body → whole_packet bytes ≡ nothing_after (suspect_at body)
-unfolding packet_at
-packet_of_suspect bytes body first = rw first refl
-
-pub packet_of_dead : (bytes body : List ℕ) → bytes ≡ 5 ∷ body → whole_packet bytes ≡ nothing_after (dead_at body)
-unfolding packet_at
-packet_of_dead bytes body first = rw first refl
+-- the type byte
+pub type_is : {bytes body : List ℕ} {first : ℕ} (type : ℕ) → bytes ≡ first ∷ body → first ≡ type → bytes ≡ type ∷ body
+type_is {body} type split is = split ∙ ap (λ (n : ℕ). n ∷ body) is
 
 pub state_told : (bytes rest : List ℕ) (slots : Slots) (claim : Claim) → map_at state_layout bytes ≡ read slots rest
     → state_of slots ≡ Ok claim → state_at bytes ≡ read claim rest

@@ -1,9 +1,11 @@
+use Rattle.std.proofs.Common.{refl}
 use Rattle.swim_pack.specs.Spelling.{raw_text}
-use Rattle.swim_wire.proofs.InOrder.{alive_map}
+use Rattle.swim_wire.proofs.InOrder.{map_in_order, next, done}
+use Rattle.swim_wire.proofs.Keys.{alive_legal}
 use Rattle.swim_wire.proofs.in_order.alive_in_order.Goals as goal
 
 pub returns-clause-reads : goal.returns-clause-reads
 unfolding raw_text
 returns-clause-reads c =
-    alive_map _ _ _ _ _ _ _ _ _ _ _ _ _ c.in_ok-addr.ensures.reads c.in_ok-incarnation.ensures.reads c.in_ok-meta.ensures.reads c.in_ok-node.ensures.reads
-    c.in_ok-port.ensures.reads c.in_ok-vsn.ensures.reads
+    map_in_order alive_legal refl c.in_ok-addr.ensures.reads (next c.in_ok-incarnation.ensures.reads (next c.in_ok-meta.ensures.reads
+    (next c.in_ok-node.ensures.reads (next c.in_ok-port.ensures.reads (next c.in_ok-vsn.ensures.reads done)))))

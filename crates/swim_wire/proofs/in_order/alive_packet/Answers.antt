@@ -1,16 +1,16 @@
 use Rattle.std.proofs.Common.{sym, ◌∙◌, arith}
-use Rattle.std.proofs.lemmas.Bool.{eqb-true}
-use Rattle.std.proofs.lemmas.List.{nil_from_length}
 use Rattle.swim_wire.specs.Layout.{alive_layout}
+use Rattle.swim_wire.specs.Reading.{alive_of, alive_at}
 use Rattle.swim_wire.proofs.Asking.{body_asks}
-use Rattle.swim_wire.proofs.InOrder.{alive_told}
+use Rattle.swim_wire.proofs.InOrder.{map_told}
 use Rattle.swim_wire.proofs.Keys.{alive_legal}
 use Rattle.swim_wire.proofs.in_order.alive_packet.Goals as goal
 
 pub returns-then-is_empty-clause-answers : goal.returns-then-is_empty-clause-answers
+unfolding alive_at
 returns-then-is_empty-clause-answers c =
-    let none = nil_from_length c.in_ok-alive.rest.now (eqb-true _ _ (sym c.is_empty.ensures ∙ c.if-is_empty.true)) in
-    rw (alive_told c.args.body.now c.in_ok-alive.rest.now _ c.in_ok-alive.ensures.reads none) c.packet_of_alive.ensures.answers
+    rw (map_told alive_layout alive_of c.args.body.now c.in_ok-alive.rest.now _ c.in_ok-alive.ensures.reads (sym c.is_empty.ensures ∙ c.if-is_empty.true))
+    c.packet_of_alive.ensures.answers
 
 pub returns-then-is_empty-clause-memory : goal.returns-then-is_empty-clause-memory
 returns-then-is_empty-clause-memory c = λ is.
