@@ -1,6 +1,5 @@
 -- The canonical bytes of a map encode it.
-use Rattle.std.proofs.Common.{◌≡◌, ℕ, ◌<◌, ◌≤◌, ◌^◌, false, List, [], ◌∷◌, length, map, Some, refl, arith}
-use Rattle.std.proofs.lemmas.Map.Keys.{IsDistinct-from_apart, IsDistinct-cons}
+use Rattle.std.proofs.Common.{◌≡◌, ℕ, ◌<◌, ◌≤◌, ◌^◌, List, [], ◌∷◌, length, map, Some, refl}
 use Rattle.std.specs.List.{flat_map, AllByRecursion, IsDistinct}
 use Rattle.std.specs.Str.{bytes_eq}
 use Rattle.swim_pack.specs.Spelling.{raw_text, count_text}
@@ -52,22 +51,13 @@ PairTexts-canonical layout [] h = refl
 PairTexts-canonical layout (pair ∷ pairs) h =
     (pair_text pair, flat_map pair_text pairs, PairText-canonical layout pair h.0, PairTexts-canonical layout pairs h.1, refl)
 
--- no key is equal to one after it
-abbrev pub AreApart : List (List ℕ) → Type 0
-AreApart [] = Unit {0}
-AreApart (key ∷ keys) = AllByRecursion (λ other. bytes_eq key other ≡ false) keys × AreApart keys
-
-pub IsDistinct-from_recursion : (keys : List (List ℕ)) → AreApart keys → IsDistinct bytes_eq keys
-IsDistinct-from_recursion [] h = IsDistinct-from_apart bytes_eq [] (λ i j d before in_range. absurd (omega arith))
-IsDistinct-from_recursion (key ∷ keys) h = IsDistinct-cons bytes_eq key keys h.0 (IsDistinct-from_recursion keys h.1)
-
 pub MapText-canonical : (layout : Layout) (pairs : Pairs) → length pairs < 16 → AllByRecursion (IsPairOf layout) pairs
-    → AreApart (map (λ pair. pair.0) pairs) → MapText layout (map_text pairs) pairs
-MapText-canonical layout pairs few within apart = record {
+    → IsDistinct bytes_eq (map (λ pair. pair.0) pairs) → MapText layout (map_text pairs) pairs
+MapText-canonical layout pairs few within distinct = record {
   count_text = count_text (length pairs);
   pairs_text = flat_map pair_text pairs;
   count = count_text_is (length pairs) few;
   each = PairTexts-canonical layout pairs within;
-  distinct = IsDistinct-from_recursion (map (λ pair. pair.0) pairs) apart;
+  distinct = distinct;
   text = refl;
 }

@@ -16,6 +16,7 @@ use Rattle.swim_wire.specs.Layout.Spelled.{number, raw, flag}
 use Rattle.swim_wire.specs.Packet.{PacketValue, IsLegalPacket}
 use Rattle.swim_wire.specs.Pairs.{map_text}
 use Rattle.swim_wire.specs.Texts.{PacketText, PacketText as packets, HeaderText, StateText, IsStateOf, IsStateOf as states}
+use Rattle.swim_wire.proofs.Keys.{alive_legal, accusation_legal, header_legal, state_legal}
 use Rattle.swim_wire.proofs.SpelledMaps.{IsPairOf, MapText-canonical}
 use Rattle.swim_wire.proofs.SpelledPairs.{alive_pairs, accusation_pairs, header_pairs, record_pairs, alive_bytes-pairs, accusation_bytes-pairs, header_bytes-pairs, record_bytes-pairs}
 
@@ -40,14 +41,10 @@ not_empty s least e = absurd (omega (arith, ap length e))
 
 header_map : (h : Header) → h.nodes ≤ 131072 → h.user_len ≤ 20971520 → MapText header_layout (map_text (header_pairs h)) (header_pairs h)
 header_map h few short =
-    MapText-canonical header_layout (header_pairs h) (lit< tt) (
-      flag_within header_layout (key_text keys.Join) h.join refl (lit< tt),
-      (
-        number_within header_layout (key_text keys.Nodes) 0xffff_ffff_ffff_ffff h.nodes refl (lit< tt) (omega arith) (lit< tt),
-        (number_within header_layout (key_text keys.UserStateLen) 0xffff_ffff_ffff_ffff h.user_len refl (lit< tt) (omega arith) (lit< tt), tt),
-      ),
-    )
-    ((refl, (refl, tt)), ((refl, tt), (tt, tt)))
+    let join = flag_within header_layout (key_text keys.Join) h.join refl (lit< tt) in
+    let nodes = number_within header_layout (key_text keys.Nodes) 0xffff_ffff_ffff_ffff h.nodes refl (lit< tt) (omega arith) (lit< tt) in
+    let user = number_within header_layout (key_text keys.UserStateLen) 0xffff_ffff_ffff_ffff h.user_len refl (lit< tt) (omega arith) (lit< tt) in
+    MapText-canonical header_layout (header_pairs h) (lit< tt) (join, (nodes, (user, tt))) header_legal.distinct
 
 pub HeaderText-canonical : (h : Header) → h.nodes ≤ 131072 → h.user_len ≤ 20971520 → HeaderText (header_bytes h) h
 HeaderText-canonical h few short = record {
@@ -83,35 +80,16 @@ Fits-none = record { addr = lit≤ tt; port = lit≤ tt; meta = lit≤ tt; vsn =
 record_map : (name : List ℕ) (inc state : ℕ) (details : DetailsValue) → length name ≤ 1024 → inc < 2 ^ 32 → state < 4 → Fits details
     → MapText state_layout (record_bytes name inc state details) (record_pairs name inc state details)
 record_map name inc state details most inc_fits state_fits fits =
+    let addr = raw_within state_layout (key_text keys.Addr) 16 details.addr refl (lit< tt) fits.addr (lit< tt) in
+    let incarnation = number_within state_layout (key_text keys.Incarnation) 0xffff_ffff inc refl (lit< tt) (omega arith) (lit< tt) in
+    let meta = raw_within state_layout (key_text keys.Meta) 512 details.meta refl (lit< tt) fits.meta (lit< tt) in
+    let named = raw_within state_layout (key_text keys.Name) 1024 name refl (lit< tt) most (lit< tt) in
+    let port = number_within state_layout (key_text keys.Port) 0xffff details.port refl (lit< tt) fits.port (lit< tt) in
+    let known = number_within state_layout (key_text keys.State) 0xffff_ffff_ffff_ffff state refl (lit< tt) (omega arith) (lit< tt) in
+    let vsn = raw_within state_layout (key_text keys.Vsn) 6 details.vsn refl (lit< tt) fits.vsn (lit< tt) in
     rw (record_bytes-pairs name inc state details)
-    (MapText-canonical state_layout (record_pairs name inc state details) (lit< tt) (
-      raw_within state_layout (key_text keys.Addr) 16 details.addr refl (lit< tt) fits.addr (lit< tt),
-      (
-        number_within state_layout (key_text keys.Incarnation) 0xffff_ffff inc refl (lit< tt) (omega arith) (lit< tt),
-        (
-          raw_within state_layout (key_text keys.Meta) 512 details.meta refl (lit< tt) fits.meta (lit< tt),
-          (
-            raw_within state_layout (key_text keys.Name) 1024 name refl (lit< tt) most (lit< tt),
-            (
-              number_within state_layout (key_text keys.Port) 0xffff details.port refl (lit< tt) fits.port (lit< tt),
-              (
-                number_within state_layout (key_text keys.State) 0xffff_ffff_ffff_ffff state refl (lit< tt) (omega arith) (lit< tt),
-                (raw_within state_layout (key_text keys.Vsn) 6 details.vsn refl (lit< tt) fits.vsn (lit< tt), tt),
-              ),
-            ),
-          ),
-        ),
-      ),
-    ) (
-      (refl, (refl, (refl, (refl, (refl, (refl, tt)))))),
-      (
-        (refl, (refl, (refl, (refl, (refl, tt))))),
-        (
-          (refl, (refl, (refl, (refl, tt)))),
-          ((refl, (refl, (refl, tt))), ((refl, (refl, tt)), ((refl, tt), (tt, tt)))),
-        ),
-      ),
-    ))
+    (MapText-canonical state_layout (record_pairs name inc state details) (lit< tt)
+    (addr, (incarnation, (meta, (named, (port, (known, (vsn, tt))))))) state_legal.distinct)
 
 state_text : (c : Claim) (name : List ℕ) (inc state : ℕ) (details : DetailsValue) → IsLegalName name → inc < 2 ^ 32 → state < 4 → Fits details
     → IsStateOf (record_pairs name inc state details) c → StateText (record_bytes name inc state details) c
@@ -149,40 +127,21 @@ StateText-beside (Leave name inc) details legal fits = StateText-with details (L
 alive_map : (name : List ℕ) (inc : ℕ) (details : DetailsValue) → length name ≤ 1024 → inc < 2 ^ 32 → Fits details
     → MapText alive_layout (map_text (alive_pairs name inc details)) (alive_pairs name inc details)
 alive_map name inc details most inc_fits fits =
-    MapText-canonical alive_layout (alive_pairs name inc details) (lit< tt) (
-      raw_within alive_layout (key_text keys.Addr) 16 details.addr refl (lit< tt) fits.addr (lit< tt),
-      (
-        number_within alive_layout (key_text keys.Incarnation) 0xffff_ffff inc refl (lit< tt) (omega arith) (lit< tt),
-        (
-          raw_within alive_layout (key_text keys.Meta) 512 details.meta refl (lit< tt) fits.meta (lit< tt),
-          (
-            raw_within alive_layout (key_text keys.Node) 1024 name refl (lit< tt) most (lit< tt),
-            (
-              number_within alive_layout (key_text keys.Port) 0xffff details.port refl (lit< tt) fits.port (lit< tt),
-              (raw_within alive_layout (key_text keys.Vsn) 6 details.vsn refl (lit< tt) fits.vsn (lit< tt), tt),
-            ),
-          ),
-        ),
-      ),
-    ) (
-      (refl, (refl, (refl, (refl, (refl, tt))))),
-      (
-        (refl, (refl, (refl, (refl, tt)))),
-        ((refl, (refl, (refl, tt))), ((refl, (refl, tt)), ((refl, tt), (tt, tt)))),
-      ),
-    )
+    let addr = raw_within alive_layout (key_text keys.Addr) 16 details.addr refl (lit< tt) fits.addr (lit< tt) in
+    let incarnation = number_within alive_layout (key_text keys.Incarnation) 0xffff_ffff inc refl (lit< tt) (omega arith) (lit< tt) in
+    let meta = raw_within alive_layout (key_text keys.Meta) 512 details.meta refl (lit< tt) fits.meta (lit< tt) in
+    let node = raw_within alive_layout (key_text keys.Node) 1024 name refl (lit< tt) most (lit< tt) in
+    let port = number_within alive_layout (key_text keys.Port) 0xffff details.port refl (lit< tt) fits.port (lit< tt) in
+    let vsn = raw_within alive_layout (key_text keys.Vsn) 6 details.vsn refl (lit< tt) fits.vsn (lit< tt) in
+    MapText-canonical alive_layout (alive_pairs name inc details) (lit< tt) (addr, (incarnation, (meta, (node, (port, (vsn, tt)))))) alive_legal.distinct
 
 accusation_map : (name : List ℕ) (inc : ℕ) (from : List ℕ) → length name ≤ 1024 → inc < 2 ^ 32 → length from ≤ 1024
     → MapText accusation_layout (map_text (accusation_pairs name inc from)) (accusation_pairs name inc from)
 accusation_map name inc from most inc_fits from_most =
-    MapText-canonical accusation_layout (accusation_pairs name inc from) (lit< tt) (
-      raw_within accusation_layout (key_text keys.From) 1024 from refl (lit< tt) from_most (lit< tt),
-      (
-        number_within accusation_layout (key_text keys.Incarnation) 0xffff_ffff inc refl (lit< tt) (omega arith) (lit< tt),
-        (raw_within accusation_layout (key_text keys.Node) 1024 name refl (lit< tt) most (lit< tt), tt),
-      ),
-    )
-    ((refl, (refl, tt)), ((refl, tt), (tt, tt)))
+    let accuser = raw_within accusation_layout (key_text keys.From) 1024 from refl (lit< tt) from_most (lit< tt) in
+    let incarnation = number_within accusation_layout (key_text keys.Incarnation) 0xffff_ffff inc refl (lit< tt) (omega arith) (lit< tt) in
+    let node = raw_within accusation_layout (key_text keys.Node) 1024 name refl (lit< tt) most (lit< tt) in
+    MapText-canonical accusation_layout (accusation_pairs name inc from) (lit< tt) (accuser, (incarnation, (node, tt))) accusation_legal.distinct
 
 claim_text : (c : Claim) (from : List ℕ) → IsLegalClaim c → IsLegalPacket c from → PacketText (claim_bytes c from) (record { claim = c; from = from })
 claim_text (Alive name inc details) from legal made =
