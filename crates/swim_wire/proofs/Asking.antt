@@ -1,6 +1,7 @@
 -- Where a read of a message requests memory.
 use Rattle.std.proofs.Common.{◌≡◌, ◌≢◌, inl, inr, ℕ, zero, suc, ◌-◌, ◌<◌, ◌≤◌, Bool, true, false, cond, List, [], ◌∷◌, ◌++◌, length, Option, Some, None, Result, Ok, Err, refl, sym, ap, subst, ◌∙◌, append_assoc, append-nil, arith}
-use Rattle.std.specs.Prelude.{IfSome, slice_index_or, ⊤}
+use Rattle.std.proofs.lemmas.Result.{err_from_is_err_and}
+use Rattle.std.specs.Prelude.{IfSome, IsErrAnd, slice_index_or, ⊤}
 use Rattle.std.specs.Str.{bytes_eq}
 use Rattle.swim_claim.specs.declared.claim.Claim.{Claim}
 use Rattle.swim_pack.specs.Ends.{Source, ConsumesKnownText, Begins}
@@ -26,7 +27,7 @@ use Rattle.swim_wire.specs.Packet.{PacketValue}
 use Rattle.swim_wire.specs.Slots.{layout_of}
 use Rattle.swim_wire.specs.Texts.{PacketText, StateText}
 use Rattle.swim_wire.specs.Texts.PacketText.{alive, suspect, leave, confirm}
-use Rattle.swim_wire.proofs.Keys.{IsLegalLayout, key_in, first_from_place, limit_from_first}
+use Rattle.swim_wire.proofs.Keys.{IsLegalLayout, key_in, first_from_place, limit_from_first, some_is}
 use Rattle.swim_wire.proofs.Maps.{pair_takes, map_takes, pairs_few}
 use Rattle.swim_wire.proofs.PairReads.{limit_is}
 use Rattle.swim_wire.proofs.Readings.{read, read_value, read_rest, parts_to, then_ok, lift_ok, some_ok}
@@ -39,6 +40,13 @@ pub same_fault : {X Y : Type 0} (fault wanted : WireFault) → refused X fault �
 same_fault {X} {Y} fault wanted is =
     let same : fault ≡ wanted = cc in
     ap (refused Y) same
+
+-- the exit of a `?`
+pub fault_exits : {X Y P : Type 0} {error wanted : WireFault} (r : Result Y WireFault) → IsErrAnd r (λ y. y ≡ error)
+    → (refused X error ≡ refused X wanted → P) → r ≡ refused Y wanted → P
+fault_exits r exits h is =
+    let p = err_from_is_err_and r exits in
+    h (same_fault _ _ (ap (refused _) (sym p.2) ∙ sym p.1 ∙ is))
 
 -- if the remaining bytes request memory, so do the original ones
 pub Reads-asks : {E X V : Type 0} {cause : E → Cause} {view : X → V} {reading : composing.Reading E V} {a b : Source} {x : X} (P Q : List ℕ → Type 0)
@@ -141,9 +149,6 @@ text_asks layout b rest s pair is text = record {
 no_value : {A : Type 0} (x : A) → None ≡ Some x → ⊥
 no_value x e = cc
 
-some_value : (x y : Spelled) → Some x ≡ Some y → x ≡ y
-some_value x y e = cc
-
 texts_ask : (layout : Layout) (b rest key s : List ℕ) (pairs : Pairs) → PairTexts layout b pairs → of_key key pairs ≡ Some (raw s)
     → PairsAsk layout (length pairs) (b ++ rest)
 texts_ask layout b rest key s [] texts e = absurd (no_value (raw s) e)
@@ -156,7 +161,7 @@ texts_ask layout b rest key s (pair ∷ pairs) texts e = by (bytes_eq key pair.0
         (length pairs) (texts.1 ++ rest))
         → PairsAsk layout (length (pair ∷ pairs)) (b ++ rest)
     by true e later =
-        inl (subst (PairAsks layout) (sym whole) (text_asks layout texts.0 (texts.1 ++ rest) s pair (some_value pair.1 (raw s) e) texts.2))
+        inl (subst (PairAsks layout) (sym whole) (text_asks layout texts.0 (texts.1 ++ rest) s pair (some_is pair.1 (raw s) e) texts.2))
     by false e later = inr (texts.0, texts.1 ++ rest, pair, texts.2, later e, whole)
 
 -- a map with a value of text or bytes, whatever follows it

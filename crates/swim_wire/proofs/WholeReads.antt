@@ -1,17 +1,27 @@
 -- Reads of a map, and then the check of its fields as a whole.
 use Rattle.std.proofs.Common.{◌≡◌, ◌≢◌, ℕ, inl, inr, false, List, Option, Result, Ok, Err, refl, sym, subst, ◌∙◌, arith}
 use Rattle.std.proofs.Common.{if◌then◌else◌, ◌==◌}
+use Rattle.std.proofs.lemmas.Result.{err_from_is_err_and}
+use Rattle.std.specs.Prelude.{IsErrAnd}
 use Rattle.std.proofs.lemmas.Bool.Decides.{nat_tests}
 use Rattle.swim_pack.specs.Ends.{Source}
 use Rattle.swim_pack.specs.Composing.{ReadsAs, same, refuses, ◌>>=◌}
 use Rattle.swim_pack.specs.Composing.Cause.{by_bytes}
-use Rattle.swim_pack.proofs.Composing.{Reads-then, Reads-gives, Reads-refuses, Reads-memory}
+use Rattle.swim_pack.proofs.Composing.{Reads-then, Reads-exit, Reads-gives, Reads-refuses, Reads-memory}
 use Rattle.swim_wire.specs.declared.fault.WireFault.{WireFault}
 use Rattle.swim_wire.specs.declared.fault.WireFault.TheVariants.{WrongType}
 use Rattle.swim_wire.specs.declared.map.Value.{Value}
 use Rattle.swim_wire.specs.Reading.{Reading, Slots, wire_cause, checked, AnswersUnlessMemory}
 use Rattle.swim_wire.specs.Slots.{slots_of}
 use Rattle.swim_wire.proofs.Claimed.{IsCheck, err, memory_cause}
+
+-- the exit of a `?` at the first of two readings
+pub Reads-exits : {X Y V W : Type 0} {view : X → V} {seen : Y → W} {first : Reading V} {a b : Source} {error : WireFault}
+    (next : V → Reading W) (r : Result Y WireFault) → IsErrAnd r (λ y. y ≡ error) → ReadsAs {X = X} wire_cause view first a b (Err error)
+    → ReadsAs wire_cause seen (first >>= next) a b r
+Reads-exits next r exits h =
+    let p = err_from_is_err_and r exits in
+    rw (p.1, p.2) (Reads-exit next h)
 
 -- a map, and then a check that passes
 Reads-passed : {A : Type 0} {a b : Source} {values : List (Option Value)} (reading : Reading Slots) (f : Slots → Result A WireFault) (x : A)

@@ -5,7 +5,7 @@ use Rattle.std.proofs.Common.{ap, ◌∙◌}
 use Rattle.swim_wire.specs.Reading.{nothing_after}
 use Rattle.swim_wire.specs.Datagrams.{parts_at}
 use Rattle.swim_wire.specs.Parts.{lengths_in}
-use Rattle.swim_wire.proofs.Asking.{same_fault}
+use Rattle.swim_wire.proofs.Asking.{fault_exits}
 use Rattle.swim_wire.proofs.DatagramAsking.{part_asks, later_part_asks}
 use Rattle.swim_wire.proofs.Parts.{parts_cut, next_part, wrong_part, all_read, left_over}
 use Rattle.swim_wire.proofs.datagram.decode_parts.Goals as goal
@@ -60,10 +60,10 @@ loop-length-init c =
 
 pub returns-in_err-take_part-clause-memory : goal.returns-in_err-take_part-clause-memory
 returns-in_err-take_part-clause-memory c =
-    let p = err_from_is_err_and c.from_residual.result c.from_residual.ensures.1 in
     let pair = c.in-Some.ensures.cases in
     let sum = pair.2 in
     let le : 2 ≤ length c.loop-length.lengths.now = omega arith in
     let len : c.from-len.result ≡ from_be_bytes w16 c.in-Some.length.now = search rules in
     let parts = c.in-Some-split_at_checked.ensures.cases in
-    rw (p.1, p.2) (λ is. c.loop-length.invariant.1 (part_asks _ _ _ _ _ le pair.0 len parts.0 parts.1 (c.in_err-take_part.ensures.memory (same_fault _ _ is))))
+    fault_exits _ c.from_residual.ensures.1
+    (λ is. c.loop-length.invariant.1 (part_asks _ _ _ _ _ le pair.0 len parts.0 parts.1 (c.in_err-take_part.ensures.memory is)))

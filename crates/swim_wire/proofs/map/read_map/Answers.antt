@@ -2,24 +2,23 @@ use Rattle.std.proofs.Common.{◌≡◌, ◌+◌, ◌-◌, ◌<◌, length, arit
 use Rattle.std.proofs.lemmas.List.{length-map}
 use Rattle.std.proofs.lemmas.Result.{err_from_is_err_and}
 use Rattle.swim_pack.specs.Reading.{count_at}
-use Rattle.swim_pack.proofs.Composing.{Reads-exit}
 use Rattle.swim_wire.specs.declared.layout.Field.{Field}
 use Rattle.swim_wire.specs.Keys.{key_text}
 use Rattle.swim_wire.specs.Reading.{map_at}
 use Rattle.swim_wire.specs.Slots.{layout_of}
-use Rattle.swim_wire.proofs.Asking.{same_fault, map_asks, first_asks, later_asks}
+use Rattle.swim_wire.proofs.Asking.{fault_exits, map_asks, first_asks, later_asks}
 use Rattle.swim_wire.proofs.Fitting.{FitsEach-nones}
 use Rattle.swim_wire.proofs.Lifting.{Wire-err}
 use Rattle.swim_wire.proofs.MapReads.{Completes-start, Completes-pair, Completes-exit, Completes-end}
+use Rattle.swim_wire.proofs.WholeReads.{Reads-exits}
 use Rattle.swim_wire.proofs.map.read_map.Goals as goal
 
 pub returns-in_err-count-clause-exact : goal.returns-in_err-count-clause-exact
 unfolding map_at
 returns-in_err-count-clause-exact g c =
-    let p = err_from_is_err_and c.from_residual.result c.from_residual.ensures.1 in
     let keys : length (layout_of c.args.layout.now) ≡ length c.args.layout.now =
     length-map c.args.layout.now (λ (field : Field). (key_text field.key, field.limit)) in
-    rw (p.1, p.2, keys) (Reads-exit _ (Wire-err c.in_err-count.ensures.exact))
+    rw keys (Reads-exits _ _ c.from_residual.ensures.1 (Wire-err c.in_err-count.ensures.exact))
 
 pub loop-init : goal.loop-init
 unfolding map_at
@@ -39,9 +38,8 @@ returns-in_err-read_pair-clause-exact g c =
 
 pub returns-in_err-read_pair-clause-memory : goal.returns-in_err-read_pair-clause-memory
 returns-in_err-read_pair-clause-memory g c =
-    let p = err_from_is_err_and c.from_residual-in_err-read_pair.result c.from_residual-in_err-read_pair.ensures.1 in
     let left : 0 < c.in_ok-count.count - c.loop.counter = omega arith in
-    rw (p.1, p.2) (λ is. c.loop.invariant.2 (first_asks _ _ _ left (c.in_err-read_pair.ensures.memory (same_fault _ _ is))))
+    fault_exits _ c.from_residual-in_err-read_pair.ensures.1 (λ is. c.loop.invariant.2 (first_asks _ _ _ left (c.in_err-read_pair.ensures.memory is)))
 
 pub loop-preserved : goal.loop-preserved
 loop-preserved g c =

@@ -1,6 +1,6 @@
 use Rattle.std.proofs.Common.{sym, ◌∙◌}
 use Rattle.std.proofs.lemmas.Result.{err_from_is_err_and}
-use Rattle.swim_wire.proofs.Asking.{same_fault, pair_asks}
+use Rattle.swim_wire.proofs.Asking.{fault_exits, pair_asks}
 use Rattle.swim_wire.proofs.Fitting.{FitsEach-set, CanReadEach-at}
 use Rattle.swim_wire.proofs.PairReads.{within_slots, pair_without_key, pair_twice, pair_without_value, pair_read}
 use Rattle.swim_wire.proofs.map.read_pair.Goals as goal
@@ -25,8 +25,8 @@ returns-in_err-read_value-clause-exact g c =
 
 pub returns-in_err-read_value-clause-memory : goal.returns-in_err-read_value-clause-memory
 returns-in_err-read_value-clause-memory g c =
-    let p = err_from_is_err_and c.from_residual-in_err-read_value.result c.from_residual-in_err-read_value.ensures.1 in
-    rw (p.1, p.2) (λ is. pair_asks _ _ _ c.in_ok-place.ensures.within c.in_ok-place.ensures.exact (c.in_err-read_value.ensures.memory (same_fault _ _ is)))
+    fault_exits _ c.from_residual-in_err-read_value.ensures.1
+    (λ is. pair_asks _ _ _ c.in_ok-place.ensures.within c.in_ok-place.ensures.exact (c.in_err-read_value.ensures.memory is))
 
 pub returns-clause-exact : goal.returns-clause-exact
 returns-clause-exact g c =

@@ -1,16 +1,14 @@
 use Rattle.std.proofs.Common.{sym, ◌∙◌, refl}
-use Rattle.std.proofs.lemmas.Result.{err_from_is_err_and}
 use Rattle.swim_wire.specs.Reading.{key_at}
 use Rattle.swim_wire.specs.declared.fault.WireFault.TheVariants.{UnknownKey}
-use Rattle.swim_pack.proofs.Composing.{Reads-then, Reads-exit, Reads-ok_or}
+use Rattle.swim_pack.proofs.Composing.{Reads-then, Reads-ok_or}
 use Rattle.swim_wire.proofs.Places.{place_of-layout}
+use Rattle.swim_wire.proofs.WholeReads.{Reads-exits}
 use Rattle.swim_wire.proofs.map.read_place.Goals as goal
 
 pub returns-in_err-len-clause-exact : goal.returns-in_err-len-clause-exact
 unfolding key_at
-returns-in_err-len-clause-exact g c =
-    let p = err_from_is_err_and c.from_residual.result c.from_residual.ensures.1 in
-    rw (p.1, p.2) (Reads-exit _ c.in_err-len.ensures.exact)
+returns-in_err-len-clause-exact g c = Reads-exits _ _ c.from_residual.ensures.1 c.in_err-len.ensures.exact
 
 pub returns-clause-exact : goal.returns-clause-exact
 unfolding key_at

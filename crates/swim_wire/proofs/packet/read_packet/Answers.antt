@@ -1,19 +1,17 @@
 use Rattle.std.proofs.Common.{◌≡◌, inl, inr, refl, rules}
-use Rattle.std.proofs.lemmas.Result.{err_from_is_err_and}
-use Rattle.swim_pack.proofs.Composing.{Reads-then, Reads-exit, Reads-refuses}
+use Rattle.swim_pack.proofs.Composing.{Reads-then, Reads-refuses}
 use Rattle.swim_pack.specs.Composing.{refuses}
 use Rattle.swim_wire.specs.Asking.{MapAsks}
 use Rattle.swim_wire.specs.Layout.{alive_layout, accusation_layout}
 use Rattle.swim_wire.specs.Reading.{packet_at, packet_after}
 use Rattle.swim_wire.specs.declared.fault.WireFault.TheVariants.{WrongType}
-use Rattle.swim_wire.proofs.Asking.{same_fault, type_asks}
+use Rattle.swim_wire.proofs.Asking.{fault_exits, type_asks}
+use Rattle.swim_wire.proofs.WholeReads.{Reads-exits}
 use Rattle.swim_wire.proofs.packet.read_packet.Goals as goal
 
 pub returns-in_err-found-clause-exact : goal.returns-in_err-found-clause-exact
 unfolding packet_at
-returns-in_err-found-clause-exact g c =
-    let p = err_from_is_err_and c.from_residual.result c.from_residual.ensures.1 in
-    rw (p.1, p.2) (Reads-exit _ c.in_err-found.ensures.exact)
+returns-in_err-found-clause-exact g c = Reads-exits _ _ c.from_residual.ensures.1 c.in_err-found.ensures.exact
 
 pub returns-in-4-clause-exact : goal.returns-in-4-clause-exact
 unfolding packet_at
@@ -34,9 +32,7 @@ unfolding packet_at
 returns-in-5-clause-exact g c = Reads-then packet_after c.in_ok-found.ensures.exact (rw c.in-5.is c.read_dead.ensures.exact)
 
 pub returns-in_err-found-clause-memory : goal.returns-in_err-found-clause-memory
-returns-in_err-found-clause-memory g c =
-    let p = err_from_is_err_and c.from_residual.result c.from_residual.ensures.1 in
-    rw (p.1, p.2) (λ is. absurd (c.in_err-found.ensures.no_memory (same_fault _ _ is)))
+returns-in_err-found-clause-memory g c = fault_exits _ c.from_residual.ensures.1 (λ is. absurd (c.in_err-found.ensures.no_memory is))
 
 pub returns-in-4-clause-memory : goal.returns-in-4-clause-memory
 returns-in-4-clause-memory g c = λ is.

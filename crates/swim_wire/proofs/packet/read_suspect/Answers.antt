@@ -1,20 +1,16 @@
 use Rattle.std.proofs.Common.{◌∙◌, arith}
-use Rattle.std.proofs.lemmas.Result.{err_from_is_err_and}
-use Rattle.swim_pack.proofs.Composing.{Reads-exit}
 use Rattle.swim_wire.specs.Layout.{accusation_layout}
 use Rattle.swim_wire.specs.Message.{slots_of_accusation}
 use Rattle.swim_wire.specs.Reading.{map_at, suspect_at, suspect_of}
-use Rattle.swim_wire.proofs.Asking.{same_fault, read_asks}
+use Rattle.swim_wire.proofs.Asking.{fault_exits, read_asks}
 use Rattle.swim_wire.proofs.Claimed.{suspect_check, suspect_said}
 use Rattle.swim_wire.proofs.Keys.{accusation_legal}
-use Rattle.swim_wire.proofs.WholeReads.{Reads-checked}
+use Rattle.swim_wire.proofs.WholeReads.{Reads-exits, Reads-checked}
 use Rattle.swim_wire.proofs.packet.read_suspect.Goals as goal
 
 pub returns-in_err-values-clause-exact : goal.returns-in_err-values-clause-exact
 unfolding suspect_at
-returns-in_err-values-clause-exact g c =
-    let p = err_from_is_err_and c.from_residual.result c.from_residual.ensures.1 in
-    rw (p.1, p.2) (Reads-exit _ c.in_err-values.ensures.exact)
+returns-in_err-values-clause-exact g c = Reads-exits _ _ c.from_residual.ensures.1 c.in_err-values.ensures.exact
 
 pub returns-clause-exact : goal.returns-clause-exact
 unfolding suspect_at
@@ -23,9 +19,7 @@ returns-clause-exact g c =
     c.packet_of_suspect.ensures.answers c.in_ok-values.ensures.exact
 
 pub returns-in_err-values-clause-memory : goal.returns-in_err-values-clause-memory
-returns-in_err-values-clause-memory g c =
-    let p = err_from_is_err_and c.from_residual.result c.from_residual.ensures.1 in
-    rw (p.1, p.2) (λ is. c.in_err-values.ensures.memory (same_fault _ _ is))
+returns-in_err-values-clause-memory g c = fault_exits _ c.from_residual.ensures.1 c.in_err-values.ensures.memory
 
 pub returns-clause-memory : goal.returns-clause-memory
 returns-clause-memory g c = λ is.

@@ -1,23 +1,19 @@
 use Rattle.std.proofs.Common.{inl}
-use Rattle.std.proofs.lemmas.Result.{err_from_is_err_and}
-use Rattle.swim_pack.proofs.Composing.{Reads-then, Reads-exit}
+use Rattle.swim_pack.proofs.Composing.{Reads-then}
 use Rattle.swim_wire.specs.Message.{slots_of_header}
 use Rattle.swim_wire.specs.Reading.{header_at, header_of}
 use Rattle.swim_wire.proofs.Claimed.{header_check, header_said, no_memory}
-use Rattle.swim_wire.proofs.WholeReads.{Reads-checked}
+use Rattle.swim_wire.proofs.WholeReads.{Reads-exits, Reads-checked}
 use Rattle.swim_wire.proofs.stream.read_any_header.Goals as goal
 
 pub returns-in_err-found-clause-exact : goal.returns-in_err-found-clause-exact
 unfolding header_at
-returns-in_err-found-clause-exact g c =
-    let p = err_from_is_err_and c.from_residual.result c.from_residual.ensures.1 in
-    rw (p.1, p.2) (Reads-exit _ c.in_err-found.ensures.exact)
+returns-in_err-found-clause-exact g c = Reads-exits _ _ c.from_residual.ensures.1 c.in_err-found.ensures.exact
 
 pub returns-in_err-values-clause-exact : goal.returns-in_err-values-clause-exact
 unfolding header_at
 returns-in_err-values-clause-exact g c =
-    let p = err_from_is_err_and c.from_residual-in_err-values.result c.from_residual-in_err-values.ensures.1 in
-    rw (p.1, p.2) (Reads-then _ c.in_ok-found.ensures.exact (Reads-exit _ c.in_err-values.ensures.exact))
+    Reads-then _ c.in_ok-found.ensures.exact (Reads-exits _ _ c.from_residual-in_err-values.ensures.1 c.in_err-values.ensures.exact)
 
 pub returns-clause-exact : goal.returns-clause-exact
 unfolding header_at
