@@ -1,5 +1,5 @@
 -- A map that is read is a text of its layout, and each text of a layout is read.
-use Rattle.std.proofs.Common.{◌≡◌, ℕ, zero, suc, ◌≤◌, Bool, true, false, ◌||◌, List, [], ◌∷◌, ◌++◌, length, Option, Some, None, IsSome, refl, sym, ap, subst, ◌∙◌, append_assoc, arith}
+use Rattle.std.proofs.Common.{◌≡◌, ℕ, zero, suc, ◌≤◌, Bool, true, false, ◌||◌, List, [], ◌∷◌, ◌++◌, length, Option, Some, None, IsSome, Ok, refl, sym, ap, subst, ◌∙◌, append_assoc, arith}
 use Rattle.std.proofs.lemmas.Cmp.{nat_list_eq_equiv}
 use Rattle.std.proofs.lemmas.Map.Entries.{length-keys_of}
 use Rattle.std.proofs.lemmas.Map.Steps.{length-le_from_keys}
@@ -7,7 +7,9 @@ use Rattle.std.specs.Prelude.{slice_set}
 use Rattle.std.specs.List.{list_any}
 use Rattle.std.specs.Map.{keys_of}
 use Rattle.std.specs.Str.{bytes_eq}
+use Rattle.swim_pack.specs.declared.fault.PackFault.{PackFault}
 use Rattle.swim_pack.specs.Composing.{◌>>=◌, gives, some_or, lift}
+use Rattle.swim_pack.specs.Composing as composing
 use Rattle.swim_pack.specs.Spelling.{Raw}
 use Rattle.swim_pack.specs.Reading.{uint_at, flag_at, raw_at, count_at}
 use Rattle.swim_pack.proofs.Composing.{ConsumedText}
@@ -23,29 +25,24 @@ use Rattle.swim_wire.proofs.Readings.{parts_to, parts_joined, read, read_value, 
 use Rattle.swim_wire.proofs.Keys.{IsLegalLayout, same_key, false≢true, first_from_place, place_from_first, limit_from_first, some_is, found, all_at}
 use Rattle.swim_wire.proofs.Filling.{HoldsSlots, Fills, fills_distinct, holds_from_fills, fills_from, all_vacant}
 
+-- a value that the layer below read
+value_made : {A : Type 0} (limit : Limit) (reading : composing.Reading PackFault A) (make : A → Spelled) (bytes : List ℕ) (value : Spelled) (rest : List ℕ)
+    → ((x : A) (mid : List ℕ) → reading bytes ≡ Ok (x, mid) → ConsumedText (λ b. Spells limit b (make x)) bytes mid)
+    → (lift fault_of_pack reading >>= (λ x. gives (make x))) bytes ≡ read value rest → ConsumedText (λ b. Spells limit b value) bytes rest
+value_made limit reading make bytes value rest each e =
+    let t = then_ok (lift fault_of_pack reading bytes) (λ x. gives (make x)) value rest e in
+    let h = each t.0 t.1 (lift_ok fault_of_pack (reading bytes) t.0 t.1 t.2) in
+    subst (λ v. ConsumedText (λ b. Spells limit b v) bytes rest) (read_value (make t.0) value t.1 rest t.3)
+    (record { text = h.text; is = h.is; parts = parts_to h.text h.parts (read_rest (make t.0) value t.1 rest t.3) })
+
 value_takes : (limit : Limit) (bytes : List ℕ) (value : Spelled) (rest : List ℕ) → value_at limit bytes ≡ read value rest
     → ConsumedText (λ b. Spells limit b value) bytes rest
 unfolding value_at
-value_takes (limits.Number max) bytes value rest e =
-    let t = then_ok (lift fault_of_pack (uint_at max) bytes) (λ v. gives (number v)) value rest e in
-    let h = uint_takes max bytes t.0 t.1 (lift_ok fault_of_pack (uint_at max bytes) t.0 t.1 t.2) in
-    let is = read_value (number t.0) value t.1 rest t.3 in
-    let rest_is = read_rest (number t.0) value t.1 rest t.3 in
-    subst (λ v. ConsumedText (λ b. Spells (limits.Number max) b v) bytes rest) is
-    (record { text = h.text; is = (h.is.1, h.is.0); parts = parts_to h.text h.parts rest_is })
-value_takes (limits.Raw limit) bytes value rest e =
-    let t = then_ok (lift fault_of_pack (raw_at limit) bytes) (λ s. gives (raw s)) value rest e in
-    let h = raw_takes limit bytes t.0 t.1 (lift_ok fault_of_pack (raw_at limit bytes) t.0 t.1 t.2) in
-    let is = read_value (raw t.0) value t.1 rest t.3 in
-    let rest_is = read_rest (raw t.0) value t.1 rest t.3 in
-    subst (λ v. ConsumedText (λ b. Spells (limits.Raw limit) b v) bytes rest) is
-    (record { text = h.text; is = (h.is.1, h.is.0); parts = parts_to h.text h.parts rest_is })
-value_takes limits.Flag bytes value rest e =
-    let t = then_ok (lift fault_of_pack flag_at bytes) (λ f. gives (flag f)) value rest e in
-    let h = flag_takes bytes t.0 t.1 (lift_ok fault_of_pack (flag_at bytes) t.0 t.1 t.2) in
-    let is = read_value (flag t.0) value t.1 rest t.3 in
-    let rest_is = read_rest (flag t.0) value t.1 rest t.3 in
-    subst (λ v. ConsumedText (λ b. Spells limits.Flag b v) bytes rest) is (record { text = h.text; is = h.is; parts = parts_to h.text h.parts rest_is })
+value_takes (limits.Number max) bytes value rest e = value_made (limits.Number max) (uint_at max) number bytes value rest
+    (λ v mid ok. let h = uint_takes max bytes v mid ok in record { text = h.text; is = (h.is.1, h.is.0); parts = h.parts }) e
+value_takes (limits.Raw limit) bytes value rest e = value_made (limits.Raw limit) (raw_at limit) raw bytes value rest
+    (λ s mid ok. let h = raw_takes limit bytes s mid ok in record { text = h.text; is = (h.is.1, h.is.0); parts = h.parts }) e
+value_takes limits.Flag bytes value rest e = value_made limits.Flag flag_at flag bytes value rest (λ f mid ok. flag_takes bytes f mid ok) e
 
 value_again : (limit : Limit) (b rest : List ℕ) (value : Spelled) → Spells limit b value → value_at limit (b ++ rest) ≡ read value rest
 unfolding value_at
