@@ -1,10 +1,10 @@
 -- What the checks of a message as a whole accept, and what they refuse.
-use Rattle.std.proofs.Common.{◌≡◌, ◌≢◌, ◌⊎◌, ℕ, Bool, true, false, cond, ◌||◌, eqb, List, [], ◌∷◌, length, Result, Ok, Err, refl, ap, arith}
+use Rattle.std.proofs.Common.{◌≡◌, ◌≢◌, ◌⊎◌, ℕ, Bool, true, false, cond, ◌||◌, eqb, List, [], ◌∷◌, length, Result, Ok, Err, refl, sym, ap, arith}
 use Rattle.std.proofs.lemmas.Bool.Decides.{nat_tests}
 use Rattle.swim_claim.specs.Details.{DetailsValue, IsAddress, IsVersions}
 use Rattle.swim_wire.specs.declared.fault.WireFault.{WireFault}
-use Rattle.swim_wire.specs.declared.fault.WireFault.TheVariants.{NameEmpty, BadAddress, BadVersions}
-use Rattle.swim_wire.specs.Reading.{checked, with_name, with_details}
+use Rattle.swim_wire.specs.declared.fault.WireFault.TheVariants.{NameEmpty, BadAddress, BadVersions, Trailing}
+use Rattle.swim_wire.specs.Reading.{checked, nothing_after, with_name, with_details}
 use Rattle.swim_wire.proofs.Readings.{read, refused, read_value, read_rest}
 
 abbrev pub passed : {A : Type 0} → A → Result A WireFault
@@ -12,6 +12,9 @@ passed x = Ok x
 
 abbrev pub failed : (A : Type 0) → WireFault → Result A WireFault
 failed A error = Err error
+
+pub passed_is : {A : Type 0} (x y : A) → passed x ≡ passed y → y ≡ x
+passed_is x y e = cc
 
 -- a test with two outcomes
 pub split : {A : Type 0} (b : Bool) (P : A → Type 0) (x y : A) → (b ≡ true → P x) → (b ≡ false → P y) → P (cond b x y)
@@ -25,6 +28,20 @@ checked_ok (Err error) mid x rest e = absurd cc
 pub checked_err : {A : Type 0} (r : Result A WireFault) (mid : List ℕ) (error : WireFault) → checked r mid ≡ refused A error → r ≡ failed A error
 checked_err (Ok y) mid error e = absurd cc
 checked_err (Err other) mid error e = cc
+
+-- ---- with nothing after it
+
+pub nothing_after_ok : {A : Type 0} (r : Result (A × List ℕ) WireFault) (x : A) → nothing_after r ≡ passed x → r ≡ read x []
+nothing_after_ok (Ok (y, [])) x e = ap (λ z. read z []) (sym (passed_is y x e))
+nothing_after_ok (Ok (y, byte ∷ rest)) x e = absurd cc
+nothing_after_ok (Err error) x e = absurd cc
+
+-- it is refused, or bytes follow it
+pub nothing_after_err : {A : Type 0} (r : Result (A × List ℕ) WireFault) (error : WireFault) → nothing_after r ≡ failed A error → (P : Type 0)
+    → (r ≡ refused A error → P) → ((x : A) (byte : ℕ) (rest : List ℕ) → r ≡ read x (byte ∷ rest) → Trailing ≡ error → P) → P
+nothing_after_err (Ok (x, [])) error e P first more = absurd cc
+nothing_after_err (Ok (x, byte ∷ rest)) error e P first more = more x byte rest refl cc
+nothing_after_err {A} (Err other) error e P first more = first cc
 
 -- ---- the name
 

@@ -7,22 +7,16 @@ use Rattle.swim_wire.specs.declared.fault.WireFault.TheVariants.{Memory}
 use Rattle.swim_wire.specs.Claimless.{type_of, claimless_layout, IsMapOf, BodyText, ClaimlessText, claimless_kind, whole_map, whole_body, as_kind, behind_type, whole_claimless}
 use Rattle.swim_wire.specs.Layout.{Layout, MapText}
 use Rattle.swim_wire.specs.Reading.{Slots, map_at, nothing_after, AnswersUnlessMemory}
-use Rattle.swim_wire.proofs.Keys.{IsLegalLayout, claimless_legal}
+use Rattle.swim_wire.proofs.Keys.{IsLegalLayout, claimless_legal, some_is}
 use Rattle.swim_wire.proofs.Maps.{map_takes, map_again}
-use Rattle.swim_wire.proofs.Checking.{passed, failed, split}
+use Rattle.swim_wire.proofs.Checking.{passed, passed_is, failed, split, nothing_after_ok}
 
 -- ---- maps with nothing after them
 
 map_taken : (layout : Layout) (b : List ℕ) (slots : Slots) → IsLegalLayout layout → whole_map layout b ≡ passed slots → IsMapOf layout b
-map_taken layout b slots legal e = taken (map_at layout b) refl e
-  where
-    taken : (r : Result (Slots × List ℕ) WireFault) → map_at layout b ≡ r → nothing_after r ≡ passed slots → IsMapOf layout b
-    taken (Ok (values, [])) at e =
-        let t = map_takes layout b values [] legal at in
-        let whole : b ≡ t.0 = t.3 ∙ append-nil t.0 in
-        (t.1, subst (λ x. MapText layout x t.1) (sym whole) t.2)
-    taken (Ok (values, byte ∷ rest)) at e = absurd cc
-    taken (Err error) at e = absurd cc
+map_taken layout b slots legal e =
+    let t = map_takes layout b slots [] legal (nothing_after_ok (map_at layout b) slots e) in
+    (t.1, subst (λ x. MapText layout x t.1) (sym (t.3 ∙ append-nil t.0)) t.2)
 
 map_read_again : (layout : Layout) (b : List ℕ) → IsLegalLayout layout → IsMapOf layout b → (slots : Slots) × (whole_map layout b ≡ passed slots)
 map_read_again layout b legal text =
@@ -48,9 +42,6 @@ body_read_again Nack body is = map_read_again (claimless_layout (length body) Na
 body_read_again Error body is = map_read_again (claimless_layout (length body) Error) body (claimless_legal (length body) Error) is
 
 -- ---- the first byte
-
-some_is : (a b : Claimless) → Some a ≡ Some b → a ≡ b
-some_is a b e = cc
 
 type_is : (first : ℕ) (kind : Claimless) → claimless_kind first ≡ Some kind → first ≡ type_of kind
 type_is first kind e =
@@ -80,15 +71,12 @@ kind_again Error = refl
 body_known : (kind other : Claimless) (first : ℕ) (body : List ℕ) (r : Result Slots WireFault) → whole_body other body ≡ r → claimless_kind first ≡ Some other
     → as_kind other r ≡ passed kind → ClaimlessText (first ∷ body) kind
 body_known kind other first body (Ok slots) at known e =
-    let same : other ≡ kind = ok_is other kind e in
+    let same : other ≡ kind = sym (passed_is other kind e) in
     record {
       body = body;
       text = ap (λ (n : ℕ). n ∷ body) (type_is first kind (known ∙ ap Some same));
       is = subst (BodyText body) same (body_taken other body slots at);
     }
-  where
-    ok_is : (a b : Claimless) → passed a ≡ passed b → a ≡ b
-    ok_is a b e = cc
 body_known kind other first body (Err error) at known e = absurd cc
 
 pub whole_takes : (b : List ℕ) (kind : Claimless) → whole_claimless b ≡ passed kind → ClaimlessText b kind

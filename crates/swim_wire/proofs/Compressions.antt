@@ -1,5 +1,5 @@
 -- The map of a compression that is read is a text of its compressed bytes, and each text is read.
-use Rattle.std.proofs.Common.{◌≡◌, ◌≢◌, ℕ, List, [], ◌∷◌, ◌++◌, length, inl, inr, Option, Result, Ok, Err, IfOk, IfErr, refl, sym, ap, subst, ◌∙◌, append-nil, arith}
+use Rattle.std.proofs.Common.{◌≡◌, ◌≢◌, ℕ, List, [], ◌++◌, length, inl, inr, Option, Result, Ok, Err, IfOk, IfErr, sym, ap, subst, ◌∙◌, append-nil, arith}
 use Rattle.swim_pack.specs.Ends.{Source}
 use Rattle.swim_pack.specs.Composing.{ReadsAs, gives, ◌>>=◌}
 use Rattle.swim_pack.proofs.Composing.{Reads-then, Reads-gives}
@@ -16,7 +16,7 @@ use Rattle.swim_wire.proofs.Readings.{read, read_value, read_rest, then_ok}
 use Rattle.swim_wire.proofs.Keys.{compression_legal}
 use Rattle.swim_wire.proofs.Filling.{HoldsSlots}
 use Rattle.swim_wire.proofs.Maps.{map_takes, map_again}
-use Rattle.swim_wire.proofs.Checking.{passed, failed}
+use Rattle.swim_wire.proofs.Checking.{passed, passed_is, failed, nothing_after_ok}
 
 same_packed : (limit : ℕ) (pairs : Pairs) (slots : Slots) → HoldsSlots (compression_layout limit) pairs slots → raw_in slots 1 ≡ raw_of keys.Buf pairs
 same_packed limit pairs slots holds = let buf : slot slots 1 ≡ of_key (key_text keys.Buf) pairs = holds 1 (omega arith) in ap raw_or_empty buf
@@ -50,20 +50,14 @@ again limit b rest packed pairs text is =
     let value : raw_in a.0 1 ≡ packed = same_packed limit pairs a.0 a.2 ∙ sym is in
     rw a.1 (ap (λ p. read p rest) value)
 
-same_ok : (a b : List ℕ) → passed a ≡ passed b → a ≡ b
-same_ok a b e = cc
-
 pub whole_takes : (b packed : List ℕ) → whole_compression b ≡ passed packed → CompressionText b packed
-whole_takes b packed e = taken (compression_at (length b) b) refl e
-  where
-    taken : (r : Result (List ℕ × List ℕ) WireFault) → compression_at (length b) b ≡ r → nothing_after r ≡ passed packed → CompressionText b packed
-    taken (Ok (q, [])) at e =
-        let t = takes (length b) b q [] at in
-        let whole : b ≡ t.b = t.parts ∙ append-nil t.b in
-        let P : List ℕ → Type 0 = λ x. MapText (compression_layout (length b)) x t.pairs in
-        record { pairs = t.pairs; text = subst P (sym whole) t.text; packed_is = sym (same_ok q packed e) ∙ t.packed_is }
-    taken (Ok (q, byte ∷ rest)) at e = absurd cc
-    taken (Err error) at e = absurd cc
+whole_takes b packed e =
+    let t = takes (length b) b packed [] (nothing_after_ok (compression_at (length b) b) packed e) in
+    record {
+      pairs = t.pairs;
+      text = subst (λ x. MapText (compression_layout (length b)) x t.pairs) (sym (t.parts ∙ append-nil t.b)) t.text;
+      packed_is = t.packed_is;
+    }
 
 -- each text is read
 pub whole_again : (b packed : List ℕ) → CompressionText b packed → whole_compression b ≡ passed packed
@@ -72,7 +66,7 @@ whole_again b packed text =
 
 -- a map has one list of compressed bytes
 pub one_compression : (b packed packed' : List ℕ) → CompressionText b packed → CompressionText b packed' → packed ≡ packed'
-one_compression b packed packed' s t = same_ok packed packed' (sym (whole_again b packed s) ∙ whole_again b packed' t)
+one_compression b packed packed' s t = passed_is packed' packed (sym (whole_again b packed' t) ∙ whole_again b packed s)
 
 pub whole_lacks : (b : List ℕ) (error : WireFault) → whole_compression b ≡ failed (List ℕ) error → (packed : List ℕ) → CompressionText b packed → ⊥
 whole_lacks b error e packed text = let read_again = whole_again b packed text in cc

@@ -15,8 +15,8 @@ use Rattle.swim_wire.specs.Reading.{checked, nothing_after, whole_packet}
 use Rattle.swim_wire.specs.Texts.{IsPacketPart, PartTexts, compound_bytes}
 use Rattle.swim_wire.specs.Texts.DatagramText.{packet, compound}
 use Rattle.swim_wire.proofs.Readings.{refused, then_err, parts_joined}
-use Rattle.swim_wire.proofs.MapFaults.{IsMapFault, pack_fault, lift_fault}
-use Rattle.swim_wire.proofs.Checking.{failed, split, checked_ok, checked_err}
+use Rattle.swim_wire.proofs.MapFaults.{IsMapFault, explained_by_map, pack_fault, lift_fault}
+use Rattle.swim_wire.proofs.Checking.{failed, split, nothing_after_err, checked_ok, checked_err}
 use Rattle.swim_wire.proofs.PacketTexts.{whole_refusal}
 use Rattle.swim_wire.proofs.DatagramTexts.{bytes_takes, part_takes, PartText, texts_joined, lengths_takes, type_is, compound_takes}
 
@@ -144,18 +144,6 @@ compound_refusal (count ∷ bytes) error other are e =
 
 -- ---- datagrams
 
-by_reading : (error : WireFault) (bytes : List ℕ) → error ≢ Memory → IsMapFault error → ReasonForDatagram error bytes
-by_reading NameEmpty bytes other h = absurd h
-by_reading BadAddress bytes other h = absurd h
-by_reading BadVersions bytes other h = absurd h
-by_reading (WrongType found) bytes other h = absurd h
-by_reading (BadState found) bytes other h = absurd h
-by_reading TooManyNodes bytes other h = absurd h
-by_reading UserTooLong bytes other h = absurd h
-by_reading Trailing bytes other h = absurd h
-by_reading Memory bytes other h = absurd (other refl)
-by_reading error bytes other h = tt
-
 -- a part that is a packet by its first byte does not have a wrong type
 no_wrong_type : (found : ℕ) (part : List ℕ) → IsPacketPart part → ¬ ReasonForWhole (WrongType found) part
 no_wrong_type found [] type h = absurd type
@@ -194,7 +182,7 @@ by_packet error first bytes other t h = tt
 pub datagram_refusal : (b : List ℕ) (error : WireFault) → error ≢ Memory → AreBytes b → whole_datagram b ≡ failed (List PacketValue) error → ReasonForDatagram error b
 datagram_refusal [] error memory are e = let is : Ended ≡ error = cc in subst (λ f. ReasonForDatagram f []) is tt
 datagram_refusal (first ∷ bytes) error memory are e =
-    split (eqb first 7) P _ _ (λ t. explained (eqb-true _ _ t) (compound_at bytes) refl)
+    split (eqb first 7) P _ _ (λ t. explained (eqb-true _ _ t))
     (λ t own. by_packet error first bytes memory t (whole_refusal (first ∷ bytes) error memory (alone_err (whole_packet (first ∷ bytes)) error own))) e
   where
     P : Result (List PacketValue) WireFault → Type 0
@@ -203,15 +191,12 @@ datagram_refusal (first ∷ bytes) error memory are e =
     tail : AreBytes bytes
     tail k d lt = are (suc k) d (omega arith)
 
-    explained : first ≡ 7 → (r : Result (List PacketValue × List ℕ) WireFault) → compound_at bytes ≡ r → P (nothing_after r)
-    explained seven (Ok (ps, [])) at fails = absurd cc
-    explained seven (Ok (ps, byte ∷ rest)) at fails =
-        let c = compound_takes bytes ps (byte ∷ rest) tail at in
-        let is : Trailing ≡ error = cc in
-        subst (λ f. ReasonForDatagram f (first ∷ bytes)) is
-        (inl (compound_bytes c.parts, ps, byte, rest, compound c.parts c.few c.short refl c.texts, ap (λ (n : ℕ). n ∷ bytes) seven ∙ c.text))
-    explained seven (Err other) at fails =
-        let is : other ≡ error = cc in
-        ⊎_elim (λ (m : IsMapFault error). by_reading error (first ∷ bytes) memory m)
+    explained : first ≡ 7 → P (nothing_after (compound_at bytes))
+    explained seven fails =
+        nothing_after_err (compound_at bytes) error fails (ReasonForDatagram error (first ∷ bytes))
+        (λ refusal. ⊎_elim (λ (m : IsMapFault error). (explained_by_map error (first ∷ bytes) memory m).3)
         (λ (h : HasBadPart error (7 ∷ bytes)). by_part error (first ∷ bytes) memory (subst (λ n. HasBadPart error (n ∷ bytes)) (sym seven) h))
-        (compound_refusal bytes error memory tail (at ∙ ap (refused (List PacketValue)) is))
+        (compound_refusal bytes error memory tail refusal))
+        (λ ps byte rest ok is. let c = compound_takes bytes ps (byte ∷ rest) tail ok in
+        subst (λ f. ReasonForDatagram f (first ∷ bytes)) is
+        (inl (compound_bytes c.parts, ps, byte, rest, compound c.parts c.few c.short refl c.texts, ap (λ (n : ℕ). n ∷ bytes) seven ∙ c.text)))

@@ -19,7 +19,7 @@ use Rattle.swim_wire.specs.Texts.{PacketText, IsPacketPart, PartTexts, compound_
 use Rattle.swim_wire.specs.Texts.PacketText.{alive, suspect, leave, confirm}
 use Rattle.swim_wire.specs.Texts.DatagramText.{packet, compound}
 use Rattle.swim_wire.proofs.Readings.{read, read_value, read_rest, then_ok, parts_to, parts_joined}
-use Rattle.swim_wire.proofs.Checking.{passed, failed, split, checked_ok}
+use Rattle.swim_wire.proofs.Checking.{passed, passed_is, failed, split, checked_ok, nothing_after_ok}
 use Rattle.swim_wire.proofs.PacketTexts.{whole_takes, whole_again}
 
 -- ---- bytes at the start
@@ -129,20 +129,17 @@ type_again first h = grind (arith, nat_tests)
 abbrev pub packet_list : List PacketValue → Result (List PacketValue) WireFault
 packet_list ps = Ok ps
 
-list_is : (ps qs : List PacketValue) → packet_list ps ≡ packet_list qs → ps ≡ qs
-list_is ps qs e = cc
-
 alone_ok : (r : Result PacketValue WireFault) (packets : List PacketValue) → alone r ≡ packet_list packets →
     (p : PacketValue) × (r ≡ passed p) × (packets ≡ p ∷ [])
-alone_ok (Ok p) packets e = (p, refl, sym (list_is (p ∷ []) packets e))
+alone_ok (Ok p) packets e = (p, refl, passed_is (p ∷ []) packets e)
 alone_ok (Err error) packets e = absurd cc
 
 pub part_takes : (part : List ℕ) (packets : List PacketValue) → packets_of part ≡ packet_list packets → PartText part packets
-part_takes [] packets e = inr ((λ h. h), sym (list_is [] packets e))
+part_takes [] packets e = inr ((λ h. h), passed_is [] packets e)
 part_takes (first ∷ rest) packets e =
     split (is_packet_type first) (λ r. r ≡ packet_list packets → PartText (first ∷ rest) packets) (alone (whole_packet (first ∷ rest))) (Ok [])
     (λ t own. let p = alone_ok (whole_packet (first ∷ rest)) packets own in inl (p.0, whole_takes (first ∷ rest) p.0 p.1, p.2))
-    (λ t none. inr (type_is_not first t, sym (list_is [] packets none))) e
+    (λ t none. inr (type_is_not first t, passed_is [] packets none)) e
 
 -- a packet starts with its type
 pub begins : (b : List ℕ) (p : PacketValue) → PacketText b p → (first : ℕ) × (rest : List ℕ) × (b ≡ first ∷ rest) ×
@@ -296,20 +293,13 @@ compound_again parts packets rest short texts =
 pub datagram_takes : (b : List ℕ) (packets : List PacketValue) → AreBytes b → whole_datagram b ≡ packet_list packets → DatagramText b packets
 datagram_takes [] packets are e = absurd cc
 datagram_takes (first ∷ bytes) packets are e =
-    split (eqb first 7) P _ _ (λ t. taken (eqb-true _ _ t) (compound_at bytes) refl)
+    split (eqb first 7) P _ _
+    (λ t own. let c = compound_takes bytes packets [] (λ k d lt. are (suc k) d (omega arith)) (nothing_after_ok (compound_at bytes) packets own) in
+    compound c.parts c.few c.short (ap (λ (n : ℕ). n ∷ bytes) (eqb-true _ _ t) ∙ c.text ∙ append-nil (compound_bytes c.parts)) c.texts)
     (λ t own. let p = alone_ok (whole_packet (first ∷ bytes)) packets own in packet p.0 (whole_takes (first ∷ bytes) p.0 p.1) p.2) e
   where
     P : Result (List PacketValue) WireFault → Type 0
     P r = r ≡ packet_list packets → DatagramText (first ∷ bytes) packets
-
-    taken : first ≡ 7 → (r : Result (List PacketValue × List ℕ) WireFault) → compound_at bytes ≡ r
-        → nothing_after r ≡ packet_list packets → DatagramText (first ∷ bytes) packets
-    taken seven (Ok (ps, [])) at own =
-        let c = compound_takes bytes ps [] (λ k d lt. are (suc k) d (omega arith)) at in
-        compound c.parts c.few c.short (ap (λ (n : ℕ). n ∷ bytes) seven ∙ c.text ∙ append-nil (compound_bytes c.parts))
-        (subst (PartTexts c.parts) (list_is ps packets own) c.texts)
-    taken seven (Ok (ps, byte ∷ rest)) at own = absurd cc
-    taken seven (Err error) at own = absurd cc
 
 -- a datagram that does not start with 7
 one_packet : (first : ℕ) (bytes : List ℕ) → eqb first 7 ≡ false → whole_datagram (first ∷ bytes) ≡ alone (whole_packet (first ∷ bytes))

@@ -87,16 +87,16 @@ unfolding map_at
 map_refusal layout bytes error e = then_err (lift fault_of_pack (count_at (length layout)) bytes) (λ n. pairs_at layout n no_slots) error e (IsMapFault error)
     (λ first. lift_fault fault_of_pack (count_at (length layout) bytes) error pack_fault first) (λ n mid ok more. pairs_fault layout n no_slots mid error more)
 
--- so each reason says nothing more of it
-pub no_more : (error : WireFault) (bytes : List ℕ) → error ≢ Memory → IsMapFault error
+-- so no reason says more of it
+pub explained_by_map : (error : WireFault) (bytes : List ℕ) → error ≢ Memory → IsMapFault error
     → ReasonForPacket error bytes × ReasonForHeader error bytes × ReasonForState error bytes × ReasonForDatagram error bytes
-no_more NameEmpty bytes other h = absurd h
-no_more BadAddress bytes other h = absurd h
-no_more BadVersions bytes other h = absurd h
-no_more (WrongType found) bytes other h = absurd h
-no_more (BadState found) bytes other h = absurd h
-no_more TooManyNodes bytes other h = absurd h
-no_more UserTooLong bytes other h = absurd h
-no_more Trailing bytes other h = absurd h
-no_more Memory bytes other h = absurd (other refl)
-no_more error bytes other h = (tt, tt, tt, tt)
+explained_by_map NameEmpty bytes other h = absurd h
+explained_by_map BadAddress bytes other h = absurd h
+explained_by_map BadVersions bytes other h = absurd h
+explained_by_map (WrongType found) bytes other h = absurd h
+explained_by_map (BadState found) bytes other h = absurd h
+explained_by_map TooManyNodes bytes other h = absurd h
+explained_by_map UserTooLong bytes other h = absurd h
+explained_by_map Trailing bytes other h = absurd h
+explained_by_map Memory bytes other h = absurd (other refl)
+explained_by_map error bytes other h = (tt, tt, tt, tt)

@@ -1,6 +1,6 @@
 -- A packet that is read is a text of its value, each text is read, and what a refusal means for the
 -- bytes.
-use Rattle.std.proofs.Common.{◌≡◌, ◌≢◌, ◌⊎◌, inl, inr, ℕ, Bool, true, false, eqb, List, [], ◌∷◌, ◌++◌, Result, Ok, Err, refl, sym, ap, subst, ◌∙◌, append-nil, eqb-true, arith}
+use Rattle.std.proofs.Common.{◌≡◌, ◌≢◌, ◌⊎◌, inl, inr, ℕ, Bool, true, false, eqb, List, [], ◌∷◌, ◌++◌, Result, Ok, refl, sym, ap, subst, ◌∙◌, append-nil, eqb-true, arith}
 use Rattle.std.proofs.lemmas.Bool.Decides.{nat_tests}
 use Rattle.std.specs.Str.{bytes_eq}
 use Rattle.swim_claim.specs.declared.claim.Claim.TheVariants.{Alive, Suspect}
@@ -18,9 +18,9 @@ use Rattle.swim_wire.specs.Texts.{PacketText, told_details}
 use Rattle.swim_wire.specs.Texts.PacketText.{alive, suspect, leave, confirm}
 use Rattle.swim_wire.proofs.Readings.{read, refused}
 use Rattle.swim_wire.proofs.Keys.{alive_legal, accusation_legal, same_key, key_same, other_key, false≢true}
-use Rattle.swim_wire.proofs.MapFaults.{no_more}
+use Rattle.swim_wire.proofs.MapFaults.{explained_by_map}
 use Rattle.swim_wire.proofs.Messages.{IsMessage, message_at, message_takes, message_again, message_refusal}
-use Rattle.swim_wire.proofs.Checking.{passed, failed, split, with_name_ok, with_name_again, with_name_err, with_details_ok, with_details_again, with_details_err}
+use Rattle.swim_wire.proofs.Checking.{passed, passed_is, failed, split, nothing_after_ok, nothing_after_err, with_name_ok, with_name_again, with_name_err, with_details_ok, with_details_again, with_details_err}
 
 -- ---- the packet in the pairs of a map, or the first check that they fail
 
@@ -34,8 +34,14 @@ alive_from pairs = with_name (raw_of keys.Node pairs) (with_details (told_detail
 alive_message : IsMessage alive_layout alive_of alive_from
 alive_message = record {
   legal = alive_legal;
-  same = λ pairs slots holds. rw (holds 0 (omega arith), holds 1 (omega arith), holds 2 (omega arith), holds 3 (omega arith), holds 4 (omega arith),
-  holds 5 (omega arith)) refl;
+  same = λ pairs slots holds. rw (
+    holds 0 (omega arith),
+    holds 1 (omega arith),
+    holds 2 (omega arith),
+    holds 3 (omega arith),
+    holds 4 (omega arith),
+    holds 5 (omega arith),
+  ) refl;
 }
 
 abbrev suspect_packet : Pairs → PacketValue
@@ -62,9 +68,6 @@ dead_message = record {
   legal = accusation_legal;
   same = λ pairs slots holds. rw (holds 0 (omega arith), holds 1 (omega arith), holds 2 (omega arith)) refl;
 }
-
-passed_is : (p q : PacketValue) → passed p ≡ passed q → q ≡ p
-passed_is p q e = cc
 
 -- ---- a packet that was read
 
@@ -144,7 +147,7 @@ alive_refusal : (first : ℕ) (bytes : List ℕ) (error : WireFault) → error �
     → ReasonForPacket error (first ∷ bytes)
 unfolding alive_at
 alive_refusal first bytes error other type e =
-    message_refusal alive_message bytes error e (ReasonForPacket error (first ∷ bytes)) (λ map. (no_more error (first ∷ bytes) other map).0)
+    message_refusal alive_message bytes error e (ReasonForPacket error (first ∷ bytes)) (λ map. (explained_by_map error (first ∷ bytes) other map).0)
     (λ pairs fails begins. with_name_err (raw_of keys.Node pairs) (with_details (told_details pairs) (alive_with pairs)) error fails
     (ReasonForPacket error (first ∷ bytes))
     (λ empty is. subst (λ f. ReasonForPacket f (first ∷ bytes)) is (inl (type, begins (AliveFails NameEmpty) empty)))
@@ -158,7 +161,7 @@ accusation_refusal : (value : Pairs → PacketValue) (of_slots : Slots → Resul
     → (first : ℕ) (bytes : List ℕ) (error : WireFault) → error ≢ Memory → (first ≡ 3) ⊎ (first ≡ 5)
     → message_at accusation_layout of_slots bytes ≡ refused PacketValue error → ReasonForPacket error (first ∷ bytes)
 accusation_refusal value of_slots message first bytes error other type e =
-    message_refusal message bytes error e (ReasonForPacket error (first ∷ bytes)) (λ map. (no_more error (first ∷ bytes) other map).0)
+    message_refusal message bytes error e (ReasonForPacket error (first ∷ bytes)) (λ map. (explained_by_map error (first ∷ bytes) other map).0)
     (λ pairs fails begins. with_name_err (raw_of keys.Node pairs) (passed (value pairs)) error fails (ReasonForPacket error (first ∷ bytes))
     (λ empty is. subst (λ f. ReasonForPacket f (first ∷ bytes)) is (inr (type, begins (AccusationFails NameEmpty) empty))) (λ named more. absurd cc))
 
@@ -197,14 +200,9 @@ packet_refusal (first ∷ bytes) error other e =
 -- ---- packets with nothing after them
 
 pub whole_takes : (b : List ℕ) (p : PacketValue) → whole_packet b ≡ passed p → PacketText b p
-whole_takes b p e = taken (packet_at b) refl e
-  where
-    taken : (r : Result (PacketValue × List ℕ) WireFault) → packet_at b ≡ r → nothing_after r ≡ passed p → PacketText b p
-    taken (Ok (q, [])) at e =
-        let t = packet_takes b q [] at in
-        subst (λ value. PacketText b value) (sym (passed_is q p e)) (subst (λ text. PacketText text q) (sym (t.parts ∙ append-nil t.text)) t.is)
-    taken (Ok (q, byte ∷ rest)) at e = absurd cc
-    taken (Err error) at e = absurd cc
+whole_takes b p e =
+    let t = packet_takes b p [] (nothing_after_ok (packet_at b) p e) in
+    subst (λ text. PacketText text p) (sym (t.parts ∙ append-nil t.text)) t.is
 
 pub whole_again : (b : List ℕ) (p : PacketValue) → PacketText b p → whole_packet b ≡ passed p
 whole_again b p text = ap nothing_after (ap packet_at (sym (append-nil b)) ∙ packet_again b [] p text)
@@ -213,16 +211,11 @@ pub whole_lacks : (b : List ℕ) (error : WireFault) → whole_packet b ≡ fail
 whole_lacks b error e p text = let read_again = whole_again b p text in cc
 
 pub whole_refusal : (b : List ℕ) (error : WireFault) → error ≢ Memory → whole_packet b ≡ failed PacketValue error → ReasonForWhole error b
-whole_refusal b error memory e = explained (packet_at b) refl e
+whole_refusal b error memory e =
+    nothing_after_err (packet_at b) error e (ReasonForWhole error b) (λ fails. as_whole error (packet_refusal b error memory fails))
+    (λ q byte rest ok is. let t = packet_takes b q (byte ∷ rest) ok in
+    subst (λ f. ReasonForWhole f b) is (t.text, q, byte, rest, t.is, t.parts))
   where
     as_whole : (f : WireFault) → ReasonForPacket f b → ReasonForWhole f b
     as_whole Trailing h = absurd h
     as_whole f h = h
-
-    explained : (r : Result (PacketValue × List ℕ) WireFault) → packet_at b ≡ r → nothing_after r ≡ failed PacketValue error → ReasonForWhole error b
-    explained (Ok (q, [])) at e = absurd cc
-    explained (Ok (q, byte ∷ rest)) at e =
-        let t = packet_takes b q (byte ∷ rest) at in
-        let is : Trailing ≡ error = cc in
-        subst (λ f. ReasonForWhole f b) is (t.text, q, byte, rest, t.is, t.parts)
-    explained (Err other) at e = let is : other ≡ error = cc in as_whole error (packet_refusal b error memory (at ∙ ap (refused PacketValue) is))

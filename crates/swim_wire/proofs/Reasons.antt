@@ -22,18 +22,24 @@ pub memory_or : (error : WireFault) → (error ≡ Memory) ⊎ (error ≢ Memory
 memory_or Memory = inl refl
 memory_or error = inr (λ e. absurd cc)
 
+-- unless the inlet failed, of which the reason says nothing
+unless : (P : WireFault → Type 0) (error : WireFault) → P Fault → error ≢ Memory → UnlessFailed (wire_cause error) (P error) → P error
+unless P Fault fault other h = fault
+unless P Memory fault other h = absurd (other refl)
+unless P error fault other h = h
+
 -- if the refusal of the reading means something for the bytes, and so does `Memory`, so does the
 -- refusal of the read
 pub Reads-reason : {X V : Type 0} {view : X → V} {reading : Reading V} {a b : Source} (r : Result X WireFault) (P : WireFault → List ℕ → Type 0)
-    → ((error : WireFault) (bytes : List ℕ) → error ≢ Memory → UnlessFailed (wire_cause error) (P error bytes) → P error bytes)
+    → ((bytes : List ℕ) → P Fault bytes)
     → ((bytes : List ℕ) (error : WireFault) → error ≢ Memory → reading bytes ≡ refused V error → P error bytes)
     → (r ≡ Err Memory → IfSome a.coming (P Memory)) → ReadsAs wire_cause view reading a b r → IfErr r (λ error. IfSome a.coming (P error))
-Reads-reason (Ok x) P unless says memory h = tt
-Reads-reason {X} {V} {view} {reading} {a} {b} (Err error) P unless says memory h = by (memory_or error)
+Reads-reason (Ok x) P fault says memory h = tt
+Reads-reason {X} {V} {view} {reading} {a} {b} (Err error) P fault says memory h = by (memory_or error)
   where
     explained : (known : Option (List ℕ)) → error ≢ Memory → Answers {X = X} wire_cause view reading known b.coming (Err error) → IfSome known (P error)
     explained None other e = tt
-    explained (Some bytes) other e = unless error bytes other (UnlessFailed-weaker (wire_cause error) (says bytes error other) e)
+    explained (Some bytes) other e = unless (λ f. P f bytes) error (fault bytes) other (UnlessFailed-weaker (wire_cause error) (says bytes error other) e)
 
     by : (error ≡ Memory) ⊎ (error ≢ Memory) → IfSome a.coming (P error)
     by (inl is) = subst (λ (f : WireFault). IfSome a.coming (P f)) (sym is) (memory (ap Err is))
@@ -49,14 +55,9 @@ pub Header-lacks : {X : Type 0} {view : X → Header} {a b : Source} (r : Result
     → IfErr r (λ error. UnlessFailed (wire_cause error) (NoTextAtFront a (λ text. (value : Header) × HeaderText text value)))
 Header-lacks r h = Reads-lacks r (λ text. (value : Header) × HeaderText text value) (λ text rest is. (is.0, header_again text rest is.0 is.1)) h
 
-header_unless : (error : WireFault) (bytes : List ℕ) → error ≢ Memory → UnlessFailed (wire_cause error) (ReasonForHeader error bytes) → ReasonForHeader error bytes
-header_unless Fault bytes other h = tt
-header_unless Memory bytes other h = absurd (other refl)
-header_unless error bytes other h = h
-
 pub Header-reason : {X : Type 0} {view : X → Header} {a b : Source} (r : Result X WireFault) → ¬ (r ≡ Err Memory) → ReadsAs wire_cause view header_at a b r
     → IfErr r (λ error. IfSome a.coming (ReasonForHeader error))
-Header-reason r none h = Reads-reason r ReasonForHeader header_unless header_refusal (λ is. absurd (none is)) h
+Header-reason r none h = Reads-reason r ReasonForHeader (λ bytes. tt) header_refusal (λ is. absurd (none is)) h
 
 -- ---- state records
 
@@ -68,12 +69,7 @@ pub State-lacks : {X : Type 0} {view : X → Claim} {a b : Source} (r : Result X
     → IfErr r (λ error. UnlessFailed (wire_cause error) (NoTextAtFront a (λ text. (claim : Claim) × StateText text claim)))
 State-lacks r h = Reads-lacks r (λ text. (claim : Claim) × StateText text claim) (λ text rest is. (is.0, state_again text rest is.0 is.1)) h
 
-state_unless : (error : WireFault) (bytes : List ℕ) → error ≢ Memory → UnlessFailed (wire_cause error) (ReasonForState error bytes) → ReasonForState error bytes
-state_unless Fault bytes other h = tt
-state_unless Memory bytes other h = absurd (other refl)
-state_unless error bytes other h = h
-
 pub State-reason : {X : Type 0} {view : X → Claim} {a b : Source} (r : Result X WireFault)
     → (r ≡ Err Memory → IfSome a.coming (MapAsks state_layout)) → ReadsAs wire_cause view state_at a b r
     → IfErr r (λ error. IfSome a.coming (ReasonForState error))
-State-reason r memory h = Reads-reason r ReasonForState state_unless state_refusal memory h
+State-reason r memory h = Reads-reason r ReasonForState (λ bytes. tt) state_refusal memory h

@@ -6,23 +6,21 @@ use Rattle.swim_claim.specs.declared.claim.Claim.{Claim}
 use Rattle.swim_claim.specs.declared.claim.Claim.TheVariants.{Alive, Suspect, Confirm, Leave}
 use Rattle.swim_claim.specs.Details.{DetailsValue}
 use Rattle.swim_pack.proofs.Composing.{ConsumedText}
-use Rattle.swim_pack.specs.Composing.{◌>>=◌, then_read, refuses}
+use Rattle.swim_pack.specs.Composing.{then_read, refuses}
 use Rattle.swim_wire.specs.declared.fault.WireFault.{WireFault}
-use Rattle.swim_wire.specs.declared.fault.WireFault.TheVariants.{Ended, Memory, NameEmpty, BadAddress, BadVersions, WrongType, BadState, TooManyNodes, UserTooLong, Trailing}
+use Rattle.swim_wire.specs.declared.fault.WireFault.TheVariants.{Ended, Memory, NameEmpty, BadAddress, BadVersions, WrongType, BadState, TooManyNodes, UserTooLong}
 use Rattle.swim_wire.specs.declared.layout.Key.TheVariants as keys
 use Rattle.swim_wire.specs.declared.stream.Header.{Header}
-use Rattle.swim_wire.specs.Checks.{HeaderFails, StateFails, BeginsFailing, ReasonForHeader, ReasonForState}
-use Rattle.swim_wire.specs.Keys.{key_text}
-use Rattle.swim_wire.specs.Layout.{Pairs, MapText, of_key, number_of, raw_of, flag_of, header_layout, state_layout}
-use Rattle.swim_wire.specs.Reading.{Reading, Slots, slot, checked, with_name, with_details, map_at, header_of, header_at, state_of, state_at}
+use Rattle.swim_wire.specs.Checks.{HeaderFails, StateFails, ReasonForHeader, ReasonForState}
+use Rattle.swim_wire.specs.Layout.{Pairs, number_of, raw_of, flag_of, header_layout, state_layout}
+use Rattle.swim_wire.specs.Reading.{Reading, checked, with_name, with_details, map_at, header_of, header_at, state_of, state_at}
 use Rattle.swim_wire.specs.Texts.{HeaderText, StateText, IsStateOf, told_details}
 use Rattle.swim_wire.specs.Texts.IsStateOf.{alive, suspect, confirm, leave}
-use Rattle.swim_wire.proofs.Readings.{read, refused, then_ok, then_err, parts_to}
+use Rattle.swim_wire.proofs.Readings.{read, refused}
 use Rattle.swim_wire.proofs.Keys.{header_legal, state_legal}
-use Rattle.swim_wire.proofs.Filling.{HoldsSlots}
-use Rattle.swim_wire.proofs.MapFaults.{IsMapFault, map_refusal}
-use Rattle.swim_wire.proofs.Maps.{map_takes, map_again}
-use Rattle.swim_wire.proofs.Checking.{passed, failed, split, checked_ok, checked_err, with_name_ok, with_name_again, with_name_err, with_details_ok, with_details_again, with_details_err}
+use Rattle.swim_wire.proofs.MapFaults.{explained_by_map}
+use Rattle.swim_wire.proofs.Messages.{IsMessage, message_at, message_takes, message_again, message_refusal}
+use Rattle.swim_wire.proofs.Checking.{passed, passed_is, failed, split, with_name_ok, with_name_again, with_name_err, with_details_ok, with_details_again, with_details_err}
 
 -- ---- the header in the pairs of a map, or the first check that they fail
 
@@ -34,21 +32,17 @@ header_from pairs =
     cond (ltb 131072 (number_of keys.Nodes pairs)) (Err TooManyNodes)
     (cond (ltb 20971520 (number_of keys.UserStateLen pairs)) (Err UserTooLong) (Ok (header_with pairs)))
 
-header_same : (pairs : Pairs) (slots : Slots) → HoldsSlots header_layout pairs slots → header_of slots ≡ header_from pairs
-header_same pairs slots holds =
-    let join : slot slots 0 ≡ of_key (key_text keys.Join) pairs = holds 0 (omega arith) in
-    let nodes : slot slots 1 ≡ of_key (key_text keys.Nodes) pairs = holds 1 (omega arith) in
-    let user : slot slots 2 ≡ of_key (key_text keys.UserStateLen) pairs = holds 2 (omega arith) in
-    rw (join, nodes, user) refl
-
-header_is : (g h : Header) → passed g ≡ passed h → h ≡ g
-header_is g h e = cc
+header_message : IsMessage header_layout header_of header_from
+header_message = record {
+  legal = header_legal;
+  same = λ pairs slots holds. rw (holds 0 (omega arith), holds 1 (omega arith), holds 2 (omega arith)) refl;
+}
 
 header_ok : (pairs : Pairs) (h : Header) → header_from pairs ≡ passed h
     → (number_of keys.Nodes pairs ≤ 131072) × (number_of keys.UserStateLen pairs ≤ 20971520) × (h ≡ header_with pairs)
 header_ok pairs h = split (ltb 131072 (number_of keys.Nodes pairs)) P _ _ (λ many e. absurd cc)
     (λ few. split (ltb 20971520 (number_of keys.UserStateLen pairs)) P _ _ (λ long e. absurd cc)
-    (λ short e. (ltb-false _ _ few, ltb-false _ _ short, header_is (header_with pairs) h e)))
+    (λ short e. (ltb-false _ _ few, ltb-false _ _ short, passed_is (header_with pairs) h e)))
   where
     P : Result Header WireFault → Type 0
     P r = r ≡ passed h → (number_of keys.Nodes pairs ≤ 131072) × (number_of keys.UserStateLen pairs ≤ 20971520) × (h ≡ header_with pairs)
@@ -67,19 +61,17 @@ header_err pairs error fails Q nodes user = split (ltb 131072 (number_of keys.No
 
 -- after the byte 6
 abbrev header_after : Reading Header
-header_after = map_at header_layout >>= (λ slots. checked (header_of slots))
+header_after = message_at header_layout header_of
 
 header_after_takes : (first : ℕ) (bytes : List ℕ) (h : Header) (rest : List ℕ) → first ≡ 6 → header_after bytes ≡ read h rest
     → ConsumedText (λ b. HeaderText b h) (first ∷ bytes) rest
 header_after_takes first bytes h rest type e =
-    let t = then_ok (map_at header_layout bytes) (λ slots. checked (header_of slots)) h rest e in
-    let m = map_takes header_layout bytes t.0 t.1 header_legal t.2 in
-    let c = checked_ok (header_of t.0) t.1 h rest t.3 in
-    let is = header_ok m.1 h (sym (header_same m.1 t.0 m.4) ∙ c.0) in
+    let m = message_takes header_message bytes h rest e in
+    let is = header_ok m.1 h m.3 in
     record {
       text = first ∷ m.0;
       is = record { map_text = m.0; pairs = m.1; bytes = ap (λ (x : ℕ). x ∷ m.0) type; text = m.2; few_nodes = is.0; short_user = is.1; header = is.2 };
-      parts = ap (λ (r : List ℕ). first ∷ r) (parts_to m.0 m.3 c.1);
+      parts = ap (λ (r : List ℕ). first ∷ r) m.4;
     }
 
 -- the reading of a header, by its first byte
@@ -99,42 +91,19 @@ header_takes (first ∷ bytes) h rest e =
 pub header_again : (b rest : List ℕ) (h : Header) → HeaderText b h → header_at (b ++ rest) ≡ read h rest
 unfolding header_at
 header_again b rest h text =
-    let a = map_again header_layout text.map_text text.pairs rest header_legal text.text in
     let few : ltb 131072 (number_of keys.Nodes text.pairs) ≡ false = le-ltb _ _ text.few_nodes in
     let short : ltb 20971520 (number_of keys.UserStateLen text.pairs) ≡ false = le-ltb _ _ text.short_user in
     let passes : header_from text.pairs ≡ passed (header_with text.pairs) = rw (few, short) refl in
-    let value : header_of a.0 ≡ passed h = header_same text.pairs a.0 a.2 ∙ passes ∙ ap passed (sym text.header) in
-    rw (text.bytes, a.1) (ap (λ (r : Result Header WireFault). checked r rest) value)
-
-header_by_map : (error : WireFault) (bytes : List ℕ) → error ≢ Memory → IsMapFault error → ReasonForHeader error bytes
-header_by_map NameEmpty bytes other h = absurd h
-header_by_map BadAddress bytes other h = absurd h
-header_by_map BadVersions bytes other h = absurd h
-header_by_map (WrongType found) bytes other h = absurd h
-header_by_map (BadState found) bytes other h = absurd h
-header_by_map TooManyNodes bytes other h = absurd h
-header_by_map UserTooLong bytes other h = absurd h
-header_by_map Trailing bytes other h = absurd h
-header_by_map Memory bytes other h = absurd (other refl)
-header_by_map error bytes other h = tt
+    rw text.bytes (message_again header_message text.map_text rest text.pairs h text.text (passes ∙ ap passed (sym text.header)))
 
 header_after_refusal : (first : ℕ) (bytes : List ℕ) (error : WireFault) → error ≢ Memory → first ≡ 6
     → header_after bytes ≡ refused Header error → ReasonForHeader error (first ∷ bytes)
 header_after_refusal first bytes error other type e =
-    then_err (map_at header_layout bytes) (λ slots. checked (header_of slots)) error e (ReasonForHeader error (first ∷ bytes))
-    (λ map. header_by_map error (first ∷ bytes) other (map_refusal header_layout bytes error map))
-    (λ slots mid ok check. failing slots mid (map_takes header_layout bytes slots mid header_legal ok) (checked_err (header_of slots) mid error check))
-  where
-    failing : (slots : Slots) (mid : List ℕ) → (m : List ℕ) × (pairs : Pairs) × MapText header_layout m pairs ×
-        (bytes ≡ m ++ mid) × HoldsSlots header_layout pairs slots
-        → header_of slots ≡ failed Header error → ReasonForHeader error (first ∷ bytes)
-    failing slots mid m fails =
-        let begins : (F : Pairs → Type 0) → F m.1 → BeginsFailing header_layout F bytes =
-        λ F h. record { map_text = m.0; pairs = m.1; rest = mid; text = m.2; parts = m.3; failing = h } in
-        let six : first ∷ bytes ≡ 6 ∷ bytes = ap (λ (x : ℕ). x ∷ bytes) type in
-        header_err m.1 error (sym (header_same m.1 slots m.4) ∙ fails) (ReasonForHeader error (first ∷ bytes))
-        (λ many is. subst (λ f. ReasonForHeader f (first ∷ bytes)) is (bytes, six, begins (HeaderFails TooManyNodes) many))
-        (λ long is. subst (λ f. ReasonForHeader f (first ∷ bytes)) is (bytes, six, begins (HeaderFails UserTooLong) long))
+    let six : first ∷ bytes ≡ 6 ∷ bytes = ap (λ (x : ℕ). x ∷ bytes) type in
+    message_refusal header_message bytes error e (ReasonForHeader error (first ∷ bytes)) (λ map. (explained_by_map error (first ∷ bytes) other map).1)
+    (λ pairs fails begins. header_err pairs error fails (ReasonForHeader error (first ∷ bytes))
+    (λ many is. subst (λ f. ReasonForHeader f (first ∷ bytes)) is (bytes, six, begins (HeaderFails TooManyNodes) many))
+    (λ long is. subst (λ f. ReasonForHeader f (first ∷ bytes)) is (bytes, six, begins (HeaderFails UserTooLong) long)))
 
 pub header_refusal : (bytes : List ℕ) (error : WireFault) → error ≢ Memory → header_at bytes ≡ refused Header error → ReasonForHeader error bytes
 unfolding header_at
@@ -168,19 +137,19 @@ claim_from pairs state =
 abbrev state_from : Pairs → Result Claim WireFault
 state_from pairs = with_name (raw_of keys.Name pairs) (claim_from pairs (number_of keys.State pairs))
 
-state_same : (pairs : Pairs) (slots : Slots) → HoldsSlots state_layout pairs slots → state_of slots ≡ state_from pairs
-state_same pairs slots holds =
-    let addr : slot slots 0 ≡ of_key (key_text keys.Addr) pairs = holds 0 (omega arith) in
-    let inc : slot slots 1 ≡ of_key (key_text keys.Incarnation) pairs = holds 1 (omega arith) in
-    let meta : slot slots 2 ≡ of_key (key_text keys.Meta) pairs = holds 2 (omega arith) in
-    let name : slot slots 3 ≡ of_key (key_text keys.Name) pairs = holds 3 (omega arith) in
-    let port : slot slots 4 ≡ of_key (key_text keys.Port) pairs = holds 4 (omega arith) in
-    let state : slot slots 5 ≡ of_key (key_text keys.State) pairs = holds 5 (omega arith) in
-    let vsn : slot slots 6 ≡ of_key (key_text keys.Vsn) pairs = holds 6 (omega arith) in
-    rw (addr, inc, meta, name, port, state, vsn) refl
-
-claim_is : (c d : Claim) → passed c ≡ passed d → d ≡ c
-claim_is c d e = cc
+state_message : IsMessage state_layout state_of state_from
+state_message = record {
+  legal = state_legal;
+  same = λ pairs slots holds. rw (
+    holds 0 (omega arith),
+    holds 1 (omega arith),
+    holds 2 (omega arith),
+    holds 3 (omega arith),
+    holds 4 (omega arith),
+    holds 5 (omega arith),
+    holds 6 (omega arith),
+  ) refl;
+}
 
 -- the state is n
 state_is : (pairs : Pairs) (state n : ℕ) → state ≡ number_of keys.State pairs → eqb state n ≡ true → number_of keys.State pairs ≡ n
@@ -191,9 +160,9 @@ claim_ok pairs state c same =
     split (eqb state 0) P _ _
     (λ t e. let legal = with_details_ok (told_details pairs) (alive_with pairs) c e in alive (state_is pairs state 0 same t) (legal.0, legal.1) legal.2)
     (λ _.
-    split (eqb state 1) P _ _ (λ t e. suspect (state_is pairs state 1 same t) (claim_is (suspect_with pairs) c e)) (λ _.
-    split (eqb state 2) P _ _ (λ t e. confirm (state_is pairs state 2 same t) (claim_is (confirm_with pairs) c e)) (λ _.
-    split (eqb state 3) P _ _ (λ t e. leave (state_is pairs state 3 same t) (claim_is (leave_with pairs) c e)) (λ _ e. absurd cc))))
+    split (eqb state 1) P _ _ (λ t e. suspect (state_is pairs state 1 same t) (passed_is (suspect_with pairs) c e)) (λ _.
+    split (eqb state 2) P _ _ (λ t e. confirm (state_is pairs state 2 same t) (passed_is (confirm_with pairs) c e)) (λ _.
+    split (eqb state 3) P _ _ (λ t e. leave (state_is pairs state 3 same t) (passed_is (leave_with pairs) c e)) (λ _ e. absurd cc))))
   where
     P : Result Claim WireFault → Type 0
     P r = r ≡ passed c → IsStateOf pairs c
@@ -229,52 +198,27 @@ claim_err pairs state error same named fails Q address versions bad =
 pub state_takes : (bytes : List ℕ) (c : Claim) (rest : List ℕ) → state_at bytes ≡ read c rest → ConsumedText (λ b. StateText b c) bytes rest
 unfolding state_at
 state_takes bytes c rest e =
-    let t = then_ok (map_at state_layout bytes) (λ slots. checked (state_of slots)) c rest e in
-    let m = map_takes state_layout bytes t.0 t.1 state_legal t.2 in
-    let k = checked_ok (state_of t.0) t.1 c rest t.3 in
-    let named = with_name_ok (raw_of keys.Name m.1) (claim_from m.1 (number_of keys.State m.1)) c (sym (state_same m.1 t.0 m.4) ∙ k.0) in
+    let m = message_takes state_message bytes c rest e in
+    let named = with_name_ok (raw_of keys.Name m.1) (claim_from m.1 (number_of keys.State m.1)) c m.3 in
     record {
       text = m.0;
       is = record { pairs = m.1; text = m.2; name = named.0; state = claim_ok m.1 (number_of keys.State m.1) c refl named.1 };
-      parts = parts_to m.0 m.3 k.1;
+      parts = m.4;
     }
 
 pub state_again : (b rest : List ℕ) (c : Claim) → StateText b c → state_at (b ++ rest) ≡ read c rest
 unfolding state_at
 state_again b rest c text =
-    let a = map_again state_layout b text.pairs rest state_legal text.text in
-    let value : state_of a.0 ≡ passed c = state_same text.pairs a.0 a.2 ∙ with_name_again _ _ text.name ∙ claim_again text.pairs c text.state in
-    rw a.1 (ap (λ (r : Result Claim WireFault). checked r rest) value)
-
-state_by_map : (error : WireFault) (bytes : List ℕ) → error ≢ Memory → IsMapFault error → ReasonForState error bytes
-state_by_map NameEmpty bytes other h = absurd h
-state_by_map BadAddress bytes other h = absurd h
-state_by_map BadVersions bytes other h = absurd h
-state_by_map (WrongType found) bytes other h = absurd h
-state_by_map (BadState found) bytes other h = absurd h
-state_by_map TooManyNodes bytes other h = absurd h
-state_by_map UserTooLong bytes other h = absurd h
-state_by_map Trailing bytes other h = absurd h
-state_by_map Memory bytes other h = absurd (other refl)
-state_by_map error bytes other h = tt
+    message_again state_message b rest text.pairs c text.text (with_name_again _ _ text.name ∙ claim_again text.pairs c text.state)
 
 pub state_refusal : (bytes : List ℕ) (error : WireFault) → error ≢ Memory → state_at bytes ≡ refused Claim error → ReasonForState error bytes
 unfolding state_at
 state_refusal bytes error other e =
-    then_err (map_at state_layout bytes) (λ slots. checked (state_of slots)) error e (ReasonForState error bytes)
-    (λ map. state_by_map error bytes other (map_refusal state_layout bytes error map))
-    (λ slots mid ok check. failing slots mid (map_takes state_layout bytes slots mid state_legal ok) (checked_err (state_of slots) mid error check))
-  where
-    failing : (slots : Slots) (mid : List ℕ) → (m : List ℕ) × (pairs : Pairs) × MapText state_layout m pairs ×
-        (bytes ≡ m ++ mid) × HoldsSlots state_layout pairs slots
-        → state_of slots ≡ failed Claim error → ReasonForState error bytes
-    failing slots mid m fails =
-        let begins : (F : Pairs → Type 0) → F m.1 → BeginsFailing state_layout F bytes =
-        λ F h. record { map_text = m.0; pairs = m.1; rest = mid; text = m.2; parts = m.3; failing = h } in
-        let state = number_of keys.State m.1 in
-        with_name_err (raw_of keys.Name m.1) (claim_from m.1 state) error (sym (state_same m.1 slots m.4) ∙ fails) (ReasonForState error bytes)
-        (λ empty is. subst (λ f. ReasonForState f bytes) is (begins (StateFails NameEmpty) empty))
-        (λ named more. claim_err m.1 state error refl named more (ReasonForState error bytes)
-        (λ address is. subst (λ f. ReasonForState f bytes) is (begins (StateFails BadAddress) address))
-        (λ versions is. subst (λ f. ReasonForState f bytes) is (begins (StateFails BadVersions) versions))
-        (λ bad is. subst (λ f. ReasonForState f bytes) is (begins (StateFails (BadState state)) bad)))
+    message_refusal state_message bytes error e (ReasonForState error bytes) (λ map. (explained_by_map error bytes other map).2)
+    (λ pairs fails begins. let state = number_of keys.State pairs in
+    with_name_err (raw_of keys.Name pairs) (claim_from pairs state) error fails (ReasonForState error bytes)
+    (λ empty is. subst (λ f. ReasonForState f bytes) is (begins (StateFails NameEmpty) empty))
+    (λ named more. claim_err pairs state error refl named more (ReasonForState error bytes)
+    (λ address is. subst (λ f. ReasonForState f bytes) is (begins (StateFails BadAddress) address))
+    (λ versions is. subst (λ f. ReasonForState f bytes) is (begins (StateFails BadVersions) versions))
+    (λ bad is. subst (λ f. ReasonForState f bytes) is (begins (StateFails (BadState state)) bad))))
