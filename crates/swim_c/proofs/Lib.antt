@@ -1,11 +1,10 @@
 pub mod BehindOneAnother
+pub mod Contents
 pub mod Drops
 pub mod Faults
 pub mod Filled
 pub mod Halves
 pub mod Handles
-pub mod KeptHandles
-pub mod KeyringHandles
 pub mod Known
 pub mod NodeCalls
 pub mod Noting

@@ -1,14 +1,12 @@
 -- What a keyring's handle owns, and its keys.
-use base.Fml.{Fml, ftrue, ffalse}
+use base.Fml.{Fml}
 use base.Stored.{Coded}
 use denote.RawPtr.{Ptr}
-use Rattle.std.specs.Prelude.{◌≡◌, ℕ, List, [], ◌∷◌, ◌++◌, Bool, true, false, Option, Some, None}
+use Rattle.std.specs.Prelude.{◌≡◌, ℕ, List, [], ◌∷◌, ◌++◌, Bool, Option, Some, None}
 use Rattle.std.specs.Coded.{coded_option}
-use Rattle.std.specs.Box.Ownership.{box_owns}
-use Rattle.std.specs.contracts.impls.GlobalAllocator.TheImpl.{ghosts}
 use Rattle.memberlist_cipher.specs.Encryption.{IsKey}
 use Rattle.memberlist_keyring.specs.contracts.keyring.Keyring.{the_row}
-use Rattle.swim_c.specs.Handle.{heap}
+use Rattle.swim_c.specs.Handle.{holds}
 use Rattle.swim_c.specs.Statuses as statuses
 
 -- how proofs distinguish a keyring from another one, and from none
@@ -17,10 +15,7 @@ keyring_coded = coded_option the_row.coded
 
 -- a keyring and the right to free its block, if the handle has one
 abbrev pub keyring_owns : Ptr → Bool → Option the_row.Denot → Fml
-keyring_owns at true (Some keys) = box_owns (ghosts.dealloc_token heap) the_row at keys
-keyring_owns at false None = ftrue
-keyring_owns at true None = ffalse
-keyring_owns at false (Some keys) = ffalse
+keyring_owns = holds the_row
 
 -- the keys of a handle; an empty handle has none
 abbrev pub keys_of : Option (List (List ℕ)) → List (List ℕ)

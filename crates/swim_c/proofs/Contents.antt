@@ -1,0 +1,134 @@
+-- The three handles and what they hold: a node, a keyring, kept bytes. Assumes `Logic`.
+use Rattle.std.proofs.Common.{[], ◌∷◌, refl}
+use seplogic.Ra.Ura.{Ura}
+use mir.Syntax.{Dict, impl, method, tnil, dnil, no_args}
+use prog.Model.{Model}
+use prog.Wired.{Wired}
+use contract.Running.{Running, tables_of}
+use types.Logic.{Logic}
+use denote.Param.Glue.{Met}
+use Rattle.swim_c.specs.contracts.watching.Watched as node
+use Rattle.swim_c.proofs.watching.Watched.TheLaws as node_laws
+use Rattle.swim_c.proofs.swim_c++watching++Watched+Destruct.drop.Symbol as node_drop
+use Rattle.swim_c.proofs.swim_c++watching++Watched+Destruct.drop.Kinds as node_kinds
+use Rattle.swim_c.proofs.swim_c++watching++Watched+Destruct.drop.Reads as node_reads
+use Rattle.swim_c.proofs.swim_c++watching++Watched+Destruct.drop.Met.{met as node_met}
+use Rattle.memberlist_keyring.specs.contracts.keyring.Keyring as keyring
+use Rattle.memberlist_keyring.proofs.keyring.Keyring.TheLaws as keyring_laws
+use Rattle.swim_c.proofs.memberlist_keyring++keyring++Keyring+Destruct.drop.Symbol as keyring_drop
+use Rattle.swim_c.proofs.memberlist_keyring++keyring++Keyring+Destruct.drop.Kinds as keyring_kinds
+use Rattle.swim_c.proofs.memberlist_keyring++keyring++Keyring+Destruct.drop.Reads as keyring_reads
+use Rattle.swim_c.proofs.memberlist_keyring++keyring++Keyring+Destruct.drop.Met.{met as keyring_met}
+use Rattle.swim_c.specs.contracts.kept.Kept as kept
+use Rattle.swim_c.proofs.kept.Kept.TheLaws as kept_laws
+use Rattle.swim_c.proofs.swim_c++kept++Kept+Destruct.drop.Symbol as kept_drop
+use Rattle.swim_c.proofs.swim_c++kept++Kept+Destruct.drop.Kinds as kept_kinds
+use Rattle.swim_c.proofs.swim_c++kept++Kept+Destruct.drop.Reads as kept_reads
+use Rattle.swim_c.proofs.swim_c++kept++Kept+Destruct.drop.Met.{met as kept_met}
+use Rattle.swim_c.specs.Handle.{handle_owns}
+use Rattle.swim_c.specs.Keyring.{keyring_owns}
+use Rattle.swim_c.specs.Kept.{kept_owns}
+use Rattle.swim_c.specs.contracts.handle.Handle as node_handle
+use Rattle.swim_c.specs.contracts.keyring.KeyringHandle as keyring_handle
+use Rattle.swim_c.specs.contracts.kept_handle.KeptHandle as kept_handle
+use Rattle.swim_c.proofs.Drops.{passed, passed_laws, goes}
+use Rattle.swim_c.proofs.Handles.{Content, Handle}
+
+abbrev pub node_drops : Dict
+node_drops = impl ("swim_c::swim_c++watching++Watched+Destruct::drop" ∷ []) tnil dnil
+
+pub node_goes : {M : Type 1} (𝓤 : Ura M) (𝓛 : Logic 𝓤) (𝓜 : Model 𝓤 𝓛.H) (𝓡 : Running 𝓤 𝓛.H 𝓜) → Wired 𝓡.env node_drop.code → Met 𝓛 𝓜 𝓡 𝓡.env (passed node.the_row) node_drops
+unfolding tables_of
+node_goes {M} 𝓤 𝓛 𝓜 𝓡 wired =
+    goes node.the_row (passed_laws node.the_row node_laws.the_row_laws refl) node_drops _ _ _ node_kinds.ps refl node_reads.requires node_reads.ensures node_reads.Asked node_reads.Learnt node_reads.known (λ κs a. tt)
+    (record { M = M; 𝓤 = 𝓤; 𝓛 = 𝓛; 𝓜 = 𝓜; 𝓡 = 𝓡 }) node_drop.name (node_drop.as_method 𝓡.env wired (method node_drops 0 no_args) refl) (node_met 𝓤 𝓛 𝓜 𝓡 wired)
+
+abbrev pub a_node : Content
+a_node = record {
+  row = node.the_row;
+  laws = passed_laws node.the_row node_laws.the_row_laws refl;
+  lives = node_laws.the_within [];
+  drops = node_drops;
+  drop_code = node_drop.code;
+  goes = node_goes;
+  same_owns = λ p x. refl;
+  same = λ d vs. refl;
+}
+
+abbrev pub of_node : Handle
+of_node = record {
+  row = node_handle.the_row;
+  name = node_handle.the_type.name;
+  at = λ h. h.at;
+  held = λ h. h.held;
+  owns = λ h. handle_owns h.at h.held h.node h.changes;
+  opened = λ h vs. refl;
+  last = λ h. tt;
+  silent = λ h f. refl;
+}
+
+abbrev pub keyring_drops : Dict
+keyring_drops = impl ("swim_c::memberlist_keyring++keyring++Keyring+Destruct::drop" ∷ []) tnil dnil
+
+pub keyring_goes : {M : Type 1} (𝓤 : Ura M) (𝓛 : Logic 𝓤) (𝓜 : Model 𝓤 𝓛.H) (𝓡 : Running 𝓤 𝓛.H 𝓜) → Wired 𝓡.env keyring_drop.code → Met 𝓛 𝓜 𝓡 𝓡.env (passed keyring.the_row) keyring_drops
+unfolding tables_of
+keyring_goes {M} 𝓤 𝓛 𝓜 𝓡 wired =
+    goes keyring.the_row (passed_laws keyring.the_row keyring_laws.the_row_laws refl) keyring_drops _ _ _ keyring_kinds.ps refl keyring_reads.requires keyring_reads.ensures keyring_reads.Asked keyring_reads.Learnt keyring_reads.known (λ κs a. tt)
+    (record { M = M; 𝓤 = 𝓤; 𝓛 = 𝓛; 𝓜 = 𝓜; 𝓡 = 𝓡 }) keyring_drop.name (keyring_drop.as_method 𝓡.env wired (method keyring_drops 0 no_args) refl) (keyring_met 𝓤 𝓛 𝓜 𝓡 wired)
+
+abbrev pub a_keyring : Content
+a_keyring = record {
+  row = keyring.the_row;
+  laws = passed_laws keyring.the_row keyring_laws.the_row_laws refl;
+  lives = keyring_laws.the_within [];
+  drops = keyring_drops;
+  drop_code = keyring_drop.code;
+  goes = keyring_goes;
+  same_owns = λ p x. refl;
+  same = λ d vs. refl;
+}
+
+abbrev pub of_keyring : Handle
+of_keyring = record {
+  row = keyring_handle.the_row;
+  name = keyring_handle.the_type.name;
+  at = λ h. h.at;
+  held = λ h. h.held;
+  owns = λ h. keyring_owns h.at h.held h.keys;
+  opened = λ h vs. refl;
+  last = λ h. tt;
+  silent = λ h f. refl;
+}
+
+abbrev pub kept_drops : Dict
+kept_drops = impl ("swim_c::swim_c++kept++Kept+Destruct::drop" ∷ []) tnil dnil
+
+pub kept_goes : {M : Type 1} (𝓤 : Ura M) (𝓛 : Logic 𝓤) (𝓜 : Model 𝓤 𝓛.H) (𝓡 : Running 𝓤 𝓛.H 𝓜) → Wired 𝓡.env kept_drop.code → Met 𝓛 𝓜 𝓡 𝓡.env (passed kept.the_row) kept_drops
+unfolding tables_of
+kept_goes {M} 𝓤 𝓛 𝓜 𝓡 wired =
+    goes kept.the_row (passed_laws kept.the_row kept_laws.the_row_laws refl) kept_drops _ _ _ kept_kinds.ps refl kept_reads.requires kept_reads.ensures kept_reads.Asked kept_reads.Learnt kept_reads.known (λ κs a. tt)
+    (record { M = M; 𝓤 = 𝓤; 𝓛 = 𝓛; 𝓜 = 𝓜; 𝓡 = 𝓡 }) kept_drop.name (kept_drop.as_method 𝓡.env wired (method kept_drops 0 no_args) refl) (kept_met 𝓤 𝓛 𝓜 𝓡 wired)
+
+abbrev pub a_kept : Content
+a_kept = record {
+  row = kept.the_row;
+  laws = passed_laws kept.the_row kept_laws.the_row_laws refl;
+  lives = kept_laws.the_within [];
+  drops = kept_drops;
+  drop_code = kept_drop.code;
+  goes = kept_goes;
+  same_owns = λ p x. refl;
+  same = λ d vs. refl;
+}
+
+abbrev pub of_kept : Handle
+of_kept = record {
+  row = kept_handle.the_row;
+  name = kept_handle.the_type.name;
+  at = λ h. h.at;
+  held = λ h. h.held;
+  owns = λ h. kept_owns h.at h.held h.kept;
+  opened = λ h vs. refl;
+  last = λ h. tt;
+  silent = λ h f. refl;
+}
