@@ -8,9 +8,12 @@ ghost use Rattle.swim_table.specs.News.{AreChanges, HasAlso};
 
 use crate::comparing::is_covered;
 use crate::entry::Entry;
-use crate::table::{FAR_SMALLER, Table};
+use crate::table::Table;
 use std::alloc::{AllocError, Global};
 use swim_claim::Claim;
+
+/// A search for a name costs about as much as a walk over this many entries.
+const ENTRIES_PER_SEARCH: usize = 8;
 
 /// The names whose entries a join of the other table would add or change, as a table. What it keeps
 /// for each name is not promised. This searches the table for each name of the other one.
@@ -39,7 +42,7 @@ pub fn has_news(table: &Table, other: &Table) -> bool
     ensures { MatchBool result
         (Join table.now other.now ≢ table.now) (Join table.now other.now ≡ table.now) }
 {
-    if other.len() < table.len() / FAR_SMALLER {
+    if other.len() < table.len() / ENTRIES_PER_SEARCH {
         finds_news(table, other)
     } else {
         !is_covered(other.tiers(), table.tiers())
