@@ -1,0 +1,10 @@
+pub mod Forms
+pub mod Keys
+pub mod Slots
+pub mod Values
+pub mod Reading
+pub mod Layouts
+pub mod Claims
+pub mod Messages
+pub mod Compounds
+pub mod Writing
