@@ -9,42 +9,53 @@ use Rattle.memberlist_view.specs.declared.event.Event.{Event}
 use Rattle.memberlist_view.specs.declared.event.Event.TheVariants as event
 use Rattle.memberlist_view.specs.declared.heard.Heard.{Heard}
 use Rattle.memberlist_view.specs.declared.heard.Said.{Said}
-use Rattle.memberlist_view.specs.declared.heard.Said.TheVariants.{Alive, Suspect, Dead, Left}
+use Rattle.memberlist_view.specs.declared.heard.Said.TheVariants.{Alive, Suspect, Dead, Left, Seen}
 use Rattle.memberlist_view.specs.Heard.{about}
-use Rattle.memberlist_view.specs.Rules.{Change, name_cmp, is_passed_over, are_sound_versions, is_same_place, is_dead, is_gone, has_left, is_forgotten, is_rival, alive_again, alive_known, accused, suspected, ended, change_by, change}
+use Rattle.memberlist_view.specs.Rules.{Change, name_cmp, is_passed_over, is_passed_rival, are_sound_versions, is_same_place, with_versions, is_gone, has_left, is_forgotten, alive_again, alive_at, alive, accused, suspect_since, suspected, ended, blank, lacks_place, seen_in, seen_at, change_of_entry, change_by, change}
 use Rattle.memberlist_view.specs.Shown.{changed, shown_next}
 use Rattle.memberlist_view.specs.Lasting.{is_same_kind, IsSince, IsSince as since}
 use Rattle.memberlist_view.proofs.Changing.{by_test, first_true}
 
 same_kind_itself : (s : State) → is_same_kind s s ≡ true
+same_kind_itself state.Noted = refl
+same_kind_itself state.Seen = refl
 same_kind_itself state.Alive = refl
 same_kind_itself (state.Suspect by) = refl
 same_kind_itself (state.Dead by) = refl
 same_kind_itself state.Left = refl
 
-dead_not_alive : (s : State) → is_dead s ≡ true → is_same_kind s state.Alive ≡ false
-dead_not_alive state.Alive h = absurd (cc (h))
-dead_not_alive (state.Suspect by) h = refl
-dead_not_alive (state.Dead by) h = refl
-dead_not_alive state.Left h = refl
+gone_not_alive : (s : State) → is_gone s ≡ true → is_same_kind s state.Alive ≡ false
+gone_not_alive state.Noted h = absurd (cc (h))
+gone_not_alive state.Seen h = absurd (cc (h))
+gone_not_alive state.Alive h = absurd (cc (h))
+gone_not_alive (state.Suspect by) h = absurd (cc (h))
+gone_not_alive (state.Dead by) h = refl
+gone_not_alive state.Left h = refl
 
 left_not_alive : (s : State) → has_left s ≡ true → is_same_kind s state.Alive ≡ false
+left_not_alive state.Noted h = absurd (cc (h))
+left_not_alive state.Seen h = absurd (cc (h))
 left_not_alive state.Alive h = absurd (cc (h))
-left_not_alive (state.Suspect by) h = refl
-left_not_alive (state.Dead by) h = refl
+left_not_alive (state.Suspect by) h = absurd (cc (h))
+left_not_alive (state.Dead by) h = absurd (cc (h))
 left_not_alive state.Left h = refl
 
-other_when_gone : (s end : State) → is_gone s ≡ false → is_gone end ≡ true → is_same_kind s end ≡ false
-other_when_gone state.Alive state.Alive h k = absurd (cc (k))
-other_when_gone state.Alive (state.Suspect by) h k = refl
-other_when_gone state.Alive (state.Dead by) h k = refl
-other_when_gone state.Alive state.Left h k = refl
-other_when_gone (state.Suspect by) state.Alive h k = refl
-other_when_gone (state.Suspect by) (state.Suspect others) h k = absurd (cc (k))
-other_when_gone (state.Suspect by) (state.Dead other) h k = refl
-other_when_gone (state.Suspect by) state.Left h k = refl
-other_when_gone (state.Dead by) end h k = absurd (cc (h))
-other_when_gone state.Left end h k = absurd (cc (h))
+-- a state that is not gone becomes dead, or left
+other_when_dead : (s : State) (from : List ℕ) → is_gone s ≡ false → is_same_kind s (state.Dead from) ≡ false
+other_when_dead state.Noted from h = refl
+other_when_dead state.Seen from h = refl
+other_when_dead state.Alive from h = refl
+other_when_dead (state.Suspect by) from h = refl
+other_when_dead (state.Dead by) from h = absurd (cc (h))
+other_when_dead state.Left from h = absurd (cc (h))
+
+other_when_left : (s : State) → is_gone s ≡ false → is_same_kind s state.Left ≡ false
+other_when_left state.Noted h = refl
+other_when_left state.Seen h = refl
+other_when_left state.Alive h = refl
+other_when_left (state.Suspect by) h = refl
+other_when_left (state.Dead by) h = absurd (cc (h))
+other_when_left state.Left h = absurd (cc (h))
 
 -- ---- one thing heard
 
@@ -60,53 +71,86 @@ module _ (time : ℕ) (entry : Entry) where
   began_as s e here other when = since.began (ap (λ t. is_same_kind t e.state) here ∙ other) when
 
   module _ (inc : ℕ) where
-    again_since : (details : DetailsValue) (s : State) → entry.state ≡ s → IfSome (alive_again s time entry inc details) Is
-    again_since details state.Alive e = kept_as state.Alive _ e refl refl
-    again_since details (state.Suspect by) e = began_as (state.Suspect by) _ e refl refl
-    again_since details (state.Dead by) e = began_as (state.Dead by) _ e refl refl
-    again_since details state.Left e = began_as state.Left _ e refl refl
+    again_since : (details : DetailsValue) (joins : Bool) (s : State) → entry.state ≡ s → IfSome (alive_again s time entry inc details joins) Is
+    again_since details joins state.Noted e = began_as state.Noted _ e refl refl
+    again_since details joins state.Seen e = kept_as state.Seen _ e refl refl
+    again_since details joins state.Alive e = kept_as state.Alive _ e refl refl
+    again_since details joins (state.Suspect by) e = began_as (state.Suspect by) _ e refl refl
+    again_since details joins (state.Dead by) e = began_as (state.Dead by) _ e refl refl
+    again_since details joins state.Left e = began_as state.Left _ e refl refl
 
-    known_since : (wait : ℕ) (details : DetailsValue) → IfSome (alive_known wait time entry inc details) Is
-    known_since wait details = by_test Is (is_forgotten wait time entry) _ _
-        (λ late. by_test Is (nat_lt 0 inc) _ None (λ _. began_as entry.state _ refl (dead_not_alive entry.state (first_true (is_dead entry.state) _ late)) refl) (λ _. tt))
-        (λ _. by_test Is (is_same_place entry.details details) _ _
-        (λ _. by_test Is (nat_le inc entry.inc) None _ (λ _. tt) (λ _. again_since details entry.state refl))
+    at_since : (o : Option DetailsValue) (details : DetailsValue) (joins : Bool) → IfSome (alive_at o time entry inc details joins) Is
+    at_since None details joins = by_test Is (nat_le inc entry.inc) _ _
+        (λ _. kept_as entry.state _ refl (same_kind_itself entry.state) refl)
+        (λ _. again_since (with_versions entry.details details) joins entry.state refl)
+    at_since (Some old) details joins = by_test Is (is_same_place old details) _ _
+        (λ _. by_test Is (nat_le inc entry.inc) None _ (λ _. tt) (λ _. again_since (with_versions entry.details details) joins entry.state refl))
         (λ _. by_test Is (has_left entry.state) _ _
         (λ left. began_as entry.state _ refl (left_not_alive entry.state left) refl)
-        (λ _. by_test Is (is_rival entry.rival details) None _ (λ _. tt) (λ _. kept_as entry.state _ refl (same_kind_itself entry.state) refl))))
+        (λ _. by_test Is (is_passed_rival entry.rivals details) None _ (λ _. tt) (λ _. kept_as entry.state _ refl (same_kind_itself entry.state) refl)))
+
+    alive_is_since : (wait : ℕ) (details : DetailsValue) (joins : Bool) → IfSome (alive wait time entry inc details joins) Is
+    alive_is_since wait details joins = by_test Is (is_forgotten wait time entry) _ _
+        (λ late. by_test Is (nat_lt 0 inc) _ None (λ _. began_as entry.state _ refl (gone_not_alive entry.state (first_true (is_gone entry.state) _ late)) refl) (λ _. tt))
+        (λ _. at_since entry.details details joins)
 
     accused_since : (by : List (List ℕ)) (from : Option (List ℕ)) → entry.state ≡ state.Suspect by → IfSome (accused by entry from) Is
     accused_since by None e = tt
     accused_since by (Some f) e = by_test Is (is_passed_over f by) None _ (λ _. tt) (λ _. kept_as (state.Suspect by) _ e refl refl)
 
     suspected_since : (from : Option (List ℕ)) (s : State) → entry.state ≡ s → IfSome (suspected s time entry inc from) Is
+    suspected_since from state.Noted e = began_as state.Noted _ e refl refl
+    suspected_since from state.Seen e = began_as state.Seen _ e refl refl
     suspected_since from state.Alive e = began_as state.Alive _ e refl refl
     suspected_since from (state.Suspect by) e = accused_since by from e
     suspected_since from (state.Dead by) e = tt
     suspected_since from state.Left e = tt
 
-    ended_since : (end : State) (what : Event) → is_gone end ≡ true → IfSome (ended end what time entry inc) Is
-    ended_since end what gone = by_test Is (is_gone entry.state) None _ (λ _. tt)
-        (λ here. began_as entry.state _ refl (other_when_gone entry.state end here gone) refl)
+    dead_since : (from : List ℕ) → IfSome (ended (state.Dead from) event.Dead time entry inc) Is
+    dead_since from = by_test Is (is_gone entry.state) None _ (λ _. tt)
+        (λ here. began_as entry.state _ refl (other_when_dead entry.state from here) refl)
+
+    left_since : IfSome (ended state.Left event.Left time entry inc) Is
+    left_since = by_test Is (is_gone entry.state) None _ (λ _. tt)
+        (λ here. began_as entry.state _ refl (other_when_left entry.state here) refl)
+
+  seen_in_since : (s : State) (place : DetailsValue) → entry.state ≡ s → IsSince (Some entry) time (seen_in s time entry place)
+  seen_in_since state.Noted place e = began_as state.Noted _ e refl refl
+  seen_in_since state.Seen place e = kept_as entry.state _ refl (same_kind_itself entry.state) refl
+  seen_in_since state.Alive place e = kept_as entry.state _ refl (same_kind_itself entry.state) refl
+  seen_in_since (state.Suspect by) place e = kept_as entry.state _ refl (same_kind_itself entry.state) refl
+  seen_in_since (state.Dead by) place e = kept_as entry.state _ refl (same_kind_itself entry.state) refl
+  seen_in_since state.Left place e = kept_as entry.state _ refl (same_kind_itself entry.state) refl
+
+of_entry_since : (wait time : ℕ) (entry : Entry) (said : Said) → IfSome (change_of_entry wait time entry said) (λ p. IsSince (Some entry) time p.0)
+of_entry_since wait time entry (Alive name inc details joins) =
+    by_test (Is time entry) (are_sound_versions details.vsn) _ None (λ _. alive_is_since time entry inc wait details joins) (λ _. tt)
+of_entry_since wait time entry (Suspect name inc from) =
+    by_test (Is time entry) (nat_lt inc entry.inc) None _ (λ _. tt) (λ _. suspected_since time entry inc from entry.state refl)
+of_entry_since wait time entry (Dead name inc from) =
+    by_test (Is time entry) (nat_lt inc entry.inc) None _ (λ _. tt) (λ _.
+    by_test (Is time entry) (is_eq (name_cmp name from)) _ _ (λ _. left_since time entry inc) (λ _. dead_since time entry inc from))
+of_entry_since wait time entry (Left name inc) =
+    by_test (Is time entry) (nat_lt inc entry.inc) None _ (λ _. tt) (λ _. left_since time entry inc)
+of_entry_since wait time entry (Seen name place) =
+    by_test (Is time entry) (lacks_place entry) _ None (λ _. seen_in_since time entry entry.state place refl) (λ _. tt)
+
+-- since the blank entry means since now
+since_blank : (time : ℕ) (e : Entry) → IsSince (Some (blank time)) time e → IsSince None time e
+since_blank time e (since.kept before is same when) =
+    since.began tt (when ∙ ap (λ (f : Entry). f.since) (unwrapped before is))
+  where
+    unwrapped : (b : Entry) → Some (blank time) ≡ Some b → b ≡ blank time
+    unwrapped b h = cc (h)
+since_blank time e (since.began other when) = since.began tt when
+
+each_since : (time : ℕ) (what : Change) → IfSome what (λ p. IsSince (Some (blank time)) time p.0) → IfSome what (λ p. IsSince None time p.0)
+each_since time None h = tt
+each_since time (Some p) h = since_blank time p.0 h
 
 change_since : (wait time : ℕ) (old : Option Entry) (said : Said) → IfSome (change_by wait time old said) (λ p. IsSince old time p.0)
-change_since wait time None (Alive name inc details) =
-    by_test (λ p. IsSince None time p.0) (are_sound_versions details.vsn) _ None
-    (λ _. by_test (λ p. IsSince None time p.0) (nat_lt 0 inc) _ None (λ _. since.began tt refl) (λ _. tt)) (λ _. tt)
-change_since wait time None (Suspect name inc from) = tt
-change_since wait time None (Dead name inc from) = tt
-change_since wait time None (Left name inc) = tt
-change_since wait time (Some entry) (Alive name inc details) =
-    by_test (Is time entry) (are_sound_versions details.vsn) _ None (λ _. known_since time entry inc wait details) (λ _. tt)
-change_since wait time (Some entry) (Suspect name inc from) =
-    by_test (Is time entry) (nat_lt inc entry.inc) None _ (λ _. tt) (λ _. suspected_since time entry inc from entry.state refl)
-change_since wait time (Some entry) (Dead name inc from) =
-    by_test (Is time entry) (nat_lt inc entry.inc) None _ (λ _. tt) (λ _.
-    by_test (Is time entry) (is_eq (name_cmp name from)) _ _
-    (λ _. ended_since time entry inc state.Left event.Left refl)
-    (λ _. ended_since time entry inc (state.Dead from) event.Dead refl))
-change_since wait time (Some entry) (Left name inc) =
-    by_test (Is time entry) (nat_lt inc entry.inc) None _ (λ _. tt) (λ _. ended_since time entry inc state.Left event.Left refl)
+change_since wait time None said = each_since time _ (of_entry_since wait time (blank time) said)
+change_since wait time (Some entry) said = of_entry_since wait time entry said
 
 -- ---- what is shown
 

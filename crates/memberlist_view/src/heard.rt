@@ -14,6 +14,9 @@ pub enum Said {
         name: MemberName,
         inc: u32,
         details: Details,
+        /// Whether a new name joins by it: it came by gossip, or it is the sender's own record in
+        /// a push/pull whose Join is true.
+        joins: bool,
     },
     /// memberlist's suspect, from the member that says so. A record of a stream names none.
     Suspect {
@@ -27,10 +30,16 @@ pub enum Said {
         inc: u32,
         from: MemberName,
     },
-    /// A record of a stream that says left.
+    /// A dead from the member itself, or a record of a stream that says left.
     Left {
         name: MemberName,
         inc: u32,
+    },
+    /// No claim: a packet shows that the member is alive at this address and port. Metadata and
+    /// versions are empty.
+    Seen {
+        name: MemberName,
+        place: Details,
     },
 }
 
@@ -45,15 +54,17 @@ pub struct Heard {
 
 impl Said {
     /// What a record of a push/pull stream says (memberlist's `mergeState`): a member that is
-    /// suspect or dead there is suspected, and nobody is named.
-    pub fn of_record(claim: Claim) -> Said
-        ensures { result ≡ said_in_record claim }
+    /// suspect or dead there is suspected, and nobody is named. `joins` is for an alive one, as in
+    /// [`Said::Alive`].
+    pub fn of_record(claim: Claim, joins: bool) -> Said
+        ensures { result ≡ said_in_record claim joins }
     {
         match claim {
             Claim::Alive { name, inc, details } => Said::Alive {
                 name: MemberName::new(name),
                 inc,
                 details,
+                joins,
             },
             Claim::Suspect { name, inc } | Claim::Confirm { name, inc } => Said::Suspect {
                 name: MemberName::new(name),
@@ -76,6 +87,7 @@ impl Said {
             Said::Suspect { name, .. } => name,
             Said::Dead { name, .. } => name,
             Said::Left { name, .. } => name,
+            Said::Seen { name, .. } => name,
         }
     }
 }

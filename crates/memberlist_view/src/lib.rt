@@ -6,6 +6,7 @@
 //! | `heard` | what was heard, and when |
 //! | `entry` | what a view shows for a name |
 //! | `accusers` | who suspects a member |
+//! | `rivals` | other agents of one name |
 //! | `event` | what changed |
 //! | `change` | the rules, one name at a time |
 //! | `view` | the view of all names |
@@ -19,6 +20,7 @@ mod event;
 mod heard;
 pub mod laws;
 mod member_name;
+mod rivals;
 #[cfg(test)]
 mod tests;
 mod view;
@@ -28,4 +30,5 @@ pub use entry::{Entry, State};
 pub use event::Event;
 pub use heard::{Heard, Said};
 pub use member_name::MemberName;
+pub use rivals::Rivals;
 pub use view::View;

@@ -22,7 +22,7 @@ const NAME: &str = "web-4";
 /// What is said about it.
 #[derive(Clone, Copy)]
 enum Word {
-    /// It is alive at this incarnation at 10.20.1.x, for the last number.
+    /// It is alive at this incarnation at 10.20.1.x, for the last number, by gossip.
     Alive(u32, u8),
     /// The same, with another tag.
     Tagged(u32, u8),
@@ -32,8 +32,12 @@ enum Word {
     Suspect(u32, &'static str),
     /// This member says that it is dead.
     Dead(u32, &'static str),
+    /// The same, without versions.
+    Silent(u32, u8),
     /// A record of a stream says so. An alive one is at 10.20.1.14.
     Record(Kind, u32),
+    /// A packet shows it there.
+    Seen(u8),
 }
 
 /// At which millisecond, what is said, and the event.
@@ -57,26 +61,35 @@ fn details(alloc: Global, host: u8, meta: &[u8], speaks: [u8; 3]) -> Result<Deta
     )?)
 }
 
+/// An address and port, without metadata and versions.
+fn place(alloc: Global, host: u8) -> Result<Details, Fail> {
+    Ok(Details::of(&[10, 20, 1, host], 7946, Vec::new(alloc), &[])?)
+}
+
 fn alive(alloc: Global, inc: u32, details: Details) -> Result<Said, Fail> {
     Ok(Said::Alive {
         name: MemberName::new(name(alloc, NAME)?),
         inc,
         details,
+        joins: true,
     })
 }
 
 fn said_in_record(alloc: Global, kind: Kind, inc: u32) -> Result<Said, Fail> {
     let name = name(alloc, NAME)?;
-    Ok(Said::of_record(match kind {
-        Kind::Alive => Claim::Alive {
-            name,
-            inc,
-            details: details(alloc, 14, b"\xff\x80", [1, 5, 2])?,
+    Ok(Said::of_record(
+        match kind {
+            Kind::Alive => Claim::Alive {
+                name,
+                inc,
+                details: details(alloc, 14, b"\xff\x80", [1, 5, 2])?,
+            },
+            Kind::Suspect => Claim::Suspect { name, inc },
+            Kind::Confirm => Claim::Confirm { name, inc },
+            Kind::Leave => Claim::Leave { name, inc },
         },
-        Kind::Suspect => Claim::Suspect { name, inc },
-        Kind::Confirm => Claim::Confirm { name, inc },
-        Kind::Leave => Claim::Leave { name, inc },
-    }))
+        false,
+    ))
 }
 
 fn said(alloc: Global, word: Word) -> Result<Said, Fail> {
@@ -102,7 +115,12 @@ fn said(alloc: Global, word: Word) -> Result<Said, Fail> {
             inc,
             from: MemberName::new(name(alloc, from)?),
         }),
+        Word::Silent(inc, host) => alive(alloc, inc, place(alloc, host)?),
         Word::Record(kind, inc) => said_in_record(alloc, kind, inc),
+        Word::Seen(host) => Ok(Said::Seen {
+            name: MemberName::new(name(alloc, NAME)?),
+            place: place(alloc, host)?,
+        }),
     }
 }
 
@@ -115,18 +133,23 @@ fn told(view: &mut View, heard: &Heard) -> Result<Option<Event>, AllocError> {
 }
 
 /// Serf's word for a state, where a suspected member counts as alive, and the last number of the
-/// address.
+/// address, or 0 if there is none.
 fn shown(alloc: Global, view: &View) -> Result<(&'static str, u8), Fail> {
     let name = MemberName::new(name(alloc, NAME)?);
     let Some(entry) = view.get(&name) else {
         return Ok(("unknown", 0));
     };
     let status = match entry.state {
-        State::Alive | State::Suspect { .. } => "alive",
+        State::Noted => "noted",
+        State::Seen | State::Alive | State::Suspect { .. } => "alive",
         State::Dead { .. } => "failed",
         State::Left => "left",
     };
-    Ok((status, entry.details.addr()[3]))
+    let host = match entry.place() {
+        Some(place) => place.addr()[3],
+        None => 0,
+    };
+    Ok((status, host))
 }
 
 /// A view with this wait that hears these has these events, and shows this in the end.
@@ -206,8 +229,7 @@ fn another_address_is_a_conflict_until_the_first_is_forgotten(rt: HostRuntime) -
 #[test]
 fn records_of_streams_accuse_in_nobodys_name(rt: HostRuntime) -> Result<(), Fail> {
     let steps = [
-        (1, Word::Record(Kind::Confirm, 1), None),
-        (2, Word::Record(Kind::Alive, 1), Some(Event::Joined)),
+        (2, Word::Record(Kind::Alive, 1), Some(Event::Known)),
         (3, Word::Record(Kind::Confirm, 1), Some(Event::Suspected)),
         (4, Word::Record(Kind::Suspect, 1), None),
         (5, Word::Suspect(1, "web-1"), Some(Event::AlsoSuspected)),
@@ -216,7 +238,6 @@ fn records_of_streams_accuse_in_nobodys_name(rt: HostRuntime) -> Result<(), Fail
         (8, Word::Tagged(4, 14), Some(Event::Renewed)),
         (9, Word::Record(Kind::Leave, 4), Some(Event::Left)),
     ];
-    assert_tells(&rt, rt.alloc(), LOCAL, &steps[..1], ("unknown", 0))?;
     assert_tells(&rt, rt.alloc(), LOCAL, &steps, ("left", 14))
 }
 
@@ -232,16 +253,18 @@ fn the_address_of_one_that_left_is_free(rt: HostRuntime) -> Result<(), Fail> {
     assert_tells(&rt, rt.alloc(), LOCAL, &steps, ("alive", 24))
 }
 
-// aliveNode: a name that is new, or forgotten, is at incarnation 0.
+// aliveNode: a name that is new, or forgotten, is at incarnation 0, so an Alive at 0 gives only the
+// address, which is then its own.
 #[test]
-fn an_alive_at_incarnation_0_is_none(rt: HostRuntime) -> Result<(), Fail> {
+fn an_alive_at_incarnation_0_gives_the_address(rt: HostRuntime) -> Result<(), Fail> {
     let steps = [
-        (1_000, Word::Alive(0, 14), None),
+        (1_000, Word::Alive(0, 14), Some(Event::Known)),
+        (1_500, Word::Alive(1, 24), Some(Event::Conflict)),
         (2_000, Word::Alive(1, 14), Some(Event::Joined)),
         (3_000, Word::Dead(1, "web-1"), Some(Event::Dead)),
         (90_000, Word::Alive(0, 14), None),
     ];
-    assert_tells(&rt, rt.alloc(), LOCAL, &steps[..1], ("unknown", 0))?;
+    assert_tells(&rt, rt.alloc(), LOCAL, &steps[..2], ("noted", 14))?;
     assert_tells(&rt, rt.alloc(), LOCAL, &steps, ("failed", 14))
 }
 
@@ -264,15 +287,15 @@ fn an_alive_with_unsound_versions_is_none(rt: HostRuntime) -> Result<(), Fail> {
     assert_tells(&rt, rt.alloc(), LOCAL, &steps, ("alive", 14))
 }
 
-// moveDeadNodes skips a member that left.
+// moveDeadNodes of later versions than 0.2.2 forgets a member that left, too.
 #[test]
-fn one_that_left_is_never_forgotten(rt: HostRuntime) -> Result<(), Fail> {
+fn one_that_left_is_forgotten_after_more_than_the_wait(rt: HostRuntime) -> Result<(), Fail> {
     let steps = [
         (1_000, Word::Alive(3, 14), Some(Event::Joined)),
         (2_000, Word::Dead(3, "web-4"), Some(Event::Left)),
-        (4_000_000_000, Word::Alive(3, 14), None),
-        (4_000_000_001, Word::Dead(4, "web-1"), None),
-        (4_000_000_002, Word::Alive(4, 14), Some(Event::Back)),
+        (32_000, Word::Alive(3, 14), None),
+        (32_001, Word::Dead(4, "web-1"), None),
+        (32_002, Word::Alive(3, 14), Some(Event::Back)),
     ];
     assert_tells(&rt, rt.alloc(), LOCAL, &steps[..4], ("left", 14))?;
     assert_tells(&rt, rt.alloc(), LOCAL, &steps, ("alive", 14))
@@ -300,16 +323,47 @@ fn one_that_died_is_forgotten_after_more_than_the_wait(rt: HostRuntime) -> Resul
     Ok(())
 }
 
-// Each rival is reported unless it is the one that was reported last.
+// Two rivals in turn are reported once each, and again after an Alive that is believed.
 #[test]
-fn each_further_rival_is_told(rt: HostRuntime) -> Result<(), Fail> {
+fn each_rival_is_told_once(rt: HostRuntime) -> Result<(), Fail> {
     let steps = [
         (1_000, Word::Alive(1, 14), Some(Event::Joined)),
         (2_000, Word::Alive(1, 24), Some(Event::Conflict)),
         (3_000, Word::Alive(9, 24), None),
         (4_000, Word::Alive(1, 34), Some(Event::Conflict)),
+        (4_500, Word::Alive(1, 24), None),
         (5_000, Word::Alive(2, 14), Some(Event::Renewed)),
         (6_000, Word::Alive(1, 34), Some(Event::Conflict)),
     ];
     assert_tells(&rt, rt.alloc(), LOCAL, &steps, ("alive", 14))
+}
+
+// A capture that begins during an incident: nothing was heard of the member but its death.
+#[test]
+fn a_death_is_told_of_a_name_that_no_alive_gave(rt: HostRuntime) -> Result<(), Fail> {
+    let steps = [
+        (1_000, Word::Suspect(3, "web-2"), Some(Event::Suspected)),
+        (2_000, Word::Dead(3, "web-3"), Some(Event::Dead)),
+        (3_000, Word::Alive(3, 14), Some(Event::Known)),
+        (4_000, Word::Alive(3, 14), None),
+        (5_000, Word::Alive(4, 14), Some(Event::Back)),
+    ];
+    assert_tells(&rt, rt.alloc(), LOCAL, &steps[..2], ("failed", 0))?;
+    assert_tells(&rt, rt.alloc(), LOCAL, &steps[..4], ("failed", 14))?;
+    assert_tells(&rt, rt.alloc(), LOCAL, &steps, ("alive", 14))
+}
+
+// Packets show where it is, until an Alive says it.
+#[test]
+fn a_member_is_seen_until_a_claim_is_heard(rt: HostRuntime) -> Result<(), Fail> {
+    let steps = [
+        (1_000, Word::Seen(14), Some(Event::Seen)),
+        (2_000, Word::Seen(24), None),
+        (3_000, Word::Alive(7, 34), Some(Event::Known)),
+        (4_000, Word::Silent(8, 34), Some(Event::Updated)),
+        (5_000, Word::Silent(9, 34), Some(Event::Renewed)),
+        (6_000, Word::Seen(14), None),
+    ];
+    assert_tells(&rt, rt.alloc(), LOCAL, &steps[..2], ("alive", 14))?;
+    assert_tells(&rt, rt.alloc(), LOCAL, &steps, ("alive", 34))
 }

@@ -1,8 +1,10 @@
 //! The view of all names.
 
 ghost use Rattle.std.specs.Prelude.{◌≡◌, ◌↔◌, ◌<◌, ◌^◌, ◌++◌, ◌∷◌, [], List, length, IsSome, IfOk, OnOk, OnErr, IsTrue};
+ghost use Rattle.std.specs.BTreeMap.{insert_entry};
 ghost use Rattle.std.specs.Option.{option_copied};
 ghost use Rattle.memberlist_view.specs.declared.heard.Heard.{Heard};
+ghost use Rattle.memberlist_view.specs.Rules.{name_cmp};
 ghost use Rattle.memberlist_view.specs.Told.{entry_of, change_of, event_of, view_after, IsViewOf};
 
 use crate::change::change;
@@ -77,8 +79,21 @@ impl View {
             return Ok(None);
         };
         let name = name.try_clone(self.alloc)?;
-        self.entries.insert(name, entry)?;
+        self.put(name, entry)?;
         Ok(Some(event))
+    }
+
+    /// Shows this entry for the name.
+    fn put(&mut self, name: MemberName, entry: Entry) -> Result<(), AllocError>
+        ensures ok { OnOk result (self.new ≡ record self.old {
+          entries = insert_entry name_cmp self.old.entries name entry;
+        }) }
+        ensures err { OnErr result (self.new ≡ self.old) }
+    {
+        match self.entries.insert(name, entry) {
+            Ok(_) => Ok(()),
+            Err(_) => Err(AllocError),
+        }
     }
 
     /// How many microseconds after its death a member is forgotten.
