@@ -2,7 +2,7 @@
 use Rattle.std.proofs.Common.{◌≡◌, ℕ, ◌<◌, ◌≤◌, ◌⊎◌, inl, inr, Bool, true, false, nat_lt, List, [], ◌∷◌, refl, sym, arith}
 use Rattle.std.specs.Prelude.{Some, None, find, fold, filter}
 use Rattle.std.proofs.lemmas.Bool.{ltb-true, ltb-false, lt-ltb, le-ltb}
-use Rattle.capture.specs.Flows.{Placed, end_of, covers, closer, reached}
+use Rattle.capture.specs.Flows.{Placed, end_of, covers, closer}
 
 -- a test is true or false
 pub which : (b : Bool) → (b ≡ true) ⊎ (b ≡ false)
@@ -126,29 +126,6 @@ found_covers k (s ∷ rest) p found =
           let it : s ≡ p = cc in
           rw (sym it) is)
       | inr isnt ↦ (let others : find (covers k) rest ≡ Some p = rw isnt at found in found_covers k rest p others)
-    ]
-
--- a segment that does not cover a place does not help to reach it
-pub reached_le : (here k : ℕ) (s : Placed) → here ≤ k → covers k s ≡ false → reached here s ≤ k
-reached_le here k s low off =
-    elim (which (covers here s)) [
-      | inl is ↦
-          (let begun : s.at ≤ here = covers_low here s is in
-          let over : end_of s ≤ k = covers_not k s off (omega arith) in
-          rw is over)
-      | inr isnt ↦ rw isnt low
-    ]
-
--- each place up to where the segments reach is covered
-pub reach_covers : (here k : ℕ) (segments : List Placed) → here ≤ k → k < fold reached here segments
-    → (p : Placed) × (find (covers k) segments ≡ Some p)
-reach_covers here k [] low near = absurd (omega (arith, near))
-reach_covers here k (s ∷ rest) low near =
-    elim (which (covers k s)) [
-      | inl on ↦ (s, rw on refl)
-      | inr off ↦
-          (let later = reach_covers (reached here s) k rest (reached_le here k s low off) near in
-          (later.0, rw off later.1))
     ]
 
 -- the segments that start before a gap give no byte after it

@@ -5,6 +5,7 @@ mod Made
 mod Parts
 mod Steps
 pub mod Covering
+pub mod Queued
 pub mod Saying
 pub mod Stepping
 pub mod Written

@@ -1,12 +1,12 @@
 -- The bytes that segments give at a place, and a flow that gives the same.
-use Rattle.std.proofs.Common.{◌≡◌, ℕ, ◌+◌, ◌-◌, ◌^◌, ◌<◌, ◌≤◌, inl, inr, true, false, nat_lt, List, [], ◌∷◌, ◌++◌, length, take, drop, get_or, refl, sym, ◌∙◌, arith, length-append, length-take, length-drop, get_or-take, get_or-drop}
+use Rattle.std.proofs.Common.{◌≡◌, ◌≢◌, ℕ, ◌+◌, ◌-◌, ◌^◌, ◌<◌, ◌≤◌, inl, inr, true, false, nat_lt, List, [], ◌∷◌, ◌++◌, length, take, drop, get_or, refl, sym, ◌∙◌, ap, arith, length-append, length-take, length-drop, get_or-take, get_or-drop}
 use Rattle.std.specs.Prelude.{Option, Some, None, find, fold, filter}
 use Rattle.std.specs.Option.{option_or}
 use Rattle.std.proofs.Math.ListN.{get_or-append}
 use Rattle.std.proofs.lemmas.List.{get_or-append_right, ext_get_or}
 use Rattle.std.proofs.lemmas.List.Folds.{find-append}
-use Rattle.capture.specs.Flows.{Placed, end_of, covers, byte_in, byte_at, closer, reached, SaysFrom, IsNext, FlowText, Says, Assembled}
-use Rattle.capture.proofs.Covering.{which, lt_tells, covers_yes, covers_below, covers_low, covers_high, covers_behind, covers_not, stop_le, stop_above, find_none, find_stays, found_covers, reach_covers, find_filtered}
+use Rattle.capture.specs.Flows.{Placed, end_of, covers, byte_in, byte_at, closer, SaysFrom, AreCovered, IsNext, FlowText, Says, Assembled}
+use Rattle.capture.proofs.Covering.{which, lt_tells, covers_yes, covers_below, covers_low, covers_high, covers_behind, covers_not, stop_le, stop_above, find_none, find_stays, found_covers, find_filtered}
 
 or_some : (k : ℕ) (o p : Option Placed) (b : ℕ) → byte_in k o ≡ Some b → byte_in k (option_or o p) ≡ Some b
 or_some k None p b said = (let wrong : Some b ≡ None = sym said in cc)
@@ -57,6 +57,21 @@ one_in k s is = rw is refl
 pub one_gap : (k : ℕ) (s : Placed) → find (covers k) (s ∷ []) ≡ None → covers k s ≡ false
 one_gap k s none =
     elim (which (covers k s)) [ inl is ↦ (let wrong : Some s ≡ None = rw is at none in cc) | inr isnt ↦ isnt ]
+
+-- a segment covers its places, whatever comes before it
+pub covered_by : (k : ℕ) (xs : List Placed) (s : Placed) → covers k s ≡ true → find (covers k) (xs ++ s ∷ []) ≢ None
+covered_by k xs s on none =
+    let both = or_gap (find (covers k) xs) (find (covers k) (s ∷ [])) (sym (find-append (covers k) xs (s ∷ [])) ∙ none) in
+    let wrong : false ≡ true = sym (one_gap k s both.1) ∙ on in
+    absurd (cc (wrong))
+
+-- the first of the bytes from a place on
+pub says_part : (segments : List Placed) (here n : ℕ) (found : List ℕ) → SaysFrom segments here found
+    → SaysFrom segments here (take n found)
+says_part segments here n found says k less =
+    let count = length-take n found in
+    let inside : k < n = omega (arith, less, count) in
+    says k (omega (arith, less, count)) ∙ ap (λ b. Some b) (sym (get_or-take n found k 0 inside))
 
 -- a part of a segment that is the first to cover each of the part's places
 pub next_part : (whole : List Placed) (p : Placed) (here stop : ℕ) (part : List ℕ) → p.at ≤ here → here < stop
@@ -184,17 +199,20 @@ says_old segments f seg old says =
     says_known segments f seg
     (λ k far on. let high = covers_high k seg on in absurd (omega (arith, far, high, old))) says
 
--- a segment whose places the waiting segments reach
-pub says_reached : (segments : List Placed) (f : FlowText) (seg : Placed)
-    → end_of seg ≤ fold reached seg.at f.waiting → Says segments f → Says (segments ++ seg ∷ []) f
-says_reached segments f seg all says =
+-- a segment whose places the waiting segments cover
+pub says_covered : (segments : List Placed) (f : FlowText) (seg : Placed) (here stop : ℕ)
+    → AreCovered seg.at here f.waiting → AreCovered stop (end_of seg) f.waiting → stop ≤ here
+    → Says segments f → Says (segments ++ seg ∷ []) f
+says_covered segments f seg here stop front back met says =
     says_known segments f seg
-    (λ k far on.
-    let low = covers_low k seg on in
-    let high = covers_high k seg on in
-    let near : k < fold reached seg.at f.waiting = omega (arith, high, all) in
-    let there = reach_covers seg.at k f.waiting low near in
-    (get_or there.0.bytes (k - there.0.at) 0, rw there.1 refl)) says
+    (λ k far on. elim (lt_tells k here) [
+      | inl before ↦
+          (let there = front k (covers_low k seg on) before.1 in
+          (get_or there.0.bytes (k - there.0.at) 0, rw there.1 refl))
+      | inr behind ↦
+          (let there = back k (omega (arith, behind.1, met)) (covers_high k seg on) in
+          (get_or there.0.bytes (k - there.0.at) 0, rw there.1 refl))
+    ]) says
 
 -- a segment that waits
 pub says_held : (segments : List Placed) (f : FlowText) (seg : Placed) → Says segments f
@@ -250,6 +268,14 @@ joined_tight waiting kept seg gap none kept_is =
     let same : find (covers gap) (filter (λ s. nat_lt gap s.at) waiting) ≡ find (covers gap) waiting =
     find_filtered gap gap waiting (omega arith) apart.0 in
     rw (kept_is, same, apart.0) refl
+
+-- the same, in whatever order they wait
+pub says_put : (segments : List Placed) (f : FlowText) (seg : Placed) (waiting : List Placed)
+    → ((k : ℕ) → byte_at k (f.waiting ++ seg ∷ []) ≡ byte_at k waiting) → Says segments f
+    → Says (segments ++ seg ∷ []) (record { start = f.start; text = f.text; waiting = waiting })
+says_put segments f seg waiting same says =
+    let held = says_held segments f seg says in
+    record { front = held.front; behind = λ k far. held.behind k far ∙ same k }
 
 -- a segment that starts after the gap leaves it
 pub held_tight : (waiting : List Placed) (seg : Placed) (gap : ℕ) → byte_at gap waiting ≡ None → gap < seg.at

@@ -3,9 +3,9 @@ use Rattle.std.proofs.Common.{◌≡◌, ℕ, zero, suc, ◌-◌, ◌<◌, ◌�
 use Rattle.std.specs.Prelude.{Some, None, Ok, Err}
 use Rattle.std.proofs.lemmas.Bool.Decides.{nat_tests}
 use Rattle.std.proofs.lemmas.List.{take_rest}
-use Rattle.capture.specs.declared.fault.NotCarried.TheVariants.{NotIp, Cut, Malformed, Fragment}
+use Rattle.capture.specs.declared.fault.NotCarried.TheVariants.{Cut, Malformed, Fragment}
 use Rattle.capture.specs.declared.network.Version.{Version}
-use Rattle.capture.specs.Packets.{version_of, is_tag, behind_type, is_extension, is_ip6_fragment, extension_len, behind_headers, behind_extensions, field, byte}
+use Rattle.capture.specs.Packets.{version_of, is_tag, other_type, behind_type, is_extension, is_ip6_fragment, extension_len, behind_headers, behind_extensions, field, byte}
 
 -- too short for a type
 pub type_short : (bytes : List ℕ) → length bytes < 2 → behind_type bytes ≡ Err Cut
@@ -31,7 +31,7 @@ type_cut_off bytes v long is = rw (take_rest bytes 2) (type_found bytes v long i
 
 -- a type of something else
 pub type_other : (bytes : List ℕ) → 2 ≤ length bytes → version_of (field 0 2 bytes) ≡ None
-    → is_tag (field 0 2 bytes) ≡ false → behind_type bytes ≡ Err NotIp
+    → is_tag (field 0 2 bytes) ≡ false → behind_type bytes ≡ Err (other_type (field 0 2 bytes))
 unfolding behind_type
 type_other [] long none untagged = absurd (omega (arith, long))
 type_other (a ∷ []) long none untagged = absurd (omega (arith, long))

@@ -8,7 +8,7 @@ use Rattle.byteorder.specs.Endian.{big_bytes}
 use Rattle.byteorder.specs.Numbers.{big_number-reads_back}
 use Rattle.capture.specs.declared.link.Link.TheVariants.{Ethernet}
 use Rattle.capture.specs.declared.network.Version.TheVariants.{Ip4}
-use Rattle.capture.specs.Packets.{field, udp_of, tcp_of, ip4_of, ip_of, packet_in, behind_type, transport_of, carried_of}
+use Rattle.capture.specs.Packets.{field, udp_of, tcp_of, ip4_of, ip_of, packet_in, behind_type, transport_of, carried_of, plain_of}
 use Rattle.capture.specs.Written.{udp_bytes, tcp_bytes, ip4_bytes, frame_bytes, DatagramReadBack, SegmentReadBack}
 use Rattle.capture.proofs.Stepping.{type_found}
 
@@ -100,7 +100,7 @@ frame_back destination source packet padding =
 
 -- a datagram in a packet in a frame
 pub datagram_back : DatagramReadBack
-unfolding carried_of ip_of transport_of
+unfolding carried_of plain_of ip_of transport_of
 datagram_back to from service id flags life sum source destination source_port destination_port check payload padding small whole low high short =
     let body = udp_bytes source_port destination_port check payload in
     let packet = ip4_bytes service id flags life 17 sum source destination body in
@@ -115,7 +115,7 @@ datagram_back to from service id flags life sum source destination source_port d
 
 -- a segment in a packet in a frame
 pub segment_back : SegmentReadBack
-unfolding carried_of ip_of transport_of
+unfolding carried_of plain_of ip_of transport_of
 segment_back to from service id bits life check source destination source_port destination_port seq ack words flags window sum urgent options payload padding small whole low high fits words_is short =
     let body = tcp_bytes source_port destination_port seq ack words flags window sum urgent options payload in
     let packet = ip4_bytes service id bits life 6 check source destination body in

@@ -1,5 +1,5 @@
 -- Flows as clauses see them, and the result of taking a segment.
-use Rattle.std.specs.Prelude.{ℕ, ◌-◌, ◌^◌, ◌<◌, ◌⊎◌, ◌||◌, Bool, true, false, nat_le, if◌then◌else◌, length, Option, Some, None}
+use Rattle.std.specs.Prelude.{ℕ, ◌+◌, ◌-◌, ◌%◌, ◌^◌, ◌<◌, ◌⊎◌, ◌==◌, ◌||◌, ◌&&◌, Bool, true, false, nat_le, if◌then◌else◌, length, Option, Some, None}
 use Rattle.std.specs.Option.{option_or}
 use Rattle.capture.specs.declared.flow.Flow.{Flow}
 use Rattle.capture.specs.declared.taken.Taken.{Taken}
@@ -41,3 +41,16 @@ is_there (Some end) count = nat_le end count
 
 abbrev pub is_over : OpenText → Bool
 is_over o = o.reset || is_there o.end (length o.flow.text)
+
+-- RFC 9293, 3.4: the sequence number of the first byte that a flow lacks
+abbrev pub next_of : FlowText → ℕ
+next_of f = (f.start + length f.text) % 2 ^ 32
+
+-- RFC 5961, 3.2: a RST ends a flow only if its sequence number is that of the next byte
+abbrev pub is_reset : FlowText → Bool → ℕ → Bool
+is_reset f rst first = rst && (next_of f == first)
+
+-- the open flow between two endpoints, and a newer one of which nothing but the SYN came
+pub record PairText : Type 0 where
+  pub older : OpenText
+  pub newer : Option OpenText

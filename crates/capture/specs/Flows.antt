@@ -1,5 +1,6 @@
 -- The bytes that the segments of a flow give, in the order in which they were captured.
-use Rattle.std.specs.Prelude.{◌≡◌, ℕ, ◌+◌, ◌-◌, ◌%◌, ◌^◌, ◌<◌, ◌≤◌, Bool, false, nat_lt, min, if◌then◌else◌, List, length, drop, slice_index, find, Option, Some, None}
+use Rattle.std.specs.Prelude.{◌≡◌, ℕ, ◌+◌, ◌-◌, ◌%◌, ◌^◌, ◌<◌, ◌≤◌, Bool, false, nat_lt, min, if◌then◌else◌, List, length, drop, slice_index, slice_index_or, find, Option, Some, None}
+use Rattle.std.specs.List.{All}
 
 -- the bytes of a segment, and the place of the first of them in the flow
 pub record Placed : Type 0 where
@@ -49,6 +50,20 @@ pub record Assembled (segments : List Placed) (text : List ℕ) : Type 0 where
   pub covered : SaysFirst segments text
   pub longest : byte_at (length text) segments ≡ None
 
+-- the segments are in ascending order, and none overlaps another
+abbrev pub InOrder : List Placed → Type 0
+InOrder segments = (i j : ℕ) (d : Placed) → i < j → j < length segments
+    → end_of (slice_index_or segments i d) ≤ (slice_index_or segments j d).at
+
+-- no segment lies on both sides of a place
+abbrev pub IsClean : ℕ → List Placed → Type 0
+IsClean place segments = All (λ s. s.at < place → end_of s ≤ place) segments
+
+-- each place from one up to another is covered
+abbrev pub AreCovered : ℕ → ℕ → List Placed → Type 0
+AreCovered low high segments =
+    (k : ℕ) → low ≤ k → k < high → (p : Placed) × (find (covers k) segments ≡ Some p)
+
 -- a flow that is reassembled: the sequence number of its first byte, its bytes up to the first gap,
 -- and the segments that wait after it
 pub record FlowText : Type 0 where
@@ -65,10 +80,6 @@ pub record Says (segments : List Placed) (flow : FlowText) : Type 0 where
 -- the lesser of a place and where a segment starts, if it starts above another place
 abbrev pub closer : ℕ → ℕ → Placed → ℕ
 closer place stop s = if nat_lt place s.at then min s.at stop else stop
-
--- the end of a segment that covers a place, else that place
-abbrev pub reached : ℕ → Placed → ℕ
-reached place s = if covers place s then end_of s else place
 
 -- the next bytes from a place on, and some
 pub record IsNext (segments : List Placed) (place : ℕ) (part : List ℕ) : Type 0 where

@@ -2,7 +2,7 @@
 use Rattle.std.specs.Prelude.{ℕ, zero, suc, ◌+◌, ◌-◌, ◌*◌, ◌/◌, ◌%◌, ◌==◌, ◌||◌, ◌&&◌, Bool, nat_lt, if◌then◌else◌, List, [], ◌∷◌, length, take, drop, slice_index, Result, Ok, Err, Option, Some, None}
 use Rattle.byteorder.specs.Endian.{big_number, little_number}
 use Rattle.capture.specs.declared.fault.NotCarried.{NotCarried}
-use Rattle.capture.specs.declared.fault.NotCarried.TheVariants.{NotIp, Fragment, OtherProtocol, Cut, Malformed}
+use Rattle.capture.specs.declared.fault.NotCarried.TheVariants.{NotIp, Fragment, Gre, IpInIp, Mpls, OtherProtocol, Cut, Malformed}
 use Rattle.capture.specs.declared.transport.Datagram.{Datagram}
 use Rattle.capture.specs.declared.transport.Segment.{Segment}
 use Rattle.capture.specs.declared.network.Packet.{Packet}
@@ -221,6 +221,10 @@ version_of kind = if kind == 0x800 then Some Ip4 else if kind == 0x86dd then Som
 abbrev pub is_tag : ℕ → Bool
 is_tag kind = kind == 0x8100 || kind == 0x88a8 || kind == 0x9100
 
+-- RFC 3032, 5: the EtherTypes of MPLS, 8847 and 8848, whose packets are not unwrapped
+abbrev pub other_type : ℕ → NotCarried
+other_type kind = if kind == 0x8847 || kind == 0x8848 then Mpls else NotIp
+
 -- the rest is a packet of this version, or there is another result
 abbrev pub packet_or : Option Version → List ℕ → Result (Version × List ℕ) NotCarried
     → Result (Version × List ℕ) NotCarried
@@ -234,13 +238,14 @@ behind_type [] = Err Cut
 behind_type (a ∷ []) = Err Cut
 behind_type (a ∷ b ∷ []) =
     packet_or (version_of (field 0 2 (a ∷ b ∷ []))) []
-    (if is_tag (field 0 2 (a ∷ b ∷ [])) then Err Cut else Err NotIp)
+    (if is_tag (field 0 2 (a ∷ b ∷ [])) then Err Cut else Err (other_type (field 0 2 (a ∷ b ∷ []))))
 behind_type (a ∷ b ∷ c ∷ []) =
     packet_or (version_of (field 0 2 (a ∷ b ∷ c ∷ []))) (c ∷ [])
-    (if is_tag (field 0 2 (a ∷ b ∷ c ∷ [])) then Err Cut else Err NotIp)
+    (if is_tag (field 0 2 (a ∷ b ∷ c ∷ [])) then Err Cut else Err (other_type (field 0 2 (a ∷ b ∷ c ∷ []))))
 behind_type (a ∷ b ∷ c ∷ d ∷ rest) =
     packet_or (version_of (field 0 2 (a ∷ b ∷ c ∷ d ∷ rest))) (c ∷ d ∷ rest)
-    (if is_tag (field 0 2 (a ∷ b ∷ c ∷ d ∷ rest)) then behind_type rest else Err NotIp)
+    (if is_tag (field 0 2 (a ∷ b ∷ c ∷ d ∷ rest)) then behind_type rest
+    else Err (other_type (field 0 2 (a ∷ b ∷ c ∷ d ∷ rest))))
 
 -- the numbers of the address families of IP: 2 is IPv4 everywhere, and IPv6 depends on the system
 abbrev pub family_of : ℕ → Option Version
@@ -264,7 +269,8 @@ packet_in Cooked bytes =
     if nat_lt (length bytes) 14 then Err Cut else behind_type (drop 14 bytes)
 packet_in Cooked2 bytes =
     if nat_lt (length bytes) 20 then Err Cut
-    else packet_or (version_of (field 0 2 bytes)) (drop 20 bytes) (Err NotIp)
+    else packet_or (version_of (field 0 2 bytes)) (drop 20 bytes)
+    (Err (other_type (field 0 2 bytes)))
 
 -- what a packet carries
 pub data TransportText : Type 0 where
@@ -275,11 +281,19 @@ abbrev pub transport_text : Transport → TransportText
 transport_text (Udp d) = udp (udp_text d)
 transport_text (Tcp s) = tcp (tcp_text s)
 
+-- Protocols of IP that wrap packets and are not unwrapped: GRE (47, RFC 2784), IPv4 in IP (4, RFC
+-- 2003) and IPv6 in IP (41, RFC 4213).
+abbrev pub other_protocol : ℕ → NotCarried
+other_protocol protocol =
+    if protocol == 47 then Gre
+    else if protocol == 4 || protocol == 41 then IpInIp
+    else OtherProtocol
+
 unfoldable pub transport_of : ℕ → List ℕ → Result TransportText NotCarried
 transport_of protocol body =
     if protocol == 17 then onward (udp_of body) (λ d. Ok (udp d))
     else if protocol == 6 then onward (tcp_of body) (λ s. Ok (tcp s))
-    else Err OtherProtocol
+    else Err (other_protocol protocol)
 
 -- what a frame carries, and between which addresses
 pub record CarriedText : Type 0 where
@@ -294,10 +308,54 @@ carried_text c = record {
   transport = transport_text c.transport;
 }
 
--- what a frame of this link carries, or why it carries nothing of interest
-unfoldable pub carried_of : Link → List ℕ → Result CarriedText NotCarried
-carried_of link bytes =
+-- what the packet in a frame of this link carries, or why it carries nothing of interest
+unfoldable pub plain_of : Link → List ℕ → Result CarriedText NotCarried
+plain_of link bytes =
     onward (packet_in link bytes) (λ packet.
     onward (ip_of packet.0 packet.1) (λ ip.
     onward (transport_of ip.protocol ip.body) (λ transport.
     Ok (record { source = ip.source; destination = ip.destination; transport = transport }))))
+
+-- RFC 7348, 5: a header of VXLAN has 8 bytes, and in the first the flag I (8); a frame follows.
+abbrev pub vxlan_frame : List ℕ → Option (List ℕ)
+vxlan_frame payload =
+    if nat_lt (length payload) 8 then None
+    else if byte 0 payload / 8 % 2 == 1 then Some (drop 8 payload)
+    else None
+
+-- RFC 8926, 3.4: a header of Geneve has 8 bytes and options, whose length in words of 4 bytes is in
+-- the last 6 bits of the first byte; above that the version, 0. The second byte has the flag O
+-- (128) in a control packet. The type 6558 says that a frame of Ethernet follows.
+abbrev pub geneve_len : List ℕ → ℕ
+geneve_len payload = 8 + byte 0 payload % 64 * 4
+
+abbrev pub geneve_frame : List ℕ → Option (List ℕ)
+geneve_frame payload =
+    if nat_lt (length payload) 8 then None
+    else if nat_lt (length payload) (geneve_len payload) then None
+    else if byte 0 payload / 64 == 0 && nat_lt (byte 1 payload) 128 && field 2 2 payload == 0x6558
+    then Some (drop (geneve_len payload) payload)
+    else None
+
+-- the frame of Ethernet in a datagram to the port of VXLAN (4789) or Geneve (6081)
+abbrev pub frame_in : TransportText → Option (List ℕ)
+frame_in (tcp s) = None
+frame_in (udp d) =
+    if d.destination == 4789 then vxlan_frame d.payload
+    else if d.destination == 6081 then geneve_frame d.payload
+    else None
+
+-- what the frame in a tunnel carries, or the content itself if it is no tunnel
+abbrev pub inside : Option (List ℕ) → CarriedText → Result CarriedText NotCarried
+inside None c = Ok c
+inside (Some frame) c = plain_of Ethernet frame
+
+-- the content without a tunnel, and one in that
+abbrev pub untunneled : CarriedText → Result CarriedText NotCarried
+untunneled outer =
+    onward (inside (frame_in outer.transport) outer) (λ middle.
+    inside (frame_in middle.transport) middle)
+
+-- what a frame of this link carries
+unfoldable pub carried_of : Link → List ℕ → Result CarriedText NotCarried
+carried_of link bytes = onward (plain_of link bytes) untunneled

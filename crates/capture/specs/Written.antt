@@ -2,7 +2,7 @@
 use Rattle.std.specs.Prelude.{◌≡◌, ℕ, ◌+◌, ◌*◌, ◌/◌, ◌%◌, ◌==◌, ◌^◌, ◌<◌, List, [], ◌∷◌, ◌++◌, length, Ok}
 use Rattle.byteorder.specs.Endian.{big_bytes}
 use Rattle.capture.specs.declared.link.Link.TheVariants.{Ethernet}
-use Rattle.capture.specs.Packets.{udp, tcp, carried_of}
+use Rattle.capture.specs.Packets.{udp, tcp, carried_of, untunneled}
 
 -- RFC 768: two ports, the length of header and payload, a checksum, the payload
 abbrev pub udp_bytes : ℕ → ℕ → ℕ → List ℕ → List ℕ
@@ -32,7 +32,7 @@ frame_bytes destination source packet padding =
     big_bytes 6 destination ++ big_bytes 6 source ++ big_bytes 2 0x800 ++ packet ++ padding
 
 -- a datagram in a packet that is not a fragment, in a frame with any padding, is what the frame
--- carries
+-- carries, or what the tunnel in it does
 abbrev pub DatagramReadBack : Type 0
 DatagramReadBack =
     (to from service id flags life sum source destination source_port destination_port check : ℕ)
@@ -42,7 +42,7 @@ DatagramReadBack =
     → carried_of Ethernet (frame_bytes to from
     (ip4_bytes service id flags life 17 sum source destination
     (udp_bytes source_port destination_port check payload)) padding)
-    ≡ Ok (record {
+    ≡ untunneled (record {
       source = big_bytes 4 source;
       destination = big_bytes 4 destination;
       transport = udp (record { source = source_port; destination = destination_port; payload = payload });

@@ -1,10 +1,10 @@
 //! One direction of a TCP connection, reassembled.
 
 ghost use Rattle.std.specs.Prelude.{◌≡◌, ◌+◌, ◌-◌, ◌<◌, ◌≤◌, ◌^◌, ◌⊎◌, ◌++◌, ◌∷◌, [], List, length, true, false, None, Ok, OnOk, OnErr, IfOk, MatchBool};
-ghost use Rattle.capture.specs.Flows.{Placed, placed, placed_at, byte_at, Assembled, Says};
+ghost use Rattle.capture.specs.Flows.{Placed, placed, placed_at, byte_at, InOrder, Assembled, Says};
 
 use crate::Taken;
-use crate::piece::{Piece, gathered, place, reach};
+use crate::piece::{Piece, back, before, front, gathered, patched, place, put};
 use std::alloc::{AllocError, Global};
 
 /// How far after the first gap a segment may end, in bytes.
@@ -38,11 +38,12 @@ pub struct Flow {
     waiting: Vec<Piece>,
     ghost tight: { byte_at (length text.items) waiting.items ≡ None },
     ghost short: { length text.items ≤ 2 ^ 25 },
+    ghost in_order: { InOrder waiting.items },
     ghost few: { length waiting.items ≤ 4096 },
 }
 
 impl Flow {
-    ghost use Rattle.capture.specs.FlowTexts.{flow_text, counts, IsBeyond};
+    ghost use Rattle.capture.specs.FlowTexts.{flow_text, next_of, counts, IsBeyond};
 
     /// A flow whose first byte has this sequence number.
     pub fn new(alloc: Global, start: u32) -> Flow
@@ -62,6 +63,13 @@ impl Flow {
         ensures { result ≡ (flow_text self.now).start }
     {
         self.start
+    }
+
+    /// The sequence number of the first byte that it lacks.
+    pub fn next_seq(&self) -> u32
+        ensures { result ≡ next_of (flow_text self.now) }
+    {
+        self.start.wrapping_add(self.text.len() as u32)
     }
 
     /// The bytes up to the first gap.
@@ -117,14 +125,7 @@ impl Flow {
             self.join(alloc, at, bytes)?;
             return Ok(Taken::Joined);
         }
-        if end <= reach(&self.waiting, at) {
-            return Ok(Taken::Known);
-        }
-        if MAX_WAITING <= self.waiting.len() {
-            return Ok(Taken::Crowded);
-        }
-        self.hold(alloc, at, bytes)?;
-        Ok(Taken::Waits)
+        self.hold(alloc, at, bytes)
     }
 
     /// Adds bytes that start at or before the flow's gap.
@@ -144,17 +145,34 @@ impl Flow {
         Ok(())
     }
 
-    /// Holds bytes that start after the gap.
-    fn hold(&mut self, alloc: Global, at: usize, bytes: &[u8]) -> Result<(), AllocError>
+    /// Holds bytes that start after the gap, up to a piece that waits and reaches further. They
+    /// take the place of the pieces between.
+    fn hold(&mut self, alloc: Global, at: usize, bytes: &[u8]) -> Result<Taken, AllocError>
         requires apart { length self.old.text.items < at }
-        requires room { length self.old.waiting.items < 4096 }
         requires small { at + length bytes.now ≤ 2 ^ 25 }
-        ensures ok { OnOk result ((segments : List Placed) → Says segments (flow_text self.old)
+        ensures counts { IfOk result (λ taken. counts taken ≡ true
+            → (segments : List Placed) → Says segments (flow_text self.old)
             → Says (segments ++ placed at bytes.now ∷ []) (flow_text self.new)) }
+        ensures left_out { IfOk result (λ taken. counts taken ≡ false
+            → flow_text self.new ≡ flow_text self.old) }
+        ensures crowded { (result ≡ Ok Taken.Crowded) → 4096 ≤ length self.old.waiting.items }
+        ensures near { (result ≡ Ok Taken.Beyond) → ⊥ }
         ensures starts { self.new.start ≡ self.old.start }
+        ensures text { self.new.text ≡ self.old.text }
         ensures refused { OnErr result (flow_text self.new ≡ flow_text self.old) }
     {
-        self.waiting.push(Piece::new(alloc, at, bytes)?)?;
-        Ok(())
+        let here = front(&self.waiting, at);
+        let stop = back(&self.waiting, at + bytes.len());
+        if stop <= here {
+            return Ok(Taken::Known);
+        }
+        let from = before(&self.waiting, here);
+        let to = before(&self.waiting, stop);
+        if MAX_WAITING <= from + (self.waiting.len() - to) {
+            return Ok(Taken::Crowded);
+        }
+        let piece = Piece::of(here, patched(alloc, &self.waiting, at, bytes, here, stop)?);
+        put(&mut self.waiting, from, to, piece)?;
+        Ok(Taken::Waits)
     }
 }

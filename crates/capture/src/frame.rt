@@ -1,10 +1,11 @@
 //! Frames, and what they carry.
 
 ghost use Rattle.std.specs.Prelude.{◌≡◌, IfOk, IfErr, Ok, Err};
-ghost use Rattle.capture.specs.Packets.{version_of, is_tag, family_of, behind_type, packet_in, transport_of, transport_text, carried_of, carried_text};
+ghost use Rattle.capture.specs.Packets.{version_of, is_tag, other_type, other_protocol, family_of, behind_type, packet_in, transport_of, transport_text, plain_of, carried_of, carried_text, frame_in, inside};
 
 use crate::network::{Version, read_ip};
 use crate::transport::{read_tcp, read_udp};
+use crate::tunnel::tunneled;
 use crate::{Carried, Link, NotCarried, Transport};
 use byteorder::{BigEndian, ByteOrder, LittleEndian};
 
@@ -24,6 +25,28 @@ fn is_type_of_tag(kind: u16) -> bool
     ensures { result ≡ is_tag kind }
 {
     kind == 0x8100 || kind == 0x88a8 || kind == 0x9100
+}
+
+/// Why a packet of another EtherType is left out.
+fn other_type(kind: u16) -> NotCarried
+    ensures { result ≡ other_type kind }
+{
+    if kind == 0x8847 || kind == 0x8848 {
+        NotCarried::Mpls
+    } else {
+        NotCarried::NotIp
+    }
+}
+
+/// Why a packet of another protocol is left out.
+fn other_protocol(protocol: u8) -> NotCarried
+    ensures { result ≡ other_protocol protocol }
+{
+    match protocol {
+        47 => NotCarried::Gre,
+        4 | 41 => NotCarried::IpInIp,
+        _ => NotCarried::OtherProtocol,
+    }
 }
 
 /// The IP version of an address family.
@@ -53,7 +76,7 @@ fn read_type(bytes: &[u8]) -> Result<(Version, &[u8]), NotCarried>
             return Ok((version, &rest[2..]));
         }
         if !is_type_of_tag(kind) {
-            return Err(NotCarried::NotIp);
+            return Err(other_type(kind));
         }
         if rest.len() < 4 {
             return Err(NotCarried::Cut);
@@ -107,9 +130,10 @@ fn read_frame(link: Link, bytes: &[u8]) -> Result<(Version, &[u8]), NotCarried>
             if bytes.len() < 20 {
                 return Err(NotCarried::Cut);
             }
-            match version(BigEndian::read_u16(bytes)) {
+            let kind = BigEndian::read_u16(bytes);
+            match version(kind) {
                 Some(version) => Ok((version, &bytes[20..])),
-                None => Err(NotCarried::NotIp),
+                None => Err(other_type(kind)),
             }
         }
     }
@@ -124,30 +148,15 @@ fn read_transport(protocol: u8, body: &[u8]) -> Result<Transport, NotCarried>
     match protocol {
         17 => Ok(Transport::Udp(read_udp(body)?)),
         6 => Ok(Transport::Tcp(read_tcp(body)?)),
-        _ => Err(NotCarried::OtherProtocol),
+        _ => Err(other_protocol(protocol)),
     }
 }
 
-/// What a frame of this link carries, and between which addresses. It takes no memory and checks no
-/// checksum.
-///
-/// Ethernet has any number of tags (IEEE 802.1Q), IPv4 any options and its total length, or 0 for
-/// all of the frame (RFC 791, 3.1), IPv6 any number of extension headers (RFC 8200, 4), and UDP its
-/// own length within IP's (RFC 768).
-///
-/// # Errors
-///
-/// - `Cut` if the bytes end before the link's header, IP's header or the length in IP's header.
-/// - `NotIp` if the link names another protocol than IP, or none and the version is not 4 or 6.
-/// - `Fragment` if the packet is not whole: more fragments follow or its offset is not 0
-///   (RFC 791, 3.1; RFC 8200, 4.5). A fragment header of a whole packet is skipped (RFC 6946).
-/// - `OtherProtocol` if IP carries neither UDP nor TCP.
-/// - `Malformed` if the version is not the one that the link names, or a header is longer than
-///   what contains it or shorter than it can be.
-#[tactic(auto, unfolding(crate::specs::Packets::carried_of))]
-pub fn carried(link: Link, bytes: &[u8]) -> Result<Carried, NotCarried>
-    ensures ok { IfOk result (λ c. carried_of link bytes.now ≡ Ok (carried_text c)) }
-    ensures err { IfErr result (λ fault. carried_of link bytes.now ≡ Err fault) }
+/// What the packet in a frame of this link carries, and between which addresses.
+#[tactic(auto, unfolding(crate::specs::Packets::plain_of))]
+fn read_plain(link: Link, bytes: &[u8]) -> Result<Carried, NotCarried>
+    ensures ok { IfOk result (λ c. plain_of link bytes.now ≡ Ok (carried_text c)) }
+    ensures err { IfErr result (λ fault. plain_of link bytes.now ≡ Err fault) }
 {
     let (version, packet) = read_frame(link, bytes)?;
     let packet = read_ip(version, packet)?;
@@ -157,4 +166,49 @@ pub fn carried(link: Link, bytes: &[u8]) -> Result<Carried, NotCarried>
         destination: packet.destination,
         transport,
     })
+}
+
+/// What the frame in a tunnel carries, or the content itself if it is no tunnel.
+fn read_inside(content: Carried) -> Result<Carried, NotCarried>
+    ensures ok { IfOk result (λ c. inside (frame_in (transport_text content.entry.transport))
+        (carried_text content.entry) ≡ Ok (carried_text c)) }
+    ensures err { IfErr result (λ fault. inside (frame_in (transport_text content.entry.transport))
+        (carried_text content.entry) ≡ Err fault) }
+{
+    match tunneled(content.transport) {
+        Some(frame) => read_plain(Link::Ethernet, frame),
+        None => Ok(content),
+    }
+}
+
+/// What a frame of this link carries, and between which addresses. It takes no memory and checks no
+/// checksum.
+///
+/// Ethernet has any number of tags (IEEE 802.1Q), IPv4 any options and its total length, or 0 for
+/// all of the frame (RFC 791, 3.1), IPv6 any number of extension headers (RFC 8200, 4), and UDP its
+/// own length within IP's (RFC 768). If it is a datagram of VXLAN (RFC 7348) or Geneve (RFC 8926)
+/// with a frame of Ethernet, the result is what that frame carries, and so for a tunnel in it; a
+/// third one is a datagram.
+///
+/// # Errors
+///
+/// - `Cut` if the bytes end before the link's header, IP's header or the length in IP's header.
+/// - `Mpls` if the link names MPLS (RFC 3032).
+/// - `NotIp` if the link names another protocol than IP, or none and the version is not 4 or 6.
+/// - `Fragment` if the packet is not whole: more fragments follow or its offset is not 0
+///   (RFC 791, 3.1; RFC 8200, 4.5). A fragment header of a whole packet is skipped (RFC 6946).
+/// - `Gre` if IP carries GRE (RFC 2784), and `IpInIp` if it carries IP (RFC 2003, RFC 4213).
+/// - `OtherProtocol` if IP carries something else that is neither UDP nor TCP.
+/// - `Malformed` if the version is not the one that the link names, or a header is longer than
+///   what contains it or shorter than it can be.
+///
+/// The first of them that holds, for the outermost frame that has one.
+#[tactic(auto, unfolding(crate::specs::Packets::carried_of))]
+pub fn carried(link: Link, bytes: &[u8]) -> Result<Carried, NotCarried>
+    ensures ok { IfOk result (λ c. carried_of link bytes.now ≡ Ok (carried_text c)) }
+    ensures err { IfErr result (λ fault. carried_of link bytes.now ≡ Err fault) }
+{
+    let outer = read_plain(link, bytes)?;
+    let middle = read_inside(outer)?;
+    read_inside(middle)
 }

@@ -5,7 +5,8 @@ ghost use Rattle.capture.specs.Flows.{Placed, Assembled};
 ghost use Rattle.capture.specs.Written.{DatagramReadBack, SegmentReadBack};
 
 /// A datagram of UDP in a packet of IPv4 that is not a fragment, in an Ethernet frame with any
-/// padding, is what the frame carries, whatever the other fields of the headers hold.
+/// padding, is what the frame carries, whatever the other fields of the headers hold. If it is a
+/// tunnel, that is what the frame in it carries.
 pub fn datagram_read_back()
     ensures { DatagramReadBack }
 {}

@@ -17,6 +17,7 @@
 //! | `transport` | datagrams of UDP and segments of TCP |
 //! | `network` | packets of IP |
 //! | `content` | what a frame carries |
+//! | `tunnel` | frames in tunnels |
 //! | `frame` | frames, and what they carry |
 //! | `laws` | what holds for the definitions |
 //! | `taken` | what became of a segment |
@@ -24,6 +25,7 @@
 //! | `flow` | one direction of a TCP connection, reassembled |
 //! | `ends` | both endpoints of a flow |
 //! | `open` | a flow that is not complete |
+//! | `pair` | the flows between two endpoints |
 //! | `flows` | the flows of a capture |
 #![tactic(auto)]
 
@@ -43,6 +45,7 @@ mod link;
 mod network;
 mod open;
 mod order;
+mod pair;
 mod pcap;
 mod piece;
 mod reader;
@@ -52,6 +55,7 @@ mod stop;
 mod taken;
 mod taking;
 mod transport;
+mod tunnel;
 
 pub use capture_fault::CaptureFault;
 pub use content::{Carried, Transport};

@@ -2,7 +2,7 @@
 
 ghost use Rattle.std.specs.Prelude.{◌≡◌, ◌≤◌, ◌||◌, ◌++◌, ◌∷◌, [], List, length, true, false, None, Ok, ◌==◌, IfOk, OnOk, OnErr};
 ghost use Rattle.capture.specs.Flows.{Placed, placed_at, Says};
-ghost use Rattle.capture.specs.FlowTexts.{counts, flow_text, IsBeyond, end_after, is_over};
+ghost use Rattle.capture.specs.FlowTexts.{counts, flow_text, next_of, IsBeyond, end_after, is_reset, is_over};
 ghost use Rattle.capture.specs.OpenFlows.{begun, IsAfter};
 ghost use Rattle.capture.specs.Packets.{tcp_text};
 
@@ -51,6 +51,20 @@ impl Open {
         self.flow.start() == first
     }
 
+    /// The sequence number of the first byte that it lacks.
+    pub(crate) fn next_seq(&self) -> u32
+        ensures { result ≡ next_of self.now.flow }
+    {
+        self.flow.next_seq()
+    }
+
+    /// Whether a segment is a RST with the sequence number of the next byte.
+    fn is_reset(&self, first: u32, segment: &Segment) -> bool
+        ensures { result ≡ is_reset self.now.flow segment.now.rst first }
+    {
+        segment.rst && self.next_seq() == first
+    }
+
     /// Takes a segment whose payload starts at a sequence number.
     pub(crate) fn take(
         &mut self,
@@ -70,7 +84,7 @@ impl Open {
             segment.now.fin
             (placed_at self.old.flow.start first segment.now.payload.now)) }
         ensures resets { OnOk result (self.new.reset
-            ≡ (self.old.reset || segment.now.rst)) }
+            ≡ (self.old.reset || is_reset self.old.flow segment.now.rst first)) }
         ensures beyond { (result ≡ Ok Taken.Beyond) → IsBeyond self.old.flow
             (placed_at self.old.flow.start first segment.now.payload.now) }
         ensures near { IsBeyond self.old.flow
@@ -81,12 +95,13 @@ impl Open {
             IsAfter self.old first (tcp_text segment.now) taken self.new) }
         ensures refused { OnErr result (self.new ≡ self.old) }
     {
+        let resets = self.is_reset(first, segment);
         let taken = self.flow.take(alloc, first, segment.payload)?;
         if segment.fin && self.end.is_none() {
             let (at, bytes) = place(self.flow.start(), first, segment.payload);
             self.end = Some(at + bytes.len());
         }
-        if segment.rst {
+        if resets {
             self.reset = true;
         }
         Ok(taken)

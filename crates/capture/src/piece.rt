@@ -1,8 +1,9 @@
 //! Segments at their places in a flow.
 
-ghost use Rattle.std.specs.Prelude.{◌≡◌, ◌+◌, ◌-◌, ◌<◌, ◌≤◌, ◌^◌, ◌++◌, ◌∷◌, [], length, take, drop, find, fold, None, IfOk, IfSome, IfNone};
+ghost use Rattle.std.specs.Prelude.{◌≡◌, ◌+◌, ◌-◌, ◌<◌, ◌≤◌, ◌^◌, ◌++◌, ◌∷◌, [], length, take, drop, find, fold, None, IfOk, is_ok, if◌then◌else◌, IfSome, IfNone};
+ghost use Rattle.std.specs.List.{AllWithin};
 ghost use Rattle.std.specs.Option.{option_copied};
-ghost use Rattle.capture.specs.Flows.{Placed, placed, placed_at, end_of, covers, byte_at, closer, reached, IsNext, SaysFrom};
+ghost use Rattle.capture.specs.Flows.{Placed, placed, placed_at, end_of, covers, byte_at, closer, InOrder, IsClean, AreCovered, IsNext, SaysFrom};
 
 use std::alloc::{AllocError, Global};
 use std::marker::Model;
@@ -26,15 +27,12 @@ impl Model for Piece {
 }
 
 impl Piece {
-    /// A copy of these bytes at this place.
-    pub(crate) fn new(alloc: Global, at: usize, bytes: &[u8]) -> Result<Piece, AllocError>
-        requires { at + length bytes.now ≤ 2 ^ 25 }
-        ensures { IfOk result (λ piece. piece ≡ placed at bytes.now) }
+    /// These bytes at this place.
+    pub(crate) fn of(at: usize, bytes: Vec<u8>) -> Piece
+        requires { at + length bytes.items ≤ 2 ^ 25 }
+        ensures { result ≡ placed at bytes.items }
     {
-        Ok(Piece {
-            at,
-            bytes: bytes.to_vec(alloc)?,
-        })
+        Piece { at, bytes }
     }
 
     /// The place of the first byte.
@@ -90,29 +88,49 @@ pub(crate) fn place(start: u32, seq: u32, payload: &[u8]) -> (usize, &[u8])
     }
 }
 
-/// The first of the pieces that covers the place.
+/// How many of the pieces start before the place.
+pub(crate) fn before(pieces: &[Piece], place: usize) -> usize
+    requires { InOrder pieces.now }
+    ensures bound { result ≤ length pieces.now }
+    ensures low { AllWithin (λ s. s.at < place) pieces.now 0 result }
+    ensures high { AllWithin (λ s. place ≤ s.at) pieces.now result (length pieces.now) }
+{
+    pieces.partition_point(|piece| piece.at() < place)
+}
+
+/// The piece that covers the place.
 pub(crate) fn covering(pieces: &[Piece], place: usize) -> Option<&Piece>
+    requires in_order { InOrder pieces.now }
+    requires small { place ≤ 2 ^ 31 }
     ensures { option_copied result ≡ find (covers place) pieces.now }
 {
-    pieces.iter().find(|piece| piece.covers(place))
+    let count = before(pieces, place + 1);
+    if count == 0 {
+        return None;
+    }
+    let last = &pieces[count - 1];
+    if last.covers(place) { Some(last) } else { None }
 }
 
 /// The first place above `place` at which a piece starts, at most `end`.
 fn nearest(pieces: &[Piece], place: usize, end: usize) -> usize
+    requires in_order { InOrder pieces.now }
+    requires small { place ≤ 2 ^ 31 }
     ensures { result ≡ fold (closer place) end pieces.now }
 {
-    pieces.iter().fold(end, |stop, piece| {
-        if place < piece.at() {
-            piece.at().min(stop)
-        } else {
-            stop
-        }
-    })
+    let count = before(pieces, place + 1);
+    if count < pieces.len() {
+        pieces[count].at().min(end)
+    } else {
+        end
+    }
 }
 
 /// The same, and that it is above the place.
 fn next_start(pieces: &[Piece], place: usize, end: usize) -> usize
-    requires { place < end }
+    requires in_order { InOrder pieces.now }
+    requires small { place ≤ 2 ^ 31 }
+    requires below { place < end }
     ensures is { result ≡ fold (closer place) end pieces.now }
     ensures above { place < result }
     ensures within { result ≤ end }
@@ -120,17 +138,38 @@ fn next_start(pieces: &[Piece], place: usize, end: usize) -> usize
     nearest(pieces, place, end)
 }
 
-/// How far the pieces reach from a place on, if they are in order.
-pub(crate) fn reach(pieces: &[Piece], place: usize) -> usize
-    ensures { result ≡ fold reached place pieces.now }
+/// The end of the piece that covers the place, else the place.
+pub(crate) fn front(pieces: &[Piece], place: usize) -> usize
+    requires in_order { InOrder pieces.now }
+    requires small { place ≤ 2 ^ 31 }
+    ensures from { place ≤ result }
+    ensures covered { AreCovered place result pieces.now }
+    ensures clean { IsClean result pieces.now }
 {
-    pieces.iter().fold(place, |end, piece| {
-        if piece.covers(end) { piece.end() } else { end }
-    })
+    match covering(pieces, place) {
+        Some(piece) => piece.end(),
+        None => place,
+    }
+}
+
+/// The start of the piece that lies on both sides of the place, else the place.
+pub(crate) fn back(pieces: &[Piece], place: usize) -> usize
+    requires { InOrder pieces.now }
+    ensures until { result ≤ place }
+    ensures covered { AreCovered result place pieces.now }
+    ensures clean { IsClean result pieces.now }
+{
+    let count = before(pieces, place);
+    if count == 0 {
+        return place;
+    }
+    let last = &pieces[count - 1];
+    if place < last.end() { last.at() } else { place }
 }
 
 /// Those of the bytes at `at` that are from `here` on, up to where a piece starts.
 fn until_next<'a>(pieces: &[Piece], at: usize, bytes: &'a [u8], here: usize) -> &'a [u8]
+    requires in_order { InOrder pieces.now }
     requires begun { at ≤ here }
     requires inside { here < at + length bytes.now }
     requires small { at + length bytes.now ≤ 2 ^ 25 }
@@ -143,7 +182,9 @@ fn until_next<'a>(pieces: &[Piece], at: usize, bytes: &'a [u8], here: usize) -> 
 
 /// Some bytes from `here` on, with the bytes at `at` after the pieces.
 fn stretch<'a>(pieces: &'a [Piece], at: usize, bytes: &'a [u8], here: usize) -> Option<&'a [u8]>
-    requires { at + length bytes.now ≤ 2 ^ 25 }
+    requires in_order { InOrder pieces.now }
+    requires near { here ≤ 2 ^ 31 }
+    requires small { at + length bytes.now ≤ 2 ^ 25 }
     ensures some { IfSome result (λ part.
         IsNext (pieces.now ++ placed at bytes.now ∷ []) here part.now) }
     ensures none { IfNone result
@@ -169,6 +210,7 @@ pub(crate) fn gathered(
     bytes: &[u8],
     here: usize,
 ) -> Result<Vec<u8>, AllocError>
+    requires in_order { InOrder pieces.now }
     requires end { at + length bytes.now ≤ 2 ^ 25 }
     requires small { here ≤ 2 ^ 25 }
     ensures says { IfOk result (λ found.
@@ -181,5 +223,52 @@ pub(crate) fn gathered(
     while let Some(part) = stretch(pieces, at, bytes, here + found.len()) {
         found.extend_from_slice(part)?;
     }
+    Ok(found)
+}
+
+/// Puts a piece in the place of those from one index up to another.
+pub(crate) fn put(
+    pieces: &mut Vec<Piece>,
+    from: usize,
+    to: usize,
+    piece: Piece,
+) -> Result<(), AllocError>
+    requires order { from ≤ to }
+    requires inside { to ≤ length pieces.old.items }
+    ensures { pieces.new.items ≡ (if is_ok result
+        then take from pieces.old.items ++ piece ∷ drop to pieces.old.items
+        else pieces.old.items) }
+{
+    pieces.insert(from, piece)?;
+    let _ = pieces.drain(from + 1..to + 1);
+    Ok(())
+}
+
+/// The bytes from `here` up to `stop`: those of the pieces, and the bytes at `at` between them.
+pub(crate) fn patched(
+    alloc: Global,
+    pieces: &[Piece],
+    at: usize,
+    bytes: &[u8],
+    here: usize,
+    stop: usize,
+) -> Result<Vec<u8>, AllocError>
+    requires in_order { InOrder pieces.now }
+    requires end { at + length bytes.now ≤ 2 ^ 25 }
+    requires begun { at ≤ here }
+    requires some { here ≤ stop }
+    requires inside { stop ≤ at + length bytes.now }
+    ensures says { IfOk result (λ found.
+        SaysFrom (pieces.now ++ placed at bytes.now ∷ []) here found.items) }
+    ensures len { IfOk result (λ found. length found.items ≡ stop - here) }
+{
+    let mut found = Vec::new(alloc);
+    while here + found.len() < stop {
+        match stretch(pieces, at, bytes, here + found.len()) {
+            Some(part) => found.extend_from_slice(part)?,
+            None => unreachable!(),
+        }
+    }
+    found.truncate(stop - here);
     Ok(found)
 }

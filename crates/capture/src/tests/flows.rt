@@ -1,6 +1,6 @@
 //! Segments in every order.
 
-use crate::{Ends, Flow, Flows, Segment, Taken};
+use crate::{Ends, Flow, Flows, Heard, Segment, Taken};
 use std::alloc::Global;
 use std::process::Abort;
 use std::test::Fail;
@@ -86,7 +86,8 @@ fn segment<'a>(seq: u32, flags: &str, payload: &'a [u8]) -> Segment<'a> {
     }
 }
 
-/// Asserts that the last of these segments, and no other, completes a flow with these bytes.
+/// Asserts that the last of these segments, and no other, completes or replaces a flow with these
+/// bytes.
 fn assert_completes(
     rt: &impl Abort,
     alloc: Global,
@@ -98,7 +99,12 @@ fn assert_completes(
     for segment in segments {
         assert!(rt; complete.is_none(), "before {}", segment.seq);
         let ends = Ends::of(&[10, 0, 0, 1], &[10, 0, 0, 2], segment).ok_or("no addresses")?;
-        complete = flows.take(alloc, ends, segment)?.complete;
+        let Heard {
+            taken: _taken,
+            replaced,
+            complete: ended,
+        } = flows.take(alloc, ends, segment)?;
+        complete = replaced.or(ended);
     }
     assert_eq!(rt; complete.ok_or("no flow")?.bytes(), bytes);
     Ok(())
@@ -111,19 +117,28 @@ fn flows_begin_and_end(rt: HostRuntime) -> Result<(), Fail> {
     // the FIN comes before the bytes that precede it
     let early = segment(102, "FIN", b"cd");
     assert_completes(&rt, alloc, &[syn, early, segment(100, "", b"ab")], b"abcd")?;
-    // the same SYN again changes nothing, another one starts another flow
+    // the same SYN again changes nothing, another one starts another flow with its next segment
     let other = segment(7, "SYN", b"");
+    let ab = segment(100, "", b"ab");
     assert_completes(
         &rt,
         alloc,
-        &[syn, segment(100, "", b"ab"), syn, other],
+        &[syn, ab, syn, other, segment(8, "", b"")],
         b"ab",
     )?;
-    // without a SYN, and reset
+    // if the open flow goes on, another SYN does not end it
     assert_completes(
         &rt,
         alloc,
-        &[segment(5, "", b"xy"), segment(7, "RST", b"")],
+        &[syn, ab, other, segment(102, "FIN", b"cd")],
+        b"abcd",
+    )?;
+    // without a SYN, and reset at the next byte
+    let wrong = segment(6, "RST", b"");
+    assert_completes(
+        &rt,
+        alloc,
+        &[segment(5, "", b"xy"), wrong, segment(7, "RST", b"")],
         b"xy",
     )?;
     Ok(())
@@ -141,7 +156,7 @@ fn what_is_left_is_given_at_the_end(rt: HostRuntime) -> Result<(), Fail> {
         let _closed = flows.take(alloc, ends, &segment(7, "", &[source]))?;
     }
     let mut left = Vec::new(alloc);
-    while let Some((_, flow)) = flows.finish() {
+    while let Some((_, flow, _)) = flows.finish() {
         left.extend_from_slice(flow.bytes())?;
     }
     assert_eq!(rt; left.as_slice(), b"xy\x01\x01xy\x02\x02".as_slice());

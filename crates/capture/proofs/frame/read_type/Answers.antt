@@ -21,7 +21,7 @@ returns-then-not-is_type_of_tag-clause-err c =
     let long : 2 ≤ length rest = omega (arith, c.if-rest-lt2.false) in
     let none : version_of (field 0 2 rest) ≡ None = rw (sym c.read_u16-kind.ensures) (sym c.version.ensures ∙ c.in_default.is) in
     let untagged : is_tag (field 0 2 rest) ≡ false = rw (sym c.read_u16-kind.ensures) (sym c.is_type_of_tag.ensures ∙ c.if-not-is_type_of_tag.true) in
-    c.loop-rest.invariant ∙ type_other rest long none untagged
+    rw (c.other_type.ensures, c.read_u16-kind.ensures) (c.loop-rest.invariant ∙ type_other rest long none untagged)
 
 pub returns-then-rest-lt4-clause-err : goal.returns-then-rest-lt4-clause-err
 returns-then-rest-lt4-clause-err c =

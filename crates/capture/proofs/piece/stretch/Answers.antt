@@ -49,4 +49,4 @@ returns-clause-some c =
     let begun : seg.at ≤ here = omega (arith, c.if-here-at.false) in
     let inside : here < end_of seg = omega (arith, c.if-at-bytes.false) in
     next_fresh pieces seg here (fold (closer here) (end_of seg) pieces) c.until_next-2.result.now
-    none begun inside refl c.requires c.until_next-2.ensures
+    none begun inside refl c.requires.small c.until_next-2.ensures

@@ -1,8 +1,9 @@
 use Rattle.std.proofs.Common.{◌≡◌, ◌≤◌, ◌^◌, ◌+◌, ◌++◌, ◌∷◌, [], nat_lt, length, sym, ◌∙◌, ap, arith, rules, length-append}
 use Rattle.std.specs.Prelude.{None, find, filter}
 use Rattle.std.proofs.lemmas.Fn.{filter_same}
-use Rattle.capture.specs.Flows.{placed, covers, byte_at, SaysFrom}
+use Rattle.capture.specs.Flows.{placed, covers, byte_at, InOrder, SaysFrom}
 use Rattle.capture.specs.FlowTexts.{flow_text}
+use Rattle.capture.proofs.Queued.{follows, in_order, order_filter}
 use Rattle.capture.proofs.Saying.{says_joined, joined_tight}
 use Rattle.capture.proofs.flow.Flow.join.Goals as goal
 
@@ -27,7 +28,13 @@ invariant_of-self-2 c =
     let most : length old.text.items + length more ≤ 2 ^ 25 = omega (arith, here, c.in_ok-more.ensures.most) in
     let few : length c.retain.new.self.items ≤ 4096 =
     omega (arith, c.retain.ensures.bound, c.retain.new.self.ok.0, old.waiting.ok.0, old.few) in
-    record { tight = rw (sym gap_is) tight; short = rw long most; few = few }
+    let order : InOrder c.retain.new.self.items =
+    rw kept (in_order (filter (λ s. nat_lt gap s.at) old.waiting.items)
+    (order_filter (λ s. nat_lt gap s.at) old.waiting.items (follows old.waiting.items old.in_order))) in
+    record { tight = rw (sym gap_is) tight; short = rw long most; in_order = order; few = few }
+
+pub gathered-requires-clause-in_order : goal.gathered-requires-clause-in_order
+gathered-requires-clause-in_order c = rw c.deref.ensures.value c.args.self.now.in_order
 
 pub returns-clause-ok : goal.returns-clause-ok
 returns-clause-ok c = λ segments says.

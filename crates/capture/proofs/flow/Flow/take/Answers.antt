@@ -1,8 +1,8 @@
 use Rattle.std.proofs.Common.{◌≡◌, ◌≤◌, length, sym, arith, rules}
-use Rattle.std.specs.Prelude.{fold}
-use Rattle.capture.specs.Flows.{placed, end_of, reached}
+use Rattle.std.proofs.lemmas.Result.{IfOk-weaker}
+use Rattle.capture.specs.Flows.{placed, end_of}
 use Rattle.capture.specs.FlowTexts.{flow_text}
-use Rattle.capture.proofs.Saying.{says_bare, says_old, says_reached}
+use Rattle.capture.proofs.Saying.{says_bare, says_old}
 use Rattle.capture.proofs.flow.Flow.take.Goals as goal
 
 pub returns-then-is_empty-clause-counts : goal.returns-then-is_empty-clause-counts
@@ -22,14 +22,5 @@ pub returns-then-at-len-clause-counts : goal.returns-then-at-len-clause-counts
 returns-then-at-len-clause-counts c = λ _ segments says.
     rw (sym c.place-at.ensures.is) (c.in_ok-join.ensures.ok segments says)
 
-pub returns-then-end-reach-clause-counts : goal.returns-then-end-reach-clause-counts
-returns-then-end-reach-clause-counts c = λ _ segments says.
-    let seg = placed c.place-at.result.0 c.place-at.result.1.now in
-    let far : end_of seg ≤ c.reach.result = omega (arith, c.if-end-reach.true) in
-    let all : end_of seg ≤ fold reached seg.at c.args.self.now.waiting.items =
-    rw (sym c.deref.ensures.value, sym c.reach.ensures) far in
-    rw (sym c.place-at.ensures.is) (says_reached segments (flow_text c.args.self.now) seg all says)
-
 pub returns-clause-counts : goal.returns-clause-counts
-returns-clause-counts c = λ _ segments says.
-    rw (sym c.place-at.ensures.is) (c.in_ok-hold.ensures.ok segments says)
+returns-clause-counts c = rw (sym c.place-at.ensures.is) c.hold.ensures.counts
