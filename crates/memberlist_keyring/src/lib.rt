@@ -10,6 +10,7 @@
 //! | `trial` | keys tried in order |
 //! | `keyring` | a cluster's keys |
 //! | `encrypt` | packets and streams encrypted under the first key |
+//! | `turn` | which key encrypts |
 //! | `laws` | what holds for the definitions, independent of any code |
 #![tactic(auto)]
 
@@ -21,6 +22,7 @@ mod keyring;
 mod label;
 pub mod laws;
 mod trial;
+mod turn;
 
 pub use fault::KeyFileFault;
 pub use keyring::Keyring;

@@ -1,3 +1,4 @@
 pub mod Packets
 pub mod Streams
 pub mod Replies
+pub mod Unwrapping

@@ -4,6 +4,7 @@ use Rattle.std.specs.Prelude.{◌≢◌}
 use Rattle.memberlist_cipher.specs.Label.{IsLabelled}
 use Rattle.memberlist_transport.specs.declared.fault.StreamFault.{StreamFault}
 use Rattle.memberlist_transport.specs.declared.fault.StreamFault.TheVariants.{Memory}
+use Rattle.memberlist_transport.specs.declared.in_the_clear.InTheClear.{InTheClear}
 use Rattle.memberlist_transport.specs.Stream.{IsStreamIn, ReasonFor}
 use Rattle.memberlist_transport.specs.Reply.{BeginsAsLabel, IsReadAs, IsReplyIn, ReasonForReply}
 
@@ -31,15 +32,15 @@ empty (first ∷ others) none = absurd (omega (arith, none))
 pub bare : (label bytes : List ℕ) → ¬ BeginsAsLabel bytes → length label ≡ 0 → IsReadAs label bytes bytes
 bare label bytes begins none = inr (begins, inl (empty label none, refl, λ more is. begins (more, is)))
 
-module _ {X : Type 0} (limit : ℕ) (keys : List (List ℕ)) (label bytes whole : List ℕ) where
+module _ {X : Type 0} (limit : ℕ) (policy : InTheClear) (keys : List (List ℕ)) (label bytes whole : List ℕ) where
   pub refuses : (result : Result X StreamFault) → IsReadAs label bytes whole
-      → IfErr result (λ fault. fault ≢ Memory → (stream : List ℕ) → ¬ IsStreamIn limit keys whole stream)
-      → IfErr result (λ fault. fault ≢ Memory → (stream : List ℕ) → ¬ IsReplyIn limit keys label bytes stream)
+      → IfErr result (λ fault. fault ≢ Memory → (stream : List ℕ) → ¬ IsStreamIn limit policy keys whole stream)
+      → IfErr result (λ fault. fault ≢ Memory → (stream : List ℕ) → ¬ IsReplyIn limit policy keys label bytes stream)
   refuses (Ok stream) read none = tt
   refuses (Err fault) read none = λ seen stream is.
-      none seen stream (subst (λ (w : List ℕ). IsStreamIn limit keys w stream) (one_reading label bytes is.0 whole is.1 read) is.2)
+      none seen stream (subst (λ (w : List ℕ). IsStreamIn limit policy keys w stream) (one_reading label bytes is.0 whole is.1 read) is.2)
 
-  pub reason : (result : Result X StreamFault) → IsReadAs label bytes whole → IfErr result (λ fault. fault ≢ Memory → ReasonFor limit keys whole fault)
-      → IfErr result (λ fault. fault ≢ Memory → ReasonForReply limit keys label bytes fault)
+  pub reason : (result : Result X StreamFault) → IsReadAs label bytes whole → IfErr result (λ fault. fault ≢ Memory → ReasonFor limit policy keys whole fault)
+      → IfErr result (λ fault. fault ≢ Memory → ReasonForReply limit policy keys label bytes fault)
   reason (Ok stream) read why = tt
   reason (Err fault) read why = λ seen. (whole, read, why seen)

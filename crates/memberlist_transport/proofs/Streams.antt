@@ -1,5 +1,5 @@
 -- The one message that bytes wrap, and whether it is a push/pull stream, in the clear or encrypted.
-use Rattle.std.proofs.Common.{◌≡◌, ◌⊎◌, ◌∙◌, inl, inr, ℕ, List, [], ◌∷◌, length, Result, Ok, Err, IfErr, get_or, ap, subst, sym, length-append, arith}
+use Rattle.std.proofs.Common.{◌≡◌, ◌⊎◌, ◌∙◌, inl, inr, ℕ, List, [], ◌∷◌, length, Bool, true, false, MatchBool, Result, Ok, Err, IsOk, IfOk, IfErr, refl, get_or, ap, subst, sym, length-append, arith}
 use Rattle.std.specs.Prelude.{◌≢◌}
 use Rattle.memberlist_cipher.specs.declared.fault.CipherFault.{CipherFault}
 use Rattle.memberlist_cipher.specs.Refusal.{StreamCause}
@@ -9,7 +9,9 @@ use Rattle.memberlist_keyring.proofs.OneOpened.{one_opened_stream, opens_stream}
 use Rattle.memberlist_wrap.specs.Wrapping.{Unwraps}
 use Rattle.memberlist_wrap.proofs.Unwrapping.{one_message, no_message}
 use Rattle.memberlist_transport.specs.declared.fault.StreamFault.{StreamFault}
-use Rattle.memberlist_transport.specs.declared.fault.StreamFault.TheVariants.{Closed, Memory}
+use Rattle.memberlist_transport.specs.declared.fault.StreamFault.TheVariants.{Closed, Unencrypted, Memory}
+use Rattle.memberlist_transport.specs.declared.in_the_clear.InTheClear.{InTheClear}
+use Rattle.memberlist_transport.specs.InTheClear.{AcceptsClear}
 use Rattle.memberlist_transport.specs.Stream.{BeginsAsStream, BeginsAsSealed, IsStreamIn, IsStreamIn as streams, IsClearStream, IsSealed, ReasonFor, ReasonFor as why, ReasonForClear, ReasonForClear as plainly, fault_of_start}
 
 same_message : (m n : ℕ) (bytes a b : List ℕ) → Unwraps m bytes a → Unwraps n bytes b → a ≡ b
@@ -24,11 +26,11 @@ no_sealed_clear m n bytes sealed stream is = not_both stream is.1 (subst BeginsA
 
 -- ---- one stream
 
-pub one_stream : (m n : ℕ) (keys : List (List ℕ)) (bytes a b : List ℕ) → IsStreamIn m keys bytes a → IsStreamIn n keys bytes b → a ≡ b
-one_stream m n keys bytes a b (streams.clear is) (streams.clear other) = same_message m n bytes a b is.0 other.0
-one_stream m n keys bytes a b (streams.clear is) (streams.opened inner sealed opens other) = absurd (no_sealed_clear n m bytes sealed a is)
-one_stream m n keys bytes a b (streams.opened inner sealed opens is) (streams.clear other) = absurd (no_sealed_clear m n bytes sealed b other)
-one_stream m n keys bytes a b (streams.opened inner sealed opens is) (streams.opened second also opened other) =
+pub one_stream : (m n : ℕ) (clear other_clear : InTheClear) (keys : List (List ℕ)) (bytes a b : List ℕ) → IsStreamIn m clear keys bytes a → IsStreamIn n other_clear keys bytes b → a ≡ b
+one_stream m n clear other_clear keys bytes a b (streams.clear accepted is) (streams.clear also other) = same_message m n bytes a b is.0 other.0
+one_stream m n clear other_clear keys bytes a b (streams.clear accepted is) (streams.opened inner sealed opens other) = absurd (no_sealed_clear n m bytes sealed a is)
+one_stream m n clear other_clear keys bytes a b (streams.opened inner sealed opens is) (streams.clear accepted other) = absurd (no_sealed_clear m n bytes sealed b other)
+one_stream m n clear other_clear keys bytes a b (streams.opened inner sealed opens is) (streams.opened second also opened other) =
     same_message m n second a b (subst (λ x. Unwraps m x a) (one_opened_stream keys bytes inner second opens opened) is.0) other.0
 
 module _ (limit : ℕ) where
@@ -46,13 +48,16 @@ module _ (limit : ℕ) where
       absurd (omega (arith, ap length (sym opens.first.parts ∙ none), length-append opens.first.before (opens.first.key ∷ opens.first.after)))
 
   -- bytes that a refusal says are not a stream are not one
-  pub no_stream : (keys : List (List ℕ)) (bytes : List ℕ) (fault : StreamFault) → ReasonFor limit keys bytes fault → (stream : List ℕ) → ¬ IsStreamIn limit keys bytes stream
-  no_stream keys bytes fault (why.clear reason none) stream (streams.clear is) = no_clear bytes fault reason stream is
-  no_stream keys bytes fault (why.clear reason none) stream (streams.opened inner sealed opens is) = no_keys keys bytes inner (none sealed) opens
-  no_stream keys bytes fault (why.closed cause sealed none refused same) stream (streams.clear is) = no_sealed_clear limit limit bytes sealed stream is
-  no_stream keys bytes fault (why.closed cause sealed none refused same) stream (streams.opened inner also opens is) = none inner (opens_stream keys bytes inner opens)
-  no_stream keys bytes fault (why.opened inner sealed opens reason) stream (streams.clear is) = no_sealed_clear limit limit bytes sealed stream is
-  no_stream keys bytes fault (why.opened inner sealed opens reason) stream (streams.opened other also opened is) =
+  pub no_stream : (policy : InTheClear) (keys : List (List ℕ)) (bytes : List ℕ) (fault : StreamFault) → ReasonFor limit policy keys bytes fault → (stream : List ℕ)
+      → ¬ IsStreamIn limit policy keys bytes stream
+  no_stream policy keys bytes fault (why.clear reason none) stream (streams.clear accepted is) = no_clear bytes fault reason stream is
+  no_stream policy keys bytes fault (why.clear reason none) stream (streams.opened inner sealed opens is) = no_keys keys bytes inner (none sealed) opens
+  no_stream policy keys bytes fault (why.unencrypted other is refuses same) stream (streams.clear accepted also) = refuses accepted
+  no_stream policy keys bytes fault (why.unencrypted other is refuses same) stream (streams.opened inner sealed opens also) = no_sealed_clear limit limit bytes sealed other is
+  no_stream policy keys bytes fault (why.closed cause sealed none refused same) stream (streams.clear accepted is) = no_sealed_clear limit limit bytes sealed stream is
+  no_stream policy keys bytes fault (why.closed cause sealed none refused same) stream (streams.opened inner also opens is) = none inner (opens_stream keys bytes inner opens)
+  no_stream policy keys bytes fault (why.opened inner sealed opens reason) stream (streams.clear accepted is) = no_sealed_clear limit limit bytes sealed stream is
+  no_stream policy keys bytes fault (why.opened inner sealed opens reason) stream (streams.opened other also opened is) =
       no_clear inner fault reason stream (subst (λ m. IsClearStream limit m stream) (one_opened_stream keys bytes other inner opened opens) is)
 
   -- ---- refusals of a message
@@ -63,25 +68,56 @@ module _ (limit : ℕ) where
   clear_refused bytes message (Ok stream) wraps other = tt
   clear_refused bytes message (Err fault) wraps other = λ seen. plainly.other message wraps other.0 other.1
 
-  -- if there is no key, or the message is not encrypted
-  pub untried : {X : Type 0} (keys : List (List ℕ)) (bytes message : List ℕ) (result : Result X StreamFault) → Unwraps limit bytes message
-      → (keys ≡ []) ⊎ (¬ BeginsAsSealed message)
-      → IfErr result (λ fault. (¬ BeginsAsStream message) × (fault ≡ fault_of_start message))
-      → IfErr result (λ fault. fault ≢ Memory → ReasonFor limit keys bytes fault)
-  untried keys bytes message (Ok stream) wraps unclosed other = tt
-  untried keys bytes message (Err fault) wraps (inl none) other = λ seen. why.clear (plainly.other message wraps other.0 other.1) (λ sealed. none)
-  untried keys bytes message (Err fault) wraps (inr clear) other = λ seen.
-      why.clear (plainly.other message wraps other.0 other.1)
-      (λ sealed. absurd (clear (subst BeginsAsSealed (same_message limit limit bytes sealed.0 message sealed.1 wraps) sealed.2)))
+  -- if there is no key, or the message is not encrypted: what the message is, and the answer, which is it if that is read
+  module _ {X : Type 0} (items : X → List ℕ) (policy : InTheClear) (keys : List (List ℕ)) (bytes message : List ℕ) (plain result : Result X StreamFault) (accepted : Bool)
+      (test : MatchBool accepted (AcceptsClear policy keys) (¬ AcceptsClear policy keys)) (wraps : Unwraps limit bytes message)
+      (is_message : IfOk plain (λ stream. BeginsAsStream (items stream) × (items stream ≡ message))) where
+    pub kept : IfOk result (λ stream. (accepted ≡ true) × (plain ≡ Ok stream)) → IfOk result (λ stream. IsStreamIn limit policy keys bytes (items stream))
+    kept is = by_result result is
+      where
+        by_result : (r : Result X StreamFault) → IfOk r (λ stream. (accepted ≡ true) × (plain ≡ Ok stream)) → IfOk r (λ stream. IsStreamIn limit policy keys bytes (items stream))
+        by_result (Err fault) is = tt
+        by_result (Ok stream) is =
+            let here : BeginsAsStream (items stream) × (items stream ≡ message) =
+            subst (λ p. IfOk p (λ s. BeginsAsStream (items s) × (items s ≡ message))) is.1 is_message in
+            streams.clear (subst (λ b. MatchBool b (AcceptsClear policy keys) (¬ AcceptsClear policy keys)) is.0 test)
+            (subst (Unwraps limit bytes) (sym here.1) wraps, here.0)
+
+    clear_stream : (p : Result X StreamFault) → p ≡ plain → IsOk p → (stream : List ℕ) × IsClearStream limit bytes stream
+    clear_stream (Err fault) same is = absurd (cc (is))
+    clear_stream (Ok stream) same is =
+        let here : BeginsAsStream (items stream) × (items stream ≡ message) =
+        subst (λ p. IfOk p (λ s. BeginsAsStream (items s) × (items s ≡ message))) (sym same) is_message in
+        (items stream, (subst (Unwraps limit bytes) (sym here.1) wraps, here.0))
+
+    pub untried : (keys ≡ []) ⊎ (¬ BeginsAsSealed message) → IfErr plain (λ fault. (¬ BeginsAsStream message) × (fault ≡ fault_of_start message))
+        → IfErr result (λ fault. (plain ≡ Err fault) ⊎ ((accepted ≡ false) × IsOk plain × (fault ≡ Unencrypted)))
+        → IfErr result (λ fault. fault ≢ Memory → ReasonFor limit policy keys bytes fault)
+    untried unclosed others is = by_result result is
+      where
+        none_tried : IsSealed limit bytes → (keys ≡ []) ⊎ (¬ BeginsAsSealed message) → keys ≡ []
+        none_tried sealed (inl none) = none
+        none_tried sealed (inr clear) = absurd (clear (subst BeginsAsSealed (same_message limit limit bytes sealed.0 message sealed.1 wraps) sealed.2))
+
+        by_result : (r : Result X StreamFault) → IfErr r (λ fault. (plain ≡ Err fault) ⊎ ((accepted ≡ false) × IsOk plain × (fault ≡ Unencrypted)))
+            → IfErr r (λ fault. fault ≢ Memory → ReasonFor limit policy keys bytes fault)
+        by_result (Ok stream) is = tt
+        by_result (Err fault) (inl same) = λ seen.
+            let other : (¬ BeginsAsStream message) × (fault ≡ fault_of_start message) =
+            subst (λ p. IfErr p (λ f. (¬ BeginsAsStream message) × (f ≡ fault_of_start message))) same others in
+            why.clear (plainly.other message wraps other.0 other.1) (λ sealed. none_tried sealed unclosed)
+        by_result (Err fault) (inr refused) = λ seen.
+            let stream = clear_stream plain refl refused.1 in
+            why.unencrypted stream.0 stream.1 (subst (λ b. MatchBool b (AcceptsClear policy keys) (¬ AcceptsClear policy keys)) refused.0 test) refused.2
 
   -- if a key is tried
-  pub tried : {X : Type 0} (keys : List (List ℕ)) (bytes : List ℕ) (result : Result X StreamFault) → IsSealed limit bytes
+  pub tried : {X : Type 0} (policy : InTheClear) (keys : List (List ℕ)) (bytes : List ℕ) (result : Result X StreamFault) → IsSealed limit bytes
       → IfErr result (λ fault. fault ≢ Memory → ((cause : CipherFault) × ((inner : List ℕ) → ¬ OpensStream keys bytes inner)
       × IsRefused StreamCause keys bytes cause × (fault ≡ Closed cause))
       ⊎ ((inner : List ℕ) × OpensStreamFirst keys bytes inner × ReasonForClear limit inner fault))
-      → IfErr result (λ fault. fault ≢ Memory → ReasonFor limit keys bytes fault)
-  tried keys bytes (Ok stream) sealed refusal = tt
-  tried keys bytes (Err fault) sealed refusal = λ seen. elim (refusal seen) [
+      → IfErr result (λ fault. fault ≢ Memory → ReasonFor limit policy keys bytes fault)
+  tried policy keys bytes (Ok stream) sealed refusal = tt
+  tried policy keys bytes (Err fault) sealed refusal = λ seen. elim (refusal seen) [
     | inl closed ↦ why.closed closed.0 sealed closed.1 closed.2 closed.3
     | inr opened ↦ why.opened opened.0 sealed opened.1 opened.2
   ]

@@ -4,7 +4,9 @@ use Rattle.memberlist_keyring.specs.Opening.{Opens, OpensFirst}
 use Rattle.memberlist_wrap.specs.Reasons.{ReasonForIn}
 use Rattle.memberlist_wrap.specs.Wrapping.{Unwraps}
 use Rattle.memberlist_transport.specs.declared.fault.PacketFault.{PacketFault}
-use Rattle.memberlist_transport.specs.declared.fault.PacketFault.TheVariants.{Wrapped, NoMessage, NoKeyFits}
+use Rattle.memberlist_transport.specs.declared.fault.PacketFault.TheVariants.{Wrapped, NoMessage, NoKeyFits, Unencrypted}
+use Rattle.memberlist_transport.specs.declared.in_the_clear.InTheClear.{InTheClear}
+use Rattle.memberlist_transport.specs.InTheClear.{AcceptsClear}
 use Rattle.memberlist_transport.specs.declared.message.Message.{Message}
 use Rattle.memberlist_transport.specs.Message.{IsMessage, IsNoMessage}
 
@@ -33,20 +35,28 @@ FailsClear bytes fault = ⊥
 abbrev pub IsUnclear : List ℕ → Type 0
 IsUnclear bytes = (first : ℕ) × (first < 2) × FailsClear bytes (NoMessage first)
 
--- The packet has the message: in the clear, or under the first key that decrypts it.
-pub data Holds (keys : List (List ℕ)) (bytes : List ℕ) (message : Message) : Type 0 where
-  clear : HoldsClear bytes message → Holds keys bytes message
-  opened : (inner : List ℕ) → IsUnclear bytes → OpensFirst keys bytes inner
-      → HoldsClear inner message → Holds keys bytes message
+-- The packet has the message: in the clear, if that is read, or under the first key that decrypts
+-- it.
+pub data Holds (policy : InTheClear) (keys : List (List ℕ)) (bytes : List ℕ)
+    (message : Message) : Type 0
+  where
+    clear : AcceptsClear policy keys → HoldsClear bytes message → Holds policy keys bytes message
+    opened : (inner : List ℕ) → IsUnclear bytes → OpensFirst keys bytes inner
+        → HoldsClear inner message → Holds policy keys bytes message
 
--- Why the packet has none: in the clear, if no key is tried; because no key decrypts it; or in what
--- the key decrypts.
-pub data Fails (keys : List (List ℕ)) (bytes : List ℕ) (fault : PacketFault) : Type 0 where
-  clear : FailsClear bytes fault → (IsUnclear bytes → keys ≡ []) → Fails keys bytes fault
-  closed : IsUnclear bytes → keys ≢ [] → ((inner : List ℕ) → ¬ Opens keys bytes inner)
-      → fault ≡ NoKeyFits → Fails keys bytes fault
-  opened : (inner : List ℕ) → IsUnclear bytes → OpensFirst keys bytes inner
-      → FailsClear inner fault → Fails keys bytes fault
+-- Why the packet has none: in the clear, if no key is tried; because it is in the clear, and that
+-- is not read; because no key decrypts it; or in what the key decrypts.
+pub data Fails (policy : InTheClear) (keys : List (List ℕ)) (bytes : List ℕ)
+    (fault : PacketFault) : Type 0
+  where
+    clear : FailsClear bytes fault → (IsUnclear bytes → keys ≡ [])
+        → Fails policy keys bytes fault
+    unencrypted : (message : Message) → HoldsClear bytes message → ¬ AcceptsClear policy keys
+        → fault ≡ Unencrypted → Fails policy keys bytes fault
+    closed : IsUnclear bytes → keys ≢ [] → ((inner : List ℕ) → ¬ Opens keys bytes inner)
+        → fault ≡ NoKeyFits → Fails policy keys bytes fault
+    opened : (inner : List ℕ) → IsUnclear bytes → OpensFirst keys bytes inner
+        → FailsClear inner fault → Fails policy keys bytes fault
 
 -- ---- intermediate steps
 

@@ -8,7 +8,9 @@ use Rattle.memberlist_wrap.specs.declared.fault.WrapFault.{WrapFault}
 use Rattle.memberlist_wrap.specs.Reasons.{ReasonForIn}
 use Rattle.memberlist_wrap.specs.Wrapping.{Unwraps}
 use Rattle.memberlist_transport.specs.declared.fault.StreamFault.{StreamFault}
-use Rattle.memberlist_transport.specs.declared.fault.StreamFault.TheVariants.{Wrapped, Closed, NoStream, Empty}
+use Rattle.memberlist_transport.specs.declared.fault.StreamFault.TheVariants.{Wrapped, Closed, Unencrypted, NoStream, Empty}
+use Rattle.memberlist_transport.specs.declared.in_the_clear.InTheClear.{InTheClear}
+use Rattle.memberlist_transport.specs.InTheClear.{AcceptsClear}
 
 -- the first byte of push/pull streams
 abbrev pub BeginsAsStream : List ℕ → Type 0
@@ -26,12 +28,15 @@ IsClearStream limit bytes stream = Unwraps limit bytes stream × BeginsAsStream 
 abbrev pub IsSealed : ℕ → List ℕ → Type 0
 IsSealed limit bytes = (message : List ℕ) × Unwraps limit bytes message × BeginsAsSealed message
 
--- The bytes are the stream, in wrappers, or encrypted under the first key that decrypts them, and
--- in wrappers in there. Nothing has more bytes than the limit.
-pub data IsStreamIn (limit : ℕ) (keys : List (List ℕ)) (bytes stream : List ℕ) : Type 0 where
-  clear : IsClearStream limit bytes stream → IsStreamIn limit keys bytes stream
-  opened : (inner : List ℕ) → IsSealed limit bytes → OpensStreamFirst keys bytes inner
-      → IsClearStream limit inner stream → IsStreamIn limit keys bytes stream
+-- The bytes are the stream, in wrappers, if that is read, or encrypted under the first key that
+-- decrypts them, and in wrappers in there. Nothing has more bytes than the limit.
+pub data IsStreamIn (limit : ℕ) (policy : InTheClear) (keys : List (List ℕ))
+    (bytes stream : List ℕ) : Type 0
+  where
+    clear : AcceptsClear policy keys → IsClearStream limit bytes stream
+        → IsStreamIn limit policy keys bytes stream
+    opened : (inner : List ℕ) → IsSealed limit bytes → OpensStreamFirst keys bytes inner
+        → IsClearStream limit inner stream → IsStreamIn limit policy keys bytes stream
 
 -- ---- refusals
 
@@ -50,14 +55,18 @@ pub data ReasonForClear (limit : ℕ) (bytes : List ℕ) (fault : StreamFault) :
       → fault ≡ fault_of_start message → ReasonForClear limit bytes fault
 
 -- What a refusal says about bytes: what it says about them in the clear, if no key is tried; that
--- no key decrypts them, and the keyring's fault; or what it says about what a key decrypts.
-pub data ReasonFor (limit : ℕ) (keys : List (List ℕ)) (bytes : List ℕ)
+-- they are a stream in the clear, which is not read; that no key decrypts them, and the keyring's
+-- fault; or what it says about what a key decrypts.
+pub data ReasonFor (limit : ℕ) (policy : InTheClear) (keys : List (List ℕ)) (bytes : List ℕ)
     (fault : StreamFault) : Type 0
   where
     clear : ReasonForClear limit bytes fault → (IsSealed limit bytes → keys ≡ [])
-        → ReasonFor limit keys bytes fault
+        → ReasonFor limit policy keys bytes fault
+    unencrypted : (stream : List ℕ) → IsClearStream limit bytes stream
+        → ¬ AcceptsClear policy keys → fault ≡ Unencrypted
+        → ReasonFor limit policy keys bytes fault
     closed : (cause : CipherFault) → IsSealed limit bytes
         → ((inner : List ℕ) → ¬ OpensStream keys bytes inner) → IsRefused StreamCause keys bytes cause
-        → fault ≡ Closed cause → ReasonFor limit keys bytes fault
+        → fault ≡ Closed cause → ReasonFor limit policy keys bytes fault
     opened : (inner : List ℕ) → IsSealed limit bytes → OpensStreamFirst keys bytes inner
-        → ReasonForClear limit inner fault → ReasonFor limit keys bytes fault
+        → ReasonForClear limit inner fault → ReasonFor limit policy keys bytes fault

@@ -21,6 +21,9 @@ pub enum PacketFault {
     /// It is encrypted, and none of the keys decrypts it.
     #[error("no key decrypts the packet")]
     NoKeyFits,
+    /// It is not encrypted, there are keys, and only what is encrypted is read.
+    #[error("the packet is not encrypted")]
+    Unencrypted,
     /// Out of memory.
     #[error("out of memory")]
     Memory,
@@ -43,6 +46,9 @@ pub enum StreamFault {
     /// It is encrypted, and none of the keys decrypts it: this is the fault of the last one.
     #[error("{0}")]
     Closed(CipherFault),
+    /// It is not encrypted, there are keys, and only what is encrypted is read.
+    #[error("the stream is not encrypted")]
+    Unencrypted,
     /// The unwrapped bytes start with this byte, and are not a push/pull stream.
     #[error("not a push/pull stream (first byte {0:02x})")]
     NoStream(u8),

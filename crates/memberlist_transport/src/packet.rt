@@ -1,11 +1,13 @@
 //! The message of a packet.
 
-ghost use Rattle.std.specs.Prelude.{◌≡◌, ◌≢◌, ◌<◌, ℕ, MatchBool, IfOk, IfErr};
+ghost use Rattle.std.specs.Prelude.{◌≡◌, ◌≢◌, ◌<◌, ◌⊎◌, ℕ, true, false, Ok, Err, MatchBool, IsOk, IfOk, IfErr};
 ghost use Rattle.memberlist_transport.specs.declared.message.Message.{Message};
 ghost use Rattle.memberlist_transport.specs.Message.{IsMessage, IsNoMessage};
+ghost use Rattle.memberlist_transport.specs.InTheClear.{AcceptsClear};
 ghost use Rattle.memberlist_transport.specs.Packet.{Holds, HoldsClear, Fails, FailsClear, IsUnclearResult, HoldsOpened, FailsOpened};
 
 use crate::fault::PacketFault;
+use crate::in_the_clear::InTheClear;
 use crate::message::{Message, kind_that_claims};
 use memberlist_cipher::CipherFault;
 use memberlist_keyring::Keyring;
@@ -19,7 +21,8 @@ pub const MAX_MESSAGE_LEN: usize = 1_048_576;
 /// The message of a packet: checksums, compressions and labels are removed, as in memberlist's
 /// `net.go` (`handleCommand`), `util.go` and `label.go`. Bytes that are not a message in the clear
 /// and start as an encrypted packet are first decrypted with the keys, if there are any. Neither a
-/// message nor anything compressed or encrypted has more than 1,048,576 bytes.
+/// message nor anything compressed or encrypted has more than 1,048,576 bytes. If there are keys,
+/// a message in the clear is read only if `clear` accepts it.
 ///
 /// # Errors
 ///
@@ -27,31 +30,61 @@ pub const MAX_MESSAGE_LEN: usize = 1_048_576;
 /// if the unwrapped bytes are not empty, do not start as a suspect, alive or dead message or a
 /// compound packet, and are not a whole message of a kind that makes no claims. If that byte is
 /// below 2, a version of encryption, and there are keys: `NoKeyFits` if none decrypts the bytes,
-/// and else these errors for the decrypted bytes. `Memory` if out of memory.
-pub fn open_packet(alloc: Global, keys: &Keyring, bytes: &[u8]) -> Result<Message, PacketFault>
+/// and else these errors for the decrypted bytes. `Unencrypted` if it is a message in the clear,
+/// there are keys, and `clear` refuses it. `Memory` if out of memory.
+pub fn open_packet(
+    alloc: Global,
+    keys: &Keyring,
+    clear: InTheClear,
+    bytes: &[u8],
+) -> Result<Message, PacketFault>
     // It is the message of the packet.
-    ensures holds { IfOk result (Holds keys.now bytes.now) }
+    ensures holds { IfOk result (Holds clear keys.now bytes.now) }
 
     // If it is refused, and not because memory ran out, it has no message, and the refusal says
     // why.
     ensures refuses { IfErr result (λ fault. fault ≢ PacketFault.Memory
-        → (message : Message) → ¬ Holds keys.now bytes.now message) }
+        → (message : Message) → ¬ Holds clear keys.now bytes.now message) }
     ensures reason { IfErr result (λ fault. fault ≢ PacketFault.Memory
-        → Fails keys.now bytes.now fault) }
+        → Fails clear keys.now bytes.now fault) }
 {
-    message_of_packet(alloc, keys, bytes)
+    message_of_packet(alloc, keys, clear, bytes)
 }
 
-fn message_of_packet(alloc: Global, keys: &Keyring, bytes: &[u8]) -> Result<Message, PacketFault>
-    ensures holds { IfOk result (Holds keys.now bytes.now) }
+fn message_of_packet(
+    alloc: Global,
+    keys: &Keyring,
+    clear: InTheClear,
+    bytes: &[u8],
+) -> Result<Message, PacketFault>
+    ensures holds { IfOk result (Holds clear keys.now bytes.now) }
     ensures reason { IfErr result (λ fault. fault ≢ PacketFault.Memory
-        → Fails keys.now bytes.now fault) }
+        → Fails clear keys.now bytes.now fault) }
 {
-    let clear = clear_message(alloc, bytes);
-    if keys.is_empty() || !is_unclear(&clear) {
-        return clear;
+    let plain = clear_message(alloc, bytes);
+    if keys.is_empty() || !is_unclear(&plain) {
+        return if_accepted(plain, clear.is_accepted(keys));
     }
     opened_message(alloc, keys, bytes)
+}
+
+/// The message in the clear, if such messages are read.
+fn if_accepted(
+    plain: Result<Message, PacketFault>,
+    is_accepted: bool,
+) -> Result<Message, PacketFault>
+    ensures ok { IfOk result (λ message. (is_accepted ≡ true) × (plain ≡ Ok message)) }
+    ensures err { IfErr result (λ fault. (plain ≡ Err fault)
+        ⊎ ((is_accepted ≡ false) × IsOk plain × (fault ≡ PacketFault.Unencrypted))) }
+{
+    match plain {
+        Ok(message) => if is_accepted {
+            Ok(message)
+        } else {
+            Err(PacketFault::Unencrypted)
+        },
+        Err(fault) => Err(fault),
+    }
 }
 
 /// Whether there is a version of encryption in place of a message (memberlist's `security.go`).
@@ -78,7 +111,7 @@ fn opened_message(alloc: Global, keys: &Keyring, bytes: &[u8]) -> Result<Message
 }
 
 /// The message in bytes without keys.
-fn clear_message(alloc: Global, bytes: &[u8]) -> Result<Message, PacketFault>
+pub(crate) fn clear_message(alloc: Global, bytes: &[u8]) -> Result<Message, PacketFault>
     ensures holds { IfOk result (HoldsClear bytes.now) }
     ensures reason { IfErr result (λ fault. fault ≢ PacketFault.Memory
         → FailsClear bytes.now fault) }

@@ -4,6 +4,7 @@ ghost use Rattle.std.specs.Prelude.{◌≢◌, ◌<◌, List, ℕ, length, IfOk,
 ghost use Rattle.memberlist_transport.specs.Reply.{BeginsAsLabel, IsReplyIn, ReasonForReply};
 
 use crate::fault::StreamFault;
+use crate::in_the_clear::InTheClear;
 use crate::stream::open_stream;
 use memberlist_cipher::{LABEL, labelled};
 use memberlist_keyring::Keyring;
@@ -24,6 +25,7 @@ use std::alloc::Global;
 pub fn open_reply(
     alloc: Global,
     keys: &Keyring,
+    clear: InTheClear,
     label: &[u8],
     bytes: &[u8],
     limit: usize,
@@ -32,20 +34,20 @@ pub fn open_reply(
 
     // It is the stream in the bytes after the label.
     ensures unwraps { IfOk result (λ stream.
-        IsReplyIn limit keys.now label.now bytes.now stream.items) }
+        IsReplyIn limit clear keys.now label.now bytes.now stream.items) }
 
     // If they are refused, and not because memory ran out, they hold none, and the refusal says
     // why.
     ensures refuses { IfErr result (λ fault. fault ≢ StreamFault.Memory
-        → (stream : List ℕ) → ¬ IsReplyIn limit keys.now label.now bytes.now stream) }
+        → (stream : List ℕ) → ¬ IsReplyIn limit clear keys.now label.now bytes.now stream) }
     ensures reason { IfErr result (λ fault. fault ≢ StreamFault.Memory
-        → ReasonForReply limit keys.now label.now bytes.now fault) }
+        → ReasonForReply limit clear keys.now label.now bytes.now fault) }
 {
     if begins_as_label(bytes) || label.is_empty() {
-        return open_stream(alloc, keys, bytes, limit);
+        return open_stream(alloc, keys, clear, bytes, limit);
     }
     match labelled(alloc, label, bytes) {
-        Ok(whole) => open_stream(alloc, keys, &whole, limit),
+        Ok(whole) => open_stream(alloc, keys, clear, &whole, limit),
         Err(_) => Err(StreamFault::Memory),
     }
 }

@@ -1,14 +1,16 @@
 //! The push/pull stream of a connection.
 
-ghost use Rattle.std.specs.Prelude.{◌≡◌, ◌≢◌, ◌⊎◌, List, ℕ, IfOk, IfErr, MatchBool};
+ghost use Rattle.std.specs.Prelude.{◌≡◌, ◌≢◌, ◌⊎◌, List, ℕ, true, false, Ok, Err, IsOk, IfOk, IfErr, MatchBool};
 ghost use Rattle.memberlist_cipher.specs.declared.fault.CipherFault.{CipherFault};
 ghost use Rattle.memberlist_cipher.specs.Refusal.{StreamCause};
 ghost use Rattle.memberlist_keyring.specs.Cutting.{IsRefused};
 ghost use Rattle.memberlist_keyring.specs.Opening.{OpensStream, OpensStreamFirst};
 ghost use Rattle.memberlist_wrap.specs.Wrapping.{Unwraps};
+ghost use Rattle.memberlist_transport.specs.InTheClear.{AcceptsClear};
 ghost use Rattle.memberlist_transport.specs.Stream.{BeginsAsStream, BeginsAsSealed, IsStreamIn, IsClearStream, ReasonFor, ReasonForClear, fault_of_start};
 
 use crate::fault::StreamFault;
+use crate::in_the_clear::InTheClear;
 use memberlist_cipher::CipherFault;
 use memberlist_keyring::Keyring;
 use memberlist_wrap::{WrapFault, unwrap};
@@ -21,46 +23,51 @@ const ENCRYPTED: u8 = 10;
 /// The push/pull stream in one direction of a TCP connection, unwrapped, and decrypted with the
 /// keys if it is encrypted and there are any, as in memberlist's `net.go` (`readStream`). Only its
 /// first byte is checked to be that of such a stream. Neither it nor anything compressed or
-/// encrypted has more than `limit` bytes.
+/// encrypted has more than `limit` bytes. If there are keys, a stream in the clear is read only if
+/// `clear` accepts it.
 ///
 /// # Errors
 ///
 /// `Wrapped`, with the fault of [`memberlist_wrap::unwrap`], if the bytes wrap nothing within the
 /// limit; `NoStream`, with the first unwrapped byte, if the unwrapped bytes are not a push/pull
 /// stream, and `Empty` if there are none. If it is encrypted and there are keys: `Closed` with the
-/// fault of the last of them, and else these errors for the decrypted bytes. `Memory` if out of
-/// memory.
+/// fault of the last of them, and else these errors for the decrypted bytes. `Unencrypted` if it is
+/// a stream in the clear, there are keys, and `clear` refuses it. `Memory` if out of memory.
 pub fn open_stream(
     alloc: Global,
     keys: &Keyring,
+    clear: InTheClear,
     bytes: &[u8],
     limit: usize,
 ) -> Result<Vec<u8>, StreamFault>
     // It is the stream in the bytes.
-    ensures unwraps { IfOk result (λ stream. IsStreamIn limit keys.now bytes.now stream.items) }
+    ensures unwraps { IfOk result (λ stream.
+        IsStreamIn limit clear keys.now bytes.now stream.items) }
 
     // If they are refused, and not because memory ran out, they hold none, and the refusal says
     // why.
     ensures refuses { IfErr result (λ fault. fault ≢ StreamFault.Memory
-        → (stream : List ℕ) → ¬ IsStreamIn limit keys.now bytes.now stream) }
+        → (stream : List ℕ) → ¬ IsStreamIn limit clear keys.now bytes.now stream) }
     ensures reason { IfErr result (λ fault. fault ≢ StreamFault.Memory
-        → ReasonFor limit keys.now bytes.now fault) }
+        → ReasonFor limit clear keys.now bytes.now fault) }
 {
-    stream_in(alloc, keys, bytes, limit)
+    stream_in(alloc, keys, clear, bytes, limit)
 }
 
 fn stream_in(
     alloc: Global,
     keys: &Keyring,
+    clear: InTheClear,
     bytes: &[u8],
     limit: usize,
 ) -> Result<Vec<u8>, StreamFault>
-    ensures unwraps { IfOk result (λ stream. IsStreamIn limit keys.now bytes.now stream.items) }
+    ensures unwraps { IfOk result (λ stream.
+        IsStreamIn limit clear keys.now bytes.now stream.items) }
     ensures reason { IfErr result (λ fault. fault ≢ StreamFault.Memory
-        → ReasonFor limit keys.now bytes.now fault) }
+        → ReasonFor limit clear keys.now bytes.now fault) }
 {
     match unwrap(alloc, bytes, limit) {
-        Ok(message) => stream_behind(alloc, keys, bytes, message, limit),
+        Ok(message) => stream_behind(alloc, keys, clear, bytes, message, limit),
         Err(WrapFault::Memory) => Err(StreamFault::Memory),
         Err(cause) => Err(StreamFault::Wrapped(cause)),
     }
@@ -70,20 +77,41 @@ fn stream_in(
 fn stream_behind(
     alloc: Global,
     keys: &Keyring,
+    clear: InTheClear,
     bytes: &[u8],
     message: Vec<u8>,
     limit: usize,
 ) -> Result<Vec<u8>, StreamFault>
     requires { Unwraps limit bytes.now message.items }
-    ensures unwraps { IfOk result (λ stream. IsStreamIn limit keys.now bytes.now stream.items) }
+    ensures unwraps { IfOk result (λ stream.
+        IsStreamIn limit clear keys.now bytes.now stream.items) }
     ensures reason { IfErr result (λ fault. fault ≢ StreamFault.Memory
-        → ReasonFor limit keys.now bytes.now fault) }
+        → ReasonFor limit clear keys.now bytes.now fault) }
 {
     if keys.is_empty() || !is_sealed(&message) {
-        return stream_of(message);
+        return if_accepted(stream_of(message), clear.is_accepted(keys));
     }
     drop(message);
     opened_stream(alloc, keys, bytes, limit)
+}
+
+/// The stream in the clear, if such streams are read.
+fn if_accepted(
+    plain: Result<Vec<u8>, StreamFault>,
+    is_accepted: bool,
+) -> Result<Vec<u8>, StreamFault>
+    ensures ok { IfOk result (λ stream. (is_accepted ≡ true) × (plain ≡ Ok stream)) }
+    ensures err { IfErr result (λ fault. (plain ≡ Err fault)
+        ⊎ ((is_accepted ≡ false) × IsOk plain × (fault ≡ StreamFault.Unencrypted))) }
+{
+    match plain {
+        Ok(stream) => if is_accepted {
+            Ok(stream)
+        } else {
+            Err(StreamFault::Unencrypted)
+        },
+        Err(fault) => Err(fault),
+    }
 }
 
 /// Whether the message starts as an encrypted stream.

@@ -93,8 +93,8 @@ fn keyring(alloc: Global, text: &str) -> Result<Keyring, Fail> {
 /// The message of the packet under these keys. If a growth is refused, the next call finds memory.
 fn opened(alloc: Global, keys: &str, bytes: &[u8]) -> Result<Result<Message, PacketFault>, Fail> {
     let keys = keyring(alloc, keys)?;
-    match open_packet(alloc, &keys, bytes) {
-        Err(PacketFault::Memory) => Ok(open_packet(alloc, &keys, bytes)),
+    match open_packet(alloc, &keys, InTheClear::Accepted, bytes) {
+        Err(PacketFault::Memory) => Ok(open_packet(alloc, &keys, InTheClear::Accepted, bytes)),
         result => Ok(result),
     }
 }
@@ -207,8 +207,14 @@ fn stream_in(
     limit: usize,
 ) -> Result<Result<Vec<u8>, StreamFault>, Fail> {
     let keys = keyring(alloc, keys)?;
-    match open_stream(alloc, &keys, bytes, limit) {
-        Err(StreamFault::Memory) => Ok(open_stream(alloc, &keys, bytes, limit)),
+    match open_stream(alloc, &keys, InTheClear::Accepted, bytes, limit) {
+        Err(StreamFault::Memory) => Ok(open_stream(
+            alloc,
+            &keys,
+            InTheClear::Accepted,
+            bytes,
+            limit,
+        )),
         result => Ok(result),
     }
 }
@@ -277,8 +283,15 @@ fn reply_in(
     bytes: &[u8],
 ) -> Result<Result<Vec<u8>, StreamFault>, Fail> {
     let keys = keyring(alloc, keys)?;
-    match open_reply(alloc, &keys, label, bytes, 999) {
-        Err(StreamFault::Memory) => Ok(open_reply(alloc, &keys, label, bytes, 999)),
+    match open_reply(alloc, &keys, InTheClear::Accepted, label, bytes, 999) {
+        Err(StreamFault::Memory) => Ok(open_reply(
+            alloc,
+            &keys,
+            InTheClear::Accepted,
+            label,
+            bytes,
+            999,
+        )),
         result => Ok(result),
     }
 }
@@ -342,6 +355,51 @@ fn a_fault_has_its_text(rt: HostRuntime) -> Result<(), Fail> {
         let found = texts(rt.alloc(), packet, stream)?;
         assert_eq!(rt; found.0.as_str(), wanted[0]);
         assert_eq!(rt; found.1.as_str(), wanted[1]);
+    }
+    Ok(())
+}
+
+// With keys memberlist reads only what is encrypted (GossipVerifyIncoming in its config.go).
+#[test]
+fn what_is_in_the_clear_is_refused_with_keys(rt: HostRuntime) -> Result<(), Fail> {
+    let alloc = rt.alloc();
+    for (keys, packet, fault) in [
+        ("", ALIVE, None),
+        (KEY, SEALED, None),
+        (KEY, LABELLED, None),
+        (KEY, ALIVE, Some(PacketFault::Unencrypted)),
+        (KEY, CHECKED, Some(PacketFault::Unencrypted)),
+        (OTHER_KEY, SEALED, Some(PacketFault::NoKeyFits)),
+    ] {
+        let keys = keyring(alloc, keys)?;
+        let found = match open_packet(alloc, &keys, InTheClear::Refused, packet) {
+            Err(PacketFault::Memory) => open_packet(alloc, &keys, InTheClear::Refused, packet),
+            result => result,
+        };
+        assert_eq!(rt; found.err(), fault, "{packet:?}");
+        let inner = match unwrap_packet(alloc, &keys, InTheClear::Refused, packet) {
+            Err(PacketFault::Memory) => unwrap_packet(alloc, &keys, InTheClear::Refused, packet),
+            result => result,
+        };
+        assert_eq!(rt; inner.err(), fault, "{packet:?}");
+    }
+    Ok(())
+}
+
+#[test]
+fn a_stream_in_the_clear_is_refused_with_keys(rt: HostRuntime) -> Result<(), Fail> {
+    let alloc = rt.alloc();
+    for (keys, bytes, fault) in [
+        ("", STREAM, None),
+        (KEY, SEALED_STREAM, None),
+        (KEY, STREAM, Some(StreamFault::Unencrypted)),
+    ] {
+        let keys = keyring(alloc, keys)?;
+        let found = match open_stream(alloc, &keys, InTheClear::Refused, bytes, 999) {
+            Err(StreamFault::Memory) => open_stream(alloc, &keys, InTheClear::Refused, bytes, 999),
+            result => result,
+        };
+        assert_eq!(rt; found.err(), fault, "{bytes:?}");
     }
     Ok(())
 }
