@@ -18,6 +18,8 @@ pub enum Failure {
     UnreadableWords,
     /// The run was refused: the message, and the exit status.
     Refused { text: String, status: u8 },
+    /// Nobody reads the output any more, as when `head` has enough.
+    Closed,
     /// Memory ran out.
     Memory,
 }
@@ -61,7 +63,8 @@ impl Failure {
         }
     }
 
-    /// Prints on standard error why this program ends, and returns its exit status.
+    /// Prints on standard error why this program ends, and returns its exit status. If nobody reads
+    /// the output any more, it prints nothing, and the status is 0.
     pub fn tell(&self, rt: &HostRuntime, program: &str) -> ExitCode {
         match self {
             Failure::Words(error) => {
@@ -76,6 +79,7 @@ impl Failure {
                 let _ = rt.eprintln(text);
                 ExitCode::from(*status)
             }
+            Failure::Closed => ExitCode::SUCCESS,
             Failure::Memory => {
                 let _ = eprintln!(rt; "{program}: {OUT_OF_MEMORY}");
                 ExitCode::from(5)

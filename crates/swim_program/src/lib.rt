@@ -23,6 +23,6 @@ mod words;
 pub use device::{MAX_INPUT_LEN, read_file, read_input, read_to_bound, write_out};
 pub use failure::Failure;
 pub use lines::{Lines, lines_of, without_return};
-pub use report::{Place, Report, What, report_text, status};
+pub use report::{Place, Report, What, fault_name, report_text, status};
 pub use until::Until;
 pub use words::{WordFault, texts_of, words_of};

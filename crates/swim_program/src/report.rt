@@ -196,7 +196,7 @@ pub fn status(report: &Report) -> u8
 
 /// The name of a fault by its number, as docs/PROTOCOL.md lists them. Faults that no program reports
 /// are included, so that the list is complete.
-fn fault_name(number: u32) -> &'static str {
+pub fn fault_name(number: u32) -> &'static str {
     match number {
         1 => "Ended",
         2 => "NotUnsigned",
@@ -249,6 +249,7 @@ fn fault_name(number: u32) -> &'static str {
         56 => "NotEncrypted",
         57 => "Trailing",
         58 => "Memory",
+        59 => "Unencrypted",
         _ => "Unknown",
     }
 }
