@@ -130,6 +130,7 @@ enum {
     SWIMTAB_BAD_PADDING = 55,      /* decrypted bytes are not padded */
     SWIMTAB_NOT_ENCRYPTED = 56,    /* a stream is not encrypted: its first byte is not 10 */
     SWIMTAB_CIPHER_TRAILING = 57,  /* bytes follow an encrypted stream */
+    SWIMTAB_UNENCRYPTED = 59,      /* it is in the clear, there are keys, and that is not accepted */
     SWIMTAB_NO_NODE = 64,          /* the handle is empty */
     SWIMTAB_NODE_THERE = 65,       /* the handle has a node already */
     SWIMTAB_TOO_SMALL = 66,        /* the buffer is too small; `len` is the length needed */
@@ -279,6 +280,7 @@ uint32_t swimtab_raw_find(const swimtab_node *node, const void *name, size_t nam
 swimtab_written swimtab_raw_list(const swimtab_node *node, void *out, size_t out_len);
 swimtab_related swimtab_raw_relate(const swimtab_node *first, const swimtab_node *second);
 uint32_t swimtab_raw_keyring_add(swimtab_keyring *keyring, const void *key, size_t key_len);
+uint32_t swimtab_raw_keyring_accept_clear(swimtab_keyring *keyring);
 uint32_t swimtab_raw_keyring_close(swimtab_keyring *keyring);
 swimtab_written swimtab_raw_unwrap(const swimtab_keyring *keyring, const void *packet, size_t len,
                                    void *out, size_t out_len);
@@ -534,7 +536,8 @@ static inline uint32_t swimtab_whole(swimtab_progress *progress, const void *byt
 
 /* Adds a key of 16, 24 or 32 bytes after those that are there. The first key encrypts; to decrypt, all
  * are tried in order. The keyring copies what it needs of the key. It is used by one call at a time, as a
- * node is, and freed by swimtab_keyring_close.
+ * node is, and freed by swimtab_keyring_close. With a key, what is in the clear is refused, as memberlist
+ * does by default: anyone who reaches the program's port can send that.
  *
  * SWIMTAB_DONE; SWIMTAB_BAD_KEY: another length; SWIMTAB_MEMORY: the keyring is unchanged. If the handle
  * is NULL, SWIMTAB_NO_NODE. */
@@ -543,6 +546,15 @@ static inline uint32_t swimtab_keyring_add(swimtab_keyring *keyring, const void 
     const uint8_t none = 0;
     if (!keyring) return SWIMTAB_NO_NODE;
     return swimtab_raw_keyring_add(keyring, key ? key : &none, key ? key_len : 0);
+}
+
+/* From now on, packets and streams in the clear are read too, while a cluster begins or ends to encrypt.
+ * swimtab_keyring_close ends it.
+ *
+ * SWIMTAB_DONE; SWIMTAB_NO_NODE: the handle has no key. */
+static inline uint32_t swimtab_keyring_accept_clear(swimtab_keyring *keyring) {
+    if (!keyring) return SWIMTAB_NO_NODE;
+    return swimtab_raw_keyring_accept_clear(keyring);
 }
 
 /* Overwrites the keys and frees the keyring. The handle is then empty, and keys may be added again.
@@ -554,14 +566,15 @@ static inline uint32_t swimtab_keyring_close(swimtab_keyring *keyring) {
 }
 
 /* Writes the message in a packet, one UDP payload as a member sends it: removes its label, checksum and
- * compression, and decrypts it with the keys. swimtab_take reads the result. With a keyring, packets in
- * the clear are read too. Neither the message, nor what is compressed or encrypted, may have more than
- * 1,048,576 bytes. A NULL keyring has no key. The keyring does not change.
+ * compression, and decrypts it with the keys. swimtab_take reads the result. With keys, packets in the
+ * clear are refused, unless swimtab_keyring_accept_clear accepts them. Neither the message, nor what is
+ * compressed or encrypted, may have more than 1,048,576 bytes. A NULL keyring has no key. The keyring does
+ * not change.
  *
  * SWIMTAB_DONE; SWIMTAB_TOO_SMALL; SWIMTAB_MEMORY; SWIMTAB_WRONG_TYPE: the message makes no claims, like a
  * ping, or it is not a message; without a key also if it is encrypted; SWIMTAB_ENDED: it is empty;
  * .._WRAPPER_ENDED to .._TOO_DEEP: its wrappers are invalid; SWIMTAB_WRONG_TAG: it is encrypted, and no
- * key decrypts it. */
+ * key decrypts it; SWIMTAB_UNENCRYPTED: it is in the clear, and refused. */
 static inline swimtab_written swimtab_unwrap(const swimtab_keyring *keyring, const void *packet,
                                              size_t len, void *out, size_t out_len) {
     const swimtab_keyring no_keys = SWIMTAB_KEYRING_INIT;
@@ -582,7 +595,8 @@ static inline swimtab_written swimtab_unwrap(const swimtab_keyring *keyring, con
  * SWIMTAB_DONE; SWIMTAB_TOO_SMALL; SWIMTAB_MEMORY; SWIMTAB_WRONG_TYPE: it is not a push/pull stream;
  * without a key also if it is encrypted; SWIMTAB_ENDED: it is empty; .._WRAPPER_ENDED to .._TOO_DEEP;
  * .._CIPHER_TOO_LONG to .._CIPHER_TRAILING: it is encrypted and no key decrypts it; the fault is that of
- * the last key; SWIMTAB_CIPHER_TOO_LONG also if the label has more than 255 bytes. */
+ * the last key; SWIMTAB_CIPHER_TOO_LONG also if the label has more than 255 bytes; SWIMTAB_UNENCRYPTED: it
+ * is in the clear, and refused. */
 static inline swimtab_written swimtab_unwrap_stream(const swimtab_keyring *keyring, const void *label,
                                                     size_t label_len, const void *stream, size_t len,
                                                     void *out, size_t out_len) {
@@ -617,7 +631,8 @@ static inline swimtab_written swimtab_seal(const swimtab_keyring *keyring, const
 /* Writes a stream with this message in the same way; a message to be encrypted has at most 268,435,427
  * bytes. `reply` is false on the side that opened the connection, for what swimtab_offer wrote, and true
  * on the other side, for what swimtab_answer wrote. No label is written before a reply; if the reply is
- * encrypted it authenticates the label all the same. */
+ * encrypted it authenticates the label all the same. A label of more than 255 bytes is refused in each
+ * case, with a key and without, as swimtab_seal refuses it. */
 static inline swimtab_written swimtab_seal_stream(const swimtab_keyring *keyring, const void *nonce,
                                                   const void *label, size_t label_len, bool reply,
                                                   const void *message, size_t len, void *out,
@@ -789,6 +804,7 @@ static inline const char *swimtab_fault_name(uint32_t status) {
     case 56: return "NotEncrypted";
     case 57: return "Trailing";
     case 58: return "Memory";
+    case 59: return "Unencrypted";
     case 64: return "NoNode";
     case 65: return "NodeThere";
     case 66: return "TooSmall";
@@ -845,6 +861,7 @@ static inline const char *swimtab_fault_text(uint32_t status) {
     case 55: return "Decrypted bytes are not padded.";
     case 56: return "The stream is not encrypted.";
     case 57: return "Bytes follow an encrypted stream.";
+    case 59: return "It is not encrypted, and only what is encrypted is read.";
     case 64: return "The handle is empty.";
     case 65: return "The handle has a node already.";
     case 66: return "The buffer is too small.";

@@ -55,6 +55,7 @@ const (
 	ErrBadPadding      Error = C.SWIMTAB_BAD_PADDING      // decrypted bytes are not padded
 	ErrNotEncrypted    Error = C.SWIMTAB_NOT_ENCRYPTED    // a stream is not encrypted: its first byte is not 10
 	ErrCipherTrailing  Error = C.SWIMTAB_CIPHER_TRAILING  // bytes follow an encrypted stream
+	ErrUnencrypted     Error = C.SWIMTAB_UNENCRYPTED      // it is in the clear, there are keys, and that is not accepted
 	ErrNoNode          Error = C.SWIMTAB_NO_NODE          // the node was closed
 	ErrNoMember        Error = C.SWIMTAB_NO_MEMBER        // there is no member at this index, or of this name
 	ErrOwnName         Error = C.SWIMTAB_OWN_NAME         // a member does not declare itself dead; it leaves

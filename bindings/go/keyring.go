@@ -15,7 +15,8 @@ const nonceSize = C.SWIMTAB_NONCE_LEN
 
 // Keyring holds a cluster's keys. The first key encrypts; to decrypt, all are tried in order. Its methods may be
 // called from any goroutine; a lock lets one call run at a time. A nil Keyring, an empty one and a closed one have no
-// keys: they read and write what is not encrypted.
+// keys: they read and write what is not encrypted. One with keys refuses to read that, as memberlist does by default,
+// unless AcceptClear was called.
 type Keyring struct {
 	lock   sync.Mutex
 	handle C.swimtab_keyring
@@ -47,6 +48,16 @@ func (k *Keyring) Add(key []byte) error {
 	return done(C.swimtab_keyring_add(&k.handle, unsafe.Pointer(&first[0]), size(key)))
 }
 
+// AcceptClear makes the keyring also read packets and streams in the clear, while a cluster begins or ends to encrypt.
+// Close ends it.
+//
+// Errors: ErrNoNode if there is no key.
+func (k *Keyring) AcceptClear() error {
+	k.lock.Lock()
+	defer k.lock.Unlock()
+	return done(C.swimtab_keyring_accept_clear(&k.handle))
+}
+
 // Close overwrites the keys and frees them. Closing it again does nothing.
 func (k *Keyring) Close() error {
 	k.lock.Lock()
@@ -60,7 +71,8 @@ func (k *Keyring) Close() error {
 //
 // Errors: ErrWrongType if the message makes no claims, like a ping, or is not a message, and without a key also if it
 // is encrypted; ErrEnded if it is empty; ErrWrapperEnded to ErrTooDeep if its wrappers are invalid; ErrWrongTag if
-// it is encrypted and no key decrypts it; ErrMemory.
+// it is encrypted and no key decrypts it; ErrUnencrypted if it is in the clear, there are keys, and that is not
+// accepted; ErrMemory.
 func (k *Keyring) Unwrap(packet []byte) ([]byte, error) {
 	first := filled(packet)
 	k = k.held()
@@ -77,7 +89,7 @@ func (k *Keyring) Unwrap(packet []byte) ([]byte, error) {
 // Errors: ErrWrongType if it is not a push/pull stream, and without a key also if it is encrypted; ErrEnded if it is
 // empty; ErrWrapperEnded to ErrTooDeep if its wrappers are invalid; ErrCipherTooLong to ErrCipherTrailing, the fault
 // of the last key, if it is encrypted and no key decrypts it; ErrCipherTooLong also if the label has more than 255
-// bytes; ErrMemory.
+// bytes; ErrUnencrypted if it is in the clear, there are keys, and that is not accepted; ErrMemory.
 func (k *Keyring) UnwrapStream(label string, stream []byte) ([]byte, error) {
 	text, first := textOf(label), filled(stream)
 	k = k.held()

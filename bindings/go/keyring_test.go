@@ -87,6 +87,20 @@ func TestStreamsAreUnwrapped(t *testing.T) {
 	refused(t, err, ErrEnded)
 }
 
+func TestWhatIsInTheClearIsReadIfThatIsAccepted(t *testing.T) {
+	keys, packet, stream := keyring(t, key16), string(unhex(clearAlive)), string(unhex(clearStream))
+	_, err := keys.Unwrap([]byte(packet))
+	refused(t, err, ErrUnencrypted)
+	_, err = keys.UnwrapStream("", []byte(stream))
+	refused(t, err, ErrUnencrypted)
+	if err := keys.AcceptClear(); err != nil {
+		t.Fatal(err)
+	}
+	same(t)(keys.Unwrap([]byte(packet)))(packet)
+	same(t)(keys.UnwrapStream("", []byte(stream)))(stream)
+	refused(t, new(Keyring).AcceptClear(), ErrNoNode)
+}
+
 func TestStreamsAreUnwrappedWhenAllHasCome(t *testing.T) {
 	all := keyring(t, key16, key32)
 	for _, sent := range []string{sealedStream, sealedReply} {

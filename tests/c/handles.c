@@ -29,7 +29,7 @@ static void statuses_have_names(void) {
 /* Whether a call of the library can return this status. */
 static bool is_answered(uint32_t status) {
     return status <= 8 || (status >= 10 && status <= 25) || (status >= 40 && status <= 48) ||
-           (status >= 50 && status <= 57) || (status >= 64 && status <= 70);
+           (status >= 50 && status <= 57) || status == 59 || (status >= 64 && status <= 70);
 }
 
 static void statuses_have_sentences(void) {
@@ -114,7 +114,10 @@ static void keyrings_and_packets_may_be_null(void) {
     WANT(swimtab_keyring_close(NULL) == SWIMTAB_NO_NODE);
     WANT(swimtab_keyring_close(&keyring) == SWIMTAB_NO_NODE);
     WANT(swimtab_keyring_add(&keyring, NULL, 16) == SWIMTAB_BAD_KEY && !keyring.held);
+    WANT(swimtab_keyring_accept_clear(NULL) == SWIMTAB_NO_NODE);
+    WANT(swimtab_keyring_accept_clear(&keyring) == SWIMTAB_NO_NODE && !keyring.held);
     WANT(swimtab_keyring_add(&keyring, "0123456789abcdef", 16) == SWIMTAB_DONE && keyring.held);
+    WANT(swimtab_keyring_accept_clear(&keyring) == SWIMTAB_DONE && keyring.held);
     WANT(swimtab_keyring_close(&keyring) == SWIMTAB_DONE);
     WANT(swimtab_keyring_close(&keyring) == SWIMTAB_NO_NODE);
     WANT(swimtab_unwrap(NULL, NULL, 5, out, 4).status == SWIMTAB_ENDED);

@@ -123,6 +123,7 @@ static size_t sealed_len, unwrapped_len;
 
 static uint32_t add_key(void) { return swimtab_keyring_add(&keyring, keys[0], 32); }
 static uint32_t add_another_key(void) { return swimtab_keyring_add(&keyring, keys[1], 16); }
+static uint32_t accept_clear(void) { return swimtab_keyring_accept_clear(&keyring); }
 static uint32_t seal(void) {
     static const uint8_t message[] = "\x03\x82\xabIncarnation\x01\xa4Node\xa1y", nonce[SWIMTAB_NONCE_LEN] = {9};
     uint32_t status = kept(swimtab_seal(&keyring, nonce, "dc", 2, message, sizeof message - 1, out, ROOM));
@@ -166,7 +167,7 @@ static uint32_t (*const calls[])(void) = {
     say_alive,     say_alive_of,   say_suspect,       say_confirm,  say_leave,     say_compound,  list_first,
     list_new,      offer_new,      offer_first,       watch_second, add_key,       seal,          add_another_key,
     unwrap,        take_unwrapped, unwrap_compressed, refute_second, suspect_second_again,        offer_new_again,
-    whole_offer,   answer_second,  answer_new,        finish_first, refute_second, forget_d,
+    whole_offer,   answer_second,  answer_new,        finish_first, refute_second, forget_d,      accept_clear,
 };
 
 enum { CALLS = sizeof calls / sizeof *calls };

@@ -248,12 +248,46 @@ static void keys_are_added_and_freed(void) {
     closes(&keyring);
 }
 
+/* memberlist drops what is in the clear if it has keys (net.go, GossipVerifyIncoming in config.go). */
+static void what_is_in_the_clear_is_refused_with_keys(void) {
+    refused(both, swimtab_raw_unwrap, ALIVE, SWIMTAB_UNENCRYPTED);
+    refused(both, swimtab_raw_unwrap, ALIVE_CHECKED, SWIMTAB_UNENCRYPTED);
+    refused(both, swimtab_raw_unwrap, PACKED_ALIVE, SWIMTAB_UNENCRYPTED);
+    refused(both, swimtab_raw_unwrap, "f40161" ALIVE, SWIMTAB_UNENCRYPTED);
+    refused(key_16, unwrap_stream, CLEAR_STREAM, SWIMTAB_UNENCRYPTED);
+    refused(key_16, unwrap_in_dc, CLEAR_STREAM, SWIMTAB_UNENCRYPTED);
+    refused(key_16, unwrap_stream, "f4026463" CLEAR_STREAM, SWIMTAB_UNENCRYPTED);
+}
+
+/* The bytes in the clear unwrap to the wanted ones once that is accepted, until the keyring is closed. */
+static void accepts(unwrapping call, const char *sent, const char *wanted) {
+    swimtab_keyring keyring = SWIMTAB_KEYRING_INIT;
+    struct bytes bytes = hex(sent), room = bytes_of_size(2000, 7);
+    WANT(swimtab_raw_keyring_accept_clear(&keyring) == SWIMTAB_NO_NODE);
+    keyring = keyring_of(key_16);
+    WANT(call(&keyring, bytes.at, bytes.len, room.at, room.len).status == SWIMTAB_UNENCRYPTED);
+    WANT(swimtab_raw_keyring_accept_clear(&keyring) == SWIMTAB_DONE);
+    WANT(swimtab_raw_keyring_add(&keyring, "sixteen more byt", 16) == SWIMTAB_DONE);
+    is_written(call(&keyring, bytes.at, bytes.len, room.at, room.len), room, wanted);
+    closes(&keyring);
+    keyring = keyring_of(key_16);
+    WANT(call(&keyring, bytes.at, bytes.len, room.at, room.len).status == SWIMTAB_UNENCRYPTED);
+    free(bytes.at), free(room.at);
+    closes(&keyring);
+}
+
+static void what_is_in_the_clear_is_accepted_if_asked(void) {
+    accepts(swimtab_raw_unwrap, ALIVE, ALIVE);
+    accepts(swimtab_raw_unwrap, ALIVE_CHECKED, ALIVE);
+    accepts(unwrap_stream, CLEAR_STREAM, CLEAR_STREAM);
+    accepts(unwrap_in_dc, CLEAR_STREAM, CLEAR_STREAM);
+}
+
 static void packets_of_a_cluster_are_unwrapped(void) {
     unwraps(both, swimtab_raw_unwrap, ALIVE_SENT, ALIVE);
     unwraps(old_only, swimtab_raw_unwrap, ALIVE_SENT, ALIVE);
     unwraps(both, swimtab_raw_unwrap, PACKED_SENT, PACKED);
     unwraps(both, swimtab_raw_unwrap, SUSPECT_SENT, SUSPECT);
-    unwraps(both, swimtab_raw_unwrap, ALIVE_CHECKED, ALIVE);
     unwraps(no_keys, swimtab_raw_unwrap, ALIVE_CHECKED, ALIVE);
     unwraps(no_keys, swimtab_raw_unwrap, PACKED_ALIVE, CLEAR_ALIVE);
     unwraps(no_keys, swimtab_raw_unwrap, "f40161" ALIVE, ALIVE);
@@ -282,7 +316,6 @@ static void packets_without_claims_are_refused(void) {
 static void streams_of_a_cluster_are_unwrapped(void) {
     unwraps(both, unwrap_stream, STREAM_SENT, STREAM);
     unwraps(no_keys, unwrap_stream, STREAM_PACKED, STREAM);
-    unwraps(both, unwrap_stream, STREAM, STREAM);
     unwraps(others, unwrap_stream, SEALED_STREAM, CLEAR_STREAM);
 }
 
@@ -354,7 +387,19 @@ static void the_longest_label(sealing call, const char *const *keys) {
     closes(&keyring);
 }
 
-/* The same for the label of a reply, which is not written, and for one that is unwrapped. */
+/* The same for the label of a reply, which is not written, with a key and without. */
+static void the_longest_label_of_a_clear_reply(void) {
+    swimtab_keyring keyring = SWIMTAB_KEYRING_INIT;
+    struct bytes label = bytes_of_size(256, 'x'), room = bytes_of_size(2000, 7);
+    const uint8_t nonce[12] = {1};
+    swimtab_written written = seal_reply(&keyring, nonce, label.at, 256, "\x06", 1, room.at, room.len);
+    WANT(written.status == 51 && written.len == 0 && is_filled(room, 0));
+    written = seal_reply(&keyring, nonce, label.at, 255, "\x06", 1, room.at, room.len);
+    is_written(written, room, "06");
+    free(label.at), free(room.at);
+}
+
+/* And for one that is unwrapped. */
 static void the_longest_label_of_a_reply(void) {
     swimtab_keyring keyring = keyring_of(key_16);
     struct bytes label = bytes_of_size(256, 'x'), room = bytes_of_size(2000, 7), read = bytes_of_size(9, 7);
@@ -376,6 +421,7 @@ static void a_label_has_255_bytes_at_most(void) {
     the_longest_label(swimtab_raw_seal, key_16);
     the_longest_label(seal_stream, no_keys);
     the_longest_label(seal_stream, key_16);
+    the_longest_label_of_a_clear_reply();
     the_longest_label_of_a_reply();
 }
 
@@ -414,6 +460,8 @@ int main(void) {
     static const struct test tests[] = {
         {"keys are added and freed", keys_are_added_and_freed},
         {"packets of a cluster are unwrapped", packets_of_a_cluster_are_unwrapped},
+        {"what is in the clear is refused with keys", what_is_in_the_clear_is_refused_with_keys},
+        {"what is in the clear is accepted if asked", what_is_in_the_clear_is_accepted_if_asked},
         {"packets without claims are refused", packets_without_claims_are_refused},
         {"streams of a cluster are unwrapped", streams_of_a_cluster_are_unwrapped},
         {"replies of a cluster with a label are unwrapped", replies_of_a_cluster_with_a_label_are_unwrapped},

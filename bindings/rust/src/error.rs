@@ -87,6 +87,8 @@ errors! {
     55 BadPadding "decrypted bytes are not padded"
     56 NotEncrypted "the stream is not encrypted"
     57 CipherTrailing "bytes follow an encrypted stream"
+    59 Unencrypted "it is not encrypted, and only what is encrypted is read"
+    64 NoNode "the handle is empty"
     67 NoMember "there is no such member"
     68 OwnName "a member does not declare itself dead; it leaves"
     69 TooManyPackets "there are more than 255 packets for one compound packet"

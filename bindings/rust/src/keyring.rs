@@ -14,7 +14,9 @@ pub const NONCE: usize = 12;
 const OVERHEAD: usize = 2 + 5 + 1 + NONCE + 16;
 
 /// A cluster's keys, or none. The first key encrypts; to decrypt, all are tried in order. Without a key, it
-/// reads and writes what is not encrypted. The keys are overwritten when the keyring is dropped.
+/// reads and writes what is not encrypted; with one it refuses to read that, as memberlist does by default,
+/// unless [`accept_clear`](Keyring::accept_clear) was called. The keys are overwritten when the keyring is
+/// dropped.
 ///
 /// It may move from thread to thread, but only one uses it at a time: it is `Send`, not `Sync`.
 pub struct Keyring {
@@ -41,6 +43,15 @@ impl Keyring {
         done(unsafe { raw::swimtab_raw_keyring_add(self.handle.get(), key.as_ptr(), key.len()) })
     }
 
+    /// From now on, packets and streams in the clear are read too, while a cluster begins or ends to encrypt.
+    ///
+    /// # Errors
+    ///
+    /// `NoNode` if there is no key.
+    pub fn accept_clear(&mut self) -> Result<()> {
+        done(unsafe { raw::swimtab_raw_keyring_accept_clear(self.handle.get()) })
+    }
+
     /// The message in a packet, one UDP payload as a member sends it: removes the label, checksum and
     /// compression, and decrypts the message. [`Node::take`](crate::Node::take) reads the result.
     ///
@@ -48,7 +59,8 @@ impl Keyring {
     ///
     /// `WrongType` if the message makes no claims, like a ping, or is not a message, and without a key also
     /// if it is encrypted; `Ended` if it is empty; `WrapperEnded` to `TooDeep` if its wrappers are invalid;
-    /// `WrongTag` if it is encrypted and no key decrypts it; `Memory`.
+    /// `WrongTag` if it is encrypted and no key decrypts it; `Unencrypted` if it is in the clear, there are
+    /// keys, and that is not accepted; `Memory`.
     pub fn unwrap_packet(&self, packet: &[u8]) -> Result<Vec<u8>> {
         written(2 * packet.len(), |out, len| unsafe {
             raw::swimtab_raw_unwrap(self.handle.get(), packet.as_ptr(), packet.len(), out, len)
@@ -65,7 +77,8 @@ impl Keyring {
     /// `WrongType` if it is not a push/pull stream, and without a key also if it is encrypted; `Ended` if it
     /// is empty; `WrapperEnded` to `TooDeep` if its wrappers are invalid; `CipherTooLong` to
     /// `CipherTrailing`, the fault of the last key, if it is encrypted and no key decrypts it;
-    /// `CipherTooLong` also if the label has more than 255 bytes; `Memory`.
+    /// `CipherTooLong` also if the label has more than 255 bytes; `Unencrypted` if it is in the clear, there
+    /// are keys, and that is not accepted; `Memory`.
     pub fn unwrap_stream(&self, label: &[u8], stream: &[u8]) -> Result<Vec<u8>> {
         written(2 * stream.len(), |out, len| unsafe {
             raw::swimtab_raw_unwrap_stream(

@@ -174,6 +174,7 @@ extern "C" {
     pub fn swimtab_raw_find(node: *const Node, name: *const u8, name_len: usize, member: *mut Member) -> u32;
     pub fn swimtab_raw_relate(first: *const Node, second: *const Node) -> Related;
     pub fn swimtab_raw_keyring_add(keyring: *mut Keyring, key: *const u8, key_len: usize) -> u32;
+    pub fn swimtab_raw_keyring_accept_clear(keyring: *mut Keyring) -> u32;
     pub fn swimtab_raw_keyring_close(keyring: *mut Keyring) -> u32;
     pub fn swimtab_raw_unwrap(
         keyring: *const Keyring,

@@ -94,6 +94,17 @@ fn streams_are_unwrapped() {
 }
 
 #[test]
+fn what_is_in_the_clear_is_read_if_that_is_accepted() {
+    let (mut keys, packet, stream) = (keyring(&[KEY_16]), unhex(CLEAR_ALIVE), unhex(CLEAR_STREAM));
+    assert_eq!(keys.unwrap_packet(&packet), Err(Error::Unencrypted));
+    assert_eq!(keys.unwrap_stream(b"", &stream), Err(Error::Unencrypted));
+    assert_eq!(keys.accept_clear(), Ok(()));
+    assert_eq!(keys.unwrap_packet(&packet), Ok(packet));
+    assert_eq!(keys.unwrap_stream(b"", &stream), Ok(stream));
+    assert_eq!(Keyring::new().accept_clear(), Err(Error::NoNode));
+}
+
+#[test]
 fn streams_are_unwrapped_when_all_has_come() {
     let (all, early) =
         (keyring(&[KEY_16, KEY_32]), [Error::Ended, Error::WrapperEnded, Error::CipherTooShort]);

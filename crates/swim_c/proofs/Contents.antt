@@ -1,4 +1,4 @@
--- The three handles and what they hold: a node, a keyring, kept bytes. Assumes `Logic`.
+-- The three handles and what they hold: a node, keys, kept bytes. Assumes `Logic`.
 use Rattle.std.proofs.Common.{[], ◌∷◌, refl}
 use seplogic.Ra.Ura.{Ura}
 use mir.Syntax.{Dict, impl, method, tnil, dnil, no_args}
@@ -13,12 +13,12 @@ use Rattle.swim_c.proofs.swim_c++watching++Watched+Destruct.drop.Symbol as node_
 use Rattle.swim_c.proofs.swim_c++watching++Watched+Destruct.drop.Kinds as node_kinds
 use Rattle.swim_c.proofs.swim_c++watching++Watched+Destruct.drop.Reads as node_reads
 use Rattle.swim_c.proofs.swim_c++watching++Watched+Destruct.drop.Met.{met as node_met}
-use Rattle.memberlist_keyring.specs.contracts.keyring.Keyring as keyring
-use Rattle.memberlist_keyring.proofs.keyring.Keyring.TheLaws as keyring_laws
-use Rattle.swim_c.proofs.memberlist_keyring++keyring++Keyring+Destruct.drop.Symbol as keyring_drop
-use Rattle.swim_c.proofs.memberlist_keyring++keyring++Keyring+Destruct.drop.Kinds as keyring_kinds
-use Rattle.swim_c.proofs.memberlist_keyring++keyring++Keyring+Destruct.drop.Reads as keyring_reads
-use Rattle.swim_c.proofs.memberlist_keyring++keyring++Keyring+Destruct.drop.Met.{met as keyring_met}
+use Rattle.swim_c.specs.contracts.cluster_keys.ClusterKeys as keys
+use Rattle.swim_c.proofs.cluster_keys.ClusterKeys.TheLaws as keys_laws
+use Rattle.swim_c.proofs.swim_c++cluster_keys++ClusterKeys+Destruct.drop.Symbol as keys_drop
+use Rattle.swim_c.proofs.swim_c++cluster_keys++ClusterKeys+Destruct.drop.Kinds as keys_kinds
+use Rattle.swim_c.proofs.swim_c++cluster_keys++ClusterKeys+Destruct.drop.Reads as keys_reads
+use Rattle.swim_c.proofs.swim_c++cluster_keys++ClusterKeys+Destruct.drop.Met.{met as keys_met}
 use Rattle.swim_c.specs.contracts.kept.Kept as kept
 use Rattle.swim_c.proofs.kept.Kept.TheLaws as kept_laws
 use Rattle.swim_c.proofs.swim_c++kept++Kept+Destruct.drop.Symbol as kept_drop
@@ -67,29 +67,29 @@ of_node = record {
   silent = λ h f. refl;
 }
 
-abbrev pub keyring_drops : Dict
-keyring_drops = impl ("swim_c::memberlist_keyring++keyring++Keyring+Destruct::drop" ∷ []) tnil dnil
+abbrev pub keys_drops : Dict
+keys_drops = impl ("swim_c::swim_c++cluster_keys++ClusterKeys+Destruct::drop" ∷ []) tnil dnil
 
-pub keyring_goes : {M : Type 1} (𝓤 : Ura M) (𝓛 : Logic 𝓤) (𝓜 : Model 𝓤 𝓛.H) (𝓡 : Running 𝓤 𝓛.H 𝓜) → Wired 𝓡.env keyring_drop.code → Met 𝓛 𝓜 𝓡 𝓡.env (passed keyring.the_row) keyring_drops
+pub keys_goes : {M : Type 1} (𝓤 : Ura M) (𝓛 : Logic 𝓤) (𝓜 : Model 𝓤 𝓛.H) (𝓡 : Running 𝓤 𝓛.H 𝓜) → Wired 𝓡.env keys_drop.code → Met 𝓛 𝓜 𝓡 𝓡.env (passed keys.the_row) keys_drops
 unfolding tables_of
-keyring_goes {M} 𝓤 𝓛 𝓜 𝓡 wired =
-    goes keyring.the_row (passed_laws keyring.the_row keyring_laws.the_row_laws refl) keyring_drops _ _ _ keyring_kinds.ps refl keyring_reads.requires keyring_reads.ensures keyring_reads.Asked keyring_reads.Learnt keyring_reads.known (λ κs a. tt)
-    (record { M = M; 𝓤 = 𝓤; 𝓛 = 𝓛; 𝓜 = 𝓜; 𝓡 = 𝓡 }) keyring_drop.name (keyring_drop.as_method 𝓡.env wired (method keyring_drops 0 no_args) refl) (keyring_met 𝓤 𝓛 𝓜 𝓡 wired)
+keys_goes {M} 𝓤 𝓛 𝓜 𝓡 wired =
+    goes keys.the_row (passed_laws keys.the_row keys_laws.the_row_laws refl) keys_drops _ _ _ keys_kinds.ps refl keys_reads.requires keys_reads.ensures keys_reads.Asked keys_reads.Learnt keys_reads.known (λ κs a. tt)
+    (record { M = M; 𝓤 = 𝓤; 𝓛 = 𝓛; 𝓜 = 𝓜; 𝓡 = 𝓡 }) keys_drop.name (keys_drop.as_method 𝓡.env wired (method keys_drops 0 no_args) refl) (keys_met 𝓤 𝓛 𝓜 𝓡 wired)
 
-abbrev pub a_keyring : Content
-a_keyring = record {
-  row = keyring.the_row;
-  laws = passed_laws keyring.the_row keyring_laws.the_row_laws refl;
-  lives = keyring_laws.the_within [];
-  drops = keyring_drops;
-  drop_code = keyring_drop.code;
-  goes = keyring_goes;
+abbrev pub some_keys : Content
+some_keys = record {
+  row = keys.the_row;
+  laws = passed_laws keys.the_row keys_laws.the_row_laws refl;
+  lives = keys_laws.the_within [];
+  drops = keys_drops;
+  drop_code = keys_drop.code;
+  goes = keys_goes;
   same_owns = λ p x. refl;
   same = λ d vs. refl;
 }
 
-abbrev pub of_keyring : Handle
-of_keyring = record {
+abbrev pub of_keys : Handle
+of_keys = record {
   row = keyring_handle.the_row;
   name = keyring_handle.the_type.name;
   at = λ h. h.at;

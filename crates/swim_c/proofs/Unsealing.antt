@@ -9,6 +9,7 @@ use Rattle.memberlist_wrap.specs.Wrapping.Wrapper.{compression, checksum, label 
 use Rattle.memberlist_wrap.proofs.Unwrapping.{one_message}
 use Rattle.memberlist_transport.specs.declared.message.Message.{Message}
 use Rattle.memberlist_transport.specs.declared.message.Message.TheVariants.{Claims, Claimless, Empty}
+use Rattle.memberlist_transport.specs.declared.in_the_clear.InTheClear.{InTheClear}
 use Rattle.memberlist_transport.specs.Message.{claiming_of, IsMessage}
 use Rattle.memberlist_transport.specs.Packet.{max_message_len, HoldsClear, IsUnclear, Holds}
 use Rattle.memberlist_transport.specs.Reply.{IsReadAs, IsReplyIn}
@@ -82,17 +83,17 @@ is_none keys nonce label message packet s (Claims claim copy) is =
 is_none keys nonce label message packet s (Claimless claimless) is = s.no_ping claimless is
 is_none keys nonce label message packet s Empty is = absurd (omega (arith, ap length (sym is ∙ begins_packet s.sends.key nonce label message)))
 
-pub packet_again : (keys : List (List ℕ)) (nonce label message packet : List ℕ) (inner : Message) → IsSealedPacket keys nonce label message packet
-    → HoldsClear message inner → Holds keys packet inner
-packet_again keys nonce label message packet inner s holds = Holds.opened message (unclear keys nonce label message packet s) s.opens holds
+pub packet_again : (policy : InTheClear) (keys : List (List ℕ)) (nonce label message packet : List ℕ) (inner : Message) → IsSealedPacket keys nonce label message packet
+    → HoldsClear message inner → Holds policy keys packet inner
+packet_again policy keys nonce label message packet inner s holds = Holds.opened message (unclear keys nonce label message packet s) s.opens holds
 
-pub no_other : (keys : List (List ℕ)) (nonce label message packet : List ℕ) (inner : Message) → IsSealedPacket keys nonce label message packet
-    → Holds keys packet inner → HoldsClear message inner
-no_other keys nonce label message packet inner s (Holds.clear holds) =
+pub no_other : (policy : InTheClear) (keys : List (List ℕ)) (nonce label message packet : List ℕ) (inner : Message) → IsSealedPacket keys nonce label message packet
+    → Holds policy keys packet inner → HoldsClear message inner
+no_other policy keys nonce label message packet inner s (Holds.clear read holds) =
     let wraps = wraps_packet keys nonce label message packet s in
     let one = (one_message max_message_len max_message_len packet holds.1.wrappers wraps.wrappers holds.0 _ holds.1.wraps wraps.wraps).1 in
     absurd (is_none keys nonce label message packet s inner (subst (λ (b : List ℕ). IsMessage b inner) one holds.2))
-no_other keys nonce label message packet inner s (Holds.opened other is opens holds) =
+no_other policy keys nonce label message packet inner s (Holds.opened other is opens holds) =
     subst (λ (m : List ℕ). HoldsClear m inner) (one_opened keys packet other message opens s.opens) holds
 
 -- ---- streams
@@ -118,9 +119,9 @@ is_sealed keys nonce label message bytes s =
       (stream_rest key nonce label message, begins),
     )
 
-pub stream_again : (keys : List (List ℕ)) (nonce label message bytes stream : List ℕ) → IsSealedStream keys nonce label message bytes
-    → IsClearStream max_stream_len message stream → IsStreamIn max_stream_len keys bytes stream
-stream_again keys nonce label message bytes stream s clear = IsStreamIn.opened message (is_sealed keys nonce label message bytes s) s.opens clear
+pub stream_again : (policy : InTheClear) (keys : List (List ℕ)) (nonce label message bytes stream : List ℕ) → IsSealedStream keys nonce label message bytes
+    → IsClearStream max_stream_len message stream → IsStreamIn max_stream_len policy keys bytes stream
+stream_again policy keys nonce label message bytes stream s clear = IsStreamIn.opened message (is_sealed keys nonce label message bytes s) s.opens clear
 
 -- ---- streams after their label, and replies, which have none before them
 
@@ -129,10 +130,10 @@ read_behind : (label own bytes rest : List ℕ) → IsLabelled bytes label rest 
 read_behind label own bytes rest (inl none) same = inr (λ begins. none.2 begins.0 begins.1, inl (same none.0, refl, none.2))
 read_behind label own bytes rest (inr some) same = inl ((length label ∷ label ++ rest, some.1), refl)
 
-pub behind_again : (keys : List (List ℕ)) (nonce label own message bytes stream : List ℕ) → IsSealedStream keys nonce label message bytes
-    → IsClearStream max_stream_len message stream → (label ≡ [] → own ≡ []) → IsReplyIn max_stream_len keys own bytes stream
-behind_again keys nonce label own message bytes stream s clear same =
-    (bytes, read_behind label own bytes _ s.sends.labelled same, stream_again keys nonce label message bytes stream s clear)
+pub behind_again : (policy : InTheClear) (keys : List (List ℕ)) (nonce label own message bytes stream : List ℕ) → IsSealedStream keys nonce label message bytes
+    → IsClearStream max_stream_len message stream → (label ≡ [] → own ≡ []) → IsReplyIn max_stream_len policy keys own bytes stream
+behind_again policy keys nonce label own message bytes stream s clear same =
+    (bytes, read_behind label own bytes _ s.sends.labelled same, stream_again policy keys nonce label message bytes stream s clear)
 
 -- what is sent bare begins with no label, and is unchanged
 is_bare : (bytes rest : List ℕ) → IsLabelled bytes [] rest → (bytes ≡ rest) × ((more : List ℕ) → bytes ≢ 244 ∷ more)
@@ -153,8 +154,8 @@ sealed_behind keys nonce label message bytes s = record {
   within = s.within s.opens.0 s.opens.1;
 }
 
-pub reply_again : (keys : List (List ℕ)) (nonce label message bytes stream : List ℕ) → IsSealedReply keys nonce label message bytes
-    → IsClearStream max_stream_len message stream → IsReplyIn max_stream_len keys label bytes stream
-reply_again keys nonce label message bytes stream s clear =
+pub reply_again : (policy : InTheClear) (keys : List (List ℕ)) (nonce label message bytes stream : List ℕ) → IsSealedReply keys nonce label message bytes
+    → IsClearStream max_stream_len message stream → IsReplyIn max_stream_len policy keys label bytes stream
+reply_again policy keys nonce label message bytes stream s clear =
     let bare = (is_bare bytes _ s.sends.labelled).1 in
-    (s.opens.0, inr (λ begins. bare begins.0 begins.1, s.opens.1), stream_again keys nonce label message s.opens.0 stream (sealed_behind keys nonce label message bytes s) clear)
+    (s.opens.0, inr (λ begins. bare begins.0 begins.1, s.opens.1), stream_again policy keys nonce label message s.opens.0 stream (sealed_behind keys nonce label message bytes s) clear)

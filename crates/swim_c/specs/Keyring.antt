@@ -1,30 +1,38 @@
--- What a keyring's handle owns, and its keys.
+-- What a keyring's handle owns, its keys, and what becomes of what is in the clear.
 use base.Fml.{Fml}
 use base.Stored.{Coded}
 use denote.RawPtr.{Ptr}
 use Rattle.std.specs.Prelude.{◌≡◌, ℕ, List, [], ◌∷◌, ◌++◌, Bool, Option, Some, None}
 use Rattle.std.specs.Coded.{coded_option}
 use Rattle.memberlist_cipher.specs.Encryption.{IsKey}
-use Rattle.memberlist_keyring.specs.contracts.keyring.Keyring.{the_row}
+use Rattle.memberlist_transport.specs.declared.in_the_clear.InTheClear.TheVariants.{Refused, Accepted}
+use Rattle.swim_c.specs.contracts.cluster_keys.ClusterKeys.{the_row}
+use Rattle.swim_c.specs.declared.cluster_keys.ClusterKeys.{ClusterKeys}
 use Rattle.swim_c.specs.Handle.{holds}
 use Rattle.swim_c.specs.Statuses as statuses
 
--- how proofs distinguish a keyring from another one, and from none
+-- how proofs distinguish keys from others, and from none
 abbrev pub keyring_coded : Coded (Option the_row.Denot)
 keyring_coded = coded_option the_row.coded
 
--- a keyring and the right to free its block, if the handle has one
+-- keys and the right to free their block, if the handle has some
 abbrev pub keyring_owns : Ptr → Bool → Option the_row.Denot → Fml
 keyring_owns = holds the_row
 
--- the keys of a handle; an empty handle has none
-abbrev pub keys_of : Option (List (List ℕ)) → List (List ℕ)
-keys_of None = []
+-- the keys of a handle; an empty handle has none, and refuses what is in the clear once it has some
+abbrev pub keys_of : Option ClusterKeys → ClusterKeys
+keys_of None = record { keyring = []; clear = Refused }
 keys_of (Some keys) = keys
 
--- The key comes after those that were there (0). Or the handle is unchanged: the key has another
+-- The key comes after those that were there (0), and what becomes of what is in the clear stays. Or the handle is unchanged: the key has another
 -- length (50), or memory was refused (10).
-pub data KeyAdded (key : List ℕ) (status : ℕ) (old new : Option (List (List ℕ))) : Type 0 where
-  added : status ≡ 0 → IsKey key → new ≡ Some (keys_of old ++ key ∷ []) → KeyAdded key status old new
+pub data KeyAdded (key : List ℕ) (status : ℕ) (old new : Option ClusterKeys) : Type 0 where
+  added : status ≡ 0 → IsKey key → new ≡ Some (record (keys_of old) { keyring = (keys_of old).keyring ++ key ∷ [] }) → KeyAdded key status old new
   bad_key : status ≡ 50 → ¬ IsKey key → new ≡ old → KeyAdded key status old new
   memory : status ≡ statuses.memory → IsKey key → new ≡ old → KeyAdded key status old new
+
+-- The handle has keys, and what is in the clear is read from now on (0), or it has none (64).
+abbrev pub ClearAccepted : ℕ → Option ClusterKeys → Option ClusterKeys → Type 0
+ClearAccepted status None new = (status ≡ statuses.no_node) × (new ≡ None)
+ClearAccepted status (Some keys) new =
+    (status ≡ 0) × (new ≡ Some (record keys { clear = Accepted }))

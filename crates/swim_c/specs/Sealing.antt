@@ -26,27 +26,36 @@ pub data IsSentClear (label message old new : List ℕ) (status len : ℕ) : Typ
   memory : 0 < length label → length label < 256 → IsUnwritten 10 old new status len
       → IsSentClear label message old new status len
 
--- The result of making a message into bytes with the first key, if its length is allowed; the keys
--- decrypt them. It was copied or did not fit, it or its label is too long (51), or memory was
--- refused (10). Without a key it is sent in the clear.
-pub data Sealed (made : List ℕ → List ℕ) (Opened : List ℕ → Type 0) (May : Type 0)
-    (keys : List (List ℕ)) (label message old new : List ℕ) (status len : ℕ) : Type 0 where
+-- The result of replying in the clear, where no label is written: the message was copied or did not
+-- fit, or the label has more than 255 bytes (51).
+pub data IsRepliedClear (label message old new : List ℕ) (status len : ℕ) : Type 0 where
+  copied : length label < 256 → Copied message old new status len
+      → IsRepliedClear label message old new status len
+  too_long : 255 < length label → IsUnwritten 51 old new status len
+      → IsRepliedClear label message old new status len
+
+-- The result of making a message into bytes with the first key, behind this label, if its length is
+-- allowed; the keys decrypt them. It was copied or did not fit, it or its label is too long (51), or
+-- memory was refused (10). Without a key it is sent in the clear.
+pub data Sealed (made : List ℕ → List ℕ) (Opened : List ℕ → Type 0) (May Clear : Type 0)
+    (keys : List (List ℕ)) (label old new : List ℕ) (status len : ℕ) : Type 0 where
   under_key : (bytes : List ℕ) → SendsFirst made keys label bytes → Opened bytes → May
       → Copied bytes old new status len
-      → Sealed made Opened May keys label message old new status len
-  clear : keys ≡ [] → IsSentClear label message old new status len
-      → Sealed made Opened May keys label message old new status len
+      → Sealed made Opened May Clear keys label old new status len
+  clear : keys ≡ [] → Clear
+      → Sealed made Opened May Clear keys label old new status len
   too_long : keys ≢ [] → ¬ May → IsUnwritten 51 old new status len
-      → Sealed made Opened May keys label message old new status len
+      → Sealed made Opened May Clear keys label old new status len
   memory : keys ≢ [] → May → IsUnwritten 10 old new status len
-      → Sealed made Opened May keys label message old new status len
+      → Sealed made Opened May Clear keys label old new status len
 
 -- the result of sending a message as a packet, with this nonce
 abbrev pub PacketSealed : List (List ℕ) → List ℕ → List ℕ → List ℕ → List ℕ → List ℕ → ℕ → ℕ
     → Type 0
 PacketSealed keys nonce label message old new status len =
     Sealed (λ key. encrypted key nonce label message) (λ bytes. OpensFirst keys bytes message)
-    (MaySend label message) keys label message old new status len
+    (MaySend label message) (IsSentClear label message old new status len) keys label
+    old new status len
 
 -- the result of sending a message as a stream, with this nonce
 abbrev pub StreamSealed : List (List ℕ) → List ℕ → List ℕ → List ℕ → List ℕ → List ℕ → ℕ → ℕ
@@ -54,7 +63,8 @@ abbrev pub StreamSealed : List (List ℕ) → List ℕ → List ℕ → List ℕ
 StreamSealed keys nonce label message old new status len =
     Sealed (λ key. encrypted_stream key nonce label message)
     (λ bytes. OpensStreamFirst keys bytes message)
-    (MaySendStream label message) keys label message old new status len
+    (MaySendStream label message) (IsSentClear label message old new status len) keys label
+    old new status len
 
 -- the result of sending a message as the reply to a stream, with this nonce: the label is
 -- authenticated, but not written
@@ -63,7 +73,8 @@ abbrev pub ReplySealed : List (List ℕ) → List ℕ → List ℕ → List ℕ 
 ReplySealed keys nonce label message old new status len =
     Sealed (λ key. encrypted_stream key nonce label message)
     (λ bytes. OpensReplyFirst keys label bytes message)
-    (MaySendStream label message) keys [] message old new status len
+    (MaySendStream label message) (IsRepliedClear label message old new status len) keys []
+    old new status len
 
 -- ---- what is encrypted, unwrapped again
 

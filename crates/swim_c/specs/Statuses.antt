@@ -20,6 +20,10 @@ memory = 10
 abbrev pub wrong_type : ℕ
 wrong_type = 16
 
+-- it is not encrypted, there are keys, and only what is encrypted is read
+abbrev pub unencrypted : ℕ
+unencrypted = 59
+
 -- the handle has no node
 abbrev pub no_node : ℕ
 no_node = 64
@@ -61,11 +65,13 @@ abbrev pub packet_status : PacketFault → ℕ
 packet_status (packet.Wrapped fault) = wrap_status fault
 packet_status (packet.NoMessage first) = wrong_type
 packet_status packet.NoKeyFits = 54
+packet_status packet.Unencrypted = unencrypted
 packet_status packet.Memory = memory
 
 abbrev pub stream_status : StreamFault → ℕ
 stream_status (stream.Wrapped fault) = wrap_status fault
 stream_status (stream.Closed fault) = cipher_status fault
+stream_status stream.Unencrypted = unencrypted
 stream_status (stream.NoStream first) = wrong_type
 stream_status stream.Empty = 1
 stream_status stream.Memory = memory

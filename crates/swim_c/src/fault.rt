@@ -3,7 +3,7 @@
 ghost use Rattle.std.specs.Prelude.{◌≡◌};
 ghost use Rattle.swim_c.specs.Statuses.{cipher_status, wrap_status, packet_status, stream_status};
 
-use crate::status::MEMORY;
+use crate::status::{MEMORY, UNENCRYPTED};
 use memberlist_cipher::CipherFault;
 use memberlist_transport::{PacketFault, StreamFault};
 use memberlist_wrap::WrapFault;
@@ -36,6 +36,7 @@ pub fn packet_status(fault: PacketFault) -> u32
         PacketFault::Wrapped(fault) => wrap_status(fault),
         PacketFault::NoMessage(found) => WireFault::WrongType { found }.number(),
         PacketFault::NoKeyFits => CipherFault::WrongTag.number(),
+        PacketFault::Unencrypted => UNENCRYPTED,
         PacketFault::Memory => MEMORY,
     }
 }
@@ -47,6 +48,7 @@ pub fn stream_status(fault: StreamFault) -> u32
     match fault {
         StreamFault::Wrapped(fault) => wrap_status(fault),
         StreamFault::Closed(fault) => cipher_status(fault),
+        StreamFault::Unencrypted => UNENCRYPTED,
         StreamFault::NoStream(found) => WireFault::WrongType { found }.number(),
         StreamFault::Empty => WireFault::Ended.number(),
         StreamFault::Memory => MEMORY,

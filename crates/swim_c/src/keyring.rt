@@ -1,15 +1,15 @@
-//! The handle by which a program in another language holds a keyring.
+//! The handle by which a program in another language holds the keys of a cluster.
 
 ghost use Rattle.std.specs.Prelude.{◌≡◌, Option, Some, None, MatchOption};
-ghost use Rattle.memberlist_keyring.specs.contracts.keyring.Keyring.{the_row};
+ghost use Rattle.swim_c.specs.contracts.cluster_keys.ClusterKeys.{the_row};
 ghost use Rattle.swim_c.specs.Keyring.{keyring_owns, keyring_coded};
 
-use memberlist_keyring::Keyring;
+use crate::cluster_keys::ClusterKeys;
 use std::alloc::Global;
 use std::marker::Model;
 use std::mem;
 
-/// A keyring, or nothing. A handle with all bytes zero is empty.
+/// Keys, or nothing. A handle with all bytes zero is empty.
 #[repr(C)]
 #[derive(Drop)]
 pub struct KeyringHandle {
@@ -33,42 +33,42 @@ impl KeyringHandle {
         }
     }
 
-    fn of(keyring: Box<Keyring>) -> KeyringHandle
-        ensures { result.keys ≡ Some keyring.value }
+    fn of(keys: Box<ClusterKeys>) -> KeyringHandle
+        ensures { result.keys ≡ Some keys.value }
     {
-        let at = Box::into_raw(keyring);
+        let at = Box::into_raw(keys);
         KeyringHandle {
             at: at as *mut u8,
             held: true,
         }
     }
 
-    fn into_keyring(self, alloc: Global) -> Option<Box<Keyring>>
-        ensures { MatchOption result (self.keys ≡ None) (λ keyring. self.keys ≡ Some keyring.value) }
+    fn into_keys(self, alloc: Global) -> Option<Box<ClusterKeys>>
+        ensures { MatchOption result (self.keys ≡ None) (λ keys. self.keys ≡ Some keys.value) }
     {
         let KeyringHandle { at, held } = self;
         if !held {
             return None;
         }
-        Some(unsafe { Box::from_raw(alloc, at as *mut Keyring) })
+        Some(unsafe { Box::from_raw(alloc, at as *mut ClusterKeys) })
     }
 
-    /// Takes the keyring out.
-    pub fn take(&mut self, alloc: Global) -> Option<Box<Keyring>>
+    /// Takes the keys out.
+    pub fn take(&mut self, alloc: Global) -> Option<Box<ClusterKeys>>
         ensures left { self.new.keys ≡ None }
         ensures taken { MatchOption result (self.old.keys ≡ None)
-            (λ keyring. self.old.keys ≡ Some keyring.value) }
+            (λ keys. self.old.keys ≡ Some keys.value) }
     {
         let handle = mem::replace(self, KeyringHandle::none());
-        handle.into_keyring(alloc)
+        handle.into_keys(alloc)
     }
 
-    /// Puts a keyring in.
-    pub fn put(&mut self, keyring: Box<Keyring>)
+    /// Puts keys in.
+    pub fn put(&mut self, keys: Box<ClusterKeys>)
         requires { self.old.keys ≡ None }
-        ensures { self.new.keys ≡ Some keyring.value }
+        ensures { self.new.keys ≡ Some keys.value }
     {
-        *self = KeyringHandle::of(keyring);
+        *self = KeyringHandle::of(keys);
     }
 }
 

@@ -6,6 +6,7 @@ ghost use Rattle.memberlist_transport.specs.declared.message.Message.{Message};
 ghost use Rattle.memberlist_transport.specs.Packet.{Holds, HoldsClear};
 ghost use Rattle.memberlist_transport.specs.Reply.{IsReplyIn};
 ghost use Rattle.memberlist_transport.specs.Stream.{IsStreamIn, IsClearStream};
+ghost use Rattle.memberlist_transport.specs.declared.in_the_clear.InTheClear.{InTheClear};
 ghost use Rattle.swim_table.specs.Node.{NodeValue};
 ghost use Rattle.swim_table.specs.Table.{Entries, TableOf, Reduced, get};
 ghost use Rattle.swim_c.specs.declared.progress.Progress.{Progress};
@@ -22,29 +23,30 @@ pub fn progress_carries_on()
         → IsProgressIn (bytes ++ more) p }
 {}
 
-/// The keys that encrypted a packet or stream unwrap it to what is in the message. A packet unwraps
+/// The keys that encrypted a packet or stream unwrap it to what is in the message, whatever becomes
+/// of what is in the clear. A packet unwraps
 /// to nothing else. A stream with a label is unwrapped whatever label the reader has, a stream
 /// without one by a reader without a label, and a reply by a reader with the label that it was
 /// encrypted with.
 pub fn sealed_is_unwrapped()
-    ensures packet { (keys : List (List ℕ)) (nonce label message packet : List ℕ)
+    ensures packet { (policy : InTheClear) (keys : List (List ℕ)) (nonce label message packet : List ℕ)
         (inner : Message) → IsSealedPacket keys nonce label message packet
-        → HoldsClear message inner → Holds keys packet inner }
-    ensures no_other { (keys : List (List ℕ)) (nonce label message packet : List ℕ)
+        → HoldsClear message inner → Holds policy keys packet inner }
+    ensures no_other { (policy : InTheClear) (keys : List (List ℕ)) (nonce label message packet : List ℕ)
         (inner : Message) → IsSealedPacket keys nonce label message packet
-        → Holds keys packet inner → HoldsClear message inner }
-    ensures stream { (keys : List (List ℕ)) (nonce label message bytes stream : List ℕ)
+        → Holds policy keys packet inner → HoldsClear message inner }
+    ensures stream { (policy : InTheClear) (keys : List (List ℕ)) (nonce label message bytes stream : List ℕ)
         → IsSealedStream keys nonce label message bytes
         → IsClearStream max_stream_len message stream
-        → IsStreamIn max_stream_len keys bytes stream }
-    ensures behind { (keys : List (List ℕ)) (nonce label own message bytes stream : List ℕ)
+        → IsStreamIn max_stream_len policy keys bytes stream }
+    ensures behind { (policy : InTheClear) (keys : List (List ℕ)) (nonce label own message bytes stream : List ℕ)
         → IsSealedStream keys nonce label message bytes
         → IsClearStream max_stream_len message stream → (label ≡ [] → own ≡ [])
-        → IsReplyIn max_stream_len keys own bytes stream }
-    ensures reply { (keys : List (List ℕ)) (nonce label message bytes stream : List ℕ)
+        → IsReplyIn max_stream_len policy keys own bytes stream }
+    ensures reply { (policy : InTheClear) (keys : List (List ℕ)) (nonce label message bytes stream : List ℕ)
         → IsSealedReply keys nonce label message bytes
         → IsClearStream max_stream_len message stream
-        → IsReplyIn max_stream_len keys label bytes stream }
+        → IsReplyIn max_stream_len policy keys label bytes stream }
 {}
 
 /// A node knows each name that it noted, whatever claims it takes in and names it returns or

@@ -5,7 +5,8 @@
 //! |---|---|
 //! | `exports` | what C calls: open, close, packets, tables, exchanges, keyrings, wrappers |
 //! | `handle` | the handle by which a program in another language holds a node |
-//! | `keyring` | the same for a keyring |
+//! | `cluster_keys` | the keys of a cluster, and what becomes of what is in the clear |
+//! | `keyring` | the same handle for these keys |
 //! | `status` | the statuses that calls return |
 //! | `fault` | the statuses of wrapped and encrypted bytes |
 //! | `copy` | bytes that are written to a buffer of the caller |
@@ -30,6 +31,7 @@
 #![tactic(auto)]
 
 mod buffer;
+mod cluster_keys;
 mod compound;
 mod copy;
 mod exchanging;

@@ -1,7 +1,7 @@
 //! Messages encrypted with a keyring, or labelled in the clear, written to a buffer.
 
 ghost use Rattle.std.specs.Prelude.{MatchBool};
-ghost use Rattle.swim_c.specs.Sealing.{IsSentClear, PacketSealed, StreamSealed, ReplySealed};
+ghost use Rattle.swim_c.specs.Sealing.{IsSentClear, IsRepliedClear, PacketSealed, StreamSealed, ReplySealed};
 
 use crate::copy::{Written, copy_out};
 use crate::fault::cipher_status;
@@ -92,12 +92,23 @@ fn reply_out(
         out.old out.new result.status result.len }
 {
     if keys.is_empty() {
-        return copy_out(message, out);
+        return reply_clear_out(label, message, out);
     }
     match keys.encrypt_reply(alloc, nonce, label, message) {
         Ok(Some(sealed)) => copy_out(&sealed, out),
         Ok(None) => unreachable!(),
         Err(fault) => Written::refused(cipher_status(fault)),
+    }
+}
+
+/// Writes a reply in the clear. It has no label before it.
+fn reply_clear_out(label: &[u8], message: &[u8], out: &mut [u8]) -> Written
+    ensures { IsRepliedClear label.now message.now out.old out.new result.status result.len }
+{
+    if label.len() <= MAX_LABEL_LEN {
+        copy_out(message, out)
+    } else {
+        Written::refused(CipherFault::TooLong.number())
     }
 }
 

@@ -2,11 +2,11 @@
 
 ghost use Rattle.swim_c.specs.Unwrapping.{GivesMessage, PacketUnwrapped, StreamUnwrapped};
 
+use crate::cluster_keys::ClusterKeys;
 use crate::copy::{Written, copy_out};
 use crate::fault::{packet_status, stream_status};
 use crate::status::WRONG_TYPE;
 use memberlist_cipher::{CipherFault, MAX_LABEL_LEN};
-use memberlist_keyring::Keyring;
 use memberlist_transport::{Message, open_packet, open_reply};
 use std::alloc::Global;
 use swim_wire::WireFault;
@@ -15,10 +15,10 @@ use swim_wire::WireFault;
 const MAX_STREAM_LEN: usize = 268_435_456;
 
 /// Writes the message of a packet to the buffer, if it makes claims.
-pub fn unwrap_out(alloc: Global, keys: &Keyring, packet: &[u8], out: &mut [u8]) -> Written
+pub fn unwrap_out(alloc: Global, keys: &ClusterKeys, packet: &[u8], out: &mut [u8]) -> Written
     ensures { PacketUnwrapped keys.now packet.now out.old out.new result.status result.len }
 {
-    match open_packet(alloc, keys, packet) {
+    match open_packet(alloc, &keys.keyring, keys.clear, packet) {
         Ok(message) => message_out(&message, out),
         Err(fault) => Written::refused(packet_status(fault)),
     }
@@ -38,7 +38,7 @@ fn message_out(message: &Message, out: &mut [u8]) -> Written
 /// Writes the push/pull stream in the bytes, in a cluster with this label, to the buffer.
 pub fn unwrap_stream_out(
     alloc: Global,
-    keys: &Keyring,
+    keys: &ClusterKeys,
     label: &[u8],
     bytes: &[u8],
     out: &mut [u8],
@@ -49,7 +49,14 @@ pub fn unwrap_stream_out(
     if label.len() > MAX_LABEL_LEN {
         return Written::refused(CipherFault::TooLong.number());
     }
-    match open_reply(alloc, keys, label, bytes, MAX_STREAM_LEN) {
+    match open_reply(
+        alloc,
+        &keys.keyring,
+        keys.clear,
+        label,
+        bytes,
+        MAX_STREAM_LEN,
+    ) {
         Ok(stream) => copy_out(&stream, out),
         Err(fault) => Written::refused(stream_status(fault)),
     }

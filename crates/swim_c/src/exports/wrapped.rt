@@ -5,11 +5,11 @@ ghost use Rattle.swim_c.specs.Keyring.{keys_of};
 ghost use Rattle.swim_c.specs.Sealing.{PacketSealed, StreamSealed, ReplySealed};
 ghost use Rattle.swim_c.specs.Unwrapping.{PacketUnwrapped, StreamUnwrapped};
 
+use crate::cluster_keys::ClusterKeys;
 use crate::copy::Written;
 use crate::keyring::KeyringHandle;
 use crate::sealing::{seal_out, seal_stream_out};
 use crate::unwrapping::{unwrap_out, unwrap_stream_out};
-use memberlist_keyring::Keyring;
 use std::alloc::Global;
 
 /// Writes the message of a packet to the buffer, if it makes claims. It removes checksums,
@@ -26,6 +26,7 @@ use std::alloc::Global;
 /// - 1 if it is empty.
 /// - 40 to 48 if the wrappers are invalid (docs/PROTOCOL.md).
 /// - 54 if it is encrypted and no key decrypts it.
+/// - 59 if it is in the clear, there are keys, and what is in the clear is not accepted.
 /// - 66 if the buffer is too small. The length is then that of the message.
 /// - 10 if out of memory.
 #[unsafe(no_mangle)]
@@ -40,7 +41,7 @@ pub extern "C" fn swimtab_raw_unwrap(
         out.old out.new result.status result.len }
 {
     let Some(held) = keyring.take(alloc) else {
-        return unwrap_out(alloc, &Keyring::new(alloc), packet, out);
+        return unwrap_out(alloc, &ClusterKeys::none(alloc), packet, out);
     };
     let written = unwrap_out(alloc, &held, packet, out);
     keyring.put(held);
@@ -63,6 +64,7 @@ pub extern "C" fn swimtab_raw_unwrap(
 /// - 1 if it is empty.
 /// - 40 to 48 if the wrappers are invalid, and 51 to 57 if it is encrypted and no key decrypts it:
 ///   the fault of the last key (docs/PROTOCOL.md).
+/// - 59 if it is in the clear, there are keys, and what is in the clear is not accepted.
 /// - 51 if the label has more than 255 bytes.
 /// - 66 if the buffer is too small. The length is then that of the stream.
 /// - 10 if out of memory.
@@ -79,7 +81,7 @@ pub extern "C" fn swimtab_raw_unwrap_stream(
         out.old out.new result.status result.len }
 {
     let Some(held) = keyring.take(alloc) else {
-        return unwrap_stream_out(alloc, &Keyring::new(alloc), label, stream, out);
+        return unwrap_stream_out(alloc, &ClusterKeys::none(alloc), label, stream, out);
     };
     let written = unwrap_stream_out(alloc, &held, label, stream, out);
     keyring.put(held);
@@ -108,28 +110,27 @@ pub extern "C" fn swimtab_raw_seal(
     out: &mut [u8],
 ) -> Written
     ensures stays { keyring.new.keys ≡ keyring.old.keys }
-    ensures seals { PacketSealed (keys_of keyring.old.keys) nonce.now label.now message.now
+    ensures seals { PacketSealed (keys_of keyring.old.keys).keyring nonce.now label.now message.now
         out.old out.new result.status result.len }
 {
     let Some(held) = keyring.take(alloc) else {
-        return seal_out(alloc, &Keyring::new(alloc), nonce, label, message, out);
+        let none = ClusterKeys::none(alloc);
+        return seal_out(alloc, &none.keyring, nonce, label, message, out);
     };
-    let written = seal_out(alloc, &held, nonce, label, message, out);
+    let written = seal_out(alloc, &held.keyring, nonce, label, message, out);
     keyring.put(held);
     written
 }
 
 /// Writes a stream with this message to the buffer, encrypted with the first key and this nonce, as
 /// [`swimtab_raw_seal`] does a packet. The side that opens a connection writes the label before its
-/// stream. A reply is written without it: with a key the label is still authenticated, and without
-/// one it is not used.
+/// stream. A reply is written without it; with a key it authenticates the label all the same.
 ///
 /// # Statuses
 ///
 /// If the status is not 0, the buffer is unchanged.
 ///
-/// - 51 if the label has more than 255 bytes, unless it is not used; or if what is to be encrypted
-///   has more than 268,435,427.
+/// - 51 if the label has more than 255 bytes, or what is to be encrypted more than 268,435,427.
 /// - 66 if the buffer is too small. The length is then that of the stream.
 /// - 10 if out of memory.
 #[unsafe(no_mangle)]
@@ -144,23 +145,16 @@ pub extern "C" fn swimtab_raw_seal_stream(
 ) -> Written
     ensures stays { keyring.new.keys ≡ keyring.old.keys }
     ensures seals { MatchBool reply
-        (ReplySealed (keys_of keyring.old.keys) nonce.now label.now message.now
+        (ReplySealed (keys_of keyring.old.keys).keyring nonce.now label.now message.now
         out.old out.new result.status result.len)
-        (StreamSealed (keys_of keyring.old.keys) nonce.now label.now message.now
+        (StreamSealed (keys_of keyring.old.keys).keyring nonce.now label.now message.now
         out.old out.new result.status result.len) }
 {
     let Some(held) = keyring.take(alloc) else {
-        return seal_stream_out(
-            alloc,
-            &Keyring::new(alloc),
-            nonce,
-            label,
-            reply,
-            message,
-            out,
-        );
+        let none = ClusterKeys::none(alloc);
+        return seal_stream_out(alloc, &none.keyring, nonce, label, reply, message, out);
     };
-    let written = seal_stream_out(alloc, &held, nonce, label, reply, message, out);
+    let written = seal_stream_out(alloc, &held.keyring, nonce, label, reply, message, out);
     keyring.put(held);
     written
 }

@@ -2,7 +2,9 @@
 //! cryptography encrypted. If an allocation is refused, the call is repeated.
 
 use crate::copy::Written;
-use crate::exports::keyrings::{swimtab_raw_keyring_add, swimtab_raw_keyring_close};
+use crate::exports::keyrings::{
+    swimtab_raw_keyring_accept_clear, swimtab_raw_keyring_add, swimtab_raw_keyring_close,
+};
 use crate::exports::wrapped::{
     swimtab_raw_seal, swimtab_raw_seal_stream, swimtab_raw_unwrap, swimtab_raw_unwrap_stream,
 };
@@ -42,6 +44,9 @@ const SEALED_REPLY: &[u8] =
       EX\x08\x8b)\xc9\xb3\xb0[\x90\xabz\x08\xa0\xb6}\x8aF\xc9\x11\xaa\xf0\x9f\xc9\x8ff\x07\xfe\
       E\xc7\xb0\\\x0e\x8at\x81B\xe8\x18\x11\xa4\xcb@\xf3\xc7\x99\x06VW\xaa\xb4z\x8b\xab\x9a\
       \xfe\xbb|Q_2\xb3<\xf6\xeb\xda\xa4\xfe\x06\x95\x9a,5_\x98M\xe9\xa1\x06\xa6\xe7\xc6\x06";
+
+/// A label of 256 bytes.
+const LONG_LABEL: &[u8] = &[b'x'; 256];
 
 /// What a call does with bytes.
 #[derive(Clone, Copy)]
@@ -111,6 +116,15 @@ fn a_keyring_seals_under_its_first_key_and_unwraps_by_each(rt: HostRuntime) {
     let mut keyring = KeyringHandle::none();
     assert_writes(&rt, alloc, &mut keyring, Does::Unwrap, SEALED, 16, b"");
     assert_writes(&rt, alloc, &mut keyring, Does::Seal(b""), ALIVE, 0, ALIVE);
+    assert_writes(
+        &rt,
+        alloc,
+        &mut keyring,
+        Does::SealReply(LONG_LABEL),
+        STREAM,
+        51,
+        b"",
+    );
     assert_adds(&rt, alloc, &mut keyring, KEY);
     assert_adds(&rt, alloc, &mut keyring, OTHER);
     assert_eq!(rt; swimtab_raw_keyring_add(alloc, &mut keyring, b"short"), 50);
@@ -118,17 +132,27 @@ fn a_keyring_seals_under_its_first_key_and_unwraps_by_each(rt: HostRuntime) {
         (Does::Seal(b"dc"), ALIVE, 0, SEALED),
         (Does::SealStream(b""), STREAM, 0, SEALED_STREAM),
         (Does::Unwrap, SEALED, 0, ALIVE),
-        (Does::Unwrap, ALIVE, 0, ALIVE),
+        (Does::Unwrap, ALIVE, 59, b""),
+        (Does::UnwrapStream(b""), STREAM, 59, b""),
         (Does::SealReply(b"dc"), STREAM, 0, SEALED_REPLY),
         (Does::UnwrapStream(b""), SEALED_STREAM, 0, STREAM),
         (Does::UnwrapStream(b""), SEALED_REPLY, 54, b""),
         (Does::UnwrapStream(b"dc"), SEALED_REPLY, 0, STREAM),
         (Does::UnwrapStream(b"dc"), SEALED, 16, b""),
         (Does::Unwrap, b"\x01\xff", 54, b""),
-        (Does::Unwrap, b"", 1, b""),
+        (Does::Unwrap, b"", 59, b""),
+    ] {
+        assert_writes(&rt, alloc, &mut keyring, does, bytes, status, wanted);
+    }
+    assert_eq!(rt; swimtab_raw_keyring_accept_clear(alloc, &mut keyring), 0);
+    for (does, bytes, status, wanted) in [
+        (Does::Unwrap, ALIVE, 0, ALIVE),
+        (Does::UnwrapStream(b""), STREAM, 0, STREAM),
+        (Does::Unwrap, SEALED, 0, ALIVE),
     ] {
         assert_writes(&rt, alloc, &mut keyring, does, bytes, status, wanted);
     }
     assert_eq!(rt; swimtab_raw_keyring_close(alloc, &mut keyring), 0);
+    assert_eq!(rt; swimtab_raw_keyring_accept_clear(alloc, &mut keyring), 64);
     assert_eq!(rt; swimtab_raw_keyring_close(alloc, &mut keyring), 64);
 }

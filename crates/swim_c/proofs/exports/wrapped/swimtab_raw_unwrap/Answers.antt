@@ -6,8 +6,8 @@ use Rattle.swim_c.proofs.exports.wrapped.swimtab_raw_unwrap.Goals as goal
 pub returns-in_default-clause-unwraps : goal.returns-in_default-clause-unwraps
 returns-in_default-clause-unwraps c =
     without_keys
-    (λ keys. PacketUnwrapped keys c.args.packet.now c.args.out.now c.unwrap_out-in_default.new.out c.unwrap_out-in_default.result.status c.unwrap_out-in_default.result.len)
-    c.args.keyring.now.keys c.new.result c.in_default.ensures.taken c.new.ensures c.unwrap_out-in_default.ensures
+    (λ keys. PacketUnwrapped keys c.args.packet.now c.args.out.now c.unwrap_out.new.out c.unwrap_out.result.status c.unwrap_out.result.len)
+    c.args.keyring.now.keys c.none.result c.in_default.ensures.taken c.none.ensures c.unwrap_out.ensures
 
 pub returns-clause-unwraps : goal.returns-clause-unwraps
 returns-clause-unwraps c =

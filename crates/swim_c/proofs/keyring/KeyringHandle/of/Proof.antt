@@ -2,7 +2,7 @@
 use Rattle.std.proofs.Common.{true, Some, refl}
 use base.Logic.{emp}
 use contract.Monad.{fact_i}
-use Rattle.swim_c.proofs.Contents.{a_keyring, of_keyring}
+use Rattle.swim_c.proofs.Contents.{some_keys, of_keys}
 use Rattle.swim_c.proofs.Handles.{of_meets}
 use Rattle.swim_c.specs.contracts.keyring.KeyringHandle.of as f
 use Rattle.swim_c.proofs.keyring.KeyringHandle.of.Statement.{statement}
@@ -11,5 +11,5 @@ use Rattle.swim_c.proofs.keyring.KeyringHandle.of.Code as code
 pub of_spec : {M : Type 1} → statement M
 unfolding code.code
 of_spec 𝓤 𝓛 𝓜 𝓡 wired =
-    of_meets a_keyring 𝓤 𝓛 𝓜 𝓡 of_keyring (f.clauses 𝓛 𝓜.mem 𝓡.returns) f.Key.name (code.unfolded 𝓤 𝓛.H 𝓜 𝓡 wired) wired.2
+    of_meets some_keys 𝓤 𝓛 𝓜 𝓡 of_keys (f.clauses 𝓛 𝓜.mem 𝓡.returns) f.Key.name (code.unfolded 𝓤 𝓛.H 𝓜 𝓡 wired) wired.2
     (λ d p. record { at = p; held = true; keys = Some d.value }) (λ d p vs. refl) (λ d p g. fact_i 𝓤 _ (emp 𝓤) refl)
