@@ -47,6 +47,7 @@ cipher_own cipher.Memory = memory_own
 pub own : (fault : StreamFault) → IsOwn (what_of_stream fault)
 own (stream.Wrapped fault) = wrap_own fault
 own (stream.Closed fault) = cipher_own fault
+own stream.Unencrypted = refused_own 59 None (λ e. absurd (omega (arith, e)))
 own (stream.NoStream first) = refused_own 16 (Some first) (λ e. absurd (omega (arith, e)))
 own stream.Empty = refused_own 1 None (λ e. absurd (omega (arith, e)))
 own stream.Memory = memory_own

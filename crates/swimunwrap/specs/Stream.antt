@@ -3,6 +3,7 @@ use Rattle.std.specs.Prelude.{◌≡◌, ℕ, List, Some, None}
 use Rattle.memberlist_cipher.specs.declared.fault.CipherFault.{CipherFault}
 use Rattle.memberlist_cipher.specs.declared.fault.CipherFault.TheVariants as cipher
 use Rattle.memberlist_cipher.specs.Fault.{cipher_number}
+use Rattle.memberlist_transport.specs.declared.in_the_clear.InTheClear.{InTheClear}
 use Rattle.memberlist_transport.specs.declared.fault.StreamFault.{StreamFault}
 use Rattle.memberlist_transport.specs.declared.fault.StreamFault.TheVariants as stream
 use Rattle.memberlist_transport.specs.Stream.{ReasonFor as ReasonForFault, IsStreamIn as IsStreamWithin}
@@ -13,9 +14,14 @@ use Rattle.swim_program.specs.declared.report.What.{What}
 use Rattle.swim_program.specs.declared.report.What.TheVariants.{Refused, Memory}
 use Rattle.swim_program.specs.Limits.{max_input_len}
 
--- the bytes are the stream, in wrappers, or encrypted under the first key that decrypts them
-abbrev pub IsStreamIn : List (List ℕ) → List ℕ → List ℕ → Type 0
-IsStreamIn keys bytes stream = IsStreamWithin max_input_len keys bytes stream
+-- the bytes are the stream, in wrappers, if that is read, or encrypted under the first key that
+-- decrypts them
+abbrev pub IsStreamIn : InTheClear → List (List ℕ) → List ℕ → List ℕ → Type 0
+IsStreamIn policy keys bytes stream = IsStreamWithin max_input_len policy keys bytes stream
+
+-- the number of the fault for a stream that is not encrypted
+abbrev pub unencrypted : ℕ
+unencrypted = 59
 
 -- the error for bytes that wrap no message
 abbrev pub what_of_wrap : WrapFault → What
@@ -31,12 +37,13 @@ what_of_cipher fault = Refused (cipher_number fault) None
 abbrev pub what_of_stream : StreamFault → What
 what_of_stream (stream.Wrapped fault) = what_of_wrap fault
 what_of_stream (stream.Closed fault) = what_of_cipher fault
+what_of_stream stream.Unencrypted = Refused unencrypted None
 what_of_stream (stream.NoStream first) = Refused 16 (Some first)
 what_of_stream stream.Empty = Refused 1 None
 what_of_stream stream.Memory = Memory
 
 -- what a refusal says about bytes: the fault for which they hold none
-abbrev pub ReasonFor : List (List ℕ) → List ℕ → What → Type 0
-ReasonFor keys bytes what =
-    (fault : StreamFault) × ReasonForFault max_input_len keys bytes fault
+abbrev pub ReasonFor : InTheClear → List (List ℕ) → List ℕ → What → Type 0
+ReasonFor policy keys bytes what =
+    (fault : StreamFault) × ReasonForFault max_input_len policy keys bytes fault
     × (what ≡ what_of_stream fault)

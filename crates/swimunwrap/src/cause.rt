@@ -1,7 +1,7 @@
 //! Why a line cannot be read.
 
 ghost use Rattle.std.specs.Prelude.{◌≡◌, ◌<◌};
-ghost use Rattle.swimunwrap.specs.Cause.{cause_place};
+ghost use Rattle.swimunwrap.specs.Cause.{cause_place, leaves_out};
 ghost use Rattle.swimunwrap.specs.declared.cause.TheConstants.{PLACES};
 
 use memberlist_wrap::WrapFault;
@@ -22,6 +22,8 @@ pub enum Cause {
     NoMessage(u8),
     /// It is encrypted, and none of the keys decrypts it.
     NoKeyFits,
+    /// It is not encrypted, there are keys, and only what is encrypted is read.
+    Unencrypted,
 }
 
 impl Cause {
@@ -33,8 +35,20 @@ impl Cause {
         match self {
             Cause::NotHex => 0,
             Cause::NoKeyFits => 1,
+            Cause::Unencrypted => 2,
             Cause::Wrapped(fault) => fault.number() as usize,
             Cause::NoMessage(first) => first as usize + 50,
+        }
+    }
+
+    /// Whether a line that cannot be read for this cause is left out: with `skip` each is. One that
+    /// is not encrypted always is: as it was, whoever reads the output would believe it.
+    pub(crate) fn leaves_out(self, skip: bool) -> bool
+        ensures { result ≡ leaves_out skip self }
+    {
+        match self {
+            Cause::Unencrypted => true,
+            _ => skip,
         }
     }
 }
@@ -49,6 +63,7 @@ impl fmt::Display for Cause {
             }
             Cause::NoMessage(first) => write!(f, "not a message (first byte {first:02x})"),
             Cause::NoKeyFits => f.write_str("that no key decrypts"),
+            Cause::Unencrypted => f.write_str("not encrypted"),
         }
     }
 }

@@ -3,16 +3,17 @@
 ghost use Rattle.std.specs.Prelude.{◌≡◌, true, false, [], codes, map, string_bytes, IfOk, IfErr};
 ghost use Rattle.clap.specs.Words.{app_of, fault_of, found_of, rows_of, first_of, matches_of, rule_of, takes, subcommand_of, with_subcommand};
 ghost use Rattle.swim_program.specs.Words.{IsRefusal};
-ghost use Rattle.swimunwrap.specs.Words.{program, bare, key_rule, stream_command, at_most_one, verb_of_flag, ParsesTo};
+ghost use Rattle.swimunwrap.specs.Words.{program, bare, key_rule, clear_rule, stream_command, at_most_one, is_true, verb_of, clear_of, either, ParsesTo};
 
 use crate::help;
 use crate::verb::{Chosen, Verb};
 use clap::{Arg, ArgAction, ArgMatches, Command};
+use memberlist_transport::InTheClear;
 use std::alloc::{AllocError, Global};
 use swim_program::{WordFault, texts_of};
 
-/// Parses the arguments: none, or `--skip`, or `stream` with or without a file; and `--key-file`
-/// with a file before or after `stream`, once for each key file.
+/// Parses the arguments: none, or `--skip`, or `stream` with or without a file; and before or after
+/// `stream` `--key-file` with a file, once for each key file, and `--accept-clear`.
 ///
 /// # Errors
 ///
@@ -33,12 +34,14 @@ pub fn chosen(alloc: Global, words: &[String]) -> Result<Chosen, WordFault>
 {
     let matches = command(alloc)?.try_get_matches_from(words)?;
     let mut key_files = texts_of(alloc, &matches, "key-file")?;
+    let clear = clear_of(&matches);
     match matches.subcommand() {
         Some((_, found)) => {
             key_files.append(&mut texts_of(alloc, found, "key-file")?)?;
-            Ok(Chosen::new(Verb::Stream, file_of(alloc, found)?, key_files))
+            let clear = either(clear, clear_of(found));
+            Ok(Chosen::new(Verb::Stream, file_of(alloc, found)?, key_files, clear))
         }
-        None => Ok(Chosen::new(verb_of_flag(&matches), Vec::new(alloc), key_files)),
+        None => Ok(Chosen::new(verb_of(&matches), Vec::new(alloc), key_files, clear)),
     }
 }
 
@@ -52,10 +55,11 @@ fn command<'a>(alloc: Global) -> Result<Command<'a>, AllocError>
         .help(help::SKIP);
     let with_skip = lone_program(alloc).arg(skip)?;
     let with_keys = with_skip.arg(key_argument(alloc))?;
-    add_stream(alloc, with_keys)?.bin_name("swimunwrap")
+    let with_flags = with_keys.arg(clear_argument(alloc))?;
+    add_stream(alloc, with_flags)?.bin_name("swimunwrap")
 }
 
-/// The program without its command and its flag.
+/// The program without its command and its flags.
 fn lone_program<'a>(alloc: Global) -> Command<'a>
     ensures { app_of result ≡ bare }
 {
@@ -77,6 +81,7 @@ fn add_stream<'a>(alloc: Global, command: Command<'a>) -> Result<Command<'a>, Al
         .about("Prints the push/pull stream in one direction of a TCP connection")
         .after_help(help::STREAM)
         .arg(key_argument(alloc))?
+        .arg(clear_argument(alloc))?
         .arg(file)?;
     command.subcommand(stream)
 }
@@ -92,17 +97,56 @@ fn key_argument<'a>(alloc: Global) -> Arg<'a>
         .help(help::KEY_FILE)
 }
 
-/// Whether lines that cannot be read are left out.
-fn verb_of_flag(matches: &ArgMatches) -> Verb
-    ensures { result ≡ verb_of_flag (first_of (codes "skip") (rows_of (found_of matches.now))) }
+/// The flag that accepts what is in the clear.
+fn clear_argument<'a>(alloc: Global) -> Arg<'a>
+    ensures rule { rule_of result ≡ clear_rule }
+    ensures local { result.global ≡ false }
 {
-    let Some(word) = matches.get_str("skip") else {
-        return Verb::Lines;
-    };
-    if word == "true" {
+    Arg::new(alloc, "accept-clear")
+        .long("accept-clear")
+        .action(ArgAction::SetTrue)
+        .help(help::ACCEPT_CLEAR)
+}
+
+/// Whether lines that cannot be read are left out.
+fn verb_of(matches: &ArgMatches) -> Verb
+    ensures { result ≡ verb_of (rows_of (found_of matches.now)) }
+{
+    if is_set(matches, "skip") {
         Verb::Skipping
     } else {
         Verb::Lines
+    }
+}
+
+/// What becomes of what is in the clear if there are keys.
+fn clear_of(matches: &ArgMatches) -> InTheClear
+    ensures { result ≡ clear_of (rows_of (found_of matches.now)) }
+{
+    if is_set(matches, "accept-clear") {
+        InTheClear::Accepted
+    } else {
+        InTheClear::Refused
+    }
+}
+
+/// What is in the clear is accepted if either flag says so.
+fn either(before: InTheClear, behind: InTheClear) -> InTheClear
+    ensures { result ≡ either before behind }
+{
+    match before {
+        InTheClear::Accepted => InTheClear::Accepted,
+        InTheClear::Refused => behind,
+    }
+}
+
+/// Whether a flag is set.
+fn is_set(matches: &ArgMatches, id: &str) -> bool
+    ensures { result ≡ is_true (first_of id.now (rows_of (found_of matches.now))) }
+{
+    match matches.get_str(id) {
+        Some(word) => word == "true",
+        None => false,
     }
 }
 

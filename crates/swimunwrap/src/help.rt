@@ -8,6 +8,9 @@ pub(crate) static FILE: &str = "The bytes of the connection; standard input if i
 pub(crate) static KEY_FILE: &str =
     "A file with keys of the cluster, to decrypt packets; may be given more than once";
 
+pub(crate) static ACCEPT_CLEAR: &str =
+    "With keys, also read what is not encrypted, while a cluster begins or ends to encrypt";
+
 pub(crate) static SKIP: &str = "Leave out lines that cannot be read, and report how many";
 
 pub(crate) static PROGRAM: &str = "\
@@ -15,7 +18,9 @@ Without a command, swimunwrap reads packets from standard input, in hexadecimal 
 on each line, and prints one line for each: the message inside, without labels, checksums
 and compression, if it makes claims; an empty line if it is a ping, an indirect ping, an
 ack, a nack, a user message or an error; and otherwise the line as it was. An encrypted
-packet is decrypted with the keys of --key-file; without a key it stays as it was.
+packet is decrypted with the keys of --key-file; without a key it stays as it was. With
+keys a packet that is not encrypted becomes an empty line and is reported, since anyone can
+send one; --accept-clear reads it too.
 
 A key file has one key on each line, in base64, as consul keygen and serf keygen print
 it, or is a JSON list of such keys, like serf's keyring file. Keys are tried in order.
@@ -34,7 +39,8 @@ Exit status: 0 done, 2 bad usage or help, 3 input refused, 4 device failed,
 
 pub(crate) static STREAM: &str = "\
 A connection that carries no push/pull stream is refused: a ping, an ack, a user message,
-an error, or an encrypted stream that none of the keys decrypts.
+an error, or an encrypted stream that none of the keys decrypts. With keys so is a stream
+that is not encrypted, unless --accept-clear is given.
 
 Examples:
   $ swimunwrap stream flow > stream.bin

@@ -11,6 +11,7 @@ ghost use Rattle.swimunwrap.specs.Unwrapped.{parted};
 use crate::cause::Cause;
 use crate::packet::{Outcome, outcome_of_line};
 use memberlist_keyring::Keyring;
+use memberlist_transport::InTheClear;
 use memberlist_wrap::WrapFault;
 use std::alloc::{AllocError, Global};
 use std::marker::Model;
@@ -69,19 +70,23 @@ impl Unwrapped {
         &mut self,
         alloc: Global,
         keys: &Keyring,
+        clear: InTheClear,
         line: &[u8],
         skip: bool,
     ) -> Result<(), AllocError>
         ensures { OnOk result ((own : List ℕ) × (causes : List Cause)
-            × Becomes keys.now skip line.now own causes × (self.new ≡ record {
+            × Becomes clear keys.now skip line.now own causes × (self.new ≡ record {
               text = self.old.text ++ own;
               causes = self.old.causes ++ causes;
             })) }
     {
-        match outcome_of_line(alloc, keys, line)? {
+        match outcome_of_line(alloc, keys, clear, line)? {
             Outcome::Text(text) => self.text.extend_from_slice(text.as_bytes())?,
-            Outcome::Unread(cause) if skip => self.left_out.push(cause)?,
-            Outcome::Unread(_) => self.text.extend_from_slice(line)?,
+            Outcome::Unread(cause) => if cause.leaves_out(skip) {
+                self.left_out.push(cause)?;
+            } else {
+                self.text.extend_from_slice(line)?;
+            },
         }
         Ok(())
     }
@@ -93,7 +98,8 @@ impl Unwrapped {
 /// It is empty if the message is a whole ping, indirect ping, ack, nack, user message or error, or
 /// is empty. Otherwise it is the line as it was, or, with `skip`, empty, and the cause is kept.
 /// Bytes that are not a message and start as an encrypted packet are first decrypted with the keys,
-/// if there are any. A message has at most 1,048,576 bytes. The last line of the text has a line
+/// if there are any. If there are, and `clear` refuses what is in the clear, a line in the clear is
+/// empty, and its cause is kept, with `skip` or without. A message has at most 1,048,576 bytes. The last line of the text has a line
 /// feed if that of the input has one.
 ///
 /// # Errors
@@ -103,12 +109,13 @@ impl Unwrapped {
 pub fn unwrap_lines(
     alloc: Global,
     keys: &Keyring,
+    clear: InTheClear,
     input: &[u8],
     skip: bool,
 ) -> Result<Unwrapped, Report>
     // Each line becomes what the definitions say.
     ensures each { IfOk result (λ u.
-        AllBecome keys.now skip (input_lines input.now) u.text u.causes) }
+        AllBecome clear keys.now skip (input_lines input.now) u.text u.causes) }
     ensures within { IfOk result (λ u. length u.text ≤ max_input_len) }
 
     ensures long { (max_input_len < length input.now)
@@ -117,7 +124,7 @@ pub fn unwrap_lines(
     ensures large { IfErr result (λ report. report.what ≢ What.Memory
         → length input.now ≤ max_input_len
         → (report ≡ record { place = Place.Output; what = What.Refused 47 None })
-        × BecomeTooLong keys.now skip max_input_len (input_lines input.now)) }
+        × BecomeTooLong clear keys.now skip max_input_len (input_lines input.now)) }
     ensures place { IfErr result (λ report. IsAmong report.place 0) }
 {
     if input.len() > MAX_INPUT_LEN {
@@ -125,7 +132,7 @@ pub fn unwrap_lines(
     }
     let mut unwrapped = Unwrapped::new(alloc);
     for (index, line) in lines_of(input).enumerate() {
-        if let Err(AllocError) = add_line(alloc, keys, &mut unwrapped, index, line, skip) {
+        if let Err(AllocError) = add_line(alloc, keys, clear, &mut unwrapped, index, line, skip) {
             return Err(What::Memory.at(Place::Line(index as u64 + 1)));
         }
         if unwrapped.text.len() > MAX_INPUT_LEN {
@@ -139,13 +146,14 @@ pub fn unwrap_lines(
 fn add_line(
     alloc: Global,
     keys: &Keyring,
+    clear: InTheClear,
     unwrapped: &mut Unwrapped,
     index: usize,
     line: &[u8],
     skip: bool,
 ) -> Result<(), AllocError>
     ensures { OnOk result ((own : List ℕ) × (causes : List Cause)
-        × Becomes keys.now skip line.now own causes × (unwrapped.new ≡ record {
+        × Becomes clear keys.now skip line.now own causes × (unwrapped.new ≡ record {
           text = parted index unwrapped.old.text ++ own;
           causes = unwrapped.old.causes ++ causes;
         })) }
@@ -153,7 +161,7 @@ fn add_line(
     if index > 0 {
         unwrapped.end_line()?;
     }
-    unwrapped.add(alloc, keys, line, skip)
+    unwrapped.add(alloc, keys, clear, line, skip)
 }
 
 /// The error for an output that is longer than the limit.

@@ -32,6 +32,7 @@ use key_files::keyring_of;
 use left_out::left_out_text;
 use lines::unwrap_lines;
 use memberlist_keyring::Keyring;
+use memberlist_transport::InTheClear;
 use std::alloc::AllocError;
 use std::process::ExitCode;
 use stream::unwrap_stream;
@@ -63,19 +64,24 @@ fn run_chosen(rt: &HostRuntime, keys: &Keyring, chosen: &Chosen) -> Result<(), R
     ensures { IfErr result (λ report. IsAmong report.place (length chosen.now.files)) }
 {
     match chosen.verb() {
-        Verb::Lines => print_lines(rt, keys, false),
-        Verb::Skipping => print_lines(rt, keys, true),
-        Verb::Stream => print_file(rt, keys, chosen.files()),
+        Verb::Lines => print_lines(rt, keys, chosen.clear(), false),
+        Verb::Skipping => print_lines(rt, keys, chosen.clear(), true),
+        Verb::Stream => print_file(rt, keys, chosen.clear(), chosen.files()),
     }
 }
 
 /// Unwraps the packets on standard input, and then reports how many lines were left out, if any
 /// were. The report is made before anything is printed.
-fn print_lines(rt: &HostRuntime, keys: &Keyring, skip: bool) -> Result<(), Report>
+fn print_lines(
+    rt: &HostRuntime,
+    keys: &Keyring,
+    clear: InTheClear,
+    skip: bool,
+) -> Result<(), Report>
     ensures { IfErr result (λ report. IsAmong report.place 0) }
 {
     let input = read_input(rt, NAME, "packets")?;
-    let unwrapped = unwrap_lines(rt.alloc(), keys, &input, skip)?;
+    let unwrapped = unwrap_lines(rt.alloc(), keys, clear, &input, skip)?;
     if unwrapped.left_out().is_empty() {
         return print(rt, unwrapped.text());
     }
@@ -99,23 +105,37 @@ fn tell(rt: &HostRuntime, line: &String) -> Result<(), Report>
 }
 
 /// Unwraps the stream in the file, or on standard input if there is none or it is `-`.
-fn print_file(rt: &HostRuntime, keys: &Keyring, files: &[String]) -> Result<(), Report>
+fn print_file(
+    rt: &HostRuntime,
+    keys: &Keyring,
+    clear: InTheClear,
+    files: &[String],
+) -> Result<(), Report>
     ensures { IfErr result (λ report. IsAmong report.place (length files.now)) }
 {
     match files {
         [word, ..] if word.as_str() != "-" => match read_file(rt, word) {
-            Ok(bytes) => print_stream(rt, keys, &bytes, Place::File(0)),
+            Ok(bytes) => print_stream(rt, keys, clear, &bytes, Place::File(0)),
             Err(what) => Err(what.at(Place::File(0))),
         },
-        _ => print_stream(rt, keys, &read_input(rt, NAME, "a stream")?, Place::Input),
+        _ => {
+            let bytes = read_input(rt, NAME, "a stream")?;
+            print_stream(rt, keys, clear, &bytes, Place::Input)
+        }
     }
 }
 
 /// Unwraps the stream in these bytes from a place.
-fn print_stream(rt: &HostRuntime, keys: &Keyring, bytes: &[u8], place: Place) -> Result<(), Report>
+fn print_stream(
+    rt: &HostRuntime,
+    keys: &Keyring,
+    clear: InTheClear,
+    bytes: &[u8],
+    place: Place,
+) -> Result<(), Report>
     ensures { IfErr result (λ report. (report.place ≡ place) ⊎ (report.place ≡ Place.Output)) }
 {
-    match unwrap_stream(rt.alloc(), keys, bytes) {
+    match unwrap_stream(rt.alloc(), keys, clear, bytes) {
         Ok(stream) => match write_out(&mut rt.stdout(), &stream) {
             Ok(()) => Ok(()),
             Err(what) => Err(what.at(Place::Output)),

@@ -8,6 +8,7 @@ mod words;
 use crate::cause::Cause;
 use crate::lines::{Unwrapped, unwrap_lines};
 use memberlist_keyring::Keyring;
+use memberlist_transport::InTheClear;
 use memberlist_wrap::WrapFault;
 use std::alloc::Global;
 use std::process::Abort;
@@ -56,7 +57,8 @@ fn keyring(alloc: Global, text: &str) -> Result<Keyring, Fail> {
 /// The outcome of an input under these keys.
 fn unwrapped(alloc: Global, keys: &str, input: &str, skip: bool) -> Result<Unwrapped, Fail> {
     let keys = keyring(alloc, keys)?;
-    Ok(unwrap_lines(alloc, &keys, input.as_bytes(), skip)?)
+    let clear = InTheClear::Refused;
+    Ok(unwrap_lines(alloc, &keys, clear, input.as_bytes(), skip)?)
 }
 
 /// Asserts that the input becomes this text under these keys, and nothing is left out of it.
@@ -158,7 +160,8 @@ fn what_cannot_be_read_is_left_out_with_its_cause(rt: HostRuntime) -> Result<(),
 
 /// Why the lines are refused, if they are.
 fn refusal(alloc: Global, input: &str) -> Option<Report> {
-    unwrap_lines(alloc, &Keyring::new(alloc), input.as_bytes(), false).err()
+    let keys = Keyring::new(alloc);
+    unwrap_lines(alloc, &keys, InTheClear::Refused, input.as_bytes(), false).err()
 }
 
 #[test]

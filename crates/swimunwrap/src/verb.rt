@@ -2,6 +2,7 @@
 
 ghost use Rattle.std.specs.Prelude.{◌≡◌, map, string_bytes};
 
+use memberlist_transport::InTheClear;
 use std::marker::Model;
 
 /// What the program is asked to do.
@@ -15,13 +16,14 @@ pub enum Verb {
     Stream,
 }
 
-/// What the arguments ask for: a verb, the argument that names a file, if there is one, and those
-/// that name key files.
+/// What the arguments ask for: a verb, the argument that names a file, if there is one, those that
+/// name key files, and what becomes of what is in the clear if there are keys.
 #[derive(Debug, Drop)]
 pub struct Chosen {
     verb: Verb,
     files: Vec<String>,
     key_files: Vec<String>,
+    clear: InTheClear,
 }
 
 impl Model for Chosen {
@@ -34,21 +36,29 @@ impl Model for Chosen {
       verb = c.verb;
       files = map string_bytes c.files.items;
       key_files = map string_bytes c.key_files.items;
+      clear = c.clear;
     } };
 }
 
 impl Chosen {
-    pub(crate) fn new(verb: Verb, files: Vec<String>, key_files: Vec<String>) -> Chosen
+    pub(crate) fn new(
+        verb: Verb,
+        files: Vec<String>,
+        key_files: Vec<String>,
+        clear: InTheClear,
+    ) -> Chosen
         ensures { result ≡ record {
           verb = verb;
           files = map string_bytes files.items;
           key_files = map string_bytes key_files.items;
+          clear = clear;
         } }
     {
         Chosen {
             verb,
             files,
             key_files,
+            clear,
         }
     }
 
@@ -71,5 +81,12 @@ impl Chosen {
         ensures { map string_bytes result.now ≡ self.now.key_files }
     {
         &self.key_files
+    }
+
+    /// What becomes of what is in the clear if there are keys.
+    pub fn clear(&self) -> InTheClear
+        ensures { result ≡ self.now.clear }
+    {
+        self.clear
     }
 }

@@ -1,8 +1,10 @@
 //! Lines and streams that are encrypted with Go's crypto/aes and crypto/cipher.
 
-use super::{ALIVE, assert_becomes, assert_bytes, assert_left_out, keyring};
+use super::{ALIVE, assert_becomes, assert_bytes, assert_causes, assert_left_out, keyring};
 use crate::cause::Cause;
+use crate::lines::unwrap_lines;
 use crate::stream::unwrap_stream;
+use memberlist_transport::InTheClear;
 use std::alloc::Global;
 use std::process::Abort;
 use std::test::Fail;
@@ -48,6 +50,9 @@ const LABELLED_STREAM: &str =
 const ACK_STREAM: &str =
     "0a0000002f016e6f6e63652d6e756d6265723f24a82c73fb6e8007e572601a4dee56ab8f2b2c23af1a5a34fd34c8c1ce29aa11ed";
 
+/// A stream of no members, in the clear.
+const CLEAR_STREAM: &str = "0683a44a6f696ec2a54e6f64657300ac5573657253746174654c656e00";
+
 /// A stream of version 0 whose plaintext, 16 zeros, does not end in padding.
 const UNPADDED_STREAM: &str =
     "0a0000002d006e6f6e63652d6e756d6265723da60f7c128202ef6681b2c549289f18599d13c1b4a6f475711651e8bfee697f";
@@ -61,7 +66,7 @@ const LAST_OWN: &str =
 
 #[test]
 fn what_a_key_opens_is_unwrapped(rt: HostRuntime) -> Result<(), Fail> {
-    for line in [SEALED, CHECKED, LABELLED, ALIVE] {
+    for line in [SEALED, CHECKED, LABELLED] {
         assert_becomes(&rt, rt.alloc(), KEY, line, ALIVE)?;
     }
     Ok(())
@@ -98,10 +103,33 @@ fn what_no_key_opens_is_left_out_by_its_cause(rt: HostRuntime) -> Result<(), Fai
     Ok(())
 }
 
+// With keys memberlist drops what is in the clear (net.go, GossipVerifyIncoming in config.go). A line
+// of it would be believed if it stayed; an empty one has no packet.
+#[test]
+fn what_is_in_the_clear_is_left_out_if_there_are_keys(rt: HostRuntime) -> Result<(), Fail> {
+    let keys = keyring(rt.alloc(), KEY)?;
+    let input = format!(in rt.alloc(); "{ALIVE}\n\n{SEALED}\n08\n06")?;
+    let refused = format!(in rt.alloc(); "\n\n{ALIVE}\n\n06")?;
+    let accepted = format!(in rt.alloc(); "{ALIVE}\n\n{ALIVE}\n\n06")?;
+    for (clear, wanted, causes) in [
+        (
+            InTheClear::Refused,
+            refused,
+            &[Cause::Unencrypted, Cause::Unencrypted] as &[Cause],
+        ),
+        (InTheClear::Accepted, accepted, &[]),
+    ] {
+        let shown = unwrap_lines(rt.alloc(), &keys, clear, input.as_bytes(), false)?;
+        assert_bytes(&rt, shown.text(), wanted.as_bytes(), "the lines");
+        assert_causes(&rt, shown.left_out(), causes, "the lines");
+    }
+    Ok(())
+}
+
 /// The stream in the bytes under these keys.
 fn stream_in(alloc: Global, keys: &str, bytes: &[u8]) -> Result<Result<Vec<u8>, What>, Fail> {
     let keys = keyring(alloc, keys)?;
-    Ok(unwrap_stream(alloc, &keys, bytes))
+    Ok(unwrap_stream(alloc, &keys, InTheClear::Refused, bytes))
 }
 
 /// The stream in this text under these keys.
@@ -141,6 +169,9 @@ fn a_stream_that_no_key_opens_is_refused(rt: HostRuntime) -> Result<(), Fail> {
     for (keys, text, number, found) in [
         (OTHER_KEY, STREAM, 54, None),
         ("", STREAM, 16, Some(10)),
+        (KEY, CLEAR_STREAM, 59, None),
+        // a checksum around the first bytes of an encrypted stream, to which no key applies
+        (KEY, "0c32d706930a", 56, None),
         (KEY, "0a000000", 52, None),
         (KEY, "0a0000000000", 57, None),
         (KEY, ACK_STREAM, 16, Some(2)),

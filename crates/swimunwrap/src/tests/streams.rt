@@ -2,6 +2,7 @@
 
 use crate::stream::unwrap_stream;
 use memberlist_keyring::Keyring;
+use memberlist_transport::InTheClear;
 use std::alloc::Global;
 use std::process::Abort;
 use std::test::Fail;
@@ -18,12 +19,13 @@ const COMPRESSED: &str =
 fn a_stream_is_unwrapped(rt: HostRuntime) -> Result<(), Fail> {
     let alloc = rt.alloc();
     assert_eq!(rt;
-        unwrap_stream(alloc, &Keyring::new(alloc), STREAM)?.as_slice(),
+        unwrap_stream(alloc, &Keyring::new(alloc), InTheClear::Refused, STREAM)?.as_slice(),
         STREAM
     );
     let stream = unwrap_stream(
         alloc,
         &Keyring::new(alloc),
+        InTheClear::Refused,
         &hex::decode(alloc, COMPRESSED)?,
     )?;
     let wanted =
@@ -34,7 +36,7 @@ fn a_stream_is_unwrapped(rt: HostRuntime) -> Result<(), Fail> {
 
 /// Why the bytes are refused.
 fn refusal(rt: &impl Abort, alloc: Global, bytes: &[u8]) -> Result<What, Fail> {
-    match unwrap_stream(alloc, &Keyring::new(alloc), bytes) {
+    match unwrap_stream(alloc, &Keyring::new(alloc), InTheClear::Refused, bytes) {
         Ok(stream) => panic!(rt; "{bytes:?} is {stream:?}"),
         Err(What::Memory) => Err(Fail::from(What::Memory)),
         Err(what) => Ok(what),

@@ -55,6 +55,7 @@ fn each_cause_has_its_text(rt: HostRuntime) -> Result<(), Fail> {
         ),
         (Cause::NoMessage(255), "not a message (first byte ff)"),
         (Cause::NoKeyFits, "that no key decrypts"),
+        (Cause::Unencrypted, "not encrypted"),
     ] {
         assert_eq!(rt; format!(in rt.alloc(); "{cause}")?.as_str(), wanted);
     }

@@ -2,6 +2,7 @@
 
 use crate::command_line::chosen;
 use crate::verb::{Chosen, Verb};
+use memberlist_transport::InTheClear;
 use std::alloc::{AllocError, Global};
 use std::process::Abort;
 use std::test::Fail;
@@ -36,14 +37,24 @@ const TAKEN: [(&[&str], Verb, &[&str], &[&str]); 9] = [
     ),
 ];
 
+/// Arguments, and what becomes of what is in the clear.
+const CLEAR: [(&[&str], InTheClear); 5] = [
+    (&["--key-file", "a"], InTheClear::Refused),
+    (&["--accept-clear"], InTheClear::Accepted),
+    (&["stream", "x"], InTheClear::Refused),
+    (&["stream", "--accept-clear", "x"], InTheClear::Accepted),
+    (&["--accept-clear", "stream"], InTheClear::Accepted),
+];
+
 /// Arguments that are refused.
-const REFUSED: [&[&str]; 11] = [
+const REFUSED: [&[&str]; 12] = [
     &["x"],
     &["-"],
     &[""],
     &["--skip", "x"],
     &["--key-file"],
     &["--skip", "--skip"],
+    &["--accept-clear=x"],
     &["stream", "x", "y"],
     &["stream", "--skip"],
     &["help"],
@@ -89,6 +100,10 @@ fn assert_taken(
 
 #[test]
 fn words_ask_for_a_verb_and_its_file(rt: HostRuntime) -> Result<(), Fail> {
+    for (words, wanted) in CLEAR {
+        let clear = choice(rt.alloc(), words)?.clear();
+        assert_eq!(rt; clear, wanted, "{words:?}");
+    }
     for (words, verb, files, key_files) in TAKEN {
         assert_taken(&rt, rt.alloc(), words, verb, (files, key_files))?;
     }
@@ -132,7 +147,13 @@ fn help_and_version_tell_what_there_is(rt: HostRuntime) -> Result<(), Fail> {
     let asked: [(&[&str], &[&str]); 3] = [
         (
             &["--help"],
-            &["stream", "--skip", "--key-file", "hexadecimal", "encrypted"],
+            &[
+                "stream",
+                "--skip",
+                "--accept-clear",
+                "hexadecimal",
+                "encrypted",
+            ],
         ),
         (&["--version"], &["swimunwrap 0.2.0", "rattle-kit-13f"]),
         (

@@ -6,7 +6,7 @@ use Rattle.clap.specs.Words.{fault_of, found_of, is_simple, is_simple_and_free, 
 use Rattle.clap.specs.Kinds.{HasKind}
 use Rattle.swim_program.proofs.Commands.{memory_of, refusal}
 use Rattle.swimunwrap.specs.Chosen.{Choice}
-use Rattle.swimunwrap.specs.Words.{key_words, program}
+use Rattle.swimunwrap.specs.Words.{clear_of, either, key_words, program}
 use Rattle.swimunwrap.proofs.Commands.{asks_lines, asks_stream, program_is_simple, program_is_free}
 use Rattle.swimunwrap.proofs.command_line.chosen.Goals as goal
 
@@ -47,10 +47,12 @@ returns-in-Some-clause-asks c =
     ap (map string_bytes) c.in_ok-append-in-Some.ensures.items
     ∙ map-append string_bytes c.in_ok-key_files.key_files.items c.in_ok-texts_of-in-Some.field-0.items
     ∙ ap₂ (λ xs ys. xs ++ ys) before c.in_ok-texts_of-in-Some.ensures in
+    let clear = c.either-clear.ensures ∙ ap₂ either (c.clear_of-clear.ensures ∙ ap clear_of flags) c.clear_of.ensures in
     asks_stream (subcommand_of program words) (matches_of program words) (rows_of (found_of c.in-Some.found.now)) c.new.result
     (c.in-Some.ensures.rows ∙ ap (option_map (λ p. p.1)) found)
     (ap (λ (r : Choice). r.verb) c.new.ensures) (ap (λ (r : Choice). r.files) c.new.ensures ∙ c.in_ok-file_of-in-Some.ensures)
     (ap (λ (r : Choice). r.key_files) c.new.ensures ∙ keys)
+    (ap (λ (r : Choice). r.clear) c.new.ensures ∙ clear)
 
 pub returns-clause-asks : goal.returns-clause-asks
 returns-clause-asks c =
@@ -60,6 +62,7 @@ returns-clause-asks c =
     let found : subcommand_rows_of c.in_ok-matches.matches ≡ subcommand_of program words = m.1 ∙ ap (λ a. subcommand_of a words) c.in_ok-command.ensures in
     asks_lines (subcommand_of program words) (matches_of program words) (rows_of (found_of c.in_ok-matches.matches)) c.new-in-None-2.result
     (c.in-None.ensures.rows ∙ ap (option_map (λ p. p.1)) found) flags
-    (ap (λ (r : Choice). r.verb) c.new-in-None-2.ensures ∙ c.verb_of_flag.ensures)
+    (ap (λ (r : Choice). r.verb) c.new-in-None-2.ensures ∙ c.verb_of.ensures)
     (ap (λ (r : Choice). r.files) c.new-in-None-2.ensures ∙ ap (map string_bytes) c.new-in-None.ensures.items)
     (ap (λ (r : Choice). r.key_files) c.new-in-None-2.ensures ∙ c.in_ok-key_files.ensures)
+    (ap (λ (r : Choice). r.clear) c.new-in-None-2.ensures ∙ c.clear_of-clear.ensures)
