@@ -182,6 +182,14 @@ func (m *member) tells(peer string, packet []byte, err error) {
 	must(err)
 }
 
+// tellsClear sends a packet as it is, as anyone can.
+func (m *member) tellsClear(to string, packet []byte) {
+	addr, err := net.ResolveUDPAddr("udp", to)
+	must(err)
+	_, err = m.heard.WriteToUDP(packet, addr)
+	must(err)
+}
+
 func (m *member) knows(name string, state swimtab.State) bool {
 	found, err := m.Find(name)
 	return err == nil && found.State == state
@@ -219,7 +227,7 @@ func run(kind string, port int, key []byte) {
 	defer n1.Shutdown()
 	n2 := cluster("n2", "127.0.9.2", port, key)
 	defer n2.Shutdown()
-	peer := fmt.Sprintf("127.0.9.1:%d", port)
+	peer, own := fmt.Sprintf("127.0.9.1:%d", port), fmt.Sprintf("127.0.9.4:%d", port)
 	_, err := n2.Join([]string{peer})
 	must(err)
 
@@ -243,16 +251,28 @@ func run(kind string, port int, key []byte) {
 
 	n3 := cluster("n3", "127.0.9.5", port, key)
 	defer n3.Shutdown()
-	_, err = n3.Join([]string{fmt.Sprintf("127.0.9.4:%d", port)})
+	_, err = n3.Join([]string{own})
 	check(kind+": memberlist joins a member of the library", err == nil)
 	check(kind+": and has merged its answer", n3.NumMembers() == 4 && has(n3, "y", "role=y")())
 	soon(kind+": which has taken the newcomer in", func() bool { return y.knows("n3", swimtab.Alive) })
 	soon(kind+": and the others hear of it", func() bool { return n1.NumMembers() == 4 && x.knows("n3", swimtab.Alive) })
 
+	forged, err := x.Confirm("n3", 9)
+	must(err)
+	if key != nil {
+		x.tellsClear(peer, forged)
+		x.tellsClear(own, forged)
+	}
 	packet, err := x.Leave(1)
 	x.tells(peer, packet, err)
 	soon(kind+": memberlist has taken a leave in", func() bool { return n1.NumMembers() == 3 })
 	soon(kind+": and tells it on", func() bool { return y.knows("x", swimtab.Leave) })
+	if key != nil {
+		check(kind+": neither has believed a death in the clear", n1.NumMembers() == 3 && y.knows("n3", swimtab.Alive))
+		must(y.keys.AcceptClear())
+		x.tellsClear(own, forged)
+		soon(kind+": which is read once that is accepted", func() bool { return y.knows("n3", swimtab.Confirm) })
+	}
 }
 
 func main() {

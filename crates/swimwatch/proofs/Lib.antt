@@ -1,2 +1,2 @@
 pub mod Prefixes
-pub mod Views
+pub mod Hearing

@@ -10,22 +10,25 @@ use Rattle.memberlist_view.specs.declared.heard.Said.TheVariants.{Alive, Suspect
 use Rattle.memberlist_view.specs.Heard.{said_in_record}
 use Rattle.swimwatch.specs.declared.told.Told.{Told}
 
--- a claim, the bytes that name who makes it, and whether it is in a record of a stream
+-- a claim, the bytes that name who makes it, whether it is in a record of a stream, and whether a
+-- new name joins by it
 pub record ToldText : Type 0 where
   pub claim : Claim
   pub from : List ℕ
   pub is_record : Bool
+  pub joins : Bool
 
 abbrev pub told_text : Told → ToldText
-told_text t = record { claim = t.claim; from = t.from.items; is_record = t.is_record }
+told_text t =
+    record { claim = t.claim; from = t.from.items; is_record = t.is_record; joins = t.joins }
 
 -- what a packet says
 abbrev pub packet_told : PacketValue → ToldText
-packet_told p = record { claim = p.claim; from = p.from; is_record = false }
+packet_told p = record { claim = p.claim; from = p.from; is_record = false; joins = true }
 
 -- what a record of a stream says: nobody is named
-abbrev pub record_told : Claim → ToldText
-record_told c = record { claim = c; from = []; is_record = true }
+abbrev pub record_told : Claim → Bool → ToldText
+record_told c joins = record { claim = c; from = []; is_record = true; joins = joins }
 
 -- who makes a claim: somebody if the bytes are a name, of 1 to 1,024 bytes
 abbrev pub accuser_of : List ℕ → Option (List ℕ)
@@ -40,7 +43,7 @@ death name inc (Some from) = Dead name inc from
 -- net.go, handleAlive, handleSuspect, handleDead: what a packet says; a member that declares itself
 -- dead has left
 abbrev pub said_in_packet : Claim → Option (List ℕ) → Said
-said_in_packet (claim.Alive name inc details) from = Alive name inc details
+said_in_packet (claim.Alive name inc details) from = Alive name inc details true
 said_in_packet (claim.Suspect name inc) from = Suspect name inc from
 said_in_packet (claim.Confirm name inc) from = death name inc from
 said_in_packet (claim.Leave name inc) from = Left name inc
@@ -48,7 +51,9 @@ said_in_packet (claim.Leave name inc) from = Left name inc
 -- what is said: by a packet what it says itself, by a record what it means to a member that merges
 -- it
 abbrev pub said_of : ToldText → Said
-said_of t = if t.is_record then said_in_record t.claim else said_in_packet t.claim (accuser_of t.from)
+said_of t =
+    if t.is_record then said_in_record t.claim t.joins
+    else said_in_packet t.claim (accuser_of t.from)
 
 -- what is heard at a time
 abbrev pub heard_of : ℕ → ToldText → Heard

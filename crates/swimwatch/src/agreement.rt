@@ -1,44 +1,169 @@
 //! What members answered, and whether they agree.
 
-use crate::ask::Answer;
+use crate::ask::{Answer, Asked};
 use crate::columns::{Rows, row_of_words};
 use crate::directory::copy_of;
 use crate::json::Object;
 use crate::known::Known;
-use crate::names::write_name;
+use crate::roster::Roster;
 use crate::texts::name_text;
 use memberlist_view::MemberName;
 use std::alloc::{AllocError, Global};
 use std::collections::BTreeMap;
 
-/// Adds what one member knows, with a row for each name. For several members, adds on how many
-/// names they agree, and a row for each other name and member. Returns whether they agree.
-pub(crate) fn write_answers(text: &mut String, answers: &[Answer]) -> Result<bool, AllocError> {
-    if let [answer] = answers {
-        write_answer(text, answer)?;
-        return Ok(true);
-    }
-    let names = names_in(*text.allocator(), answers)?;
-    write_agreed(text, answers.len(), &names)?;
-    let agree = names.iter().all(|(_, agreed)| *agreed);
-    if !agree {
-        write_others(text, answers, &names)?;
-    }
-    Ok(agree)
+/// What most members report about a name; of equally many, what the first of them does.
+#[derive(Clone, Copy)]
+pub(crate) struct Opinion<'a> {
+    known: &'a Known,
+    /// How many members report it.
+    count: usize,
 }
 
-/// Adds a JSON object for each name and member, and returns whether the members agree.
-pub(crate) fn write_answer_objects(
-    text: &mut String,
-    answers: &[Answer],
-) -> Result<bool, AllocError> {
-    for answer in answers {
-        for (name, known) in answer.roster.iter() {
-            write_object(text, answer, name, known)?;
+/// Names, each with what most members report about it.
+pub(crate) type Opinions<'a> = BTreeMap<MemberName, Opinion<'a>>;
+
+/// What somebody reports about members: a member that was asked, or a view.
+#[derive(Clone, Copy)]
+pub(crate) struct Voice<'a> {
+    pub(crate) name: &'a str,
+    pub(crate) roster: &'a Roster,
+}
+
+impl<'a> Voice<'a> {
+    pub(crate) fn of(answer: &'a Answer) -> Voice<'a> {
+        Voice {
+            name: &answer.host,
+            roster: &answer.roster,
         }
     }
-    let names = names_in(*text.allocator(), answers)?;
-    Ok(names.iter().all(|(_, agreed)| *agreed))
+}
+
+/// The answers of those that answered.
+fn answers_in<'a>(alloc: Global, asked: &'a [Asked]) -> Result<Vec<Voice<'a>>, AllocError> {
+    let mut answers = Vec::new(alloc);
+    for told in asked {
+        if let Ok(answer) = told {
+            answers.push(Voice::of(answer))?;
+        }
+    }
+    Ok(answers)
+}
+
+/// All names that are reported.
+pub(crate) fn opinions_in<'a>(
+    alloc: Global,
+    answers: &[Voice<'a>],
+) -> Result<Opinions<'a>, AllocError> {
+    let mut opinions = BTreeMap::new(alloc);
+    for answer in answers {
+        for (name, known) in answer.roster.iter() {
+            let count = answers
+                .iter()
+                .filter(|other| has_same(other, name, known))
+                .count();
+            let is_less = match opinions.get(name) {
+                Some(Opinion { count: most, .. }) => *most < count,
+                None => true,
+            };
+            if is_less {
+                opinions.insert(copy_of(alloc, name)?, Opinion { known, count })?;
+            }
+        }
+    }
+    Ok(opinions)
+}
+
+/// On how many names not all of this many members agree.
+pub(crate) fn differing(opinions: &Opinions, members: usize) -> usize {
+    opinions
+        .iter()
+        .filter(|(_, opinion)| opinion.count != members)
+        .count()
+}
+
+/// Whether an answer reports the same about a name.
+fn has_same(answer: &Voice, name: &MemberName, known: &Known) -> bool {
+    match answer.roster.get(name) {
+        Some(own) => own.is_same(known),
+        None => false,
+    }
+}
+
+/// The exit status: 0 if all answered and agree, 4 if none answered, and otherwise 1.
+pub(crate) fn status_of(alloc: Global, asked: &[Asked]) -> Result<u8, AllocError> {
+    let answers = answers_in(alloc, asked)?;
+    if answers.is_empty() {
+        return Ok(4);
+    }
+    let opinions = opinions_in(alloc, &answers)?;
+    let agree = answers.len() == asked.len() && differing(&opinions, answers.len()) == 0;
+    Ok(u8::from(!agree))
+}
+
+/// Adds a row for each name: what most members report, and if several were asked, how many of those
+/// that answered do. Below it, for each name on which not all agree, a row for each member; and a
+/// row for each member without an answer.
+pub(crate) fn write_asked(
+    text: &mut String,
+    asked: &[Asked],
+    is_keyless: bool,
+) -> Result<(), AllocError> {
+    let alloc = *text.allocator();
+    let answers = answers_in(alloc, asked)?;
+    if !answers.is_empty() {
+        let opinions = opinions_in(alloc, &answers)?;
+        let members = if asked.len() > 1 {
+            Some(answers.len())
+        } else {
+            None
+        };
+        write_opinions(text, &opinions, members)?;
+        if differing(&opinions, answers.len()) > 0 {
+            write_others(text, &answers, &opinions)?;
+        }
+    }
+    for told in asked {
+        if let Err(silence) = told {
+            let words = silence.words(alloc, is_keyless)?;
+            write!(text, "{} no answer ({words})\n", silence.host)?;
+        }
+    }
+    Ok(())
+}
+
+/// Adds a row for each name, and below it what each view shows about those on which they differ.
+pub(crate) fn write_views(
+    text: &mut String,
+    answers: &[Voice],
+    opinions: &Opinions,
+) -> Result<(), AllocError> {
+    write_opinions(text, opinions, Some(answers.len()))?;
+    write_others(text, answers, opinions)
+}
+
+/// Adds a JSON object for each name and member, and one for each member without an answer.
+pub(crate) fn write_asked_objects(
+    text: &mut String,
+    asked: &[Asked],
+    is_keyless: bool,
+) -> Result<(), AllocError> {
+    let alloc = *text.allocator();
+    for told in asked {
+        match told {
+            Ok(answer) => {
+                for (name, known) in answer.roster.iter() {
+                    write_object(text, answer, name, known)?;
+                }
+            }
+            Err(silence) => {
+                let mut object = Object::new(alloc);
+                object.word("host", &silence.host)?;
+                object.text("no_answer", silence.words(alloc, is_keyless)?)?;
+                object.write(text)?;
+            }
+        }
+    }
+    Ok(())
 }
 
 fn write_object(
@@ -55,68 +180,30 @@ fn write_object(
     object.write(text)
 }
 
-/// All names that are reported, each with whether all report the same about it.
-fn names_in(alloc: Global, answers: &[Answer]) -> Result<BTreeMap<MemberName, bool>, AllocError> {
-    let mut names = BTreeMap::new(alloc);
-    for answer in answers {
-        for (name, known) in answer.roster.iter() {
-            if names.get(name).is_none() {
-                let agreed = answers.iter().all(|other| has_same(other, name, known));
-                names.insert(copy_of(alloc, name)?, agreed)?;
-            }
-        }
-    }
-    Ok(names)
-}
-
-/// Whether an answer reports the same about a name.
-fn has_same(answer: &Answer, name: &MemberName, known: &Known) -> bool {
-    match answer.roster.get(name) {
-        Some(own) => own.is_same(known),
-        None => false,
-    }
-}
-
-/// Adds the names on which all agree: `3 members agree on 2 of 3 names: web-1 web-2`.
-fn write_agreed(
+/// Adds the table of what most members report, with how many of this many do, if it is shown.
+fn write_opinions(
     text: &mut String,
-    count: usize,
-    names: &BTreeMap<MemberName, bool>,
+    opinions: &Opinions,
+    members: Option<usize>,
 ) -> Result<(), AllocError> {
-    let agreed = names.iter().filter(|(_, agreed)| **agreed).count();
-    write!(
-        text,
-        "{count} members agree on {agreed} of {} names:",
-        names.len()
-    )?;
-    for (name, agreed) in names.iter() {
-        if *agreed {
-            text.push(' ')?;
-            write_name(text, name.name().bytes())?;
-        }
-    }
-    text.push('\n')
-}
-
-/// Adds the table of what one member knows.
-fn write_answer(text: &mut String, answer: &Answer) -> Result<(), AllocError> {
     let alloc = *text.allocator();
-    let has_tags = answer.roster.iter().any(|(_, known)| !known.is_bare());
+    let has_tags = opinions.iter().any(|(_, opinion)| !opinion.known.is_bare());
+    let agree = if members.is_some() { "AGREE" } else { "" };
+    let tags = if has_tags { "TAGS" } else { "" };
     let mut rows = Rows::new(alloc);
-    let mut head = row_of_words(alloc, &["NAME", "ADDRESS", "STATE", "INC"])?;
-    if has_tags {
-        head.push(String::from_str(alloc, "TAGS")?)?;
-    }
-    rows.push(head)?;
-    for (name, known) in answer.roster.iter() {
+    rows.push(row_of_words(alloc, &["NAME", "ADDRESS", "STATE", "INC", agree, tags])?)?;
+    for (name, opinion) in opinions.iter() {
+        let known = opinion.known;
         let mut row = Vec::new(alloc);
         row.push(name_text(alloc, name)?)?;
         row.push(known.address(alloc)?)?;
         row.push(String::from_str(alloc, known.state())?)?;
         row.push(format!(in alloc; "{}", known.inc)?)?;
-        if has_tags {
-            row.push(known.tags(alloc)?)?;
-        }
+        row.push(match members {
+            Some(members) => format!(in alloc; "{} of {members}", opinion.count)?,
+            None => String::new(alloc),
+        })?;
+        row.push(known.tags(alloc)?)?;
         rows.push(row)?;
     }
     rows.write(text)
@@ -125,11 +212,11 @@ fn write_answer(text: &mut String, answer: &Answer) -> Result<(), AllocError> {
 /// Adds what each member reports about the names on which not all agree.
 fn write_others(
     text: &mut String,
-    answers: &[Answer],
-    names: &BTreeMap<MemberName, bool>,
+    answers: &[Voice],
+    opinions: &Opinions,
 ) -> Result<(), AllocError> {
     let alloc = *text.allocator();
-    let has_vsn = names
+    let has_vsn = opinions
         .iter()
         .any(|(name, _)| differ_in_versions(answers, name));
     let vsn = if has_vsn { "VERSIONS" } else { "" };
@@ -138,8 +225,8 @@ fn write_others(
         alloc,
         &["NAME", "MEMBER", "STATE", "INC", "ADDRESS", vsn, "TAGS"],
     )?)?;
-    for (name, agreed) in names.iter() {
-        if !*agreed {
+    for (name, opinion) in opinions.iter() {
+        if opinion.count != answers.len() {
             for answer in answers {
                 rows.push(row_of(alloc, name, answer, has_vsn)?)?;
             }
@@ -149,7 +236,7 @@ fn write_others(
 }
 
 /// Whether two members report different versions for a name.
-fn differ_in_versions(answers: &[Answer], name: &MemberName) -> bool {
+fn differ_in_versions(answers: &[Voice], name: &MemberName) -> bool {
     let mut told = answers.iter().filter_map(|answer| answer.roster.get(name));
     match told.next() {
         Some(first) => told.any(|other| other.vsn() != first.vsn()),
@@ -161,12 +248,12 @@ fn differ_in_versions(answers: &[Answer], name: &MemberName) -> bool {
 fn row_of(
     alloc: Global,
     name: &MemberName,
-    answer: &Answer,
+    answer: &Voice,
     has_vsn: bool,
 ) -> Result<Vec<String>, AllocError> {
     let mut row = Vec::new(alloc);
     row.push(name_text(alloc, name)?)?;
-    row.push(String::from_str(alloc, &answer.host)?)?;
+    row.push(String::from_str(alloc, answer.name)?)?;
     let Some(known) = answer.roster.get(name) else {
         row.push(String::from_str(alloc, "absent")?)?;
         return Ok(row);

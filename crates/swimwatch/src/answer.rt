@@ -8,7 +8,7 @@ ghost use Rattle.swimwatch.specs.declared.carriage.NoStream.TheVariants as cause
 use crate::carriage::{MAX_STREAM_LEN, NoStream, cause_of};
 use memberlist_cipher::{LABEL, MAX_LABEL_LEN};
 use memberlist_keyring::{Keyring, behind_label};
-use memberlist_transport::{StreamFault, open_reply};
+use memberlist_transport::{InTheClear, StreamFault, open_reply};
 use memberlist_wrap::unwrap;
 use percent_encoding::{AsciiSet, CONTROLS, ascii_set, percent_encode};
 use std::alloc::{AllocError, Global};
@@ -44,7 +44,8 @@ impl From<AllocError> for NoAnswer {
 }
 
 /// The push/pull stream in an answer. If it is encrypted, the first key that works decrypts it. A
-/// member writes no label before its answer, but authenticates the label that it has.
+/// member writes no label before its answer, but authenticates the label that it has. `clear` says
+/// what becomes of an answer in the clear if there are keys.
 ///
 /// # Errors
 ///
@@ -52,19 +53,21 @@ impl From<AllocError> for NoAnswer {
 pub(crate) fn stream_in(
     alloc: Global,
     keys: &Keyring,
+    clear: InTheClear,
     label: &[u8],
     answer: Vec<u8>,
 ) -> Result<Vec<u8>, NoAnswer>
     ensures ok { IfOk result (λ stream.
-        IsReplyIn 33554432 keys.now label.now answer.items stream.items) }
+        IsReplyIn 33554432 clear keys.now label.now answer.items stream.items) }
     ensures none { IfErr result (λ cause. cause ≢ NoAnswer.NoStream NoStream.Memory
         → length label.now < 256
-        → (stream : List ℕ) → ¬ IsReplyIn 33554432 keys.now label.now answer.items stream) }
+        → (stream : List ℕ)
+        → ¬ IsReplyIn 33554432 clear keys.now label.now answer.items stream) }
 {
     if label.len() > MAX_LABEL_LEN {
         return Err(NoAnswer::NoStream(NoStream::Closed));
     }
-    match open_reply(alloc, keys, label, &answer, MAX_STREAM_LEN) {
+    match open_reply(alloc, keys, clear, label, &answer, MAX_STREAM_LEN) {
         Ok(stream) => Ok(stream),
         Err(StreamFault::NoStream(ERROR_MESSAGE)) => {
             let message = message_in(alloc, keys, label, answer)?;

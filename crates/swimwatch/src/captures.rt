@@ -2,72 +2,92 @@
 
 use crate::NAME;
 use crate::chosen::{Chosen, Verb};
-use crate::said::output_fails;
+use crate::said::{output_fails, said};
+use crate::side::claims_of_file;
 use crate::sources::Sources;
-use crate::traffic::Traffic;
-use crate::watch::Watch;
+use crate::views::Views;
 use key_files::keyring_of;
-use swim_program::{Failure, What, write_out};
+use std::io::{ErrorKind, Write};
+use swim_program::{Failure, What};
 use swim_table::EncodeFault;
 
 /// Shows what the arguments ask for from the captures, and then prints what was read.
 pub(crate) fn show_captures(rt: &HostRuntime, chosen: &Chosen) -> Result<(), Failure> {
     let alloc = rt.alloc();
     let keys = keyring_of(rt, NAME, &chosen.key_files)?;
-    let mut watch = Watch::new(alloc, keys, chosen)?;
-    watch_captures(rt, &mut watch, &chosen.inputs, chosen.at)?;
-    watch.finish()?;
+    let start = match &chosen.start {
+        Some(word) => claims_of_file(rt, chosen, &keys, word)?,
+        None => Vec::new(alloc),
+    };
+    let mut views = Views::new(alloc, &keys, chosen, start);
+    watch_captures(rt, &mut views, &chosen.inputs)?;
     // made before anything is printed, so that nothing is printed if memory runs out
-    let said = watch.counts.text(alloc, watch.has_keys())?;
-    flush(rt, &mut watch)?;
+    let said = views.counts().text(alloc, !keys.is_empty())?;
+    let lacks_member = views.lacks_member()?;
+    flush(rt, &mut views)?;
     if chosen.verb == Verb::Dump {
-        print_dump(rt, &watch)?;
+        print_dump(rt, &views)?;
+    }
+    if lacks_member {
+        let _ = eprintln!(rt; "{NAME}: nothing was heard about the --member name");
     }
     let _ = eprintln!(rt; "{NAME}: {said}");
     Ok(())
 }
 
-/// Reads the captures to their ends, or to a moment, and prints what is shown on the way.
+/// Reads the captures to their ends, or for as long as was asked, and prints what is shown on the
+/// way.
 pub(crate) fn watch_captures(
     rt: &HostRuntime,
-    watch: &mut Watch,
+    views: &mut Views,
     words: &[String],
-    until: Option<u64>,
 ) -> Result<(), Failure> {
-    let mut traffic = Traffic::new(rt.alloc());
     let mut sources = Sources::begin(rt, words)?;
     for _ in 0..u64::MAX {
-        let Some((record, bytes)) = sources.record() else {
+        let (Some(place), Some((record, bytes))) = (sources.place(), sources.record()) else {
             break;
         };
-        traffic.record(watch, until, record, bytes)?;
-        flush(rt, watch)?;
+        if views.is_over(&record) {
+            break;
+        }
+        views.record(place, sources.word(place), record, bytes)?;
+        flush(rt, views)?;
         sources.read_on(rt)?;
+        if sources.is_done(place) {
+            views.end(place);
+        }
     }
-    traffic.finish(watch)?;
+    views.finish()?;
     Ok(())
 }
 
 /// Prints the pending output.
-fn flush(rt: &HostRuntime, watch: &mut Watch) -> Result<(), Failure> {
-    if watch.out.is_empty() {
+fn flush(rt: &HostRuntime, views: &mut Views) -> Result<(), Failure> {
+    if views.out.is_empty() {
         return Ok(());
     }
-    let wrote = print(rt, watch.out.as_bytes());
-    watch.out.clear();
+    let wrote = print(rt, views.out.as_bytes());
+    views.out.clear();
     wrote
 }
 
 /// Prints bytes to standard output.
 pub(crate) fn print(rt: &HostRuntime, bytes: &[u8]) -> Result<(), Failure> {
-    match write_out(&mut rt.stdout(), bytes) {
+    match rt.stdout().write_all(bytes) {
         Ok(()) => Ok(()),
-        Err(what) => Err(output_fails(rt.alloc(), what)),
+        Err(error) if error.kind() == ErrorKind::BrokenPipe => Err(Failure::Closed),
+        Err(error) => Err(said(
+            format!(in rt.alloc(); "{NAME}: output: device fault ({error})"),
+            4,
+        )),
     }
 }
 
 /// Prints the dump of the table of all claims.
-fn print_dump(rt: &HostRuntime, watch: &Watch) -> Result<(), Failure> {
+fn print_dump(rt: &HostRuntime, views: &Views) -> Result<(), Failure> {
+    let Some(watch) = views.only() else {
+        return Ok(());
+    };
     match watch.dump() {
         Ok(bytes) => print(rt, &bytes),
         Err(EncodeFault::Memory) => Err(Failure::Memory),

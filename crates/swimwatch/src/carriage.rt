@@ -3,16 +3,18 @@
 ghost use Rattle.std.specs.Prelude.{◌≡◌, ◌≢◌, ◌↔◌, List, IfOk, IfErr};
 ghost use Rattle.swim_claim.specs.declared.claim.Claim.{Claim};
 ghost use Rattle.swimwatch.specs.declared.carriage.NoStream.TheVariants.{Memory};
-ghost use Rattle.swimwatch.specs.Carriage.{IsCarriage, IsStreamOf};
+ghost use Rattle.swimwatch.specs.Carriage.{IsStreamOf};
 
-use crate::records::claims_of_stream;
+use crate::messages::Messages;
+use crate::records::{Records, read_records};
 use memberlist_cipher::CipherFault;
 use memberlist_keyring::Keyring;
-use memberlist_transport::{Message, PacketFault, StreamFault, open_packet, open_stream};
+use memberlist_message::Message;
+use memberlist_transport::{InTheClear, PacketFault, StreamFault, open_stream, unwrap_packet};
 use memberlist_wrap::WrapFault;
 use std::alloc::{AllocError, Global};
 use swim_claim::Claim;
-use swim_wire::{Claimless, Datagram, Packet, WireFault};
+use swim_wire::{COMPOUND_MESSAGE, WireFault};
 
 /// The most bytes of a stream without its wrappers, and of one direction of a connection.
 pub(crate) const MAX_STREAM_LEN: usize = 33_554_432;
@@ -23,13 +25,12 @@ const ENCRYPTED: u8 = 10;
 /// What a datagram carries.
 #[derive(Drop)]
 pub(crate) enum Carriage {
-    /// Packets that make claims, and the message that contains them. A compound packet may have
-    /// none.
-    Claims(Vec<Packet>, Vec<u8>),
-    /// A message that makes none.
-    Claimless(Claimless),
+    /// These messages of memberlist. There may be none in a compound message.
+    Read(Messages),
     /// It is encrypted, and no key decrypts it.
     Closed,
+    /// It is not encrypted, and only what is encrypted is read.
+    Unencrypted,
     /// It is not a message of memberlist.
     Foreign,
 }
@@ -42,21 +43,37 @@ pub(crate) enum Carriage {
 pub(crate) fn carriage_of(
     alloc: Global,
     keys: &Keyring,
+    clear: InTheClear,
     payload: &[u8],
-) -> Result<Carriage, AllocError>
-    ensures { IfOk result (IsCarriage keys.now payload.now) }
-{
-    match open_packet(alloc, keys, payload) {
-        Ok(Message::Claims(_, bytes)) => match Datagram::decode(alloc, &bytes) {
-            Ok(datagram) => Ok(Carriage::Claims(datagram.into_packets(alloc)?, bytes)),
-            Err(WireFault::Memory) => Err(AllocError),
-            Err(_) => Ok(Carriage::Foreign),
-        },
-        Ok(Message::Claimless(kind)) => Ok(Carriage::Claimless(kind)),
-        Ok(Message::Empty) => Ok(Carriage::Foreign),
+) -> Result<Carriage, AllocError> {
+    match unwrap_packet(alloc, keys, clear, payload) {
+        Ok(bytes) => carriage_in(alloc, &bytes),
         Err(PacketFault::Memory) => Err(AllocError),
-        Err(PacketFault::NoKeyFits | PacketFault::NoMessage(0 | 1)) => Ok(Carriage::Closed),
+        Err(PacketFault::NoKeyFits) => Ok(Carriage::Closed),
+        Err(PacketFault::Unencrypted) => Ok(Carriage::Unencrypted),
         Err(_) => Ok(Carriage::Foreign),
+    }
+}
+
+/// What the unwrapped bytes of a datagram carry. What begins with a version of encryption, 0 or 1,
+/// and is no ping that names whom it asks, is encrypted (memberlist's `security.go`).
+fn carriage_in(alloc: Global, bytes: &[u8]) -> Result<Carriage, AllocError> {
+    let messages = Messages::of(alloc, bytes)?;
+    match bytes.first() {
+        Some(0 | 1) if !messages.read.iter().any(names_asked) => Ok(Carriage::Closed),
+        Some(&COMPOUND_MESSAGE) => Ok(Carriage::Read(messages)),
+        _ if messages.read.is_empty() => Ok(Carriage::Foreign),
+        _ => Ok(Carriage::Read(messages)),
+    }
+}
+
+/// Whether a message is a ping or an indirect ping that names whom it asks, as memberlist's do.
+/// Random bytes seldom have a name.
+fn names_asked(message: &Message) -> bool {
+    match message {
+        Message::Ping(ping) => !ping.node.is_empty(),
+        Message::IndirectPing(ping) => !ping.node.is_empty(),
+        _ => false,
     }
 }
 
@@ -65,8 +82,12 @@ pub(crate) fn carriage_of(
 pub(crate) enum NoStream {
     /// It is encrypted, and no key decrypts it.
     Closed,
+    /// It is not encrypted, and only what is encrypted is read.
+    Unencrypted,
     /// Some of its bytes are missing.
     Cut,
+    /// A record of it is invalid.
+    Invalid(WireFault),
     /// It is a ping, an ack, a user message or an error, which make no claims.
     Claimless,
     /// It is not a stream of memberlist.
@@ -83,25 +104,29 @@ impl From<AllocError> for NoStream {
     }
 }
 
-/// The claims of the push/pull stream in one direction of a connection, in order. If it is
+/// The records of the push/pull stream in one direction of a connection, in order. If it is
 /// encrypted, the first key that works decrypts it.
 ///
 /// # Errors
 ///
 /// See [`NoStream`].
-pub(crate) fn stream_claims(
+pub(crate) fn stream_records(
     alloc: Global,
     keys: &Keyring,
+    clear: InTheClear,
     bytes: &[u8],
-) -> Result<Vec<Claim>, NoStream>
-    ensures ok { IfOk result (λ claims. IsStreamOf keys.now bytes.now claims.items) }
+) -> Result<Records, NoStream>
+    ensures ok { IfOk result (λ records.
+        IsStreamOf clear keys.now bytes.now records.claims.items) }
     ensures none { IfErr result (λ cause. cause ≢ NoStream.Memory → (claims : List Claim)
-        → ¬ IsStreamOf keys.now bytes.now claims) }
+        → ¬ IsStreamOf clear keys.now bytes.now claims) }
 {
-    match open_stream(alloc, keys, bytes, MAX_STREAM_LEN) {
-        Ok(stream) => match claims_of_stream(alloc, &stream)? {
-            Some(claims) => Ok(claims),
-            None => Err(NoStream::Cut),
+    match open_stream(alloc, keys, clear, bytes, MAX_STREAM_LEN) {
+        Ok(stream) => match read_records(alloc, &stream) {
+            Ok(records) => Ok(records),
+            Err(WireFault::Memory) => Err(NoStream::Memory),
+            Err(WireFault::Ended) => Err(NoStream::Cut),
+            Err(fault) => Err(NoStream::Invalid(fault)),
         },
         Err(fault) => Err(cause_of(fault)),
     }
@@ -113,6 +138,7 @@ pub(crate) fn cause_of(fault: StreamFault) -> NoStream
 {
     match fault {
         StreamFault::Memory => NoStream::Memory,
+        StreamFault::Unencrypted => NoStream::Unencrypted,
         StreamFault::Closed(CipherFault::TooShort) => NoStream::Cut,
         StreamFault::Wrapped(WrapFault::Ended) => NoStream::Cut,
         StreamFault::Closed(_) | StreamFault::NoStream(ENCRYPTED) => NoStream::Closed,

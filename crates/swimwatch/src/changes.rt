@@ -6,13 +6,13 @@ use crate::known::Known;
 use crate::names::write_name;
 use crate::roster::Roster;
 use crate::tags::{Tag, is_bare, tags_of};
-use crate::texts::name_text;
+use crate::texts::{name_text, write_place_and_meta};
 use memberlist_view::MemberName;
 use std::alloc::{AllocError, Global};
 use std::collections::BTreeMap;
 
 /// The names about which two rosters differ.
-fn changed(
+pub(crate) fn changed(
     alloc: Global,
     before: &Roster,
     after: &Roster,
@@ -63,11 +63,13 @@ pub(crate) fn write_change_objects(
     let alloc = *text.allocator();
     let names = changed(alloc, before, after)?;
     for (name, ()) in names.iter() {
-        let mut object = Object::new(alloc);
-        object.text("name", name_text(alloc, name)?)?;
-        object.object("before", object_of(alloc, before.get(name))?)?;
-        object.object("after", object_of(alloc, after.get(name))?)?;
-        object.write(text)?;
+        write_step_object(
+            text,
+            Object::new(alloc),
+            name,
+            before.get(name),
+            after.get(name),
+        )?;
     }
     Ok(!names.is_empty())
 }
@@ -104,6 +106,73 @@ fn write_both(text: &mut String, was: &Known, is: &Known) -> Result<(), AllocErr
     if was.inc != is.inc {
         write!(text, ", incarnation {} -> {}", was.inc, is.inc)?;
     }
+    write_details(text, was, is)
+}
+
+/// Adds what changed for a name from one answer of a member to its next: `f3 alive -> suspect 1`,
+/// `f3 absent -> alive 1 at 10.20.1.13:7946`, `f3 alive, incarnation 1 -> 2`.
+pub(crate) fn write_step(
+    text: &mut String,
+    name: &MemberName,
+    was: Option<&Known>,
+    is: Option<&Known>,
+) -> Result<(), AllocError> {
+    write_name(text, name.name().bytes())?;
+    match (was, is) {
+        (Some(was), Some(is)) => write_both_steps(text, was, is),
+        (Some(was), None) => write!(text, " {} -> absent", was.state()),
+        (None, Some(is)) => {
+            write!(text, " absent -> {} {}", is.state(), is.inc)?;
+            match &is.details {
+                Some(details) => write_place_and_meta(text, details),
+                None => Ok(()),
+            }
+        }
+        (None, None) => text.push_str(" absent"),
+    }
+}
+
+fn write_both_steps(text: &mut String, was: &Known, is: &Known) -> Result<(), AllocError> {
+    let alloc = *text.allocator();
+    if was.kind != is.kind {
+        write!(text, " {} -> {} {}", was.state(), is.state(), is.inc)?;
+    } else if was.inc != is.inc {
+        write!(
+            text,
+            " {}, incarnation {} -> {}",
+            is.state(),
+            was.inc,
+            is.inc
+        )?;
+    } else {
+        write!(text, " {} {}", is.state(), is.inc)?;
+    }
+    if was.is_elsewhere(is) {
+        let before = was.address(alloc)?;
+        let after = is.address(alloc)?;
+        write!(text, ", address {before} -> {after}")?;
+    }
+    write_details(text, was, is)
+}
+
+/// Adds the same to an object of JSON, and the object as a line.
+pub(crate) fn write_step_object(
+    text: &mut String,
+    object: Object,
+    name: &MemberName,
+    was: Option<&Known>,
+    is: Option<&Known>,
+) -> Result<(), AllocError> {
+    let alloc = *text.allocator();
+    let mut object = object;
+    object.text("name", name_text(alloc, name)?)?;
+    object.object("before", object_of(alloc, was)?)?;
+    object.object("after", object_of(alloc, is)?)?;
+    object.write(text)
+}
+
+/// Adds what changed in the metadata and the versions.
+fn write_details(text: &mut String, was: &Known, is: &Known) -> Result<(), AllocError> {
     if was.details.is_none() || is.details.is_none() {
         return Ok(());
     }

@@ -16,16 +16,17 @@ mod row;
 pub(crate) mod span;
 mod style;
 
+use crate::change::Change;
 use crate::listener::Listener;
 use crate::sent::Sent;
-use crate::told::Told;
 use drawing::{label_width, write_row};
-use memberlist_view::{Event, MemberName};
+use memberlist_view::MemberName;
 use page::Page;
 use row::Row;
 use span::Span;
 use std::alloc::{AllocError, Global};
 use std::collections::BTreeMap;
+use swim_claim::Name;
 
 /// What happened to each member, to be drawn.
 #[derive(Drop)]
@@ -57,18 +58,20 @@ impl Chart {
         &mut self,
         listener: &Listener,
         sent: &Sent,
-        told: &Told,
-        event: Event,
+        change: &Change,
     ) -> Result<(), AllocError> {
-        let Some(entry) = listener.entry_of(told)? else {
+        let Some(entry) = listener.entry_of(change.name)? else {
             return Ok(());
         };
-        let name = MemberName::new(told.claim.name().try_clone(self.alloc)?);
+        let Ok(name) = Name::copied(self.alloc, change.name)? else {
+            return Ok(());
+        };
+        let name = MemberName::new(name);
         if let Some(row) = self.rows.get_mut(&name) {
-            return row.take(sent.time, told, event, entry);
+            return row.take(sent.time, change, entry);
         }
         let mut row = Row::new(self.alloc);
-        row.take(sent.time, told, event, entry)?;
+        row.take(sent.time, change, entry)?;
         self.rows.insert(name, row)?;
         Ok(())
     }

@@ -1,5 +1,9 @@
 //! What the command line asks for.
 
+use crate::window::Times;
+use memberlist_transport::InTheClear;
+use std::time::Duration;
+
 /// What the program should show.
 #[derive(Clone, Copy, Debug, PartialEq, Eq)]
 pub(crate) enum Verb {
@@ -49,23 +53,46 @@ pub(crate) struct Chosen {
     pub(crate) key_files: Vec<String>,
     /// The only name to show, if there is one.
     pub(crate) member: Option<Vec<u8>>,
-    /// The moment for which the members are shown, in microseconds since the start of 1970.
-    pub(crate) at: Option<u64>,
+    /// The time that is shown.
+    pub(crate) times: Times,
+    /// The file with the table to begin with, if there is one.
+    pub(crate) start: Option<String>,
     /// How many microseconds memberlist waits before it forgets a dead member.
     pub(crate) wait: u64,
+    /// The ports whose traffic is taken in; all if there are none.
+    pub(crate) ports: Vec<u16>,
+    /// Whether all captures are one view.
+    pub(crate) merge: bool,
+    /// memberlist's `SuspicionMult`.
+    pub(crate) mult: u64,
     /// Whether to show JSON objects.
     pub(crate) json: bool,
     /// Whether to write a dump.
     pub(crate) dump: bool,
     /// How to ask members.
     pub(crate) asking: Asking,
+    /// Whether to ask them again and again.
+    pub(crate) following: Option<Following>,
 }
 
-/// How to ask members.
+/// How to ask members, and what to believe.
 #[derive(Debug, Drop)]
 pub(crate) struct Asking {
     /// How many seconds a member may take in total.
     pub(crate) timeout: u64,
     /// The label of the cluster, of at most 255 bytes; empty if it has none.
     pub(crate) label: Vec<u8>,
+    /// What becomes of packets, streams and answers in the clear if there are keys.
+    pub(crate) clear: InTheClear,
+}
+
+/// How to ask members again and again.
+#[derive(Debug, Drop)]
+pub(crate) struct Following {
+    /// From the beginning of one round to that of the next.
+    pub(crate) every: Duration,
+    /// How many rounds there are, if not endlessly many.
+    pub(crate) count: Option<u64>,
+    /// The file to which metrics are written after each round, if there is one.
+    pub(crate) metrics: Option<String>,
 }

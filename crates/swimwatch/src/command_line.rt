@@ -1,11 +1,15 @@
 //! The command-line arguments.
 
-use crate::chosen::{Asking, Chosen, Verb};
+use crate::chosen::{Asking, Chosen, Following, Verb};
 use crate::help;
-use crate::moment::moment_of;
+use crate::moment::When;
 use crate::names::name_bytes;
+use crate::suspicion::SUSPICION_MULT;
+use crate::window::Times;
 use clap::{Arg, ArgAction, ArgMatches, Command};
+use jiff::fmt::friendly::parse_unsigned_duration;
 use memberlist_cipher::MAX_LABEL_LEN;
+use memberlist_transport::InTheClear;
 use std::alloc::{AllocError, Global};
 use swim_program::{WordFault, texts_of};
 
@@ -14,6 +18,9 @@ const WAIT: u64 = 30;
 
 /// How many seconds a member may take to answer by default.
 const TIMEOUT: u64 = 5;
+
+/// The shortest period after which members are asked again, in milliseconds.
+const SHORTEST: u128 = 100;
 
 /// Why the arguments are refused.
 #[derive(Debug, Drop)]
@@ -55,16 +62,12 @@ pub(crate) fn chosen(alloc: Global, words: &[String]) -> Result<Chosen, Refusal>
 }
 
 fn chosen_of(alloc: Global, verb: Verb, found: &ArgMatches) -> Result<Chosen, Refusal> {
-    let at = match found.get_str("at") {
-        None => None,
-        Some(word) => match moment_of(word) {
-            Some(moment) => Some(moment),
-            None => return Err(Refusal::Value("--at needs a time like 2026-11-25T02:01:43Z")),
-        },
-    };
     let wait = seconds_of(found.get_str("wait"), WAIT);
     let Some(wait) = wait else {
         return Err(Refusal::Value("--wait needs a number of seconds"));
+    };
+    let Some(mult) = seconds_of(found.get_str("suspicion-mult"), SUSPICION_MULT) else {
+        return Err(Refusal::Value("--suspicion-mult needs a number"));
     };
     let member = match found.get_str("member") {
         None => None,
@@ -75,12 +78,104 @@ fn chosen_of(alloc: Global, verb: Verb, found: &ArgMatches) -> Result<Chosen, Re
         inputs: texts_of(alloc, found, "INPUT")?,
         key_files: texts_of(alloc, found, "key-file")?,
         member,
-        at,
+        times: times_of(alloc, found)?,
+        start: match found.get_str("start") {
+            None => None,
+            Some(word) => Some(String::from_str(alloc, word)?),
+        },
         wait: wait.saturating_mul(1_000_000),
+        ports: ports_of(alloc, found)?,
+        merge: is_set(found, "merge"),
+        mult,
         json: is_set(found, "json"),
         dump: is_set(found, "dump"),
         asking: asking_of(alloc, found)?,
+        following: following_of(alloc, found)?,
     })
+}
+
+/// How to ask members again and again, if `--every` is there.
+fn following_of(alloc: Global, found: &ArgMatches) -> Result<Option<Following>, Refusal> {
+    let count = match found.get_str("count") {
+        None => None,
+        Some(word) => match word.parse::<u64>() {
+            Ok(count) if count > 0 => Some(count),
+            _ => return Err(Refusal::Value("--count needs a number, at least 1")),
+        },
+    };
+    let metrics = match found.get_str("metrics") {
+        None => None,
+        Some(word) => Some(String::from_str(alloc, word)?),
+    };
+    let Some(word) = found.get_str("every") else {
+        return match (count, metrics) {
+            (None, None) => Ok(None),
+            _ => Err(Refusal::Value("--count and --metrics need --every")),
+        };
+    };
+    match parse_unsigned_duration(word.as_bytes()) {
+        Ok(every) if every.as_millis() >= SHORTEST => Ok(Some(Following {
+            every,
+            count,
+            metrics,
+        })),
+        _ => Err(Refusal::Value("--every needs a time like 2s or 500ms, at least 100ms")),
+    }
+}
+
+/// The time that is shown.
+fn times_of(alloc: Global, found: &ArgMatches) -> Result<Times, Refusal> {
+    let at = when_of(
+        alloc,
+        found.get_str("at"),
+        "--at needs a time like 2026-11-25T02:01:43Z, 02:01:43 or 02:01",
+    )?;
+    let from = when_of(
+        alloc,
+        found.get_str("from"),
+        "--from needs a time like 2026-11-25T02:01:43Z, 02:01:43 or 02:01",
+    )?;
+    let to = when_of(
+        alloc,
+        found.get_str("to"),
+        "--to needs a time like 2026-11-25T02:01:43Z, 02:01:43 or 02:01",
+    )?;
+    let span = match found.get_str("for") {
+        None => None,
+        Some(word) => match parse_unsigned_duration(word.as_bytes()) {
+            Ok(span) => Some(u64::try_from(span.as_micros()).unwrap_or(u64::MAX)),
+            Err(_) => return Err(Refusal::Value("--for needs a time like 60s or 5m")),
+        },
+    };
+    let to = at.or(to);
+    Ok(Times { from, to, span })
+}
+
+/// The moment that a word names, if there is a word.
+fn when_of(
+    alloc: Global,
+    word: Option<&str>,
+    refusal: &'static str,
+) -> Result<Option<When>, Refusal> {
+    match word {
+        None => Ok(None),
+        Some(word) => match When::of(alloc, word)? {
+            Some(when) => Ok(Some(when)),
+            None => Err(Refusal::Value(refusal)),
+        },
+    }
+}
+
+/// The ports whose traffic is taken in.
+fn ports_of(alloc: Global, found: &ArgMatches) -> Result<Vec<u16>, Refusal> {
+    let mut ports = Vec::new(alloc);
+    for word in &texts_of(alloc, found, "port")? {
+        match word.parse::<u16>() {
+            Ok(port) => ports.push(port).map_err(AllocError::from)?,
+            Err(_) => return Err(Refusal::Value("--port needs a number from 0 to 65535")),
+        }
+    }
+    Ok(ports)
 }
 
 /// How to ask members.
@@ -94,7 +189,16 @@ fn asking_of(alloc: Global, found: &ArgMatches) -> Result<Asking, Refusal> {
         Some(word) if matches!(word.len(), 1..=MAX_LABEL_LEN) => word.as_bytes().to_vec(alloc)?,
         Some(_) => return Err(Refusal::Value("--label must have 1 to 255 bytes")),
     };
-    Ok(Asking { timeout, label })
+    let clear = if is_set(found, "accept-clear") {
+        InTheClear::Accepted
+    } else {
+        InTheClear::Refused
+    };
+    Ok(Asking {
+        timeout,
+        label,
+        clear,
+    })
 }
 
 /// The seconds that a word says, or the default if there is no word. None if the word is not a
@@ -118,12 +222,22 @@ fn is_set(found: &ArgMatches, id: &str) -> bool {
 #[derive(Clone, Copy)]
 enum Flag {
     At,
+    From,
+    To,
+    For,
+    Start,
     Wait,
+    Mult,
+    Port,
+    Merge,
     Member,
     Timeout,
     Label,
     Json,
     Dump,
+    Every,
+    Count,
+    Metrics,
 }
 
 /// The words that a command reads.
@@ -151,49 +265,106 @@ const PAGES: [Page; 8] = [
         about: "Prints the members as they are at the end of the captures",
         example: help::MEMBERS,
         inputs: Inputs::Captures,
-        flags: &[Flag::Wait, Flag::At, Flag::Json],
+        flags: &[
+            Flag::Wait,
+            Flag::Mult,
+            Flag::At,
+            Flag::From,
+            Flag::To,
+            Flag::For,
+            Flag::Start,
+            Flag::Port,
+            Flag::Label,
+            Flag::Merge,
+            Flag::Json,
+        ],
     },
     Page {
         name: "timeline",
         about: "Prints each change as it is read: when, who said so, and where",
         example: help::TIMELINE,
         inputs: Inputs::Captures,
-        flags: &[Flag::Wait, Flag::Member, Flag::Json],
+        flags: &[
+            Flag::Wait,
+            Flag::Member,
+            Flag::From,
+            Flag::To,
+            Flag::For,
+            Flag::Start,
+            Flag::Port,
+            Flag::Label,
+            Flag::Merge,
+            Flag::Json,
+        ],
     },
     Page {
         name: "claims",
         about: "Prints each claim about a member as it is read",
         example: help::CLAIMS,
         inputs: Inputs::Captures,
-        flags: &[Flag::Wait, Flag::Member, Flag::Json],
+        flags: &[
+            Flag::Wait,
+            Flag::Member,
+            Flag::From,
+            Flag::To,
+            Flag::For,
+            Flag::Port,
+            Flag::Label,
+            Flag::Json,
+        ],
     },
     Page {
         name: "talkers",
         about: "Prints what each sender sent, by kind",
         example: help::TALKERS,
         inputs: Inputs::Captures,
-        flags: &[Flag::Wait, Flag::Json],
+        flags: &[
+            Flag::Wait,
+            Flag::From,
+            Flag::To,
+            Flag::For,
+            Flag::Port,
+            Flag::Label,
+            Flag::Json,
+        ],
     },
     Page {
         name: "dump",
         about: "Writes the table of all claims as one push/pull stream, for swimtab",
         example: help::DUMP,
         inputs: Inputs::Captures,
-        flags: &[Flag::Wait],
+        flags: &[Flag::Wait, Flag::For, Flag::Port, Flag::Label],
     },
     Page {
         name: "chart",
         about: "Draws who was in the cluster, and in what state (SVG)",
         example: help::CHART,
         inputs: Inputs::Captures,
-        flags: &[Flag::Wait, Flag::Member],
+        flags: &[
+            Flag::Wait,
+            Flag::Member,
+            Flag::From,
+            Flag::To,
+            Flag::For,
+            Flag::Start,
+            Flag::Port,
+            Flag::Label,
+        ],
     },
     Page {
         name: "pull",
         about: "Asks live members for their tables, and prints whether they agree",
         example: help::PULL,
         inputs: Inputs::Hosts,
-        flags: &[Flag::Timeout, Flag::Label, Flag::Json, Flag::Dump],
+        flags: &[
+            Flag::Every,
+            Flag::Count,
+            Flag::Metrics,
+            Flag::Timeout,
+            Flag::Label,
+            Flag::Json,
+            Flag::Dump,
+        ],
     },
     Page {
         name: "diff",
@@ -223,7 +394,8 @@ fn page_command<'a>(alloc: Global, page: Page) -> Result<Command<'a>, AllocError
     let mut command = Command::new(alloc, page.name)
         .about(page.about)
         .after_help(page.example)
-        .arg(keys)?;
+        .arg(keys)?
+        .arg(switch(alloc, "accept-clear", help::ACCEPT_CLEAR))?;
     for flag in page.flags {
         command = command.arg(flag_argument(alloc, *flag))?;
     }
@@ -245,13 +417,23 @@ fn input_argument<'a>(alloc: Global, inputs: Inputs) -> Arg<'a> {
 
 fn flag_argument<'a>(alloc: Global, flag: Flag) -> Arg<'a> {
     match flag {
+        Flag::From => option(alloc, "from", "TIME", help::FROM),
+        Flag::To => option(alloc, "to", "TIME", help::TO),
+        Flag::For => option(alloc, "for", "DURATION", help::FOR),
+        Flag::Start => option(alloc, "start", "STREAM", help::START),
         Flag::At => option(alloc, "at", "TIME", help::AT),
         Flag::Wait => option(alloc, "wait", "SECONDS", help::WAIT),
+        Flag::Port => { option(alloc, "port", "PORT", help::PORT).action(ArgAction::Append) }
+        Flag::Merge => switch(alloc, "merge", help::MERGE),
+        Flag::Mult => option(alloc, "suspicion-mult", "NUMBER", help::MULT),
         Flag::Member => option(alloc, "member", "NAME", help::MEMBER),
         Flag::Timeout => option(alloc, "timeout", "SECONDS", help::TIMEOUT),
         Flag::Label => option(alloc, "label", "LABEL", help::LABEL),
         Flag::Json => switch(alloc, "json", help::JSON),
         Flag::Dump => switch(alloc, "dump", help::PULLED_DUMP),
+        Flag::Every => option(alloc, "every", "TIME", help::EVERY),
+        Flag::Count => option(alloc, "count", "NUMBER", help::COUNT),
+        Flag::Metrics => option(alloc, "metrics", "FILE", help::METRICS),
     }
 }
 

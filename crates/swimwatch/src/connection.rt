@@ -1,24 +1,18 @@
 //! A connection to a member, used for one request.
 
-ghost use Rattle.std.specs.Prelude.{◌≡◌, IfOk};
-ghost use Rattle.std.specs.Io.KnownBytes.{Consumes};
+ghost use Rattle.std.specs.Prelude.{◌≡◌, ◌++◌, ◌≤◌, ◌-◌, List, ℕ, length, take, drop, IfOk, OnOk};
+ghost use Rattle.std.specs.Io.KnownBytes.{Appends, Consumes};
 
-use crate::host::Host;
-use std::alloc::{AllocError, Global};
-use std::io::{self, Error, ErrorKind, Read};
-use std::net::{TcpStream, ToSocketAddrs};
-use std::time::{Clock, Duration, Instant};
-use swim_pack::write_whole;
-use swim_program::Until;
+use mio::net::TcpStream;
+use mio::{Interest, Registry, Token};
+use std::alloc::AllocError;
+use std::io::{self, Error, ErrorKind, Read, Write};
 
 /// The most bytes that are read of an answer.
 pub(crate) const MAX_ANSWER_LEN: usize = 33_554_432;
 
 /// How many bytes are requested at once.
 const PIECE: usize = 65_536;
-
-/// How many interrupted reads are retried.
-const RETRIES: u32 = 1000;
 
 /// Why a member's answer was not received to its end.
 #[derive(Debug, Drop)]
@@ -31,6 +25,8 @@ pub(crate) enum NoReply {
     Broken(Error),
     /// The answer is too long.
     TooLong,
+    /// The time was over when this many bytes had been received.
+    Late(usize),
     /// Out of memory for the answer.
     Memory,
 }
@@ -41,102 +37,154 @@ impl From<AllocError> for NoReply {
     }
 }
 
-/// What was received over a connection.
-#[derive(Debug, Drop)]
-pub(crate) struct Reply {
-    pub(crate) bytes: Vec<u8>,
-    /// Whether the time was over before the member closed the connection.
-    pub(crate) is_late: bool,
+/// What a connection waits for.
+#[derive(Clone, Copy, Debug, PartialEq, Eq)]
+pub(crate) enum Step {
+    /// To be established, or to take more of the request.
+    Sends,
+    /// More of the answer.
+    Receives,
+    /// Nothing: the member closed it.
+    Ended,
 }
 
-impl Reply {
-    fn new(bytes: Vec<u8>, is_late: bool) -> Reply
-        ensures { result.bytes ≡ bytes }
-    {
-        Reply { bytes, is_late }
+/// A request to a member, and as much of its answer as was received.
+#[derive(Drop)]
+pub(crate) struct Exchange {
+    stream: TcpStream,
+    is_connected: bool,
+    request: Vec<u8>,
+    sent: usize,
+    received: Vec<u8>,
+}
+
+impl Exchange {
+    /// The exchange over a connection that was begun.
+    pub(crate) fn new(stream: TcpStream, request: Vec<u8>) -> Exchange {
+        let received = Vec::new(*request.allocator());
+        Exchange {
+            stream,
+            is_connected: false,
+            request,
+            sent: 0,
+            received,
+        }
+    }
+
+    /// Whether the member accepted the connection.
+    pub(crate) fn is_connected(&self) -> bool {
+        self.is_connected
+    }
+
+    /// What was received.
+    pub(crate) fn into_received(self) -> Vec<u8> {
+        self.received
+    }
+
+    /// Has the connection reported when it can go on.
+    ///
+    /// # Errors
+    ///
+    /// If the system refuses to.
+    pub(crate) fn watch(&mut self, registry: &Registry, token: Token) -> io::Result<()> {
+        registry.register(&mut self.stream, token, Interest::WRITABLE)
+    }
+
+    /// Goes on by at most one write or one read, and has the connection reported again.
+    ///
+    /// # Errors
+    ///
+    /// See [`NoReply`]; never `NoAddress` or `Late`.
+    pub(crate) fn step(&mut self, registry: &Registry, token: Token) -> Result<Step, NoReply> {
+        let step = self.go_on()?;
+        let interest = match step {
+            Step::Sends => Interest::WRITABLE,
+            Step::Receives => Interest::READABLE,
+            Step::Ended => return Ok(step),
+        };
+        match registry.reregister(&mut self.stream, token, interest) {
+            Ok(()) => Ok(step),
+            Err(error) => Err(NoReply::Broken(error)),
+        }
+    }
+
+    fn go_on(&mut self) -> Result<Step, NoReply> {
+        if !self.is_connected {
+            self.is_connected = is_connected(&self.stream)?;
+        }
+        if !self.is_connected {
+            return Ok(Step::Sends);
+        }
+        if self.sent >= self.request.len() {
+            return receive(&mut self.stream, &mut self.received);
+        }
+        match send(&mut self.stream, &self.request, self.sent) {
+            Ok(sent) => self.sent = sent,
+            Err(error) if is_for_now(&error) => return Ok(Step::Sends),
+            Err(error) => return Err(NoReply::Broken(error)),
+        }
+        if self.sent < self.request.len() {
+            return Ok(Step::Sends);
+        }
+        Ok(Step::Receives)
     }
 }
 
-/// Connects to the host, sends the request, and reads until the other side closes the connection or
-/// the time is over. The system's name lookup is not limited by that time.
+/// Whether a connection that was begun is established.
+fn is_connected(stream: &TcpStream) -> Result<bool, NoReply> {
+    match stream.take_error() {
+        Ok(None) => {}
+        Ok(Some(error)) | Err(error) => return Err(NoReply::NoConnection(error)),
+    }
+    match stream.peer_addr() {
+        Ok(_) => Ok(true),
+        Err(error) if error.kind() == ErrorKind::NotConnected => Ok(false),
+        Err(error) => Err(NoReply::NoConnection(error)),
+    }
+}
+
+/// Whether a read or a write may succeed later.
+fn is_for_now(error: &Error) -> bool {
+    matches!(error.kind(), ErrorKind::WouldBlock | ErrorKind::Interrupted)
+}
+
+/// Writes what the writer takes of the request, after the bytes that were sent. Returns how many
+/// bytes have then been sent.
 ///
 /// # Errors
 ///
-/// See [`NoReply`].
-pub(crate) fn reply_to(
-    rt: &HostRuntime,
-    host: &Host,
-    request: &[u8],
-    timeout: Duration,
-) -> Result<Reply, NoReply> {
-    let end = match end_of(rt, timeout) {
-        Ok(end) => end,
-        Err(error) => return Err(NoReply::NoConnection(error)),
-    };
-    let stream = connect(rt, host, end)?;
-    let mut far = Until::new(&stream, rt, end);
-    if write_whole(&mut far, request).is_err() {
-        return Err(NoReply::Broken(Error::from(ErrorKind::BrokenPipe)));
-    }
-    read_to_end(rt.alloc(), &mut far)
-}
-
-/// When a period that begins now is over.
-fn end_of<C: Clock>(clock: &C, timeout: Duration) -> io::Result<Instant> {
-    match Instant::now(clock)?.checked_add(timeout) {
-        Some(end) => Ok(end),
-        None => Err(Error::from(ErrorKind::InvalidInput)),
-    }
-}
-
-/// A connection to the first address of the host that accepts one.
-fn connect(rt: &HostRuntime, host: &Host, end: Instant) -> Result<TcpStream, NoReply> {
-    let addresses = match (host.name, host.port).to_socket_addrs(rt) {
-        Ok(addresses) => addresses,
-        Err(error) if matches!(error.kind(), ErrorKind::OutOfMemory) => {
-            return Err(NoReply::Memory);
-        }
-        Err(error) => return Err(NoReply::NoAddress(error)),
-    };
-    let mut refusal = NoReply::NoAddress(Error::from(ErrorKind::NotFound));
-    for address in addresses {
-        let left = match Instant::now(rt) {
-            Ok(now) => end.duration_since(now),
-            Err(error) => return Err(NoReply::NoConnection(error)),
-        };
-        if left.is_zero() {
-            return Err(NoReply::NoConnection(Error::from(ErrorKind::TimedOut)));
-        }
-        match TcpStream::connect_timeout(rt, &address, left) {
-            Ok(stream) => return Ok(stream),
-            Err(error) => refusal = NoReply::NoConnection(error),
-        }
-    }
-    Err(refusal)
-}
-
-/// Reads until the end, or until a read takes too long.
-pub(crate) fn read_to_end<R: Read>(alloc: Global, reader: &mut R) -> Result<Reply, NoReply>
-    // If the reader specifies its bytes, these are the next ones.
-    ensures { IfOk result (λ reply.
-        Consumes (R.remaining reader.old) (R.remaining reader.new) reply.bytes.items) }
+/// That of the write.
+fn send<W: Write>(writer: &mut W, request: &[u8], sent: usize) -> io::Result<usize>
+    requires { sent ≤ length request.now }
+    ensures within { IfOk result (λ now. now ≤ length request.now) }
+    // If the writer's bytes are known, it took the next ones of the request.
+    ensures next { IfOk result (λ now. Appends (W.contents writer.old) (W.contents writer.new)
+        (take (now - sent) (drop sent request.now))) }
 {
-    let mut bytes = Vec::new(alloc);
+    let count = writer.write(&request[sent..])?;
+    Ok(sent + count)
+}
+
+/// Reads the next bytes of an answer.
+///
+/// # Errors
+///
+/// `Broken` if the read fails and would fail again, `TooLong` if more bytes than the limit were
+/// received, `Memory` if out of memory for them.
+pub(crate) fn receive<R: Read>(reader: &mut R, received: &mut Vec<u8>) -> Result<Step, NoReply>
+    // If the reader's bytes are known, those received grow by the next ones.
+    ensures { OnOk result ((piece : List ℕ) × (received.new.items ≡ received.old.items ++ piece)
+        × Consumes (R.remaining reader.old) (R.remaining reader.new) piece) }
+{
     let mut piece = [0; PIECE];
-    let mut interruptions = 0;
-    for _turn in 0..u64::MAX {
-        match reader.read(&mut piece) {
-            Ok(0) => return Ok(Reply::new(bytes, false)),
-            Ok(count) => bytes.extend_from_slice(&piece[..count])?,
-            Err(error) => match error.kind() {
-                ErrorKind::WouldBlock | ErrorKind::TimedOut => return Ok(Reply::new(bytes, true)),
-                ErrorKind::Interrupted if interruptions < RETRIES => interruptions += 1,
-                _ => return Err(NoReply::Broken(error)),
-            },
-        }
-        if bytes.len() > MAX_ANSWER_LEN {
-            break;
-        }
+    match reader.read(&mut piece) {
+        Ok(0) => return Ok(Step::Ended),
+        Ok(count) => received.extend_from_slice(&piece[..count])?,
+        Err(error) if is_for_now(&error) => return Ok(Step::Receives),
+        Err(error) => return Err(NoReply::Broken(error)),
     }
-    Err(NoReply::TooLong)
+    if received.len() > MAX_ANSWER_LEN {
+        return Err(NoReply::TooLong);
+    }
+    Ok(Step::Receives)
 }

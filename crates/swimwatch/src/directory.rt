@@ -74,8 +74,8 @@ impl Directory {
 
 /// The endpoint of a member in a view.
 pub(crate) fn place_of(view: &View, name: &MemberName) -> Option<SocketAddr> {
-    let entry = view.get(name)?;
-    endpoint(entry.details.addr(), entry.details.port())
+    let place = view.get(name)?.place()?;
+    endpoint(place.addr(), place.port())
 }
 
 /// A copy of the name.

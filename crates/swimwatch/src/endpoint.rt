@@ -17,3 +17,11 @@ pub(crate) fn endpoint(addr: &[u8], port: u16) -> Option<SocketAddr> {
     }
     None
 }
+
+/// This endpoint, with an IPv4 address in place of sixteen bytes that represent one.
+pub(crate) fn plain(end: SocketAddr) -> SocketAddr {
+    match end.ip() {
+        IpAddr::V6(ip) => endpoint(&ip.octets(), end.port()).unwrap_or(end),
+        IpAddr::V4(_) => end,
+    }
+}

@@ -8,6 +8,26 @@ pub(crate) const CAPTURE: &str = "A pcap or pcapng file; - is standard input";
 pub(crate) const KEY_FILE: &str =
     "A file with keys of the cluster, to decrypt packets; may be given more than once";
 
+pub(crate) const MULT: &str =
+    "memberlist's SuspicionMult, by which a suspicion is overdue (local network 4, wide 6) [default: 4]";
+
+pub(crate) const ACCEPT_CLEAR: &str =
+    "With keys, believe what is not encrypted too, as while a cluster begins to encrypt";
+
+pub(crate) const PORT: &str =
+    "Read only what is sent from or to this port; may be given more than once";
+
+pub(crate) const MERGE: &str = "Make one view of all captures, even if their times overlap";
+
+pub(crate) const FROM: &str =
+    "Show only what was captured from this time on (RFC 3339, or 21:13:50 or 21:13 of that day)";
+
+pub(crate) const TO: &str = "Show only what was captured until this time";
+
+pub(crate) const FOR: &str = "Listen only for this long, as 60s or 5m, from the first record on";
+
+pub(crate) const START: &str = "Begin with the table in this file, as pull --dump writes it";
+
 pub(crate) const WAIT: &str =
     "Seconds after which memberlist forgets a dead member [default: 30, a local network]";
 
@@ -28,6 +48,14 @@ pub(crate) const LABEL: &str = "The label of the cluster, if it has one";
 
 pub(crate) const PULLED_DUMP: &str = "Write the table as one push/pull stream, for swimtab";
 
+pub(crate) const EVERY: &str =
+    "Ask again after this time, as 2s or 500ms, and print what changed, until the program is ended";
+
+pub(crate) const COUNT: &str = "With --every: end after asking this often";
+
+pub(crate) const METRICS: &str =
+    "With --every: write metrics to this file each time, in Prometheus' text format";
+
 pub(crate) const PROGRAM: &str = "\
 A capture is what tcpdump writes: a pcap or pcapng file. Several are read side by side, by the
 times of their records. The last line on standard error says what was read and what was left out.
@@ -38,7 +66,7 @@ Examples:
   tcpdump -U -w - port 7946 | swimwatch timeline -
   swimwatch pull web-1
 
-Exit status: 0 done, 1 members do not agree or something changed, 2 bad usage or help,
+Exit status: 0 done, 1 members differ or are silent, or something changed, 2 bad usage or help,
 3 input refused, 4 device or connection failed, 5 out of memory";
 
 pub(crate) const MEMBERS: &str = "\
@@ -65,12 +93,13 @@ Examples:
   swimtab list cluster.bin";
 
 pub(crate) const PULL: &str = "\
-Asks without joining, so nothing changes in the cluster. For several members it prints the names
-on which they agree, and what each of them says about the others.
+Asks without joining, so nothing changes in the cluster. Of several members it prints what most of
+them report, and below it the names on which they differ and the members that do not answer.
 
 Examples:
   swimwatch pull web-1
   swimwatch pull 10.20.1.11 10.20.1.12 10.20.1.13
+  swimwatch pull --every 2s web-1 web-2
   swimwatch pull --key-file keys --dump web-1 > web-1.bin";
 
 pub(crate) const DIFF: &str = "\

@@ -1,7 +1,7 @@
 //! Which member to ask.
 
 use std::alloc::{AllocError, Global};
-use std::net::IpAddr;
+use std::net::{IpAddr, Ipv6Addr};
 
 /// memberlist's default port.
 const PORT: u16 = 7946;
@@ -15,11 +15,11 @@ pub(crate) struct Host<'a> {
 }
 
 impl<'a> Host<'a> {
-    /// The host that a word names: `web-1`, `10.20.1.11`, `fe80::1`, or one of these followed by a
-    /// colon and a port, with an IPv6 address in brackets: `[fe80::1]:7946`. None if the word does
-    /// not name a host.
+    /// The host that a word names: `web-1`, `10.20.1.11`, `fe80::1%eth0`, or one of these followed
+    /// by a colon and a port, with an IPv6 address in brackets: `[fe80::1%eth0]:7946`. None if the
+    /// word does not name a host.
     pub(crate) fn parse(word: &'a str) -> Option<Host<'a>> {
-        if word.parse::<IpAddr>().is_ok() {
+        if is_address(word) {
             return Some(Host {
                 name: word,
                 port: PORT,
@@ -45,6 +45,15 @@ impl<'a> Host<'a> {
             return format!(in alloc; "[{name}]:{port}");
         }
         format!(in alloc; "{name}:{port}")
+    }
+}
+
+/// Whether a word is an address; one of IPv6 may have the name of an interface behind `%` (RFC
+/// 4007, section 11).
+fn is_address(word: &str) -> bool {
+    match word.split_once('%') {
+        Some((address, zone)) => address.parse::<Ipv6Addr>().is_ok() && !zone.is_empty(),
+        None => word.parse::<IpAddr>().is_ok(),
     }
 }
 

@@ -17,7 +17,22 @@ impl Input {
         if word == "-" {
             return Ok(Input::Stdin(rt.stdin()));
         }
-        Ok(Input::File(File::open(rt, word)?))
+        let file = File::open(rt, word)?;
+        if file.metadata()?.is_dir() {
+            return Err(io::Error::from(io::ErrorKind::IsADirectory));
+        }
+        Ok(Input::File(file))
+    }
+
+    /// Whether opening it again reads the same bytes from the start: it is a file, and no pipe.
+    pub(crate) fn can_open_again(&self) -> bool {
+        match self {
+            Input::Stdin(_) => false,
+            Input::File(file) => match file.metadata() {
+                Ok(data) => data.is_file(),
+                Err(_) => false,
+            },
+        }
     }
 
     /// Whether it is a terminal, which cannot supply a capture.

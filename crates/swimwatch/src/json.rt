@@ -1,9 +1,12 @@
 //! JSON objects, one per line.
 
+use crate::change::Change;
 use crate::claims::kind_word;
 use crate::endpoint::endpoint;
 use crate::listener::Listener;
-use crate::names::write_name;
+use crate::names::{is_mark, write_name};
+use crate::places::Places;
+use crate::roster::Roster;
 use crate::sent::Sent;
 use crate::tags::tags_of;
 use crate::texts::{event_words, moment_text, name_text, state_word};
@@ -12,6 +15,7 @@ use memberlist_view::{Entry, Event, MemberName, State};
 use serde_json::{Map, Value, put};
 use std::alloc::{AllocError, Global};
 use swim_claim::Details;
+use swim_wire::Packet;
 
 /// An object under construction: its members by name.
 #[derive(Drop)]
@@ -63,7 +67,7 @@ impl Object {
     /// Adds who accuses a member, as a list, which is empty if the member is alive or left.
     pub(crate) fn accusers(&mut self, state: &State) -> Result<(), AllocError> {
         match state {
-            State::Alive | State::Left => Ok(()),
+            State::Noted | State::Seen | State::Alive | State::Left => Ok(()),
             State::Dead { by } => self.names("by", std::slice::from_ref(by)),
             State::Suspect { by } => self.names("by", by.names()),
         }
@@ -108,14 +112,65 @@ impl Object {
         put(&mut self.members, self.alloc, key, value)
     }
 
-    /// Adds what another agent with the same name says about itself, if there is a conflict.
-    pub(crate) fn rival(&mut self, entry: &Entry) -> Result<(), AllocError> {
-        let Some(rival) = &entry.rival else {
+    /// Adds the parts of an entry that a view has: the incarnation, and the details or the address
+    /// that packets show.
+    fn entry(&mut self, entry: &Entry) -> Result<(), AllocError> {
+        if !matches!(entry.state, State::Seen) {
+            self.number("incarnation", u64::from(entry.inc))?;
+        }
+        match entry.place() {
+            Some(place) => self.details(place),
+            None => Ok(()),
+        }
+    }
+
+    /// Adds when an address of a name was last heard.
+    fn last_heard(
+        &mut self,
+        places: &Places,
+        name: &[u8],
+        place: &Details,
+    ) -> Result<(), AllocError> {
+        let Some(end) = endpoint(place.addr(), place.port()) else {
+            return Ok(());
+        };
+        match places.last(name, end)? {
+            Some(last) => self.text("last_heard", moment_text(self.alloc, last)?),
+            None => Ok(()),
+        }
+    }
+
+    /// Adds what other agents of the name say about themselves, as a list, if there is a conflict.
+    fn rivals(&mut self, places: &Places, name: &[u8], entry: &Entry) -> Result<(), AllocError> {
+        if entry.rivals.details().is_empty() {
+            return Ok(());
+        }
+        if let Some(place) = entry.place() {
+            self.last_heard(places, name, place)?;
+        }
+        let mut list = Vec::new(self.alloc);
+        for rival in entry.rivals.details() {
+            let mut object = Object::new(self.alloc);
+            object.details(rival)?;
+            object.last_heard(places, name, rival)?;
+            list.push(Value::Object(object.members))?;
+        }
+        put(&mut self.members, self.alloc, "rivals", Value::Array(list))
+    }
+
+    /// Adds what the newest other agent of the name says about itself.
+    fn rival(&mut self, entry: &Entry) -> Result<(), AllocError> {
+        let Some(rival) = entry.rivals.details().last() else {
             return Ok(());
         };
         let mut object = Object::new(self.alloc);
         object.details(rival)?;
         self.object("rival", Some(object))
+    }
+
+    /// Adds a member whose value is true.
+    fn flag(&mut self, key: &str) -> Result<(), AllocError> {
+        put(&mut self.members, self.alloc, key, Value::Bool(true))
     }
 
     /// Adds when something was sent, and between which endpoints: the names of the members, and
@@ -127,31 +182,58 @@ impl Object {
         self.text("from_address", format!(in alloc; "{}", sent.source)?)?;
         self.text("to", listener.end_text(sent.destination)?)?;
         self.text("to_address", format!(in alloc; "{}", sent.destination)?)?;
+        if let Some(view) = &listener.name {
+            self.word("view", view)?;
+        }
         self.word("proto", sent.proto.name())
     }
 
-    /// Adds the object as a line.
+    /// Adds the object as a line. Control characters above ASCII, and marks that hide or turn text,
+    /// are escaped too: they are only in texts.
     pub(crate) fn write(self, text: &mut String) -> Result<(), AllocError> {
-        text.push_str(&Value::Object(self.members).to_string(self.alloc)?)?;
+        let line = Value::Object(self.members).to_string(self.alloc)?;
+        for c in line.chars() {
+            if c.is_control() || is_mark(c) {
+                write_escape(text, c as u32)?;
+            } else {
+                text.push(c)?;
+            }
+        }
         text.push('\n')
     }
+}
+
+/// Adds a character as JSON escapes it: four hexadecimal digits, or twice four for a pair of
+/// surrogates (RFC 8259, section 7).
+fn write_escape(text: &mut String, code: u32) -> Result<(), AllocError> {
+    if code < 0x1_0000 {
+        return write!(text, "\\u{code:04x}");
+    }
+    let above = code.saturating_sub(0x1_0000);
+    let high = 0xd800 | (above >> 10) & 0x3ff;
+    let low = 0xdc00 | above & 0x3ff;
+    write!(text, "\\u{high:04x}\\u{low:04x}")
 }
 
 /// Adds the object for what a view shows about a name.
 pub(crate) fn write_member(
     text: &mut String,
+    places: &Places,
     name: &MemberName,
     entry: &Entry,
+    is_overdue: bool,
 ) -> Result<(), AllocError> {
     let alloc = *text.allocator();
     let mut object = Object::new(alloc);
     object.text("name", name_text(alloc, name)?)?;
     object.word("state", state_word(&entry.state))?;
-    object.number("incarnation", u64::from(entry.inc))?;
+    if is_overdue {
+        object.flag("overdue")?;
+    }
     object.text("since", moment_text(alloc, entry.since)?)?;
     object.accusers(&entry.state)?;
-    object.details(&entry.details)?;
-    object.rival(entry)?;
+    object.entry(entry)?;
+    object.rivals(places, name.name().bytes(), entry)?;
     object.write(text)
 }
 
@@ -160,23 +242,37 @@ pub(crate) fn write_change(
     text: &mut String,
     listener: &Listener,
     sent: &Sent,
-    told: &Told,
-    event: Event,
+    change: &Change,
 ) -> Result<(), AllocError> {
     let alloc = *text.allocator();
-    let Some(entry) = listener.entry_of(told)? else {
+    let Some(entry) = listener.entry_of(change.name)? else {
         return Ok(());
     };
     let mut object = Object::new(alloc);
     object.sent(listener, sent)?;
-    object.escaped("name", told.claim.name().bytes())?;
-    object.word("event", event_words(event))?;
-    object.number("incarnation", u64::from(entry.inc))?;
+    object.escaped("name", change.name)?;
+    object.word("event", event_words(change.event))?;
     object.accusers(&entry.state)?;
-    object.details(&entry.details)?;
-    if event == Event::Conflict {
+    object.entry(entry)?;
+    if change.event == Event::Conflict {
         object.rival(entry)?;
     }
+    object.write(text)
+}
+
+/// Adds the object for a suspicion that only warns the suspect.
+pub(crate) fn write_warned(
+    text: &mut String,
+    listener: &Listener,
+    sent: &Sent,
+    packet: &Packet,
+) -> Result<(), AllocError> {
+    let mut object = Object::new(*text.allocator());
+    object.sent(listener, sent)?;
+    object.escaped("name", packet.claim().name().bytes())?;
+    object.word("event", "warned")?;
+    object.number("incarnation", u64::from(packet.claim().inc()))?;
+    object.escaped("by", packet.from_name())?;
     object.write(text)
 }
 
@@ -200,4 +296,21 @@ pub(crate) fn write_told(
         object.details(details)?;
     }
     object.write(text)
+}
+
+/// Adds an object for each name that a view shows.
+pub(crate) fn write_roster(
+    text: &mut String,
+    view: &str,
+    roster: &Roster,
+) -> Result<(), AllocError> {
+    let alloc = *text.allocator();
+    for (name, known) in roster.iter() {
+        let mut object = Object::new(alloc);
+        object.word("view", view)?;
+        object.text("name", name_text(alloc, name)?)?;
+        known.write(&mut object)?;
+        object.write(text)?;
+    }
+    Ok(())
 }

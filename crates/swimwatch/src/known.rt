@@ -23,7 +23,10 @@ impl Known {
         Ok(Known {
             kind: kind_of(&entry.state),
             inc: entry.inc,
-            details: Some(entry.details.try_clone(alloc)?),
+            details: match entry.place() {
+                Some(place) => Some(place.try_clone(alloc)?),
+                None => None,
+            },
         })
     }
 
@@ -98,7 +101,7 @@ impl Known {
 
 fn kind_of(state: &State) -> Kind {
     match state {
-        State::Alive => Kind::Alive,
+        State::Noted | State::Seen | State::Alive => Kind::Alive,
         State::Suspect { .. } => Kind::Suspect,
         State::Dead { .. } => Kind::Confirm,
         State::Left => Kind::Leave,

@@ -4,27 +4,30 @@
 //! |---|---|
 //! | `chosen`, `command_line`, `help` | the command-line arguments |
 //! | `captures`, `input`, `sources` | reading several captures together, to their ends |
-//! | `sent`, `traffic` | what crossed the network: packets and connections |
-//! | `carriage`, `records`, `parts`, `told` | what these carry, and what it says about members |
-//! | `listener`, `directory`, `absent` | a listener that hears all of it |
-//! | `watch` | listening, and showing what was asked for |
-//! | `members`, `timeline`, `claims`, `talkers` | what is shown |
-//! | `pull`, `ask`, `host`, `connection`, `request`, `answer` | asking members |
+//! | `sent`, `traffic`, `progress`, `waiting`, `recent` | what crossed the network: packets and connections |
+//! | `carriage`, `messages`, `records`, `told` | what these carry, and what it says about members |
+//! | `pings`, `warnings` | who a ping shows, and suspicions that only warn |
+//! | `listener`, `directory`, `places` | a listener that hears all of it |
+//! | `views`, `watch`, `change` | listening, and showing what was asked for |
+//! | `members`, `suspicion`, `timeline`, `claims`, `talkers` | what is shown |
+//! | `pull`, `ask`, `inquiry`, `host`, `ring`, `connection`, `request`, `answer` | asking members |
+//! | `silence` | why a member that was asked has no table |
 //! | `roster`, `known`, `node_state` | what somebody knows about members |
+//! | `follow`, `metrics` | asking members again and again |
 //! | `agreement` | what members answered, and whether they agree |
 //! | `diff`, `side`, `changes` | what changed between two captures, dumps or members |
 //! | `chart`, `svg` | what is drawn |
-//! | `moment`, `names`, `tags`, `endpoint`, `texts`, `columns`, `json` | how it is written |
+//! | `moment`, `window`, `names`, `tags`, `endpoint`, `texts`, `columns`, `json` | how it is written |
 //! | `counts` | what was read, and what was left out and why |
 //! | `said` | ending the program with a message of its own |
 #![tactic(auto)]
 
-mod absent;
 mod agreement;
 mod answer;
 mod ask;
 mod captures;
 mod carriage;
+mod change;
 mod changes;
 mod chart;
 mod chosen;
@@ -36,25 +39,35 @@ mod counts;
 mod diff;
 mod directory;
 mod endpoint;
+mod follow;
 mod help;
 mod host;
 mod input;
+mod inquiry;
 mod json;
 mod known;
 mod listener;
 mod members;
+mod messages;
+mod metrics;
 mod moment;
 mod names;
 mod node_state;
-mod parts;
+mod pings;
+mod places;
+mod progress;
 mod pull;
+mod recent;
 mod records;
 mod request;
+mod ring;
 mod roster;
 mod said;
 mod sent;
 mod side;
+mod silence;
 mod sources;
+mod suspicion;
 mod svg;
 mod tags;
 mod talkers;
@@ -64,7 +77,11 @@ mod texts;
 mod timeline;
 mod told;
 mod traffic;
+mod views;
+mod waiting;
+mod warnings;
 mod watch;
+mod window;
 
 use captures::show_captures;
 use chosen::Verb;

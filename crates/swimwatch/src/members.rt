@@ -1,51 +1,133 @@
 //! The members in a view, one per row.
 
 use crate::columns::{Rows, row_of_words};
+use crate::endpoint::endpoint;
 use crate::json::write_member;
 use crate::listener::Listener;
+use crate::moment::write_moment;
 use crate::names::write_name;
+use crate::places::Places;
+use crate::suspicion::longest;
 use crate::tags::is_bare;
 use crate::texts::{
-    address_text, by_text, meta_text, moment_text, name_text, state_word, write_rivals,
+    address_text, by_text, inc_text, meta_of, meta_text, moment_text, name_text, place_text,
+    state_word,
 };
-use memberlist_view::{Entry, MemberName, View};
+use memberlist_view::{Entry, MemberName, State, View};
 use std::alloc::{AllocError, Global};
+use swim_claim::Details;
 
-/// Adds the members that a listener knows: a header, and a row for each in ascending order of the
-/// names; a line for each conflict; and a line for each name for which only a suspicion, a death or
-/// a leave was heard.
-pub(crate) fn write_members(text: &mut String, listener: &Listener) -> Result<(), AllocError> {
-    write_rows(text, &listener.view)?;
-    for (name, entry) in listener.view.iter() {
-        if entry.rival.is_some() {
-            write_name(text, name.name().bytes())?;
-            text.push_str(" conflict")?;
-            write_rivals(text, entry)?;
-            text.push('\n')?;
+/// What decides which members are shown, and whether a suspicion is overdue.
+#[derive(Clone, Copy)]
+pub(crate) struct Deadline {
+    /// The moment for which the members are shown.
+    pub(crate) now: u64,
+    /// Only members whose state began at this moment or later are shown.
+    pub(crate) from: Option<u64>,
+    /// memberlist's `SuspicionMult`.
+    pub(crate) mult: u64,
+}
+
+impl Deadline {
+    /// Whether a member is shown.
+    fn shows(self, entry: &Entry) -> bool {
+        self.from.is_none_or(|from| from <= entry.since)
+    }
+
+    /// Whether a member was suspected for longer than memberlist suspects one: then its death was
+    /// not heard.
+    pub(crate) fn is_overdue(self, view: &View, entry: &Entry) -> bool {
+        match entry.state {
+            State::Suspect { .. } => {
+                longest(view.len(), self.mult) < self.now.saturating_sub(entry.since)
+            }
+            _ => false,
         }
     }
-    listener.absents.write(text, listener)
+}
+
+/// Adds the members that a listener knows: a header, and a row for each in ascending order of the
+/// names; and a line for each conflict.
+pub(crate) fn write_members(
+    text: &mut String,
+    listener: &Listener,
+    places: &Places,
+    deadline: Deadline,
+) -> Result<(), AllocError> {
+    write_rows(text, &listener.view, deadline)?;
+    for (name, entry) in listener.view.iter() {
+        for rival in entry.rivals.details() {
+            write_conflict(text, places, name, entry, rival)?;
+        }
+    }
+    Ok(())
 }
 
 /// Adds the same as JSON objects, one per line.
 pub(crate) fn write_member_objects(
     text: &mut String,
     listener: &Listener,
+    places: &Places,
+    deadline: Deadline,
 ) -> Result<(), AllocError> {
     for (name, entry) in listener.view.iter() {
-        write_member(text, name, entry)?;
+        if deadline.shows(entry) {
+            let is_overdue = deadline.is_overdue(&listener.view, entry);
+            write_member(text, places, name, entry, is_overdue)?;
+        }
     }
-    listener.absents.write_objects(text, listener)
+    Ok(())
+}
+
+/// Adds a line for another agent of a name: `web-4 conflict at 10.20.1.9:7946, last heard
+/// 2026-11-25T02:01:43.010456Z, and is at 10.20.1.15:7946, last heard 2026-11-25T02:01:39.007123Z`.
+fn write_conflict(
+    text: &mut String,
+    places: &Places,
+    name: &MemberName,
+    entry: &Entry,
+    rival: &Details,
+) -> Result<(), AllocError> {
+    let bytes = name.name().bytes();
+    write_name(text, bytes)?;
+    text.push_str(" conflict at ")?;
+    write_last(text, places, bytes, rival)?;
+    if let Some(place) = entry.place() {
+        text.push_str(", and is at ")?;
+        write_last(text, places, bytes, place)?;
+    }
+    text.push('\n')
+}
+
+/// Adds an address of a name, and when it was last heard.
+fn write_last(
+    text: &mut String,
+    places: &Places,
+    name: &[u8],
+    place: &Details,
+) -> Result<(), AllocError> {
+    text.push_str(&address_text(*text.allocator(), place)?)?;
+    let Some(end) = endpoint(place.addr(), place.port()) else {
+        return Ok(());
+    };
+    if let Some(last) = places.last(name, end)? {
+        text.push_str(", last heard ")?;
+        write_moment(text, last)?;
+    }
+    Ok(())
 }
 
 /// Adds a header, and a row for each name.
-fn write_rows(text: &mut String, view: &View) -> Result<(), AllocError> {
+fn write_rows(text: &mut String, view: &View, deadline: Deadline) -> Result<(), AllocError> {
     let alloc = *text.allocator();
-    let has_tags = view.iter().any(|(_, entry)| !is_bare(entry.details.meta()));
+    let has_tags = view.iter().any(|(_, entry)| !is_bare(meta_of(entry)));
     let mut rows = Rows::new(alloc);
     rows.push(head(alloc, has_tags)?)?;
     for (name, entry) in view.iter() {
-        rows.push(row_of(alloc, name, entry, has_tags)?)?;
+        if deadline.shows(entry) {
+            let is_overdue = deadline.is_overdue(view, entry);
+            rows.push(row_of(alloc, name, entry, is_overdue, has_tags)?)?;
+        }
     }
     rows.write(text)
 }
@@ -62,17 +144,23 @@ fn row_of(
     alloc: Global,
     name: &MemberName,
     entry: &Entry,
+    is_overdue: bool,
     has_tags: bool,
 ) -> Result<Vec<String>, AllocError> {
     let mut row = Vec::new(alloc);
     row.push(name_text(alloc, name)?)?;
-    row.push(address_text(alloc, &entry.details)?)?;
-    row.push(String::from_str(alloc, state_word(&entry.state))?)?;
-    row.push(format!(in alloc; "{}", entry.inc)?)?;
+    row.push(place_text(alloc, entry)?)?;
+    let state = if is_overdue {
+        "overdue"
+    } else {
+        state_word(&entry.state)
+    };
+    row.push(String::from_str(alloc, state)?)?;
+    row.push(inc_text(alloc, entry)?)?;
     row.push(moment_text(alloc, entry.since)?)?;
     row.push(by_text(alloc, name, &entry.state)?)?;
     if has_tags {
-        row.push(meta_text(alloc, entry.details.meta())?)?;
+        row.push(meta_text(alloc, meta_of(entry))?)?;
     }
     Ok(row)
 }

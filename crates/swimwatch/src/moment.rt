@@ -1,7 +1,7 @@
 //! Moments in the format of RFC 3339.
 
 use jiff::Timestamp;
-use std::alloc::AllocError;
+use std::alloc::{AllocError, Global};
 
 /// RFC 3339, in UTC, with six fractional digits of the second.
 const FORMAT: &str = "%Y-%m-%dT%H:%M:%S.%6fZ";
@@ -40,5 +40,45 @@ pub(crate) fn moment_of(text: &str) -> Option<u64> {
     match text.parse::<Timestamp>() {
         Ok(moment) => u64::try_from(moment.as_microsecond()).ok(),
         Err(_) => None,
+    }
+}
+
+/// A moment that a word names: a time in RFC 3339, or a time of the day on which a capture begins.
+#[derive(Clone, Copy, Debug, PartialEq, Eq)]
+pub(crate) enum When {
+    /// Microseconds since the start of 1970.
+    Moment(u64),
+    /// Microseconds since the start of the day.
+    Clock(u64),
+}
+
+/// The microseconds of a day.
+const DAY: u64 = 86_400_000_000;
+
+impl When {
+    /// The moment that a word names: `2026-11-25T21:13:50Z`, `21:13:50` or `21:13`.
+    pub(crate) fn of(alloc: Global, word: &str) -> Result<Option<When>, AllocError> {
+        if let Some(moment) = moment_of(word) {
+            return Ok(Some(When::Moment(moment)));
+        }
+        let seconds = if word.len() == 5 { ":00" } else { "" };
+        let clock = format!(in alloc; "1970-01-01T{word}{seconds}Z")?;
+        Ok(moment_of(&clock).map(|clock| When::Clock(clock)))
+    }
+
+    /// The moment in a capture that begins at this time: a time of the day is on its day, or on the
+    /// next one if it would be more than half a day before the capture.
+    pub(crate) fn in_capture(self, begun: u64) -> u64 {
+        match self {
+            When::Moment(moment) => moment,
+            When::Clock(clock) => {
+                let moment = (begun - begun % DAY).saturating_add(clock);
+                if moment.saturating_add(DAY / 2) < begun {
+                    moment.saturating_add(DAY)
+                } else {
+                    moment
+                }
+            }
+        }
     }
 }

@@ -3,14 +3,76 @@
 use percent_encoding::{AsciiSet, CONTROLS, ascii_set, percent_decode, percent_encode};
 use std::alloc::{AllocError, Global};
 
-/// What a line escapes in a name, in addition to bytes outside ASCII, as in swimtab's listing: all
-/// bytes that are not visible, and the escape sign.
+/// What a line escapes in a name, as in swimtab's listing: all ASCII characters that are not visible,
+/// and the escape sign.
 const ESCAPED: AsciiSet = ascii_set!(CONTROLS.add(b' ').add(b'%'));
 
-/// Adds a name, escaped: bytes 21 to 7e (hexadecimal) other than `%` are kept, and every other byte
-/// is `%XX`.
+/// Adds a name, escaped: printable UTF-8 is kept, and every byte of something else, of a space and
+/// of `%` is `%XX`.
 pub(crate) fn write_name(text: &mut String, name: &[u8]) -> Result<(), AllocError> {
-    percent_encode(name, ESCAPED).append_to(text)
+    write_readable(text, name, ESCAPED)
+}
+
+/// Adds bytes in which all but printable UTF-8 is escaped, and what is in this set.
+pub(crate) fn write_readable(
+    text: &mut String,
+    bytes: &[u8],
+    escaped: AsciiSet,
+) -> Result<(), AllocError> {
+    let mut rest = bytes;
+    for _ in 0..bytes.len() {
+        let len = printable_len(rest);
+        let Some((shown, behind)) = rest.split_at_checked(len.max(1)) else {
+            break;
+        };
+        if len > 0 {
+            text.push_str(&String::from_utf8_lossy(*text.allocator(), shown)?)?;
+        } else {
+            percent_encode(shown, escaped).append_to(text)?;
+        }
+        rest = behind;
+    }
+    Ok(())
+}
+
+/// How many bytes the character at the start has, if it is not ASCII and is printable; otherwise 0.
+fn printable_len(bytes: &[u8]) -> usize {
+    let len = match bytes.first() {
+        Some(0xc2..=0xdf) => 2,
+        Some(0xe0..=0xef) => 3,
+        Some(0xf0..=0xf4) => 4,
+        _ => return 0,
+    };
+    let Some(front) = bytes.get(..len) else {
+        return 0;
+    };
+    match std::str::from_utf8(front) {
+        Ok(text) if text.chars().all(is_printable) => len,
+        _ => 0,
+    }
+}
+
+/// Whether a character outside ASCII shows itself: it is no control character, no space, and no mark
+/// that hides or turns text.
+fn is_printable(c: char) -> bool {
+    !c.is_control() && !c.is_whitespace() && !is_mark(c)
+}
+
+/// Whether a character hides, joins or turns the text around it (Unicode's default ignorable and
+/// bidirectional marks).
+pub(crate) fn is_mark(c: char) -> bool {
+    matches!(
+        c as u32,
+        0xad | 0x61c
+            | 0x180e
+            | 0x200b..=0x200f
+            | 0x2028..=0x202e
+            | 0x2060..=0x206f
+            | 0xfe00..=0xfe0f
+            | 0xfeff
+            | 0xfff0..=0xfffb
+            | 0xe0000..=0xe0fff
+    )
 }
 
 /// The bytes of an escaped name.

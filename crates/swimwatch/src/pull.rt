@@ -4,11 +4,13 @@ ghost use Rattle.std.specs.Prelude.{IfOk};
 ghost use Rattle.swimwatch.specs.Asking.{IsDumpOf};
 
 use crate::NAME;
-use crate::agreement::{write_answer_objects, write_answers};
-use crate::ask::ask;
+use crate::agreement::{status_of, write_asked, write_asked_objects};
+use crate::ask::{ask_all, targets_of};
 use crate::captures::print;
 use crate::chosen::Chosen;
+use crate::follow::follow;
 use crate::records::claims_of_stream;
+use crate::ring::Ring;
 use crate::said::{misused, output_fails};
 use key_files::keyring_of;
 use std::alloc::{AllocError, Global};
@@ -16,13 +18,12 @@ use std::process::ExitCode;
 use swim_program::{Failure, What};
 use swim_table::{EncodeFault, Table, encode};
 
-/// Asks each member that the arguments name, and then shows their answers. The status is 1 if they
-/// do not agree.
+/// Asks the members that the arguments name, and then shows their answers. The status is 1 if they
+/// do not agree or one did not answer, and 4 if none did.
 ///
 /// # Errors
 ///
-/// Those of [`ask`], for the first member without a table. Also if the arguments do not fit
-/// together.
+/// Those of [`ask_all`]. Also if the arguments do not fit together.
 pub(crate) fn pull(rt: &HostRuntime, chosen: &Chosen) -> Result<ExitCode, Failure> {
     let alloc = rt.alloc();
     if chosen.dump && (chosen.json || chosen.inputs.len() != 1) {
@@ -31,24 +32,42 @@ pub(crate) fn pull(rt: &HostRuntime, chosen: &Chosen) -> Result<ExitCode, Failur
             "--dump needs exactly one member, and cannot be used with --json",
         ));
     }
-    let keys = keyring_of(rt, NAME, &chosen.key_files)?;
-    let mut answers = Vec::new(alloc);
-    for word in &chosen.inputs {
-        let answer = ask(rt, &keys, &chosen.asking, word, false)?;
-        answers.push(answer).map_err(AllocError::from)?;
+    if let Some(following) = &chosen.following {
+        if chosen.dump {
+            return Err(misused(alloc, "--dump cannot be used with --every"));
+        }
+        return follow(rt, chosen, following);
     }
-    if let (true, [answer]) = (chosen.dump, answers.as_slice()) {
-        print(rt, &dump_of(alloc, &answer.stream)?)?;
-        return Ok(ExitCode::SUCCESS);
+    let targets = targets_of(alloc, &chosen.inputs)?;
+    let mut ring = Ring::new(keyring_of(rt, NAME, &chosen.key_files)?);
+    let asked = ask_all(rt, &mut ring, &chosen.asking, &targets)?;
+    let is_keyless = ring.keys().is_empty();
+    // all memory is asked for before anything is printed
+    let status = status_of(alloc, &asked)?;
+    let mut messages = Vec::new(alloc);
+    for told in &asked {
+        if let Err(silence) = told {
+            let message = silence.message(alloc, is_keyless, chosen.asking.timeout)?;
+            messages.push(message).map_err(AllocError::from)?;
+        }
     }
-    let mut text = String::new(alloc);
-    let agree = if chosen.json {
-        write_answer_objects(&mut text, &answers)?
+    if chosen.dump {
+        if let [Ok(answer)] = asked.as_slice() {
+            print(rt, &dump_of(alloc, &answer.stream)?)?;
+        }
     } else {
-        write_answers(&mut text, &answers)?
-    };
-    print(rt, text.as_bytes())?;
-    Ok(ExitCode::from(u8::from(!agree)))
+        let mut text = String::new(alloc);
+        if chosen.json {
+            write_asked_objects(&mut text, &asked, is_keyless)?;
+        } else {
+            write_asked(&mut text, &asked, is_keyless)?;
+        }
+        print(rt, text.as_bytes())?;
+    }
+    for message in &messages {
+        let _ = rt.eprintln(message);
+    }
+    Ok(ExitCode::from(status))
 }
 
 /// The canonical dump of the table of a stream's claims.

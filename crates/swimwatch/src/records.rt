@@ -25,15 +25,28 @@ pub(crate) fn claims_of_stream(
     ensures none { IfOk result (λ found. IfNone found ((claims : List Claim)
         → ¬ BeginsWithStream bytes.now claims)) }
 {
-    match read_claims(alloc, bytes) {
-        Ok(claims) => Ok(Some(claims)),
+    match read_records(alloc, bytes) {
+        Ok(records) => Ok(Some(records.claims)),
         Err(WireFault::Memory) => Err(AllocError),
         Err(_) => Ok(None),
     }
 }
 
-fn read_claims(alloc: Global, bytes: &[u8]) -> Result<Vec<Claim>, WireFault>
-    ensures whole { IfOk result (λ claims. BeginsWithStream bytes.now claims.items) }
+/// The records of a push/pull stream.
+#[derive(Drop)]
+pub(crate) struct Records {
+    pub(crate) claims: Vec<Claim>,
+    /// Whether the sender joins the cluster with it (memberlist's `Join`).
+    pub(crate) join: bool,
+}
+
+/// The records of the push/pull stream that these bytes begin with, in order.
+///
+/// # Errors
+///
+/// The fault at which the reading of the stream stops: `Ended` if bytes are missing.
+pub(crate) fn read_records(alloc: Global, bytes: &[u8]) -> Result<Records, WireFault>
+    ensures whole { IfOk result (λ records. BeginsWithStream bytes.now records.claims.items) }
     ensures none { IfErr result (λ fault. fault ≢ WireFault.Memory → (claims : List Claim)
         → ¬ BeginsWithStream bytes.now claims) }
 {
@@ -47,5 +60,8 @@ fn read_claims(alloc: Global, bytes: &[u8]) -> Result<Vec<Claim>, WireFault>
         }
     }
     skip_user(&mut inlet, header.user_len)?;
-    Ok(claims)
+    Ok(Records {
+        claims,
+        join: header.join,
+    })
 }

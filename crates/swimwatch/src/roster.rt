@@ -50,20 +50,11 @@ impl Roster {
         Ok(Some(roster))
     }
 
-    /// What a listener shows: the members in its view, and those for which it heard only a
-    /// suspicion, a death or a leave.
+    /// What a listener shows: the members in its view.
     pub(crate) fn of_listener(alloc: Global, listener: &Listener) -> Result<Roster, AllocError> {
         let mut roster = Roster {
             members: BTreeMap::new(alloc),
         };
-        for (name, absent) in listener.absents.iter() {
-            let known = Known {
-                kind: absent.kind,
-                inc: absent.inc,
-                details: None,
-            };
-            roster.note(copy_of(alloc, name)?, known)?;
-        }
         for (name, entry) in listener.view.iter() {
             let known = Known::of_entry(alloc, entry)?;
             roster.note(copy_of(alloc, name)?, known)?;

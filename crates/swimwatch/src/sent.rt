@@ -31,7 +31,7 @@ pub(crate) struct Sent {
     pub(crate) proto: Proto,
 }
 
-/// Ends a line with the two endpoints: ` (web-2 to web-3, udp)`.
+/// Ends a line with the two endpoints: ` (web-2 to web-3, udp)`, and the view if there are several.
 pub(crate) fn write_ends(
     text: &mut String,
     listener: &Listener,
@@ -39,9 +39,9 @@ pub(crate) fn write_ends(
 ) -> Result<(), AllocError> {
     let source = listener.end_text(sent.source)?;
     let destination = listener.end_text(sent.destination)?;
-    write!(
-        text,
-        " ({source} to {destination}, {})\n",
-        sent.proto.name()
-    )
+    let proto = sent.proto.name();
+    match &listener.name {
+        Some(name) => write!(text, " ({source} to {destination}, {proto}, {name})\n"),
+        None => write!(text, " ({source} to {destination}, {proto})\n"),
+    }
 }

@@ -5,13 +5,15 @@ use crate::input::{Counted, Input};
 use crate::said::said;
 use capture::{CaptureFault, CaptureReader, Link, Record};
 use std::alloc::Global;
+use std::cmp::Reverse;
+use std::collections::BinaryHeap;
+use std::io::ErrorKind;
 use swim_pack::FromRead;
 use swim_program::Failure;
 
 /// A capture that is being read.
 #[derive(Drop)]
-struct Source {
-    word: String,
+struct Reading {
     inlet: Counted<FromRead<Input>>,
     reader: CaptureReader,
     /// The next record.
@@ -20,11 +22,11 @@ struct Source {
     bytes: Vec<u8>,
 }
 
-impl Source {
+impl Reading {
     /// Starts to read the capture that the word names. None if it has no records.
-    fn begin(rt: &HostRuntime, word: &str) -> Result<Option<Source>, Failure> {
+    fn begin(rt: &HostRuntime, word: &str, input: Input) -> Result<Option<Reading>, Failure> {
         let alloc = rt.alloc();
-        let mut inlet = open(rt, word)?;
+        let mut inlet = Counted::new(FromRead::new(input));
         let mut reader = match CaptureReader::begin(alloc, &mut inlet) {
             Ok(reader) => reader,
             Err(CaptureFault::Cut) => return Err(cut_header(alloc, word)),
@@ -37,8 +39,7 @@ impl Source {
         if Link::from_number(record.link).is_none() {
             return Err(unknown_link(alloc, word, record.link));
         }
-        Ok(Some(Source {
-            word: String::from_str(alloc, word)?,
+        Ok(Some(Reading {
             inlet,
             reader,
             record,
@@ -47,8 +48,7 @@ impl Source {
     }
 
     /// Reads the next record, and returns whether there is one.
-    fn read_on(&mut self, rt: &HostRuntime) -> Result<bool, Failure> {
-        let word = self.word.as_str();
+    fn read_on(&mut self, rt: &HostRuntime, word: &str) -> Result<bool, Failure> {
         match next_record(rt, word, &mut self.reader, &mut self.inlet, &mut self.bytes)? {
             Some(record) => {
                 self.record = record;
@@ -57,72 +57,159 @@ impl Source {
             None => Ok(false),
         }
     }
-
-    /// When the next record was captured. A record without a time comes first.
-    fn time(&self) -> u64 {
-        self.record.time.unwrap_or(0)
-    }
 }
 
-/// The captures that have records left. Each has one record in memory.
+/// A capture with records left. A file is open only from its first record's turn to its end, since a
+/// process may have some thousand files open at once. What cannot be opened again stays open.
+#[derive(Drop)]
+struct Source {
+    word: String,
+    reading: Option<Reading>,
+    /// Whether it has no records left.
+    is_done: bool,
+}
+
+/// Whose turn it is: the capture with this index, whose next record was captured at this time. A
+/// record without a time comes first. If two have the same time, the first capture comes first.
+#[derive(Clone, Copy, PartialEq, Eq, PartialOrd, Ord)]
+struct Turn {
+    time: u64,
+    place: usize,
+}
+
+/// The captures that are read together. Each that is open has one record in memory.
 #[derive(Drop)]
 pub(crate) struct Sources {
-    open: Vec<Source>,
+    all: Vec<Source>,
+    turns: BinaryHeap<Reverse<Turn>>,
 }
 
 impl Sources {
     /// Starts to read the captures that these words name.
     pub(crate) fn begin(rt: &HostRuntime, words: &[String]) -> Result<Sources, Failure> {
-        let mut open = Vec::new(rt.alloc());
+        let mut sources = Sources {
+            all: Vec::new(rt.alloc()),
+            turns: BinaryHeap::new(rt.alloc()),
+        };
         for word in words {
-            let Some(source) = Source::begin(rt, word)? else {
-                continue;
-            };
-            if open.push(source).is_err() {
-                return Err(Failure::Memory);
-            }
+            sources.add(rt, word)?;
         }
-        Ok(Sources { open })
+        sources.open_first(rt)?;
+        Ok(sources)
     }
 
-    /// The index of the capture with the earliest record. If two have the same time, it is the
-    /// first.
-    fn earliest(&self) -> Option<usize> {
-        let mut least = None;
-        for (place, source) in self.open.iter().enumerate() {
-            let time = source.time();
-            match least {
-                Some((_, found)) if found <= time => {}
-                _ => least = Some((place, time)),
-            }
+    /// Adds the capture that the word names, if it has records.
+    fn add(&mut self, rt: &HostRuntime, word: &str) -> Result<(), Failure> {
+        let input = open(rt, word)?;
+        let can_open_again = input.can_open_again();
+        let Some(reading) = Reading::begin(rt, word, input)? else {
+            return Ok(());
+        };
+        let time = time_of(&reading);
+        let place = self.all.len();
+        let reading = if can_open_again { None } else { Some(reading) };
+        let word = String::from_str(rt.alloc(), word)?;
+        if self
+            .all
+            .push(Source {
+                word,
+                reading,
+                is_done: false,
+            })
+            .is_err()
+        {
+            return Err(Failure::Memory);
         }
-        let (place, _) = least?;
-        Some(place)
+        self.wait(time, place)
+    }
+
+    /// The capture at this index waits for its turn.
+    fn wait(&mut self, time: u64, place: usize) -> Result<(), Failure> {
+        match self.turns.push(Reverse(Turn { time, place })) {
+            Ok(()) => Ok(()),
+            Err(_) => Err(Failure::Memory),
+        }
+    }
+
+    /// Opens the capture whose turn it is, if it is not open.
+    fn open_first(&mut self, rt: &HostRuntime) -> Result<(), Failure> {
+        let Some(Reverse(turn)) = self.turns.peek() else {
+            return Ok(());
+        };
+        let Some(source) = self.all.get_mut(turn.place) else {
+            return Ok(());
+        };
+        if source.reading.is_none() {
+            let input = open(rt, &source.word)?;
+            source.reading = Reading::begin(rt, &source.word, input)?;
+        }
+        Ok(())
+    }
+
+    /// The index of the capture with the earliest record, if there is one left.
+    pub(crate) fn place(&self) -> Option<usize> {
+        let Reverse(turn) = self.turns.peek()?;
+        Some(turn.place)
+    }
+
+    /// The word that names the capture at this index.
+    pub(crate) fn word(&self, place: usize) -> &str {
+        match self.all.get(place) {
+            Some(source) => &source.word,
+            None => "",
+        }
+    }
+
+    /// Whether the capture at this index has no records left.
+    pub(crate) fn is_done(&self, place: usize) -> bool {
+        match self.all.get(place) {
+            Some(source) => source.is_done,
+            None => true,
+        }
     }
 
     /// The earliest record and its bytes, if there is one left.
     pub(crate) fn record(&self) -> Option<(Record, &[u8])> {
-        let source = self.open.get(self.earliest()?)?;
-        Some((source.record, &source.bytes))
+        let Reverse(turn) = self.turns.peek()?;
+        let reading = self.all.get(turn.place)?.reading.as_ref()?;
+        Some((reading.record, &reading.bytes))
     }
 
     /// Moves on to the record after the earliest one.
     pub(crate) fn read_on(&mut self, rt: &HostRuntime) -> Result<(), Failure> {
-        let Some(place) = self.earliest() else {
+        let Some(Reverse(turn)) = self.turns.pop() else {
             return Ok(());
         };
-        let Some(source) = self.open.get_mut(place) else {
-            return Ok(());
-        };
-        if !source.read_on(rt)? && place < self.open.len() {
-            let _ = self.open.remove(place);
+        if let Some(time) = self.next_time(rt, turn.place)? {
+            self.wait(time, turn.place)?;
         }
-        Ok(())
+        self.open_first(rt)
+    }
+
+    /// Reads the next record of the capture at this index, and returns its time. At its end it is
+    /// closed.
+    fn next_time(&mut self, rt: &HostRuntime, place: usize) -> Result<Option<u64>, Failure> {
+        let Some(source) = self.all.get_mut(place) else {
+            return Ok(None);
+        };
+        if let Some(reading) = &mut source.reading {
+            if reading.read_on(rt, &source.word)? {
+                return Ok(Some(time_of(reading)));
+            }
+        }
+        source.reading = None;
+        source.is_done = true;
+        Ok(None)
     }
 }
 
+/// When the next record was captured.
+fn time_of(reading: &Reading) -> u64 {
+    reading.record.time.unwrap_or(0)
+}
+
 /// Opens what the word names. Prints a note if it is a terminal.
-fn open(rt: &HostRuntime, word: &str) -> Result<Counted<FromRead<Input>>, Failure> {
+fn open(rt: &HostRuntime, word: &str) -> Result<Input, Failure> {
     match Input::open(rt, word) {
         Ok(input) => {
             if input.is_terminal() {
@@ -130,9 +217,13 @@ fn open(rt: &HostRuntime, word: &str) -> Result<Counted<FromRead<Input>>, Failur
                     "{NAME}: reading a capture from the terminal; Ctrl-D ends the input"
                 );
             }
-            Ok(Counted::new(FromRead::new(input)))
+            Ok(input)
         }
-        Err(_) => Err(refused(rt.alloc(), word, 0, CaptureFault::Device)),
+        Err(error) if error.kind() == ErrorKind::OutOfMemory => Err(Failure::Memory),
+        Err(error) => Err(said(
+            format!(in rt.alloc(); "{NAME}: {word}: device fault ({error})"),
+            4,
+        )),
     }
 }
 

@@ -1,6 +1,7 @@
 //! The tags of Serf and Consul in metadata.
 
-use percent_encoding::{AsciiSet, CONTROLS, ascii_set, percent_encode};
+use crate::names::write_readable;
+use percent_encoding::{AsciiSet, CONTROLS, ascii_set};
 use std::alloc::{AllocError, Global};
 use swim_pack::{SliceInlet, raw_at_hand, read_map_len};
 
@@ -24,14 +25,14 @@ pub(crate) struct Tag<'a> {
 impl Tag<'_> {
     /// Adds the tag, escaped, such as `role=web`.
     pub(crate) fn write(&self, text: &mut String) -> Result<(), AllocError> {
-        percent_encode(self.key, ESCAPED).append_to(text)?;
+        write_readable(text, self.key, ESCAPED)?;
         text.push('=')?;
         self.write_value(text)
     }
 
     /// Adds its value, escaped.
     pub(crate) fn write_value(&self, text: &mut String) -> Result<(), AllocError> {
-        percent_encode(self.value, ESCAPED).append_to(text)
+        write_readable(text, self.value, ESCAPED)
     }
 }
 

@@ -6,10 +6,10 @@ use crate::columns::Rows;
 use crate::counts::count;
 use crate::json::Object;
 use crate::listener::Listener;
+use memberlist_message::Message;
 use std::alloc::{AllocError, Global};
 use std::collections::BTreeMap;
 use std::net::SocketAddr;
-use swim_wire::Claimless;
 
 /// A kind of message.
 #[derive(Clone, Copy, Debug, PartialEq, Eq)]
@@ -24,11 +24,13 @@ pub(crate) enum Kind {
     Left,
     User,
     Stream,
+    /// A ping, an ack, a user message or an error over TCP.
+    Message,
     Unread,
 }
 
 /// How many kinds there are.
-const KINDS: usize = 11;
+const KINDS: usize = 12;
 
 /// The column header and the name in JSON of each kind.
 const HEADS: [(&str, &str); KINDS] = [
@@ -42,19 +44,21 @@ const HEADS: [(&str, &str); KINDS] = [
     ("LEFT", "leaves"),
     ("USER", "user_messages"),
     ("STREAM", "streams"),
+    ("TCP", "tcp_messages"),
     ("UNREAD", "unread"),
 ];
 
 impl Kind {
-    /// The kind of a message that makes no claims.
-    pub(crate) fn of_claimless(message: Claimless) -> Kind {
+    /// The kind of a message.
+    pub(crate) fn of_message(message: &Message) -> Kind {
         match message {
-            Claimless::Ping => Kind::Ping,
-            Claimless::IndirectPing => Kind::IndirectPing,
-            Claimless::Ack => Kind::Ack,
-            Claimless::Nack => Kind::Nack,
-            Claimless::User => Kind::User,
-            Claimless::Error => Kind::Unread,
+            Message::Ping(_) => Kind::Ping,
+            Message::IndirectPing(_) => Kind::IndirectPing,
+            Message::Ack(_) => Kind::Ack,
+            Message::Nack(_) => Kind::Nack,
+            Message::User(_) => Kind::User,
+            Message::Error(_) => Kind::Unread,
+            Message::Claim(packet) => Kind::of_claim(packet.claim().kind()),
         }
     }
 
@@ -70,7 +74,7 @@ impl Kind {
 
     /// Its index among the columns.
     fn place(self) -> usize
-        ensures { result < 11 }
+        ensures { result < 12 }
     {
         match self {
             Kind::Ping => 0,
@@ -83,7 +87,8 @@ impl Kind {
             Kind::Left => 7,
             Kind::User => 8,
             Kind::Stream => 9,
-            Kind::Unread => 10,
+            Kind::Message => 10,
+            Kind::Unread => 11,
         }
     }
 }
@@ -105,40 +110,55 @@ impl Tally {
     }
 }
 
+/// The most senders that are counted apart: some 10 MiB of memory.
+const MAX_SENDERS: usize = 65_536;
+
 /// What each sender sent.
 #[derive(Drop)]
 pub(crate) struct Talkers {
+    /// Whether anything is counted.
+    is_asked: bool,
     tallies: BTreeMap<SocketAddr, Tally>,
+    /// What all others sent, after the first 65,536 senders.
+    others: Tally,
 }
 
 impl Talkers {
-    pub(crate) fn new(alloc: Global) -> Talkers {
+    /// Counts what senders send if that is asked for.
+    pub(crate) fn new(alloc: Global, is_asked: bool) -> Talkers {
         Talkers {
+            is_asked,
             tallies: BTreeMap::new(alloc),
+            others: Tally::default(),
         }
     }
 
     /// Counts a message from a sender.
     pub(crate) fn said(&mut self, sender: SocketAddr, kind: Kind) -> Result<(), AllocError> {
-        let mut tally = self.tally(sender);
-        count(&mut tally.counts[kind.place()]);
-        let _ = self.tallies.insert(sender, tally)?;
-        Ok(())
+        let mut one = Tally::default();
+        count(&mut one.counts[kind.place()]);
+        self.add(sender, &one)
     }
 
     /// Counts bytes from a sender.
     pub(crate) fn sent(&mut self, sender: SocketAddr, bytes: usize) -> Result<(), AllocError> {
-        let mut tally = self.tally(sender);
-        tally.bytes = tally.bytes.saturating_add(bytes as u64);
-        let _ = self.tallies.insert(sender, tally)?;
-        Ok(())
+        let mut more = Tally::default();
+        more.bytes = bytes as u64;
+        self.add(sender, &more)
     }
 
-    fn tally(&self, sender: SocketAddr) -> Tally {
-        match self.tallies.get(&sender) {
-            Some(tally) => *tally,
-            None => Tally::default(),
+    fn add(&mut self, sender: SocketAddr, more: &Tally) -> Result<(), AllocError> {
+        if !self.is_asked {
+            return Ok(());
         }
+        if let Some(tally) = self.tallies.get_mut(&sender) {
+            tally.add(more);
+        } else if self.tallies.len() < MAX_SENDERS {
+            let _ = self.tallies.insert(sender, *more)?;
+        } else {
+            self.others.add(more);
+        }
+        Ok(())
     }
 
     /// What each sender sent, by the text that identifies it: the name of a member, with all its
@@ -156,6 +176,9 @@ impl Talkers {
                 sum.add(other);
             }
             let _ = tallies.insert(text, sum)?;
+        }
+        if MAX_SENDERS <= self.tallies.len() {
+            let _ = tallies.insert(String::from_str(alloc, "others")?, self.others)?;
         }
         Ok(tallies)
     }

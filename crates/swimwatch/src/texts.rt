@@ -8,10 +8,14 @@ use memberlist_view::{Entry, Event, MemberName, State};
 use std::alloc::{AllocError, Global};
 use swim_claim::Details;
 
+/// What stands for an address or an incarnation that was not heard.
+pub(crate) const NONE: &str = "-";
+
 /// The word for a state.
 pub(crate) fn state_word(state: &State) -> &'static str {
     match state {
-        State::Alive => "alive",
+        State::Noted => "noted",
+        State::Seen | State::Alive => "alive",
         State::Suspect { .. } => "suspect",
         State::Dead { .. } => "dead",
         State::Left => "left",
@@ -22,6 +26,8 @@ pub(crate) fn state_word(state: &State) -> &'static str {
 pub(crate) fn event_words(event: Event) -> &'static str {
     match event {
         Event::Joined => "joined",
+        Event::Known => "known",
+        Event::Seen => "seen",
         Event::Back => "back",
         Event::Updated => "updated",
         Event::Renewed => "renewed",
@@ -41,12 +47,21 @@ pub(crate) fn name_text(alloc: Global, name: &MemberName) -> Result<String, Allo
     Ok(text)
 }
 
-/// Escaped names, separated by commas.
+/// The most bytes of a list of names before it is cut.
+const MAX_LIST_LEN: usize = 60;
+
+/// Escaped names, separated by commas. A long list is cut, and ends with how many more there are:
+/// `web-1,web-2,+12`.
 pub(crate) fn names_text(alloc: Global, names: &[MemberName]) -> Result<String, AllocError> {
     let mut text = String::new(alloc);
     let mut between = "";
-    for name in names {
+    for (index, name) in names.iter().enumerate() {
         text.push_str(between)?;
+        if MAX_LIST_LEN < text.len() {
+            let more = names.len().saturating_sub(index);
+            write!(text, "+{more}")?;
+            return Ok(text);
+        }
         write_name(&mut text, name.name().bytes())?;
         between = ",";
     }
@@ -75,6 +90,30 @@ pub(crate) fn meta_text(alloc: Global, meta: &[u8]) -> Result<String, AllocError
     Ok(text)
 }
 
+/// The incarnation of what is shown, or `-` if no claim was heard.
+pub(crate) fn inc_text(alloc: Global, entry: &Entry) -> Result<String, AllocError> {
+    match entry.state {
+        State::Seen => String::from_str(alloc, NONE),
+        _ => format!(in alloc; "{}", entry.inc),
+    }
+}
+
+/// Where a member is, or `-` if nobody said it.
+pub(crate) fn place_text(alloc: Global, entry: &Entry) -> Result<String, AllocError> {
+    match entry.place() {
+        Some(place) => address_text(alloc, place),
+        None => String::from_str(alloc, NONE),
+    }
+}
+
+/// The metadata that a member gave, or none.
+pub(crate) fn meta_of(entry: &Entry) -> &[u8] {
+    match &entry.details {
+        Some(details) => details.meta(),
+        None => &[],
+    }
+}
+
 /// Who says that a member is in this state: the member itself, or its accusers.
 pub(crate) fn by_text(
     alloc: Global,
@@ -82,7 +121,7 @@ pub(crate) fn by_text(
     state: &State,
 ) -> Result<String, AllocError> {
     match state {
-        State::Alive | State::Left => name_text(alloc, name),
+        State::Noted | State::Seen | State::Alive | State::Left => name_text(alloc, name),
         State::Dead { by } => name_text(alloc, by),
         State::Suspect { by } => names_text(alloc, by.names()),
     }
@@ -100,14 +139,13 @@ pub(crate) fn write_place_and_meta(text: &mut String, details: &Details) -> Resu
     write!(text, " {meta}")
 }
 
-/// Adds both addresses of a conflict, if there is one: ` at 10.20.1.9:7946, and is at
-/// 10.20.1.15:7946`.
-pub(crate) fn write_rivals(text: &mut String, entry: &Entry) -> Result<(), AllocError> {
+/// Adds both addresses of the newest conflict: ` at 10.20.1.9:7946, and is at 10.20.1.15:7946`.
+pub(crate) fn write_rival(text: &mut String, entry: &Entry) -> Result<(), AllocError> {
     let alloc = *text.allocator();
-    let Some(rival) = &entry.rival else {
+    let Some(rival) = entry.rivals.details().last() else {
         return Ok(());
     };
     let rival = address_text(alloc, rival)?;
-    let address = address_text(alloc, &entry.details)?;
+    let address = place_text(alloc, entry)?;
     write!(text, " at {rival}, and is at {address}")
 }

@@ -1,14 +1,14 @@
 //! What changed in a view, one change per line.
 
+use crate::change::Change;
 use crate::listener::Listener;
 use crate::moment::write_moment;
 use crate::names::write_name;
 use crate::sent::{Sent, write_ends};
-use crate::texts::{event_words, write_place_and_meta, write_rivals};
-use crate::told::Told;
-use memberlist_view::{Entry, Event, MemberName};
+use crate::texts::{event_words, inc_text, place_text, write_place_and_meta, write_rival};
+use memberlist_view::{Entry, Event};
 use std::alloc::AllocError;
-use swim_claim::{Claim, Kind, Name};
+use swim_wire::Packet;
 
 /// Adds the line of an event: the time, the member, the event, the incarnation, who said so or the
 /// address, and between whom it was sent, as in `2026-11-25T02:01:43.010456Z web-5 dead 1 by web-3
@@ -17,37 +17,58 @@ pub(crate) fn write_event(
     text: &mut String,
     listener: &Listener,
     sent: &Sent,
-    told: &Told,
-    event: Event,
+    change: &Change,
 ) -> Result<(), AllocError> {
-    let Some(entry) = listener.entry_of(told)? else {
+    let Some(entry) = listener.entry_of(change.name)? else {
         return Ok(());
     };
+    let inc = inc_text(*text.allocator(), entry)?;
     write_moment(text, sent.time)?;
     text.push(' ')?;
-    write_name(text, told.claim.name().bytes())?;
-    write!(text, " {} {}", event_words(event), entry.inc)?;
-    write_cause(text, told, event, entry)?;
+    write_name(text, change.name)?;
+    write!(text, " {} {inc}", event_words(change.event))?;
+    write_cause(text, change, entry)?;
     write_ends(text, listener, sent)
 }
 
 /// Adds who said so, or the new address and tags.
-fn write_cause(
-    text: &mut String,
-    told: &Told,
-    event: Event,
-    entry: &Entry,
-) -> Result<(), AllocError> {
-    match event {
-        Event::Joined | Event::Back | Event::Updated => write_place_and_meta(text, &entry.details),
-        Event::Conflict => write_rivals(text, entry),
-        Event::Suspected | Event::AlsoSuspected | Event::Dead => {
-            if told.from.is_empty() {
-                return Ok(());
-            }
-            text.push_str(" by ")?;
-            write_name(text, &told.from)
+fn write_cause(text: &mut String, change: &Change, entry: &Entry) -> Result<(), AllocError> {
+    match change.event {
+        Event::Joined | Event::Known | Event::Back | Event::Updated => match &entry.details {
+            Some(details) => write_place_and_meta(text, details),
+            None => Ok(()),
+        },
+        Event::Seen => {
+            let place = place_text(*text.allocator(), entry)?;
+            write!(text, " at {place}")
         }
+        Event::Conflict => write_rival(text, entry),
+        Event::Suspected | Event::AlsoSuspected | Event::Dead => write_accuser(text, change.from),
         Event::Renewed | Event::Refuted | Event::Left => Ok(()),
     }
+}
+
+/// Adds who says so, if somebody is named.
+fn write_accuser(text: &mut String, from: &[u8]) -> Result<(), AllocError> {
+    if from.is_empty() {
+        return Ok(());
+    }
+    text.push_str(" by ")?;
+    write_name(text, from)
+}
+
+/// Adds the line of a warning: `2026-11-25T02:01:39.507123Z web-5 warned 1 by web-2 (web-2 to web-5,
+/// udp)`.
+pub(crate) fn write_warning(
+    text: &mut String,
+    listener: &Listener,
+    sent: &Sent,
+    packet: &Packet,
+) -> Result<(), AllocError> {
+    write_moment(text, sent.time)?;
+    text.push(' ')?;
+    write_name(text, packet.claim().name().bytes())?;
+    write!(text, " warned {}", packet.claim().inc())?;
+    write_accuser(text, packet.from_name())?;
+    write_ends(text, listener, sent)
 }

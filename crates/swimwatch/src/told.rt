@@ -16,31 +16,36 @@ pub(crate) struct Told {
     pub(crate) from: Vec<u8>,
     /// Whether it came in a record of a push/pull stream, rather than a packet.
     pub(crate) is_record: bool,
+    /// Whether a new name joins by it: a packet's always does, a record only if it is the sender's
+    /// own in a stream that joins.
+    pub(crate) joins: bool,
 }
 
 impl Told {
     ghost use Rattle.swimwatch.specs.Told.{told_text, packet_told, record_told, heard_of};
 
     /// What a packet says.
-    pub(crate) fn of_packet(alloc: Global, packet: Packet) -> Result<Told, AllocError>
-        ensures { IfOk result (λ told. told_text told ≡ packet_told packet) }
+    pub(crate) fn of_packet(alloc: Global, packet: &Packet) -> Result<Told, AllocError>
+        ensures { IfOk result (λ told. told_text told ≡ packet_told packet.now) }
     {
         let from = packet.from_name().to_vec(alloc)?;
         Ok(Told {
-            claim: packet.into_claim(),
+            claim: packet.claim().try_clone(alloc)?,
             from,
             is_record: false,
+            joins: true,
         })
     }
 
     /// What a record of a stream says.
-    pub(crate) fn of_record(alloc: Global, claim: Claim) -> Told
-        ensures { told_text result ≡ record_told claim }
+    pub(crate) fn of_record(alloc: Global, claim: Claim, joins: bool) -> Told
+        ensures { told_text result ≡ record_told claim joins }
     {
         Told {
             claim,
             from: Vec::new(alloc),
             is_record: true,
+            joins,
         }
     }
 
@@ -52,7 +57,7 @@ impl Told {
         if self.is_record {
             return Ok(Heard {
                 time,
-                said: Said::of_record(claim),
+                said: Said::of_record(claim, self.joins),
             });
         }
         let from = accuser(alloc, &self.from)?;
@@ -82,6 +87,7 @@ fn said_in_packet(claim: Claim, from: Option<MemberName>) -> Said
             name: MemberName::new(name),
             inc,
             details,
+            joins: true,
         },
         Claim::Suspect { name, inc } => Said::Suspect {
             name: MemberName::new(name),

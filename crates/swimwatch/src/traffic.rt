@@ -1,70 +1,19 @@
 //! What members sent, from the frames of captures.
 
+use crate::chosen::Chosen;
 use crate::counts::{Counts, count};
 use crate::endpoint::endpoint;
+use crate::progress::{Progress, sent_at, told};
+use crate::recent::{Recent, way_of};
 use crate::sent::{Proto, Sent};
+use crate::waiting::{Due, Waiting};
 use crate::watch::Watch;
+use crate::window::Window;
 use capture::{
     Carried, Ends, Flow, Flows, Heard, Link, NotCarried, Record, Segment, Taken, Transport, carried,
 };
 use std::alloc::{AllocError, Global};
 use std::collections::BTreeMap;
-
-/// How far one direction of a connection has been read.
-#[derive(Clone, Copy)]
-struct Progress {
-    /// When the last of its bytes were captured.
-    time: u64,
-    /// Whether it was taken in.
-    is_read: bool,
-    /// How often reading it was tried before its end.
-    tries: u8,
-    /// The sequence number after its furthest known byte.
-    reach: Option<u32>,
-}
-
-impl Progress {
-    /// The progress of a flow of which nothing was read, at this time.
-    fn new(time: u64) -> Progress {
-        Progress {
-            time,
-            is_read: false,
-            tries: 0,
-            reach: None,
-        }
-    }
-
-    /// Notes a segment: where it ends (RFC 9293, 3.4: sequence numbers are compared modulo 2^32),
-    /// and when it brought bytes.
-    fn note(&mut self, time: u64, taken: Option<Taken>, segment: &Segment) {
-        if taken == Some(Taken::Joined) {
-            self.time = time;
-        }
-        if segment.rst {
-            return;
-        }
-        let len = u32::try_from(segment.payload.len()).unwrap_or(u32::MAX);
-        let end = segment
-            .seq
-            .wrapping_add(u32::from(segment.syn))
-            .wrapping_add(len);
-        match self.reach {
-            Some(reach) if 0x8000_0000 <= end.wrapping_sub(reach) => {}
-            _ => self.reach = Some(end),
-        }
-    }
-
-    /// Whether there are known bytes that the flow lacks.
-    fn has_gap(&self, flow: &Flow) -> bool {
-        match self.reach {
-            Some(reach) => flow.bytes().len() < reach.wrapping_sub(flow.start()) as usize,
-            None => false,
-        }
-    }
-}
-
-/// The most tries to read a stream before its end.
-const MAX_TRIES: u8 = 8;
 
 /// The open connections.
 #[derive(Drop)]
@@ -72,22 +21,40 @@ pub(crate) struct Traffic {
     alloc: Global,
     flows: Flows,
     progress: BTreeMap<Ends, Progress>,
+    waiting: Waiting,
+    /// The moment after which records are left out.
+    until: Option<u64>,
+    /// The ports whose traffic is taken in; all if there are none.
+    ports: Vec<u16>,
+    recent: Recent,
 }
 
 impl Traffic {
-    pub(crate) fn new(alloc: Global) -> Traffic {
-        Traffic {
+    pub(crate) fn new(
+        alloc: Global,
+        chosen: &Chosen,
+        window: &Window,
+    ) -> Result<Traffic, AllocError> {
+        Ok(Traffic {
             alloc,
+            until: window.until,
+            ports: chosen.ports.clone()?,
             flows: Flows::new(alloc),
             progress: BTreeMap::new(alloc),
-        }
+            waiting: Waiting::new(alloc),
+            recent: Recent::new(alloc),
+        })
+    }
+
+    /// Whether what was sent between these ports is taken in.
+    fn takes(&self, source: u16, destination: u16) -> bool {
+        self.ports.is_empty() || self.ports.contains(&source) || self.ports.contains(&destination)
     }
 
     /// Takes in a record of a capture and its bytes, if it was not captured after this moment.
     pub(crate) fn record(
         &mut self,
         watch: &mut Watch,
-        until: Option<u64>,
         record: Record,
         bytes: &[u8],
     ) -> Result<(), AllocError> {
@@ -97,7 +64,7 @@ impl Traffic {
             return Ok(());
         };
         let time = nanos / 1000;
-        if until.is_some_and(|until| until < time) {
+        if self.until.is_some_and(|until| until < time) {
             count(&mut watch.counts.later);
             return Ok(());
         }
@@ -117,7 +84,7 @@ impl Traffic {
         bytes: &[u8],
     ) -> Result<(), AllocError> {
         match carried(link, bytes) {
-            Ok(content) => self.content(watch, time, content),
+            Ok(content) => self.content(watch, time, way_of(link, bytes), content),
             Err(cause) => {
                 leave_out(&mut watch.counts, cause);
                 Ok(())
@@ -129,6 +96,7 @@ impl Traffic {
         &mut self,
         watch: &mut Watch,
         time: u64,
+        way: u64,
         content: Carried,
     ) -> Result<(), AllocError> {
         match content.transport {
@@ -138,15 +106,27 @@ impl Traffic {
                 let (Some(source), Some(destination)) = (from, to) else {
                     return Ok(());
                 };
+                if !self.takes(datagram.source, datagram.destination) {
+                    count(&mut watch.counts.other_ports);
+                    return Ok(());
+                }
                 let sent = Sent {
                     time,
                     source,
                     destination,
                     proto: Proto::Udp,
                 };
+                if self.recent.has(&sent, way, datagram.payload)? {
+                    count(&mut watch.counts.twice);
+                    return Ok(());
+                }
                 watch.datagram(sent, datagram.payload)
             }
             Transport::Tcp(segment) => {
+                if !self.takes(segment.source, segment.destination) {
+                    count(&mut watch.counts.other_ports);
+                    return Ok(());
+                }
                 match Ends::of(content.source, content.destination, &segment) {
                     Some(ends) => self.segment(watch, time, ends, &segment),
                     None => Ok(()),
@@ -164,24 +144,58 @@ impl Traffic {
         ends: Ends,
         segment: &Segment,
     ) -> Result<(), AllocError> {
-        let Heard { taken, complete } = self.flows.take(self.alloc, ends, segment)?;
+        self.close_silent(watch, time)?;
+        let Heard {
+            taken: Some(taken),
+            replaced,
+            complete,
+        } = self.flows.take(self.alloc, ends, segment)?
+        else {
+            return Ok(());
+        };
         let mut progress = self.progress_of(&ends, time);
-        // if a SYN completes a flow, it belongs to another one
-        let is_of_it = complete.is_none() || !segment.syn;
-        if is_of_it {
-            progress.note(time, taken, segment);
+        progress.seen = time;
+        if replaced.is_none() && complete.is_none() && self.is_aside(&ends, segment) {
+            progress.syn = time;
+            return self.keep(watch, ends, progress);
         }
+        if let Some(older) = replaced {
+            told(watch, progress, ends, &older)?;
+            progress = progress.of_newer();
+        }
+        progress.note(time, taken, segment);
+        self.go_on(watch, ends, progress, complete, taken, segment.psh)
+    }
+
+    /// Takes in what a flow carried if it is complete, or has a whole stream.
+    fn go_on(
+        &mut self,
+        watch: &mut Watch,
+        ends: Ends,
+        mut progress: Progress,
+        complete: Option<Flow>,
+        taken: Taken,
+        is_pushed: bool,
+    ) -> Result<(), AllocError> {
         if let Some(flow) = complete {
-            let _ = self.progress.remove(&ends);
-            return told(watch, progress, ends, &flow);
+            told(watch, progress, ends, &flow)?;
+            if self.flows.get(&ends).is_none() {
+                self.forget(&ends);
+                return Ok(());
+            }
+            progress = progress.of_newer();
+        } else if taken == Taken::Joined && is_pushed {
+            self.try_reading(watch, &mut progress, ends)?;
         }
-        if taken == Some(Taken::Joined) {
-            self.try_reading(watch, &mut progress, ends, segment.psh)?;
+        self.keep(watch, ends, progress)
+    }
+
+    /// Whether a segment is a SYN that was set aside: it begins another flow than the open one.
+    fn is_aside(&self, ends: &Ends, segment: &Segment) -> bool {
+        match self.flows.get(ends) {
+            Some(flow) => segment.syn && flow.start() != segment.seq.wrapping_add(1),
+            None => false,
         }
-        if taken.is_some() {
-            self.progress.insert(ends, progress)?;
-        }
-        Ok(())
     }
 
     fn progress_of(&self, ends: &Ends, time: u64) -> Progress {
@@ -191,18 +205,81 @@ impl Traffic {
         }
     }
 
+    /// Keeps the progress of a flow. If there are too many, the one with the oldest last segment is
+    /// closed.
+    fn keep(
+        &mut self,
+        watch: &mut Watch,
+        ends: Ends,
+        progress: Progress,
+    ) -> Result<(), AllocError> {
+        if self.progress.insert(ends, progress)?.is_none() {
+            self.waiting.add(ends, progress.queued)?;
+        }
+        for _ in 0..self.waiting.len() {
+            if !self.waiting.is_full() {
+                break;
+            }
+            if self.close_first(watch)? {
+                count(&mut watch.counts.dropped);
+            }
+        }
+        Ok(())
+    }
+
+    /// Closes the flows that have been silent for too long at this time.
+    fn close_silent(&mut self, watch: &mut Watch, time: u64) -> Result<(), AllocError> {
+        for _ in 0..self.waiting.len() {
+            if !self.waiting.is_due(time) {
+                break;
+            }
+            if self.close_first(watch)? {
+                count(&mut watch.counts.silent);
+            }
+        }
+        Ok(())
+    }
+
+    /// Closes the flow that is first in the queue, unless it had a segment since it was put there:
+    /// then it is put there again. Returns whether one was closed that had not been read.
+    fn close_first(&mut self, watch: &mut Watch) -> Result<bool, AllocError> {
+        let Some(Due { since, ends }) = self.waiting.pop() else {
+            return Ok(false);
+        };
+        let mut progress = self.progress_of(&ends, since);
+        if since < progress.seen {
+            progress.queued = progress.seen;
+            self.progress.insert(ends, progress)?;
+            self.waiting.add(ends, progress.queued)?;
+            return Ok(false);
+        }
+        let _ = self.progress.remove(&ends);
+        if let Some(flow) = self.flows.close(&ends) {
+            told(watch, progress, ends, &flow)?;
+        }
+        if let Some(newer) = self.flows.close(&ends) {
+            told(watch, progress.of_newer(), ends, &newer)?;
+        }
+        Ok(!progress.is_read)
+    }
+
+    /// Forgets the progress of a flow that is complete.
+    fn forget(&mut self, ends: &Ends) {
+        if let Some(progress) = self.progress.remove(ends) {
+            self.waiting.remove(*ends, progress.queued);
+        }
+    }
+
     /// Takes in a pushed stream, if it is complete.
     fn try_reading(
         &self,
         watch: &mut Watch,
         progress: &mut Progress,
         ends: Ends,
-        is_pushed: bool,
     ) -> Result<(), AllocError> {
-        if progress.is_read || !is_pushed || progress.tries == MAX_TRIES {
+        if !progress.may_read() {
             return Ok(());
         }
-        progress.tries = progress.tries.saturating_add(1);
         if let Some(flow) = self.flows.get(&ends) {
             progress.is_read = watch.whole_stream(sent_at(progress.time, ends), flow.bytes())?;
         }
@@ -211,39 +288,16 @@ impl Traffic {
 
     /// Takes in the flows that are left at the end of a capture.
     pub(crate) fn finish(&mut self, watch: &mut Watch) -> Result<(), AllocError> {
-        while let Some((ends, flow)) = self.flows.finish() {
+        while let Some((ends, flow, newer)) = self.flows.finish() {
             let progress = self.progress_of(&ends, 0);
             let _ = self.progress.remove(&ends);
             told(watch, progress, ends, &flow)?;
+            if let Some(newer) = newer {
+                told(watch, progress.of_newer(), ends, &newer)?;
+            }
         }
         Ok(())
     }
-}
-
-/// What was sent between these endpoints.
-fn sent_at(time: u64, ends: Ends) -> Sent {
-    Sent {
-        time,
-        source: ends.source,
-        destination: ends.destination,
-        proto: Proto::Tcp,
-    }
-}
-
-/// Takes in what a flow carried, unless it was taken in before.
-fn told(watch: &mut Watch, progress: Progress, ends: Ends, flow: &Flow) -> Result<(), AllocError> {
-    let bytes = flow.bytes();
-    watch.count_bytes(ends.source, bytes.len())?;
-    if progress.is_read {
-        return Ok(());
-    }
-    if !bytes.is_empty() {
-        return watch.stream(sent_at(progress.time, ends), bytes);
-    }
-    if progress.has_gap(flow) {
-        count(&mut watch.counts.gaps);
-    }
-    Ok(())
 }
 
 /// Counts a frame with nothing to read.
@@ -251,6 +305,9 @@ fn leave_out(counts: &mut Counts, cause: NotCarried) {
     match cause {
         NotCarried::NotIp => count(&mut counts.not_ip),
         NotCarried::Fragment => count(&mut counts.fragments),
+        NotCarried::Gre => count(&mut counts.gre),
+        NotCarried::IpInIp => count(&mut counts.ip_in_ip),
+        NotCarried::Mpls => count(&mut counts.mpls),
         NotCarried::OtherProtocol => count(&mut counts.others),
         NotCarried::Cut => count(&mut counts.cut),
         NotCarried::Malformed => count(&mut counts.malformed),

@@ -1,55 +1,98 @@
-//! Listening to packets and streams, and showing what was asked for.
+//! Listening to packets and streams.
+//!
+//! `showing` shows what was asked for.
 
-ghost use Rattle.std.specs.Prelude.{◌≡◌, List, Bool, IfOk, OnOk};
+ghost use Rattle.std.specs.Prelude.{◌≡◌, Bool, IfOk, OnOk, MatchBool};
 ghost use Rattle.std.specs.Option.{is_none};
-ghost use Rattle.swim_wire.specs.Packet.{PacketValue};
 ghost use Rattle.memberlist_view.specs.Told.{view_after};
-ghost use Rattle.swimwatch.specs.Carriage.{IsDatagramOf};
-ghost use Rattle.swimwatch.specs.Told.{told_text, heard_of};
-ghost use Rattle.swimwatch.specs.Views.{after_all, heard_in_packets, heard_in_records, HearsStream};
+ghost use Rattle.swimwatch.specs.Told.{told_text, packet_told, heard_of};
+ghost use Rattle.swimwatch.specs.Views.{is_warning, MaySee, HearsMessage, HearsMessages, HearsRecords, HearsStream};
 
-use crate::carriage::{Carriage, NoStream, carriage_of, stream_claims};
+mod showing;
+
+use crate::carriage::{Carriage, NoStream, carriage_of, stream_records};
+use crate::change::Change;
 use crate::chart::Chart;
 use crate::chosen::{Chosen, Verb};
-use crate::claims::write_claim;
 use crate::counts::{Counts, count};
-use crate::json::{write_change, write_told};
+use crate::endpoint::endpoint;
 use crate::listener::Listener;
-use crate::members::{write_member_objects, write_members};
-use crate::parts::claimless_parts;
-use crate::roster::Roster;
-use crate::sent::Sent;
+use crate::messages::Messages;
+use crate::pings::{Pings, place_at, sender_of};
+use crate::places::Places;
+use crate::records::Records;
+use crate::sent::{Proto, Sent};
 use crate::talkers::{Kind, Talkers, host_of};
-use crate::timeline::write_event;
+use crate::texts::NONE;
 use crate::told::Told;
+use crate::warnings::{Warnings, is_warning};
+use crate::window::Window;
+use memberlist_cipher::split_label;
 use memberlist_keyring::Keyring;
-use memberlist_view::Event;
+use memberlist_message::{Message, Ping};
+use memberlist_transport::InTheClear;
+use memberlist_view::{Heard, MemberName, Said};
 use std::alloc::{AllocError, Global};
+use std::collections::BTreeMap;
 use std::net::SocketAddr;
-use swim_claim::Claim;
-use swim_table::{EncodeFault, Table, encode};
+use swim_claim::{Claim, Details, Name};
+use swim_table::Table;
 use swim_wire::Packet;
+
+/// An event to print.
+#[derive(Drop)]
+pub(crate) struct News {
+    /// What makes it another event than others: its kind, the member, the incarnation, and who said
+    /// so.
+    pub(crate) key: String,
+    /// How often this event came in the view so far.
+    pub(crate) nth: u64,
+    pub(crate) line: String,
+}
 
 /// Listens to what members sent, and shows what was asked for.
 #[derive(Drop)]
-pub(crate) struct Watch {
+pub(crate) struct Watch<'a> {
     alloc: Global,
-    keys: Keyring,
+    keys: &'a Keyring,
+    clear: InTheClear,
     listener: Listener,
+    pings: Pings,
+    warnings: Warnings,
+    places: Places,
     verb: Verb,
     json: bool,
     /// The only name to show, if there is one.
     member: Option<Vec<u8>>,
+    /// The last moment at which something was captured, in microseconds since the start of 1970.
+    now: u64,
+    /// memberlist's `SuspicionMult`.
+    mult: u64,
+    /// The time that is shown.
+    window: Window,
+    /// The label of the only cluster to hear; empty if all are heard.
+    label: Vec<u8>,
     talkers: Talkers,
     chart: Chart,
     table: Table,
     pub(crate) counts: Counts,
-    /// The output that was not printed yet.
+    /// How often each event came.
+    came: BTreeMap<String, u64>,
+    /// The events that were not printed yet.
+    pub(crate) news: Vec<News>,
+    /// The other output that was not printed yet.
     pub(crate) out: String,
 }
 
-impl Watch {
-    pub(crate) fn new(alloc: Global, keys: Keyring, chosen: &Chosen) -> Result<Watch, AllocError> {
+impl<'a> Watch<'a> {
+    /// A view with this name, which lines show if there is one.
+    pub(crate) fn new(
+        alloc: Global,
+        keys: &'a Keyring,
+        chosen: &Chosen,
+        window: Window,
+        name: Option<String>,
+    ) -> Result<Watch<'a>, AllocError> {
         let member = match &chosen.member {
             Some(name) => Some(name.to_vec(alloc)?),
             None => None,
@@ -57,94 +100,263 @@ impl Watch {
         Ok(Watch {
             alloc,
             keys,
-            listener: Listener::new(alloc, chosen.wait),
+            clear: chosen.asking.clear,
+            listener: Listener::new(alloc, chosen.wait, name),
+            pings: Pings::new(alloc),
+            warnings: Warnings::new(alloc),
+            places: Places::new(alloc),
             verb: chosen.verb,
             json: chosen.json,
             member,
-            talkers: Talkers::new(alloc),
+            now: 0,
+            mult: chosen.mult,
+            window,
+            label: chosen.asking.label.to_vec(alloc)?,
+            talkers: Talkers::new(alloc, chosen.verb == Verb::Talkers),
             chart: Chart::new(alloc),
             table: Table::new(alloc),
             counts: Counts::default(),
+            came: BTreeMap::new(alloc),
+            news: Vec::new(alloc),
             out: String::new(alloc),
         })
     }
 
-    /// Whether there is a key.
-    pub(crate) fn has_keys(&self) -> bool {
-        !self.keys.is_empty()
+    /// The name of the view, or an empty one.
+    pub(crate) fn name(&self) -> Result<String, AllocError> {
+        match &self.listener.name {
+            Some(name) => name.clone(),
+            None => Ok(String::new(self.alloc)),
+        }
+    }
+
+    /// Notes that something was captured at this time.
+    fn reach(&mut self, time: u64)
+        ensures listener { self.new.listener ≡ self.old.listener }
+        ensures keys { self.new.keys ≡ self.old.keys }
+        ensures clear { self.new.clear ≡ self.old.clear }
+    {
+        self.now = time.max(self.now);
+        if self.window.shows(time) {
+            self.chart.reach(time);
+        }
     }
 
     /// Takes in what a datagram carried.
-    pub(crate) fn datagram(&mut self, sent: Sent, payload: &[u8]) -> Result<(), AllocError>
-        ensures hears { OnOk result ((packets : List PacketValue)
-            × IsDatagramOf self.old.keys payload.now packets
-            × (self.new.listener.view
-            ≡ after_all self.old.listener.view (heard_in_packets sent.time packets))) }
-        ensures keys { OnOk result (self.new.keys ≡ self.old.keys) }
-    {
+    pub(crate) fn datagram(&mut self, sent: Sent, payload: &[u8]) -> Result<(), AllocError> {
         count(&mut self.counts.datagrams);
-        self.chart.reach(sent.time);
-        self.talkers.sent(sent.source, payload.len())?;
-        match carriage_of(self.alloc, &self.keys, payload)? {
-            Carriage::Claims(packets, message) => {
-                self.count_parts(sent.source, &message)?;
-                if !packets.is_empty() {
-                    count(&mut self.counts.claiming);
-                }
-                self.packets(sent, packets)
+        self.reach(sent.time);
+        if !self.is_ours(payload) {
+            count(&mut self.counts.other_labels);
+            return Ok(());
+        }
+        match carriage_of(self.alloc, self.keys, self.clear, payload)? {
+            Carriage::Read(messages) => {
+                self.count_bytes(sent, payload.len())?;
+                self.messages(sent, messages)
             }
-            Carriage::Claimless(kind) => self.talkers.said(sent.source, Kind::of_claimless(kind)),
             Carriage::Closed => {
                 count(&mut self.counts.closed);
-                self.talkers.said(sent.source, Kind::Unread)
+                self.count_bytes(sent, payload.len())?;
+                self.said(sent, Kind::Unread)
+            }
+            Carriage::Unencrypted => {
+                self.counts.refuse(sent.source.ip());
+                self.count_bytes(sent, payload.len())?;
+                self.said(sent, Kind::Unread)
             }
             Carriage::Foreign => {
                 count(&mut self.counts.foreign);
-                self.talkers.said(sent.source, Kind::Unread)
+                Ok(())
             }
         }
     }
 
-    /// Counts the parts of a compound packet that make no claims.
-    fn count_parts(&mut self, source: SocketAddr, message: &[u8]) -> Result<(), AllocError>
-        ensures view { self.new.listener.view ≡ self.old.listener.view }
-        ensures keys { self.new.keys ≡ self.old.keys }
+    /// Whether a datagram is of the cluster with the label, if one was given.
+    fn is_ours(&self, payload: &[u8]) -> bool {
+        if self.label.is_empty() {
+            return true;
+        }
+        match split_label(payload) {
+            Ok((label, _)) => label == self.label.as_slice(),
+            Err(_) => false,
+        }
+    }
+
+    /// Counts a message of this kind.
+    fn said(&mut self, sent: Sent, kind: Kind) -> Result<(), AllocError>
+        ensures { self.new.listener ≡ self.old.listener }
     {
-        for kind in claimless_parts(self.alloc, message)? {
-            self.talkers.said(source, Kind::of_claimless(kind))?;
+        if !self.is_timely(sent.time) {
+            return Ok(());
+        }
+        self.talkers.said(talker(sent), kind)
+    }
+
+    /// Counts the bytes of a datagram, or of one direction of a connection.
+    pub(crate) fn count_bytes(&mut self, sent: Sent, bytes: usize) -> Result<(), AllocError>
+        ensures { self.new.listener ≡ self.old.listener }
+    {
+        if !self.is_timely(sent.time) {
+            return Ok(());
+        }
+        self.talkers.sent(talker(sent), bytes)
+    }
+
+    /// Hears the messages of a datagram.
+    fn messages(&mut self, sent: Sent, messages: Messages) -> Result<(), AllocError>
+        ensures hears { OnOk result (HearsMessages sent.time messages.read.items
+            messages.read.items self.old.listener.view self.new.listener.view) }
+    {
+        self.counts.unread = self.counts.unread.saturating_add(messages.unread);
+        let read = messages.read;
+        if read
+            .iter()
+            .any(|message| matches!(message, Message::Claim(_)))
+        {
+            count(&mut self.counts.claiming);
+        }
+        for message in &read {
+            self.said(sent, Kind::of_message(message))?;
+            self.message(sent, &read, message)?;
         }
         Ok(())
     }
 
-    /// Hears the packets of a datagram.
-    fn packets(&mut self, sent: Sent, packets: Vec<Packet>) -> Result<(), AllocError>
-        ensures view { OnOk result (self.new.listener.view
-            ≡ after_all self.old.listener.view (heard_in_packets sent.time packets.items)) }
-        ensures keys { OnOk result (self.new.keys ≡ self.old.keys) }
+    /// Hears a message of a datagram with these messages.
+    fn message(&mut self, sent: Sent, all: &[Message], message: &Message) -> Result<(), AllocError>
+        ensures { OnOk result (HearsMessage sent.time all.now message.now self.old.listener.view
+            self.new.listener.view) }
     {
-        for packet in packets {
-            let told = Told::of_packet(self.alloc, packet)?;
-            self.talkers
-                .said(sent.source, Kind::of_claim(told.claim.kind()))?;
-            self.hear(sent, &told)?;
+        match message {
+            Message::Ping(ping) => self.ping(sent, ping),
+            Message::IndirectPing(ping) => {
+                let (name, addr) = (ping.source_node.as_slice(), ping.source_addr.as_slice());
+                self.see_sender(sent, name, addr, ping.source_port)
+            }
+            Message::Ack(ack) => {
+                match self
+                    .pings
+                    .answered(sent.source, sent.destination, ack.seq_no)
+                {
+                    Some(name) => self.see_at(sent, name, sent.source),
+                    None => Ok(()),
+                }
+            }
+            Message::Claim(packet) => self.claim(sent, all, packet),
+            Message::Nack(_) | Message::User(_) | Message::Error(_) => Ok(()),
         }
-        Ok(())
     }
 
-    /// Counts the bytes of one direction of a connection.
-    pub(crate) fn count_bytes(
+    /// Hears a claim of a datagram with these messages, unless it is a warning.
+    fn claim(&mut self, sent: Sent, all: &[Message], packet: &Packet) -> Result<(), AllocError>
+        ensures { OnOk result (MatchBool (is_warning all.now packet.now)
+            (self.new.listener.view ≡ self.old.listener.view)
+            (self.new.listener.view ≡ view_after self.old.listener.view
+            (heard_of sent.time (packet_told packet.now)))) }
+    {
+        if is_warning(all, packet) {
+            self.warn(sent, packet)
+        } else {
+            self.hear_packet(sent, packet)
+        }
+    }
+
+    /// Hears what a packet says, and shows it.
+    fn hear_packet(&mut self, sent: Sent, packet: &Packet) -> Result<(), AllocError>
+        ensures { OnOk result (self.new.listener.view ≡ view_after self.old.listener.view
+            (heard_of sent.time (packet_told packet.now))) }
+    {
+        let told = Told::of_packet(self.alloc, packet)?;
+        self.hear(sent, &told)
+    }
+
+    /// Hears a ping: who sends it is alive, and so is who is asked once it answers.
+    fn ping(&mut self, sent: Sent, ping: &Ping) -> Result<(), AllocError>
+        ensures { OnOk result
+            (MaySee sent.time self.old.listener.view self.new.listener.view) }
+    {
+        self.pings.note(sent.source, sent.destination, ping)?;
+        let (name, addr) = (ping.source_node.as_slice(), ping.source_addr.as_slice());
+        self.see_sender(sent, name, addr, ping.source_port)
+    }
+
+    /// Sees the member that sent a message, if the message names it.
+    fn see_sender(
         &mut self,
-        source: SocketAddr,
-        bytes: usize,
-    ) -> Result<(), AllocError> {
-        self.talkers.sent(host_of(source), bytes)
+        sent: Sent,
+        name: &[u8],
+        addr: &[u8],
+        port: u16,
+    ) -> Result<(), AllocError>
+        ensures { OnOk result
+            (MaySee sent.time self.old.listener.view self.new.listener.view) }
+    {
+        match sender_of(self.alloc, name, addr, port, sent.source)? {
+            Some((name, place)) => self.see(sent, name, place),
+            None => Ok(()),
+        }
+    }
+
+    /// Sees a member at an endpoint.
+    fn see_at(&mut self, sent: Sent, name: MemberName, end: SocketAddr) -> Result<(), AllocError>
+        ensures { OnOk result
+            (MaySee sent.time self.old.listener.view self.new.listener.view) }
+    {
+        match place_at(self.alloc, end) {
+            Some(place) => self.see(sent, name, place),
+            None => Ok(()),
+        }
+    }
+
+    /// Hears that a packet shows a member at this address and port.
+    fn see(&mut self, sent: Sent, name: MemberName, place: Details) -> Result<(), AllocError>
+        ensures { OnOk result (self.new.listener.view ≡ view_after self.old.listener.view
+            (record { time = sent.time; said = Said.Seen name place })) }
+    {
+        let heard = Heard {
+            time: sent.time,
+            said: Said::Seen { name, place },
+        };
+        let Some(event) = self.listener.hear(&heard)? else {
+            return Ok(());
+        };
+        let change = Change {
+            name: heard.said.name().name().bytes(),
+            from: &[],
+            event,
+        };
+        self.show_change(&sent, &change)
+    }
+
+    /// Begins with the records of a table, as the member that it is from shows them: the deaths in it
+    /// are no suspicions. Nobody is named.
+    pub(crate) fn begin_with(&mut self, claims: &[Claim]) -> Result<(), AllocError> {
+        for claim in claims {
+            let said = match claim {
+                Claim::Confirm { name, inc } => Said::Dead {
+                    name: MemberName::new(name.try_clone(self.alloc)?),
+                    inc: *inc,
+                    from: nobody(self.alloc)?,
+                },
+                _ => Said::of_record(claim.try_clone(self.alloc)?, false),
+            };
+            let time = self.window.begun;
+            self.listener.hear(&Heard { time, said })?;
+        }
+        Ok(())
+    }
+
+    /// Whether what was captured at this time is shown.
+    fn is_timely(&self, time: u64) -> bool {
+        self.window.shows(time)
     }
 
     /// Takes in one direction of a connection that may still grow, if it is a whole push/pull
     /// stream, and returns whether it is.
     pub(crate) fn whole_stream(&mut self, sent: Sent, bytes: &[u8]) -> Result<bool, AllocError>
-        ensures hears { IfOk result (λ whole. HearsStream self.old.keys bytes.now sent.time whole
-            self.old.listener.view self.new.listener.view) }
+        ensures hears { IfOk result (λ whole. HearsStream self.old.clear self.old.keys.now bytes.now
+            sent.time whole self.old.listener.view self.new.listener.view) }
     {
         match self.take_stream(sent, bytes)? {
             None => Ok(true),
@@ -154,40 +366,52 @@ impl Watch {
 
     /// Takes in all that one direction of a connection carried.
     pub(crate) fn stream(&mut self, sent: Sent, bytes: &[u8]) -> Result<(), AllocError>
-        ensures hears { OnOk result ((whole : Bool) × HearsStream self.old.keys bytes.now sent.time
-            whole self.old.listener.view self.new.listener.view) }
+        ensures hears { OnOk result ((whole : Bool) × HearsStream self.old.clear self.old.keys.now
+            bytes.now sent.time whole self.old.listener.view self.new.listener.view) }
     {
         let counted = match self.take_stream(sent, bytes)? {
-            None => return Ok(()),
+            None => {
+                self.count_bytes(sent, bytes.len())?;
+                return Ok(());
+            }
             Some(NoStream::Claimless) => {
                 count(&mut self.counts.other_streams);
-                Kind::Stream
+                Kind::Message
             }
             Some(NoStream::Closed) => {
                 count(&mut self.counts.closed);
+                Kind::Unread
+            }
+            Some(NoStream::Unencrypted) => {
+                self.counts.refuse(sent.source.ip());
                 Kind::Unread
             }
             Some(NoStream::Cut) => {
                 count(&mut self.counts.gaps);
                 Kind::Unread
             }
-            Some(NoStream::Foreign | NoStream::Memory) => {
-                count(&mut self.counts.foreign);
+            Some(NoStream::Invalid(fault)) => {
+                self.counts.invalidate(fault);
                 Kind::Unread
             }
+            Some(NoStream::Foreign | NoStream::Memory) => {
+                count(&mut self.counts.foreign);
+                return Ok(());
+            }
         };
-        self.talkers.said(host_of(sent.source), counted)
+        self.count_bytes(sent, bytes.len())?;
+        self.said(sent, counted)
     }
 
     /// Hears the push/pull stream in one direction of a connection, or returns why there is none.
     fn take_stream(&mut self, sent: Sent, bytes: &[u8]) -> Result<Option<NoStream>, AllocError>
-        ensures { IfOk result (λ cause. HearsStream self.old.keys bytes.now sent.time
-            (is_none cause) self.old.listener.view self.new.listener.view) }
+        ensures { IfOk result (λ cause. HearsStream self.old.clear self.old.keys.now bytes.now
+            sent.time (is_none cause) self.old.listener.view self.new.listener.view) }
     {
-        self.chart.reach(sent.time);
-        match stream_claims(self.alloc, &self.keys, bytes) {
-            Ok(claims) => {
-                self.records(sent, claims)?;
+        self.reach(sent.time);
+        match stream_records(self.alloc, self.keys, self.clear, bytes) {
+            Ok(records) => {
+                self.records(sent, records)?;
                 Ok(None)
             }
             Err(NoStream::Memory) => Err(AllocError),
@@ -196,14 +420,20 @@ impl Watch {
     }
 
     /// Hears the records of a push/pull stream.
-    fn records(&mut self, sent: Sent, claims: Vec<Claim>) -> Result<(), AllocError>
-        ensures view { OnOk result (self.new.listener.view
-            ≡ after_all self.old.listener.view (heard_in_records sent.time claims.items)) }
+    fn records(&mut self, sent: Sent, records: Records) -> Result<(), AllocError>
+        ensures view { OnOk result (HearsRecords sent.time records.claims.items
+            self.old.listener.view self.new.listener.view) }
     {
         count(&mut self.counts.streams);
-        self.talkers.said(host_of(sent.source), Kind::Stream)?;
-        for claim in claims {
-            let told = Told::of_record(self.alloc, claim);
+        self.said(sent, Kind::Stream)?;
+        let join = Join {
+            join: records.join,
+            is_only: records.claims.len() == 1,
+            source: sent.source,
+        };
+        for claim in records.claims {
+            let joins = join.has(&claim);
+            let told = Told::of_record(self.alloc, claim, joins);
             self.hear(sent, &told)?;
         }
         Ok(())
@@ -213,91 +443,51 @@ impl Watch {
     fn hear(&mut self, sent: Sent, told: &Told) -> Result<(), AllocError>
         ensures view { OnOk result (self.new.listener.view
             ≡ view_after self.old.listener.view (heard_of sent.time (told_text told.now))) }
-        ensures keys { OnOk result (self.new.keys ≡ self.old.keys) }
     {
-        let event = self.listener.hear(&sent, told)?;
+        let heard = told.heard(self.alloc, sent.time)?;
+        let event = self.listener.hear(&heard)?;
+        self.places.note(&told.claim, sent.time)?;
         self.show(&sent, told, event)
     }
+}
 
-    /// Shows what a message said, or what it changed.
-    fn show(&mut self, sent: &Sent, told: &Told, event: Option<Event>) -> Result<(), AllocError>
-        ensures listener { self.new.listener ≡ self.old.listener }
-        ensures keys { self.new.keys ≡ self.old.keys }
-    {
-        if !self.is_shown(told) {
-            return Ok(());
-        }
-        match (self.verb, event) {
-            (Verb::Timeline, Some(event)) => self.show_event(sent, told, event),
-            (Verb::Claims, _) => self.show_claim(sent, told),
-            (Verb::Dump, _) => self.take_claim(told),
-            (Verb::Chart, Some(event)) => self.chart.take(&self.listener, sent, told, event),
-            _ => Ok(()),
-        }
+/// Whose message this is in a count of talkers: each connection has another port, so a host is it.
+fn talker(sent: Sent) -> SocketAddr {
+    match sent.proto {
+        Proto::Udp => sent.source,
+        Proto::Tcp => host_of(sent.source),
     }
+}
 
-    /// Whether to show what is said about this member.
-    fn is_shown(&self, told: &Told) -> bool {
-        match &self.member {
-            Some(name) => name.as_slice() == told.claim.name().bytes(),
-            None => true,
+/// The name that stands for nobody.
+fn nobody(alloc: Global) -> Result<MemberName, AllocError> {
+    match Name::copied(alloc, NONE.as_bytes())? {
+        Ok(name) => Ok(MemberName::new(name)),
+        Err(_) => Err(AllocError),
+    }
+}
+
+/// A stream that joins, as far as it says.
+#[derive(Clone, Copy)]
+struct Join {
+    join: bool,
+    /// Whether it has one record.
+    is_only: bool,
+    source: SocketAddr,
+}
+
+impl Join {
+    /// Whether a new name joins by this record: it is the one of who opened the connection. The
+    /// answer repeats that the stream joins, but comes from the port that its own record has.
+    fn has(&self, claim: &Claim) -> bool {
+        let (true, Some(details)) = (self.join, claim.details()) else {
+            return false;
+        };
+        match endpoint(details.addr(), details.port()) {
+            Some(end) => {
+                end.port() != self.source.port() && (self.is_only || end.ip() == self.source.ip())
+            }
+            None => false,
         }
-    }
-
-    /// Takes a claim into the table.
-    fn take_claim(&mut self, told: &Told) -> Result<(), AllocError>
-        ensures listener { self.new.listener ≡ self.old.listener }
-        ensures keys { self.new.keys ≡ self.old.keys }
-    {
-        match self.table.take(told.claim.try_clone(self.alloc)?) {
-            Ok(_) => Ok(()),
-            Err((_, error)) => Err(error),
-        }
-    }
-
-    /// Shows a claim.
-    fn show_claim(&mut self, sent: &Sent, told: &Told) -> Result<(), AllocError>
-        ensures listener { self.new.listener ≡ self.old.listener }
-        ensures keys { self.new.keys ≡ self.old.keys }
-    {
-        if self.json {
-            write_told(&mut self.out, &self.listener, sent, told)
-        } else {
-            write_claim(&mut self.out, &self.listener, sent, told)
-        }
-    }
-
-    /// Shows what a message changed about its member.
-    fn show_event(&mut self, sent: &Sent, told: &Told, event: Event) -> Result<(), AllocError>
-        ensures listener { self.new.listener ≡ self.old.listener }
-        ensures keys { self.new.keys ≡ self.old.keys }
-    {
-        if self.json {
-            write_change(&mut self.out, &self.listener, sent, told, event)
-        } else {
-            write_event(&mut self.out, &self.listener, sent, told, event)
-        }
-    }
-
-    /// Shows what is shown only at the end.
-    pub(crate) fn finish(&mut self) -> Result<(), AllocError> {
-        match (self.verb, self.json) {
-            (Verb::Members, false) => write_members(&mut self.out, &self.listener),
-            (Verb::Members, true) => write_member_objects(&mut self.out, &self.listener),
-            (Verb::Talkers, false) => self.talkers.write(&mut self.out, &self.listener),
-            (Verb::Talkers, true) => self.talkers.write_objects(&mut self.out, &self.listener),
-            (Verb::Chart, _) => self.chart.write(&mut self.out),
-            _ => Ok(()),
-        }
-    }
-
-    /// The members, as a listener shows them.
-    pub(crate) fn roster(&self) -> Result<Roster, AllocError> {
-        Roster::of_listener(self.alloc, &self.listener)
-    }
-
-    /// The canonical dump of the table of all claims.
-    pub(crate) fn dump(&self) -> Result<Vec<u8>, EncodeFault> {
-        encode(self.alloc, &self.table, false)
     }
 }

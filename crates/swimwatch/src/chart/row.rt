@@ -1,8 +1,8 @@
 //! What is drawn for a member.
 
+use crate::change::Change;
 use crate::names::write_name;
-use crate::texts::{address_text, state_word, write_rivals};
-use crate::told::Told;
+use crate::texts::{place_text, state_word, write_rival};
 use memberlist_view::{Entry, Event};
 use std::alloc::{AllocError, Global};
 
@@ -55,17 +55,18 @@ impl Row {
     pub(crate) fn take(
         &mut self,
         time: u64,
-        told: &Told,
-        event: Event,
+        change: &Change,
         entry: &Entry,
     ) -> Result<(), AllocError> {
+        let event = change.event;
         match event {
             Event::Joined | Event::Left => self.begin(time, entry),
+            Event::Known | Event::Seen => self.learn(time, entry),
             Event::Suspected | Event::Dead => {
                 self.begin(time, entry)?;
-                self.accuse(&told.from)
+                self.accuse(change.from)
             }
-            Event::AlsoSuspected => self.accuse(&told.from),
+            Event::AlsoSuspected => self.accuse(change.from),
             Event::Back | Event::Refuted => {
                 self.mark(time, event, entry)?;
                 self.begin(time, entry)
@@ -78,6 +79,21 @@ impl Row {
         }
     }
 
+    /// Begins a bar if there is none in this state, and else notes the incarnation and the address
+    /// in the last one.
+    fn learn(&mut self, time: u64, entry: &Entry) -> Result<(), AllocError> {
+        let state = state_word(&entry.state);
+        let place = where_text(self.alloc, entry)?;
+        match self.bars.last_mut() {
+            Some(bar) if bar.state == state => {
+                bar.last_inc = entry.inc;
+                bar.place = place;
+                Ok(())
+            }
+            _ => self.begin(time, entry),
+        }
+    }
+
     /// Begins a bar.
     fn begin(&mut self, time: u64, entry: &Entry) -> Result<(), AllocError> {
         let bar = Bar {
@@ -85,7 +101,7 @@ impl Row {
             since: time,
             first_inc: entry.inc,
             last_inc: entry.inc,
-            place: place_text(self.alloc, entry)?,
+            place: where_text(self.alloc, entry)?,
             by: String::new(self.alloc),
         };
         self.bars.push(bar).map_err(AllocError::from)
@@ -95,7 +111,7 @@ impl Row {
     fn mark(&mut self, time: u64, event: Event, entry: &Entry) -> Result<(), AllocError> {
         let place = match event {
             Event::Conflict => places_text(self.alloc, entry)?,
-            _ => place_text(self.alloc, entry)?,
+            _ => where_text(self.alloc, entry)?,
         };
         let mark = Mark {
             event,
@@ -142,11 +158,11 @@ impl Row {
 
 fn places_text(alloc: Global, entry: &Entry) -> Result<String, AllocError> {
     let mut text = String::new(alloc);
-    write_rivals(&mut text, entry)?;
+    write_rival(&mut text, entry)?;
     Ok(text)
 }
 
-fn place_text(alloc: Global, entry: &Entry) -> Result<String, AllocError> {
-    let address = address_text(alloc, &entry.details)?;
+fn where_text(alloc: Global, entry: &Entry) -> Result<String, AllocError> {
+    let address = place_text(alloc, entry)?;
     format!(in alloc; " at {address}")
 }

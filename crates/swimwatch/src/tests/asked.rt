@@ -1,32 +1,37 @@
 //! Asking members, and their answers.
 
-use crate::agreement::write_answers;
+use crate::agreement::{status_of, write_asked};
 use crate::answer::{NoAnswer, stream_in};
-use crate::ask::Answer;
+use crate::ask::{Answer, Asked, Way};
 use crate::carriage::NoStream;
 use crate::changes::write_changes;
-use crate::connection::read_to_end;
+use crate::connection::{NoReply, Step, receive};
 use crate::host::Host;
 use crate::request::request;
 use crate::roster::Roster;
+use crate::silence::{Cause, Silence};
 use crate::tests::shown::THREE;
 use memberlist_keyring::Keyring;
+use memberlist_transport::InTheClear;
 use std::alloc::{AllocError, Global};
 use std::process::Abort;
 use std::test::Fail;
+use std::time::Duration;
 
 /// Words, and the host and port that each names.
-const HOSTS: [(&str, &str, u16); 6] = [
+const HOSTS: [(&str, &str, u16); 8] = [
     ("web-1", "web-1", 7946),
     ("10.20.1.11", "10.20.1.11", 7946),
     ("web-1:8301", "web-1", 8301),
     ("fe80::1", "fe80::1", 7946),
     ("[fe80::1]", "fe80::1", 7946),
     ("[fe80::1]:8301", "fe80::1", 8301),
+    ("fe80::1%eth0", "fe80::1%eth0", 7946),
+    ("[fe80::1%eth0]:8301", "fe80::1%eth0", 8301),
 ];
 
 /// Words that do not name a host.
-const NO_HOSTS: [&str; 8] = [
+const NO_HOSTS: [&str; 9] = [
     "",
     ":7946",
     "web-1:",
@@ -34,6 +39,7 @@ const NO_HOSTS: [&str; 8] = [
     "web-1:65536",
     "[fe80::1",
     "fe80::g:1",
+    "fe80::1%",
     "[]:7946",
 ];
 
@@ -77,7 +83,7 @@ const ERROR: &str = "0d81a54572726f72a86e6f3a2022782280";
 fn a_member_says_why_it_answers_nothing(rt: HostRuntime) -> Result<(), Fail> {
     let keys = Keyring::new(rt.alloc());
     let answer = hex::decode(rt.alloc(), ERROR)?;
-    match stream_in(rt.alloc(), &keys, &[], answer) {
+    match stream_in(rt.alloc(), &keys, InTheClear::Refused, &[], answer) {
         Err(NoAnswer::Error(words)) => assert_eq!(rt; words.as_str(), "no: %22x%22%80"),
         Err(NoAnswer::NoStream(NoStream::Memory)) => return Err(Fail::from(AllocError)),
         _ => panic!(rt; "an error was sent"),
@@ -93,6 +99,11 @@ fn answer(alloc: Global, host: &str, stream: &str) -> Result<Answer, Fail> {
     };
     Ok(Answer {
         host: String::from_str(alloc, host)?,
+        way: Way {
+            len: stream.len(),
+            took: Duration::from_millis(1),
+            key: 0,
+        },
         stream,
         roster,
     })
@@ -126,10 +137,10 @@ fn answers_are_compared(rt: HostRuntime) -> Result<(), Fail> {
         l2 absent -> alive 127.0.4.2:7946\n\
         l3 dead 127.0.4.3:7946 -> absent\n"
     );
-    let mut answers = Vec::new(rt.alloc());
-    answers.push(first)?;
+    let mut asked = Vec::new(rt.alloc());
+    asked.push(Asked::Ok(first))?;
     let mut text = String::new(rt.alloc());
-    assert!(rt; write_answers(&mut text, &answers)?);
+    write_asked(&mut text, &asked, true)?;
     assert_eq!(rt;
         text.as_str(),
         "\
@@ -137,21 +148,31 @@ fn answers_are_compared(rt: HostRuntime) -> Result<(), Fail> {
         l1    127.0.4.1:7946  alive  1    v=1\n\
         l3    127.0.4.3:7946  dead   2\n"
     );
-    answers.push(second)?;
+    assert!(rt; status_of(rt.alloc(), &asked)? == 0);
+    asked.push(Asked::Ok(second))?;
+    asked.push(Asked::Err(Silence {
+        host: String::from_str(rt.alloc(), "c:7946")?,
+        cause: Cause::NoReply(NoReply::Late(0)),
+    }))?;
     let mut text = String::new(rt.alloc());
-    assert!(rt; !write_answers(&mut text, &answers)?);
+    write_asked(&mut text, &asked, true)?;
     assert_eq!(rt;
         text.as_str(),
         "\
-        2 members agree on 0 of 3 names:\n\
+        NAME  ADDRESS         STATE  INC  AGREE   TAGS\n\
+        l1    127.0.4.1:7946  alive  1    1 of 2  v=1\n\
+        l2    127.0.4.2:7946  alive  1    1 of 2\n\
+        l3    127.0.4.3:7946  dead   2    1 of 2\n\
         NAME  MEMBER  STATE   INC  ADDRESS         TAGS\n\
         l1    a:7946  alive   1    127.0.4.1:7946  v=1\n\
         l1    b:7946  alive   3    127.0.4.9:7946  v=2\n\
         l2    a:7946  absent\n\
         l2    b:7946  alive   1    127.0.4.2:7946\n\
         l3    a:7946  dead    2    127.0.4.3:7946\n\
-        l3    b:7946  absent\n"
+        l3    b:7946  absent\n\
+        c:7946 no answer (timed out)\n"
     );
+    assert!(rt; status_of(rt.alloc(), &asked)? == 1);
     Ok(())
 }
 
@@ -159,12 +180,13 @@ fn answers_are_compared(rt: HostRuntime) -> Result<(), Fail> {
 fn a_real_stream_is_read_to_its_end(rt: HostRuntime) -> Result<(), Fail> {
     let stream = hex::decode(rt.alloc(), THREE)?;
     let mut reader: &[u8] = &stream;
-    match read_to_end(rt.alloc(), &mut reader) {
-        Ok(reply) => {
-            assert!(rt; !reply.is_late);
-            assert!(rt; reply.bytes.as_slice() == stream.as_slice());
+    let mut received = Vec::new(rt.alloc());
+    for wanted in [Step::Receives, Step::Ended] {
+        match receive(&mut reader, &mut received) {
+            Ok(step) => assert!(rt; step == wanted),
+            Err(_) => return Err(Fail::from(AllocError)),
         }
-        Err(_) => return Err(Fail::from(AllocError)),
     }
+    assert!(rt; received.as_slice() == stream.as_slice());
     Ok(())
 }

@@ -2,8 +2,11 @@
 
 use crate::chosen::{Asking, Chosen, Verb};
 use crate::sent::{Proto, Sent};
+use crate::suspicion::SUSPICION_MULT;
 use crate::watch::Watch;
+use crate::window::{Times, Window};
 use memberlist_keyring::Keyring;
+use memberlist_transport::InTheClear;
 use serde_json::Value;
 use std::alloc::{AllocError, Global};
 use std::net::{IpAddr, SocketAddr};
@@ -25,22 +28,33 @@ pub(crate) const THREE: &str = "\
 6500a356736ea601050200000087a441646472a47f000402ab496e6361726e6174696f6e01a44d657461c0a44e616d65\
 a26c32a4506f7274cdb2a1a5537461746500a356736ea6010502000000";
 
-fn watch(alloc: Global, verb: Verb, json: bool) -> Result<Watch, AllocError> {
+fn watch<'a>(
+    alloc: Global,
+    keys: &'a Keyring,
+    verb: Verb,
+    json: bool,
+) -> Result<Watch<'a>, AllocError> {
     let chosen = Chosen {
         verb,
         inputs: Vec::new(alloc),
         key_files: Vec::new(alloc),
         member: None,
-        at: None,
+        times: Times::default(),
+        start: None,
         wait: 30_000_000,
+        ports: Vec::new(alloc),
+        merge: false,
+        mult: SUSPICION_MULT,
         json,
         dump: false,
         asking: Asking {
             timeout: 5,
             label: Vec::new(alloc),
+            clear: InTheClear::Refused,
         },
+        following: None,
     };
-    Watch::new(alloc, Keyring::new(alloc), &chosen)
+    Watch::new(alloc, keys, &chosen, Window::of(&chosen.times, 0), None)
 }
 
 /// Something sent at this second.
@@ -55,14 +69,19 @@ fn sent(second: u64, proto: Proto) -> Sent {
 
 /// What is shown after the packets were heard, one per second.
 fn after_packets(alloc: Global, verb: Verb, json: bool) -> Result<String, Fail> {
-    let mut watch = watch(alloc, verb, json)?;
+    let keys = Keyring::new(alloc);
+    let mut watch = watch(alloc, &keys, verb, json)?;
     let mut second = 0u64;
     for packet in PACKETS {
         second = second.saturating_add(1);
         watch.datagram(sent(second, Proto::Udp), &hex::decode(alloc, packet)?)?;
     }
     watch.finish()?;
-    Ok(watch.out)
+    let mut shown = String::from_str(alloc, &watch.out)?;
+    for news in &watch.news {
+        shown.push_str(&news.line)?;
+    }
+    Ok(shown)
 }
 
 /// Asserts that this is shown.
@@ -111,7 +130,8 @@ fn what_is_heard_is_shown_as_objects(rt: HostRuntime) -> Result<(), Fail> {
 #[test]
 fn a_stream_is_heard_when_it_is_whole(rt: HostRuntime) -> Result<(), Fail> {
     let stream = hex::decode(rt.alloc(), THREE)?;
-    let mut watch = watch(rt.alloc(), Verb::Members, false)?;
+    let keys = Keyring::new(rt.alloc());
+    let mut watch = watch(rt.alloc(), &keys, Verb::Members, false)?;
     if let Some((_, cut)) = stream.split_last() {
         assert!(rt; !watch.whole_stream(sent(1, Proto::Tcp), cut)?);
     }
@@ -135,7 +155,8 @@ fn a_stream_that_promises_much_asks_for_little(rt: HostRuntime) -> Result<(), Fa
         rt.alloc(),
         "0683a44a6f696ec2a54e6f646573ce00020000ac5573657253746174654c656ece01400000",
     );
-    let mut watch = watch(rt.alloc(), Verb::Members, false)?;
+    let keys = Keyring::new(rt.alloc());
+    let mut watch = watch(rt.alloc(), &keys, Verb::Members, false)?;
     if let Ok(stream) = stream {
         assert!(rt; !watch.whole_stream(sent(1, Proto::Tcp), &stream)?);
     }

@@ -84,7 +84,7 @@ const REFUSED: [(&[&str], &str); 6] = [
     (&[], "no command given; --help lists the commands"),
     (
         &["members", "--at", "noon", "x"],
-        "--at needs a time like 2026-11-25T02:01:43Z",
+        "--at needs a time like 2026-11-25T02:01:43Z, 02:01:43 or 02:01",
     ),
     (
         &["members", "--wait", "-1", "x"],

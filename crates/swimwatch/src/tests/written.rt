@@ -52,7 +52,8 @@ fn names_are_written_with_escapes_and_read_back(rt: HostRuntime) -> Result<(), F
     for (name, text) in [
         ("web-1", "web-1"),
         ("a %\n", "a%20%25%0A"),
-        ("\u{e9}", "%C3%A9"),
+        ("\u{e9}", "\u{e9}"),
+        ("\u{85}\u{202e}", "%C2%85%E2%80%AE"),
     ] {
         let mut found = String::new(rt.alloc());
         write_name(&mut found, name.as_bytes())?;

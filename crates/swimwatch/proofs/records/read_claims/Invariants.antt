@@ -1,9 +1,0 @@
-use Rattle.std.proofs.Common.{◌≡◌, length}
-use Rattle.swimwatch.proofs.Prefixes.{ReadSome}
-use Rattle.swimwatch.proofs.records.read_claims.Given as goal
-
-abbrev pub invariant-loop-count : goal.invariant-loop-count
-invariant-loop-count l = record {
-  some : ReadSome l.bytes l.inlet l.header l.claims.items;
-  count : length l.claims.items ≡ l._count;
-}

@@ -1,0 +1,281 @@
+//! What each capture shows: a view of its own, or one of all.
+
+use crate::agreement::{Voice, differing, opinions_in, write_views};
+use crate::chosen::{Chosen, Verb};
+use crate::counts::Counts;
+use crate::json::write_roster;
+use crate::names::write_name;
+use crate::traffic::Traffic;
+use crate::watch::Watch;
+use crate::window::Window;
+use capture::Record;
+use memberlist_keyring::Keyring;
+use std::alloc::{AllocError, Global};
+use std::collections::BTreeMap;
+use swim_claim::Claim;
+
+/// A view, and the captures that it hears.
+#[derive(Drop)]
+struct Seat<'a> {
+    watch: Watch<'a>,
+    traffic: Traffic,
+    /// How many of its captures have records left.
+    open: usize,
+    /// The file of its newest capture.
+    word: String,
+}
+
+/// The views of several captures. Captures whose times overlap were taken at different places, and
+/// each is a view of its own. A capture that begins after another one ended goes on with its view,
+/// as the files do that `tcpdump -G` writes.
+#[derive(Drop)]
+pub(crate) struct Views<'a> {
+    alloc: Global,
+    keys: &'a Keyring,
+    chosen: &'a Chosen,
+    seats: Vec<Seat<'a>>,
+    /// The index of the view of each capture whose records came.
+    seat_of: BTreeMap<usize, usize>,
+    /// The time that is shown, once a record came.
+    window: Option<Window>,
+    /// The records of the table to begin with.
+    start: Vec<Claim>,
+    /// How often each event was printed.
+    printed: BTreeMap<String, u64>,
+    /// The output that was not printed yet.
+    pub(crate) out: String,
+}
+
+impl<'a> Views<'a> {
+    /// Views that begin with the records of a table.
+    pub(crate) fn new(
+        alloc: Global,
+        keys: &'a Keyring,
+        chosen: &'a Chosen,
+        start: Vec<Claim>,
+    ) -> Views<'a> {
+        Views {
+            alloc,
+            keys,
+            chosen,
+            seats: Vec::new(alloc),
+            seat_of: BTreeMap::new(alloc),
+            window: None,
+            start,
+            printed: BTreeMap::new(alloc),
+            out: String::new(alloc),
+        }
+    }
+
+    /// Whether all captures are one view.
+    fn is_merged(&self) -> bool {
+        self.chosen.merge || !matches!(self.chosen.verb, Verb::Members | Verb::Timeline)
+    }
+
+    /// Takes in a record of the capture at this index, which this word names.
+    pub(crate) fn record(
+        &mut self,
+        place: usize,
+        word: &str,
+        record: Record,
+        bytes: &[u8],
+    ) -> Result<(), AllocError> {
+        if self.window.is_none() {
+            let begun = record.time.unwrap_or(0) / 1000;
+            self.window = Some(Window::of(&self.chosen.times, begun));
+        }
+        let seat = self.seat(place, word)?;
+        let Some(seat) = self.seats.get_mut(seat) else {
+            return Ok(());
+        };
+        seat.traffic.record(&mut seat.watch, record, bytes)?;
+        self.collect()
+    }
+
+    /// Whether listening is over, so that this record and those after it are left out.
+    pub(crate) fn is_over(&self, record: &Record) -> bool {
+        match (self.window, record.time) {
+            (Some(window), Some(nanos)) => window.is_over(nanos / 1000),
+            _ => false,
+        }
+    }
+
+    /// The index of the view of the capture at this index.
+    fn seat(&mut self, place: usize, word: &str) -> Result<usize, AllocError> {
+        if let Some(seat) = self.seat_of.get(&place) {
+            return Ok(*seat);
+        }
+        let seat = match self.free_seat(word) {
+            Some(seat) => seat,
+            None => self.new_seat(word)?,
+        };
+        self.seat_of.insert(place, seat)?;
+        if let Some(seat) = self.seats.get_mut(seat) {
+            seat.open = seat.open.saturating_add(1);
+            seat.word = String::from_str(self.alloc, word)?;
+        }
+        Ok(seat)
+    }
+
+    /// The index of the view that a new capture goes on with: of those whose captures ended, the one
+    /// whose last file has the most like name.
+    fn free_seat(&self, word: &str) -> Option<usize> {
+        if self.is_merged() {
+            return if self.seats.is_empty() { None } else { Some(0) };
+        }
+        let mut best = None;
+        let mut most = 0;
+        for (index, seat) in self.seats.iter().enumerate() {
+            let alike = common(&seat.word, word);
+            if seat.open == 0 && (best.is_none() || most < alike) {
+                best = Some(index);
+                most = alike;
+            }
+        }
+        best
+    }
+
+    fn new_seat(&mut self, word: &str) -> Result<usize, AllocError> {
+        let name = if self.is_merged() || self.chosen.inputs.len() < 2 {
+            None
+        } else {
+            let mut name = String::new(self.alloc);
+            write_name(&mut name, stem(word).as_bytes())?;
+            Some(name)
+        };
+        let index = self.seats.len();
+        let window = match self.window {
+            Some(window) => window,
+            None => Window::of(&self.chosen.times, 0),
+        };
+        let mut watch = Watch::new(self.alloc, self.keys, self.chosen, window, name)?;
+        watch.begin_with(&self.start)?;
+        self.seats.push(Seat {
+            watch,
+            traffic: Traffic::new(self.alloc, self.chosen, &window)?,
+            open: 0,
+            word: String::new(self.alloc),
+        })?;
+        Ok(index)
+    }
+
+    /// Notes that the capture at this index has no records left.
+    pub(crate) fn end(&mut self, place: usize) {
+        let Some(seat) = self.seat_of.get(&place) else {
+            return;
+        };
+        if let Some(seat) = self.seats.get_mut(*seat) {
+            seat.open = seat.open.saturating_sub(1);
+        }
+    }
+
+    /// Takes over what the views have to print, each event once.
+    fn collect(&mut self) -> Result<(), AllocError> {
+        for seat in &mut self.seats {
+            self.out.push_str(&seat.watch.out)?;
+            seat.watch.out.clear();
+            for news in &seat.watch.news {
+                let printed = self.printed.get(&news.key).copied().unwrap_or(0);
+                if printed < news.nth {
+                    self.out.push_str(&news.line)?;
+                    self.printed.insert(news.key.clone()?, news.nth)?;
+                }
+            }
+            seat.watch.news.clear();
+        }
+        Ok(())
+    }
+
+    /// Shows what is shown only at the end.
+    pub(crate) fn finish(&mut self) -> Result<(), AllocError> {
+        if self.seats.is_empty() {
+            let _ = self.new_seat("")?;
+        }
+        for seat in &mut self.seats {
+            seat.traffic.finish(&mut seat.watch)?;
+        }
+        self.collect()?;
+        if self.chosen.verb == Verb::Members && self.seats.len() > 1 {
+            return self.finish_members();
+        }
+        if let Some(seat) = self.seats.first_mut() {
+            seat.watch.finish()?;
+        }
+        self.collect()
+    }
+
+    /// Shows the members of several views: one table if they agree, and else what each shows about
+    /// the names on which they differ.
+    fn finish_members(&mut self) -> Result<(), AllocError> {
+        let mut shown = Vec::new(self.alloc);
+        for seat in &self.seats {
+            shown.push((seat.watch.name()?, seat.watch.roster()?))?;
+        }
+        let mut voices = Vec::new(self.alloc);
+        for (name, roster) in &shown {
+            voices.push(Voice { name, roster })?;
+        }
+        let opinions = opinions_in(self.alloc, &voices)?;
+        if differing(&opinions, voices.len()) > 0 {
+            if !self.chosen.json {
+                return write_views(&mut self.out, &voices, &opinions);
+            }
+            for voice in &voices {
+                write_roster(&mut self.out, voice.name, voice.roster)?;
+            }
+            return Ok(());
+        }
+        if let Some(seat) = self.seats.first_mut() {
+            seat.watch.finish()?;
+        }
+        self.collect()
+    }
+
+    /// What was read and left out, in all views.
+    pub(crate) fn counts(&self) -> Counts {
+        let mut counts = Counts::default();
+        for seat in &self.seats {
+            counts.add(&seat.watch.counts);
+        }
+        counts
+    }
+
+    /// The view of all captures, if they are one.
+    pub(crate) fn only(&self) -> Option<&Watch<'a>> {
+        match self.seats.as_slice() {
+            [seat] => Some(&seat.watch),
+            _ => None,
+        }
+    }
+
+    /// Whether no view heard of the only member to show.
+    pub(crate) fn lacks_member(&self) -> Result<bool, AllocError> {
+        for seat in &self.seats {
+            if !seat.watch.lacks_member()? {
+                return Ok(false);
+            }
+        }
+        Ok(self.chosen.member.is_some())
+    }
+}
+
+/// How many bytes two names have in common at their start.
+fn common(one: &str, other: &str) -> usize {
+    one.as_bytes()
+        .iter()
+        .zip(other.as_bytes())
+        .take_while(|(a, b)| **a == **b)
+        .count()
+}
+
+/// A file's name without its folder and its end: `w1` of `captures/w1.pcap`.
+fn stem(word: &str) -> &str {
+    let file = match word.rsplit_once('/') {
+        Some((_, file)) => file,
+        None => word,
+    };
+    match file.rsplit_once('.') {
+        Some((stem, _)) if !stem.is_empty() => stem,
+        _ => file,
+    }
+}

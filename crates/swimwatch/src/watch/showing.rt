@@ -1,0 +1,223 @@
+//! Showing what was asked for.
+
+ghost use Rattle.std.specs.Prelude.{◌≡◌};
+
+use super::{News, Watch};
+use crate::change::Change;
+use crate::chosen::Verb;
+use crate::claims::write_claim;
+use crate::json::{write_change, write_told, write_warned};
+use crate::members::{Deadline, write_member_objects, write_members};
+use crate::names::write_name;
+use crate::roster::Roster;
+use crate::sent::Sent;
+use crate::texts::event_words;
+use crate::timeline::{write_event, write_warning};
+use crate::told::Told;
+use memberlist_view::Event;
+use std::alloc::{AllocError, Global};
+use swim_table::{EncodeFault, encode};
+use swim_wire::Packet;
+
+impl<'a> Watch<'a> {
+    /// Shows what a message said, or what it changed.
+    pub(super) fn show(
+        &mut self,
+        sent: &Sent,
+        told: &Told,
+        event: Option<Event>,
+    ) -> Result<(), AllocError>
+        ensures { self.new.listener ≡ self.old.listener }
+    {
+        let name = told.claim.name().bytes();
+        match (self.verb, event) {
+            (Verb::Claims, _) if self.is_shown(name) && self.is_timely(sent.time) => {
+                self.show_claim(sent, told)
+            }
+            (Verb::Dump, _) if self.is_shown(name) => self.take_claim(told),
+            (_, Some(event)) => {
+                let from = told.from.as_slice();
+                self.show_change(sent, &Change { name, from, event })
+            }
+            _ => Ok(()),
+        }
+    }
+
+    /// Shows a claim.
+    fn show_claim(&mut self, sent: &Sent, told: &Told) -> Result<(), AllocError>
+        ensures { self.new.listener ≡ self.old.listener }
+    {
+        if self.json {
+            write_told(&mut self.out, &self.listener, sent, told)
+        } else {
+            write_claim(&mut self.out, &self.listener, sent, told)
+        }
+    }
+
+    /// Takes a claim into the table.
+    fn take_claim(&mut self, told: &Told) -> Result<(), AllocError>
+        ensures { self.new.listener ≡ self.old.listener }
+    {
+        match self.table.take(told.claim.try_clone(self.alloc)?) {
+            Ok(_) => Ok(()),
+            Err((_, error)) => Err(error),
+        }
+    }
+
+    /// Shows what a message changed.
+    pub(super) fn show_change(&mut self, sent: &Sent, change: &Change) -> Result<(), AllocError>
+        ensures { self.new.listener ≡ self.old.listener }
+    {
+        self.note_ports(change)?;
+        if !self.is_shown(change.name) {
+            return Ok(());
+        }
+        match self.verb {
+            Verb::Timeline if self.is_timely(sent.time) => self.show_event(sent, change),
+            Verb::Chart => self.chart.take(&self.listener, sent, change),
+            _ => Ok(()),
+        }
+    }
+
+    /// Shows an event.
+    fn show_event(&mut self, sent: &Sent, change: &Change) -> Result<(), AllocError>
+        ensures { self.new.listener ≡ self.old.listener }
+    {
+        let mut line = String::new(self.alloc);
+        if self.json {
+            write_change(&mut line, &self.listener, sent, change)?;
+        } else {
+            write_event(&mut line, &self.listener, sent, change)?;
+        }
+        let inc = match self.listener.entry_of(change.name)? {
+            Some(entry) => entry.inc,
+            None => 0,
+        };
+        let words = event_words(change.event);
+        let key = key_of(self.alloc, words, change.name, inc, change.from)?;
+        self.tell(key, line)
+    }
+
+    /// Notes a name that is claimed at two ports of one address: then two clusters are mixed.
+    fn note_ports(&mut self, change: &Change) -> Result<(), AllocError>
+        ensures { self.new.listener ≡ self.old.listener }
+    {
+        if change.event != Event::Conflict || self.counts.mixed.is_some() {
+            return Ok(());
+        }
+        let Some(entry) = self.listener.entry_of(change.name)? else {
+            return Ok(());
+        };
+        let (Some(place), Some(rival)) = (entry.place(), entry.rivals.details().last()) else {
+            return Ok(());
+        };
+        if place.addr() == rival.addr() {
+            self.counts.mixed = Some((place.port(), rival.port()));
+        }
+        Ok(())
+    }
+
+    /// Shows a suspicion that only warns the suspect, if it is the first of its accuser.
+    pub(super) fn warn(&mut self, sent: Sent, packet: &Packet) -> Result<(), AllocError>
+        ensures { self.new.listener ≡ self.old.listener }
+    {
+        let is_first = self.warnings.note(packet)?;
+        if !self.is_shown(packet.claim().name().bytes()) {
+            return Ok(());
+        }
+        match (self.verb, self.json) {
+            (Verb::Claims, _) => {
+                let told = Told::of_packet(self.alloc, packet)?;
+                self.show_claim(&sent, &told)
+            }
+            (Verb::Timeline, is_json) if is_first && self.is_timely(sent.time) => {
+                let mut line = String::new(self.alloc);
+                if is_json {
+                    write_warned(&mut line, &self.listener, &sent, packet)?;
+                } else {
+                    write_warning(&mut line, &self.listener, &sent, packet)?;
+                }
+                let (name, from) = (packet.claim().name().bytes(), packet.from_name());
+                let key = key_of(self.alloc, "warned", name, packet.claim().inc(), from)?;
+                self.tell(key, line)
+            }
+            _ => Ok(()),
+        }
+    }
+
+    /// Notes an event to print.
+    fn tell(&mut self, key: String, line: String) -> Result<(), AllocError>
+        ensures { self.new.listener ≡ self.old.listener }
+    {
+        let nth = match self.came.get(&key) {
+            Some(came) => came.saturating_add(1),
+            None => 1,
+        };
+        self.came.insert(key.clone()?, nth)?;
+        self.news
+            .push(News { key, nth, line })
+            .map_err(AllocError::from)
+    }
+
+    /// Whether to show what is said about the member with this name.
+    fn is_shown(&self, name: &[u8]) -> bool {
+        match &self.member {
+            Some(only) => only.as_slice() == name,
+            None => true,
+        }
+    }
+
+    /// Whether nothing was heard about the only member to show.
+    pub(crate) fn lacks_member(&self) -> Result<bool, AllocError> {
+        match &self.member {
+            Some(name) => Ok(self.listener.entry_of(name)?.is_none()),
+            None => Ok(false),
+        }
+    }
+
+    /// Shows what is shown only at the end.
+    pub(crate) fn finish(&mut self) -> Result<(), AllocError> {
+        let deadline = Deadline {
+            now: self.window.until.unwrap_or(self.now),
+            from: self.window.from,
+            mult: self.mult,
+        };
+        match (self.verb, self.json) {
+            (Verb::Members, false) => {
+                write_members(&mut self.out, &self.listener, &self.places, deadline)
+            }
+            (Verb::Members, true) => {
+                write_member_objects(&mut self.out, &self.listener, &self.places, deadline)
+            }
+            (Verb::Talkers, false) => self.talkers.write(&mut self.out, &self.listener),
+            (Verb::Talkers, true) => self.talkers.write_objects(&mut self.out, &self.listener),
+            (Verb::Chart, _) => self.chart.write(&mut self.out),
+            _ => Ok(()),
+        }
+    }
+
+    /// The members, as a listener shows them.
+    pub(crate) fn roster(&self) -> Result<Roster, AllocError> {
+        Roster::of_listener(self.alloc, &self.listener)
+    }
+
+    /// The canonical dump of the table of all claims.
+    pub(crate) fn dump(&self) -> Result<Vec<u8>, EncodeFault> {
+        encode(self.alloc, &self.table, false)
+    }
+}
+
+/// What makes an event another one than others.
+fn key_of(
+    alloc: Global,
+    words: &str,
+    name: &[u8],
+    inc: u32,
+    from: &[u8],
+) -> Result<String, AllocError> {
+    let mut key = format!(in alloc; "{words} {inc} ")?;
+    write_name(&mut key, name)?;
+    key.push(' ')?;
+    write_name(&mut key, from)?;
+    Ok(key)
+}
