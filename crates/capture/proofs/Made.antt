@@ -1,5 +1,5 @@
 -- Values made from the numbers in a header.
-use Rattle.std.proofs.Common.{◌≡◌, ℕ, ◌+◌, ◌*◌, List, Option, Some, refl}
+use Rattle.std.proofs.Common.{◌≡◌, ℕ, ◌+◌, ◌*◌, List, Option, Some, None, refl}
 use Rattle.capture.specs.declared.clock.Clock.{Clock}
 use Rattle.capture.specs.declared.interface.Interface.{Interface}
 use Rattle.capture.specs.declared.order.Order.{Order}
@@ -12,7 +12,7 @@ abbrev pub pcap_made : Order → Precision → ℕ → Pcap
 pcap_made order precision link = record { order = order; precision = precision; link = link }
 
 abbrev pub record_made : Option ℕ → ℕ → ℕ → Record
-record_made time link original = record { time = time; link = link; original = original }
+record_made time link original = record { time = time; link = link; interface = None; original = original }
 
 abbrev text_made : List ℕ → Record → RecordText
 text_made bytes head = (head, bytes)

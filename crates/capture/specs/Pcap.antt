@@ -1,5 +1,5 @@
 -- Files of the pcap format (draft-ietf-opsawg-pcap).
-use Rattle.std.specs.Prelude.{ℕ, ◌+◌, ◌*◌, ◌%◌, List, Some}
+use Rattle.std.specs.Prelude.{ℕ, ◌+◌, ◌*◌, ◌%◌, List, Some, None}
 use Rattle.swim_pack.specs.Composing.{◌>>=◌, gives}
 use Rattle.capture.specs.declared.order.Order.{Order}
 use Rattle.capture.specs.declared.pcap.Pcap.{Pcap}
@@ -40,6 +40,7 @@ pcap_record file = do
       time = Some (field file.order 0 4 header * 1000000000
           + fraction_of file.precision (field file.order 4 4 header));
       link = file.link;
+      interface = None;
       original = field file.order 12 4 header;
     },
     bytes,

@@ -99,12 +99,13 @@ packet_at order total room captured head = do
   gone ← closed order left total
   gives (packet head bytes)
 
--- the fields of a packet with a time: the upper and the lower half of the time, and the original
--- length
-abbrev pub timed_head : Order → Interface → List ℕ → Record
-timed_head order on fields = record {
+-- the fields of a packet with a time on the interface with this number: the upper and the lower half
+-- of the time, and the original length
+abbrev pub timed_head : Order → Interface → ℕ → List ℕ → Record
+timed_head order on number fields = record {
   time = Some (time_of on.clock (field order 4 4 fields * 2 ^ 32 + field order 8 4 fields));
   link = on.link;
+  interface = Some number;
   original = field order 16 4 fields;
 }
 
@@ -116,7 +117,8 @@ timed_packet n now total = do
   room ← room_in 20 total
   fields ← next_part 20
   on ← described now (field now.order 0 n fields)
-  packet_at now.order total room (field now.order 12 4 fields) (timed_head now.order on fields)
+  packet_at now.order total room (field now.order 12 4 fields)
+      (timed_head now.order on (field now.order 0 n fields) fields)
 
 -- this many bytes, cut by the snap length; 0 cuts nothing
 abbrev pub snapped : ℕ → ℕ → ℕ
@@ -131,6 +133,7 @@ simple_packet now total = do
   packet_at now.order total room (snapped on.snap (field now.order 0 4 fields)) (record {
     time = None;
     link = on.link;
+    interface = Some 0;
     original = field now.order 0 4 fields;
   })
 

@@ -100,10 +100,10 @@ fn read_interface<I: Inlet>(
     })
 }
 
-/// The record in the fields of a packet with a time.
-fn timed(order: Order, on: &Interface, fields: &[u8]) -> Record
+/// The record in the fields of a packet with a time, on the interface with this number.
+fn timed(order: Order, on: &Interface, number: u32, fields: &[u8]) -> Record
     requires { length fields.now ≡ 20 }
-    ensures { result ≡ timed_head order on.now fields.now }
+    ensures { result ≡ timed_head order on.now number fields.now }
 {
     let upper = order.u32_at(fields, 4);
     let lower = order.u32_at(fields, 8);
@@ -111,6 +111,7 @@ fn timed(order: Order, on: &Interface, fields: &[u8]) -> Record
     Record {
         time: Some(on.clock.time(count)),
         link: on.link,
+        interface: Some(number),
         original: order.u32_at(fields, 16),
     }
 }
@@ -155,7 +156,7 @@ fn read_enhanced<I: Inlet>(
     fill(inlet, &mut fields)?;
     let number = order.u32_at(&fields, 0);
     let on = section.described(number)?;
-    let head = timed(order, &on, &fields);
+    let head = timed(order, &on, number, &fields);
     let captured = order.u32_at(&fields, 12);
     let lengths = Lengths {
         total,
@@ -180,9 +181,10 @@ fn read_obsolete<I: Inlet>(
     let room = room_in(20, total)?;
     let mut fields = [0; 20];
     fill(inlet, &mut fields)?;
-    let number = order.u16_at(&fields, 0);
-    let on = section.described(u32::from(number))?;
-    let head = timed(order, &on, &fields);
+    let half = order.u16_at(&fields, 0);
+    let number = u32::from(half);
+    let on = section.described(number)?;
+    let head = timed(order, &on, number, &fields);
     let captured = order.u32_at(&fields, 12);
     let lengths = Lengths {
         total,
@@ -218,6 +220,7 @@ fn read_simple<I: Inlet>(
     let head = Record {
         time: None,
         link: on.link,
+        interface: Some(0),
         original,
     };
     read_packet(inlet, bytes, order, lengths, head)

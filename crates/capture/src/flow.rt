@@ -2,9 +2,10 @@
 
 ghost use Rattle.std.specs.Prelude.{◌≡◌, ◌+◌, ◌-◌, ◌<◌, ◌≤◌, ◌^◌, ◌⊎◌, ◌++◌, ◌∷◌, [], List, length, true, false, None, Ok, OnOk, OnErr, IfOk, MatchBool};
 ghost use Rattle.capture.specs.Flows.{Placed, placed, placed_at, byte_at, InOrder, Assembled, Says};
+ghost use Rattle.std.specs.List.{sum_by};
 
 use crate::Taken;
-use crate::piece::{Piece, back, before, front, gathered, patched, place, put};
+use crate::piece::{Piece, back, before, front, gathered, patched, place, put, total_len};
 use std::alloc::{AllocError, Global};
 
 /// How far after the first gap a segment may end, in bytes.
@@ -80,6 +81,13 @@ impl Flow {
         ensures most { length result.now ≤ 2 ^ 25 }
     {
         &self.text
+    }
+
+    /// How many bytes wait after the first gap.
+    pub fn waiting_len(&self) -> usize
+        ensures { result ≡ sum_by (λ s. length s.bytes) (flow_text self.now).waiting }
+    {
+        total_len(&self.waiting)
     }
 
     /// Adds a segment, or leaves it out and says why.

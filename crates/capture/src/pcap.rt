@@ -82,6 +82,7 @@ pub(crate) fn read_pcap_record<I: Inlet>(
     Ok(Record {
         time: Some(seconds + fraction),
         link: file.link,
+        interface: None,
         original,
     })
 }

@@ -1,7 +1,7 @@
 //! Segments at their places in a flow.
 
 ghost use Rattle.std.specs.Prelude.{◌≡◌, ◌+◌, ◌-◌, ◌<◌, ◌≤◌, ◌^◌, ◌++◌, ◌∷◌, [], length, take, drop, find, fold, None, IfOk, is_ok, if◌then◌else◌, IfSome, IfNone};
-ghost use Rattle.std.specs.List.{AllWithin};
+ghost use Rattle.std.specs.List.{AllWithin, sum_by};
 ghost use Rattle.std.specs.Option.{option_copied};
 ghost use Rattle.capture.specs.Flows.{Placed, placed, placed_at, end_of, covers, byte_at, closer, InOrder, IsClean, AreCovered, IsNext, SaysFrom};
 
@@ -224,6 +224,18 @@ pub(crate) fn gathered(
         found.extend_from_slice(part)?;
     }
     Ok(found)
+}
+
+/// How many bytes the pieces have.
+pub(crate) fn total_len(pieces: &[Piece]) -> usize
+    requires { length pieces.now ≤ 4096 }
+    ensures { result ≡ sum_by (λ s. length s.bytes) pieces.now }
+{
+    let mut total = 0;
+    for piece in pieces {
+        total += piece.bytes().len();
+    }
+    total
 }
 
 /// Puts a piece in the place of those from one index up to another.

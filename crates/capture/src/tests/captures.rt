@@ -18,6 +18,7 @@ const INTERFACE: &[u8] = b"\x01\0\0\0\x14\0\0\0\x01\0\0\0\0\0\0\0\x14\0\0\0";
 struct Wanted {
     time: Option<u64>,
     link: u32,
+    interface: Option<u32>,
     original: u32,
     bytes: &'static [u8],
 }
@@ -42,6 +43,7 @@ fn assert_capture(
         let head = Record {
             time: wanted.time,
             link: wanted.link,
+            interface: wanted.interface,
             original: wanted.original,
         };
         let found = next(&mut reader, &mut inlet, &mut bytes)?;
@@ -92,6 +94,7 @@ fn pcap_is_read_in_each_order_and_precision(rt: HostRuntime) -> Result<(), Fail>
         let wanted = [Wanted {
             time: Some(time),
             link: 1,
+            interface: None,
             original: 60,
             bytes: b"abc",
         }];
@@ -102,22 +105,30 @@ fn pcap_is_read_in_each_order_and_precision(rt: HostRuntime) -> Result<(), Fail>
 
 #[test]
 fn packets_of_pcapng_are_read_as_their_blocks_say(rt: HostRuntime) -> Result<(), Fail> {
-    for (block, time, original) in [
+    for (block, time, interface, original) in [
         (
-            b"\x06\0\0\0\x24\0\0\0\0\0\0\0\x01\0\0\0\x05\0\0\0\x03\0\0\0\x3c\0\0\0abc\0\x24\0\0\0".as_slice(),
+            b"\x06\0\0\0\x24\0\0\0\x01\0\0\0\x01\0\0\0\x05\0\0\0\x03\0\0\0\x3c\0\0\0abc\0\x24\0\0\0".as_slice(),
             Some(4_294_967_301_000),
+            Some(1),
             60,
         ),
         (
-            b"\x02\0\0\0\x24\0\0\0\0\0\x07\0\x01\0\0\0\x05\0\0\0\x03\0\0\0\x3c\0\0\0abc\0\x24\0\0\0",
+            b"\x02\0\0\0\x24\0\0\0\x01\0\x07\0\x01\0\0\0\x05\0\0\0\x03\0\0\0\x3c\0\0\0abc\0\x24\0\0\0",
             Some(4_294_967_301_000),
+            Some(1),
             60,
         ),
-        (b"\x03\0\0\0\x14\0\0\0\x03\0\0\0abc\0\x14\0\0\0", None, 3),
+        (
+            b"\x03\0\0\0\x14\0\0\0\x03\0\0\0abc\0\x14\0\0\0",
+            None,
+            Some(0),
+            3,
+        ),
     ] {
         let wanted = [Wanted {
             time,
             link: 1,
+            interface,
             original,
             bytes: b"abc",
         }];
@@ -125,7 +136,7 @@ fn packets_of_pcapng_are_read_as_their_blocks_say(rt: HostRuntime) -> Result<(),
         assert_capture(
             &rt,
             rt.alloc(),
-            &[SECTION, INTERFACE, other, block],
+            &[SECTION, INTERFACE, INTERFACE, other, block],
             &wanted,
             None,
         )?;
@@ -138,6 +149,7 @@ fn a_section_of_the_other_order_begins_anew(rt: HostRuntime) -> Result<(), Fail>
     let wanted = [Wanted {
         time: Some(7_000_000_005),
         link: 101,
+        interface: Some(0),
         original: 2,
         bytes: b"hi",
     }];

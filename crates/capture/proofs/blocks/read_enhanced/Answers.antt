@@ -24,4 +24,4 @@ returns-in_err-on g c =
 pub returns : goal.returns
 unfolding timed_packet
 returns g c =
-    (Reads-then _ (c.in_ok-room.ensures (g.I.Inlet.seen c.args.inlet.now)) (Reads-then _ c.in_ok-fill.ensures (Reads-then _ (rw c.u32_at-number.ensures at (c.in_ok-on.ensures (g.I.Inlet.seen c.fill.new.inlet))) (rw (c.timed-head.ensures, c.u32_at-captured.ensures) at c.read_packet.ensures))))
+    (Reads-then _ (c.in_ok-room.ensures (g.I.Inlet.seen c.args.inlet.now)) (Reads-then _ c.in_ok-fill.ensures (Reads-then _ (rw c.u32_at-number.ensures at (c.in_ok-on.ensures (g.I.Inlet.seen c.fill.new.inlet))) (rw (c.timed-head.ensures, c.u32_at-number.ensures, c.u32_at-captured.ensures) at c.read_packet.ensures))))
