@@ -99,6 +99,63 @@ awk 'NR > 1 { print $1, $3 }' found | sort > f && mv f found
 printf 'web-%s\n' '1 alive' '2 alive' '3 dead' '4 alive' '5 alive' > wanted
 check 'the members after 10 s'
 
+# listened NAME FILE WORDS..: runs the program on a pipe that has the bytes of FILE and then stays open, and counts
+# whether it ends by itself after 2 seconds.
+listened() {
+    name=$1 file=$2
+    shift 2
+    { cat "$file" && exec sleep 30; } > ends &
+    feeding=$!
+    before=$(date +%s)
+    "$program" "$@" --for 2s - < ends > found 2> err
+    status=$? took=$(($(date +%s) - before))
+    kill "$feeding"
+    wait "$feeding" 2> f
+    count "listening ends by the clock: $name" "$(
+        [ "$status" -eq 0 ] || echo "; status $status, $(start_of err)"
+        { [ "$took" -ge 1 ] && [ "$took" -le 12 ]; } || echo "; after $took s"
+    )"
+}
+
+# memberlist's own Alive of f5 at 127.0.3.5:38875, in examples/memberlist.hex
+alive=$(sed -n 1p examples/memberlist.hex)
+packet "$alive" > alive.pcap
+"$program" members alive.pcap > w 2> err
+listened 'one record' alive.pcap members
+cp w wanted
+check 'what was heard is shown when listening ends'
+"$program" timeline alive.pcap > w 2> err
+listened 'a timeline' alive.pcap timeline
+cp w wanted
+check 'its events are shown when listening ends'
+head -c 24 alive.pcap > header.pcap
+listened 'no record' header.pcap members
+echo 'NAME  ADDRESS  STATE  INC  SINCE  BY' > wanted
+check 'nothing was heard'
+: > none.pcap
+listened 'no byte' none.pcap members
+check 'nothing came'
+head -c 60 alive.pcap > cut.pcap
+listened 'in the middle of a record' cut.pcap members
+count 'the end of listening is no cut' "$(! grep -q 'in the middle of this record' err || echo "; $(start_of err)")"
+
+# a line is written when its record came, though the pipe stays open
+{ cat alive.pcap && exec sleep 30; } > ends &
+feeding=$!
+"$program" timeline - < ends > line 2> err &
+listening=$!
+waited=0
+while [ ! -s line ] && [ "$waited" -lt 100 ]; do
+    sleep 0.1
+    waited=$((waited + 1))
+done
+kill "$feeding"
+wait "$listening"
+mv line found
+"$program" timeline alive.pcap > wanted 2> err
+count 'a line of the timeline does not wait for the next record' "$([ "$waited" -lt 100 ] || echo '; it does')"
+check 'the line of the timeline'
+
 # ---- a table to begin with
 
 # the table of all claims at web-1 in the partition, as a stream, before a capture without packets
@@ -154,6 +211,59 @@ check 'views that agree are one table'
 "$program" members part1.pcap part2.pcap > found 2> err
 "$program" members "$basic" > wanted 2> err
 check 'captures that follow each other are one view'
+mkdir here there
+cp "$w1" here/w.pcap
+cp "$w6" there/w.pcap
+"$program" members "$w1" "$w6" 2> err | tr -s ' ' | sed 's/ w1 / here\/w /; s/ w6 / there\/w /' > wanted
+"$program" members here/w.pcap there/w.pcap 2> err | tr -s ' ' > found
+check 'views of files with one name have the folders in theirs'
+"$program" timeline "$PWD/here/w.pcap" there/w.pcap 2> err | sed 's/.*, \([^ ]*\))$/\1/' | sort -u > found
+printf '%s\n' here/w there/w > wanted
+check 'and so have the events'
+
+# a view that knows less: the capture of web-1 without the packets and streams that make claims
+python3 - captures/steady/web-1.pcap less.pcap <<'END'
+import struct, sys
+data, at = open(sys.argv[1], "rb").read(), 24
+kept = data[:24]
+while at < len(data):
+    length = struct.unpack_from("<I", data, at + 8)[0]
+    frame = data[at + 16:at + 16 + length]
+    # a datagram that begins with a ping, or with an ack
+    if frame[12:14] == b"\x08\0" and frame[23] == 17 and frame[42] in (0, 2):
+        kept += data[at:at + 16 + length]
+    at += 16 + length
+open(sys.argv[2], "wb").write(kept)
+END
+"$program" members less.pcap 2> err | awk 'NR > 1 { print $4 }' | sort -u > found
+echo - > wanted
+check 'a view without claims'
+"$program" members captures/steady/all.pcap > wanted 2> err
+for words in 'less.pcap captures/steady/all.pcap' 'captures/steady/all.pcap less.pcap'; do
+    # shellcheck disable=SC2086
+    "$program" members $words > found 2> err
+    check "a view without claims does not differ from one that knows more: $words"
+done
+# memberlist's own Alive of f5 and its Dead by f1. Of captures of the same two seconds, one has both, two have one of them
+# twice
+dead=$(sed -n 4p examples/memberlist.hex)
+packet "$dead" > dead.pcap
+python3 - "$alive" "$dead" <<'END'
+import sys
+from frames import packet, pcap, udp
+alive, dead = (packet("127.0.3.1", 17, udp(7946, bytes.fromhex(text))) for text in sys.argv[1:])
+pcap("both.pcap", [(0, alive), (2000000, dead)])
+pcap("alone.pcap", [(1000000, dead), (2000000, dead)])
+pcap("before.pcap", [(1000000, alive), (2000000, alive)])
+END
+"$program" members both.pcap > wanted 2> err
+"$program" members alone.pcap both.pcap > found 2> err
+check 'a view without the address of a member does not differ'
+"$program" members before.pcap alone.pcap 2> err | tr -s ' ' | sed 's/ $//' > found
+printf '%s\n' 'NAME ADDRESS STATE INC AGREE TAGS' 'f5 127.0.3.5:38875 alive 2 1 of 2 6d' \
+    'NAME MEMBER STATE INC ADDRESS TAGS' 'f5 before alive 2 127.0.3.5:38875 6d' 'f5 alone dead 2 -' > wanted
+check 'a state that both views heard is compared'
+
 # both sides in three parts each, as tcpdump -G writes them
 python3 - "$w1" "$w6" <<'END'
 import os, struct, sys
@@ -194,9 +304,7 @@ check 'both ports are both clusters'
 
 # ---- rivals of a name
 
-# memberlist's own Alive of f5 at 127.0.3.5:38875, in examples/memberlist.hex, and the same at two other ports
-alive=$(sed -n 1p examples/memberlist.hex)
-packet "$alive" > alive.pcap
+# the Alive of f5 at two other ports
 packet "$(echo "$alive" | sed 's/cd97db/cd97dc/')" > second.pcap
 packet "$(echo "$alive" | sed 's/cd97db/cd97dd/')" > third.pcap
 "$program" timeline --merge alive.pcap second.pcap third.pcap second.pcap third.pcap 2> err |
@@ -251,7 +359,6 @@ check 'a forged death is no event'
 
 # memberlist's own messages about f5, in examples/memberlist.hex: it is alive at 2, and dead at 2 by f1. memberlist reads
 # the death in each of these packets.
-dead=$(sed -n 4p examples/memberlist.hex)
 while read -r hex kind; do
     packet "$hex" > dead.pcap
     "$program" members --merge alive.pcap dead.pcap 2> err | awk 'NR > 1 { print $1, $3, $4, $6 }' > found

@@ -11,12 +11,45 @@ use memberlist_view::MemberName;
 use std::alloc::{AllocError, Global};
 use std::collections::BTreeMap;
 
-/// What most members report about a name; of equally many, what the first of them does.
+/// What most members report about a name; of equally many, what the first of them does. What claims
+/// say comes before what packets only show.
 #[derive(Clone, Copy)]
 pub(crate) struct Opinion<'a> {
     known: &'a Known,
-    /// How many members report it.
+    /// How many members report it, and no more than it.
     count: usize,
+    /// Whether all report the name, and no two of them contradict each other.
+    is_agreed: bool,
+}
+
+impl<'a> Opinion<'a> {
+    /// What one of these says about the name.
+    fn of(answers: &[Voice], name: &MemberName, known: &'a Known) -> Opinion<'a> {
+        let agreeing = answers
+            .iter()
+            .filter(|other| does_agree(other, name, known))
+            .count();
+        Opinion {
+            known,
+            count: answers
+                .iter()
+                .filter(|other| has_same(other, name, known))
+                .count(),
+            is_agreed: agreeing == answers.len(),
+        }
+    }
+
+    /// This or another one about the name, whichever more members report.
+    fn or(self, other: Opinion<'a>) -> Opinion<'a> {
+        let is_agreed = self.is_agreed && other.is_agreed;
+        let (heard, heard_too) = (!self.known.unheard.state, !other.known.unheard.state);
+        let best = if (heard, self.count) < (heard_too, other.count) {
+            other
+        } else {
+            self
+        };
+        Opinion { is_agreed, ..best }
+    }
 }
 
 /// Names, each with what most members report about it.
@@ -54,39 +87,59 @@ pub(crate) fn opinions_in<'a>(
     alloc: Global,
     answers: &[Voice<'a>],
 ) -> Result<Opinions<'a>, AllocError> {
-    let mut opinions = BTreeMap::new(alloc);
+    let mut opinions: Opinions<'a> = BTreeMap::new(alloc);
     for answer in answers {
         for (name, known) in answer.roster.iter() {
-            let count = answers
-                .iter()
-                .filter(|other| has_same(other, name, known))
-                .count();
-            let is_less = match opinions.get(name) {
-                Some(Opinion { count: most, .. }) => *most < count,
-                None => true,
-            };
-            if is_less {
-                opinions.insert(copy_of(alloc, name)?, Opinion { known, count })?;
+            let opinion = Opinion::of(answers, name, known);
+            if let Some(noted) = opinions.get_mut(name) {
+                *noted = noted.or(opinion);
+            } else {
+                opinions.insert(copy_of(alloc, name)?, opinion)?;
             }
         }
     }
     Ok(opinions)
 }
 
-/// On how many names not all of this many members agree.
-pub(crate) fn differing(opinions: &Opinions, members: usize) -> usize {
+/// On how many names not all agree.
+pub(crate) fn differing(opinions: &Opinions) -> usize {
     opinions
         .iter()
-        .filter(|(_, opinion)| opinion.count != members)
+        .filter(|(_, opinion)| !opinion.is_agreed)
         .count()
 }
 
-/// Whether an answer reports the same about a name.
-fn has_same(answer: &Voice, name: &MemberName, known: &Known) -> bool {
+/// Whether what an answer reports about a name does not contradict this.
+fn does_agree(answer: &Voice, name: &MemberName, known: &Known) -> bool {
     match answer.roster.get(name) {
-        Some(own) => own.is_same(known),
+        Some(own) => own.agrees(known),
         None => false,
     }
+}
+
+/// Whether an answer reports this about a name, or a part of it.
+fn has_same(answer: &Voice, name: &MemberName, known: &Known) -> bool {
+    match answer.roster.get(name) {
+        Some(own) => own.agrees(known) && !own.knows_more(known),
+        None => false,
+    }
+}
+
+/// The index of the first of these that knows all that any of them does, if there is one.
+pub(crate) fn fullest(answers: &[Voice]) -> Option<usize> {
+    answers.iter().position(|answer| {
+        answers
+            .iter()
+            .all(|other| !does_know_more(other.roster, answer.roster))
+    })
+}
+
+/// Whether one roster says something about a name that the other did not hear.
+fn does_know_more(one: &Roster, other: &Roster) -> bool {
+    one.iter().any(|(name, known)| match other.get(name) {
+        Some(own) => known.knows_more(own),
+        None => true,
+    })
 }
 
 /// The exit status: 0 if all answered and agree, 4 if none answered, and otherwise 1.
@@ -96,7 +149,7 @@ pub(crate) fn status_of(alloc: Global, asked: &[Asked]) -> Result<u8, AllocError
         return Ok(4);
     }
     let opinions = opinions_in(alloc, &answers)?;
-    let agree = answers.len() == asked.len() && differing(&opinions, answers.len()) == 0;
+    let agree = answers.len() == asked.len() && differing(&opinions) == 0;
     Ok(u8::from(!agree))
 }
 
@@ -118,7 +171,7 @@ pub(crate) fn write_asked(
             None
         };
         write_opinions(text, &opinions, members)?;
-        if differing(&opinions, answers.len()) > 0 {
+        if differing(&opinions) > 0 {
             write_others(text, &answers, &opinions)?;
         }
     }
@@ -138,7 +191,10 @@ pub(crate) fn write_views(
     opinions: &Opinions,
 ) -> Result<(), AllocError> {
     write_opinions(text, opinions, Some(answers.len()))?;
-    write_others(text, answers, opinions)
+    if differing(opinions) > 0 {
+        write_others(text, answers, opinions)?;
+    }
+    Ok(())
 }
 
 /// Adds a JSON object for each name and member, and one for each member without an answer.
@@ -196,10 +252,11 @@ fn write_opinions(
         let known = opinion.known;
         let mut row = Vec::new(alloc);
         row.push(name_text(alloc, name)?)?;
-        row.push(known.address(alloc)?)?;
+        row.push(known.place_text(alloc)?)?;
         row.push(String::from_str(alloc, known.state())?)?;
-        row.push(format!(in alloc; "{}", known.inc)?)?;
+        row.push(known.inc_text(alloc)?)?;
         row.push(match members {
+            Some(members) if opinion.is_agreed => format!(in alloc; "{members} of {members}")?,
             Some(members) => format!(in alloc; "{} of {members}", opinion.count)?,
             None => String::new(alloc),
         })?;
@@ -226,7 +283,7 @@ fn write_others(
         &["NAME", "MEMBER", "STATE", "INC", "ADDRESS", vsn, "TAGS"],
     )?)?;
     for (name, opinion) in opinions.iter() {
-        if opinion.count != answers.len() {
+        if !opinion.is_agreed {
             for answer in answers {
                 rows.push(row_of(alloc, name, answer, has_vsn)?)?;
             }
@@ -259,8 +316,8 @@ fn row_of(
         return Ok(row);
     };
     row.push(String::from_str(alloc, known.state())?)?;
-    row.push(format!(in alloc; "{}", known.inc)?)?;
-    row.push(known.address(alloc)?)?;
+    row.push(known.inc_text(alloc)?)?;
+    row.push(known.place_text(alloc)?)?;
     let vsn: &[u8] = if has_vsn { known.vsn() } else { &[] };
     row.push(hex::encode(alloc, vsn)?)?;
     row.push(known.tags(alloc)?)?;

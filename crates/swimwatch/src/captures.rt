@@ -2,6 +2,7 @@
 
 use crate::NAME;
 use crate::chosen::{Chosen, Verb};
+use crate::limit::Limit;
 use crate::said::{output_fails, said};
 use crate::side::claims_of_file;
 use crate::sources::Sources;
@@ -42,7 +43,11 @@ pub(crate) fn watch_captures(
     views: &mut Views,
     words: &[String],
 ) -> Result<(), Failure> {
-    let mut sources = Sources::begin(rt, words)?;
+    let limit = match Limit::from_now(rt, views.span()) {
+        Ok(limit) => limit,
+        Err(_) => return Err(said(format!(in rt.alloc(); "{NAME}: cannot read the clock"), 4)),
+    };
+    let mut sources = Sources::begin(limit, words)?;
     for _ in 0..u64::MAX {
         let (Some(place), Some((record, bytes))) = (sources.place(), sources.record()) else {
             break;
@@ -52,7 +57,7 @@ pub(crate) fn watch_captures(
         }
         views.record(place, sources.word(place), record, bytes)?;
         flush(rt, views)?;
-        sources.read_on(rt)?;
+        sources.read_on()?;
         if sources.is_done(place) {
             views.end(place);
         }

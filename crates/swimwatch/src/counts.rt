@@ -40,9 +40,10 @@ pub(crate) struct Counts {
     pub(crate) foreign: u64,
     /// Connections with missing bytes.
     pub(crate) gaps: u64,
-    /// Directions of connections that were closed after a long silence.
+    /// Directions of connections that were closed after a long silence, before a stream was complete.
     pub(crate) silent: u64,
-    /// Directions of connections that were closed because there were too many.
+    /// Directions of connections that were closed because there were too many, before a stream was
+    /// complete.
     pub(crate) dropped: u64,
     /// Frames that do not carry IP.
     pub(crate) not_ip: u64,
@@ -103,6 +104,7 @@ impl Counts {
         add(&mut self.gre, other.gre);
         add(&mut self.ip_in_ip, other.ip_in_ip);
         add(&mut self.mpls, other.mpls);
+        add(&mut self.twice, other.twice);
         add(&mut self.others, other.others);
         add(&mut self.cut, other.cut);
         add(&mut self.malformed, other.malformed);
@@ -189,8 +191,11 @@ impl Counts {
             (self.foreign, "not from memberlist"),
             (self.unread, "parts of packets unread"),
             (self.gaps, "with bytes missing"),
-            (self.silent, "closed after 60 s of silence"),
-            (self.dropped, "closed because more than 65536 were open"),
+            (self.silent, "still incomplete after 60 s of silence"),
+            (
+                self.dropped,
+                "closed incomplete because more than 65536 were open",
+            ),
             (self.not_ip, "not IP"),
             (self.fragments, "fragmented"),
             (self.gre, "in GRE, which is not unwrapped"),

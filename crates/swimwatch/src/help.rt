@@ -24,7 +24,8 @@ pub(crate) const FROM: &str =
 
 pub(crate) const TO: &str = "Show only what was captured until this time";
 
-pub(crate) const FOR: &str = "Listen only for this long, as 60s or 5m, from the first record on";
+pub(crate) const FOR: &str =
+    "Listen only for this long, as 60s or 5m, from the first record on, and to a pipe by the clock";
 
 pub(crate) const START: &str = "Begin with the table in this file, as pull --dump writes it";
 

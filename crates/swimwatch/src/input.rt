@@ -1,34 +1,50 @@
 //! Where the bytes of captures come from.
 
+use crate::limit::{Limit, Waiter};
 use std::fs::File;
 use std::io::{self, IsTerminal, Read, Stdin};
+use std::os::fd::AsRawFd;
 use swim_pack::{Inlet, PullFault};
 
-/// A reader of a capture: standard input, or a file.
+/// What a capture is read from.
 #[derive(Drop)]
-pub(crate) enum Input {
+enum Origin {
     Stdin(Stdin),
     File(File),
 }
 
-impl Input {
+/// A reader of a capture: standard input or a file. It ends when listening does.
+#[derive(Drop)]
+pub(crate) struct Input<'a> {
+    origin: Origin,
+    waiter: Option<Waiter<'a>>,
+}
+
+impl<'a> Input<'a> {
     /// What the word names: standard input if it is `-`, and otherwise a file.
-    pub(crate) fn open(rt: &HostRuntime, word: &str) -> io::Result<Input> {
+    pub(crate) fn open(limit: Limit<'a>, word: &str) -> io::Result<Input<'a>> {
         if word == "-" {
-            return Ok(Input::Stdin(rt.stdin()));
+            let stdin = limit.rt.stdin();
+            return Ok(Input {
+                waiter: Waiter::of(limit, stdin.as_raw_fd())?,
+                origin: Origin::Stdin(stdin),
+            });
         }
-        let file = File::open(rt, word)?;
+        let file = File::open(limit.rt, word)?;
         if file.metadata()?.is_dir() {
             return Err(io::Error::from(io::ErrorKind::IsADirectory));
         }
-        Ok(Input::File(file))
+        Ok(Input {
+            waiter: Waiter::of(limit, file.as_raw_fd())?,
+            origin: Origin::File(file),
+        })
     }
 
     /// Whether opening it again reads the same bytes from the start: it is a file, and no pipe.
     pub(crate) fn can_open_again(&self) -> bool {
-        match self {
-            Input::Stdin(_) => false,
-            Input::File(file) => match file.metadata() {
+        match &self.origin {
+            Origin::Stdin(_) => false,
+            Origin::File(file) => match file.metadata() {
                 Ok(data) => data.is_file(),
                 Err(_) => false,
             },
@@ -37,18 +53,23 @@ impl Input {
 
     /// Whether it is a terminal, which cannot supply a capture.
     pub(crate) fn is_terminal(&self) -> bool {
-        match self {
-            Input::Stdin(stdin) => stdin.is_terminal(),
-            Input::File(_) => false,
+        match &self.origin {
+            Origin::Stdin(stdin) => stdin.is_terminal(),
+            Origin::File(_) => false,
         }
     }
 }
 
-impl Read for Input {
+impl Read for Input<'_> {
     fn read(&mut self, buf: &mut [u8]) -> io::Result<usize> {
-        match self {
-            Input::Stdin(stdin) => stdin.read(buf),
-            Input::File(file) => file.read(buf),
+        if let Some(waiter) = &mut self.waiter {
+            if !waiter.wait()? {
+                return Ok(0);
+            }
+        }
+        match &mut self.origin {
+            Origin::Stdin(stdin) => stdin.read(buf),
+            Origin::File(file) => file.read(buf),
         }
     }
 }

@@ -3,10 +3,19 @@
 use crate::claims::kind_word;
 use crate::json::Object;
 use crate::tags::is_bare;
-use crate::texts::{address_text, meta_text};
+use crate::texts::{NONE, address_text, meta_text};
 use memberlist_view::{Entry, State};
 use std::alloc::{AllocError, Global};
 use swim_claim::{Details, Kind};
+
+/// What was not heard about a member, though packets show that it is there.
+#[derive(Clone, Copy, Debug, Default, PartialEq, Eq)]
+pub(crate) struct Unheard {
+    /// A claim about its state.
+    pub(crate) state: bool,
+    /// Its metadata and versions: of its details only the address and port are known.
+    pub(crate) tags: bool,
+}
 
 /// A member's state and details, as somebody reports them.
 #[derive(Debug, Drop)]
@@ -15,6 +24,8 @@ pub(crate) struct Known {
     pub(crate) inc: u32,
     /// Its address, port, metadata and versions, if they were said.
     pub(crate) details: Option<Details>,
+    /// What is not known; nothing, if a member reports it.
+    pub(crate) unheard: Unheard,
 }
 
 impl Known {
@@ -27,6 +38,10 @@ impl Known {
                 Some(place) => Some(place.try_clone(alloc)?),
                 None => None,
             },
+            unheard: Unheard {
+                state: matches!(entry.state, State::Seen),
+                tags: entry.details.is_none(),
+            },
         })
     }
 
@@ -37,6 +52,22 @@ impl Known {
             _ => true,
         };
         self.kind == other.kind && self.inc == other.inc && same_details
+    }
+
+    /// Whether the two can be true of one member: what one of them did not hear is not compared.
+    pub(crate) fn agrees(&self, other: &Known) -> bool {
+        let is_seen = self.unheard.state || other.unheard.state;
+        let is_tagless = self.unheard.tags || other.unheard.tags;
+        let same_state = is_seen || (self.kind == other.kind && self.inc == other.inc);
+        let same_tags = is_tagless || (self.meta() == other.meta() && self.vsn() == other.vsn());
+        same_state && same_tags && !self.is_elsewhere(other)
+    }
+
+    /// Whether it says something that the other did not hear.
+    pub(crate) fn knows_more(&self, other: &Known) -> bool {
+        (other.unheard.state && !self.unheard.state)
+            || (other.unheard.tags && !self.unheard.tags)
+            || (other.details.is_none() && self.details.is_some())
     }
 
     /// Whether both report an address and port, and these differ.
@@ -59,6 +90,23 @@ impl Known {
         match &self.details {
             Some(details) => address_text(alloc, details),
             None => Ok(String::new(alloc)),
+        }
+    }
+
+    /// The incarnation, or `-` if no claim was heard.
+    pub(crate) fn inc_text(&self, alloc: Global) -> Result<String, AllocError> {
+        if self.unheard.state {
+            String::from_str(alloc, NONE)
+        } else {
+            format!(in alloc; "{}", self.inc)
+        }
+    }
+
+    /// The address and port, or `-` if none were said.
+    pub(crate) fn place_text(&self, alloc: Global) -> Result<String, AllocError> {
+        match &self.details {
+            Some(details) => address_text(alloc, details),
+            None => String::from_str(alloc, NONE),
         }
     }
 
@@ -91,7 +139,9 @@ impl Known {
     /// Adds it to an object of JSON.
     pub(crate) fn write(&self, object: &mut Object) -> Result<(), AllocError> {
         object.word("state", self.state())?;
-        object.number("incarnation", u64::from(self.inc))?;
+        if !self.unheard.state {
+            object.number("incarnation", u64::from(self.inc))?;
+        }
         match &self.details {
             Some(details) => object.details(details),
             None => Ok(()),

@@ -70,14 +70,34 @@ impl Listener {
         }
     }
 
+    /// Where the member with this name is, if that is known.
+    pub(crate) fn place(&self, name: &MemberName) -> Option<SocketAddr> {
+        place_of(&self.view, name)
+    }
+
+    /// Whether a member is at this address and port.
+    pub(crate) fn has_member_at(&self, end: SocketAddr) -> bool {
+        match self.directory.member_at(&self.view, end) {
+            Some(name) => self.place(name) == Some(end),
+            None => false,
+        }
+    }
+
+    /// The name of the member at this endpoint, if there is one.
+    pub(crate) fn name_at(&self, end: SocketAddr) -> Result<Option<String>, AllocError> {
+        match self.directory.member_at(&self.view, end) {
+            Some(name) => Ok(Some(name_text(self.alloc, name)?)),
+            None => Ok(None),
+        }
+    }
+
     /// The name of the member at this endpoint, or its address and port if there is none, without
     /// the port if that is 0.
     pub(crate) fn end_text(&self, end: SocketAddr) -> Result<String, AllocError> {
-        let alloc = self.alloc;
-        match self.directory.member_at(&self.view, end) {
-            Some(name) => name_text(alloc, name),
-            None if end.port() == 0 => format!(in alloc; "{}", end.ip()),
-            None => format!(in alloc; "{end}"),
+        match self.name_at(end)? {
+            Some(name) => Ok(name),
+            None if end.port() == 0 => format!(in self.alloc; "{}", end.ip()),
+            None => format!(in self.alloc; "{end}"),
         }
     }
 }

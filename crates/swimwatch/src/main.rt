@@ -2,13 +2,13 @@
 //!
 //! | module | subject |
 //! |---|---|
-//! | `chosen`, `command_line`, `help` | the command-line arguments |
-//! | `captures`, `input`, `sources` | reading several captures together, to their ends |
+//! | `chosen`, `command_line`, `pages`, `help` | the command-line arguments |
+//! | `captures`, `input`, `limit`, `sources` | reading several captures together, to their ends or for a time |
 //! | `sent`, `traffic`, `progress`, `waiting`, `recent` | what crossed the network: packets and connections |
 //! | `carriage`, `messages`, `records`, `told` | what these carry, and what it says about members |
 //! | `pings`, `warnings` | who a ping shows, and suspicions that only warn |
 //! | `listener`, `directory`, `places` | a listener that hears all of it |
-//! | `views`, `watch`, `change` | listening, and showing what was asked for |
+//! | `views`, `view_name`, `watch`, `change` | listening, and showing what was asked for |
 //! | `members`, `suspicion`, `timeline`, `claims`, `talkers` | what is shown |
 //! | `pull`, `ask`, `inquiry`, `host`, `ring`, `connection`, `request`, `answer` | asking members |
 //! | `silence` | why a member that was asked has no table |
@@ -46,6 +46,7 @@ mod input;
 mod inquiry;
 mod json;
 mod known;
+mod limit;
 mod listener;
 mod members;
 mod messages;
@@ -53,6 +54,7 @@ mod metrics;
 mod moment;
 mod names;
 mod node_state;
+mod pages;
 mod pings;
 mod places;
 mod progress;
@@ -77,6 +79,7 @@ mod texts;
 mod timeline;
 mod told;
 mod traffic;
+mod view_name;
 mod views;
 mod waiting;
 mod warnings;

@@ -232,7 +232,7 @@ fn write_agreement(page: &mut Page, followed: &[Followed]) -> Result<(), AllocEr
         "gauge",
         "On how many names the members that answered do not agree.",
     )?;
-    let count = differing(&opinions, answers.len());
+    let count = differing(&opinions);
     page.number("swimwatch_names_differ", &[], count as u64)
 }
 

@@ -1,6 +1,5 @@
 //! How far connections have been read.
 
-use crate::counts::count;
 use crate::endpoint::plain;
 use crate::sent::{Proto, Sent};
 use crate::watch::Watch;
@@ -110,14 +109,16 @@ pub(crate) fn told(
     flow: &Flow,
 ) -> Result<(), AllocError> {
     let bytes = flow.bytes();
+    let behind = flow.waiting_len();
+    let sent = sent_at(progress.time, ends);
     if progress.is_read {
-        return watch.count_bytes(sent_at(progress.time, ends), bytes.len());
+        return watch.count_bytes(sent, bytes.len().saturating_add(behind));
     }
     if !bytes.is_empty() {
-        return watch.stream(sent_at(progress.time, ends), bytes);
+        return watch.stream(sent, bytes, behind);
     }
     if progress.has_gap(flow) {
-        count(&mut watch.counts.gaps);
+        return watch.headless(sent, behind);
     }
     Ok(())
 }

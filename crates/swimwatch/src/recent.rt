@@ -1,4 +1,4 @@
-//! Packets that a capture of all interfaces has twice.
+//! Packets that a capture of several interfaces has twice.
 
 use crate::sent::Sent;
 use capture::Link;
@@ -12,15 +12,45 @@ const LAG: u64 = 5000;
 /// The most packets that are kept.
 const MAX_KEPT: usize = 64;
 
+/// On which interface and in which direction a frame was captured, as far as the capture says so.
+#[derive(Clone, Copy, Debug, PartialEq, Eq)]
+pub(crate) struct Way {
+    /// The number of the interface in a pcapng file.
+    interface: Option<u32>,
+    /// Of Linux cooked, the interface's index (version 2) and the packet type.
+    cooked: Option<(u32, u8)>,
+}
+
+impl Way {
+    /// The way of a frame with these bytes.
+    pub(crate) fn of(interface: Option<u32>, link: Link, bytes: &[u8]) -> Way {
+        let cooked = match (link, bytes) {
+            (Link::Cooked, [_, kind, ..]) => Some((0, *kind)),
+            (Link::Cooked2, [_, _, _, _, a, b, c, d, _, _, kind, ..]) => {
+                Some((u32::from_be_bytes([*a, *b, *c, *d]), *kind))
+            }
+            _ => None,
+        };
+        Way { interface, cooked }
+    }
+
+    /// Whether the capture does not say it.
+    fn is_unknown(self) -> bool {
+        self.interface.is_none() && self.cooked.is_none()
+    }
+}
+
 /// A packet that was captured.
 #[derive(Drop)]
 struct Packet {
     sent: Sent,
-    way: u64,
+    way: Way,
+    /// The sequence number of a segment, and 0 of a datagram.
+    seq: u32,
     payload: Vec<u8>,
 }
 
-/// The last packets of a capture of all interfaces.
+/// The last packets of a capture of several interfaces.
 #[derive(Drop)]
 pub(crate) struct Recent {
     alloc: Global,
@@ -36,20 +66,20 @@ impl Recent {
     }
 
     /// Whether the packet was captured on another way a few milliseconds ago. If not, it is kept.
-    /// Frames without a way of their own are not compared.
+    /// What has no payload, or an unknown way, is not compared.
     pub(crate) fn has(
         &mut self,
         sent: &Sent,
-        way: u64,
+        way: Way,
+        seq: u32,
         payload: &[u8],
     ) -> Result<bool, AllocError> {
-        if way == 0 {
+        if way.is_unknown() || payload.is_empty() {
             return Ok(false);
         }
-        if self
-            .packets
-            .iter()
-            .any(|old| is_same(old, sent, way, payload))
+        if self.packets.iter().any(|old| old.way != way
+            && old.seq == seq
+            && is_same(old, sent, payload))
         {
             return Ok(true);
         }
@@ -59,30 +89,18 @@ impl Recent {
         self.packets.push_back(Packet {
             sent: *sent,
             way,
+            seq,
             payload: payload.to_vec(self.alloc)?,
         })?;
         Ok(false)
     }
 }
 
-/// Whether these are one packet on two ways.
-fn is_same(old: &Packet, sent: &Sent, way: u64, payload: &[u8]) -> bool {
-    old.way != way
-        && sent.time.saturating_sub(old.sent.time) <= LAG
+/// Whether these bytes were sent between the same ends at about the same time.
+fn is_same(old: &Packet, sent: &Sent, payload: &[u8]) -> bool {
+    sent.time.saturating_sub(old.sent.time) <= LAG
+        && old.sent.proto == sent.proto
         && old.sent.source == sent.source
         && old.sent.destination == sent.destination
         && old.payload.as_slice() == payload
-}
-
-/// On which interface and in which direction a frame of Linux cooked was captured: the interface's
-/// index (version 2) and the packet type, plus 1; 0 for another link.
-pub(crate) fn way_of(link: Link, bytes: &[u8]) -> u64 {
-    match (link, bytes) {
-        (Link::Cooked, [high, low, ..]) => u64::from(*high) * 256 + u64::from(*low) + 1,
-        (Link::Cooked2, [_, _, _, _, a, b, c, d, _, _, kind, ..]) => {
-            let index = u64::from(u32::from_be_bytes([*a, *b, *c, *d]));
-            index * 256 + u64::from(*kind) + 1
-        }
-        _ => 0,
-    }
 }

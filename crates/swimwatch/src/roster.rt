@@ -1,7 +1,7 @@
 //! The members that somebody knows.
 
 use crate::directory::copy_of;
-use crate::known::Known;
+use crate::known::{Known, Unheard};
 use crate::listener::Listener;
 use crate::node_state::details_in;
 use crate::records::claims_of_stream;
@@ -44,6 +44,7 @@ impl Roster {
                 kind: claim.kind(),
                 inc: claim.inc(),
                 details,
+                unheard: Unheard::default(),
             };
             roster.note(MemberName::new(claim.name().try_clone(alloc)?), known)?;
         }

@@ -2,6 +2,7 @@
 
 use crate::NAME;
 use crate::input::{Counted, Input};
+use crate::limit::Limit;
 use crate::said::said;
 use capture::{CaptureFault, CaptureReader, Link, Record};
 use std::alloc::Global;
@@ -13,8 +14,8 @@ use swim_program::Failure;
 
 /// A capture that is being read.
 #[derive(Drop)]
-struct Reading {
-    inlet: Counted<FromRead<Input>>,
+struct Reading<'a> {
+    inlet: Counted<FromRead<Input<'a>>>,
     reader: CaptureReader,
     /// The next record.
     record: Record,
@@ -22,18 +23,23 @@ struct Reading {
     bytes: Vec<u8>,
 }
 
-impl Reading {
+impl<'a> Reading<'a> {
     /// Starts to read the capture that the word names. None if it has no records.
-    fn begin(rt: &HostRuntime, word: &str, input: Input) -> Result<Option<Reading>, Failure> {
-        let alloc = rt.alloc();
+    fn begin(
+        limit: Limit<'a>,
+        word: &str,
+        input: Input<'a>,
+    ) -> Result<Option<Reading<'a>>, Failure> {
+        let alloc = limit.rt.alloc();
         let mut inlet = Counted::new(FromRead::new(input));
         let mut reader = match CaptureReader::begin(alloc, &mut inlet) {
             Ok(reader) => reader,
+            Err(CaptureFault::Cut) if limit.is_over() => return Ok(None),
             Err(CaptureFault::Cut) => return Err(cut_header(alloc, word)),
             Err(fault) => return Err(refused(alloc, word, 0, fault)),
         };
         let mut bytes = Vec::new(alloc);
-        let Some(record) = next_record(rt, word, &mut reader, &mut inlet, &mut bytes)? else {
+        let Some(record) = next_record(limit, word, &mut reader, &mut inlet, &mut bytes)? else {
             return Ok(None);
         };
         if Link::from_number(record.link).is_none() {
@@ -48,8 +54,14 @@ impl Reading {
     }
 
     /// Reads the next record, and returns whether there is one.
-    fn read_on(&mut self, rt: &HostRuntime, word: &str) -> Result<bool, Failure> {
-        match next_record(rt, word, &mut self.reader, &mut self.inlet, &mut self.bytes)? {
+    fn read_on(&mut self, limit: Limit, word: &str) -> Result<bool, Failure> {
+        match next_record(
+            limit,
+            word,
+            &mut self.reader,
+            &mut self.inlet,
+            &mut self.bytes,
+        )? {
             Some(record) => {
                 self.record = record;
                 Ok(true)
@@ -62,9 +74,9 @@ impl Reading {
 /// A capture with records left. A file is open only from its first record's turn to its end, since a
 /// process may have some thousand files open at once. What cannot be opened again stays open.
 #[derive(Drop)]
-struct Source {
+struct Source<'a> {
     word: String,
-    reading: Option<Reading>,
+    reading: Option<Reading<'a>>,
     /// Whether it has no records left.
     is_done: bool,
 }
@@ -79,36 +91,38 @@ struct Turn {
 
 /// The captures that are read together. Each that is open has one record in memory.
 #[derive(Drop)]
-pub(crate) struct Sources {
-    all: Vec<Source>,
+pub(crate) struct Sources<'a> {
+    limit: Limit<'a>,
+    all: Vec<Source<'a>>,
     turns: BinaryHeap<Reverse<Turn>>,
 }
 
-impl Sources {
+impl<'a> Sources<'a> {
     /// Starts to read the captures that these words name.
-    pub(crate) fn begin(rt: &HostRuntime, words: &[String]) -> Result<Sources, Failure> {
+    pub(crate) fn begin(limit: Limit<'a>, words: &[String]) -> Result<Sources<'a>, Failure> {
         let mut sources = Sources {
-            all: Vec::new(rt.alloc()),
-            turns: BinaryHeap::new(rt.alloc()),
+            limit,
+            all: Vec::new(limit.rt.alloc()),
+            turns: BinaryHeap::new(limit.rt.alloc()),
         };
         for word in words {
-            sources.add(rt, word)?;
+            sources.add(word)?;
         }
-        sources.open_first(rt)?;
+        sources.open_first()?;
         Ok(sources)
     }
 
     /// Adds the capture that the word names, if it has records.
-    fn add(&mut self, rt: &HostRuntime, word: &str) -> Result<(), Failure> {
-        let input = open(rt, word)?;
+    fn add(&mut self, word: &str) -> Result<(), Failure> {
+        let input = open(self.limit, word)?;
         let can_open_again = input.can_open_again();
-        let Some(reading) = Reading::begin(rt, word, input)? else {
+        let Some(reading) = Reading::begin(self.limit, word, input)? else {
             return Ok(());
         };
         let time = time_of(&reading);
         let place = self.all.len();
         let reading = if can_open_again { None } else { Some(reading) };
-        let word = String::from_str(rt.alloc(), word)?;
+        let word = String::from_str(self.limit.rt.alloc(), word)?;
         if self
             .all
             .push(Source {
@@ -132,7 +146,7 @@ impl Sources {
     }
 
     /// Opens the capture whose turn it is, if it is not open.
-    fn open_first(&mut self, rt: &HostRuntime) -> Result<(), Failure> {
+    fn open_first(&mut self) -> Result<(), Failure> {
         let Some(Reverse(turn)) = self.turns.peek() else {
             return Ok(());
         };
@@ -140,8 +154,8 @@ impl Sources {
             return Ok(());
         };
         if source.reading.is_none() {
-            let input = open(rt, &source.word)?;
-            source.reading = Reading::begin(rt, &source.word, input)?;
+            let input = open(self.limit, &source.word)?;
+            source.reading = Reading::begin(self.limit, &source.word, input)?;
         }
         Ok(())
     }
@@ -176,24 +190,24 @@ impl Sources {
     }
 
     /// Moves on to the record after the earliest one.
-    pub(crate) fn read_on(&mut self, rt: &HostRuntime) -> Result<(), Failure> {
+    pub(crate) fn read_on(&mut self) -> Result<(), Failure> {
         let Some(Reverse(turn)) = self.turns.pop() else {
             return Ok(());
         };
-        if let Some(time) = self.next_time(rt, turn.place)? {
+        if let Some(time) = self.next_time(turn.place)? {
             self.wait(time, turn.place)?;
         }
-        self.open_first(rt)
+        self.open_first()
     }
 
     /// Reads the next record of the capture at this index, and returns its time. At its end it is
     /// closed.
-    fn next_time(&mut self, rt: &HostRuntime, place: usize) -> Result<Option<u64>, Failure> {
+    fn next_time(&mut self, place: usize) -> Result<Option<u64>, Failure> {
         let Some(source) = self.all.get_mut(place) else {
             return Ok(None);
         };
         if let Some(reading) = &mut source.reading {
-            if reading.read_on(rt, &source.word)? {
+            if reading.read_on(self.limit, &source.word)? {
                 return Ok(Some(time_of(reading)));
             }
         }
@@ -209,11 +223,11 @@ fn time_of(reading: &Reading) -> u64 {
 }
 
 /// Opens what the word names. Prints a note if it is a terminal.
-fn open(rt: &HostRuntime, word: &str) -> Result<Input, Failure> {
-    match Input::open(rt, word) {
+fn open<'a>(limit: Limit<'a>, word: &str) -> Result<Input<'a>, Failure> {
+    match Input::open(limit, word) {
         Ok(input) => {
             if input.is_terminal() {
-                let _ = eprintln!(rt;
+                let _ = eprintln!(limit.rt;
                     "{NAME}: reading a capture from the terminal; Ctrl-D ends the input"
                 );
             }
@@ -221,16 +235,16 @@ fn open(rt: &HostRuntime, word: &str) -> Result<Input, Failure> {
         }
         Err(error) if error.kind() == ErrorKind::OutOfMemory => Err(Failure::Memory),
         Err(error) => Err(said(
-            format!(in rt.alloc(); "{NAME}: {word}: device fault ({error})"),
+            format!(in limit.rt.alloc(); "{NAME}: {word}: device fault ({error})"),
             4,
         )),
     }
 }
 
 /// The next record, if there is one. A capture that ends in the middle of a record ends after the
-/// record before it, and a note is printed.
+/// record before it, and a note is printed unless listening is over.
 fn next_record(
-    rt: &HostRuntime,
+    limit: Limit,
     word: &str,
     reader: &mut CaptureReader,
     inlet: &mut Counted<FromRead<Input>>,
@@ -239,14 +253,15 @@ fn next_record(
     let start = inlet.count();
     match reader.next(inlet, bytes) {
         Ok(record) => Ok(record),
+        Err(CaptureFault::Cut) if limit.is_over() => Ok(None),
         Err(CaptureFault::Cut) => {
-            let _ = eprintln!(rt;
+            let _ = eprintln!(limit.rt;
                 "{NAME}: {word}: byte {start}: the capture ends in the middle of this record, \
                  which is left out"
             );
             Ok(None)
         }
-        Err(fault) => Err(refused(rt.alloc(), word, start, fault)),
+        Err(fault) => Err(refused(limit.rt.alloc(), word, start, fault)),
     }
 }
 

@@ -4,9 +4,11 @@ ghost use Rattle.std.specs.Prelude.{◌<◌};
 
 use crate::columns::Rows;
 use crate::counts::count;
+use crate::endpoint::endpoint;
 use crate::json::Object;
 use crate::listener::Listener;
 use memberlist_message::Message;
+use memberlist_view::Said;
 use std::alloc::{AllocError, Global};
 use std::collections::BTreeMap;
 use std::net::SocketAddr;
@@ -119,8 +121,10 @@ pub(crate) struct Talkers {
     /// Whether anything is counted.
     is_asked: bool,
     tallies: BTreeMap<SocketAddr, Tally>,
+    /// What members sent from ends that they have left, by their names.
+    settled: BTreeMap<String, Tally>,
     /// What all others sent, after the first 65,536 senders.
-    others: Tally,
+    others: Option<Tally>,
 }
 
 impl Talkers {
@@ -129,7 +133,8 @@ impl Talkers {
         Talkers {
             is_asked,
             tallies: BTreeMap::new(alloc),
-            others: Tally::default(),
+            settled: BTreeMap::new(alloc),
+            others: None,
         }
     }
 
@@ -156,8 +161,52 @@ impl Talkers {
         } else if self.tallies.len() < MAX_SENDERS {
             let _ = self.tallies.insert(sender, *more)?;
         } else {
-            self.others.add(more);
+            self.add_other(more);
         }
+        Ok(())
+    }
+
+    /// Adds what a sender sent that is not counted apart.
+    fn add_other(&mut self, more: &Tally) {
+        let mut others = self.others.unwrap_or_default();
+        others.add(more);
+        self.others = Some(others);
+    }
+
+    /// Before this is heard: if it moves a member, what was sent so far from the ends that the
+    /// member leaves or takes is counted as sent by the members that are there now.
+    pub(crate) fn settle(&mut self, listener: &Listener, said: &Said) -> Result<(), AllocError> {
+        let (true, Some(to)) = (self.is_asked, end_in(said)) else {
+            return Ok(());
+        };
+        let from = listener.place(said.name());
+        if from == Some(to) {
+            return Ok(());
+        }
+        if let Some(from) = from {
+            self.name_now(listener, from)?;
+            self.name_now(listener, host_of(from))?;
+        }
+        self.name_now(listener, to)?;
+        self.name_now(listener, host_of(to))
+    }
+
+    /// Counts what was sent from an end as sent by the member that is there, if one is.
+    fn name_now(&mut self, listener: &Listener, end: SocketAddr) -> Result<(), AllocError> {
+        let Some(tally) = self.tallies.get(&end).copied() else {
+            return Ok(());
+        };
+        let Some(name) = listener.name_at(end)? else {
+            return Ok(());
+        };
+        if let Some(settled) = self.settled.get_mut(&name) {
+            settled.add(&tally);
+        } else if self.settled.len() < MAX_SENDERS {
+            let _ = self.settled.insert(name, tally)?;
+        } else {
+            self.add_other(&tally);
+        }
+        let _ = self.tallies.remove(&end);
         Ok(())
     }
 
@@ -168,17 +217,15 @@ impl Talkers {
         alloc: Global,
         listener: &Listener,
     ) -> Result<BTreeMap<String, Tally>, AllocError> {
-        let mut tallies = BTreeMap::new(alloc);
-        for (sender, tally) in self.tallies.iter() {
-            let text = listener.end_text(*sender)?;
-            let mut sum = *tally;
-            if let Some(other) = tallies.get(&text) {
-                sum.add(other);
-            }
-            let _ = tallies.insert(text, sum)?;
+        let mut tallies: BTreeMap<String, Tally> = BTreeMap::new(alloc);
+        for (name, tally) in self.settled.iter() {
+            add_to(&mut tallies, name.clone()?, tally)?;
         }
-        if MAX_SENDERS <= self.tallies.len() {
-            let _ = tallies.insert(String::from_str(alloc, "others")?, self.others)?;
+        for (sender, tally) in self.tallies.iter() {
+            add_to(&mut tallies, listener.end_text(*sender)?, tally)?;
+        }
+        if let Some(others) = &self.others {
+            add_to(&mut tallies, String::from_str(alloc, "others")?, others)?;
         }
         Ok(tallies)
     }
@@ -217,6 +264,29 @@ impl Talkers {
             object.write(text)?;
         }
         Ok(())
+    }
+}
+
+/// Adds what the sender with this text sent.
+fn add_to(
+    tallies: &mut BTreeMap<String, Tally>,
+    text: String,
+    more: &Tally,
+) -> Result<(), AllocError> {
+    if let Some(tally) = tallies.get_mut(&text) {
+        tally.add(more);
+    } else {
+        let _ = tallies.insert(text, *more)?;
+    }
+    Ok(())
+}
+
+/// Where a member is by what is said, if that is said.
+fn end_in(said: &Said) -> Option<SocketAddr> {
+    match said {
+        Said::Alive { details, .. } => endpoint(details.addr(), details.port()),
+        Said::Seen { place, .. } => endpoint(place.addr(), place.port()),
+        Said::Suspect { .. } | Said::Dead { .. } | Said::Left { .. } => None,
     }
 }
 

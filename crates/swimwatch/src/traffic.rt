@@ -4,7 +4,7 @@ use crate::chosen::Chosen;
 use crate::counts::{Counts, count};
 use crate::endpoint::endpoint;
 use crate::progress::{Progress, sent_at, told};
-use crate::recent::{Recent, way_of};
+use crate::recent::{Recent, Way};
 use crate::sent::{Proto, Sent};
 use crate::waiting::{Due, Waiting};
 use crate::watch::Watch;
@@ -72,19 +72,9 @@ impl Traffic {
             count(&mut watch.counts.unknown_links);
             return Ok(());
         };
-        self.frame(watch, link, time, bytes)
-    }
-
-    /// Takes in a frame.
-    fn frame(
-        &mut self,
-        watch: &mut Watch,
-        link: Link,
-        time: u64,
-        bytes: &[u8],
-    ) -> Result<(), AllocError> {
+        let way = Way::of(record.interface, link, bytes);
         match carried(link, bytes) {
-            Ok(content) => self.content(watch, time, way_of(link, bytes), content),
+            Ok(content) => self.content(watch, time, way, content),
             Err(cause) => {
                 leave_out(&mut watch.counts, cause);
                 Ok(())
@@ -92,46 +82,40 @@ impl Traffic {
         }
     }
 
+    /// Takes in what a frame carried, unless it was captured on another interface before.
     fn content(
         &mut self,
         watch: &mut Watch,
         time: u64,
-        way: u64,
+        way: Way,
         content: Carried,
     ) -> Result<(), AllocError> {
-        match content.transport {
-            Transport::Udp(datagram) => {
-                let from = endpoint(content.source, datagram.source);
-                let to = endpoint(content.destination, datagram.destination);
-                let (Some(source), Some(destination)) = (from, to) else {
-                    return Ok(());
-                };
-                if !self.takes(datagram.source, datagram.destination) {
-                    count(&mut watch.counts.other_ports);
-                    return Ok(());
-                }
-                let sent = Sent {
-                    time,
-                    source,
-                    destination,
-                    proto: Proto::Udp,
-                };
-                if self.recent.has(&sent, way, datagram.payload)? {
-                    count(&mut watch.counts.twice);
-                    return Ok(());
-                }
-                watch.datagram(sent, datagram.payload)
-            }
-            Transport::Tcp(segment) => {
-                if !self.takes(segment.source, segment.destination) {
-                    count(&mut watch.counts.other_ports);
-                    return Ok(());
-                }
-                match Ends::of(content.source, content.destination, &segment) {
-                    Some(ends) => self.segment(watch, time, ends, &segment),
-                    None => Ok(()),
-                }
-            }
+        let parcel = Parcel::of(&content.transport);
+        let from = endpoint(content.source, parcel.source);
+        let to = endpoint(content.destination, parcel.destination);
+        let (Some(source), Some(destination)) = (from, to) else {
+            return Ok(());
+        };
+        if !self.takes(parcel.source, parcel.destination) {
+            count(&mut watch.counts.other_ports);
+            return Ok(());
+        }
+        let sent = Sent {
+            time,
+            source,
+            destination,
+            proto: parcel.proto,
+        };
+        if self.recent.has(&sent, way, parcel.seq, parcel.payload)? {
+            count(&mut watch.counts.twice);
+            return Ok(());
+        }
+        let Transport::Tcp(segment) = &content.transport else {
+            return watch.datagram(sent, parcel.payload);
+        };
+        match Ends::of(content.source, content.destination, segment) {
+            Some(ends) => self.segment(watch, time, ends, segment),
+            None => Ok(()),
         }
     }
 
@@ -227,9 +211,10 @@ impl Traffic {
         Ok(())
     }
 
-    /// Closes the flows that have been silent for too long at this time.
+    /// Closes the flows that have been silent for too long at this time. Each is first in the queue
+    /// at most twice.
     fn close_silent(&mut self, watch: &mut Watch, time: u64) -> Result<(), AllocError> {
-        for _ in 0..self.waiting.len() {
+        for _ in 0..self.waiting.len().saturating_mul(2) {
             if !self.waiting.is_due(time) {
                 break;
             }
@@ -297,6 +282,38 @@ impl Traffic {
             }
         }
         Ok(())
+    }
+}
+
+/// What a datagram and a segment have in common.
+#[derive(Clone, Copy)]
+struct Parcel<'a> {
+    proto: Proto,
+    source: u16,
+    destination: u16,
+    /// The sequence number of a segment, and 0 of a datagram.
+    seq: u32,
+    payload: &'a [u8],
+}
+
+impl<'a> Parcel<'a> {
+    fn of(transport: &Transport<'a>) -> Parcel<'a> {
+        match transport {
+            Transport::Udp(datagram) => Parcel {
+                proto: Proto::Udp,
+                source: datagram.source,
+                destination: datagram.destination,
+                seq: 0,
+                payload: datagram.payload,
+            },
+            Transport::Tcp(segment) => Parcel {
+                proto: Proto::Tcp,
+                source: segment.source,
+                destination: segment.destination,
+                seq: segment.seq,
+                payload: segment.payload,
+            },
+        }
     }
 }
 

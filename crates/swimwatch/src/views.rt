@@ -1,17 +1,19 @@
 //! What each capture shows: a view of its own, or one of all.
 
-use crate::agreement::{Voice, differing, opinions_in, write_views};
+use crate::agreement::{Voice, differing, fullest, opinions_in, write_views};
 use crate::chosen::{Chosen, Verb};
 use crate::counts::Counts;
 use crate::json::write_roster;
 use crate::names::write_name;
 use crate::traffic::Traffic;
+use crate::view_name::view_name;
 use crate::watch::Watch;
 use crate::window::Window;
 use capture::Record;
 use memberlist_keyring::Keyring;
 use std::alloc::{AllocError, Global};
 use std::collections::BTreeMap;
+use std::time::Duration;
 use swim_claim::Claim;
 
 /// A view, and the captures that it hears.
@@ -70,6 +72,11 @@ impl<'a> Views<'a> {
     /// Whether all captures are one view.
     fn is_merged(&self) -> bool {
         self.chosen.merge || !matches!(self.chosen.verb, Verb::Members | Verb::Timeline)
+    }
+
+    /// How long is listened by the clock, if that is limited.
+    pub(crate) fn span(&self) -> Option<Duration> {
+        Some(Duration::from_micros(self.chosen.times.span?))
     }
 
     /// Takes in a record of the capture at this index, which this word names.
@@ -140,7 +147,7 @@ impl<'a> Views<'a> {
             None
         } else {
             let mut name = String::new(self.alloc);
-            write_name(&mut name, stem(word).as_bytes())?;
+            write_name(&mut name, view_name(&self.chosen.inputs, word).as_bytes())?;
             Some(name)
         };
         let index = self.seats.len();
@@ -204,8 +211,8 @@ impl<'a> Views<'a> {
         self.collect()
     }
 
-    /// Shows the members of several views: one table if they agree, and else what each shows about
-    /// the names on which they differ.
+    /// Shows the members of several views: one table if they agree, that of the view that knows all,
+    /// if there is one; and else what each shows about the names on which they differ.
     fn finish_members(&mut self) -> Result<(), AllocError> {
         let mut shown = Vec::new(self.alloc);
         for seat in &self.seats {
@@ -216,19 +223,24 @@ impl<'a> Views<'a> {
             voices.push(Voice { name, roster })?;
         }
         let opinions = opinions_in(self.alloc, &voices)?;
-        if differing(&opinions, voices.len()) > 0 {
-            if !self.chosen.json {
-                return write_views(&mut self.out, &voices, &opinions);
+        let fullest = if differing(&opinions) > 0 {
+            None
+        } else {
+            fullest(&voices)
+        };
+        if let Some(index) = fullest {
+            if let Some(seat) = self.seats.get_mut(index) {
+                seat.watch.finish()?;
             }
-            for voice in &voices {
-                write_roster(&mut self.out, voice.name, voice.roster)?;
-            }
-            return Ok(());
+            return self.collect();
         }
-        if let Some(seat) = self.seats.first_mut() {
-            seat.watch.finish()?;
+        if !self.chosen.json {
+            return write_views(&mut self.out, &voices, &opinions);
         }
-        self.collect()
+        for voice in &voices {
+            write_roster(&mut self.out, voice.name, voice.roster)?;
+        }
+        Ok(())
     }
 
     /// What was read and left out, in all views.
@@ -266,16 +278,4 @@ fn common(one: &str, other: &str) -> usize {
         .zip(other.as_bytes())
         .take_while(|(a, b)| **a == **b)
         .count()
-}
-
-/// A file's name without its folder and its end: `w1` of `captures/w1.pcap`.
-fn stem(word: &str) -> &str {
-    let file = match word.rsplit_once('/') {
-        Some((_, file)) => file,
-        None => word,
-    };
-    match file.rsplit_once('.') {
-        Some((stem, _)) if !stem.is_empty() => stem,
-        _ => file,
-    }
 }

@@ -1,28 +1,28 @@
 //! Listening to packets and streams.
 //!
-//! `showing` shows what was asked for.
+//! `streams` hears connections, `tallies` counts what senders sent, and `showing` shows what was asked
+//! for.
 
-ghost use Rattle.std.specs.Prelude.{◌≡◌, Bool, IfOk, OnOk, MatchBool};
-ghost use Rattle.std.specs.Option.{is_none};
+ghost use Rattle.std.specs.Prelude.{◌≡◌, OnOk, MatchBool};
 ghost use Rattle.memberlist_view.specs.Told.{view_after};
 ghost use Rattle.swimwatch.specs.Told.{told_text, packet_told, heard_of};
-ghost use Rattle.swimwatch.specs.Views.{is_warning, MaySee, HearsMessage, HearsMessages, HearsRecords, HearsStream};
+ghost use Rattle.swimwatch.specs.Views.{is_warning, MaySee, HearsMessage, HearsMessages};
 
 mod showing;
+mod streams;
+mod tallies;
 
-use crate::carriage::{Carriage, NoStream, carriage_of, stream_records};
+use crate::carriage::{Carriage, carriage_of};
 use crate::change::Change;
 use crate::chart::Chart;
 use crate::chosen::{Chosen, Verb};
 use crate::counts::{Counts, count};
-use crate::endpoint::endpoint;
 use crate::listener::Listener;
 use crate::messages::Messages;
 use crate::pings::{Pings, place_at, sender_of};
 use crate::places::Places;
-use crate::records::Records;
-use crate::sent::{Proto, Sent};
-use crate::talkers::{Kind, Talkers, host_of};
+use crate::sent::Sent;
+use crate::talkers::{Kind, Talkers};
 use crate::texts::NONE;
 use crate::told::Told;
 use crate::warnings::{Warnings, is_warning};
@@ -183,26 +183,6 @@ impl<'a> Watch<'a> {
         }
     }
 
-    /// Counts a message of this kind.
-    fn said(&mut self, sent: Sent, kind: Kind) -> Result<(), AllocError>
-        ensures { self.new.listener ≡ self.old.listener }
-    {
-        if !self.is_timely(sent.time) {
-            return Ok(());
-        }
-        self.talkers.said(talker(sent), kind)
-    }
-
-    /// Counts the bytes of a datagram, or of one direction of a connection.
-    pub(crate) fn count_bytes(&mut self, sent: Sent, bytes: usize) -> Result<(), AllocError>
-        ensures { self.new.listener ≡ self.old.listener }
-    {
-        if !self.is_timely(sent.time) {
-            return Ok(());
-        }
-        self.talkers.sent(talker(sent), bytes)
-    }
-
     /// Hears the messages of a datagram.
     fn messages(&mut self, sent: Sent, messages: Messages) -> Result<(), AllocError>
         ensures hears { OnOk result (HearsMessages sent.time messages.read.items
@@ -318,6 +298,7 @@ impl<'a> Watch<'a> {
             time: sent.time,
             said: Said::Seen { name, place },
         };
+        self.settle(&heard.said)?;
         let Some(event) = self.listener.hear(&heard)? else {
             return Ok(());
         };
@@ -352,110 +333,16 @@ impl<'a> Watch<'a> {
         self.window.shows(time)
     }
 
-    /// Takes in one direction of a connection that may still grow, if it is a whole push/pull
-    /// stream, and returns whether it is.
-    pub(crate) fn whole_stream(&mut self, sent: Sent, bytes: &[u8]) -> Result<bool, AllocError>
-        ensures hears { IfOk result (λ whole. HearsStream self.old.clear self.old.keys.now bytes.now
-            sent.time whole self.old.listener.view self.new.listener.view) }
-    {
-        match self.take_stream(sent, bytes)? {
-            None => Ok(true),
-            Some(_) => Ok(false),
-        }
-    }
-
-    /// Takes in all that one direction of a connection carried.
-    pub(crate) fn stream(&mut self, sent: Sent, bytes: &[u8]) -> Result<(), AllocError>
-        ensures hears { OnOk result ((whole : Bool) × HearsStream self.old.clear self.old.keys.now
-            bytes.now sent.time whole self.old.listener.view self.new.listener.view) }
-    {
-        let counted = match self.take_stream(sent, bytes)? {
-            None => {
-                self.count_bytes(sent, bytes.len())?;
-                return Ok(());
-            }
-            Some(NoStream::Claimless) => {
-                count(&mut self.counts.other_streams);
-                Kind::Message
-            }
-            Some(NoStream::Closed) => {
-                count(&mut self.counts.closed);
-                Kind::Unread
-            }
-            Some(NoStream::Unencrypted) => {
-                self.counts.refuse(sent.source.ip());
-                Kind::Unread
-            }
-            Some(NoStream::Cut) => {
-                count(&mut self.counts.gaps);
-                Kind::Unread
-            }
-            Some(NoStream::Invalid(fault)) => {
-                self.counts.invalidate(fault);
-                Kind::Unread
-            }
-            Some(NoStream::Foreign | NoStream::Memory) => {
-                count(&mut self.counts.foreign);
-                return Ok(());
-            }
-        };
-        self.count_bytes(sent, bytes.len())?;
-        self.said(sent, counted)
-    }
-
-    /// Hears the push/pull stream in one direction of a connection, or returns why there is none.
-    fn take_stream(&mut self, sent: Sent, bytes: &[u8]) -> Result<Option<NoStream>, AllocError>
-        ensures { IfOk result (λ cause. HearsStream self.old.clear self.old.keys.now bytes.now
-            sent.time (is_none cause) self.old.listener.view self.new.listener.view) }
-    {
-        self.reach(sent.time);
-        match stream_records(self.alloc, self.keys, self.clear, bytes) {
-            Ok(records) => {
-                self.records(sent, records)?;
-                Ok(None)
-            }
-            Err(NoStream::Memory) => Err(AllocError),
-            Err(cause) => Ok(Some(cause)),
-        }
-    }
-
-    /// Hears the records of a push/pull stream.
-    fn records(&mut self, sent: Sent, records: Records) -> Result<(), AllocError>
-        ensures view { OnOk result (HearsRecords sent.time records.claims.items
-            self.old.listener.view self.new.listener.view) }
-    {
-        count(&mut self.counts.streams);
-        self.said(sent, Kind::Stream)?;
-        let join = Join {
-            join: records.join,
-            is_only: records.claims.len() == 1,
-            source: sent.source,
-        };
-        for claim in records.claims {
-            let joins = join.has(&claim);
-            let told = Told::of_record(self.alloc, claim, joins);
-            self.hear(sent, &told)?;
-        }
-        Ok(())
-    }
-
     /// Hears what a message says, and shows it.
     fn hear(&mut self, sent: Sent, told: &Told) -> Result<(), AllocError>
         ensures view { OnOk result (self.new.listener.view
             ≡ view_after self.old.listener.view (heard_of sent.time (told_text told.now))) }
     {
         let heard = told.heard(self.alloc, sent.time)?;
+        self.settle(&heard.said)?;
         let event = self.listener.hear(&heard)?;
         self.places.note(&told.claim, sent.time)?;
         self.show(&sent, told, event)
-    }
-}
-
-/// Whose message this is in a count of talkers: each connection has another port, so a host is it.
-fn talker(sent: Sent) -> SocketAddr {
-    match sent.proto {
-        Proto::Udp => sent.source,
-        Proto::Tcp => host_of(sent.source),
     }
 }
 
@@ -464,30 +351,5 @@ fn nobody(alloc: Global) -> Result<MemberName, AllocError> {
     match Name::copied(alloc, NONE.as_bytes())? {
         Ok(name) => Ok(MemberName::new(name)),
         Err(_) => Err(AllocError),
-    }
-}
-
-/// A stream that joins, as far as it says.
-#[derive(Clone, Copy)]
-struct Join {
-    join: bool,
-    /// Whether it has one record.
-    is_only: bool,
-    source: SocketAddr,
-}
-
-impl Join {
-    /// Whether a new name joins by this record: it is the one of who opened the connection. The
-    /// answer repeats that the stream joins, but comes from the port that its own record has.
-    fn has(&self, claim: &Claim) -> bool {
-        let (true, Some(details)) = (self.join, claim.details()) else {
-            return false;
-        };
-        match endpoint(details.addr(), details.port()) {
-            Some(end) => {
-                end.port() != self.source.port() && (self.is_only || end.ip() == self.source.ip())
-            }
-            None => false,
-        }
     }
 }

@@ -2,7 +2,7 @@ use Rattle.std.proofs.Common.{◌∙◌, ap}
 use Rattle.memberlist_view.specs.Told.{view_after}
 use Rattle.swimwatch.specs.Told.{ToldText, heard_of}
 use Rattle.swimwatch.proofs.Hearing.{record_heard}
-use Rattle.swimwatch.proofs.watch.Watch.records.Goals as goal
+use Rattle.swimwatch.proofs.watch.streams.Watch.records.Goals as goal
 
 pub loop-claim-preserved : goal.loop-claim-preserved
 loop-claim-preserved c =

@@ -1,5 +1,5 @@
 use Rattle.swimwatch.specs.Views.{HearsRecords}
-use Rattle.swimwatch.proofs.watch.Watch.records.Given as goal
+use Rattle.swimwatch.proofs.watch.streams.Watch.records.Given as goal
 
 abbrev pub invariant-loop-claim : goal.invariant-loop-claim
 invariant-loop-claim l =

@@ -5,7 +5,7 @@ use Rattle.memberlist_view.specs.Told.{ViewValue}
 use Rattle.swimwatch.specs.Carriage.{IsStreamOf}
 use Rattle.swimwatch.specs.Views.{HearsRecords}
 use Rattle.swimwatch.specs.declared.carriage.NoStream.TheVariants.{Memory}
-use Rattle.swimwatch.proofs.watch.Watch.take_stream.Goals as goal
+use Rattle.swimwatch.proofs.watch.streams.Watch.take_stream.Goals as goal
 
 pub returns-in_ok-records-in-Ok : goal.returns-in_ok-records-in-Ok
 returns-in_ok-records-in-Ok c =
