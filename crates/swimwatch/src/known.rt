@@ -7,6 +7,7 @@ use crate::texts::{address_text, meta_text};
 use memberlist_view::{Entry, State};
 use std::alloc::{AllocError, Global};
 use swim_claim::{Details, Kind};
+use swim_wire::StateRecord;
 
 /// A member's state and details, as somebody reports them.
 #[derive(Debug, Drop)]
@@ -26,6 +27,19 @@ impl Known {
             details: match entry.place() {
                 Some(place) => Some(place.try_clone(alloc)?),
                 None => None,
+            },
+        })
+    }
+
+    /// What a record of a stream says. Its details are there in any state.
+    pub(crate) fn of_record(alloc: Global, record: StateRecord) -> Result<Known, AllocError> {
+        let claim = record.claim;
+        Ok(Known {
+            kind: claim.kind(),
+            inc: claim.inc(),
+            details: match claim.details() {
+                Some(details) => Some(details.try_clone(alloc)?),
+                None => record.told,
             },
         })
     }

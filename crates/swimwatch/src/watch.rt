@@ -5,6 +5,7 @@
 ghost use Rattle.std.specs.Prelude.{◌≡◌, Bool, IfOk, OnOk, MatchBool};
 ghost use Rattle.std.specs.Option.{is_none};
 ghost use Rattle.memberlist_view.specs.Told.{view_after};
+ghost use Rattle.swimwatch.specs.Records.{claims_in};
 ghost use Rattle.swimwatch.specs.Told.{told_text, packet_told, heard_of};
 ghost use Rattle.swimwatch.specs.Views.{is_warning, MaySee, HearsMessage, HearsMessages, HearsRecords, HearsStream};
 
@@ -25,6 +26,7 @@ use crate::sent::{Proto, Sent};
 use crate::talkers::{Kind, Talkers, host_of};
 use crate::texts::NONE;
 use crate::told::Told;
+use crate::versions::is_understood;
 use crate::warnings::{Warnings, is_warning};
 use crate::window::Window;
 use memberlist_cipher::split_label;
@@ -390,6 +392,10 @@ impl<'a> Watch<'a> {
                 count(&mut self.counts.gaps);
                 Kind::Unread
             }
+            Some(NoStream::Versions) => {
+                count(&mut self.counts.misversed);
+                Kind::Unread
+            }
             Some(NoStream::Invalid(fault)) => {
                 self.counts.invalidate(fault);
                 Kind::Unread
@@ -410,10 +416,11 @@ impl<'a> Watch<'a> {
     {
         self.reach(sent.time);
         match stream_records(self.alloc, self.keys, self.clear, bytes) {
-            Ok(records) => {
+            Ok(records) if is_understood(&records.records) => {
                 self.records(sent, records)?;
                 Ok(None)
             }
+            Ok(_) => Ok(Some(NoStream::Versions)),
             Err(NoStream::Memory) => Err(AllocError),
             Err(cause) => Ok(Some(cause)),
         }
@@ -421,19 +428,19 @@ impl<'a> Watch<'a> {
 
     /// Hears the records of a push/pull stream.
     fn records(&mut self, sent: Sent, records: Records) -> Result<(), AllocError>
-        ensures view { OnOk result (HearsRecords sent.time records.claims.items
+        ensures view { OnOk result (HearsRecords sent.time (claims_in records.records.items)
             self.old.listener.view self.new.listener.view) }
     {
         count(&mut self.counts.streams);
         self.said(sent, Kind::Stream)?;
         let join = Join {
             join: records.join,
-            is_only: records.claims.len() == 1,
+            is_only: records.records.len() == 1,
             source: sent.source,
         };
-        for claim in records.claims {
-            let joins = join.has(&claim);
-            let told = Told::of_record(self.alloc, claim, joins);
+        for record in records.records {
+            let joins = join.has(&record.claim);
+            let told = Told::of_record(self.alloc, record.claim, joins);
             self.hear(sent, &told)?;
         }
         Ok(())
