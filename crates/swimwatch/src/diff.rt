@@ -1,10 +1,13 @@
 //! Comparing two clusters, or one at two times.
 
+use crate::NAME;
 use crate::captures::print;
 use crate::changes::{write_change_objects, write_changes};
 use crate::chosen::Chosen;
+use crate::ring::Ring;
 use crate::said::misused;
 use crate::side::roster_of;
+use key_files::keyring_of;
 use std::process::ExitCode;
 use swim_program::Failure;
 
@@ -17,8 +20,15 @@ pub(crate) fn diff(rt: &HostRuntime, chosen: &Chosen) -> Result<ExitCode, Failur
     let [before, after] = chosen.inputs.as_slice() else {
         return Err(misused(rt.alloc(), "diff needs two captures, streams or members"));
     };
-    let before = roster_of(rt, chosen, before)?;
-    let after = roster_of(rt, chosen, after)?;
+    if before == "-" && after == "-" {
+        return Err(misused(
+            rt.alloc(),
+            "standard input can be read once; give a file for the other side",
+        ));
+    }
+    let mut ring = Ring::new(keyring_of(rt, NAME, &chosen.key_files)?);
+    let before = roster_of(rt, chosen, &mut ring, before)?;
+    let after = roster_of(rt, chosen, &mut ring, after)?;
     let mut text = String::new(rt.alloc());
     let is_changed = if chosen.json {
         write_change_objects(&mut text, &before, &after)?

@@ -2,7 +2,7 @@
 
 use crate::claims::kind_word;
 use crate::json::Object;
-use crate::tags::is_bare;
+use crate::tags::{is_bare, is_same_meta};
 use crate::texts::{address_text, meta_text};
 use memberlist_view::{Entry, State};
 use std::alloc::{AllocError, Global};
@@ -44,10 +44,11 @@ impl Known {
         })
     }
 
-    /// Whether both say the same. Details that one of the two lacks are not compared.
+    /// Whether both say the same. Details that one of the two lacks are not compared, nor is the order
+    /// of tags.
     pub(crate) fn is_same(&self, other: &Known) -> bool {
         let same_details = match (&self.details, &other.details) {
-            (Some(own), Some(others)) => *own == *others,
+            (Some(own), Some(others)) => is_same_details(own, others),
             _ => true,
         };
         self.kind == other.kind && self.inc == other.inc && same_details
@@ -111,6 +112,13 @@ impl Known {
             None => Ok(()),
         }
     }
+}
+
+fn is_same_details(one: &Details, other: &Details) -> bool {
+    one.addr() == other.addr()
+        && one.port() == other.port()
+        && one.vsn() == other.vsn()
+        && is_same_meta(one.meta(), other.meta())
 }
 
 fn kind_of(state: &State) -> Kind {
