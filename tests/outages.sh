@@ -29,9 +29,9 @@ check 'nobody joins in a late capture'
 run timeline --member web-9 "$late"
 count 'a member that nobody names' "$(grep -q 'nothing was heard about the --member name' err || echo "; $(start_of err)")"
 
-# cut CONDITION FILE: those frames of the late capture whose time, in seconds after 21:16:00, and Ethernet frame make the
+# late_frames CONDITION FILE: those frames of the late capture whose time, in seconds after 21:16:00, and Ethernet frame make the
 # condition true
-cut() {
+late_frames() {
     python3 - "$late" "$1" "$2" <<'END'
 import struct, sys
 data = open(sys.argv[1], "rb").read()
@@ -47,7 +47,7 @@ END
 }
 
 # the death, and the streams with it, are not captured: web-3 is suspected for 36 s
-cut 'not 28.5 < time < 30 and not is_tcp' lost.pcap
+late_frames 'not 28.5 < time < 30 and not is_tcp' lost.pcap
 # memberlist's suspicionTimeout and suspectNode: the first suspicion is of 21:16:24.35, and of five members three may
 # confirm it; so it lasts 4 s times 6 at most, with a SuspicionMult of 5 also six times as long, and with 10 only 10 s
 for row in '21:16:48 4 suspect' '21:16:49 4 overdue' '21:17:00 4 overdue' '21:16:54 5 suspect' '21:16:55 5 overdue' \
@@ -69,7 +69,7 @@ check 'the objects of members, of which one is overdue'
 
 # From 21:16:30 on web-3 is only named in records of streams, the first at 21:16:44.42, as an independent reader found.
 # web-1's log has it failed at 21:16:28.
-cut '30 < time' told.pcap
+late_frames '30 < time' told.pcap
 sed '/^#/d' captures/late/members | awk '$3 == "kill.pcap" { sub("failed", "dead", $6); print $4, $5, $6 }' > wanted
 "$program" members told.pcap 2> err | awk 'NR > 1 { print $1, $2, $3 }' > found
 check 'a death that only streams tell'
