@@ -27,7 +27,7 @@ pub(crate) fn is_understood(records: &[StateRecord]) -> bool
     ensures { result ≡ is_understood records.now }
 {
     let shared = shared_by(records);
-    records.iter().all(|record| speaks(shared, record))
+    records.iter().all(|read| speaks(shared, read))
 }
 
 /// The versions that all who are alive in these records understand.
@@ -36,7 +36,7 @@ fn shared_by(records: &[StateRecord]) -> Shared
 {
     records
         .iter()
-        .fold(any_shared(), |shared, record| shared_with(shared, record))
+        .fold(any_shared(), |shared, read| shared_with(shared, read))
 }
 
 /// All versions.
@@ -54,11 +54,11 @@ fn any_shared() -> Shared
 }
 
 /// What is left of shared versions with another member.
-fn shared_with(shared: Shared, record: &StateRecord) -> Shared
-    ensures { result ≡ shared_with shared record.now }
+fn shared_with(shared: Shared, read: &StateRecord) -> Shared
+    ensures { result ≡ shared_with shared read.now }
 {
-    let vsn = versions_in(record);
-    if record.claim.details().is_none() || vsn.is_empty() {
+    let vsn = versions_in(read);
+    if read.claim.details().is_none() || vsn.is_empty() {
         return shared;
     }
     Shared {
@@ -85,10 +85,10 @@ fn narrowed(range: Range, min: u8, max: u8) -> Range
 }
 
 /// Whether a member speaks versions that all understand.
-fn speaks(shared: Shared, record: &StateRecord) -> bool
-    ensures { result ≡ speaks shared record.now }
+fn speaks(shared: Shared, read: &StateRecord) -> bool
+    ensures { result ≡ speaks shared read.now }
 {
-    let vsn = versions_in(record);
+    let vsn = versions_in(read);
     is_within(shared.protocol, at(vsn, 2)) && is_within(shared.user, at(vsn, 5))
 }
 
@@ -99,12 +99,12 @@ fn is_within(range: Range, version: u8) -> bool
 }
 
 /// The versions in a record, six or none.
-fn versions_in(record: &StateRecord) -> &[u8]
-    ensures { result.now ≡ versions_in record.now }
+fn versions_in(read: &StateRecord) -> &[u8]
+    ensures { result.now ≡ versions_in read.now }
 {
-    match record.claim.details() {
+    match read.claim.details() {
         Some(details) => details.vsn(),
-        None => match &record.told {
+        None => match &read.told {
             Some(told) => told.vsn(),
             None => &[],
         },
