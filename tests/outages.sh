@@ -29,19 +29,25 @@ check 'nobody joins in a late capture'
 run timeline --member web-9 "$late"
 count 'a member that nobody names' "$(grep -q 'nothing was heard about the --member name' err || echo "; $(start_of err)")"
 
-# the death, and the streams with it, are not captured: web-3 is suspected for 36 s
-python3 - "$late" lost.pcap <<'END'
+# late_frames CONDITION FILE: those frames of the late capture whose time, in seconds after 21:16:00, and Ethernet frame make the
+# condition true
+late_frames() {
+    python3 - "$late" "$1" "$2" <<'END'
 import struct, sys
 data = open(sys.argv[1], "rb").read()
 kept, at = data[:24], 24
 while at < len(data):
     seconds, micros, length = struct.unpack_from("<III", data, at)
     time = (seconds + micros / 1e6) % 86400 - (21 * 3600 + 16 * 60)
-    if not 28.5 < time < 30:
+    if eval(sys.argv[2], {"time": time, "is_tcp": data[at + 16 + 23] == 6}):
         kept += data[at:at + 16 + length]
     at += 16 + length
-open(sys.argv[2], "wb").write(kept)
+open(sys.argv[3], "wb").write(kept)
 END
+}
+
+# the death, and the streams with it, are not captured: web-3 is suspected for 36 s
+late_frames 'not 28.5 < time < 30 and not is_tcp' lost.pcap
 # memberlist's suspicionTimeout and suspectNode: the first suspicion is of 21:16:24.35, and of five members three may
 # confirm it; so it lasts 4 s times 6 at most, with a SuspicionMult of 5 also six times as long, and with 10 only 10 s
 for row in '21:16:48 4 suspect' '21:16:49 4 overdue' '21:17:00 4 overdue' '21:16:54 5 suspect' '21:16:55 5 overdue' \
@@ -60,6 +66,27 @@ for line in sys.stdin:
     print(o["name"], o["state"], o.get("overdue", False))' > found
 printf 'web-%s\n' '1 alive False' '2 alive False' '3 suspect True' '4 alive False' '5 alive False' > wanted
 check 'the objects of members, of which one is overdue'
+
+# From 21:16:30 on web-3 is only named in records of streams, the first at 21:16:44.42, as an independent reader found.
+# web-1's log has it failed at 21:16:28.
+late_frames '30 < time' told.pcap
+sed '/^#/d' captures/late/members | awk '$3 == "kill.pcap" { sub("failed", "dead", $6); print $4, $5, $6 }' > wanted
+"$program" members told.pcap 2> err | awk 'NR > 1 { print $1, $2, $3 }' > found
+check 'a death that only streams tell'
+"$program" members told.pcap 2> err | awk '$1 == "web-3" { print $3, $4, $6 }' > found
+echo 'dead 1 -' > wanted
+check 'a death that only streams tell is by nobody'
+"$program" timeline --member web-3 told.pcap 2> err | shown > found
+echo '21:16:44 web-3 dead 1' > wanted
+check 'the event of a death that only streams tell'
+"$program" members --json told.pcap 2> err | python3 -c '
+import json, sys
+for line in sys.stdin:
+    o = json.loads(line)
+    if o["state"] == "dead":
+        print(o["name"], o["incarnation"], o["by"])' > found
+echo 'web-3 1 []' > wanted
+check 'the object of a death that only streams tell'
 
 # ---- a part of the time
 

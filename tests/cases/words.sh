@@ -19,6 +19,38 @@ explains 'an argument that is not UTF-8'
 run "$(printf 'list\377')" p.bin
 explains 'a command that is not UTF-8'
 
+# The next step after a first word that is no command, and after a capture.
+for word in p.bin missing.bin listing; do
+    run "$word"
+    explains "swimtab $word"
+    count "swimtab $word names the next step" \
+        "$([ "$(tail -n 1 err)" = 'swimtab: packets are read from standard input: swimtab < FILE' ] || echo "; $(start_of err)")"
+done
+for words in --foo 'list' 'run p.bin' '--help' 'relate p.bin'; do
+    # shellcheck disable=SC2086
+    run $words
+    count "swimtab $words names no such step" "$(! grep -q 'packets are read from' err || echo "; $(start_of err)")"
+done
+for magic in d4c3b2a1 a1b2c3d4 4d3cb2a1 a1b23c4d; do
+    bytes "${magic}0200040000000000000000000000040001000000" > x.pcap
+    timeout 120 "$program" < x.pcap > out 2> err
+    status=$?
+    refuses "a capture with the magic number $magic" 3 "swimtab: line 1: fault 30 BadHex
+swimtab: the input is a capture; swimwatch reads captures: swimwatch members FILE"
+done
+bytes 0a0d0d0a1c0000004d3c2b1a01000000ffffffffffffffff1c000000 > x.pcapng
+timeout 120 "$program" < x.pcapng > out 2> err
+status=$?
+refuses 'a pcapng capture' 3 "swimtab: line 2: fault 30 BadHex
+swimtab: the input is a capture; swimwatch reads captures: swimwatch members FILE"
+bytes d4c3b2 > x.pcap
+timeout 120 "$program" < x.pcap > out 2> err
+status=$?
+refuses 'three bytes of a magic number' 3 'swimtab: line 1: fault 30 BadHex'
+timeout 120 "$program" run < x.pcapng > out 2> err
+status=$?
+refuses 'a capture as a script' 3 'swimtab: line 2: fault 31 BadScript'
+
 # Names of files.
 cp p.bin -- -x.bin
 cp q.bin -- -

@@ -39,7 +39,7 @@ const (
 	saysLeft
 )
 
-// said is something that was heard. A record that says suspect or dead is a Suspect without an accuser.
+// said is something that was heard. A record that says suspect or dead names no accuser.
 type said struct {
 	saying saying
 	name   string
@@ -139,6 +139,23 @@ func ended(end shown, time int, e entry, inc uint32) *entry {
 	return &e
 }
 
+func endedInRecord(time int, e entry, inc uint32) *entry {
+	if e.details == nil {
+		return ended(shownDead, time, e, inc)
+	}
+	return suspected(time, e, inc, "")
+}
+
+func endedBy(time int, e entry, s said) *entry {
+	switch s.from {
+	case "":
+		return endedInRecord(time, e, s.inc)
+	case s.name:
+		return ended(shownLeft, time, e, s.inc)
+	}
+	return ended(shownDead, time, e, s.inc)
+}
+
 // changeOfEntry returns the entry after what was said, or nil if nothing changes.
 func changeOfEntry(time int, e entry, s said) *entry {
 	switch {
@@ -148,8 +165,8 @@ func changeOfEntry(time int, e entry, s said) *entry {
 		return nil
 	case s.saying == saysSuspect:
 		return suspected(time, e, s.inc, s.from)
-	case s.saying == saysDead && s.from != s.name:
-		return ended(shownDead, time, e, s.inc)
+	case s.saying == saysDead:
+		return endedBy(time, e, s)
 	}
 	return ended(shownLeft, time, e, s.inc)
 }

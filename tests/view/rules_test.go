@@ -18,7 +18,8 @@ const (
 )
 
 // Not compared, since an observer knows more here than a member (Rules.antt marks these rules with "own"):
-//   - a Suspect, a Dead or a Left of a name of which no Alive above incarnation 0 was heard: a member drops it;
+//   - a Suspect, a Dead or a Left of a name of which no Alive above incarnation 0 was heard, also in a record: a member
+//     drops it;
 //   - a message that names no accuser;
 //   - what packets show of a name without an Alive (Seen);
 //   - the end of the wait, after which one that is gone is forgotten: resetNodes is not called;
@@ -78,13 +79,10 @@ func anything(r *rand.Rand) (said, bool) {
 	if s.saying == saysLeft {
 		s.from = s.name
 	}
-	if record && s.saying == saysDead {
-		s.saying = saysSuspect
-	}
 	if !record && s.saying == saysLeft {
 		s.saying = saysDead
 	}
-	if record && s.saying == saysSuspect {
+	if record && (s.saying == saysSuspect || s.saying == saysDead) {
 		s.from = ""
 	}
 	switch r.Intn(6) {
@@ -98,13 +96,15 @@ func anything(r *rand.Rand) (said, bool) {
 }
 
 // hear gives it to the member, as its handlers do.
-func hear(m *Memberlist, r *rand.Rand, s said, record bool) {
+func hear(m *Memberlist, s said, record bool) {
 	if record {
 		state := pushNodeState{Name: s.name, Incarnation: s.inc, Addr: s.place.addr, Port: s.place.port,
 			Meta: s.place.meta, Vsn: s.place.vsn}
 		switch s.saying {
 		case saysSuspect:
-			state.State = []NodeStateType{StateSuspect, StateDead}[r.Intn(2)]
+			state.State = StateSuspect
+		case saysDead:
+			state.State = StateDead
 		case saysLeft:
 			state.State = StateLeft
 		}
@@ -202,7 +202,7 @@ func TestRules(t *testing.T) {
 			changed = node.StateChange
 		}
 		reported := c.count
-		hear(m, r, s, record)
+		hear(m, s, record)
 		after := changeOfEntry(step, before, s)
 		if after != nil {
 			entries[s.name] = after

@@ -1,30 +1,12 @@
 //! A key, and its text.
 
-ghost use Rattle.std.specs.Prelude.{◌≡◌, ℕ, List, length, replicate, vec_len, vec_capacity, IfOk, OnErr, MatchBool, MatchOption};
+ghost use Rattle.std.specs.Prelude.{◌≡◌, ℕ, List, vec_len, vec_capacity, IfOk, OnErr, MatchBool, MatchOption};
 ghost use Rattle.memberlist_keyring.specs.KeyFile.{IsKeyText, HasKeySize};
 
+use crate::Secret;
 use base64::engine::general_purpose::STANDARD;
 use memberlist_cipher::{Key, is_key};
 use std::alloc::{AllocError, Global};
-
-/// The bytes of a key, as decoded from its text. They are overwritten before their memory is freed.
-struct Decoded {
-    bytes: Vec<u8>,
-}
-
-impl Drop for Decoded {
-    fn drop(self) {
-        let Decoded { mut bytes } = self;
-        overwrite(&mut bytes);
-    }
-}
-
-/// Overwrites each byte with 0.
-fn overwrite(bytes: &mut [u8])
-    ensures { bytes.new ≡ replicate (length bytes.old) 0 }
-{
-    bytes.fill(0);
-}
 
 /// The maximum number of bytes in base64 of the length of a key's text.
 const MAX_DECODED_LEN: usize = 33;
@@ -38,9 +20,7 @@ pub(crate) fn key_of(alloc: Global, text: &[u8]) -> Result<Option<Key>, AllocErr
     if !has_key_size(text) {
         return Ok(None);
     }
-    let mut decoded = Decoded {
-        bytes: vec![in alloc; 0u8; MAX_DECODED_LEN]?,
-    };
+    let mut decoded = Secret::new(vec![in alloc; 0u8; MAX_DECODED_LEN]?);
     if !decode_over(text, &mut decoded.bytes) {
         return Ok(None);
     }

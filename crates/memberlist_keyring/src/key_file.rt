@@ -6,8 +6,8 @@ ghost use Rattle.serde_json.specs.Data.{Data};
 ghost use Rattle.serde_json.specs.View.{view};
 ghost use Rattle.memberlist_keyring.specs.KeyFile.{IsKeyText, HasKeySize, LineHolds, lines_of, ItemHolds, HoldInOrder, IsBlank, IsListText, IsKeyFile, IsJsonList, ItemsCause, KeyFileCause};
 
-use crate::KeyFileFault;
 use crate::key::key_of;
+use crate::{KeyFileFault, Secret};
 use memberlist_cipher::Key;
 use serde_json::Value;
 use std::alloc::{AllocError, Global};
@@ -119,7 +119,25 @@ fn keys_of_list(alloc: Global, text: &[u8]) -> Result<Vec<Key>, KeyFileFault>
     let Some(items) = value.as_array() else {
         return Err(KeyFileFault::NotList);
     };
-    keys_of_items(alloc, items)
+    let keys = keys_of_items(alloc, items);
+    overwrite_texts(value);
+    keys
+}
+
+/// Frees a value. If it is a list, the texts in it are overwritten before.
+fn overwrite_texts(value: Value) {
+    if let Value::Array(items) = value {
+        for item in items {
+            overwrite_text(item);
+        }
+    }
+}
+
+/// Frees a value. If it is a text, it is overwritten before.
+fn overwrite_text(value: Value) {
+    if let Value::String(text) = value {
+        drop(Secret::new(text.into_bytes()));
+    }
 }
 
 /// The keys of the items of a list.

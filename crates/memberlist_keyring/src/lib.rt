@@ -6,6 +6,7 @@
 //! | `fault` | why a key file is refused |
 //! | `key` | a key, and its text |
 //! | `key_file` | the keys of a file |
+//! | `secret` | bytes that must not stay in memory |
 //! | `label` | the label of a packet or a stream |
 //! | `trial` | keys tried in order |
 //! | `keyring` | a cluster's keys |
@@ -21,12 +22,14 @@ mod key_file;
 mod keyring;
 mod label;
 pub mod laws;
+mod secret;
 mod trial;
 mod turn;
 
 pub use fault::KeyFileFault;
 pub use keyring::Keyring;
 pub use label::behind_label;
+pub use secret::{Secret, overwrite};
 
 #[cfg(test)]
 mod tests;

@@ -5,6 +5,7 @@ mod encrypt;
 mod key_files;
 mod opening;
 mod packets;
+mod secrets;
 
 use crate::Keyring;
 use std::alloc::Global;

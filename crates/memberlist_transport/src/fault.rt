@@ -8,6 +8,9 @@ use memberlist_wrap::WrapFault;
 use std::alloc::AllocError;
 use thiserror::Error;
 
+/// The number of the fault of a packet or a stream that is not encrypted, if there are keys (own).
+pub const UNENCRYPTED: u32 = 59;
+
 /// Why a packet is refused (own).
 #[derive(Clone, Copy, Debug, PartialEq, Eq, Error)]
 pub enum PacketFault {

@@ -21,7 +21,7 @@ mod reply;
 mod stream;
 mod unwrapped;
 
-pub use fault::{PacketFault, StreamFault};
+pub use fault::{PacketFault, StreamFault, UNENCRYPTED};
 pub use in_the_clear::InTheClear;
 pub use message::{Claiming, Message};
 pub use packet::{MAX_MESSAGE_LEN, open_packet};

@@ -11,7 +11,7 @@ use Rattle.memberlist_view.specs.declared.heard.Heard.{Heard}
 use Rattle.memberlist_view.specs.declared.heard.Said.{Said}
 use Rattle.memberlist_view.specs.declared.heard.Said.TheVariants.{Alive, Suspect, Dead, Left, Seen}
 use Rattle.memberlist_view.specs.Heard.{about}
-use Rattle.memberlist_view.specs.Rules.{Change, name_cmp, is_passed_over, is_passed_rival, are_sound_versions, is_same_place, with_versions, is_gone, has_left, is_forgotten, alive_again, alive_at, alive, accused, suspect_since, suspected, ended, blank, lacks_place, seen_in, seen_at, change_of_entry, change_by, change}
+use Rattle.memberlist_view.specs.Rules.{Change, name_cmp, is_passed_over, is_passed_rival, are_sound_versions, is_same_place, with_versions, is_gone, has_left, is_forgotten, alive_again, alive_at, alive, accused, suspected, ended, ended_in_record, ended_by, blank, lacks_place, seen_in, change_of_entry, change_by, change}
 use Rattle.memberlist_view.specs.Shown.{changed, shown_next}
 use Rattle.memberlist_view.specs.Lasting.{is_same_kind, IsSince, IsSince as since}
 use Rattle.memberlist_view.proofs.Changing.{by_test, first_true}
@@ -41,7 +41,7 @@ left_not_alive (state.Dead by) h = absurd (cc (h))
 left_not_alive state.Left h = refl
 
 -- a state that is not gone becomes dead, or left
-other_when_dead : (s : State) (from : List ℕ) → is_gone s ≡ false → is_same_kind s (state.Dead from) ≡ false
+other_when_dead : (s : State) (from : Option (List ℕ)) → is_gone s ≡ false → is_same_kind s (state.Dead from) ≡ false
 other_when_dead state.Noted from h = refl
 other_when_dead state.Seen from h = refl
 other_when_dead state.Alive from h = refl
@@ -106,13 +106,21 @@ module _ (time : ℕ) (entry : Entry) where
     suspected_since from (state.Dead by) e = tt
     suspected_since from state.Left e = tt
 
-    dead_since : (from : List ℕ) → IfSome (ended (state.Dead from) event.Dead time entry inc) Is
+    dead_since : (from : Option (List ℕ)) → IfSome (ended (state.Dead from) event.Dead time entry inc) Is
     dead_since from = by_test Is (is_gone entry.state) None _ (λ _. tt)
         (λ here. began_as entry.state _ refl (other_when_dead entry.state from here) refl)
 
     left_since : IfSome (ended state.Left event.Left time entry inc) Is
     left_since = by_test Is (is_gone entry.state) None _ (λ _. tt)
         (λ here. began_as entry.state _ refl (other_when_left entry.state here) refl)
+
+    in_record_since : (o : Option DetailsValue) → IfSome (ended_in_record o time entry inc) Is
+    in_record_since None = dead_since None
+    in_record_since (Some d) = suspected_since None entry.state refl
+
+    ended_by_since : (name : List ℕ) (from : Option (List ℕ)) → IfSome (ended_by name from time entry inc) Is
+    ended_by_since name None = in_record_since entry.details
+    ended_by_since name (Some from) = by_test Is (is_eq (name_cmp name from)) _ _ (λ _. left_since) (λ _. dead_since (Some from))
 
   seen_in_since : (s : State) (place : DetailsValue) → entry.state ≡ s → IsSince (Some entry) time (seen_in s time entry place)
   seen_in_since state.Noted place e = began_as state.Noted _ e refl refl
@@ -128,8 +136,7 @@ of_entry_since wait time entry (Alive name inc details joins) =
 of_entry_since wait time entry (Suspect name inc from) =
     by_test (Is time entry) (nat_lt inc entry.inc) None _ (λ _. tt) (λ _. suspected_since time entry inc from entry.state refl)
 of_entry_since wait time entry (Dead name inc from) =
-    by_test (Is time entry) (nat_lt inc entry.inc) None _ (λ _. tt) (λ _.
-    by_test (Is time entry) (is_eq (name_cmp name from)) _ _ (λ _. left_since time entry inc) (λ _. dead_since time entry inc from))
+    by_test (Is time entry) (nat_lt inc entry.inc) None _ (λ _. tt) (λ _. ended_by_since time entry inc name from)
 of_entry_since wait time entry (Left name inc) =
     by_test (Is time entry) (nat_lt inc entry.inc) None _ (λ _. tt) (λ _. left_since time entry inc)
 of_entry_since wait time entry (Seen name place) =

@@ -1,5 +1,5 @@
 -- A member that is dead or left stays so until it is brought back.
-use Rattle.std.proofs.Common.{◌≡◌, ℕ, ◌<◌, Bool, true, false, ◌&&◌, nat_lt, nat_le, Option, Some, None, IfSome, List, [], ◌∷◌, ◌++◌, Contains, if◌then◌else◌, ◌-◌, refl, sym, ap, subst, ◌∙◌, arith}
+use Rattle.std.proofs.Common.{◌≡◌, ℕ, ◌<◌, Bool, true, false, nat_lt, nat_le, Option, Some, None, IfSome, List, [], ◌∷◌, ◌++◌, Contains, if◌then◌else◌, ◌-◌, refl, sym, ap, subst, ◌∙◌, arith}
 use Rattle.std.specs.Option.{is_none}
 use Rattle.std.specs.Ordering.{is_eq}
 use Rattle.std.specs.declared.cmp.Ordering.{Ordering}
@@ -17,7 +17,7 @@ use Rattle.memberlist_view.specs.declared.heard.Heard.{Heard}
 use Rattle.memberlist_view.specs.declared.heard.Said.{Said}
 use Rattle.memberlist_view.specs.declared.heard.Said.TheVariants.{Alive, Suspect, Dead, Left, Seen}
 use Rattle.memberlist_view.specs.Heard.{about}
-use Rattle.memberlist_view.specs.Rules.{Change, name_cmp, are_sound_versions, is_same_place, is_gone, has_left, is_forgotten, is_passed_rival, alive_at, alive, suspected, ended, lacks_place, seen_in, seen_at, change_of_entry, change}
+use Rattle.memberlist_view.specs.Rules.{Change, name_cmp, are_sound_versions, is_same_place, is_gone, has_left, is_forgotten, is_passed_rival, alive_at, alive, suspected, ended, ended_in_record, ended_by, lacks_place, seen_in, change_of_entry, change}
 use Rattle.memberlist_view.specs.Shown.{changed, shown_next, shown_from}
 use Rattle.memberlist_view.specs.Sources.{Was}
 use Rattle.memberlist_view.specs.Lasting.{may_be_here, may_be_elsewhere, Revives, Revives as revival, IsRevival, IsStill}
@@ -75,6 +75,15 @@ module _ (wait time : ℕ) (entry : Entry) (gone : is_gone entry.state ≡ true)
   ended_stays : (end : State) (what : Event) (inc : ℕ) → IfSome (ended end what time entry inc) Stays
   ended_stays end what inc = by_test Stays (is_gone entry.state) None _ (λ _. tt) (λ not. absurd (cc (gone, not)))
 
+  in_record_stays : (o : Option DetailsValue) (inc : ℕ) → IfSome (ended_in_record o time entry inc) Stays
+  in_record_stays None inc = ended_stays (state.Dead None) event.Dead inc
+  in_record_stays (Some d) inc = suspected_stays entry.state inc None gone
+
+  ended_by_stays : (name : List ℕ) (from : Option (List ℕ)) (inc : ℕ) → IfSome (ended_by name from time entry inc) Stays
+  ended_by_stays name None inc = in_record_stays entry.details inc
+  ended_by_stays name (Some from) inc =
+      by_test Stays (is_eq (name_cmp name from)) _ _ (λ _. ended_stays state.Left event.Left inc) (λ _. ended_stays (state.Dead (Some from)) event.Dead inc)
+
   seen_too : (place : DetailsValue) → lacks_place entry ≡ true → IsStill entry (record entry { seen = Some place })
   seen_too place lacks = record { state = refl; inc = refl; since = refl; details = unknown entry.details refl lacks }
     where
@@ -98,8 +107,7 @@ module _ (wait time : ℕ) (entry : Entry) (gone : is_gone entry.state ≡ true)
   said_stays name (Alive n inc details joins) e not = by_test Stays (are_sound_versions details.vsn) _ None
       (λ sound. alive_stays inc details joins (λ revives. not (inc, details, joins, ap (λ m. Alive m inc details joins) e, sound, revives))) (λ _. tt)
   said_stays name (Suspect n inc from) e not = by_test Stays (nat_lt inc entry.inc) None _ (λ _. tt) (λ _. suspected_stays entry.state inc from gone)
-  said_stays name (Dead n inc from) e not = by_test Stays (nat_lt inc entry.inc) None _ (λ _. tt) (λ _.
-      by_test Stays (is_eq (name_cmp n from)) _ _ (λ _. ended_stays state.Left event.Left inc) (λ _. ended_stays (state.Dead from) event.Dead inc))
+  said_stays name (Dead n inc from) e not = by_test Stays (nat_lt inc entry.inc) None _ (λ _. tt) (λ _. ended_by_stays n from inc)
   said_stays name (Left n inc) e not = by_test Stays (nat_lt inc entry.inc) None _ (λ _. tt) (λ _. ended_stays state.Left event.Left inc)
   said_stays name (Seen n place) e not = by_test Stays (lacks_place entry) _ None (λ lacks. seen_in_stays entry.state place gone lacks) (λ _. tt)
 

@@ -2,10 +2,10 @@
 
 ghost use Rattle.std.specs.Prelude.{◌≡◌, ◌∷◌, [], Some, IsSome, IfOk, OnErr};
 ghost use Rattle.std.specs.Option.{option_copied};
-ghost use Rattle.memberlist_view.specs.Rules.{are_sound_versions, with_versions, alive_since, alive_after, alive_elsewhere, first_event, alive_still, alive_again, believed, alive_unplaced, alive_placed, alive, accused, suspect_since, suspected, ended, ended_by, seen_in, seen_at, change_of_entry, change};
+ghost use Rattle.memberlist_view.specs.Rules.{are_sound_versions, with_versions, alive_since, alive_after, alive_elsewhere, first_event, alive_still, alive_again, believed, alive_unplaced, alive_placed, alive, accused, suspect_since, suspected, ended, ended_in_record, ended_by, seen_in, seen_at, change_of_entry, change};
 
 use crate::accusers::Accusers;
-use crate::entry::{Entry, State};
+use crate::entry::{Entry, State, name_copy};
 use crate::event::Event;
 use crate::heard::{Heard, Said};
 use crate::member_name::MemberName;
@@ -64,7 +64,7 @@ fn change_of_entry(
         Said::Dead { name, inc, from } => if *inc < entry.inc {
             Ok(None)
         } else {
-            ended_by(alloc, name, from, time, entry, *inc)
+            ended_by(alloc, name, from.as_ref(), time, entry, *inc)
         },
         Said::Left { inc, .. } => if *inc < entry.inc {
             Ok(None)
@@ -340,41 +340,58 @@ fn left(alloc: Global, time: u64, entry: &Entry, inc: u32) -> Result<Change, All
 
 fn dead(
     alloc: Global,
-    from: &MemberName,
+    from: Option<&MemberName>,
     time: u64,
     entry: &Entry,
     inc: u32,
 ) -> Result<Change, AllocError>
     ensures ok { IfOk result (λ changed.
-        changed ≡ ended (State.Dead from.now) Event.Dead time entry.now inc) }
-    ensures asks { OnErr result (IsSome (ended (State.Dead from.now) Event.Dead time entry.now inc)) }
+        changed ≡ ended (State.Dead (option_copied from.entry)) Event.Dead time entry.now inc) }
+    ensures asks { OnErr result
+        (IsSome (ended (State.Dead (option_copied from.entry)) Event.Dead time entry.now inc)) }
 {
     if entry.state.is_gone() {
         return Ok(None);
     }
-    let by = from.try_clone(alloc)?;
+    let by = name_copy(alloc, from)?;
     Ok(Some((
         entry.with_state(alloc, State::Dead { by }, inc, time)?,
         Event::Dead,
     )))
 }
 
+/// The change by a record that says dead.
+fn ended_in_record(alloc: Global, time: u64, entry: &Entry, inc: u32) -> Result<Change, AllocError>
+    ensures ok { IfOk result (λ changed.
+        changed ≡ ended_in_record entry.now.details time entry.now inc) }
+    ensures asks { OnErr result (IsSome (ended_in_record entry.now.details time entry.now inc)) }
+{
+    match &entry.details {
+        None => dead(alloc, None, time, entry, inc),
+        Some(_) => suspected(alloc, time, entry, inc, None),
+    }
+}
+
 fn ended_by(
     alloc: Global,
     name: &MemberName,
-    from: &MemberName,
+    from: Option<&MemberName>,
     time: u64,
     entry: &Entry,
     inc: u32,
 ) -> Result<Change, AllocError>
     ensures ok { IfOk result (λ changed.
-        changed ≡ ended_by name.now from.now time entry.now inc) }
-    ensures asks { OnErr result (IsSome (ended_by name.now from.now time entry.now inc)) }
+        changed ≡ ended_by name.now (option_copied from.entry) time entry.now inc) }
+    ensures asks { OnErr result
+        (IsSome (ended_by name.now (option_copied from.entry) time entry.now inc)) }
 {
+    let Some(from) = from else {
+        return ended_in_record(alloc, time, entry, inc);
+    };
     if *name == *from {
         left(alloc, time, entry, inc)
     } else {
-        dead(alloc, from, time, entry, inc)
+        dead(alloc, Some(from), time, entry, inc)
     }
 }
 

@@ -21,8 +21,8 @@ pub enum State {
     Alive,
     /// Suspected by these members. Records of streams name nobody.
     Suspect { by: Accusers },
-    /// Declared dead by this member.
-    Dead { by: MemberName },
+    /// Declared dead by this member. A record of a stream names nobody.
+    Dead { by: Option<MemberName> },
     /// It left on its own.
     Left,
 }
@@ -83,10 +83,23 @@ impl State {
                 by: by.try_clone(alloc)?,
             }),
             State::Dead { by } => Ok(State::Dead {
-                by: by.try_clone(alloc)?,
+                by: name_copy(alloc, by.as_ref())?,
             }),
             State::Left => Ok(State::Left),
         }
+    }
+}
+
+/// A copy, or none.
+pub(crate) fn name_copy(
+    alloc: Global,
+    name: Option<&MemberName>,
+) -> Result<Option<MemberName>, AllocError>
+    ensures { IfOk result (λ copy. copy ≡ option_copied name.entry) }
+{
+    match name {
+        Some(name) => Ok(Some(name.try_clone(alloc)?)),
+        None => Ok(None),
     }
 }
 

@@ -24,11 +24,12 @@ pub enum Said {
         inc: u32,
         from: Option<MemberName>,
     },
-    /// memberlist's dead, from the member that says so: if that is the member itself, it left.
+    /// memberlist's dead, from the member that says so: if that is the member itself, it left. A
+    /// record of a stream names none.
     Dead {
         name: MemberName,
         inc: u32,
-        from: MemberName,
+        from: Option<MemberName>,
     },
     /// A dead from the member itself, or a record of a stream that says left.
     Left {
@@ -53,8 +54,7 @@ pub struct Heard {
 }
 
 impl Said {
-    /// What a record of a push/pull stream says (memberlist's `mergeState`): a member that is
-    /// suspect or dead there is suspected, and nobody is named. `joins` is for an alive one, as in
+    /// What a record of a push/pull stream says: nobody is named. `joins` is for an alive one, as in
     /// [`Said::Alive`].
     pub fn of_record(claim: Claim, joins: bool) -> Said
         ensures { result ≡ said_in_record claim joins }
@@ -66,7 +66,12 @@ impl Said {
                 details,
                 joins,
             },
-            Claim::Suspect { name, inc } | Claim::Confirm { name, inc } => Said::Suspect {
+            Claim::Suspect { name, inc } => Said::Suspect {
+                name: MemberName::new(name),
+                inc,
+                from: None,
+            },
+            Claim::Confirm { name, inc } => Said::Dead {
                 name: MemberName::new(name),
                 inc,
                 from: None,

@@ -34,7 +34,8 @@ pub fn known_by_what_was_heard()
 {}
 
 /// Whatever is shown for a name was heard about it: the address and all other details, the
-/// incarnation, the time, each accuser, who declared it dead, and each rival.
+/// incarnation, the time, each accuser, who declared it dead, and each rival. A suspicion or a death
+/// that names nobody was heard too.
 pub fn nothing_invented()
     ensures { (wait : ℕ) (heard : List Heard) (name : List ℕ)
         → IfSome (shown wait heard name) (WasHeard heard name) }

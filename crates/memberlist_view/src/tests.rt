@@ -113,7 +113,7 @@ fn said(alloc: Global, word: Word) -> Result<Said, Fail> {
         Word::Dead(inc, from) => Ok(Said::Dead {
             name: MemberName::new(name(alloc, NAME)?),
             inc,
-            from: MemberName::new(name(alloc, from)?),
+            from: Some(MemberName::new(name(alloc, from)?)),
         }),
         Word::Silent(inc, host) => alive(alloc, inc, place(alloc, host)?),
         Word::Record(kind, inc) => said_in_record(alloc, kind, inc),
@@ -351,6 +351,70 @@ fn a_death_is_told_of_a_name_that_no_alive_gave(rt: HostRuntime) -> Result<(), F
     assert_tells(&rt, rt.alloc(), LOCAL, &steps[..2], ("failed", 0))?;
     assert_tells(&rt, rt.alloc(), LOCAL, &steps[..4], ("failed", 14))?;
     assert_tells(&rt, rt.alloc(), LOCAL, &steps, ("alive", 14))
+}
+
+// mergeState would only suspect it, but a capture that begins late may have no other sign of its
+// death than a record.
+#[test]
+fn a_record_tells_the_death_of_a_name_that_no_alive_gave(rt: HostRuntime) -> Result<(), Fail> {
+    let steps = [
+        (1_000, Word::Record(Kind::Confirm, 3), Some(Event::Dead)),
+        (2_000, Word::Record(Kind::Confirm, 3), None),
+        (3_000, Word::Dead(3, "web-3"), None),
+        (4_000, Word::Record(Kind::Alive, 3), Some(Event::Known)),
+        (5_000, Word::Record(Kind::Alive, 4), Some(Event::Back)),
+        (
+            6_000,
+            Word::Record(Kind::Confirm, 4),
+            Some(Event::Suspected),
+        ),
+    ];
+    assert_tells(&rt, rt.alloc(), LOCAL, &steps[..3], ("failed", 0))?;
+    assert_tells(&rt, rt.alloc(), LOCAL, &steps[..4], ("failed", 14))?;
+    assert_tells(&rt, rt.alloc(), LOCAL, &steps, ("alive", 14))
+}
+
+// What was known of the name before decides what such a record means.
+#[test]
+fn a_record_that_says_dead_believes_itself_only_without_an_alive(
+    rt: HostRuntime,
+) -> Result<(), Fail> {
+    for (before, first, inc, event, status) in [
+        (Word::Seen(14), Event::Seen, 0, Some(Event::Dead), "failed"),
+        (
+            Word::Suspect(3, "web-2"),
+            Event::Suspected,
+            3,
+            Some(Event::Dead),
+            "failed",
+        ),
+        (
+            Word::Suspect(3, "web-2"),
+            Event::Suspected,
+            2,
+            None,
+            "alive",
+        ),
+        (Word::Record(Kind::Leave, 3), Event::Left, 4, None, "left"),
+        (
+            Word::Alive(0, 14),
+            Event::Known,
+            0,
+            Some(Event::Suspected),
+            "alive",
+        ),
+    ] {
+        let host = match before {
+            Word::Seen(host) | Word::Alive(_, host) => host,
+            _ => 0,
+        };
+        let steps = [
+            (1_000, before, Some(first)),
+            (2_000, Word::Record(Kind::Confirm, inc), event),
+        ];
+        assert_tells(&rt, rt.alloc(), LOCAL, &steps, (status, host))?;
+    }
+    Ok(())
 }
 
 // Packets show where it is, until an Alive says it.

@@ -7,7 +7,7 @@ pub const MEMORY: u32 = 10;
 /// The message makes no claims.
 pub const WRONG_TYPE: u32 = 16;
 /// It is not encrypted, there are keys, and only what is encrypted is read.
-pub const UNENCRYPTED: u32 = 59;
+pub const UNENCRYPTED: u32 = memberlist_transport::UNENCRYPTED;
 /// The handle has no node.
 pub const NO_NODE: u32 = 64;
 /// The handle has a node already.

@@ -1,4 +1,4 @@
-//! Standard input up to its bound, and standard output.
+//! Input and files up to their bound, and output.
 
 ghost use Rattle.std.specs.Prelude.{◌≤◌, length, IfOk, IfErr, IsOkUnless, OnOk, OnErr};
 ghost use Rattle.std.specs.Io.KnownBytes.{Appends, Consumes, IsAtEnd};
@@ -9,7 +9,7 @@ ghost use Rattle.swim_program.specs.Report.{IsAmong};
 use crate::report::{Place, Report, What};
 use std::alloc::Global;
 use std::fs::File;
-use std::io::{ErrorKind, IsTerminal, Read, Write};
+use std::io::{self, ErrorKind, IsTerminal, Read, Stdin, Write};
 use swim_pack::write_whole;
 
 /// The maximum length of an input in bytes. Every canonical dump is shorter.
@@ -22,8 +22,13 @@ const RETRIES: u32 = 1000;
 const PIECE: usize = 65536;
 
 /// Reads to the end, but at most one byte past the bound, so that the length identifies a longer
-/// input. An error, or the 1,001st interruption, is a device fault.
-pub fn read_to_bound<R: Read>(alloc: Global, reader: &mut R) -> Result<Vec<u8>, What>
+/// input.
+///
+/// # Errors
+///
+/// The system's cause, which is the 1,001st interruption if there are as many, and an error of the
+/// kind `OutOfMemory` if out of memory.
+pub fn read_bytes<R: Read>(alloc: Global, reader: &mut R) -> io::Result<Vec<u8>>
     // If the reader's bytes are known, these are the next ones, and all that there are within the
     // bound.
     ensures reads { IfOk result (λ bytes.
@@ -42,7 +47,7 @@ pub fn read_to_bound<R: Read>(alloc: Global, reader: &mut R) -> Result<Vec<u8>, 
             Ok(count) => bytes.extend_from_slice(&piece[..count])?,
             Err(error) => {
                 if !matches!(error.kind(), ErrorKind::Interrupted) || interruptions == RETRIES {
-                    return Err(What::Device);
+                    return Err(error);
                 }
                 interruptions += 1;
             }
@@ -51,21 +56,53 @@ pub fn read_to_bound<R: Read>(alloc: Global, reader: &mut R) -> Result<Vec<u8>, 
     Ok(bytes)
 }
 
+/// Reads as [`read_bytes`] does. An error, or the 1,001st interruption, is a device fault.
+pub fn read_to_bound<R: Read>(alloc: Global, reader: &mut R) -> Result<Vec<u8>, What>
+    ensures reads { IfOk result (λ bytes.
+        Consumes (R.remaining reader.old) (R.remaining reader.new) bytes.items) }
+    ensures whole { IfOk result (λ bytes. length bytes.items ≤ max_input_len
+        → IsAtEnd (R.remaining reader.new)) }
+    ensures within { IfOk result (λ bytes. length bytes.items ≤ 268435457) }
+{
+    match read_bytes(alloc, reader) {
+        Ok(bytes) => Ok(bytes),
+        Err(error) => Err(match error.kind() {
+            ErrorKind::OutOfMemory => What::Memory,
+            _ => What::Device,
+        }),
+    }
+}
+
+/// Opens a file. A directory is refused, which the system would do only when it is read.
+pub fn open_file(rt: &HostRuntime, path: &str) -> io::Result<File> {
+    let file = File::open(rt, path)?;
+    if file.metadata()?.is_dir() {
+        return Err(io::Error::from(ErrorKind::IsADirectory));
+    }
+    Ok(file)
+}
+
 /// Reads standard input as [`read_to_bound`] does. If it is a terminal, a note first says what is
 /// expected there: `swimtab: reading a script from the terminal; Ctrl-D ends the input`.
 pub fn read_input(rt: &HostRuntime, program: &str, awaited: &str) -> Result<Vec<u8>, Report>
     ensures { IfErr result (λ report. IsAmong report.place 0) }
 {
-    let mut input = rt.stdin();
+    let mut input = awaited_input(rt, program, awaited);
+    match read_to_bound(rt.alloc(), &mut input) {
+        Ok(bytes) => Ok(bytes),
+        Err(what) => Err(what.at(Place::Input)),
+    }
+}
+
+/// Standard input. If it is a terminal, a note says what is expected there.
+pub(crate) fn awaited_input(rt: &HostRuntime, program: &str, awaited: &str) -> Stdin {
+    let input = rt.stdin();
     if input.is_terminal() {
         let _ = eprintln!(rt;
             "{program}: reading {awaited} from the terminal; Ctrl-D ends the input"
         );
     }
-    match read_to_bound(rt.alloc(), &mut input) {
-        Ok(bytes) => Ok(bytes),
-        Err(what) => Err(what.at(Place::Input)),
-    }
+    input
 }
 
 /// Reads a file as [`read_to_bound`] does. A file that cannot be opened is a device fault.

@@ -63,6 +63,29 @@ impl Failure {
         }
     }
 
+    /// The failure of a file, or of a standard stream, with the system's cause:
+    /// `swimunwrap: keys: device fault (No such file or directory (os error 2))`.
+    pub fn device(alloc: Global, program: &str, place: &str, error: &io::Error) -> Failure {
+        if error.kind() == io::ErrorKind::OutOfMemory {
+            return Failure::Memory;
+        }
+        match format!(in alloc; "{program}: {place}: device fault ({error})") {
+            Ok(text) => Failure::Refused { text, status: 4 },
+            Err(AllocError) => Failure::Memory,
+        }
+    }
+
+    /// The same failure, which prints a further line on standard error if the run was refused.
+    pub fn with_line(self, alloc: Global, line: &str) -> Failure {
+        match self {
+            Failure::Refused { text, status } => match format!(in alloc; "{text}\n{line}") {
+                Ok(text) => Failure::Refused { text, status },
+                Err(AllocError) => Failure::Memory,
+            },
+            failure => failure,
+        }
+    }
+
     /// Prints on standard error why this program ends, and returns its exit status. If nobody reads
     /// the output any more, it prints nothing, and the status is 0.
     pub fn tell(&self, rt: &HostRuntime, program: &str) -> ExitCode {

@@ -1,6 +1,7 @@
 -- What the checks of a message as a whole return, and for which messages.
-use Rattle.std.proofs.Common.{◌≡◌, inl, inr, ℕ, eqb, ltb, ◌||◌, List, [], ◌∷◌, length, Result, Ok, Err, refl, ap, sym, ◌∙◌}
+use Rattle.std.proofs.Common.{◌≡◌, inl, inr, ℕ, eqb, ltb, ◌||◌, List, [], ◌∷◌, length, Option, Result, Ok, Err, refl, ap, sym, ◌∙◌}
 use Rattle.std.specs.Prelude.{IfErr}
+use Rattle.std.specs.Result.{result_map_both}
 use Rattle.swim_claim.specs.declared.claim.Claim.{Claim}
 use Rattle.swim_claim.specs.Details.{DetailsValue}
 use Rattle.swim_pack.specs.Composing.Cause.{by_bytes, by_memory}
@@ -10,11 +11,12 @@ use Rattle.swim_wire.specs.declared.message.Accusation.{Accusation}
 use Rattle.swim_wire.specs.declared.message.Alive.{Alive}
 use Rattle.swim_wire.specs.declared.message.PushNodeState.{PushNodeState}
 use Rattle.swim_wire.specs.declared.message.PushPullHeader.{PushPullHeader}
+use Rattle.swim_wire.specs.declared.state_record.StateRecord.{StateRecord}
 use Rattle.swim_wire.specs.declared.stream.Header.{Header}
 use Rattle.swim_wire.specs.Limits.{max_nodes, max_user_state_len}
 use Rattle.swim_wire.specs.Message.{HasAliveFields, HasAccusationFields, HasHeaderFields, HasStateFields, slots_of_alive, slots_of_accusation, slots_of_header, slots_of_state}
 use Rattle.swim_wire.specs.Places.{header_nodes, header_user_state_len, state_name, state_state}
-use Rattle.swim_wire.specs.Reading.{Slots, wire_cause, AnswersUnlessMemory, number_in, raw_in, with_name, with_details, alive_of, suspect_of, dead_of, header_of, state_of, claim_of_state}
+use Rattle.swim_wire.specs.Reading.{Slots, wire_cause, AnswersUnlessMemory, number_in, raw_in, with_name, with_details, alive_of, suspect_of, dead_of, header_of, state_of, claim_of_state, told_of, with_told, record_of}
 use Rattle.swim_wire.proofs.Checking.{split}
 
 pub unless_ok : {A : Type 0} (wanted : Result A WireFault) (x : A) → AnswersUnlessMemory wanted (Ok x) → wanted ≡ Ok x
@@ -106,3 +108,28 @@ header_said slots header says = rw (says.join, says.nodes, says.user_state_len) 
 
 pub state_said : (slots : Slots) (state : PushNodeState) → HasStateFields slots state → state_of (slots_of_state state) ≡ state_of slots
 state_said slots state says = rw (says.addr, says.incarnation, says.meta, says.name, says.port, says.number, says.vsn) refl
+
+-- ---- records with all that they say
+
+pub record_said : (slots : Slots) (state : PushNodeState) → HasStateFields slots state → record_of (slots_of_state state) ≡ record_of slots
+record_said slots state says = rw (says.addr, says.incarnation, says.meta, says.name, says.port, says.number, says.vsn) refl
+
+told_check : (told : Option DetailsValue) (r : Result Claim WireFault) → IsCheck r → IsCheck (with_told told r)
+told_check told (Ok claim) h = record { by = tt }
+told_check told (Err error) h = record { by = h.by }
+
+pub record_check : (slots : Slots) → IsCheck (record_of slots)
+record_check slots = told_check (told_of slots) (state_of slots) (state_check slots)
+
+-- the claim of what was read
+abbrev pub claim_in : Result StateRecord WireFault → Result Claim WireFault
+claim_in r = result_map_both (λ r. r.claim) (λ fault. fault) r
+
+claim_kept : (told : Option DetailsValue) (r : Result Claim WireFault) → claim_in (with_told told r) ≡ r
+claim_kept told (Ok claim) = refl
+claim_kept told (Err error) = refl
+
+pub claim_answered : (slots : Slots) (r : Result StateRecord WireFault) → AnswersUnlessMemory (record_of slots) r
+    → AnswersUnlessMemory (state_of slots) (claim_in r)
+claim_answered slots r (inl e) = inl (ap claim_in e ∙ claim_kept (told_of slots) (state_of slots))
+claim_answered slots r (inr e) = inr (ap claim_in e)

@@ -3,6 +3,7 @@ use Rattle.std.proofs.Common.{◌≡◌, ◌≢◌, ℕ, inl, inr, false, List, 
 use Rattle.std.proofs.Common.{if◌then◌else◌, ◌==◌}
 use Rattle.std.proofs.lemmas.Result.{err_from_is_err_and}
 use Rattle.std.specs.Prelude.{IsErrAnd}
+use Rattle.std.specs.Result.{result_map_both}
 use Rattle.std.proofs.lemmas.Bool.Decides.{nat_tests}
 use Rattle.swim_pack.specs.Ends.{Source}
 use Rattle.swim_pack.specs.Composing.{ReadsAs, same, refuses, ◌>>=◌}
@@ -49,6 +50,23 @@ Reads-checked {A} reading f own (Err error) is check (inl e) p =
     let caused : IsCheck (err A error) = subst (λ (w : Result A WireFault). IsCheck w) (sym e) check in
     Reads-failed reading f error caused.by (sym is ∙ sym e) p
 Reads-checked reading f own (Err error) is check (inr e) p = Reads-memory _ error (memory_cause error e) p
+
+-- the same, of which a view is asked
+pub Reads-viewed : {X A : Type 0} {a b : Source} {values : List (Option Value)} (view : X → A) (reading : Reading Slots)
+    (f : Slots → Result A WireFault) (own : Slots) (r : Result X WireFault) → f own ≡ f (slots_of values) → IsCheck (f own)
+    → AnswersUnlessMemory (f own) (result_map_both view (λ fault. fault) r)
+    → ReadsAs wire_cause slots_of reading a b (Ok values) → ReadsAs wire_cause view (reading >>= (λ slots. checked (f slots))) a b r
+Reads-viewed {X} {A} {a} {b} {values} view reading f own (Ok x) is check (inl e) p =
+    let passed : f (slots_of values) ≡ Ok (view x) = sym is ∙ sym e in
+    let given : ReadsAs wire_cause view (checked (f (slots_of values))) b b (Ok x) = rw passed (Reads-gives {view = view} x) in
+    Reads-then (λ slots. checked (f slots)) p given
+Reads-viewed view reading f own (Ok x) is check (inr e) p = absurd cc
+Reads-viewed {X} {A} {a} {b} {values} view reading f own (Err error) is check (inl e) p =
+    let caused : IsCheck (err A error) = subst (λ (w : Result A WireFault). IsCheck w) (sym e) check in
+    let failed : f (slots_of values) ≡ Err error = sym is ∙ sym e in
+    let refused : ReadsAs {X = X} wire_cause view (checked (f (slots_of values))) b b (Err error) = rw failed (Reads-refuses error caused.by) in
+    Reads-then (λ slots. checked (f slots)) p refused
+Reads-viewed {X} view reading f own (Err error) is check (inr e) p = Reads-memory _ error (memory_cause {A = X} error cc) p
 
 -- ---- headers
 

@@ -1,5 +1,6 @@
 -- The readings of messages, one field at a time.
 use Rattle.std.specs.Prelude.{◌≡◌, ◌⊎◌, ℕ, zero, suc, nat_lt, ◌==◌, ◌||◌, Bool, true, false, List, [], ◌∷◌, length, Option, Some, None, Result, Ok, Err, if◌then◌else◌, position, slice_index_or, slice_set}
+use Rattle.std.specs.Result.{result_ok}
 use Rattle.std.specs.Str.{bytes_eq}
 use Rattle.swim_claim.specs.declared.claim.Claim.{Claim}
 use Rattle.swim_claim.specs.declared.claim.Claim.TheVariants.{Alive, Suspect, Confirm, Leave}
@@ -12,6 +13,7 @@ use Rattle.swim_wire.specs.declared.fault.WireFault.{WireFault}
 use Rattle.swim_wire.specs.declared.fault.WireFault.TheVariants.{Ended, Fault, Memory, NameEmpty, BadAddress, BadVersions, WrongType, UnknownKey, DuplicateKey, BadState, TooManyNodes, UserTooLong, Trailing}
 use Rattle.swim_wire.specs.declared.layout.Limit.{Limit}
 use Rattle.swim_wire.specs.declared.layout.Limit.TheVariants as limits
+use Rattle.swim_wire.specs.declared.state_record.StateRecord.{StateRecord}
 use Rattle.swim_wire.specs.declared.stream.Header.{Header}
 use Rattle.swim_wire.specs.Fault.{fault_of_pack, fault_of_key}
 use Rattle.swim_wire.specs.Layout.{Layout, Spelled, number_or_zero, raw_or_empty, flag_or_false, alive_layout, accusation_layout, header_layout, state_layout}
@@ -257,3 +259,34 @@ unfoldable pub state_at : Reading Claim
 state_at = do
   slots ← map_at state_layout
   checked (state_of slots)
+
+-- ---- records with all that they say
+
+-- the details in the values of a state record
+abbrev pub details_in : Slots → Result DetailsValue WireFault
+details_in slots = with_details (record {
+  addr = raw_in slots state_addr;
+  port = number_in slots state_port;
+  meta = raw_in slots state_meta;
+  vsn = raw_in slots state_vsn;
+}) (λ details. details)
+
+-- the details that a state record tells beside its claim: an Alive has them itself
+abbrev pub told_of : Slots → Option DetailsValue
+told_of slots =
+    if number_in slots state_state == 0 then None else result_ok (details_in slots)
+
+-- the claim, with what is told beside it
+abbrev pub with_told : Option DetailsValue → Result Claim WireFault → Result StateRecord WireFault
+with_told told (Ok claim) = Ok (record { claim = claim; told = told })
+with_told told (Err fault) = Err fault
+
+-- all that the values of a state record say; what refuses its claim refuses it
+abbrev pub record_of : Slots → Result StateRecord WireFault
+record_of slots = with_told (told_of slots) (state_of slots)
+
+-- a state record, with all that it says
+unfoldable pub record_at : Reading StateRecord
+record_at = do
+  slots ← map_at state_layout
+  checked (record_of slots)

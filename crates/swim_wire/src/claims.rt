@@ -6,13 +6,14 @@ ghost use Rattle.swim_claim.specs.Limits.{max_meta_len, max_name_len};
 ghost use Rattle.swim_pack.specs.Composing.{same};
 ghost use Rattle.swim_wire.specs.Limits.{max_nodes, max_user_state_len};
 ghost use Rattle.swim_wire.specs.Message.{IsShortAlive, IsShortAccusation, IsShortState, slots_of_alive, slots_of_accusation, slots_of_header, slots_of_state};
-ghost use Rattle.swim_wire.specs.Reading.{AnswersUnlessMemory, with_name, with_details, alive_of, suspect_of, dead_of, header_of, state_of};
+ghost use Rattle.swim_wire.specs.Reading.{AnswersUnlessMemory, with_name, with_details, alive_of, suspect_of, dead_of, header_of, state_of, told_of, record_of};
 
 use crate::WireFault;
 use crate::message::{Accusation, Alive, PushNodeState, PushPullHeader};
 use crate::packet::Packet;
+use crate::state_record::StateRecord;
 use crate::stream::{Header, MAX_NODES, MAX_USER_STATE_LEN};
-use std::alloc::Global;
+use std::alloc::{AllocError, Global};
 use swim_claim::{Claim, Details, Name};
 
 /// The packet of an alive message.
@@ -82,6 +83,32 @@ pub(crate) fn claim_of_state(alloc: Global, state: &PushNodeState) -> Result<Cla
         3 => Ok(Claim::Leave { name, inc }),
         _ => Err(WireFault::BadState { found }),
     }
+}
+
+/// All that a state record says.
+pub(crate) fn record_of_state(
+    alloc: Global,
+    state: &PushNodeState,
+) -> Result<StateRecord, WireFault>
+    requires { IsShortState state.now }
+    ensures answers { AnswersUnlessMemory (record_of (slots_of_state state.now)) result }
+    ensures memory { IsErrOf result WireFault.Memory → state.now.name.now ≢ [] }
+{
+    let claim = claim_of_state(alloc, state)?;
+    let told = told_in(alloc, state)?;
+    Ok(StateRecord { claim, told })
+}
+
+/// The details in a state record whose claim has none.
+fn told_in(alloc: Global, state: &PushNodeState) -> Result<Option<Details>, AllocError>
+    requires { IsShortState state.now }
+    ensures { IfOk result (λ told. told ≡ told_of (slots_of_state state.now)) }
+{
+    if state.state == 0 {
+        return Ok(None);
+    }
+    let meta = state.meta.to_vec(alloc)?;
+    Ok(Details::of(state.addr, state.port, meta, state.vsn).ok())
 }
 
 /// The header of a stream.

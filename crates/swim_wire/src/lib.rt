@@ -4,6 +4,7 @@
 //! |---|---|
 //! | `packet`, `datagram` | packets of one claim; one packet, or a compound packet of several |
 //! | `stream`, `user_state` | the header and the records of a stream; the user state at its end |
+//! | `state_record` | the records of a stream with all that they say |
 //! | `claimless` | messages that make no claim |
 //! | `compression` | the map of a compressed message |
 //! | `layout` | the keys of each map, the kinds of their values, and their limits |
@@ -30,6 +31,7 @@ mod layout;
 mod map;
 mod message;
 mod packet;
+mod state_record;
 mod stream;
 mod stream_law;
 mod user_state;
@@ -46,6 +48,7 @@ pub use message::{
     ALIVE_MESSAGE, COMPOUND_MESSAGE, DEAD_MESSAGE, PUSH_PULL_MESSAGE, SUSPECT_MESSAGE,
 };
 pub use packet::{Packet, decode_packet};
+pub use state_record::{StateRecord, read_record};
 pub use stream::{Header, MAX_NODES, read_header, read_state};
 pub use user_state::skip_user;
 

@@ -13,7 +13,7 @@
 //! | `stream` | a push/pull stream |
 #![tactic(auto)]
 
-ghost use Rattle.std.specs.Prelude.{◌≡◌, ◌⊎◌, length, IfErr};
+ghost use Rattle.std.specs.Prelude.{length};
 ghost use Rattle.swim_program.specs.Report.{IsAmong};
 
 mod cause;
@@ -33,10 +33,9 @@ use left_out::left_out_text;
 use lines::unwrap_lines;
 use memberlist_keyring::Keyring;
 use memberlist_transport::InTheClear;
-use std::alloc::AllocError;
 use std::process::ExitCode;
 use stream::unwrap_stream;
-use swim_program::{Failure, Place, Report, What, read_file, read_input, words_of, write_out};
+use swim_program::{Failure, Place, file_bytes, input_bytes, print_bytes, words_of};
 use verb::{Chosen, Verb};
 
 /// The program's name, with which its messages on standard error start.
@@ -50,23 +49,13 @@ fn main(rt: HostRuntime) -> ExitCode {
 }
 
 fn run(rt: &HostRuntime) -> Result<(), Failure> {
-    let alloc = rt.alloc();
     let words = words_of(rt)?;
-    let chosen = chosen(alloc, words.as_slice())?;
+    let chosen = chosen(rt.alloc(), words.as_slice())?;
     let keys = keyring_of(rt, NAME, chosen.key_files())?;
-    match run_chosen(rt, &keys, &chosen) {
-        Ok(()) => Ok(()),
-        Err(report) => Err(Failure::refused(alloc, NAME, &report, chosen.files())),
-    }
-}
-
-fn run_chosen(rt: &HostRuntime, keys: &Keyring, chosen: &Chosen) -> Result<(), Report>
-    ensures { IfErr result (λ report. IsAmong report.place (length chosen.now.files)) }
-{
     match chosen.verb() {
-        Verb::Lines => print_lines(rt, keys, chosen.clear(), false),
-        Verb::Skipping => print_lines(rt, keys, chosen.clear(), true),
-        Verb::Stream => print_file(rt, keys, chosen.clear(), chosen.files()),
+        Verb::Lines => print_lines(rt, &keys, chosen.clear(), false),
+        Verb::Skipping => print_lines(rt, &keys, chosen.clear(), true),
+        Verb::Stream => print_file(rt, &keys, chosen.clear(), chosen.files()),
     }
 }
 
@@ -77,30 +66,26 @@ fn print_lines(
     keys: &Keyring,
     clear: InTheClear,
     skip: bool,
-) -> Result<(), Report>
-    ensures { IfErr result (λ report. IsAmong report.place 0) }
-{
-    let input = read_input(rt, NAME, "packets")?;
-    let unwrapped = unwrap_lines(rt.alloc(), keys, clear, &input, skip)?;
+) -> Result<(), Failure> {
+    let alloc = rt.alloc();
+    let input = input_bytes(rt, NAME, "packets")?;
+    let unwrapped = match unwrap_lines(alloc, keys, clear, &input, skip) {
+        Ok(unwrapped) => unwrapped,
+        Err(report) => return Err(Failure::refused(alloc, NAME, &report, &[])),
+    };
     if unwrapped.left_out().is_empty() {
-        return print(rt, unwrapped.text());
+        return print_bytes(rt, NAME, unwrapped.text());
     }
-    match left_out_text(rt.alloc(), unwrapped.left_out(), &input) {
-        Ok(said) => {
-            print(rt, unwrapped.text())?;
-            tell(rt, &said)
-        }
-        Err(AllocError) => Err(What::Memory.at(Place::Output)),
-    }
+    let said = left_out_text(alloc, unwrapped.left_out(), &input)?;
+    print_bytes(rt, NAME, unwrapped.text())?;
+    tell(rt, &said)
 }
 
 /// Prints a line on standard error. If that fails it is a device fault at the output.
-fn tell(rt: &HostRuntime, line: &String) -> Result<(), Report>
-    ensures { IfErr result (λ report. IsAmong report.place 0) }
-{
+fn tell(rt: &HostRuntime, line: &String) -> Result<(), Failure> {
     match rt.eprintln(line) {
         Ok(()) => Ok(()),
-        Err(_) => Err(What::Device.at(Place::Output)),
+        Err(error) => Err(Failure::device(rt.alloc(), NAME, "output", &error)),
     }
 }
 
@@ -110,46 +95,32 @@ fn print_file(
     keys: &Keyring,
     clear: InTheClear,
     files: &[String],
-) -> Result<(), Report>
-    ensures { IfErr result (λ report. IsAmong report.place (length files.now)) }
-{
+) -> Result<(), Failure> {
     match files {
-        [word, ..] if word.as_str() != "-" => match read_file(rt, word) {
-            Ok(bytes) => print_stream(rt, keys, clear, &bytes, Place::File(0)),
-            Err(what) => Err(what.at(Place::File(0))),
-        },
+        [word, ..] if word.as_str() != "-" => {
+            let bytes = file_bytes(rt, NAME, word)?;
+            print_stream(rt, keys, clear, &bytes, Place::File(0), files)
+        }
         _ => {
-            let bytes = read_input(rt, NAME, "a stream")?;
-            print_stream(rt, keys, clear, &bytes, Place::Input)
+            let bytes = input_bytes(rt, NAME, "a stream")?;
+            print_stream(rt, keys, clear, &bytes, Place::Input, files)
         }
     }
 }
 
-/// Unwraps the stream in these bytes from a place.
+/// Unwraps the stream in these bytes from a place, which is a file of these or standard input.
 fn print_stream(
     rt: &HostRuntime,
     keys: &Keyring,
     clear: InTheClear,
     bytes: &[u8],
     place: Place,
-) -> Result<(), Report>
-    ensures { IfErr result (λ report. (report.place ≡ place) ⊎ (report.place ≡ Place.Output)) }
+    files: &[String],
+) -> Result<(), Failure>
+    requires { IsAmong place (length files.now) }
 {
     match unwrap_stream(rt.alloc(), keys, clear, bytes) {
-        Ok(stream) => match write_out(&mut rt.stdout(), &stream) {
-            Ok(()) => Ok(()),
-            Err(what) => Err(what.at(Place::Output)),
-        },
-        Err(what) => Err(what.at(place)),
-    }
-}
-
-/// Prints bytes to standard output.
-fn print(rt: &HostRuntime, bytes: &[u8]) -> Result<(), Report>
-    ensures { IfErr result (λ report. IsAmong report.place 0) }
-{
-    match write_out(&mut rt.stdout(), bytes) {
-        Ok(()) => Ok(()),
-        Err(what) => Err(what.at(Place::Output)),
+        Ok(stream) => print_bytes(rt, NAME, &stream),
+        Err(what) => Err(Failure::refused(rt.alloc(), NAME, &what.at(place), files)),
     }
 }

@@ -6,14 +6,11 @@ ghost use Rattle.swimunwrap.specs.Stream.{IsStreamIn, ReasonFor, what_of_stream,
 
 use memberlist_cipher::CipherFault;
 use memberlist_keyring::Keyring;
-use memberlist_transport::{InTheClear, StreamFault, open_stream};
+use memberlist_transport::{InTheClear, StreamFault, UNENCRYPTED, open_stream};
 use memberlist_wrap::WrapFault;
 use std::alloc::Global;
 use swim_program::{MAX_INPUT_LEN, What};
 use swim_wire::WireFault;
-
-/// The number of the fault for a stream that is not encrypted, if there are keys (own).
-const UNENCRYPTED: u32 = 59;
 
 /// The push/pull stream in one direction of a TCP connection, unwrapped, and decrypted with the
 /// keys if it is encrypted and there are any. Only its first byte is checked to be that of such a

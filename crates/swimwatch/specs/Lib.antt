@@ -4,4 +4,5 @@ pub mod Chart
 pub mod Records
 pub mod Svg
 pub mod Told
+pub mod Versions
 pub mod Views

@@ -35,17 +35,12 @@ abbrev pub accuser_of : List ℕ → Option (List ℕ)
 accuser_of from =
     if nat_lt 0 (length from) && nat_le (length from) max_name_len then Some from else None
 
--- a death is declared by somebody; one that nobody declares is a suspicion (own)
-abbrev pub death : List ℕ → ℕ → Option (List ℕ) → Said
-death name inc None = Suspect name inc None
-death name inc (Some from) = Dead name inc from
-
 -- net.go, handleAlive, handleSuspect, handleDead: what a packet says; a member that declares itself
--- dead has left
+-- dead has left, and a death that nobody declares is as one in a record (own)
 abbrev pub said_in_packet : Claim → Option (List ℕ) → Said
 said_in_packet (claim.Alive name inc details) from = Alive name inc details true
 said_in_packet (claim.Suspect name inc) from = Suspect name inc from
-said_in_packet (claim.Confirm name inc) from = death name inc from
+said_in_packet (claim.Confirm name inc) from = Dead name inc from
 said_in_packet (claim.Leave name inc) from = Left name inc
 
 -- what is said: by a packet what it says itself, by a record what it means to a member that merges

@@ -5,6 +5,7 @@ use Rattle.std.specs.Str.{bytes_eq}
 use Rattle.swim_claim.specs.declared.claim.Claim.{Claim}
 use Rattle.swim_claim.specs.declared.claim.Claim.TheVariants as claim
 use Rattle.swim_wire.specs.Packet.{PacketValue}
+use Rattle.swim_wire.specs.declared.state_record.StateRecord.{StateRecord}
 use Rattle.memberlist_message.specs.declared.message.Message.{Message}
 use Rattle.memberlist_message.specs.declared.message.Message.TheVariants as message
 use Rattle.swim_claim.specs.Details.{DetailsValue}
@@ -12,6 +13,8 @@ use Rattle.memberlist_transport.specs.declared.in_the_clear.InTheClear.{InTheCle
 use Rattle.memberlist_view.specs.declared.heard.Said.TheVariants.{Seen}
 use Rattle.memberlist_view.specs.Told.{ViewValue, view_after}
 use Rattle.swimwatch.specs.Carriage.{IsStreamOf}
+use Rattle.swimwatch.specs.Records.{claims_in}
+use Rattle.swimwatch.specs.Versions.{is_understood}
 use Rattle.swimwatch.specs.Told.{packet_told, record_told, heard_of}
 
 abbrev pub is_nil : List ℕ → Bool
@@ -65,10 +68,17 @@ HearsRecords time [] old new = new ≡ old
 HearsRecords time (claim ∷ claims) old new = (joins : Bool)
     × HearsRecords time claims (view_after old (heard_of time (record_told claim joins))) new
 
+-- the bytes are a stream of these records
+abbrev pub AreRecordsOf : InTheClear → List (List ℕ) → List ℕ → List StateRecord → Type 0
+AreRecordsOf clear keys bytes records = IsStreamOf clear keys bytes (claims_in records)
+
 -- what is heard from one direction of a connection at a time: the claims of the whole stream that
--- it is, in order; or nothing, if it is not a stream
+-- it is, in order; or nothing, if it is not a stream, or one that members refuse for its versions
 abbrev pub HearsStream : InTheClear → List (List ℕ) → List ℕ → ℕ → Bool → ViewValue → ViewValue → Type 0
 HearsStream clear keys bytes time true old new =
-    (claims : List Claim) × IsStreamOf clear keys bytes claims × HearsRecords time claims old new
+    (records : List StateRecord) × AreRecordsOf clear keys bytes records
+    × (is_understood records ≡ true) × HearsRecords time (claims_in records) old new
 HearsStream clear keys bytes time false old new =
-    ((claims : List Claim) → ¬ IsStreamOf clear keys bytes claims) × (new ≡ old)
+    (((claims : List Claim) → ¬ IsStreamOf clear keys bytes claims)
+    ⊎ ((records : List StateRecord) × AreRecordsOf clear keys bytes records
+    × (is_understood records ≡ false))) × (new ≡ old)

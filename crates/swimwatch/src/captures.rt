@@ -8,8 +8,7 @@ use crate::side::claims_of_file;
 use crate::sources::Sources;
 use crate::views::Views;
 use key_files::keyring_of;
-use std::io::{ErrorKind, Write};
-use swim_program::{Failure, What};
+use swim_program::{Failure, What, print_bytes};
 use swim_table::EncodeFault;
 
 /// Shows what the arguments ask for from the captures, and then prints what was read.
@@ -38,21 +37,29 @@ pub(crate) fn show_captures(rt: &HostRuntime, chosen: &Chosen) -> Result<(), Fai
 
 /// Reads the captures to their ends, or for as long as was asked, and prints what is shown on the
 /// way.
-pub(crate) fn watch_captures(
-    rt: &HostRuntime,
-    views: &mut Views,
-    words: &[String],
-) -> Result<(), Failure> {
+fn watch_captures(rt: &HostRuntime, views: &mut Views, words: &[String]) -> Result<(), Failure> {
     let limit = match Limit::from_now(rt, views.span()) {
         Ok(limit) => limit,
         Err(_) => return Err(said(format!(in rt.alloc(); "{NAME}: cannot read the clock"), 4)),
     };
     let mut sources = Sources::begin(limit, words)?;
+    watch_until(rt, views, &mut sources, u64::MAX)?;
+    views.finish()?;
+    Ok(())
+}
+
+/// Reads captures to the first record after a time, in microseconds, or to their ends.
+pub(crate) fn watch_until(
+    rt: &HostRuntime,
+    views: &mut Views,
+    sources: &mut Sources,
+    time: u64,
+) -> Result<(), Failure> {
     for _ in 0..u64::MAX {
         let (Some(place), Some((record, bytes))) = (sources.place(), sources.record()) else {
             break;
         };
-        if views.is_over(&record) {
+        if views.is_over(&record) || record.time.is_some_and(|nanos| time < nanos / 1000) {
             break;
         }
         views.record(place, sources.word(place), record, bytes)?;
@@ -62,7 +69,6 @@ pub(crate) fn watch_captures(
             views.end(place);
         }
     }
-    views.finish()?;
     Ok(())
 }
 
@@ -71,21 +77,9 @@ fn flush(rt: &HostRuntime, views: &mut Views) -> Result<(), Failure> {
     if views.out.is_empty() {
         return Ok(());
     }
-    let wrote = print(rt, views.out.as_bytes());
+    let wrote = print_bytes(rt, NAME, views.out.as_bytes());
     views.out.clear();
     wrote
-}
-
-/// Prints bytes to standard output.
-pub(crate) fn print(rt: &HostRuntime, bytes: &[u8]) -> Result<(), Failure> {
-    match rt.stdout().write_all(bytes) {
-        Ok(()) => Ok(()),
-        Err(error) if error.kind() == ErrorKind::BrokenPipe => Err(Failure::Closed),
-        Err(error) => Err(said(
-            format!(in rt.alloc(); "{NAME}: output: device fault ({error})"),
-            4,
-        )),
-    }
 }
 
 /// Prints the dump of the table of all claims.
@@ -94,7 +88,7 @@ fn print_dump(rt: &HostRuntime, views: &Views) -> Result<(), Failure> {
         return Ok(());
     };
     match watch.dump() {
-        Ok(bytes) => print(rt, &bytes),
+        Ok(bytes) => print_bytes(rt, NAME, &bytes),
         Err(EncodeFault::Memory) => Err(Failure::Memory),
         Err(EncodeFault::TooManyRecords) => {
             Err(output_fails(rt.alloc(), What::too_many_records()))

@@ -4,6 +4,7 @@ ghost use Rattle.std.specs.Prelude.{◌≡◌, ◌≢◌, ◌↔◌, List, IfOk,
 ghost use Rattle.swim_claim.specs.declared.claim.Claim.{Claim};
 ghost use Rattle.swimwatch.specs.declared.carriage.NoStream.TheVariants.{Memory};
 ghost use Rattle.swimwatch.specs.Carriage.{IsStreamOf};
+ghost use Rattle.swimwatch.specs.Records.{claims_in};
 
 use crate::messages::Messages;
 use crate::records::{Records, read_records};
@@ -86,6 +87,8 @@ pub(crate) enum NoStream {
     Unencrypted,
     /// Some of its bytes are missing.
     Cut,
+    /// It is whole, and members do not merge it for the versions in its records.
+    Versions,
     /// A record of it is invalid.
     Invalid(WireFault),
     /// It is a ping, an ack, a user message or an error, which make no claims.
@@ -117,7 +120,7 @@ pub(crate) fn stream_records(
     bytes: &[u8],
 ) -> Result<Records, NoStream>
     ensures ok { IfOk result (λ records.
-        IsStreamOf clear keys.now bytes.now records.claims.items) }
+        IsStreamOf clear keys.now bytes.now (claims_in records.records.items)) }
     ensures none { IfErr result (λ cause. cause ≢ NoStream.Memory → (claims : List Claim)
         → ¬ IsStreamOf clear keys.now bytes.now claims) }
 {

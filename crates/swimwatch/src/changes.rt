@@ -5,7 +5,7 @@ use crate::json::Object;
 use crate::known::Known;
 use crate::names::write_name;
 use crate::roster::Roster;
-use crate::tags::{Tag, is_bare, tags_of};
+use crate::tags::{Tag, is_bare, is_same_meta, tags_of};
 use crate::texts::{name_text, write_place_and_meta};
 use memberlist_view::MemberName;
 use std::alloc::{AllocError, Global};
@@ -188,7 +188,7 @@ fn write_details(text: &mut String, was: &Known, is: &Known) -> Result<(), Alloc
 
 /// Adds what changed in the tags, or in other metadata.
 fn write_metas(text: &mut String, was: &[u8], is: &[u8]) -> Result<(), AllocError> {
-    if was == is {
+    if is_same_meta(was, is) {
         return Ok(());
     }
     let alloc = *text.allocator();
@@ -209,43 +209,56 @@ fn tags_or_none(alloc: Global, meta: &[u8]) -> Result<Option<Vec<Tag>>, AllocErr
     tags_of(alloc, meta)
 }
 
-/// Adds the tags that changed, are gone, or are new: `, tags ver=v2 -> v1, -rack=3, +zone=a`.
+/// Adds the tags that changed, are gone, or are new, in the order of their keys: `, tags -rack=3,
+/// ver=v2 -> v1, +zone=a`.
 fn write_tags(text: &mut String, was: &[Tag], is: &[Tag]) -> Result<(), AllocError> {
-    let mut before = ", tags ";
+    let mut keys = BTreeMap::new(*text.allocator());
     for tag in was {
-        let now = value_in(is, tag);
-        if now == Some(tag.value) {
-            continue;
-        }
-        text.push_str(before)?;
-        before = ", ";
-        if now.is_none() {
-            text.push('-')?;
-        }
-        tag.write(text)?;
-        if let Some(value) = now {
-            text.push_str(" -> ")?;
-            Tag {
-                key: tag.key,
-                value,
-            }
-            .write_value(text)?;
-        }
+        keys.insert(tag.key, ())?;
     }
     for tag in is {
-        if value_in(was, tag).is_none() {
+        keys.insert(tag.key, ())?;
+    }
+    let mut before = ", tags ";
+    for (key, ()) in keys.iter() {
+        let (old, new) = (value_of(was, key), value_of(is, key));
+        if old != new {
             text.push_str(before)?;
             before = ", ";
-            text.push('+')?;
-            tag.write(text)?;
+            write_tag(text, key, old, new)?;
         }
     }
     Ok(())
 }
 
-/// The value that these tags have for the key of the tag.
-fn value_in<'a>(tags: &[Tag<'a>], tag: &Tag) -> Option<&'a [u8]> {
-    let found = tags.iter().find(|other| other.key == tag.key)?;
+/// Adds the values of a key before and after: `ver=v2 -> v1`, `-rack=3` or `+zone=a`.
+fn write_tag(
+    text: &mut String,
+    key: &[u8],
+    old: Option<&[u8]>,
+    new: Option<&[u8]>,
+) -> Result<(), AllocError> {
+    match (old, new) {
+        (Some(value), Some(now)) => {
+            Tag { key, value }.write(text)?;
+            text.push_str(" -> ")?;
+            Tag { key, value: now }.write_value(text)
+        }
+        (Some(value), None) => {
+            text.push('-')?;
+            Tag { key, value }.write(text)
+        }
+        (None, Some(value)) => {
+            text.push('+')?;
+            Tag { key, value }.write(text)
+        }
+        (None, None) => Ok(()),
+    }
+}
+
+/// The value that these tags have for a key.
+fn value_of<'a>(tags: &[Tag<'a>], key: &[u8]) -> Option<&'a [u8]> {
+    let found = tags.iter().find(|tag| tag.key == key)?;
     Some(found.value)
 }
 

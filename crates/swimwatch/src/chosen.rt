@@ -1,5 +1,6 @@
 //! What the command line asks for.
 
+use crate::moment::When;
 use crate::window::Times;
 use memberlist_transport::InTheClear;
 use std::time::Duration;
@@ -55,6 +56,8 @@ pub(crate) struct Chosen {
     pub(crate) member: Option<Vec<u8>>,
     /// The time that is shown.
     pub(crate) times: Times,
+    /// The times at which the members of one capture are compared.
+    pub(crate) moments: Vec<When>,
     /// The file with the table to begin with, if there is one.
     pub(crate) start: Option<String>,
     /// How many microseconds memberlist waits before it forgets a dead member.

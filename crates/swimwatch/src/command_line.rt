@@ -22,6 +22,9 @@ const TIMEOUT: u64 = 5;
 /// The shortest period after which members are asked again, in milliseconds.
 const SHORTEST: u128 = 100;
 
+/// What is said of an `--at` that is no time.
+const AT_NEEDS: &str = "--at needs a time like 2026-11-25T02:01:43Z, 02:01:43 or 02:01";
+
 /// Why the arguments are refused.
 #[derive(Debug, Drop)]
 pub(crate) enum Refusal {
@@ -73,12 +76,17 @@ fn chosen_of(alloc: Global, verb: Verb, found: &ArgMatches) -> Result<Chosen, Re
         None => None,
         Some(word) => Some(name_bytes(alloc, word)?),
     };
+    let (times, moments) = match verb {
+        Verb::Diff => (Times::default(), moments_of(alloc, found)?),
+        _ => (times_of(alloc, found)?, Vec::new(alloc)),
+    };
     Ok(Chosen {
         verb,
         inputs: texts_of(alloc, found, "INPUT")?,
         key_files: texts_of(alloc, found, "key-file")?,
         member,
-        times: times_of(alloc, found)?,
+        times,
+        moments,
         start: match found.get_str("start") {
             None => None,
             Some(word) => Some(String::from_str(alloc, word)?),
@@ -125,11 +133,7 @@ fn following_of(alloc: Global, found: &ArgMatches) -> Result<Option<Following>, 
 
 /// The time that is shown.
 fn times_of(alloc: Global, found: &ArgMatches) -> Result<Times, Refusal> {
-    let at = when_of(
-        alloc,
-        found.get_str("at"),
-        "--at needs a time like 2026-11-25T02:01:43Z, 02:01:43 or 02:01",
-    )?;
+    let at = when_of(alloc, found.get_str("at"), AT_NEEDS)?;
     let from = when_of(
         alloc,
         found.get_str("from"),
@@ -149,6 +153,18 @@ fn times_of(alloc: Global, found: &ArgMatches) -> Result<Times, Refusal> {
     };
     let to = at.or(to);
     Ok(Times { from, to, span })
+}
+
+/// The times at which a capture is compared with itself.
+fn moments_of(alloc: Global, found: &ArgMatches) -> Result<Vec<When>, Refusal> {
+    let mut moments = Vec::new(alloc);
+    for word in &texts_of(alloc, found, "at")? {
+        match When::of(alloc, word)? {
+            Some(when) => moments.push(when).map_err(AllocError::from)?,
+            None => return Err(Refusal::Value(AT_NEEDS)),
+        }
+    }
+    Ok(moments)
 }
 
 /// The moment that a word names, if there is a word.

@@ -32,6 +32,8 @@ pub(crate) struct Counts {
     pub(crate) mixed: Option<(u16, u16)>,
     /// Parts of packets that are no messages.
     pub(crate) unread: u64,
+    /// Streams that members refuse for the versions in their records.
+    pub(crate) misversed: u64,
     /// Streams with an invalid record.
     pub(crate) invalid: u64,
     /// What is wrong with the first of them.
@@ -94,6 +96,7 @@ impl Counts {
         add(&mut self.other_ports, other.other_ports);
         add(&mut self.other_labels, other.other_labels);
         add(&mut self.unread, other.unread);
+        add(&mut self.misversed, other.misversed);
         add(&mut self.invalid, other.invalid);
         add(&mut self.foreign, other.foreign);
         add(&mut self.gaps, other.gaps);
@@ -174,7 +177,7 @@ impl Counts {
     }
 
     /// How often each other thing occurred, with its name.
-    fn others(&self, has_keys: bool) -> [(u64, &'static str); 21] {
+    fn others(&self, has_keys: bool) -> [(u64, &'static str); 22] {
         let closed = if has_keys {
             "that no key decrypts"
         } else {
@@ -190,6 +193,7 @@ impl Counts {
             (self.closed, closed),
             (self.foreign, "not from memberlist"),
             (self.unread, "parts of packets unread"),
+            (self.misversed, "with versions that members do not share"),
             (self.gaps, "with bytes missing"),
             (self.silent, "still incomplete after 60 s of silence"),
             (

@@ -3,7 +3,6 @@
 use crate::NAME;
 use crate::agreement::status_of;
 use crate::ask::{Answer, Asked, Target, ask_all, targets_of};
-use crate::captures::print;
 use crate::changes::{changed, write_step, write_step_object};
 use crate::chosen::{Chosen, Following};
 use crate::json::Object;
@@ -17,7 +16,7 @@ use std::alloc::{AllocError, Global};
 use std::process::ExitCode;
 use std::thread;
 use std::time::{Instant, SystemTime};
-use swim_program::Failure;
+use swim_program::{Failure, print_bytes};
 
 /// A member that is followed.
 #[derive(Drop)]
@@ -65,7 +64,7 @@ pub(crate) fn follow(
         let asked = ask_all(rt, &mut ring, &chosen.asking, &targets)?;
         status = status_of(alloc, &asked)?;
         watch.hear(now(rt)?, asked, &mut targets)?;
-        print(rt, watch.text.as_bytes())?;
+        print_bytes(rt, NAME, watch.text.as_bytes())?;
         watch.text.clear();
         if let Some(file) = &following.metrics {
             write_anew(rt, file, &metrics_of(alloc, &watch.followed, &watch.tally)?)?;

@@ -34,6 +34,8 @@ pub(crate) const WAIT: &str =
 
 pub(crate) const AT: &str = "Print the members as they were at this time (RFC 3339)";
 
+pub(crate) const ATS: &str = "With one capture, twice: compare the members at these two times";
+
 pub(crate) const MEMBER: &str = "Show only this member";
 
 pub(crate) const JSON: &str = "Print one JSON object on each line";
@@ -109,6 +111,7 @@ Details that only one side has are not compared.
 
 Examples:
   swimwatch diff before.pcap after.pcap
+  swimwatch diff --at 21:13 --at 21:14 cluster.pcap
   swimwatch diff web-1.bin web-1";
 
 pub(crate) const CHART: &str = "\

@@ -64,11 +64,11 @@ impl Object {
         put(&mut self.members, self.alloc, key, Value::Array(list))
     }
 
-    /// Adds who accuses a member, as a list, which is empty if the member is alive or left.
+    /// Adds who accuses a member, as a list, unless the member is alive or left.
     pub(crate) fn accusers(&mut self, state: &State) -> Result<(), AllocError> {
         match state {
             State::Noted | State::Seen | State::Alive | State::Left => Ok(()),
-            State::Dead { by } => self.names("by", std::slice::from_ref(by)),
+            State::Dead { by } => self.names("by", by.as_slice()),
             State::Suspect { by } => self.names("by", by.names()),
         }
     }

@@ -2,11 +2,12 @@
 
 use crate::claims::kind_word;
 use crate::json::Object;
-use crate::tags::is_bare;
+use crate::tags::{is_bare, is_same_meta};
 use crate::texts::{NONE, address_text, meta_text};
 use memberlist_view::{Entry, State};
 use std::alloc::{AllocError, Global};
 use swim_claim::{Details, Kind};
+use swim_wire::StateRecord;
 
 /// What was not heard about a member, though packets show that it is there.
 #[derive(Clone, Copy, Debug, Default, PartialEq, Eq)]
@@ -45,10 +46,25 @@ impl Known {
         })
     }
 
-    /// Whether both say the same. Details that one of the two lacks are not compared.
+    /// What a record of a stream says. Its details are there in any state.
+    pub(crate) fn of_record(alloc: Global, record: StateRecord) -> Result<Known, AllocError> {
+        let claim = record.claim;
+        Ok(Known {
+            kind: claim.kind(),
+            inc: claim.inc(),
+            details: match claim.details() {
+                Some(details) => Some(details.try_clone(alloc)?),
+                None => record.told,
+            },
+            unheard: Unheard::default(),
+        })
+    }
+
+    /// Whether both say the same. Details that one of the two lacks are not compared, nor is the order
+    /// of tags.
     pub(crate) fn is_same(&self, other: &Known) -> bool {
         let same_details = match (&self.details, &other.details) {
-            (Some(own), Some(others)) => *own == *others,
+            (Some(own), Some(others)) => is_same_details(own, others),
             _ => true,
         };
         self.kind == other.kind && self.inc == other.inc && same_details
@@ -59,7 +75,8 @@ impl Known {
         let is_seen = self.unheard.state || other.unheard.state;
         let is_tagless = self.unheard.tags || other.unheard.tags;
         let same_state = is_seen || (self.kind == other.kind && self.inc == other.inc);
-        let same_tags = is_tagless || (self.meta() == other.meta() && self.vsn() == other.vsn());
+        let same_tags = is_tagless
+            || (is_same_meta(self.meta(), other.meta()) && self.vsn() == other.vsn());
         same_state && same_tags && !self.is_elsewhere(other)
     }
 
@@ -147,6 +164,13 @@ impl Known {
             None => Ok(()),
         }
     }
+}
+
+fn is_same_details(one: &Details, other: &Details) -> bool {
+    one.addr() == other.addr()
+        && one.port() == other.port()
+        && one.vsn() == other.vsn()
+        && is_same_meta(one.meta(), other.meta())
 }
 
 fn kind_of(state: &State) -> Kind {

@@ -28,6 +28,11 @@ impl<'a> Limit<'a> {
         Ok(Limit { rt, end })
     }
 
+    /// Listening to the ends of the inputs.
+    pub(crate) fn endless(rt: &'a HostRuntime) -> Limit<'a> {
+        Limit { rt, end: None }
+    }
+
     /// Whether listening is over.
     pub(crate) fn is_over(self) -> bool {
         match self.end {

@@ -5,14 +5,14 @@
 //! | `chosen`, `command_line`, `pages`, `help` | the command-line arguments |
 //! | `captures`, `input`, `limit`, `sources` | reading several captures together, to their ends or for a time |
 //! | `sent`, `traffic`, `progress`, `waiting`, `recent` | what crossed the network: packets and connections |
-//! | `carriage`, `messages`, `records`, `told` | what these carry, and what it says about members |
+//! | `carriage`, `messages`, `records`, `versions`, `told` | what these carry, and what it says about members |
 //! | `pings`, `warnings` | who a ping shows, and suspicions that only warn |
 //! | `listener`, `directory`, `places` | a listener that hears all of it |
 //! | `views`, `view_name`, `watch`, `change` | listening, and showing what was asked for |
 //! | `members`, `suspicion`, `timeline`, `claims`, `talkers` | what is shown |
 //! | `pull`, `ask`, `inquiry`, `host`, `ring`, `connection`, `request`, `answer` | asking members |
 //! | `silence` | why a member that was asked has no table |
-//! | `roster`, `known`, `node_state` | what somebody knows about members |
+//! | `roster`, `known` | what somebody knows about members |
 //! | `follow`, `metrics` | asking members again and again |
 //! | `agreement` | what members answered, and whether they agree |
 //! | `diff`, `side`, `changes` | what changed between two captures, dumps or members |
@@ -53,7 +53,6 @@ mod messages;
 mod metrics;
 mod moment;
 mod names;
-mod node_state;
 mod pages;
 mod pings;
 mod places;
@@ -79,6 +78,7 @@ mod texts;
 mod timeline;
 mod told;
 mod traffic;
+mod versions;
 mod view_name;
 mod views;
 mod waiting;

@@ -8,6 +8,7 @@ use std::alloc::{AllocError, Global};
 #[derive(Clone, Copy)]
 enum Flag {
     At,
+    Ats,
     From,
     To,
     For,
@@ -157,7 +158,13 @@ const PAGES: [Page; 8] = [
         about: "Prints what changed between two captures, streams or members",
         example: help::DIFF,
         inputs: Inputs::Sides,
-        flags: &[Flag::Wait, Flag::Timeout, Flag::Label, Flag::Json],
+        flags: &[
+            Flag::Ats,
+            Flag::Wait,
+            Flag::Timeout,
+            Flag::Label,
+            Flag::Json,
+        ],
     },
 ];
 
@@ -197,7 +204,7 @@ fn input_argument<'a>(alloc: Global, inputs: Inputs) -> Arg<'a> {
             .help(help::CAPTURE)
             .num_args(1..),
         Inputs::Hosts => words.value_name("HOST").help(help::HOST).num_args(1..),
-        Inputs::Sides => words.value_name("SIDE").help(help::SIDE).num_args(2..=2),
+        Inputs::Sides => words.value_name("SIDE").help(help::SIDE).num_args(1..=2),
     }
 }
 
@@ -208,6 +215,7 @@ fn flag_argument<'a>(alloc: Global, flag: Flag) -> Arg<'a> {
         Flag::For => option(alloc, "for", "DURATION", help::FOR),
         Flag::Start => option(alloc, "start", "STREAM", help::START),
         Flag::At => option(alloc, "at", "TIME", help::AT),
+        Flag::Ats => option(alloc, "at", "TIME", help::ATS).action(ArgAction::Append),
         Flag::Wait => option(alloc, "wait", "SECONDS", help::WAIT),
         Flag::Port => { option(alloc, "port", "PORT", help::PORT).action(ArgAction::Append) }
         Flag::Merge => switch(alloc, "merge", help::MERGE),

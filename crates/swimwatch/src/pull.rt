@@ -6,7 +6,6 @@ ghost use Rattle.swimwatch.specs.Asking.{IsDumpOf};
 use crate::NAME;
 use crate::agreement::{status_of, write_asked, write_asked_objects};
 use crate::ask::{ask_all, targets_of};
-use crate::captures::print;
 use crate::chosen::Chosen;
 use crate::follow::follow;
 use crate::records::claims_of_stream;
@@ -15,7 +14,7 @@ use crate::said::{misused, output_fails};
 use key_files::keyring_of;
 use std::alloc::{AllocError, Global};
 use std::process::ExitCode;
-use swim_program::{Failure, What};
+use swim_program::{Failure, What, print_bytes};
 use swim_table::{EncodeFault, Table, encode};
 
 /// Asks the members that the arguments name, and then shows their answers. The status is 1 if they
@@ -53,7 +52,7 @@ pub(crate) fn pull(rt: &HostRuntime, chosen: &Chosen) -> Result<ExitCode, Failur
     }
     if chosen.dump {
         if let [Ok(answer)] = asked.as_slice() {
-            print(rt, &dump_of(alloc, &answer.stream)?)?;
+            print_bytes(rt, NAME, &dump_of(alloc, &answer.stream)?)?;
         }
     } else {
         let mut text = String::new(alloc);
@@ -62,7 +61,7 @@ pub(crate) fn pull(rt: &HostRuntime, chosen: &Chosen) -> Result<ExitCode, Failur
         } else {
             write_asked(&mut text, &asked, is_keyless)?;
         }
-        print(rt, text.as_bytes())?;
+        print_bytes(rt, NAME, text.as_bytes())?;
     }
     for message in &messages {
         let _ = rt.eprintln(message);

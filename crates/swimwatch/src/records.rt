@@ -1,21 +1,28 @@
-//! The claims of push/pull streams.
+//! The records of push/pull streams.
 
-ghost use Rattle.std.specs.Prelude.{◌≢◌, List, IfOk, IfErr, IfSome, IfNone};
+ghost use Rattle.std.specs.Prelude.{◌≡◌, ◌≢◌, List, IfOk, IfErr, IfSome, IfNone};
 ghost use Rattle.swim_claim.specs.declared.claim.Claim.{Claim};
-ghost use Rattle.swimwatch.specs.Records.{BeginsWithStream};
+ghost use Rattle.swimwatch.specs.Records.{BeginsWithStream, claims_in};
 
 use std::alloc::{AllocError, Global};
 use swim_claim::Claim;
 use swim_pack::SliceInlet;
-use swim_wire::{WireFault, read_header, read_state, skip_user};
+use swim_wire::{StateRecord, WireFault, read_header, read_record, skip_user};
+
+/// The records of a push/pull stream.
+#[derive(Drop)]
+pub(crate) struct Records {
+    pub(crate) records: Vec<StateRecord>,
+    /// Whether the sender joins the cluster with it (memberlist's `Join`).
+    pub(crate) join: bool,
+}
 
 /// The claims of the push/pull stream that these bytes begin with, in order. None if they do not
-/// begin with a whole stream: members do not merge such a stream (memberlist's `readRemoteState`).
-/// What follows the stream is ignored, as in memberlist.
+/// begin with a whole stream.
 ///
 /// # Errors
 ///
-/// If out of memory for the claims.
+/// If out of memory for the records.
 pub(crate) fn claims_of_stream(
     alloc: Global,
     bytes: &[u8],
@@ -25,19 +32,44 @@ pub(crate) fn claims_of_stream(
     ensures none { IfOk result (λ found. IfNone found ((claims : List Claim)
         → ¬ BeginsWithStream bytes.now claims)) }
 {
-    match read_records(alloc, bytes) {
-        Ok(records) => Ok(Some(records.claims)),
-        Err(WireFault::Memory) => Err(AllocError),
-        Err(_) => Ok(None),
+    match records_of_stream(alloc, bytes)? {
+        Some(records) => Ok(Some(claims_in(alloc, records)?)),
+        None => Ok(None),
     }
 }
 
-/// The records of a push/pull stream.
-#[derive(Drop)]
-pub(crate) struct Records {
-    pub(crate) claims: Vec<Claim>,
-    /// Whether the sender joins the cluster with it (memberlist's `Join`).
-    pub(crate) join: bool,
+/// The claims of records, in order.
+fn claims_in(alloc: Global, records: Vec<StateRecord>) -> Result<Vec<Claim>, AllocError>
+    ensures { IfOk result (λ claims. claims.items ≡ claims_in records.items) }
+{
+    let mut claims = Vec::new(alloc);
+    for record in records {
+        claims.push(record.claim)?;
+    }
+    Ok(claims)
+}
+
+/// The records of the push/pull stream that these bytes begin with, in order. None if they do not
+/// begin with a whole stream: members do not merge such a stream (memberlist's `readRemoteState`).
+/// What follows the stream is ignored, as in memberlist.
+///
+/// # Errors
+///
+/// If out of memory for the records.
+pub(crate) fn records_of_stream(
+    alloc: Global,
+    bytes: &[u8],
+) -> Result<Option<Vec<StateRecord>>, AllocError>
+    ensures whole { IfOk result (λ found. IfSome found (λ records.
+        BeginsWithStream bytes.now (claims_in records.items))) }
+    ensures none { IfOk result (λ found. IfNone found ((claims : List Claim)
+        → ¬ BeginsWithStream bytes.now claims)) }
+{
+    match read_records(alloc, bytes) {
+        Ok(records) => Ok(Some(records.records)),
+        Err(WireFault::Memory) => Err(AllocError),
+        Err(_) => Ok(None),
+    }
 }
 
 /// The records of the push/pull stream that these bytes begin with, in order.
@@ -46,22 +78,23 @@ pub(crate) struct Records {
 ///
 /// The fault at which the reading of the stream stops: `Ended` if bytes are missing.
 pub(crate) fn read_records(alloc: Global, bytes: &[u8]) -> Result<Records, WireFault>
-    ensures whole { IfOk result (λ records. BeginsWithStream bytes.now records.claims.items) }
+    ensures whole { IfOk result (λ read.
+        BeginsWithStream bytes.now (claims_in read.records.items)) }
     ensures none { IfErr result (λ fault. fault ≢ WireFault.Memory → (claims : List Claim)
         → ¬ BeginsWithStream bytes.now claims) }
 {
     let mut inlet = SliceInlet::new(bytes);
     let header = read_header(&mut inlet)?;
-    let mut claims = Vec::new(alloc);
+    let mut records = Vec::new(alloc);
     for _count in 0..header.nodes {
-        let claim = read_state(alloc, &mut inlet)?;
-        if claims.push(claim).is_err() {
+        let read = read_record(alloc, &mut inlet)?;
+        if records.push(read).is_err() {
             return Err(WireFault::Memory);
         }
     }
     skip_user(&mut inlet, header.user_len)?;
     Ok(Records {
-        claims,
+        records,
         join: header.join,
     })
 }

@@ -1,16 +1,12 @@
 //! The members that somebody knows.
 
 use crate::directory::copy_of;
-use crate::known::{Known, Unheard};
+use crate::known::Known;
 use crate::listener::Listener;
-use crate::node_state::details_in;
-use crate::records::claims_of_stream;
+use crate::records::records_of_stream;
 use memberlist_view::MemberName;
 use std::alloc::{AllocError, Global};
 use std::collections::{BTreeMap, btree_map};
-use swim_claim::Claim;
-use swim_pack::SliceInlet;
-use swim_wire::{read_header, read_state};
 
 /// Names, each with what is said about it.
 #[derive(Drop)]
@@ -19,43 +15,32 @@ pub(crate) struct Roster {
 }
 
 impl Roster {
+    /// Nobody.
+    pub(crate) fn new(alloc: Global) -> Roster {
+        Roster {
+            members: BTreeMap::new(alloc),
+        }
+    }
+
     /// What the records of a push/pull stream say. If two are about one name, the later one counts.
     /// If that has no details, it gets those of the earlier one: the canonical dump of a table
     /// first has a member's details, and then its state. None if the bytes do not begin with a
     /// whole stream.
     pub(crate) fn of_stream(alloc: Global, stream: &[u8]) -> Result<Option<Roster>, AllocError> {
-        let Some(claims) = claims_of_stream(alloc, stream)? else {
+        let Some(records) = records_of_stream(alloc, stream)? else {
             return Ok(None);
         };
-        let mut roster = Roster {
-            members: BTreeMap::new(alloc),
-        };
-        let mut inlet = SliceInlet::new(stream);
-        let Ok(_) = read_header(&mut inlet) else {
-            return Ok(None);
-        };
-        for claim in claims {
-            let details = details_in(alloc, inlet.rest())?;
-            // it was read before, so the only possible fault is memory
-            if read_state(alloc, &mut inlet).is_err() {
-                return Err(AllocError);
-            }
-            let known = Known {
-                kind: claim.kind(),
-                inc: claim.inc(),
-                details,
-                unheard: Unheard::default(),
-            };
-            roster.note(MemberName::new(claim.name().try_clone(alloc)?), known)?;
+        let mut roster = Roster::new(alloc);
+        for record in records {
+            let name = record.claim.name().try_clone(alloc)?;
+            roster.note(MemberName::new(name), Known::of_record(alloc, record)?)?;
         }
         Ok(Some(roster))
     }
 
     /// What a listener shows: the members in its view.
     pub(crate) fn of_listener(alloc: Global, listener: &Listener) -> Result<Roster, AllocError> {
-        let mut roster = Roster {
-            members: BTreeMap::new(alloc),
-        };
+        let mut roster = Roster::new(alloc);
         for (name, entry) in listener.view.iter() {
             let known = Known::of_entry(alloc, entry)?;
             roster.note(copy_of(alloc, name)?, known)?;

@@ -8,7 +8,6 @@ use capture::{CaptureFault, CaptureReader, Link, Record};
 use std::alloc::Global;
 use std::cmp::Reverse;
 use std::collections::BinaryHeap;
-use std::io::ErrorKind;
 use swim_pack::FromRead;
 use swim_program::Failure;
 
@@ -98,24 +97,39 @@ pub(crate) struct Sources<'a> {
 }
 
 impl<'a> Sources<'a> {
-    /// Starts to read the captures that these words name.
-    pub(crate) fn begin(limit: Limit<'a>, words: &[String]) -> Result<Sources<'a>, Failure> {
-        let mut sources = Sources {
+    fn new(limit: Limit<'a>) -> Sources<'a> {
+        Sources {
             limit,
             all: Vec::new(limit.rt.alloc()),
             turns: BinaryHeap::new(limit.rt.alloc()),
-        };
+        }
+    }
+
+    /// Starts to read the captures that these words name.
+    pub(crate) fn begin(limit: Limit<'a>, words: &[String]) -> Result<Sources<'a>, Failure> {
+        let mut sources = Sources::new(limit);
         for word in words {
-            sources.add(word)?;
+            let input = open(limit, word)?;
+            let can_open_again = input.can_open_again();
+            sources.add(word, input, can_open_again)?;
         }
         sources.open_first()?;
         Ok(sources)
     }
 
-    /// Adds the capture that the word names, if it has records.
-    fn add(&mut self, word: &str) -> Result<(), Failure> {
-        let input = open(self.limit, word)?;
-        let can_open_again = input.can_open_again();
+    /// Starts to read one capture, which is open.
+    pub(crate) fn of(
+        limit: Limit<'a>,
+        word: &str,
+        input: Input<'a>,
+    ) -> Result<Sources<'a>, Failure> {
+        let mut sources = Sources::new(limit);
+        sources.add(word, input, false)?;
+        Ok(sources)
+    }
+
+    /// Adds a capture, if it has records. It is closed until its turn if it can be opened again.
+    fn add(&mut self, word: &str, input: Input<'a>, can_open_again: bool) -> Result<(), Failure> {
         let Some(reading) = Reading::begin(self.limit, word, input)? else {
             return Ok(());
         };
@@ -222,22 +236,11 @@ fn time_of(reading: &Reading) -> u64 {
     reading.record.time.unwrap_or(0)
 }
 
-/// Opens what the word names. Prints a note if it is a terminal.
+/// Opens what the word names.
 fn open<'a>(limit: Limit<'a>, word: &str) -> Result<Input<'a>, Failure> {
     match Input::open(limit, word) {
-        Ok(input) => {
-            if input.is_terminal() {
-                let _ = eprintln!(limit.rt;
-                    "{NAME}: reading a capture from the terminal; Ctrl-D ends the input"
-                );
-            }
-            Ok(input)
-        }
-        Err(error) if error.kind() == ErrorKind::OutOfMemory => Err(Failure::Memory),
-        Err(error) => Err(said(
-            format!(in limit.rt.alloc(); "{NAME}: {word}: device fault ({error})"),
-            4,
-        )),
+        Ok(input) => Ok(input),
+        Err(error) => Err(Failure::device(limit.rt.alloc(), NAME, word, &error)),
     }
 }
 

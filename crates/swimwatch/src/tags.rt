@@ -3,6 +3,7 @@
 use crate::names::write_readable;
 use percent_encoding::{AsciiSet, CONTROLS, ascii_set};
 use std::alloc::{AllocError, Global};
+use std::cmp::Ordering;
 use swim_pack::{SliceInlet, raw_at_hand, read_map_len};
 
 /// The first byte of metadata that contains tags, as in Serf's `encodeTags`.
@@ -43,18 +44,31 @@ fn tag_at_hand(bytes: &[u8]) -> Option<(Tag, &[u8])> {
     Some((Tag { key, value }, rest))
 }
 
-/// The tags in metadata: `ff`, and one MessagePack map of texts. None if the metadata is something
-/// else.
-pub(crate) fn tags_of(alloc: Global, meta: &[u8]) -> Result<Option<Vec<Tag>>, AllocError> {
+/// How many tags there are in metadata, `ff` and one MessagePack map of texts, and their bytes. None
+/// if the metadata is something else.
+fn body_of(meta: &[u8]) -> Option<(u32, &[u8])> {
     let Some((&TAGS, body)) = meta.split_first() else {
-        return Ok(None);
+        return None;
     };
     let mut inlet = SliceInlet::new(body);
-    let Ok(count) = read_map_len(&mut inlet, MAX_META_LEN as u32) else {
+    let count = read_map_len(&mut inlet, MAX_META_LEN as u32).ok()?;
+    let start = body.len().saturating_sub(inlet.rest().len());
+    Some((count, &body[start..]))
+}
+
+/// The tags in metadata, in the order of their keys: Go writes a map in another order each time.
+/// None if the metadata is something else.
+pub(crate) fn tags_of(alloc: Global, meta: &[u8]) -> Result<Option<Vec<Tag>>, AllocError> {
+    let Some((count, bytes)) = body_of(meta) else {
         return Ok(None);
     };
-    let start = body.len().saturating_sub(inlet.rest().len());
-    tags_in(alloc, &body[start..], count)
+    match tags_in(alloc, bytes, count)? {
+        Some(mut tags) => {
+            tags.sort_by(|one: &Tag, other: &Tag| -> Ordering { one.key.cmp(other.key) })?;
+            Ok(Some(tags))
+        }
+        None => Ok(None),
+    }
 }
 
 /// This many tags, which make up all the bytes.
@@ -72,6 +86,42 @@ fn tags_in(alloc: Global, bytes: &[u8], count: u32) -> Result<Option<Vec<Tag>>, 
         return Ok(None);
     }
     Ok(Some(tags))
+}
+
+/// Whether two members' metadata is the same, whatever the order of its tags.
+pub(crate) fn is_same_meta(one: &[u8], other: &[u8]) -> bool {
+    one == other || (one.len() == other.len() && has_tags_of(one, other) && has_tags_of(other, one))
+}
+
+/// Whether each tag in the second metadata is in the first.
+fn has_tags_of(one: &[u8], other: &[u8]) -> bool {
+    let (Some((count, own)), Some((others, bytes))) = (body_of(one), body_of(other)) else {
+        return false;
+    };
+    let mut bytes = bytes;
+    for _ in 0..others {
+        let Some((tag, rest)) = tag_at_hand(bytes) else {
+            return false;
+        };
+        if value_at(own, count, tag.key) != Some(tag.value) {
+            return false;
+        }
+        bytes = rest;
+    }
+    true
+}
+
+/// The value of a key among this many tags.
+fn value_at<'a>(bytes: &'a [u8], count: u32, key: &[u8]) -> Option<&'a [u8]> {
+    let mut bytes = bytes;
+    for _ in 0..count {
+        let (tag, rest) = tag_at_hand(bytes)?;
+        if tag.key == key {
+            return Some(tag.value);
+        }
+        bytes = rest;
+    }
+    None
 }
 
 /// Whether there is no metadata, or no tag in it.

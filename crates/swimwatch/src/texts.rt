@@ -8,7 +8,7 @@ use memberlist_view::{Entry, Event, MemberName, State};
 use std::alloc::{AllocError, Global};
 use swim_claim::Details;
 
-/// What stands for an address or an incarnation that was not heard.
+/// What stands for an address, an incarnation or an accuser that was not heard.
 pub(crate) const NONE: &str = "-";
 
 /// The word for a state.
@@ -114,7 +114,17 @@ pub(crate) fn meta_of(entry: &Entry) -> &[u8] {
     }
 }
 
-/// Who says that a member is in this state: the member itself, or its accusers.
+/// Names as in [`names_text`], or `-` if there are none.
+fn by_names(alloc: Global, names: &[MemberName]) -> Result<String, AllocError> {
+    if names.is_empty() {
+        String::from_str(alloc, NONE)
+    } else {
+        names_text(alloc, names)
+    }
+}
+
+/// Who says that a member is in this state: the member itself, or its accusers. `-` if nobody is
+/// named.
 pub(crate) fn by_text(
     alloc: Global,
     name: &MemberName,
@@ -122,8 +132,8 @@ pub(crate) fn by_text(
 ) -> Result<String, AllocError> {
     match state {
         State::Noted | State::Seen | State::Alive | State::Left => name_text(alloc, name),
-        State::Dead { by } => name_text(alloc, by),
-        State::Suspect { by } => names_text(alloc, by.names()),
+        State::Dead { by } => by_names(alloc, by.as_slice()),
+        State::Suspect { by } => by_names(alloc, by.names()),
     }
 }
 

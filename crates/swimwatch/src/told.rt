@@ -98,17 +98,10 @@ fn said_in_packet(claim: Claim, from: Option<MemberName>) -> Said
             name: MemberName::new(name),
             inc,
         },
-        Claim::Confirm { name, inc } => match from {
-            Some(from) => Said::Dead {
-                name: MemberName::new(name),
-                inc,
-                from,
-            },
-            None => Said::Suspect {
-                name: MemberName::new(name),
-                inc,
-                from: None,
-            },
+        Claim::Confirm { name, inc } => Said::Dead {
+            name: MemberName::new(name),
+            inc,
+            from,
         },
     }
 }

@@ -318,7 +318,7 @@ impl<'a> Watch<'a> {
                 Claim::Confirm { name, inc } => Said::Dead {
                     name: MemberName::new(name.try_clone(self.alloc)?),
                     inc: *inc,
-                    from: nobody(self.alloc)?,
+                    from: Some(nobody(self.alloc)?),
                 },
                 _ => Said::of_record(claim.try_clone(self.alloc)?, false),
             };

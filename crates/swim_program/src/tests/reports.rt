@@ -62,7 +62,8 @@ fn each_fault_is_reported_by_its_number_and_its_name(rt: HostRuntime) -> Result<
         (56, "NotEncrypted"),
         (57, "Trailing"),
         (58, "Memory"),
-        (59, "Unknown"),
+        (59, "Unencrypted"),
+        (60, "Unknown"),
     ] {
         let found = None;
         let report = What::Refused { number, found }.at(Place::Input);

@@ -1,7 +1,7 @@
 //! Headers and state records of push/pull streams.
 
 use super::{assert_claim, assert_count, assert_fault};
-use crate::{Header, WireFault, read_header, read_state};
+use crate::{Header, WireFault, read_header, read_record, read_state};
 use std::alloc::Global;
 use std::process::Abort;
 use std::test::Fail;
@@ -98,6 +98,33 @@ fn a_state_record_is_read_by_its_state(rt: HostRuntime) -> Result<(), Fail> {
         assert_record(&rt, rt.alloc(), bytes, kind, name, inc)?;
     }
     Ok(())
+}
+
+/// The record of `b`, dead at incarnation 0, with its address, its metadata and its versions.
+const DEAD_AT: &[u8] =
+    b"\x87\xa4Addr\xa4\x7f\0\0\x01\xabIncarnation\0\xa4Meta\xa1m\xa4Name\xa1b\xa4Port\xcd\x1f\x0a\xa5State\x02\xa3Vsn\xa6\x01\x05\x02\0\0\0";
+
+/// Asserts that the record tells this address, or none.
+fn assert_told(
+    rt: &impl Abort,
+    alloc: Global,
+    bytes: &[u8],
+    wanted: Option<&[u8]>,
+) -> Result<(), Fail> {
+    let read = read_record(alloc, &mut SliceInlet::new(bytes))?;
+    assert_eq!(rt;
+        read.told.as_ref().map(|told| told.addr()),
+        wanted,
+        "{bytes:?}"
+    );
+    Ok(())
+}
+
+#[test]
+fn a_record_tells_the_details_of_one_that_is_not_alive(rt: HostRuntime) -> Result<(), Fail> {
+    assert_told(&rt, rt.alloc(), DEAD_AT, Some(b"\x7f\0\0\x01"))?;
+    assert_told(&rt, rt.alloc(), DEAD, None)?;
+    assert_told(&rt, rt.alloc(), ALIVE, None)
 }
 
 /// Why the bytes are not a record.

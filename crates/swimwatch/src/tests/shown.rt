@@ -35,6 +35,7 @@ fn watch<'a>(
     json: bool,
 ) -> Result<Watch<'a>, AllocError> {
     let chosen = Chosen {
+        moments: Vec::new(alloc),
         verb,
         inputs: Vec::new(alloc),
         key_files: Vec::new(alloc),

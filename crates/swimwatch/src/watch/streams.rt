@@ -2,6 +2,7 @@
 
 ghost use Rattle.std.specs.Prelude.{◌≡◌, Bool, IfOk, OnOk};
 ghost use Rattle.std.specs.Option.{is_none};
+ghost use Rattle.swimwatch.specs.Records.{claims_in};
 ghost use Rattle.swimwatch.specs.Views.{HearsRecords, HearsStream};
 
 use super::Watch;
@@ -12,6 +13,7 @@ use crate::records::Records;
 use crate::sent::Sent;
 use crate::talkers::Kind;
 use crate::told::Told;
+use crate::versions::is_understood;
 use std::alloc::AllocError;
 use std::net::SocketAddr;
 use swim_claim::Claim;
@@ -62,6 +64,10 @@ impl<'a> Watch<'a> {
                 count(&mut self.counts.gaps);
                 Kind::Unread
             }
+            Some(NoStream::Versions) => {
+                count(&mut self.counts.misversed);
+                Kind::Unread
+            }
             Some(NoStream::Invalid(fault)) => {
                 self.counts.invalidate(fault);
                 Kind::Unread
@@ -96,10 +102,11 @@ impl<'a> Watch<'a> {
     {
         self.reach(sent.time);
         match stream_records(self.alloc, self.keys, self.clear, bytes) {
-            Ok(records) => {
+            Ok(records) if is_understood(&records.records) => {
                 self.records(sent, records)?;
                 Ok(None)
             }
+            Ok(_) => Ok(Some(NoStream::Versions)),
             Err(NoStream::Memory) => Err(AllocError),
             Err(cause) => Ok(Some(cause)),
         }
@@ -107,19 +114,19 @@ impl<'a> Watch<'a> {
 
     /// Hears the records of a push/pull stream.
     fn records(&mut self, sent: Sent, records: Records) -> Result<(), AllocError>
-        ensures view { OnOk result (HearsRecords sent.time records.claims.items
+        ensures view { OnOk result (HearsRecords sent.time (claims_in records.records.items)
             self.old.listener.view self.new.listener.view) }
     {
         count(&mut self.counts.streams);
         self.said(sent, Kind::Stream)?;
         let join = Join {
             join: records.join,
-            is_only: records.claims.len() == 1,
+            is_only: records.records.len() == 1,
             source: sent.source,
         };
-        for claim in records.claims {
-            let joins = join.has(&claim);
-            let told = Told::of_record(self.alloc, claim, joins);
+        for record in records.records {
+            let joins = join.has(&record.claim);
+            let told = Told::of_record(self.alloc, record.claim, joins);
             self.hear(sent, &told)?;
         }
         Ok(())

@@ -1,7 +1,7 @@
 use Rattle.std.proofs.Common.{rules}
 use Rattle.std.specs.Prelude.{◌≢◌}
 use Rattle.swim_wire.specs.declared.fault.WireFault.TheVariants.{Memory}
-use Rattle.swimwatch.proofs.records.claims_of_stream.Goals as goal
+use Rattle.swimwatch.proofs.records.records_of_stream.Goals as goal
 
 pub returns-in-Err : goal.returns-in-Err
 returns-in-Err c =
