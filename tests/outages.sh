@@ -29,7 +29,7 @@ check 'nobody joins in a late capture'
 run timeline --member web-9 "$late"
 count 'a member that nobody names' "$(grep -q 'nothing was heard about the --member name' err || echo "; $(start_of err)")"
 
-# late_frames CONDITION FILE: those frames of the late capture whose time, in seconds after 21:16:00, and Ethernet frame make the
+# late_frames CONDITION FILE: those frames of the late capture whose time, in seconds after 21:16:00, and protocol make the
 # condition true
 late_frames() {
     python3 - "$late" "$1" "$2" <<'END'
