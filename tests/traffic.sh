@@ -35,7 +35,6 @@ from frames import *
 stream = open(sys.argv[1], "rb").read()
 at = lambda seq, flags, payload: packet("127.0.3.9", 6, tcp(40000, seq, flags, payload))
 pcap("gap.pcap", enumerate([at(0, 2, b""), at(1, 24, stream[:100]), at(151, 24, stream[150:])]))
-print(len(stream) - 50)
 END
 "$program" talkers gap.pcap 2> err | counted > found
 echo "127.0.3.9 0 0 0 0 0 0 0 0 0 0 0 1 $(($(wc -c < start.bin) - 50))" > wanted
@@ -76,7 +75,7 @@ done
 
 # ---- connections that fall silent
 
-python3 - start.bin <<'END'
+python3 - examples/three.bin <<'END'
 import sys
 from frames import *
 stream = open(sys.argv[1], "rb").read()

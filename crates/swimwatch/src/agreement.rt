@@ -294,7 +294,10 @@ fn write_others(
 
 /// Whether two members report different versions for a name.
 fn differ_in_versions(answers: &[Voice], name: &MemberName) -> bool {
-    let mut told = answers.iter().filter_map(|answer| answer.roster.get(name));
+    let mut told = answers
+        .iter()
+        .filter_map(|answer| answer.roster.get(name))
+        .filter(|known| !known.unheard.tags);
     match told.next() {
         Some(first) => told.any(|other| other.vsn() != first.vsn()),
         None => false,

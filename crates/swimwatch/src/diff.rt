@@ -34,7 +34,7 @@ fn sides(rt: &HostRuntime, chosen: &Chosen) -> Result<[Roster; 2], Failure> {
     let keys = keyring_of(rt, NAME, &chosen.key_files)?;
     match (chosen.inputs.as_slice(), chosen.moments.as_slice()) {
         ([before, after], []) => {
-            if before == "-" && after == "-" {
+            if before.as_str() == "-" && after.as_str() == "-" {
                 return Err(misused(
                     rt.alloc(),
                     "standard input can be read once; give a file for the other side",

@@ -40,7 +40,7 @@ impl Known {
                 None => None,
             },
             unheard: Unheard {
-                state: matches!(entry.state, State::Seen),
+                state: matches!(entry.state, State::Noted | State::Seen),
                 tags: entry.details.is_none(),
             },
         })
