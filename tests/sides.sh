@@ -73,6 +73,17 @@ run diff - -
 count 'standard input for both sides' "$([ "$status" -eq 2 ] && grep -q 'standard input can be read once' err ||
     echo "; $(start_of err)")"
 
+# web-5 was killed at 00:00:15, and web-4 left at 00:00:26
+run diff --at 00:00:05 --at 00:00:30 examples/serf.pcap
+: > err
+prints 'a capture at two times' 1 'web-4 alive 127.0.9.4:7946 -> left 127.0.9.4:7946' \
+    'web-5 alive 127.0.9.5:7946 -> dead 127.0.9.5:7946'
+"$program" diff --at 00:00:30 --at 00:00:05 - < examples/serf.pcap > out 2> err
+status=$?
+: > err
+prints 'a capture in a pipe at two times, the later one first' 1 'web-4 left 127.0.9.4:7946 -> alive 127.0.9.4:7946' \
+    'web-5 dead 127.0.9.5:7946 -> alive 127.0.9.5:7946'
+
 # memberlist.go, verifyProtocol: what one speaks, all who are alive have to understand
 for row in '2 2 x,y' '5 1 x,y' '6 2 -' '2 0 -' '2 none -'; do
     # shellcheck disable=SC2086

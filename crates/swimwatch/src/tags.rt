@@ -129,7 +129,7 @@ pub(crate) fn is_bare(meta: &[u8]) -> bool {
     matches!(meta, [] | [TAGS, 0x80])
 }
 
-/// Adds metadata in readable form: tags as `role=web,dc=east`, and anything else as bytes in
+/// Adds metadata in readable form: tags as `dc=east,role=web`, and anything else as bytes in
 /// hexadecimal.
 pub(crate) fn write_meta(text: &mut String, meta: &[u8]) -> Result<(), AllocError> {
     let alloc = *text.allocator();

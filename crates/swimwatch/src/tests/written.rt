@@ -91,7 +91,7 @@ fn addresses_are_written_as_usual(rt: HostRuntime) -> Result<(), Fail> {
 #[test]
 fn tags_are_keys_and_values(rt: HostRuntime) -> Result<(), Fail> {
     for (meta, text) in [
-        ("ff82a4726f6c65a3776562a26463a3646331", "role=web,dc=dc1"),
+        ("ff82a4726f6c65a3776562a26463a3646331", "dc=dc1,role=web"),
         ("ff81a3612c62a3633d64", "a%2Cb=c%3Dd"),
         ("ff80", ""),
         ("ff", "ff"),
