@@ -2,6 +2,8 @@ pub mod Passed
 pub mod Listed
 pub mod Slotting
 pub mod Divided
+pub mod Opening
+pub mod Unique
 pub mod Again
 pub mod Written
 pub mod Entries

@@ -4,6 +4,7 @@ pub mod Slots
 pub mod Values
 pub mod Reading
 pub mod Layouts
+pub mod Leaves
 pub mod Claims
 pub mod Messages
 pub mod Compounds

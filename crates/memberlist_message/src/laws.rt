@@ -1,6 +1,7 @@
 //! What holds for messages, independent of any code.
 
 ghost use Rattle.std.specs.Prelude.{◌≡◌, ℕ, ◌<◌, ◌^◌, List, Ok, length};
+ghost use Rattle.memberlist_message.specs.Leaves.{AreLeaves};
 ghost use Rattle.memberlist_message.specs.Messages.{PingValue, IndirectPingValue, AckValue, message_of};
 ghost use Rattle.memberlist_message.specs.Messages.MessageValue.{ping, indirect_ping, ack, nack, user, error};
 ghost use Rattle.memberlist_message.specs.Writing.{ping_bytes, indirect_ping_bytes, ack_bytes, nack_bytes, user_bytes, error_bytes};
@@ -22,4 +23,10 @@ pub fn written_is_read()
     ensures user { (bytes : List ℕ) → message_of (user_bytes bytes) ≡ Ok (user bytes) }
     ensures error { (text : List ℕ) → length text < 2 ^ 16
         → message_of (error_bytes text) ≡ Ok (error text) }
+{}
+
+/// Messages have one list of leaves, and one number of truncated parts.
+pub fn one_list_of_leaves()
+    ensures { (messages leaves others : List (List ℕ)) (n m : ℕ) → AreLeaves messages leaves n
+        → AreLeaves messages others m → (leaves ≡ others) × (n ≡ m) }
 {}

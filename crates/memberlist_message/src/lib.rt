@@ -9,6 +9,7 @@
 //! | `message` | messages, and their fields |
 //! | `decode` | one message from its bytes |
 //! | `parts` | the parts of a compound message, one by one |
+//! | `leaves` | the parts of a message, and of its parts, that are no compound messages |
 //! | `encode` | messages that make no claims, in memberlist's bytes |
 //! | `form` | what the first byte of a MessagePack value announces |
 //! | `heads` | bytes, numbers, lengths and texts at the start of bytes |
@@ -29,6 +30,7 @@ mod form;
 mod heads;
 pub mod laws;
 mod layout;
+mod leaves;
 mod lists;
 mod message;
 mod pairs;
@@ -41,5 +43,6 @@ pub use decode::decode_message;
 pub use encode::{
     encode_ack, encode_error, encode_indirect_ping, encode_nack, encode_ping, encode_user,
 };
+pub use leaves::Leaves;
 pub use message::{Ack, ErrorResponse, IndirectPing, Message, Nack, Ping};
 pub use parts::Parts;

@@ -1,6 +1,6 @@
 //! The parts of a compound message, one by one.
 
-ghost use Rattle.std.specs.Prelude.{◌≡◌, ◌∷◌, [], suc, length, None, Some, MatchOption};
+ghost use Rattle.std.specs.Prelude.{◌≡◌, ◌∷◌, ◌++◌, [], suc, length, None, Some, MatchOption, IfSome};
 ghost use Rattle.memberlist_message.specs.Compounds.{compound_of, parts_in, truncated_in};
 
 use std::marker::Model;
@@ -51,6 +51,7 @@ impl<'a> Parts<'a> {
             ≡ truncated_in self.old.lens self.old.bytes }
         ensures kept { MatchOption result (self.new ≡ self.old) (λ part.
             length self.old.lens ≡ suc (length self.new.lens)) }
+        ensures bytes { IfSome result (λ part. self.old.bytes ≡ part.now ++ self.new.bytes) }
     {
         let (len, lens) = self.lens.split_first_chunk::<2>()?;
         let (part, bytes) = self

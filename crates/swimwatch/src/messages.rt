@@ -1,6 +1,10 @@
 //! The messages of a datagram, part by part, as memberlist's handlers read them.
 
-use memberlist_message::{Message, Parts, decode_message};
+ghost use Rattle.std.specs.Prelude.{◌≡◌, ◌++◌, map, IfOk, OnOk};
+ghost use Rattle.memberlist_message.specs.Messages.{message_of};
+ghost use Rattle.swimwatch.specs.Datagrams.{values, if_read, messages_in, is_compressed, Unpacks, Gives, IsReadAs};
+
+use memberlist_message::{Leaves, Message, decode_message};
 use memberlist_wrap::{WrapFault, unwrap};
 use std::alloc::{AllocError, Global};
 use swim_wire::WireFault;
@@ -30,27 +34,40 @@ impl Messages {
     /// # Errors
     ///
     /// If out of memory.
-    pub(crate) fn of(alloc: Global, bytes: &[u8]) -> Result<Messages, AllocError> {
+    pub(crate) fn of(alloc: Global, bytes: &[u8]) -> Result<Messages, AllocError>
+        ensures { IfOk result (λ messages. IsReadAs bytes.now (values messages.read.items)) }
+    {
+        let leaves = Leaves::of(alloc, bytes)?;
         let mut messages = Messages {
             alloc,
             read: Vec::new(alloc),
-            unread: 0,
+            unread: leaves.truncated as u64,
             room: MAX_UNPACKED,
         };
-        let leaves = leaves_of(alloc, bytes)?;
-        messages.unread = leaves.truncated;
         for leaf in &leaves.parts {
-            if leaf.first() == Some(&COMPRESSED) {
-                messages.take_compressed(leaf)?;
-            } else {
-                messages.take(leaf)?;
-            }
+            messages.take_leaf(leaf)?;
         }
         Ok(messages)
     }
 
+    /// Takes what is not compound.
+    fn take_leaf(&mut self, bytes: &[u8]) -> Result<(), AllocError>
+        ensures { OnOk result (Gives self.old.room bytes.now (values self.old.read.items)
+            (values self.new.read.items) self.new.room) }
+    {
+        if is_compressed(bytes) {
+            self.take_compressed(bytes)
+        } else {
+            self.take(bytes)
+        }
+    }
+
     /// Takes a message that is not compound.
-    fn take(&mut self, bytes: &[u8]) -> Result<(), AllocError> {
+    fn take(&mut self, bytes: &[u8]) -> Result<(), AllocError>
+        ensures read { OnOk result (values self.new.read.items
+            ≡ values self.old.read.items ++ if_read (message_of bytes.now)) }
+        ensures room { OnOk result (self.new.room ≡ self.old.room) }
+    {
         match decode_message(self.alloc, bytes) {
             Ok(message) => self.read.push(message).map_err(AllocError::from),
             Err(WireFault::Memory) => Err(AllocError),
@@ -62,7 +79,10 @@ impl Messages {
     }
 
     /// Takes the messages in a compressed part (memberlist's `handleCompressed`).
-    fn take_compressed(&mut self, bytes: &[u8]) -> Result<(), AllocError> {
+    fn take_compressed(&mut self, bytes: &[u8]) -> Result<(), AllocError>
+        ensures { OnOk result (Unpacks self.old.room bytes.now (values self.old.read.items)
+            (values self.new.read.items) self.new.room) }
+    {
         let inner = match unwrap(self.alloc, bytes, self.room) {
             Ok(inner) => inner,
             Err(WrapFault::Memory) => return Err(AllocError),
@@ -72,50 +92,30 @@ impl Messages {
             }
         };
         self.room = self.room.saturating_sub(inner.len());
-        let leaves = leaves_of(self.alloc, &inner)?;
-        self.unread = self.unread.saturating_add(leaves.truncated);
-        for leaf in &leaves.parts {
-            self.take(leaf)?;
+        let leaves = Leaves::of(self.alloc, &inner)?;
+        self.unread = self.unread.saturating_add(leaves.truncated as u64);
+        self.take_all(&leaves.parts)
+    }
+
+    /// Takes messages that are not compound.
+    fn take_all(&mut self, parts: &[&[u8]]) -> Result<(), AllocError>
+        ensures read { OnOk result (values self.new.read.items
+            ≡ values self.old.read.items ++ messages_in (map (λ part. part.now) parts.now)) }
+        ensures room { OnOk result (self.new.room ≡ self.old.room) }
+    {
+        for part in parts {
+            self.take(part)?;
         }
         Ok(())
     }
 }
 
-/// The parts of a message, and of its parts, that are not compound messages.
-#[derive(Drop)]
-struct Leaves<'a> {
-    /// In order; the message itself if it is not a compound one.
-    parts: Vec<&'a [u8]>,
-    /// How many parts are cut off.
-    truncated: u64,
-}
-
-/// The parts of a message, and of its parts, that are not compound messages.
-fn leaves_of<'a>(alloc: Global, message: &'a [u8]) -> Result<Leaves<'a>, AllocError> {
-    let mut leaves = Leaves {
-        parts: Vec::new(alloc),
-        truncated: 0,
-    };
-    let Some(parts) = Parts::of(message) else {
-        leaves.parts.push(message)?;
-        return Ok(leaves);
-    };
-    let mut open = Vec::new(alloc);
-    open.push(parts)?;
-    // each turn takes a part, whose length has two bytes, or ends a compound message
-    for _ in 0..=message.len() {
-        let Some(mut parts) = open.pop() else {
-            break;
-        };
-        let Some(part) = parts.next_part() else {
-            leaves.truncated = leaves.truncated.saturating_add(parts.untaken() as u64);
-            continue;
-        };
-        open.push(parts)?;
-        match Parts::of(part) {
-            Some(inner) => open.push(inner)?,
-            None => leaves.parts.push(part)?,
-        }
+/// Whether this is a compressed message.
+fn is_compressed(bytes: &[u8]) -> bool
+    ensures { result ≡ is_compressed bytes.now }
+{
+    match bytes.split_first() {
+        Some((first, _)) => *first == COMPRESSED,
+        None => false,
     }
-    Ok(leaves)
 }

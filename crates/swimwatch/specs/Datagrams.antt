@@ -1,0 +1,50 @@
+-- The messages of a datagram: what its leaves are read as, and those in its compressed leaves.
+use Rattle.std.specs.Prelude.{◌≡◌, ℕ, ◌-◌, ◌==◌, Bool, false, MatchBool, List, [], ◌∷◌, ◌++◌, map, length, Result, Ok, Err}
+use Rattle.swim_wire.specs.declared.fault.WireFault.{WireFault}
+use Rattle.memberlist_message.specs.declared.message.Message.{Message}
+use Rattle.memberlist_message.specs.Leaves.{AreLeaves}
+use Rattle.memberlist_message.specs.Messages.{MessageValue, message_of, message_value}
+use Rattle.memberlist_wrap.specs.Wrapping.{Unwraps}
+
+-- these messages, as data
+abbrev pub values : List Message → List MessageValue
+values messages = map message_value messages
+
+abbrev pub if_read : Result MessageValue WireFault → List MessageValue
+if_read (Ok message) = message ∷ []
+if_read (Err fault) = []
+
+-- the messages that these parts are; what is none is left out
+abbrev pub messages_in : List (List ℕ) → List MessageValue
+messages_in [] = []
+messages_in (part ∷ parts) = if_read (message_of part) ++ messages_in parts
+
+abbrev pub is_compressed : List ℕ → Bool
+is_compressed [] = false
+is_compressed (first ∷ rest) = first == 9
+
+-- net.go, handleCompressed: the leaves in a compressed part follow what was read, if it becomes at
+-- most so many bytes; and how many are left for others (own)
+pub data Unpacks (room : ℕ) (part : List ℕ) (old new : List MessageValue) (left : ℕ) : Type 0 where
+  inside : (inner : List ℕ) (leaves : List (List ℕ)) (truncated : ℕ) → Unwraps room part inner
+      → AreLeaves (inner ∷ []) leaves truncated → new ≡ old ++ messages_in leaves
+      → left ≡ room - length inner → Unpacks room part old new left
+  refused : ((inner : List ℕ) → ¬ Unwraps room part inner) → new ≡ old → left ≡ room
+      → Unpacks room part old new left
+
+-- a leaf is read
+abbrev pub Gives : ℕ → List ℕ → List MessageValue → List MessageValue → ℕ → Type 0
+Gives room part old new left = MatchBool (is_compressed part) (Unpacks room part old new left)
+    ((new ≡ old ++ if_read (message_of part)) × (left ≡ room))
+
+-- leaves are read in order
+abbrev pub Reads : ℕ → List (List ℕ) → List MessageValue → List MessageValue → ℕ → Type 0
+Reads room [] old new left = (new ≡ old) × (left ≡ room)
+Reads room (part ∷ parts) old new left = (mid : List MessageValue) × (rest : ℕ)
+    × Gives room part old mid rest × Reads rest parts mid new left
+
+-- A datagram has these messages: those of its leaves. All compressed ones become at most 2^20
+-- bytes.
+abbrev pub IsReadAs : List ℕ → List MessageValue → Type 0
+IsReadAs bytes messages = (leaves : List (List ℕ)) × (truncated : ℕ) × (left : ℕ)
+    × AreLeaves (bytes ∷ []) leaves truncated × Reads 1048576 leaves [] messages left
