@@ -1,10 +1,14 @@
 -- The messages of a datagram: what its leaves are read as, and those in its compressed leaves.
-use Rattle.std.specs.Prelude.{◌≡◌, ℕ, ◌-◌, ◌==◌, Bool, false, MatchBool, List, [], ◌∷◌, ◌++◌, map, length, Result, Ok, Err}
+use Rattle.std.specs.Prelude.{◌≡◌, ℕ, ◌-◌, ◌==◌, Bool, false, MatchBool, List, [], ◌∷◌, ◌++◌, map, length, Result, Ok, Err, ⊤}
 use Rattle.swim_wire.specs.declared.fault.WireFault.{WireFault}
 use Rattle.memberlist_message.specs.declared.message.Message.{Message}
 use Rattle.memberlist_message.specs.Leaves.{AreLeaves}
 use Rattle.memberlist_message.specs.Messages.{MessageValue, message_of, message_value}
+use Rattle.memberlist_transport.specs.declared.in_the_clear.InTheClear.{InTheClear}
+use Rattle.memberlist_transport.specs.Unwrapped.{IsInside}
 use Rattle.memberlist_wrap.specs.Wrapping.{Unwraps}
+use Rattle.swimwatch.specs.declared.carriage.Carriage.{Carriage}
+use Rattle.swimwatch.specs.declared.carriage.Carriage.TheVariants.{Read}
 
 -- these messages, as data
 abbrev pub values : List Message → List MessageValue
@@ -48,3 +52,20 @@ Reads room (part ∷ parts) old new left = (mid : List MessageValue) × (rest : 
 abbrev pub IsReadAs : List ℕ → List MessageValue → Type 0
 IsReadAs bytes messages = (leaves : List (List ℕ)) × (truncated : ℕ) × (left : ℕ)
     × AreLeaves (bytes ∷ []) leaves truncated × Reads 1048576 leaves [] messages left
+
+-- A packet carries these messages: those of the bytes in it, which a key decrypts, or which are in
+-- the clear, if that is read.
+abbrev pub CarriesMessages : InTheClear → List (List ℕ) → List ℕ → List Message → Type 0
+CarriesMessages clear keys bytes messages =
+    (inner : List ℕ) × IsInside clear keys bytes inner × IsReadAs inner (values messages)
+
+-- what was read are the messages of these bytes; of the rest nothing is read
+abbrev pub IsReadFrom : List ℕ → Carriage → Type 0
+IsReadFrom bytes (Read messages) = IsReadAs bytes (values messages.read.items)
+IsReadFrom bytes other = ⊤
+
+-- what was read are the messages that a packet carries
+abbrev pub IsCarriageOf : InTheClear → List (List ℕ) → List ℕ → Carriage → Type 0
+IsCarriageOf clear keys bytes (Read messages) =
+    CarriesMessages clear keys bytes messages.read.items
+IsCarriageOf clear keys bytes other = ⊤

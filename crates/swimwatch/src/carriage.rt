@@ -4,6 +4,7 @@ ghost use Rattle.std.specs.Prelude.{◌≡◌, ◌≢◌, ◌↔◌, List, IfOk,
 ghost use Rattle.swim_claim.specs.declared.claim.Claim.{Claim};
 ghost use Rattle.swimwatch.specs.declared.carriage.NoStream.TheVariants.{Memory};
 ghost use Rattle.swimwatch.specs.Carriage.{IsStreamOf};
+ghost use Rattle.swimwatch.specs.Datagrams.{IsCarriageOf, IsReadFrom};
 ghost use Rattle.swimwatch.specs.Records.{claims_in};
 
 use crate::messages::Messages;
@@ -46,7 +47,9 @@ pub(crate) fn carriage_of(
     keys: &Keyring,
     clear: InTheClear,
     payload: &[u8],
-) -> Result<Carriage, AllocError> {
+) -> Result<Carriage, AllocError>
+    ensures { IfOk result (λ carriage. IsCarriageOf clear keys.now payload.now carriage) }
+{
     match unwrap_packet(alloc, keys, clear, payload) {
         Ok(bytes) => carriage_in(alloc, &bytes),
         Err(PacketFault::Memory) => Err(AllocError),
@@ -58,7 +61,9 @@ pub(crate) fn carriage_of(
 
 /// What the unwrapped bytes of a datagram carry. What begins with a version of encryption, 0 or 1,
 /// and is no ping that names whom it asks, is encrypted (memberlist's `security.go`).
-fn carriage_in(alloc: Global, bytes: &[u8]) -> Result<Carriage, AllocError> {
+fn carriage_in(alloc: Global, bytes: &[u8]) -> Result<Carriage, AllocError>
+    ensures { IfOk result (λ carriage. IsReadFrom bytes.now carriage) }
+{
     let messages = Messages::of(alloc, bytes)?;
     match bytes.first() {
         Some(0 | 1) if !messages.read.iter().any(names_asked) => Ok(Carriage::Closed),

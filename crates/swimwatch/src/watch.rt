@@ -6,7 +6,7 @@
 ghost use Rattle.std.specs.Prelude.{◌≡◌, OnOk, MatchBool};
 ghost use Rattle.memberlist_view.specs.Told.{view_after};
 ghost use Rattle.swimwatch.specs.Told.{told_text, packet_told, heard_of};
-ghost use Rattle.swimwatch.specs.Views.{is_warning, MaySee, HearsMessage, HearsMessages};
+ghost use Rattle.swimwatch.specs.Views.{is_warning, MaySee, HearsMessage, HearsMessages, HearsDatagram};
 
 mod showing;
 mod streams;
@@ -143,7 +143,10 @@ impl<'a> Watch<'a> {
     }
 
     /// Takes in what a datagram carried.
-    pub(crate) fn datagram(&mut self, sent: Sent, payload: &[u8]) -> Result<(), AllocError> {
+    pub(crate) fn datagram(&mut self, sent: Sent, payload: &[u8]) -> Result<(), AllocError>
+        ensures hears { OnOk result (HearsDatagram self.old.clear self.old.keys.now payload.now
+            sent.time self.old.listener.view self.new.listener.view) }
+    {
         count(&mut self.counts.datagrams);
         self.reach(sent.time);
         if !self.is_ours(payload) {
