@@ -1,6 +1,6 @@
 use Rattle.swimwatch.specs.Records.{claims_in}
 use Rattle.swimwatch.specs.Views.{HearsRecords}
-use Rattle.swimwatch.proofs.watch.streams.Watch.records.Given as goal
+use Rattle.swimwatch.proofs.watch.Watch.records.Given as goal
 
 abbrev pub invariant-loop-record : goal.invariant-loop-record
 invariant-loop-record l =

@@ -3,7 +3,7 @@ use Rattle.memberlist_view.specs.Told.{view_after}
 use Rattle.swimwatch.specs.Records.{claims_in}
 use Rattle.swimwatch.specs.Told.{ToldText, heard_of}
 use Rattle.swimwatch.proofs.Hearing.{record_heard}
-use Rattle.swimwatch.proofs.watch.streams.Watch.records.Goals as goal
+use Rattle.swimwatch.proofs.watch.Watch.records.Goals as goal
 
 pub loop-record-preserved : goal.loop-record-preserved
 loop-record-preserved c =

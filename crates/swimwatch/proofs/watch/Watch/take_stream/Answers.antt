@@ -6,7 +6,7 @@ use Rattle.swimwatch.specs.Carriage.{IsStreamOf}
 use Rattle.swimwatch.specs.Records.{claims_in}
 use Rattle.swimwatch.specs.Views.{HearsRecords}
 use Rattle.swimwatch.specs.declared.carriage.NoStream.TheVariants.{Memory}
-use Rattle.swimwatch.proofs.watch.streams.Watch.take_stream.Goals as goal
+use Rattle.swimwatch.proofs.watch.Watch.take_stream.Goals as goal
 
 pub returns-in-Err : goal.returns-in-Err
 returns-in-Err c =
