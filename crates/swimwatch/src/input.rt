@@ -75,19 +75,20 @@ impl<'a> Input<'a> {
 
     /// The first bytes, up to four; the next read gives them again.
     pub(crate) fn peek(&mut self) -> io::Result<&[u8]> {
-        let mut head = Head::default();
+        let mut bytes = [0; HEAD_LEN];
+        let mut to = 0usize;
         for _ in 0..HEAD_LEN {
-            let Some(room) = head.bytes.get_mut(head.to..) else {
+            let Some(room) = bytes.get_mut(to..) else {
                 break;
             };
             let count = self.read(room)?;
-            head.to = head.to.saturating_add(count);
-            if count == 0 || head.to >= HEAD_LEN {
+            to = to.saturating_add(count);
+            if count == 0 || to >= HEAD_LEN {
                 break;
             }
         }
-        self.head = head;
-        Ok(self.head.bytes.get(..head.to).unwrap_or(&[]))
+        self.head = Head { bytes, from: 0, to };
+        Ok(self.head.bytes.get(..to).unwrap_or(&[]))
     }
 
     /// Whether opening it again reads the same bytes from the start: it is a file, and no pipe.
