@@ -16,7 +16,7 @@ values messages = map message_value messages
 
 abbrev pub if_read : Result MessageValue WireFault → List MessageValue
 if_read (Ok message) = message ∷ []
-if_read (Err fault) = []
+if_read (Err error) = []
 
 -- the messages that these parts are; what is none is left out
 abbrev pub messages_in : List (List ℕ) → List MessageValue
