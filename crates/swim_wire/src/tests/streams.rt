@@ -100,10 +100,6 @@ fn a_state_record_is_read_by_its_state(rt: HostRuntime) -> Result<(), Fail> {
     Ok(())
 }
 
-/// The record of `b`, dead at incarnation 0, with its address, its metadata and its versions.
-const DEAD_AT: &[u8] =
-    b"\x87\xa4Addr\xa4\x7f\0\0\x01\xabIncarnation\0\xa4Meta\xa1m\xa4Name\xa1b\xa4Port\xcd\x1f\x0a\xa5State\x02\xa3Vsn\xa6\x01\x05\x02\0\0\0";
-
 /// Asserts that the record tells this address, or none.
 fn assert_told(
     rt: &impl Abort,
@@ -122,8 +118,8 @@ fn assert_told(
 
 #[test]
 fn a_record_tells_the_details_of_one_that_is_not_alive(rt: HostRuntime) -> Result<(), Fail> {
-    assert_told(&rt, rt.alloc(), DEAD_AT, Some(b"\x7f\0\0\x01"))?;
-    assert_told(&rt, rt.alloc(), DEAD, None)?;
+    assert_told(&rt, rt.alloc(), DEAD, Some(b"\x7f\0\0\x01"))?;
+    assert_told(&rt, rt.alloc(), LEFT, None)?;
     assert_told(&rt, rt.alloc(), ALIVE, None)
 }
 
