@@ -31,7 +31,7 @@ use memberlist_cipher::split_label;
 use memberlist_keyring::Keyring;
 use memberlist_message::{Message, Ping};
 use memberlist_transport::InTheClear;
-use memberlist_view::{Heard, MemberName, Said};
+use memberlist_view::{Event, Heard, MemberName, Said};
 use std::alloc::{AllocError, Global};
 use std::collections::BTreeMap;
 use std::net::SocketAddr;
@@ -301,8 +301,7 @@ impl<'a> Watch<'a> {
             time: sent.time,
             said: Said::Seen { name, place },
         };
-        self.settle(&heard.said)?;
-        let Some(event) = self.listener.hear(&heard)? else {
+        let Some(event) = self.take_in(&heard)? else {
             return Ok(());
         };
         let change = Change {
@@ -336,14 +335,23 @@ impl<'a> Watch<'a> {
         self.window.shows(time)
     }
 
+    /// Hears what was said, and returns what changed. What a member sent from an end that it leaves
+    /// stays its own.
+    fn take_in(&mut self, heard: &Heard) -> Result<Option<Event>, AllocError>
+        ensures view { OnOk result (self.new.listener.view
+            ≡ view_after self.old.listener.view heard.now) }
+    {
+        self.settle(&heard.said)?;
+        self.listener.hear(heard)
+    }
+
     /// Hears what a message says, and shows it.
     fn hear(&mut self, sent: Sent, told: &Told) -> Result<(), AllocError>
         ensures view { OnOk result (self.new.listener.view
             ≡ view_after self.old.listener.view (heard_of sent.time (told_text told.now))) }
     {
         let heard = told.heard(self.alloc, sent.time)?;
-        self.settle(&heard.said)?;
-        let event = self.listener.hear(&heard)?;
+        let event = self.take_in(&heard)?;
         self.places.note(&told.claim, sent.time)?;
         self.show(&sent, told, event)
     }

@@ -5,6 +5,6 @@ use Rattle.swimwatch.proofs.messages.Messages.take_all.Given as goal
 
 abbrev pub invariant-loop-part : goal.invariant-loop-part
 invariant-loop-part l = record {
-  read : values l.self.read.items ≡ values l.initial.self.read.items ++ messages_in (map (λ part. part.now) (take l.part-index l.part-items));
+  read : values l.self.read.items ≡ values l.initial.self.read.items ++ messages_in (map (λ part. part.now) (take l.part-index l.parts.now));
   room : l.self.room ≡ l.initial.self.room;
 }
