@@ -4,6 +4,10 @@ use Rattle.std.proofs.lemmas.List.{map-append, take_more}
 use Rattle.memberlist_message.specs.Messages.{MessageValue, message_of}
 use Rattle.swimwatch.specs.Datagrams.{if_read, messages_in, Gives, Reads}
 
+-- the part that a slice has where it ends
+abbrev pub no_part : Bor (List ℕ)
+no_part = record { ref_ptr = (0, 0); now = [] }
+
 -- the last message is read last
 pub message_read : (parts : List (List ℕ)) (part : List ℕ) → messages_in (parts ++ part ∷ []) ≡ messages_in parts ++ if_read (message_of part)
 message_read [] part = append-nil (if_read (message_of part))
@@ -18,8 +22,7 @@ leaf_read room [] part old mid new rest left same last = (
   new,
   left,
   subst (λ (r : ℕ). Gives r part old new left) same.1 (subst (λ (ms : List MessageValue). Gives rest part ms new left) same.0 last),
-  refl,
-  refl,
+  (refl, refl),
 )
 leaf_read room (first ∷ parts) part old mid new rest left (next, between, gives, later) last =
     (next, between, gives, leaf_read between parts part next mid new rest left later last)

@@ -1,5 +1,7 @@
 //! Where the bytes of captures come from.
 
+ghost use Rattle.std.specs.Prelude.{◌≤◌, length};
+
 use crate::NAME;
 use crate::limit::{Limit, Waiter};
 use std::fs::File;
@@ -27,7 +29,9 @@ struct Head {
 
 impl Head {
     /// Gives the bytes that are left, as many as there is room for.
-    fn give(&mut self, buf: &mut [u8]) -> usize {
+    fn give(&mut self, buf: &mut [u8]) -> usize
+        ensures { result ≤ length buf.new }
+    {
         let bytes = self.bytes;
         let left = bytes.get(self.from..self.to).unwrap_or(&[]);
         let count = left.len().min(buf.len());

@@ -1,6 +1,7 @@
 //! The messages of a datagram, part by part, as memberlist's handlers read them.
 
-ghost use Rattle.std.specs.Prelude.{◌≡◌, ◌++◌, map, IfOk, OnOk};
+ghost use Rattle.std.specs.Prelude.{◌≡◌, ◌∷◌, [], ◌++◌, ℕ, List, map, IfOk, OnOk};
+ghost use Rattle.memberlist_message.specs.Leaves.{AreLeaves};
 ghost use Rattle.memberlist_message.specs.Messages.{message_of};
 ghost use Rattle.swimwatch.specs.Datagrams.{values, if_read, messages_in, is_compressed, Unpacks, Gives, IsReadAs};
 
@@ -83,18 +84,31 @@ impl Messages {
         ensures { OnOk result (Unpacks self.old.room bytes.now (values self.old.read.items)
             (values self.new.read.items) self.new.room) }
     {
-        let inner = match unwrap(self.alloc, bytes, self.room) {
-            Ok(inner) => inner,
-            Err(WrapFault::Memory) => return Err(AllocError),
+        match unwrap(self.alloc, bytes, self.room) {
+            Ok(inner) => {
+                self.room = self.room.saturating_sub(inner.len());
+                self.take_leaves(&inner)?;
+                Ok(())
+            }
+            Err(WrapFault::Memory) => Err(AllocError),
             Err(_) => {
                 self.unread = self.unread.saturating_add(1);
-                return Ok(());
+                Ok(())
             }
-        };
-        self.room = self.room.saturating_sub(inner.len());
-        let leaves = Leaves::of(self.alloc, &inner)?;
+        }
+    }
+
+    /// Takes the leaves of a message.
+    fn take_leaves(&mut self, bytes: &[u8]) -> Result<(), AllocError>
+        ensures read { OnOk result ((leaves : List (List ℕ)) × (truncated : ℕ)
+            × AreLeaves (bytes.now ∷ []) leaves truncated
+            × (values self.new.read.items ≡ values self.old.read.items ++ messages_in leaves)) }
+        ensures room { OnOk result (self.new.room ≡ self.old.room) }
+    {
+        let leaves = Leaves::of(self.alloc, bytes)?;
         self.unread = self.unread.saturating_add(leaves.truncated as u64);
-        self.take_all(&leaves.parts)
+        self.take_all(&leaves.parts)?;
+        Ok(())
     }
 
     /// Takes messages that are not compound.

@@ -44,9 +44,15 @@ fn claims_in(alloc: Global, records: Vec<StateRecord>) -> Result<Vec<Claim>, All
 {
     let mut claims = Vec::new(alloc);
     for record in records {
-        claims.push(record.claim)?;
+        claims.push(claim_of(record))?;
     }
     Ok(claims)
+}
+
+fn claim_of(read: StateRecord) -> Claim
+    ensures { result ≡ read.claim }
+{
+    read.claim
 }
 
 /// The records of the push/pull stream that these bytes begin with, in order. None if they do not

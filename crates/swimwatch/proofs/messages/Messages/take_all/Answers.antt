@@ -1,8 +1,8 @@
-use Rattle.std.proofs.Common.{◌≡◌, ◌<◌, ◌+◌, ◌∷◌, [], ◌++◌, ◌∙◌, List, ℕ, Bor, map, take, length, sym, ap, refl, append-nil, append_assoc, arith}
+use Rattle.std.proofs.Common.{◌≡◌, ◌<◌, ◌+◌, ◌∷◌, [], ◌++◌, ◌∙◌, List, ℕ, Bor, map, take, length, slice_index_or, sym, ap, refl, append-nil, append_assoc, arith}
 use Rattle.std.proofs.lemmas.List.{take_more}
 use Rattle.memberlist_message.specs.Messages.{MessageValue, message_of}
 use Rattle.swimwatch.specs.Datagrams.{values, if_read, messages_in}
-use Rattle.swimwatch.proofs.LeavesRead.{message_read, one_more_part}
+use Rattle.swimwatch.proofs.LeavesRead.{message_read, no_part, one_more_part}
 use Rattle.swimwatch.proofs.messages.Messages.take_all.Goals as goal
 
 pub loop-part-init : goal.loop-part-init
@@ -12,17 +12,15 @@ pub loop-part-preserved : goal.loop-part-preserved
 loop-part-preserved c =
     let parts = c.args.parts.now in
     let i = c.loop-part.part-index in
-    let part = c.part-item.result in
+    let part = slice_index_or parts i no_part in
     let was = values c.args.self.now.read.items in
     let past = map (λ (p : Bor (List ℕ)). p.now) (take i parts) in
     let one = if_read (message_of part.now) in
     let within : i < length parts = omega arith in
-    let more : take (i + 1) parts ≡ take i parts ++ part ∷ [] =
-    take_more parts i part within ∙ ap (λ (x : Bor (List ℕ)). take i parts ++ x ∷ []) (sym c.part-item.is) in
     record {
       read =
           c.in_ok-take.ensures.read ∙ ap (λ (ms : List MessageValue). ms ++ one) c.loop-part.invariant.read
           ∙ append_assoc was (messages_in past) one ∙ ap (λ (ms : List MessageValue). was ++ ms) (sym (message_read past part.now))
-          ∙ ap (λ (ps : List (List ℕ)). was ++ messages_in ps) (sym (one_more_part parts i part within more));
+          ∙ ap (λ (ps : List (List ℕ)). was ++ messages_in ps) (sym (one_more_part parts i part within (take_more parts i no_part within)));
       room = c.in_ok-take.ensures.room ∙ c.loop-part.invariant.room;
     }

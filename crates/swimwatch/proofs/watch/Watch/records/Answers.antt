@@ -9,8 +9,8 @@ use Rattle.swimwatch.specs.Views.{HearsRecords}
 use Rattle.swimwatch.proofs.Hearing.{record_heard}
 use Rattle.swimwatch.proofs.watch.Watch.records.Goals as goal
 
-pub loop-record-preserved : goal.loop-record-preserved
-loop-record-preserved c =
+pub loop-record-preserved-in_ok-hear : goal.loop-record-preserved-in_ok-hear
+loop-record-preserved-in_ok-hear c =
     let time = c.args.sent.time in
     let past = c.loop-record.yielded in
     let last = c.in-Some.record in
