@@ -20,3 +20,15 @@ loop-record-preserved-in_ok-hear c =
     subst (λ (cs : List Claim). HearsRecords time cs old new) (sym (map-append (λ (r : StateRecord). r.claim) past (last ∷ [])))
     (record_heard time (claims_in past) last.claim c.has-joins.result old now new c.loop-record.invariant
     (c.in_ok-hear.ensures.view ∙ ap (λ (t : ToldText). view_after now (heard_of time t)) c.of_record-told.ensures))
+
+pub loop-record-preserved : goal.loop-record-preserved
+loop-record-preserved c =
+    let time = c.args.sent.time in
+    let past = c.loop-record.yielded in
+    let last = c.in-Some.record in
+    let old = c.said.new.self.listener.view in
+    let now = c.loop-record.self.listener.view in
+    let new = c.hear.new.self.listener.view in
+    subst (λ (cs : List Claim). HearsRecords time cs old new) (sym (map-append (λ (r : StateRecord). r.claim) past (last ∷ [])))
+    (record_heard time (claims_in past) last.claim c.has-joins.result old now new c.loop-record.invariant
+    (c.in_ok-hear.ensures.view ∙ ap (λ (t : ToldText). view_after now (heard_of time t)) c.of_record-told.ensures))
