@@ -212,23 +212,30 @@ fn tags_or_none(alloc: Global, meta: &[u8]) -> Result<Option<Vec<Tag>>, AllocErr
 /// Adds the tags that changed, are gone, or are new, in the order of their keys: `, tags -rack=3,
 /// ver=v2 -> v1, +zone=a`.
 fn write_tags(text: &mut String, was: &[Tag], is: &[Tag]) -> Result<(), AllocError> {
-    let mut keys = BTreeMap::new(*text.allocator());
-    for tag in was {
-        keys.insert(tag.key, ())?;
-    }
-    for tag in is {
-        keys.insert(tag.key, ())?;
-    }
-    let mut before = ", tags ";
+    let keys = keys_of(*text.allocator(), was, is)?;
+    let mut is_first = true;
     for (key, ()) in keys.iter() {
         let (old, new) = (value_of(was, key), value_of(is, key));
         if old != new {
-            text.push_str(before)?;
-            before = ", ";
+            text.push_str(if is_first { ", tags " } else { ", " })?;
+            is_first = false;
             write_tag(text, key, old, new)?;
         }
     }
     Ok(())
+}
+
+/// The keys of two members' tags, in order.
+fn keys_of<'a>(
+    alloc: Global,
+    was: &[Tag<'a>],
+    is: &[Tag<'a>],
+) -> Result<BTreeMap<&'a [u8], ()>, AllocError> {
+    let mut keys = BTreeMap::new(alloc);
+    for tag in was.iter().chain(is.iter()) {
+        keys.insert(tag.key, ())?;
+    }
+    Ok(keys)
 }
 
 /// Adds the values of a key before and after: `ver=v2 -> v1`, `-rack=3` or `+zone=a`.
