@@ -8,4 +8,5 @@ pub mod Packets
 pub mod Pcap
 pub mod Pcapng
 pub mod Taking
+pub mod Unreachable
 pub mod Written

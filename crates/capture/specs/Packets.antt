@@ -9,8 +9,9 @@ use Rattle.capture.specs.declared.network.Packet.{Packet}
 use Rattle.capture.specs.declared.network.Version.{Version}
 use Rattle.capture.specs.declared.network.Version.TheVariants.{Ip4, Ip6, Either}
 use Rattle.capture.specs.declared.content.Transport.{Transport}
-use Rattle.capture.specs.declared.content.Transport.TheVariants.{Udp, Tcp}
+use Rattle.capture.specs.declared.content.Transport.TheVariants.{Udp, Tcp, Unreachable}
 use Rattle.capture.specs.declared.content.Carried.{Carried}
+use Rattle.capture.specs.Unreachable.{UnreachableText, unreachable_text, unreachable4_of, unreachable6_of}
 use Rattle.capture.specs.declared.link.Link.{Link}
 use Rattle.capture.specs.declared.link.Link.TheVariants.{Loopback, Ethernet, Raw, Cooked, Cooked2}
 
@@ -276,10 +277,12 @@ packet_in Cooked2 bytes =
 pub data TransportText : Type 0 where
   udp : UdpText → TransportText
   tcp : TcpText → TransportText
+  unreachable : UnreachableText → TransportText
 
 abbrev pub transport_text : Transport → TransportText
 transport_text (Udp d) = udp (udp_text d)
 transport_text (Tcp s) = tcp (tcp_text s)
+transport_text (Unreachable u) = unreachable (unreachable_text u)
 
 -- Protocols of IP that wrap packets and are not unwrapped: GRE (47, RFC 2784), IPv4 in IP (4, RFC
 -- 2003) and IPv6 in IP (41, RFC 4213).
@@ -289,10 +292,18 @@ other_protocol protocol =
     else if protocol == 4 || protocol == 41 then IpInIp
     else OtherProtocol
 
+-- what a packet of ICMP (protocol 1, RFC 792) or ICMPv6 (58, RFC 4443) is: a refusal, or nothing
+-- of interest
+abbrev pub refusal_of : Option UnreachableText → Result TransportText NotCarried
+refusal_of (Some u) = Ok (unreachable u)
+refusal_of None = Err OtherProtocol
+
 unfoldable pub transport_of : ℕ → List ℕ → Result TransportText NotCarried
 transport_of protocol body =
     if protocol == 17 then onward (udp_of body) (λ d. Ok (udp d))
     else if protocol == 6 then onward (tcp_of body) (λ s. Ok (tcp s))
+    else if protocol == 1 then refusal_of (unreachable4_of body)
+    else if protocol == 58 then refusal_of (unreachable6_of body)
     else Err (other_protocol protocol)
 
 -- what a frame carries, and between which addresses
@@ -340,6 +351,7 @@ geneve_frame payload =
 -- the frame of Ethernet in a datagram to the port of VXLAN (4789) or Geneve (6081)
 abbrev pub frame_in : TransportText → Option (List ℕ)
 frame_in (tcp s) = None
+frame_in (unreachable u) = None
 frame_in (udp d) =
     if d.destination == 4789 then vxlan_frame d.payload
     else if d.destination == 6081 then geneve_frame d.payload

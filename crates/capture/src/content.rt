@@ -1,6 +1,7 @@
 //! What a frame carries.
 
 use crate::transport::{Datagram, Segment};
+use crate::unreachable::Unreachable;
 
 /// What a packet carries.
 #[derive(Clone, Copy)]
@@ -9,6 +10,8 @@ pub enum Transport<'a> {
     Udp(Datagram<'a>),
     /// A segment.
     Tcp(Segment<'a>),
+    /// The refusal of a packet since no process has its port.
+    Unreachable(Unreachable<'a>),
 }
 
 /// What a frame carries, and between which addresses, as parts of the frame's bytes.

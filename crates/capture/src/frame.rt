@@ -6,6 +6,7 @@ ghost use Rattle.capture.specs.Packets.{version_of, is_tag, other_type, other_pr
 use crate::network::{Version, read_ip};
 use crate::transport::{read_tcp, read_udp};
 use crate::tunnel::tunneled;
+use crate::unreachable::{read_unreachable4, read_unreachable6};
 use crate::{Carried, Link, NotCarried, Transport};
 use byteorder::{BigEndian, ByteOrder, LittleEndian};
 
@@ -148,6 +149,8 @@ fn read_transport(protocol: u8, body: &[u8]) -> Result<Transport, NotCarried>
     match protocol {
         17 => Ok(Transport::Udp(read_udp(body)?)),
         6 => Ok(Transport::Tcp(read_tcp(body)?)),
+        1 => Ok(Transport::Unreachable(read_unreachable4(body).ok_or(NotCarried::OtherProtocol)?)),
+        58 => Ok(Transport::Unreachable(read_unreachable6(body).ok_or(NotCarried::OtherProtocol)?)),
         _ => Err(other_protocol(protocol)),
     }
 }
@@ -186,9 +189,10 @@ fn read_inside(content: Carried) -> Result<Carried, NotCarried>
 ///
 /// Ethernet has any number of tags (IEEE 802.1Q), IPv4 any options and its total length, or 0 for
 /// all of the frame (RFC 791, 3.1), IPv6 any number of extension headers (RFC 8200, 4), and UDP its
-/// own length within IP's (RFC 768). If it is a datagram of VXLAN (RFC 7348) or Geneve (RFC 8926)
-/// with a frame of Ethernet, the result is what that frame carries, and so for a tunnel in it; a
-/// third one is a datagram.
+/// own length within IP's (RFC 768). Of ICMP it reads the port unreachable, by which a host refuses
+/// a packet (RFC 792: type 3, code 3; RFC 4443, 3.1: type 1, code 4). If it is a datagram of VXLAN
+/// (RFC 7348) or Geneve (RFC 8926) with a frame of Ethernet, the result is what that frame carries,
+/// and so for a tunnel in it; a third one is a datagram.
 ///
 /// # Errors
 ///
@@ -198,7 +202,8 @@ fn read_inside(content: Carried) -> Result<Carried, NotCarried>
 /// - `Fragment` if the packet is not whole: more fragments follow or its offset is not 0
 ///   (RFC 791, 3.1; RFC 8200, 4.5). A fragment header of a whole packet is skipped (RFC 6946).
 /// - `Gre` if IP carries GRE (RFC 2784), and `IpInIp` if it carries IP (RFC 2003, RFC 4213).
-/// - `OtherProtocol` if IP carries something else that is neither UDP nor TCP.
+/// - `OtherProtocol` if IP carries something else: neither UDP nor TCP, nor a port unreachable that
+///   quotes one of them as far as its ports.
 /// - `Malformed` if the version is not the one that the link names, or a header is longer than
 ///   what contains it or shorter than it can be.
 ///

@@ -15,6 +15,7 @@
 //! | `fault` | why a frame carries nothing of interest |
 //! | `link` | the kinds of link that frames come from |
 //! | `transport` | datagrams of UDP and segments of TCP |
+//! | `unreachable` | refusals of packets whose port no process has |
 //! | `network` | packets of IP |
 //! | `content` | what a frame carries |
 //! | `tunnel` | frames in tunnels |
@@ -56,6 +57,7 @@ mod taken;
 mod taking;
 mod transport;
 mod tunnel;
+mod unreachable;
 
 pub use capture_fault::CaptureFault;
 pub use content::{Carried, Transport};
@@ -69,6 +71,7 @@ pub use reader::CaptureReader;
 pub use record::Record;
 pub use taken::Taken;
 pub use transport::{Datagram, Segment};
+pub use unreachable::Unreachable;
 
 #[cfg(test)]
 mod tests;

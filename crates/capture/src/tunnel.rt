@@ -55,6 +55,6 @@ pub(crate) fn tunneled(transport: Transport) -> Option<&[u8]>
             GENEVE => read_geneve(datagram.payload),
             _ => None,
         },
-        Transport::Tcp(_) => None,
+        Transport::Tcp(_) | Transport::Unreachable(_) => None,
     }
 }

@@ -24,6 +24,10 @@ pub(crate) enum Verb {
     Diff,
     /// A picture of who was in the cluster, and in which state.
     Chart,
+    /// What each prober made of its probes of each target.
+    Probes,
+    /// How healthy each member is, as its probes tell.
+    Health,
 }
 
 impl Verb {
@@ -38,8 +42,15 @@ impl Verb {
             "pull" => Some(Verb::Pull),
             "diff" => Some(Verb::Diff),
             "chart" => Some(Verb::Chart),
+            "probes" => Some(Verb::Probes),
+            "health" => Some(Verb::Health),
             _ => None,
         }
+    }
+
+    /// Whether it tells what the failure detectors did.
+    pub(crate) fn detects(self) -> bool {
+        matches!(self, Verb::Probes | Verb::Health)
     }
 }
 
@@ -76,6 +87,21 @@ pub(crate) struct Chosen {
     pub(crate) asking: Asking,
     /// Whether to ask them again and again.
     pub(crate) following: Option<Following>,
+    /// Which probes to show.
+    pub(crate) probing: Probing,
+}
+
+/// Which probes to show, and how their cluster is set up.
+#[derive(Debug, Default, Drop)]
+pub(crate) struct Probing {
+    /// The only name that probes, if there is one.
+    pub(crate) prober: Option<Vec<u8>>,
+    /// The only name that is probed, if there is one.
+    pub(crate) target: Option<Vec<u8>>,
+    /// memberlist's `ProbeTimeout` in microseconds, if it is given.
+    pub(crate) timeout: Option<u64>,
+    /// memberlist's `ProbeInterval` in microseconds, if it is given.
+    pub(crate) interval: Option<u64>,
 }
 
 /// How to ask members, and what to believe.

@@ -1,6 +1,6 @@
 //! The command-line arguments.
 
-use crate::chosen::{Asking, Chosen, Following, Verb};
+use crate::chosen::{Asking, Chosen, Following, Probing, Verb};
 use crate::moment::When;
 use crate::names::name_bytes;
 use crate::pages::command;
@@ -72,10 +72,7 @@ fn chosen_of(alloc: Global, verb: Verb, found: &ArgMatches) -> Result<Chosen, Re
     let Some(mult) = seconds_of(found.get_str("suspicion-mult"), SUSPICION_MULT) else {
         return Err(Refusal::Value("--suspicion-mult needs a number"));
     };
-    let member = match found.get_str("member") {
-        None => None,
-        Some(word) => Some(name_bytes(alloc, word)?),
-    };
+    let member = name_of(alloc, found.get_str("member"))?;
     let (times, moments) = match verb {
         Verb::Diff => (Times::default(), moments_of(alloc, found)?),
         _ => (times_of(alloc, found)?, Vec::new(alloc)),
@@ -99,7 +96,45 @@ fn chosen_of(alloc: Global, verb: Verb, found: &ArgMatches) -> Result<Chosen, Re
         dump: is_set(found, "dump"),
         asking: asking_of(alloc, found)?,
         following: following_of(alloc, found)?,
+        probing: probing_of(alloc, found)?,
     })
+}
+
+/// Which probes to show, and how their cluster is set up.
+fn probing_of(alloc: Global, found: &ArgMatches) -> Result<Probing, Refusal> {
+    Ok(Probing {
+        prober: name_of(alloc, found.get_str("prober"))?,
+        target: name_of(alloc, found.get_str("target"))?,
+        timeout: micros_of(
+            found.get_str("probe-timeout"),
+            "--probe-timeout needs a time like 500ms",
+        )?,
+        interval: micros_of(
+            found.get_str("probe-interval"),
+            "--probe-interval needs a time like 1s",
+        )?,
+    })
+}
+
+/// The name that a word says, if there is a word.
+fn name_of(alloc: Global, word: Option<&str>) -> Result<Option<Vec<u8>>, AllocError> {
+    match word {
+        None => Ok(None),
+        Some(word) => Ok(Some(name_bytes(alloc, word)?)),
+    }
+}
+
+/// The microseconds that a word says, at least one, if there is a word.
+fn micros_of(word: Option<&str>, refusal: &'static str) -> Result<Option<u64>, Refusal> {
+    let Some(word) = word else {
+        return Ok(None);
+    };
+    match parse_unsigned_duration(word.as_bytes()) {
+        Ok(span) if span.as_micros() > 0 => {
+            Ok(Some(u64::try_from(span.as_micros()).unwrap_or(u64::MAX)))
+        }
+        _ => Err(Refusal::Value(refusal)),
+    }
 }
 
 /// How to ask members again and again, if `--every` is there.

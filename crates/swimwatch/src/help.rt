@@ -59,6 +59,16 @@ pub(crate) const COUNT: &str = "With --every: end after asking this often";
 pub(crate) const METRICS: &str =
     "With --every: write metrics to this file each time, in Prometheus' text format";
 
+pub(crate) const PROBER: &str = "Show only the probes of this member";
+
+pub(crate) const TARGET: &str = "Show only probes of this member by others";
+
+pub(crate) const PROBE_TIMEOUT: &str =
+    "memberlist's ProbeTimeout, as 500ms [default: as the captures show it]";
+
+pub(crate) const PROBE_INTERVAL: &str =
+    "memberlist's ProbeInterval, as 1s [default: as the captures show it]";
+
 pub(crate) const PROGRAM: &str = "\
 A capture is what tcpdump writes: a pcap or pcapng file. Several are read side by side, by the
 times of their records. The last line on standard error says what was read and what was left out.
@@ -94,6 +104,18 @@ pub(crate) const DUMP: &str = "\
 Examples:
   swimwatch dump cluster.pcap > cluster.bin
   swimtab list cluster.bin";
+
+pub(crate) const PROBES: &str = "\
+Give it captures of several members if you have them: what one member sent and another one did not
+get is then known.
+
+Examples:
+  swimwatch probes web-1.pcap web-2.pcap web-3.pcap
+  swimwatch probes --target web-5 web-1.pcap";
+
+pub(crate) const HEALTH: &str = "\
+Examples:
+  swimwatch health web-1.pcap web-2.pcap web-3.pcap";
 
 pub(crate) const PULL: &str = "\
 Asks without joining, so nothing changes in the cluster. Of several members it prints what most of

@@ -112,6 +112,16 @@ impl Object {
         put(&mut self.members, self.alloc, key, value)
     }
 
+    /// Adds a member whose value is a list.
+    pub(crate) fn list(&mut self, key: &str, values: Vec<Value>) -> Result<(), AllocError> {
+        put(&mut self.members, self.alloc, key, Value::Array(values))
+    }
+
+    /// The object as a value.
+    pub(crate) fn value(self) -> Value {
+        Value::Object(self.members)
+    }
+
     /// Adds the parts of an entry that a view has: the incarnation, and the details or the address
     /// that packets show.
     fn entry(&mut self, entry: &Entry) -> Result<(), AllocError> {

@@ -9,7 +9,7 @@
 //! | `pings`, `warnings` | who a ping shows, and suspicions that only warn |
 //! | `listener`, `directory`, `places` | a listener that hears all of it |
 //! | `views`, `view_name`, `watch`, `change` | listening, and showing what was asked for |
-//! | `members`, `suspicion`, `timeline`, `claims`, `talkers` | what is shown |
+//! | `members`, `suspicion`, `timeline`, `claims`, `talkers`, `probes`, `health` | what is shown |
 //! | `pull`, `ask`, `inquiry`, `host`, `ring`, `connection`, `request`, `answer` | asking members |
 //! | `silence` | why a member that was asked has no table |
 //! | `roster`, `known` | what somebody knows about members |
@@ -40,6 +40,7 @@ mod diff;
 mod directory;
 mod endpoint;
 mod follow;
+mod health;
 mod help;
 mod host;
 mod input;
@@ -56,6 +57,7 @@ mod names;
 mod pages;
 mod pings;
 mod places;
+mod probes;
 mod progress;
 mod pull;
 mod recent;

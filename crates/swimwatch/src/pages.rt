@@ -25,6 +25,10 @@ enum Flag {
     Every,
     Count,
     Metrics,
+    Prober,
+    Target,
+    ProbeTimeout,
+    ProbeInterval,
 }
 
 /// The words that a command reads.
@@ -46,7 +50,7 @@ struct Page {
 }
 
 /// The program's commands.
-const PAGES: [Page; 8] = [
+const PAGES: [Page; 10] = [
     Page {
         name: "members",
         about: "Prints the members as they are at the end of the captures",
@@ -139,6 +143,41 @@ const PAGES: [Page; 8] = [
         ],
     },
     Page {
+        name: "probes",
+        about: "Prints what each member made of its probes of each other one",
+        example: help::PROBES,
+        inputs: Inputs::Captures,
+        flags: &[
+            Flag::Prober,
+            Flag::Target,
+            Flag::From,
+            Flag::To,
+            Flag::For,
+            Flag::Port,
+            Flag::Label,
+            Flag::ProbeTimeout,
+            Flag::ProbeInterval,
+            Flag::Json,
+        ],
+    },
+    Page {
+        name: "health",
+        about: "Prints how healthy each member is, as its probes tell",
+        example: help::HEALTH,
+        inputs: Inputs::Captures,
+        flags: &[
+            Flag::Member,
+            Flag::From,
+            Flag::To,
+            Flag::For,
+            Flag::Port,
+            Flag::Label,
+            Flag::ProbeTimeout,
+            Flag::ProbeInterval,
+            Flag::Json,
+        ],
+    },
+    Page {
         name: "pull",
         about: "Asks live members for their tables, and prints whether they agree",
         example: help::PULL,
@@ -228,6 +267,10 @@ fn flag_argument<'a>(alloc: Global, flag: Flag) -> Arg<'a> {
         Flag::Every => option(alloc, "every", "TIME", help::EVERY),
         Flag::Count => option(alloc, "count", "NUMBER", help::COUNT),
         Flag::Metrics => option(alloc, "metrics", "FILE", help::METRICS),
+        Flag::Prober => option(alloc, "prober", "NAME", help::PROBER),
+        Flag::Target => option(alloc, "target", "NAME", help::TARGET),
+        Flag::ProbeTimeout => option(alloc, "probe-timeout", "TIME", help::PROBE_TIMEOUT),
+        Flag::ProbeInterval => option(alloc, "probe-interval", "TIME", help::PROBE_INTERVAL),
     }
 }
 

@@ -159,3 +159,14 @@ pub(crate) fn write_rival(text: &mut String, entry: &Entry) -> Result<(), AllocE
     let address = place_text(alloc, entry)?;
     write!(text, " at {rival}, and is at {address}")
 }
+
+/// Microseconds in milliseconds: to a tenth below 99.5, and rounded above.
+pub(crate) fn millis_text(alloc: Global, micros: u64) -> Result<String, AllocError> {
+    if micros < 99_500 {
+        let tenths = (micros + 50) / 100;
+        format!(in alloc; "{}.{}", tenths / 10, tenths % 10)
+    } else {
+        let millis = micros.saturating_add(500) / 1000;
+        format!(in alloc; "{millis}")
+    }
+}

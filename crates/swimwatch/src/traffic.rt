@@ -90,7 +90,9 @@ impl Traffic {
         way: Way,
         content: Carried,
     ) -> Result<(), AllocError> {
-        let parcel = Parcel::of(&content.transport);
+        let Some(parcel) = Parcel::of(&content.transport) else {
+            return self.refusal(watch, time, content);
+        };
         let from = endpoint(content.source, parcel.source);
         let to = endpoint(content.destination, parcel.destination);
         let (Some(source), Some(destination)) = (from, to) else {
@@ -110,13 +112,42 @@ impl Traffic {
             count(&mut watch.counts.twice);
             return Ok(());
         }
+        watch.captured(&sent)?;
         let Transport::Tcp(segment) = &content.transport else {
             return watch.datagram(sent, parcel.payload);
         };
+        watch.detect_segment(&sent, segment)?;
         match Ends::of(content.source, content.destination, segment) {
             Some(ends) => self.segment(watch, time, ends, segment),
             None => Ok(()),
         }
+    }
+
+    /// Takes in that a host refused a packet.
+    fn refusal(&self, watch: &mut Watch, time: u64, content: Carried) -> Result<(), AllocError> {
+        let Transport::Unreachable(refused) = content.transport else {
+            return Ok(());
+        };
+        let ends = (
+            endpoint(content.source, 0),
+            endpoint(content.destination, 0),
+            endpoint(refused.source, refused.source_port),
+            endpoint(refused.destination, refused.destination_port),
+        );
+        let (Some(source), Some(destination), Some(from), Some(to)) = ends else {
+            return Ok(());
+        };
+        if !self.takes(from.port(), to.port()) {
+            count(&mut watch.counts.other_ports);
+            return Ok(());
+        }
+        let sent = Sent {
+            time,
+            source,
+            destination,
+            proto: Proto::Udp,
+        };
+        watch.refused(&sent, from, to)
     }
 
     /// Takes in a segment, and what the flow carried if the segment completes it. A stream is taken
@@ -297,22 +328,24 @@ struct Parcel<'a> {
 }
 
 impl<'a> Parcel<'a> {
-    fn of(transport: &Transport<'a>) -> Parcel<'a> {
+    /// None if it is a refusal of a packet.
+    fn of(transport: &Transport<'a>) -> Option<Parcel<'a>> {
         match transport {
-            Transport::Udp(datagram) => Parcel {
+            Transport::Udp(datagram) => Some(Parcel {
                 proto: Proto::Udp,
                 source: datagram.source,
                 destination: datagram.destination,
                 seq: 0,
                 payload: datagram.payload,
-            },
-            Transport::Tcp(segment) => Parcel {
+            }),
+            Transport::Tcp(segment) => Some(Parcel {
                 proto: Proto::Tcp,
                 source: segment.source,
                 destination: segment.destination,
                 seq: segment.seq,
                 payload: segment.payload,
-            },
+            }),
+            Transport::Unreachable(_) => None,
         }
     }
 }

@@ -95,6 +95,7 @@ impl<'a> Views<'a> {
         let Some(seat) = self.seats.get_mut(seat) else {
             return Ok(());
         };
+        seat.watch.capture = place;
         seat.traffic.record(&mut seat.watch, record, bytes)?;
         self.collect()
     }

@@ -1,13 +1,14 @@
 //! Listening to packets and streams.
 //!
-//! `streams` hears connections, `tallies` counts what senders sent, and `showing` shows what was asked
-//! for.
+//! `streams` hears connections, `tallies` counts what senders sent, `detecting` follows their probes,
+//! and `showing` shows what was asked for.
 
 ghost use Rattle.std.specs.Prelude.{◌≡◌, OnOk, MatchBool};
 ghost use Rattle.memberlist_view.specs.Told.{view_after};
 ghost use Rattle.swimwatch.specs.Told.{told_text, packet_told, heard_of};
 ghost use Rattle.swimwatch.specs.Views.{is_warning, MaySee, HearsMessage, HearsMessages, HearsDatagram};
 
+mod detecting;
 mod showing;
 mod streams;
 mod tallies;
@@ -27,9 +28,11 @@ use crate::texts::NONE;
 use crate::told::Told;
 use crate::warnings::{Warnings, is_warning};
 use crate::window::Window;
+use detecting::detector_of;
 use memberlist_cipher::split_label;
 use memberlist_keyring::Keyring;
 use memberlist_message::{Message, Ping};
+use memberlist_probes::Detector;
 use memberlist_transport::InTheClear;
 use memberlist_view::{Event, Heard, MemberName, Said};
 use std::alloc::{AllocError, Global};
@@ -76,6 +79,13 @@ pub(crate) struct Watch<'a> {
     chart: Chart,
     table: Table,
     pub(crate) counts: Counts,
+    /// What the failure detectors did, if that is asked for.
+    detector: Option<Detector>,
+    /// The number of the capture whose record is taken in.
+    pub(crate) capture: usize,
+    /// Whose probes are shown, and of whom.
+    pub(crate) prober: Option<Vec<u8>>,
+    pub(crate) target: Option<Vec<u8>>,
     /// How often each event came.
     came: BTreeMap<String, u64>,
     /// The events that were not printed yet.
@@ -93,10 +103,7 @@ impl<'a> Watch<'a> {
         window: Window,
         name: Option<String>,
     ) -> Result<Watch<'a>, AllocError> {
-        let member = match &chosen.member {
-            Some(name) => Some(name.to_vec(alloc)?),
-            None => None,
-        };
+        let member = copied(alloc, &chosen.member)?;
         Ok(Watch {
             alloc,
             keys,
@@ -116,6 +123,10 @@ impl<'a> Watch<'a> {
             chart: Chart::new(alloc),
             table: Table::new(alloc),
             counts: Counts::default(),
+            detector: detector_of(alloc, chosen, &window),
+            capture: 0,
+            prober: copied(alloc, &chosen.probing.prober)?,
+            target: copied(alloc, &chosen.probing.target)?,
             came: BTreeMap::new(alloc),
             news: Vec::new(alloc),
             out: String::new(alloc),
@@ -200,6 +211,7 @@ impl<'a> Watch<'a> {
             count(&mut self.counts.claiming);
         }
         for message in &read {
+            self.detect(sent, &read, message)?;
             self.said(sent, Kind::of_message(message))?;
             self.message(sent, &read, message)?;
         }
@@ -354,6 +366,14 @@ impl<'a> Watch<'a> {
         let event = self.take_in(&heard)?;
         self.places.note(&told.claim, sent.time)?;
         self.show(&sent, told, event)
+    }
+}
+
+/// A copy of a name, if there is one.
+fn copied(alloc: Global, name: &Option<Vec<u8>>) -> Result<Option<Vec<u8>>, AllocError> {
+    match name {
+        Some(name) => Ok(Some(name.to_vec(alloc)?)),
+        None => Ok(None),
     }
 }
 

@@ -1,4 +1,5 @@
-//! Frames of a running Serf agent, as tshark decodes them, and refusals.
+//! Frames of a running Serf agent, as tshark decodes them, refusals of packets by a host, and
+//! frames that carry nothing of interest.
 
 use crate::{Carried, Link, NotCarried, Transport, carried};
 use std::process::Abort;
@@ -21,7 +22,7 @@ fn assert_udp(rt: &impl Abort, frame: &[u8], from: (&[u8], u16), to: (&[u8], u16
             assert_eq!(rt; (datagram.source, datagram.destination), (from.1, to.1));
             assert_eq!(rt; datagram.payload, payload);
         }
-        Transport::Tcp(_) => panic!(rt; "{frame:?} is no segment"),
+        _ => panic!(rt; "{frame:?} carries no datagram"),
     }
 }
 
@@ -44,7 +45,7 @@ fn assert_tcp(
             assert_eq!(rt; (segment.seq, segment.syn, segment.fin, segment.rst), head);
             assert_eq!(rt; segment.payload, payload);
         }
-        Transport::Udp(_) => panic!(rt; "{frame:?} is no datagram"),
+        _ => panic!(rt; "{frame:?} carries no segment"),
     }
 }
 
@@ -98,7 +99,7 @@ fn assert_hi(rt: &impl Abort, link: Link, frame: &[u8]) {
             assert_eq!(rt; (datagram.source, datagram.destination), (1, 2));
             assert_eq!(rt; datagram.payload, b"hi".as_slice());
         }
-        Transport::Tcp(_) => panic!(rt; "{frame:?} is no segment"),
+        _ => panic!(rt; "{frame:?} carries no datagram"),
     }
 }
 
@@ -215,5 +216,74 @@ fn what_is_not_used_is_told_by_kind(rt: HostRuntime) {
         Link::Raw,
         b"\x60\0\0\0\0\x12\x2c\x40\0\0\0\0\0\0\0\0\0\0\0\0\0\0\0\x01\0\0\0\0\0\0\0\0\0\0\0\0\0\0\0\x02\x11\0\0\x08\0\0\0\x07\0\x01\0\x02\0\x0a\0\0hi",
         NotCarried::Fragment,
+    );
+}
+
+/// Asserts that the frame carries the refusal of a packet of this protocol between these endpoints.
+fn assert_unreachable(
+    rt: &impl Abort,
+    link: Link,
+    frame: &[u8],
+    protocol: u8,
+    from: (&[u8], u16),
+    to: (&[u8], u16),
+) {
+    match content(rt, link, frame).transport {
+        Transport::Unreachable(refused) => {
+            assert_eq!(rt; refused.protocol, protocol);
+            assert_eq!(rt; refused.source, from.0);
+            assert_eq!(rt; refused.destination, to.0);
+            assert_eq!(rt;
+                (refused.source_port, refused.destination_port),
+                (from.1, to.1)
+            );
+        }
+        _ => panic!(rt; "{frame:?} refuses no packet"),
+    }
+}
+
+#[test]
+fn a_port_unreachable_quotes_the_packet(rt: HostRuntime) {
+    let rt = &rt;
+    // of a host on which no memberlist runs any more
+    assert_unreachable(
+        rt,
+        Link::Ethernet,
+        b"\x02\x00\x00\x33\x00\x05\x02\x00\x00\x33\x00\x03\x08\x00\x45\xc0\x00\x62\x31\x0d\x00\x00\x40\x01\xce\x18\x0a\x4d\x33\x0d\x0a\x4d\x33\x0f\x03\x03\x77\xf6\x00\x00\x00\x00\x45\x00\x00\x46\x7a\xa4\x40\x00\x40\x11\x45\x4d\x0a\x4d\x33\x0f\x0a\x4d\x33\x0d\x1f\x0a\x1f\x0a\x00\x32\x8f\x33\x0c\x74\x0c\xa3\x73\x03\x83\xa4\x46\x72\x6f\x6d\xa5\x77\x65\x62\x2d\x35\xab\x49\x6e\x63\x61\x72\x6e\x61\x74\x69\x6f\x6e\x01\xa4\x4e\x6f\x64\x65\xa5\x77\x65\x62\x2d\x33",
+        17,
+        (&[10, 77, 51, 15], 7946),
+        (&[10, 77, 51, 13], 7946),
+    );
+    // a segment with four bytes of options in IP's header
+    assert_unreachable(
+        rt,
+        Link::Raw,
+        b"\x45\0\0\x3c\0\0\0\0\x40\x01\0\0\x0a\0\0\x02\x0a\0\0\x01\x03\x03\0\0\0\0\0\0\x46\0\0\x40\0\0\x40\0\x40\x06\0\0\x0a\0\0\x01\x0a\0\0\x02\x01\x01\x01\0\xd9\x08\x1f\x0a\0\0\0\x01",
+        6,
+        (&[10, 0, 0, 1], 55560),
+        (&[10, 0, 0, 2], 7946),
+    );
+    // of Linux's loopback
+    assert_unreachable(
+        rt,
+        Link::Ethernet,
+        b"\x00\x00\x00\x00\x00\x00\x00\x00\x00\x00\x00\x00\x86\xdd\x60\x01\xc3\x5e\x00\x3a\x3a\x40\x00\x00\x00\x00\x00\x00\x00\x00\x00\x00\x00\x00\x00\x00\x00\x01\x00\x00\x00\x00\x00\x00\x00\x00\x00\x00\x00\x00\x00\x00\x00\x01\x01\x04\xc5\x81\x00\x00\x00\x00\x60\x0b\x1e\xc8\x00\x0a\x11\x40\x00\x00\x00\x00\x00\x00\x00\x00\x00\x00\x00\x00\x00\x00\x00\x01\x00\x00\x00\x00\x00\x00\x00\x00\x00\x00\x00\x00\x00\x00\x00\x01\xa0\x29\xa0\x2a\x00\x0a\x00\x1d\x68\x69",
+        17,
+        (&[0, 0, 0, 0, 0, 0, 0, 0, 0, 0, 0, 0, 0, 0, 0, 1], 41001),
+        (&[0, 0, 0, 0, 0, 0, 0, 0, 0, 0, 0, 0, 0, 0, 0, 1], 41002),
+    );
+    // code 1: no host has the address
+    assert_refused(
+        rt,
+        Link::Raw,
+        b"\x45\0\0\x3c\0\0\0\0\x40\x01\0\0\x0a\0\0\x02\x0a\0\0\x01\x03\x01\0\0\0\0\0\0\x46\0\0\x40\0\0\x40\0\x40\x06\0\0\x0a\0\0\x01\x0a\0\0\x02\x01\x01\x01\0\xd9\x08\x1f\x0a\0\0\0\x01",
+        NotCarried::OtherProtocol,
+    );
+    // a quotation that ends within the ports
+    assert_refused(
+        rt,
+        Link::Raw,
+        b"\x45\0\0\x37\0\0\0\0\x40\x01\0\0\x0a\0\0\x02\x0a\0\0\x01\x03\x03\0\0\0\0\0\0\x46\0\0\x40\0\0\x40\0\x40\x06\0\0\x0a\0\0\x01\x0a\0\0\x02\x01\x01\x01\0\xd9\x08\x1f",
+        NotCarried::OtherProtocol,
     );
 }

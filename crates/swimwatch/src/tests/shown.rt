@@ -1,6 +1,6 @@
 //! What is shown for packets and streams.
 
-use crate::chosen::{Asking, Chosen, Verb};
+use crate::chosen::{Asking, Chosen, Probing, Verb};
 use crate::sent::{Proto, Sent};
 use crate::suspicion::SUSPICION_MULT;
 use crate::watch::Watch;
@@ -54,6 +54,7 @@ fn watch<'a>(
             clear: InTheClear::Refused,
         },
         following: None,
+        probing: Probing::default(),
     };
     Watch::new(alloc, keys, &chosen, Window::of(&chosen.times, 0), None)
 }

@@ -21,7 +21,7 @@ fn choice(alloc: Global, words: &[&str]) -> Result<Chosen, Refusal> {
 }
 
 /// Words, what they ask for, and how many captures and key files they name.
-const TAKEN: [(&[&str], Verb, bool, usize, usize); 9] = [
+const TAKEN: [(&[&str], Verb, bool, usize, usize); 11] = [
     (&["members", "x"], Verb::Members, false, 1, 0),
     (&["members", "--json", "-", "x"], Verb::Members, true, 2, 0),
     (
@@ -46,6 +46,14 @@ const TAKEN: [(&[&str], Verb, bool, usize, usize); 9] = [
         2,
     ),
     (&["dump", "--wait", "60", "x"], Verb::Dump, false, 1, 0),
+    (
+        &["probes", "--target", "a", "--probe-timeout", "1s", "x"],
+        Verb::Probes,
+        false,
+        1,
+        0,
+    ),
+    (&["health", "--json", "x"], Verb::Health, true, 1, 0),
     (
         &["pull", "--label", "dc1", "x", "y"],
         Verb::Pull,

@@ -118,6 +118,7 @@ impl<'a> Watch<'a> {
             self.old.listener.view self.new.listener.view) }
     {
         count(&mut self.counts.streams);
+        self.detect_push_pull(&sent);
         self.said(sent, Kind::Stream)?;
         let join = Join {
             join: records.join,

@@ -18,7 +18,7 @@ loop-message-preserved c =
     let within : i < length items = omega arith in
     let more : take (i + 1) items ≡ take i items ++ m ∷ [] =
     take_more items i m within ∙ ap (λ (x : Message). take i items ++ x ∷ []) (sym c.message-item.is) in
-    let whole : c.deref-in-loop-message.result.now ≡ items = search rules in
+    let whole : c.deref-in-loop-message-2.result.now ≡ items = search rules in
     let same : c.said.new.self.listener.view ≡ mid = search rules in
     let last : HearsMessage time items m mid new =
     subst (λ (v : ViewValue). HearsMessage time items m v new) same

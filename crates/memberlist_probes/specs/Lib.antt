@@ -1,0 +1,8 @@
+pub mod Captured
+pub mod Complete
+pub mod Health
+pub mod Outcomes
+pub mod Points
+pub mod Showing
+pub mod Telling
+pub mod Worlds

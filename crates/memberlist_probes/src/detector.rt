@@ -1,0 +1,146 @@
+//! What the failure detectors of a cluster did, from the packets of captures.
+
+use crate::captures::Captures;
+use crate::fallbacks::Segment;
+use crate::health::Healths;
+use crate::pairs::Pairs;
+use crate::probe::Probe;
+use crate::probes::{Accusation, Packet, Probes};
+use crate::timing::Timing;
+use memberlist_message::Message;
+use std::alloc::{AllocError, Global};
+use std::net::SocketAddr;
+
+/// The times that are told, in microseconds since the start of 1970.
+#[derive(Clone, Copy, Debug)]
+pub struct Span {
+    pub from: u64,
+    pub to: u64,
+}
+
+/// What the failure detectors of a cluster did. Packets come in the order of their times, as far as
+/// the clocks of the captures agree.
+#[derive(Drop)]
+pub struct Detector {
+    captures: Captures,
+    probes: Probes,
+    pub pairs: Pairs,
+    pub healths: Healths,
+    /// The probes outside of it are left out.
+    span: Span,
+    /// The last time of a packet.
+    now: u64,
+}
+
+impl Detector {
+    /// One that has seen nothing.
+    pub fn new(alloc: Global, timing: Timing, span: Span) -> Detector {
+        Detector {
+            captures: Captures::new(alloc),
+            probes: Probes::new(alloc, timing),
+            pairs: Pairs::new(alloc),
+            healths: Healths::new(alloc),
+            span,
+            now: 0,
+        }
+    }
+
+    /// Takes in that a capture has a packet, whatever it carries.
+    ///
+    /// # Errors
+    ///
+    /// `AllocError` if out of memory.
+    pub fn packet(&mut self, packet: Packet) -> Result<(), AllocError> {
+        let seen = packet.seen;
+        self.now = self.now.max(seen.time);
+        self.captures
+            .note(seen.capture, seen.time, packet.from.ip(), packet.to.ip())?;
+        for _ in 0..self.probes.len() {
+            let Some(probe) = self.probes.pop(self.now) else {
+                break;
+            };
+            self.note(&probe)?;
+        }
+        Ok(())
+    }
+
+    /// Takes in a message of a datagram.
+    ///
+    /// # Errors
+    ///
+    /// `AllocError` if out of memory.
+    pub fn message(&mut self, packet: Packet, message: &Message) -> Result<(), AllocError> {
+        self.probes.take(&self.captures, packet, message)
+    }
+
+    /// Takes in a segment of TCP.
+    ///
+    /// # Errors
+    ///
+    /// `AllocError` if out of memory.
+    pub fn segment(&mut self, packet: Packet, segment: Segment) -> Result<(), AllocError> {
+        self.probes.segment(packet, segment)
+    }
+
+    /// Takes in that a capture has a refusal of a packet between these ends.
+    pub fn refusal(&mut self, packet: Packet, from: SocketAddr, to: SocketAddr) {
+        self.captures.note_refusal(packet.seen.capture);
+        self.probes.refuse(packet.seen.time, from, to);
+    }
+
+    /// Takes in that one member suspects another, and says so itself.
+    ///
+    /// # Errors
+    ///
+    /// `AllocError` if out of memory.
+    pub fn accusation(&mut self, time: u64, accusation: &Accusation) -> Result<(), AllocError> {
+        self.probes.accuse(time, accusation)
+    }
+
+    /// Takes in that a connection between these ends, or back, carries a push/pull: it tries no probe
+    /// again.
+    pub fn push_pull(&mut self, from: SocketAddr, to: SocketAddr) {
+        self.probes.push_pull(from, to);
+        self.probes.push_pull(to, from);
+    }
+
+    /// Takes in that a member refuted a suspicion or a death of itself.
+    ///
+    /// # Errors
+    ///
+    /// `AllocError` if out of memory.
+    pub fn refutation(&mut self, name: &[u8]) -> Result<(), AllocError> {
+        self.healths.note_refuted(name)
+    }
+
+    /// Takes in that the captures end.
+    ///
+    /// # Errors
+    ///
+    /// `AllocError` if out of memory.
+    pub fn finish(&mut self) -> Result<(), AllocError> {
+        for _ in 0..self.probes.len() {
+            let Some(probe) = self.probes.finish() else {
+                break;
+            };
+            self.note(&probe)?;
+        }
+        Ok(())
+    }
+
+    /// The timeout and the interval of probes.
+    pub fn timing(&self) -> &Timing {
+        &self.probes.timing
+    }
+
+    /// Notes a probe that is over.
+    fn note(&mut self, probe: &Probe) -> Result<(), AllocError> {
+        let time = probe.time();
+        if time < self.span.from || self.span.to < time {
+            return Ok(());
+        }
+        let timing = &self.probes.timing;
+        self.pairs.note(probe, &self.captures, timing, self.now)?;
+        self.healths.note(probe, &self.captures, timing, self.now)
+    }
+}
