@@ -74,8 +74,6 @@ mod suspicion;
 mod svg;
 mod tags;
 mod talkers;
-#[cfg(test)]
-mod tests;
 mod texts;
 mod timeline;
 mod told;
