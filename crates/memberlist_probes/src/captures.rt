@@ -105,6 +105,13 @@ impl Captures {
         }
     }
 
+    /// All of them, by their numbers.
+    pub fn as_slice(&self) -> &[Capture]
+        ensures { result.now ≡ self.now }
+    {
+        &self.all
+    }
+
     /// Whether the capture with this number was taken at the host.
     pub fn is_at(&self, number: usize, host: IpAddr) -> bool
         ensures { MatchBool result (IsAt self.now number host) (IsAt self.now number host → ⊥) }

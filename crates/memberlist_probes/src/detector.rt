@@ -5,7 +5,7 @@ use crate::fallbacks::Segment;
 use crate::health::Healths;
 use crate::pairs::Pairs;
 use crate::probe::Probe;
-use crate::probes::{Accusation, Packet, Probes};
+use crate::probes::{Accusation, FOLLOWED, Packet, Probes};
 use crate::timing::Timing;
 use memberlist_message::Message;
 use std::alloc::{AllocError, Global};
@@ -54,14 +54,22 @@ impl Detector {
         let seen = packet.seen;
         self.now = self.now.max(seen.time);
         self.captures
-            .note(seen.capture, seen.time, packet.from.ip(), packet.to.ip())?;
-        for _ in 0..self.probes.len() {
-            let Some(probe) = self.probes.pop(self.now) else {
-                break;
-            };
-            self.note(&probe)?;
-        }
-        Ok(())
+            .note(seen.capture, seen.time, packet.from.ip(), packet.to.ip())
+    }
+
+    /// How many probes are followed, or over and not taken out yet.
+    pub fn len(&self) -> usize {
+        self.probes.len()
+    }
+
+    /// Takes out the oldest probe that is over.
+    pub fn pop(&mut self) -> Option<Probe> {
+        self.probes.pop(self.now)
+    }
+
+    /// Takes out the oldest probe that is left, since the captures end.
+    pub fn finish(&mut self) -> Option<Probe> {
+        self.probes.finish()
     }
 
     /// Takes in a message of a datagram.
@@ -113,19 +121,19 @@ impl Detector {
         self.healths.note_refuted(name)
     }
 
-    /// Takes in that the captures end.
-    ///
-    /// # Errors
-    ///
-    /// `AllocError` if out of memory.
-    pub fn finish(&mut self) -> Result<(), AllocError> {
-        for _ in 0..self.probes.len() {
-            let Some(probe) = self.probes.finish() else {
-                break;
-            };
-            self.note(&probe)?;
-        }
-        Ok(())
+    /// The captures.
+    pub fn captures(&self) -> &Captures {
+        &self.captures
+    }
+
+    /// The last time of a packet.
+    pub fn now(&self) -> u64 {
+        self.now
+    }
+
+    /// The time until which all probes are over, if those that are were taken out.
+    pub fn settled(&self) -> u64 {
+        self.now.saturating_sub(FOLLOWED)
     }
 
     /// The timeout and the interval of probes.
@@ -133,8 +141,12 @@ impl Detector {
         &self.probes.timing
     }
 
-    /// Notes a probe that is over.
-    fn note(&mut self, probe: &Probe) -> Result<(), AllocError> {
+    /// Counts a probe that is over, for its pair and its prober.
+    ///
+    /// # Errors
+    ///
+    /// `AllocError` if out of memory.
+    pub fn note(&mut self, probe: &Probe) -> Result<(), AllocError> {
         let time = probe.time();
         if time < self.span.from || self.span.to < time {
             return Ok(());

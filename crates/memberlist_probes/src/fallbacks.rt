@@ -77,6 +77,7 @@ impl Probes {
                 dialled,
                 syns: 1,
                 accepted: None,
+                established: None,
                 is_refused: false,
                 answered: None,
             });
@@ -125,6 +126,9 @@ impl Probes {
             return Ok(());
         };
         if !segment.syn {
+            if fallback.accepted.is_some() && fallback.established.is_none() && !segment.rst {
+                fallback.established = Some(seen.time);
+            }
             return Ok(());
         }
         if seen.capture == dial.capture {

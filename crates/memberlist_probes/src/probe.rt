@@ -51,6 +51,8 @@ pub struct Fallback {
     pub syns: u32,
     /// When the target's host accepted it.
     pub accepted: Option<u64>,
+    /// When the prober went on, so that it is established.
+    pub established: Option<u64>,
     /// Whether the target's host refused it.
     pub is_refused: bool,
     /// When the target's agent answered.
@@ -210,6 +212,20 @@ impl Probe {
             Some(time) => self.went_on() && time.saturating_add(SLACK) < timing.timeout(),
             None => false,
         }
+    }
+
+    /// Whether the target's host accepted the connection by which the prober tried again, and its
+    /// agent did not answer in it before the prober had to know.
+    pub fn is_mute(&self, captures: &Captures, timing: &Timing) -> bool {
+        let Some(fallback) = &self.fallback else {
+            return false;
+        };
+        let deadline = self
+            .sent(captures)
+            .saturating_add(self.deadline(captures, timing));
+        let is_by = |time: Option<u64>, end: u64| time.is_some_and(|time| time <= end);
+        is_by(fallback.established, deadline)
+            && !is_by(fallback.answered, deadline.saturating_add(READ))
     }
 
     /// What the captures show of the ping and its ack: if they are complete, what happened, as

@@ -14,7 +14,7 @@ const SAME: u64 = 5_000_000;
 
 /// How long after its ping a probe is followed, in microseconds (own): an agent that was stopped
 /// answers late.
-const FOLLOWED: u64 = 30_000_000;
+pub(crate) const FOLLOWED: u64 = 30_000_000;
 
 /// How long after an indirect ping the ping that was asked for may follow.
 const RELAYED: u64 = 1_000_000;

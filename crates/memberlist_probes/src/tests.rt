@@ -184,7 +184,11 @@ fn probes_are_told_by_two_captures(rt: HostRuntime) -> Result<(), Fail> {
     for step in STEPS {
         take(alloc, &mut detector, step)?;
     }
-    detector.finish()?;
+    for _ in 0..detector.len() {
+        if let Some(probe) = detector.finish() {
+            detector.note(&probe)?;
+        }
+    }
     let told = told(alloc, &detector)?;
     assert_eq!(rt;
         told.as_str(),

@@ -3,11 +3,15 @@
 use crate::NAME;
 use crate::chosen::{Chosen, Verb};
 use crate::limit::Limit;
+use crate::names::name_bytes;
 use crate::said::{output_fails, said};
 use crate::side::claims_of_file;
 use crate::sources::Sources;
 use crate::views::Views;
 use key_files::keyring_of;
+use std::alloc::AllocError;
+use std::fs::File;
+use std::io::ErrorKind;
 use swim_program::{Failure, What, print_bytes};
 use swim_table::EncodeFault;
 
@@ -29,9 +33,27 @@ pub(crate) fn show_captures(rt: &HostRuntime, chosen: &Chosen) -> Result<(), Fai
         print_dump(rt, &views)?;
     }
     if lacks_member {
-        let _ = eprintln!(rt; "{NAME}: nothing was heard about the --member name");
+        let _ = eprintln!(rt; "{NAME}: {}", lacking(chosen.verb));
     }
     let _ = eprintln!(rt; "{NAME}: {said}");
+    Ok(())
+}
+
+/// Takes the first of several words as the only member to tell of, if it names no file.
+pub(crate) fn take_name(rt: &HostRuntime, chosen: &mut Chosen) -> Result<(), AllocError> {
+    if chosen.verb != Verb::Why || chosen.member.is_some() || chosen.inputs.len() < 2 {
+        return Ok(());
+    }
+    let Some(word) = chosen.inputs.first() else {
+        return Ok(());
+    };
+    match File::open(rt, word) {
+        Err(error) if error.kind() == ErrorKind::NotFound && word != "-" => {
+            chosen.member = Some(name_bytes(rt.alloc(), word)?);
+            let _ = chosen.inputs.remove(0);
+        }
+        _ => {}
+    }
     Ok(())
 }
 
@@ -70,6 +92,14 @@ pub(crate) fn watch_until(
         }
     }
     Ok(())
+}
+
+/// What is said if nothing was heard about the only member to show.
+fn lacking(verb: Verb) -> &'static str {
+    match verb {
+        Verb::Why => "nothing was heard about a member of that name, and no file has it",
+        _ => "nothing was heard about the --member name",
+    }
 }
 
 /// Prints the pending output.

@@ -117,6 +117,14 @@ pub(crate) const HEALTH: &str = "\
 Examples:
   swimwatch health web-1.pcap web-2.pcap web-3.pcap";
 
+pub(crate) const WHY: &str = "\
+Give it captures of several members if you have them, with a filter that lets refusals through:
+port 7946 or icmp or icmp6. A first word that is no file is the only member to tell of.
+
+Examples:
+  swimwatch why web-1.pcap web-2.pcap web-3.pcap
+  swimwatch why web-5 web-1.pcap";
+
 pub(crate) const PULL: &str = "\
 Asks without joining, so nothing changes in the cluster. Of several members it prints what most of
 them report, and below it the names on which they differ and the members that do not answer.

@@ -178,6 +178,11 @@ impl Object {
         self.object("rival", Some(object))
     }
 
+    /// Adds a member whose value is null.
+    pub(crate) fn null(&mut self, key: &str) -> Result<(), AllocError> {
+        put(&mut self.members, self.alloc, key, Value::Null)
+    }
+
     /// Adds a member whose value is true.
     fn flag(&mut self, key: &str) -> Result<(), AllocError> {
         put(&mut self.members, self.alloc, key, Value::Bool(true))

@@ -9,7 +9,7 @@
 //! | `pings`, `warnings` | who a ping shows, and suspicions that only warn |
 //! | `listener`, `directory`, `places` | a listener that hears all of it |
 //! | `views`, `view_name`, `watch`, `change` | listening, and showing what was asked for |
-//! | `members`, `suspicion`, `timeline`, `claims`, `talkers`, `probes`, `health` | what is shown |
+//! | `members`, `suspicion`, `timeline`, `claims`, `talkers`, `probes`, `health`, `why` | what is shown |
 //! | `pull`, `ask`, `inquiry`, `host`, `ring`, `connection`, `request`, `answer` | asking members |
 //! | `silence` | why a member that was asked has no table |
 //! | `roster`, `known` | what somebody knows about members |
@@ -84,9 +84,10 @@ mod views;
 mod waiting;
 mod warnings;
 mod watch;
+mod why;
 mod window;
 
-use captures::show_captures;
+use captures::{show_captures, take_name};
 use chosen::Verb;
 use command_line::{Refusal, chosen};
 use diff::diff;
@@ -108,7 +109,7 @@ fn main(rt: HostRuntime) -> ExitCode {
 fn run(rt: &HostRuntime) -> Result<ExitCode, Failure> {
     let alloc = rt.alloc();
     let words = words_of(rt)?;
-    let chosen = match chosen(alloc, words.as_slice()) {
+    let mut chosen = match chosen(alloc, words.as_slice()) {
         Ok(chosen) => chosen,
         Err(Refusal::Words(fault)) => return Err(Failure::from(fault)),
         Err(Refusal::Value(text)) => return Err(misused(alloc, text)),
@@ -117,6 +118,7 @@ fn run(rt: &HostRuntime) -> Result<ExitCode, Failure> {
         Verb::Pull => pull(rt, &chosen),
         Verb::Diff => diff(rt, &chosen),
         _ => {
+            take_name(rt, &mut chosen)?;
             show_captures(rt, &chosen)?;
             Ok(ExitCode::SUCCESS)
         }

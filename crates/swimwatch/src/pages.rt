@@ -50,7 +50,7 @@ struct Page {
 }
 
 /// The program's commands.
-const PAGES: [Page; 10] = [
+const PAGES: [Page; 11] = [
     Page {
         name: "members",
         about: "Prints the members as they are at the end of the captures",
@@ -164,6 +164,23 @@ const PAGES: [Page; 10] = [
         name: "health",
         about: "Prints how healthy each member is, as its probes tell",
         example: help::HEALTH,
+        inputs: Inputs::Captures,
+        flags: &[
+            Flag::Member,
+            Flag::From,
+            Flag::To,
+            Flag::For,
+            Flag::Port,
+            Flag::Label,
+            Flag::ProbeTimeout,
+            Flag::ProbeInterval,
+            Flag::Json,
+        ],
+    },
+    Page {
+        name: "why",
+        about: "Prints why members were suspected, as each suspicion ends",
+        example: help::WHY,
         inputs: Inputs::Captures,
         flags: &[
             Flag::Member,

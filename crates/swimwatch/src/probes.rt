@@ -152,7 +152,7 @@ pub(crate) fn times_object(alloc: Global, times: &Delays) -> Result<Option<Objec
 }
 
 /// The words for the explanations that are left.
-fn explanations_of(alloc: Global, left: &Left) -> Result<Vec<Value>, AllocError> {
+pub(crate) fn explanations_of(alloc: Global, left: &Left) -> Result<Vec<Value>, AllocError> {
     let mut words = Vec::new(alloc);
     for (explanation, is_left) in Explanation::ALL.iter().zip(left) {
         if *is_left {

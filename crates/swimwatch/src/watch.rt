@@ -28,7 +28,8 @@ use crate::texts::NONE;
 use crate::told::Told;
 use crate::warnings::{Warnings, is_warning};
 use crate::window::Window;
-use detecting::detector_of;
+use detecting::{causes_of, detector_of};
+use memberlist_causes::Causes;
 use memberlist_cipher::split_label;
 use memberlist_keyring::Keyring;
 use memberlist_message::{Message, Ping};
@@ -81,6 +82,8 @@ pub(crate) struct Watch<'a> {
     pub(crate) counts: Counts,
     /// What the failure detectors did, if that is asked for.
     detector: Option<Detector>,
+    /// Why members were suspected, if that is asked for.
+    causes: Option<Causes>,
     /// The number of the capture whose record is taken in.
     pub(crate) capture: usize,
     /// Whose probes are shown, and of whom.
@@ -124,6 +127,7 @@ impl<'a> Watch<'a> {
             table: Table::new(alloc),
             counts: Counts::default(),
             detector: detector_of(alloc, chosen, &window),
+            causes: causes_of(alloc, chosen),
             capture: 0,
             prober: copied(alloc, &chosen.probing.prober)?,
             target: copied(alloc, &chosen.probing.target)?,

@@ -7,10 +7,14 @@ use crate::chosen::{Chosen, Verb};
 use crate::counts::count;
 use crate::health::{write_health, write_health_objects};
 use crate::probes::{Shown, write_pair_objects, write_pairs};
-use crate::sent::Sent;
+use crate::sent::{Proto, Sent};
+use crate::told::Told;
 use crate::warnings::is_warning;
+use crate::why::objects::write_chapter_objects;
+use crate::why::{Teller, write_chapter};
 use crate::window::Window;
 use capture::Segment;
+use memberlist_causes::{Causes, Chapter, Kind, News};
 use memberlist_message::Message;
 use memberlist_probes::{Accusation, Detector, Packet, Sighting, Span, Timing};
 use memberlist_view::Event;
@@ -32,6 +36,25 @@ pub(super) fn detector_of(alloc: Global, chosen: &Chosen, window: &Window) -> Op
     Some(Detector::new(alloc, timing, span))
 }
 
+/// What tells why members were suspected, if that is asked for.
+pub(super) fn causes_of(alloc: Global, chosen: &Chosen) -> Option<Causes> {
+    match chosen.verb {
+        Verb::Why => Some(Causes::new(alloc)),
+        _ => None,
+    }
+}
+
+/// What an event says about a suspicion, if it says something.
+fn kind_of(event: Event) -> Option<Kind> {
+    match event {
+        Event::Suspected | Event::AlsoSuspected => Some(Kind::Suspected),
+        Event::Dead => Some(Kind::Dead),
+        Event::Refuted | Event::Renewed | Event::Updated | Event::Back => Some(Kind::Alive),
+        Event::Left => Some(Kind::Left),
+        Event::Joined | Event::Known | Event::Seen | Event::Conflict => None,
+    }
+}
+
 impl<'a> Watch<'a> {
     /// A packet of the capture whose record is taken in.
     fn packet(&self, sent: &Sent) -> Packet {
@@ -51,9 +74,65 @@ impl<'a> Watch<'a> {
     {
         let packet = self.packet(sent);
         match &mut self.detector {
-            Some(detector) => detector.packet(packet),
-            None => Ok(()),
+            Some(detector) => detector.packet(packet)?,
+            None => return Ok(()),
         }
+        self.take_probes(false)
+    }
+
+    /// Takes in the probes that are over, or all that are left, and tells what can be told then.
+    fn take_probes(&mut self, is_end: bool) -> Result<(), AllocError>
+        ensures { self.new.listener ≡ self.old.listener }
+    {
+        let Some(detector) = &mut self.detector else {
+            return Ok(());
+        };
+        for _ in 0..detector.len() {
+            let over = if is_end {
+                detector.finish()
+            } else {
+                detector.pop()
+            };
+            let Some(probe) = over else {
+                break;
+            };
+            match &mut self.causes {
+                Some(causes) => {
+                    let now = detector.now();
+                    causes.probe(&probe, detector.captures(), detector.timing(), now)?;
+                }
+                None => detector.note(&probe)?,
+            }
+        }
+        self.tell_causes(is_end)
+    }
+
+    /// Tells what can be told of suspicions, or all that is left.
+    fn tell_causes(&mut self, is_end: bool) -> Result<(), AllocError>
+        ensures { self.new.listener ≡ self.old.listener }
+    {
+        let (Some(detector), Some(causes)) = (&self.detector, &mut self.causes) else {
+            return Ok(());
+        };
+        let (captures, timing) = (detector.captures(), detector.timing());
+        for _ in 0..u64::MAX {
+            let chapter = if is_end {
+                causes.finish(captures, timing)?
+            } else {
+                causes.told(detector.settled(), captures, timing)?
+            };
+            let Some(chapter) = chapter else {
+                break;
+            };
+            let teller = Teller {
+                members: causes.members(),
+                only: &self.member,
+                window: &self.window,
+                timeout: causes.timeout(),
+            };
+            write_told(self.alloc, &mut self.out, self.json, teller, &chapter)?;
+        }
+        Ok(())
     }
 
     /// Takes in a segment, for what it tells of a probe.
@@ -70,6 +149,9 @@ impl<'a> Watch<'a> {
             rst: segment.rst,
             has_payload: !segment.payload.is_empty(),
         };
+        if let Some(causes) = &mut self.causes {
+            causes.segment(packet, segment)?;
+        }
         match &mut self.detector {
             Some(detector) => detector.segment(packet, segment),
             None => Ok(()),
@@ -86,6 +168,9 @@ impl<'a> Watch<'a> {
         ensures { self.new.listener ≡ self.old.listener }
     {
         let packet = self.packet(sent);
+        if let Some(causes) = &mut self.causes {
+            causes.refusal(packet.seen, from, to)?;
+        }
         match &mut self.detector {
             Some(detector) => {
                 detector.packet(packet)?;
@@ -106,6 +191,9 @@ impl<'a> Watch<'a> {
         ensures { self.new.listener ≡ self.old.listener }
     {
         let packet = self.packet(&sent);
+        if let Some(causes) = &mut self.causes {
+            causes.message(packet, message)?;
+        }
         let Some(detector) = &mut self.detector else {
             return Ok(());
         };
@@ -127,24 +215,63 @@ impl<'a> Watch<'a> {
     }
 
     /// Takes in that a connection carries a push/pull.
-    pub(super) fn detect_push_pull(&mut self, sent: &Sent)
+    pub(super) fn detect_push_pull(&mut self, sent: &Sent) -> Result<(), AllocError>
         ensures { self.new.listener ≡ self.old.listener }
     {
         if let Some(detector) = &mut self.detector {
             detector.push_pull(sent.source, sent.destination);
         }
+        self.detect_stream(sent)
     }
 
-    /// Takes in what changed about a member: it refutes by a greater incarnation.
+    /// Takes in that a connection carries something of memberlist's.
+    pub(super) fn detect_stream(&mut self, sent: &Sent) -> Result<(), AllocError>
+        ensures { self.new.listener ≡ self.old.listener }
+    {
+        match &mut self.causes {
+            Some(causes) => causes.stream(sent.time, sent.source, sent.destination),
+            None => Ok(()),
+        }
+    }
+
+    /// Takes in a claim: a push/pull that brings a suspicion or a death may lead to an accusation.
+    pub(super) fn detect_claim(&mut self, sent: &Sent, told: &Told) -> Result<(), AllocError>
+        ensures { self.new.listener ≡ self.old.listener }
+    {
+        let is_accusing = matches!(told.claim, Claim::Suspect { .. } | Claim::Confirm { .. });
+        match &mut self.causes {
+            Some(causes) if is_accusing && sent.proto == Proto::Tcp => {
+                causes.hearsay(sent.time, sent.destination, told.claim.name().bytes())
+            }
+            _ => Ok(()),
+        }
+    }
+
+    /// Takes in what changed about a member: a suspicion begins or ends, and a member refutes by a
+    /// greater incarnation.
     pub(super) fn detect_event(
         &mut self,
-        name: &[u8],
+        sent: &Sent,
+        told: &Told,
         event: Option<Event>,
     ) -> Result<(), AllocError>
         ensures { self.new.listener ≡ self.old.listener }
     {
+        let Some(event) = event else {
+            return Ok(());
+        };
+        let name = told.claim.name().bytes();
+        if let (Some(causes), Some(kind)) = (&mut self.causes, kind_of(event)) {
+            causes.news(&News {
+                time: sent.time,
+                name,
+                inc: told.claim.inc(),
+                by: &told.from,
+                kind,
+            })?;
+        }
         match (&mut self.detector, event) {
-            (Some(detector), Some(Event::Refuted | Event::Renewed | Event::Back)) => {
+            (Some(detector), Event::Refuted | Event::Renewed | Event::Back) => {
                 detector.refutation(name)
             }
             _ => Ok(()),
@@ -153,10 +280,10 @@ impl<'a> Watch<'a> {
 
     /// Shows what the failure detectors did.
     pub(super) fn show_detector(&mut self) -> Result<(), AllocError> {
-        let Some(detector) = &mut self.detector else {
+        self.take_probes(true)?;
+        let Some(detector) = &self.detector else {
             return Ok(());
         };
-        detector.finish()?;
         let shown = Shown {
             prober: &self.prober,
             target: &self.target,
@@ -166,10 +293,26 @@ impl<'a> Watch<'a> {
             (Verb::Probes, true) => {
                 write_pair_objects(self.alloc, &mut self.out, &detector.pairs, shown)
             }
+            (Verb::Why, _) => Ok(()),
             (_, false) => write_health(self.alloc, &mut self.out, &detector.healths, &self.member),
             (_, true) => {
                 write_health_objects(self.alloc, &mut self.out, &detector.healths, &self.member)
             }
         }
+    }
+}
+
+/// Writes what is told of suspicions at once.
+fn write_told(
+    alloc: Global,
+    text: &mut String,
+    is_json: bool,
+    teller: Teller,
+    chapter: &Chapter,
+) -> Result<(), AllocError> {
+    if is_json {
+        write_chapter_objects(alloc, text, teller, chapter)
+    } else {
+        write_chapter(text, teller, chapter)
     }
 }

@@ -30,7 +30,8 @@ impl<'a> Watch<'a> {
         ensures { self.new.listener ≡ self.old.listener }
     {
         let name = told.claim.name().bytes();
-        self.detect_event(name, event)?;
+        self.detect_claim(sent, told)?;
+        self.detect_event(sent, told, event)?;
         match (self.verb, event) {
             (Verb::Claims, _) if self.is_shown(name) && self.is_timely(sent.time) => {
                 self.show_claim(sent, told)
@@ -193,7 +194,7 @@ impl<'a> Watch<'a> {
             (Verb::Talkers, false) => self.talkers.write(&mut self.out, &self.listener),
             (Verb::Talkers, true) => self.talkers.write_objects(&mut self.out, &self.listener),
             (Verb::Chart, _) => self.chart.write(&mut self.out),
-            (Verb::Probes | Verb::Health, _) => self.show_detector(),
+            (Verb::Probes | Verb::Health | Verb::Why, _) => self.show_detector(),
             _ => Ok(()),
         }
     }

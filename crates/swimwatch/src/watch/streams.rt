@@ -49,6 +49,7 @@ impl<'a> Watch<'a> {
                 return Ok(());
             }
             Some(NoStream::Claimless) => {
+                self.detect_stream(&sent)?;
                 count(&mut self.counts.other_streams);
                 Kind::Message
             }
@@ -118,7 +119,7 @@ impl<'a> Watch<'a> {
             self.old.listener.view self.new.listener.view) }
     {
         count(&mut self.counts.streams);
-        self.detect_push_pull(&sent);
+        self.detect_push_pull(&sent)?;
         self.said(sent, Kind::Stream)?;
         let join = Join {
             join: records.join,

@@ -1,0 +1,236 @@
+//! What explains the probes without an answer in one scene: first whether groups of members are in
+//! trouble, then the members that most of the probes touch, one after another.
+
+use crate::evidence::Evidence;
+use crate::facts::Facts;
+use crate::groups::{cut_off_together, distinct, partition};
+use crate::numbers::began_anew;
+use crate::rules::told;
+use crate::scene::Scene;
+use crate::subject::{Subject, count, span_of};
+use crate::trouble::{Of, Trouble};
+use crate::words::Saying;
+use crate::{Case, Cause, Member};
+use std::alloc::AllocError;
+
+/// How many members are told of one scene at most (own).
+const MOST: usize = 3;
+
+/// How long before and after one pair's probes others count that are asked (own), in microseconds.
+const BEFORE: u64 = 1_000_000;
+
+const AFTER: u64 = 2_000_000;
+
+/// How long before and after trouble numbers that begin anew explain it (own).
+const ANEW_BEFORE: u64 = 12_000_000;
+
+const ANEW_AFTER: u64 = 8_000_000;
+
+/// What explains the probes without an answer that were sent between these times.
+pub(crate) fn diagnose(facts: &Facts, begin: u64, last: u64) -> Result<Vec<Trouble>, AllocError> {
+    let scene = Scene::of(facts, begin, last)?;
+    let mut troubles = Vec::new(facts.alloc);
+    if scene.bad.is_empty() {
+        troubles.push(leaving(&scene)?)?;
+    } else if let Some(trouble) = partition(&scene)? {
+        troubles.push(trouble)?;
+    } else if let Some(trouble) = cut_off_together(&scene)? {
+        troubles.push(trouble)?;
+    } else {
+        one_by_one(&scene, &mut troubles)?;
+        for trouble in &mut troubles {
+            look_for_restart(facts, trouble)?;
+        }
+    }
+    Ok(troubles)
+}
+
+/// All failed probes are of members that left, or by them.
+fn leaving(scene: &Scene) -> Result<Trouble, AllocError> {
+    let alloc = scene.facts.alloc;
+    let of = Of::Several(scene.left.clone()?);
+    let span = (scene.begin, scene.end);
+    let mut trouble = Trouble::new(alloc, span, of, Cause::Left, &scene.leaving)?;
+    trouble.evidence.push(Evidence::UnderWay {
+        probes: scene.leaving.len() as u64,
+    })?;
+    Ok(trouble)
+}
+
+/// Tells of the member that most of the failed probes touch, then of the next of those that are left.
+fn one_by_one(scene: &Scene, troubles: &mut Vec<Trouble>) -> Result<(), AllocError> {
+    let mut rest = touching(scene, &scene.bad, None)?;
+    for _ in 0..MOST {
+        let Some(member) = most_touched(scene, &rest)? else {
+            break;
+        };
+        let trouble = trouble_of(scene, member, &rest)?;
+        let told = match trouble.of {
+            Of::One(other) => other,
+            _ => member,
+        };
+        let mut left = Vec::new(scene.facts.alloc);
+        for case in &rest {
+            if !case.touches(told) {
+                left.push(*case)?;
+            }
+        }
+        rest = left;
+        troubles.push(trouble)?;
+    }
+    Ok(())
+}
+
+/// Those of the probes that touch the member, or all.
+fn touching<'a>(
+    scene: &Scene<'a>,
+    cases: &[&'a Case],
+    member: Option<Member>,
+) -> Result<Vec<&'a Case>, AllocError> {
+    let mut touching = Vec::new(scene.facts.alloc);
+    for case in cases {
+        let is_it = match member {
+            Some(member) => case.touches(member),
+            None => true,
+        };
+        if is_it {
+            touching.push(*case)?;
+        }
+    }
+    Ok(touching)
+}
+
+/// The member that most of the probes touch: of several the one with more others, then the one that
+/// answered fewer, then the one that was probed more.
+fn most_touched(scene: &Scene, cases: &[&Case]) -> Result<Option<Member>, AllocError> {
+    let alloc = scene.facts.alloc;
+    let mut best = None;
+    for (member, touched) in &scene.touched(cases)? {
+        let mine = cases.iter().filter(|case| case.touches(*member));
+        let others = distinct(alloc, mine.map(|case| case.other(*member)))?;
+        let answered = count(&scene.good, |case| case.target == *member);
+        let probed = count(cases, |case| case.target == *member);
+        let rank = (*touched, others.len(), u64::MAX - answered, probed);
+        let is_better = match best {
+            Some((other, _)) => other < rank,
+            None => true,
+        };
+        if is_better {
+            best = Some((rank, *member));
+        }
+    }
+    Ok(best.map(|(_, member)| member))
+}
+
+/// What is told of the member by those of the probes that touch it.
+fn trouble_of<'a>(
+    scene: &Scene<'a>,
+    member: Member,
+    cases: &[&'a Case],
+) -> Result<Trouble, AllocError> {
+    let alloc = scene.facts.alloc;
+    let mine = touching(scene, cases, Some(member))?;
+    let (first, last) = span_of(&mine);
+    let others = distinct(alloc, mine.iter().map(|case| case.other(member)))?;
+    let mut of = member;
+    let mut also = Vec::new(alloc);
+    if let (1, Some(other)) = (others.len(), others.first()) {
+        let span = (first.saturating_sub(BEFORE), last.saturating_add(AFTER));
+        let with_it = asked_about(scene.facts, member, *other, span)?;
+        let with_other = asked_about(scene.facts, *other, member, span)?;
+        if with_it.len() < with_other.len() {
+            of = *other;
+            also = with_other;
+        } else if with_other.len() < with_it.len() {
+            also = with_it;
+        }
+    }
+    let subject = Subject::of(scene, of, &mine)?;
+    let mut evidence = Vec::new(alloc);
+    let mut cause = told(&subject, &mut evidence)?;
+    let is_pair = others.len() == 1 && also.is_empty();
+    if !also.is_empty() {
+        evidence.push(Evidence::AlsoWith { members: also })?;
+    }
+    let mut of = Of::One(of);
+    if is_pair && cause.is_of_ways() {
+        cause = Cause::LossBetween;
+        let mut pair = others;
+        pair.push(member)?;
+        pair.sort_unstable();
+        of = Of::Several(pair);
+    }
+    let mut trouble = Trouble::new(alloc, (first, scene.end), of, cause, &mine)?;
+    trouble.evidence = evidence;
+    Ok(trouble)
+}
+
+/// The members beside one that asked others to ping a member, or which it asked others to ping.
+fn asked_about(
+    facts: &Facts,
+    member: Member,
+    except: Member,
+    (from, to): (u64, u64),
+) -> Result<Vec<Member>, AllocError> {
+    let mut also = Vec::new(facts.alloc);
+    for (asker, words) in facts.words.all() {
+        for word in words {
+            let Saying::IndirectPing(Some(target)) = word.saying else {
+                continue;
+            };
+            if word.time <= from || to <= word.time {
+                continue;
+            }
+            let partner = if target == member {
+                *asker
+            } else if *asker == member {
+                target
+            } else {
+                continue;
+            };
+            if partner != except && !also.contains(&partner) {
+                also.push(partner)?;
+            }
+        }
+    }
+    also.sort_unstable();
+    Ok(also)
+}
+
+/// If little is known of trouble, and the numbers of a member's pings begin anew, that is told.
+fn look_for_restart(facts: &Facts, trouble: &mut Trouble) -> Result<(), AllocError> {
+    if !trouble.cause.is_weak() {
+        return Ok(());
+    }
+    let from = trouble.begin.saturating_sub(ANEW_BEFORE);
+    let to = trouble.until.saturating_add(ANEW_AFTER);
+    for (prober, target) in &trouble.legs {
+        for member in [*prober, *target] {
+            if let Some(numbers) = began_anew(facts, member, from, to) {
+                trouble.cause = Cause::Restarted;
+                trouble.of = Of::One(member);
+                trouble.evidence.push(Evidence::Numbers(numbers))?;
+                return Ok(());
+            }
+        }
+    }
+    Ok(())
+}
+
+/// A restart that alone explains a suspicion for which no failed probe was captured.
+pub(crate) fn restart(
+    facts: &Facts,
+    member: Member,
+    begin: u64,
+    end: u64,
+) -> Result<Option<Trouble>, AllocError> {
+    let from = begin.saturating_sub(ANEW_BEFORE);
+    let to = end.saturating_add(ANEW_AFTER);
+    let Some(numbers) = began_anew(facts, member, from, to) else {
+        return Ok(None);
+    };
+    let of = Of::One(member);
+    let mut trouble = Trouble::new(facts.alloc, (begin, end), of, Cause::Restarted, &[])?;
+    trouble.evidence.push(Evidence::Numbers(numbers))?;
+    Ok(Some(trouble))
+}

@@ -1,0 +1,124 @@
+//! The members whose names were heard, and where they are.
+
+use std::alloc::{AllocError, Global};
+use std::collections::BTreeMap;
+use std::net::{IpAddr, SocketAddr};
+
+/// A member, by the order in which names were heard.
+#[derive(Clone, Copy, Debug, PartialEq, Eq, PartialOrd, Ord)]
+pub struct Member(u32);
+
+/// The most members (own). Others are left out.
+const MAX_MEMBERS: usize = 65_536;
+
+/// The most addresses and ports at which members are (own). Others are left out.
+const MAX_ENDS: usize = 65_536;
+
+/// Who is at an address and port.
+#[derive(Clone, Copy)]
+struct Owner {
+    member: Member,
+    /// Whether it says so itself.
+    is_own: bool,
+}
+
+/// The members, and where they are.
+#[derive(Drop)]
+pub struct Members {
+    alloc: Global,
+    numbers: BTreeMap<Vec<u8>, Member>,
+    names: Vec<Vec<u8>>,
+    owners: BTreeMap<SocketAddr, Owner>,
+}
+
+impl Members {
+    /// None yet.
+    pub fn new(alloc: Global) -> Members {
+        Members {
+            alloc,
+            numbers: BTreeMap::new(alloc),
+            names: Vec::new(alloc),
+            owners: BTreeMap::new(alloc),
+        }
+    }
+
+    /// The name of a member.
+    pub fn name(&self, member: Member) -> &[u8] {
+        match self.names.get(member.0 as usize) {
+            Some(name) => name,
+            None => &[],
+        }
+    }
+
+    /// The member with this name. None if there are too many, or the name is empty.
+    ///
+    /// # Errors
+    ///
+    /// `AllocError` if out of memory.
+    pub fn named(&mut self, name: &[u8]) -> Result<Option<Member>, AllocError> {
+        if name.is_empty() {
+            return Ok(None);
+        }
+        let key = name.to_vec(self.alloc)?;
+        if let Some(member) = self.numbers.get(&key) {
+            return Ok(Some(*member));
+        }
+        if MAX_MEMBERS <= self.names.len() {
+            return Ok(None);
+        }
+        let member = Member(u32::try_from(self.names.len()).unwrap_or(u32::MAX));
+        self.names.push(name.to_vec(self.alloc)?)?;
+        self.numbers.insert(key, member)?;
+        Ok(Some(member))
+    }
+
+    /// Notes that a member is at this address and port. What it says itself counts for more than
+    /// what others say.
+    ///
+    /// # Errors
+    ///
+    /// `AllocError` if out of memory.
+    pub fn note(&mut self, end: SocketAddr, name: &[u8], is_own: bool) -> Result<(), AllocError> {
+        match self.owners.get(&end) {
+            Some(owner) if owner.is_own && !is_own => return Ok(()),
+            Some(owner) if owner.is_own == is_own && self.name(owner.member) == name => {
+                return Ok(());
+            }
+            None if MAX_ENDS <= self.owners.len() => return Ok(()),
+            _ => {}
+        }
+        let Some(member) = self.named(name)? else {
+            return Ok(());
+        };
+        self.owners.insert(end, Owner { member, is_own })?;
+        Ok(())
+    }
+
+    /// The member whose agent listens at this address and port.
+    pub fn listening(&self, end: SocketAddr) -> Option<Member> {
+        self.owners.get(&end).map(|owner| owner.member)
+    }
+
+    /// The member whose agent listens at this address and port, or the only one at the address.
+    pub fn at(&self, end: SocketAddr) -> Option<Member> {
+        match self.listening(end) {
+            Some(member) => Some(member),
+            None => self.at_host(end.ip()),
+        }
+    }
+
+    /// The only member at this address.
+    pub fn at_host(&self, host: IpAddr) -> Option<Member> {
+        let mut found = None;
+        for (end, owner) in self.owners.range(SocketAddr::new(host, 0)..) {
+            if end.ip() != host {
+                break;
+            }
+            match found {
+                Some(member) if member != owner.member => return None,
+                _ => found = Some(owner.member),
+            }
+        }
+        found
+    }
+}

@@ -1,0 +1,108 @@
+//! The time in which probes had no answer, without a long pause.
+
+use crate::facts::Facts;
+use crate::{Case, Member};
+use std::alloc::AllocError;
+use std::collections::BTreeMap;
+
+/// How long before the first failed probe answered ones count (own), in microseconds.
+const BEFORE: u64 = 500_000;
+
+/// How long before the first failed probe, or after the last one, a suspicion may begin that belongs
+/// to them (own).
+const EARLIER: u64 = 1_000_000;
+
+const LATER: u64 = 8_000_000;
+
+/// How long before it a member may have left (own).
+const LEFT_BEFORE: u64 = 3_000_000;
+
+/// The time in which probes had no answer, without a long pause, and the probes in it.
+#[derive(Drop)]
+pub(crate) struct Scene<'a> {
+    pub(crate) facts: &'a Facts,
+    pub(crate) begin: u64,
+    /// The time of the last probe without an answer in time.
+    pub(crate) last: u64,
+    /// When it was over: an interval later, or when the last suspicion that belongs to it ended.
+    pub(crate) end: u64,
+    /// The probes without an answer in time, except those of members that left.
+    pub(crate) bad: Vec<&'a Case>,
+    /// Those of members that left.
+    pub(crate) leaving: Vec<&'a Case>,
+    pub(crate) good: Vec<&'a Case>,
+    /// The members that left.
+    pub(crate) left: Vec<Member>,
+}
+
+impl<'a> Scene<'a> {
+    /// The scene whose probes without an answer were sent between these times.
+    pub(crate) fn of(facts: &'a Facts, begin: u64, last: u64) -> Result<Scene<'a>, AllocError> {
+        let end = end_of(facts, begin, last);
+        let mut scene = Scene {
+            facts,
+            begin,
+            last,
+            end,
+            bad: Vec::new(facts.alloc),
+            leaving: Vec::new(facts.alloc),
+            good: Vec::new(facts.alloc),
+            left: Vec::new(facts.alloc),
+        };
+        for leave in &facts.episodes.leaves {
+            let is_timely = begin.saturating_sub(LEFT_BEFORE) <= leave.time && leave.time <= end;
+            if is_timely && !scene.left.contains(&leave.of) {
+                scene.left.push(leave.of)?;
+            }
+        }
+        for case in &facts.cases {
+            scene.take(case)?;
+        }
+        Ok(scene)
+    }
+
+    /// Takes a probe in, if it belongs to it.
+    fn take(&mut self, case: &'a Case) -> Result<(), AllocError> {
+        let time = case.time;
+        if case.is_bad() && self.begin <= time && time <= self.last {
+            if self.left.iter().any(|member| case.touches(*member)) {
+                self.leaving.push(case)?;
+            } else {
+                self.bad.push(case)?;
+            }
+        } else if case.is_good() && self.begin.saturating_sub(BEFORE) <= time && time <= self.end {
+            self.good.push(case)?;
+        }
+        Ok(())
+    }
+
+    /// How many of these probes touch each member.
+    pub(crate) fn touched(&self, cases: &[&Case]) -> Result<BTreeMap<Member, u64>, AllocError> {
+        let mut counts = BTreeMap::new(self.facts.alloc);
+        for case in cases {
+            for member in [case.prober, case.target] {
+                let before = counts.get(&member).copied().unwrap_or(0u64);
+                counts.insert(member, before.saturating_add(1))?;
+            }
+        }
+        Ok(counts)
+    }
+}
+
+/// When all is over that these probes led to.
+fn end_of(facts: &Facts, begin: u64, last: u64) -> u64 {
+    let mut end = last.saturating_add(facts.interval);
+    let earliest = begin.saturating_sub(EARLIER);
+    let latest = last.saturating_add(LATER);
+    for episode in &facts.episodes.ended {
+        if earliest <= episode.begin && episode.begin <= latest {
+            end = end.max(episode.end().unwrap_or(facts.now));
+        }
+    }
+    for episode in facts.episodes.open().values() {
+        if earliest <= episode.begin && episode.begin <= latest {
+            end = end.max(facts.now);
+        }
+    }
+    end
+}

@@ -1,0 +1,323 @@
+//! The member that failed probes touch, and what was captured of it meanwhile.
+
+use crate::contacts::Answer;
+use crate::evidence::{Numbers, place_of};
+use crate::facts::Facts;
+use crate::numbers::{Silence, numbers_of};
+use crate::scene::Scene;
+use crate::words::Saying;
+use crate::{Case, Member, Tried};
+use memberlist_probes::{Delays, Explanation};
+use std::alloc::AllocError;
+
+/// How long after a ping something of the target may have been sent before it (own), in
+/// microseconds.
+const CROSSING: u64 = 20_000;
+
+/// How long before and after what a host did counts (own).
+const AROUND: u64 = 500_000;
+
+/// How long before and after handshakes count (own).
+const SHAKEN: u64 = 1_000_000;
+
+/// The greatest number of a ping of a process that has just begun (own).
+const FIRST: u32 = 8;
+
+/// What the host of the member did meanwhile.
+#[derive(Drop)]
+pub(crate) struct Host {
+    /// How often it refused, and when first.
+    pub(crate) refusals: u64,
+    pub(crate) first_refusal: u64,
+    pub(crate) accepted: u64,
+    pub(crate) half_open: u64,
+    /// How long the handshakes took in which it is an end.
+    pub(crate) handshakes: Delays,
+}
+
+/// What its agent did meanwhile.
+#[derive(Clone, Copy)]
+pub(crate) struct Agent {
+    /// How many words it sent, and how many of them are acks.
+    pub(crate) words: u64,
+    pub(crate) acks: u64,
+    /// The longest silence.
+    pub(crate) silence: Silence,
+    /// When it was heard again after all was over, or else the last time of a packet.
+    pub(crate) next: u64,
+    /// Whether a process with small numbers began after its host refused.
+    pub(crate) is_new: bool,
+}
+
+/// The member that failed probes touch, and what was captured of it meanwhile.
+#[derive(Drop)]
+pub(crate) struct Subject<'a> {
+    pub(crate) facts: &'a Facts,
+    pub(crate) member: Member,
+    /// The probes of it and by it that had no answer in time, and those that had.
+    pub(crate) to: Vec<&'a Case>,
+    pub(crate) from: Vec<&'a Case>,
+    pub(crate) good_to: Vec<&'a Case>,
+    pub(crate) good_from: Vec<&'a Case>,
+    pub(crate) begin: u64,
+    pub(crate) end: u64,
+    pub(crate) host: Host,
+    pub(crate) agent: Agent,
+    pub(crate) numbers: Option<Numbers>,
+    /// How late the answers were that came late, from it and to it.
+    pub(crate) late_from: Delays,
+    pub(crate) late_to: Delays,
+    /// What happened to probes of it, and to its own, where only one thing may have.
+    pub(crate) of_it: [u64; 7],
+    pub(crate) of_own: [u64; 7],
+}
+
+impl<'a> Subject<'a> {
+    /// The member, and what was captured of it while these probes failed.
+    pub(crate) fn of(
+        scene: &Scene<'a>,
+        member: Member,
+        bad: &[&'a Case],
+    ) -> Result<Subject<'a>, AllocError> {
+        let facts = scene.facts;
+        let alloc = facts.alloc;
+        let (begin, last) = span_of(bad);
+        let mut subject = Subject {
+            facts,
+            member,
+            to: Vec::new(alloc),
+            from: Vec::new(alloc),
+            good_to: Vec::new(alloc),
+            good_from: Vec::new(alloc),
+            begin,
+            end: scene.end,
+            host: Host {
+                refusals: 0,
+                first_refusal: 0,
+                accepted: 0,
+                half_open: 0,
+                handshakes: Delays::new(alloc),
+            },
+            agent: Agent {
+                words: 0,
+                acks: 0,
+                silence: Silence { from: 0, to: 0 },
+                next: facts.now,
+                is_new: false,
+            },
+            numbers: None,
+            late_from: Delays::new(alloc),
+            late_to: Delays::new(alloc),
+            of_it: [0; 7],
+            of_own: [0; 7],
+        };
+        for case in bad {
+            subject.take_bad(case)?;
+        }
+        for case in &scene.good {
+            if begin <= case.time && case.time <= last {
+                subject.take_good(case)?;
+            }
+        }
+        let first = subject
+            .to
+            .iter()
+            .map(|case| case.time)
+            .min()
+            .unwrap_or(begin);
+        subject.meet_host(first)?;
+        subject.hear_agent(first);
+        subject.numbers = numbers_of(facts, member, first, scene.end.max(last));
+        Ok(subject)
+    }
+
+    /// Takes in a probe that had no answer in time.
+    fn take_bad(&mut self, case: &'a Case) -> Result<(), AllocError> {
+        let timeout = self.facts.timeout;
+        let is_of_it = case.target == self.member;
+        if is_of_it {
+            self.to.push(case)?;
+        } else if case.prober == self.member {
+            self.from.push(case)?;
+        } else {
+            return Ok(());
+        }
+        if let Some(explanation) = case.only() {
+            self.explain(is_of_it, explanation);
+        }
+        match case.round_trip {
+            Some(time) if timeout < time && is_of_it => self.late_from.note(time),
+            Some(time) if timeout < time => self.late_to.note(time),
+            _ => Ok(()),
+        }
+    }
+
+    /// Counts a probe of it, or its own, to which only this may have happened.
+    fn explain(&mut self, is_of_it: bool, explanation: Explanation) {
+        let place = place_of(explanation);
+        let count = if is_of_it {
+            self.of_it.get_mut(place)
+        } else {
+            self.of_own.get_mut(place)
+        };
+        if let Some(count) = count {
+            *count = count.saturating_add(1);
+        }
+    }
+
+    /// Takes in a probe that was answered in time.
+    fn take_good(&mut self, case: &'a Case) -> Result<(), AllocError> {
+        if case.target == self.member {
+            self.good_to.push(case)?;
+        } else if case.prober == self.member {
+            self.good_from.push(case)?;
+        }
+        Ok(())
+    }
+
+    /// Takes in what its host did. `first` is when the first failed probe of it was sent.
+    fn meet_host(&mut self, first: u64) -> Result<(), AllocError> {
+        let from = first.saturating_sub(AROUND);
+        let to = self.end.saturating_add(AROUND);
+        let shaken = self.begin.saturating_sub(SHAKEN);
+        let until = self.end.saturating_add(SHAKEN);
+        for contact in self.facts.contacts.all() {
+            let is_at_it = contact.at == self.member;
+            if let Answer::Accepted {
+                took,
+                is_clean: true,
+            } = contact.answer
+            {
+                let is_end = is_at_it || contact.by == Some(self.member);
+                if is_end && shaken <= contact.time && contact.time <= until {
+                    self.host.handshakes.note(took)?;
+                }
+            }
+            if is_at_it && from <= contact.time && contact.time <= to {
+                self.host.take(contact.time, contact.answer);
+            }
+        }
+        Ok(())
+    }
+
+    /// Takes in what its agent sent after the first failed probe of it.
+    fn hear_agent(&mut self, first: u64) {
+        let begun = first.saturating_add(CROSSING);
+        let mut last = first;
+        let mut longest = Silence {
+            from: first,
+            to: first,
+        };
+        let mut is_begun = false;
+        if let Some(words) = self.facts.words.of(self.member) {
+            for word in words {
+                if word.time <= begun {
+                    last = word.time;
+                    continue;
+                }
+                if self.end <= word.time {
+                    self.agent.next = word.time;
+                    break;
+                }
+                if !is_begun {
+                    is_begun = true;
+                    longest = Silence {
+                        from: last,
+                        to: last,
+                    };
+                }
+                longest = longer(longest, last, word.time);
+                last = word.time;
+                self.agent
+                    .hear(word.saying, word.time, self.host.first_refusal);
+            }
+        }
+        self.agent.silence = longer(longest, last, self.end);
+    }
+
+    /// How many probes of it only this may have happened to.
+    pub(crate) fn of_it(&self, explanation: Explanation) -> u64 {
+        self.of_it.get(place_of(explanation)).copied().unwrap_or(0)
+    }
+
+    /// How many of its own probes only this may have happened to.
+    pub(crate) fn of_own(&self, explanation: Explanation) -> u64 {
+        self.of_own.get(place_of(explanation)).copied().unwrap_or(0)
+    }
+
+    /// How many probes of it or by it had no answer in time.
+    pub(crate) fn failed(&self) -> u64 {
+        (self.to.len() as u64).saturating_add(self.from.len() as u64)
+    }
+
+    /// How many had one.
+    pub(crate) fn answered(&self) -> u64 {
+        (self.good_to.len() as u64).saturating_add(self.good_from.len() as u64)
+    }
+
+    /// How many probes of it met a host that accepts and an agent that is mute.
+    pub(crate) fn mute(&self) -> u64 {
+        count(&self.to, |case| case.is_mute)
+    }
+
+    /// How many of those failed probes were tried again over TCP, and how many answered so.
+    pub(crate) fn tried(&self) -> (u64, u64) {
+        let is_tried = |case: &Case| case.tried.is_some();
+        let is_answered = |case: &Case| case.tried == Some(Tried::Answered);
+        let tried = count(&self.to, is_tried).saturating_add(count(&self.from, is_tried));
+        let answered = count(&self.to, is_answered).saturating_add(count(&self.from, is_answered));
+        (tried, answered)
+    }
+}
+
+impl Host {
+    /// Takes in what it did.
+    fn take(&mut self, time: u64, answer: Answer) {
+        match answer {
+            Answer::Accepted { .. } => self.accepted = self.accepted.saturating_add(1),
+            Answer::HalfOpen => self.half_open = self.half_open.saturating_add(1),
+            Answer::Refused => {
+                if self.refusals == 0 || time < self.first_refusal {
+                    self.first_refusal = time;
+                }
+                self.refusals = self.refusals.saturating_add(1);
+            }
+        }
+    }
+}
+
+impl Agent {
+    /// Takes in what it sent.
+    fn hear(&mut self, saying: Saying, time: u64, refused: u64) {
+        self.words = self.words.saturating_add(1);
+        match saying {
+            Saying::Ack => self.acks = self.acks.saturating_add(1),
+            Saying::Ping(number) if refused != 0 && refused < time && number < FIRST => {
+                self.is_new = true;
+            }
+            _ => {}
+        }
+    }
+}
+
+/// The longer of a silence and the one between these times.
+fn longer(longest: Silence, from: u64, to: u64) -> Silence {
+    let silence = Silence { from, to };
+    if longest.len() < silence.len() {
+        silence
+    } else {
+        longest
+    }
+}
+
+/// When the first and the last of these were sent.
+pub(crate) fn span_of(cases: &[&Case]) -> (u64, u64) {
+    let first = cases.iter().map(|case| case.time).min().unwrap_or(0);
+    let last = cases.iter().map(|case| case.time).max().unwrap_or(0);
+    (first, last)
+}
+
+/// How many of these are so.
+pub(crate) fn count(cases: &[&Case], is_so: impl Fn(&Case) -> bool) -> u64 {
+    cases.iter().filter(|case| is_so(case)).count() as u64
+}

@@ -1,0 +1,81 @@
+# Why swimwatch says that members were suspected. tests/watched runs it in its folder, after tests/detected.sh. What is
+# expected is what was done to the clusters of captures/causes.
+# shellcheck shell=sh disable=SC2154
+
+# told FILE..: prints each cause once: whom it is about, and the cause
+told() {
+    "$program" why --json "$@" 2> err | python3 -c '
+import json, sys
+for line in sys.stdin:
+    told = json.loads(line)
+    if told["cause"]:
+        groups = [of if isinstance(of, list) else [of] for of in told["of"]]
+        whole = "|".join(",".join(sorted(group)) for group in groups)
+        print(whole if any(isinstance(of, list) for of in told["of"]) else whole.replace("|", ","), told["cause"])
+' | tr '|' '\001' | sort -u | tr '\001' '|'
+}
+
+# caused NAME: the causes that are told of the cluster, by each set of captures
+caused() {
+    rm -rf members_of
+    python3 -m tarfile -e "$causes/$1.tar.xz" members_of > err 2>&1
+    rows_of causes "$1" > expected
+    while read -r captures words; do
+        echo "$words" > wanted
+        case $captures in
+            all) told members_of/web-*.pcap > found ;;
+            one) told members_of/web-1.pcap > found ;;
+        esac
+        check "why members of $1 were suspected, by the captures of $captures"
+    done < expected
+}
+
+if has_xz > /dev/null; then
+    for each in accuser delay hang kill loss50in onewayin partition restart serfmsgs; do
+        caused "$each"
+    done
+
+    # nothing was done to it
+    python3 -m tarfile -e "$causes/steady.tar.xz" members_of > err 2>&1
+    : > wanted
+    "$program" why members_of/web-*.pcap > found 2> err
+    check 'nothing is told of a quiet cluster'
+
+    # the log of web-5: "Suspect web-3 has failed, no acks received" at 21:16:24, "Marking web-3 as failed" at 21:16:28
+    python3 -m tarfile -e "$causes/kill.tar.xz" members_of > err 2>&1
+    "$program" why members_of/web-*.pcap 2> err |
+        awk 'NR == 1 { print substr($1, 12, 8), $2, $5, substr($6, 1, 8), $8 }' > found
+    echo '21:16:24 web-3 dead 21:16:28 web-5,' > wanted
+    check 'when a member was suspected and declared dead, as the logs of the agents say'
+
+    "$program" why members_of/web-1.pcap > wanted 2> err
+    "$program" why web-3 members_of/web-1.pcap > found 2> err
+    check 'a first word that is no file is a name'
+    "$program" why --member web-3 members_of/web-1.pcap > found 2> err
+    check 'the same with --member'
+    : > wanted
+    "$program" why web-2 members_of/web-1.pcap > found 2> err
+    check 'nothing is told of a member that nobody suspects'
+    "$program" why web-9 members_of/web-1.pcap 2>&1 | head -n 1 > found
+    echo 'swimwatch: nothing was heard about a member of that name, and no file has it' > wanted
+    check 'a name that nobody has'
+    "$program" why --from 21:17 members_of/web-1.pcap > found 2> err
+    : > wanted
+    check 'a suspicion before --from is not told'
+
+    # a suspicion is told while a pipe goes on, half a minute after it was over
+    mkfifo growing
+    "$program" why - < growing > found 2> err &
+    writer=$!
+    {
+        cat "$basic"
+        for _ in 1 2 3 4 5 6 7 8 9 10 11 12 13 14 15 16 17 18 19 20; do
+            [ -s found ] || sleep 0.3
+        done
+        awk '/suspected/ { print $2, $5 }' found > early
+    } > growing
+    wait "$writer"
+    cp early found
+    echo 'web-5 dead' > wanted
+    check 'a suspicion that is told before a pipe ends'
+fi
