@@ -16,12 +16,8 @@ const MAX_OPEN: usize = 65_536;
 /// What became of a connection to a host, or of a datagram.
 #[derive(Clone, Copy, Debug, PartialEq, Eq)]
 pub enum Answer {
-    /// It was accepted, and who dialled went on, so long after the SYN, in microseconds.
-    Accepted {
-        took: u64,
-        /// Whether neither the SYN nor its answer was sent again.
-        is_clean: bool,
-    },
+    /// It was accepted, and who dialled went on.
+    Accepted,
     /// It was accepted, and who dialled did not go on.
     HalfOpen,
     /// No process has the port.
@@ -38,6 +34,9 @@ pub struct Contact {
     /// Who dialled, if that is known.
     pub by: Option<Member>,
     pub answer: Answer,
+    /// How long it took from the SYN until who dialled answered the host's answer, in microseconds, if
+    /// neither was sent twice.
+    pub took: Option<u64>,
 }
 
 /// The connection between two ends, until its handshake is over.
@@ -147,7 +146,7 @@ impl Contacts {
         }
         let time = handshake.time;
         self.open.remove(&way);
-        self.tell(members, way, time, Answer::Refused)
+        self.tell(members, way, time, (Answer::Refused, None))
     }
 
     /// Takes in what who dialled sends next.
@@ -161,15 +160,21 @@ impl Contacts {
         let Some(handshake) = self.open.get(&way).copied() else {
             return Ok(());
         };
-        if handshake.accepted.is_none() || segment.rst {
+        if handshake.accepted.is_none() {
             return Ok(());
         }
         self.open.remove(&way);
-        let answer = Answer::Accepted {
-            took: packet.seen.time.saturating_sub(handshake.time),
-            is_clean: handshake.syns == 1 && handshake.answers == 1,
+        let answer = if segment.rst {
+            Answer::HalfOpen
+        } else {
+            Answer::Accepted
         };
-        self.tell(members, way, handshake.time, answer)
+        let took = if handshake.syns == 1 && handshake.answers == 1 {
+            Some(packet.seen.time.saturating_sub(handshake.time))
+        } else {
+            None
+        };
+        self.tell(members, way, handshake.time, (answer, took))
     }
 
     /// Notes that a capture has a refusal of a datagram that went this way.
@@ -189,7 +194,7 @@ impl Contacts {
                 self.refusing.insert(way, seen.capture)?;
             }
         }
-        self.tell(members, way, seen.time, Answer::Refused)
+        self.tell(members, way, seen.time, (Answer::Refused, None))
     }
 
     /// Notes what the host at the end of this way did, if a member is there.
@@ -198,7 +203,7 @@ impl Contacts {
         members: &Members,
         way: (SocketAddr, SocketAddr),
         time: u64,
-        answer: Answer,
+        (answer, took): (Answer, Option<u64>),
     ) -> Result<(), AllocError> {
         let Some(at) = members.listening(way.1) else {
             return Ok(());
@@ -208,6 +213,7 @@ impl Contacts {
             at,
             by: members.at(way.0),
             answer,
+            took,
         };
         self.all.push_back(contact).map_err(AllocError::from)
     }
@@ -230,7 +236,7 @@ impl Contacts {
             }
             self.open.remove(&way);
             if handshake.accepted.is_some() {
-                self.tell(members, way, time, Answer::HalfOpen)?;
+                self.tell(members, way, time, (Answer::HalfOpen, None))?;
             }
         }
         Ok(())

@@ -3,11 +3,12 @@
 
 use crate::evidence::Evidence;
 use crate::facts::Facts;
-use crate::groups::{cut_off_together, distinct, partition};
+use crate::groups::{cut_off_together, partition};
+use crate::members::add;
 use crate::numbers::began_anew;
 use crate::rules::told;
 use crate::scene::Scene;
-use crate::subject::{Subject, count, span_of};
+use crate::subject::{Subject, span_of};
 use crate::trouble::{Of, Trouble};
 use crate::words::Saying;
 use crate::{Case, Cause, Member};
@@ -103,13 +104,11 @@ fn touching<'a>(
 /// The member that most of the probes touch: of several the one with more others, then the one that
 /// answered fewer, then the one that was probed more.
 fn most_touched(scene: &Scene, cases: &[&Case]) -> Result<Option<Member>, AllocError> {
-    let alloc = scene.facts.alloc;
     let mut best = None;
     for (member, touched) in &scene.touched(cases)? {
-        let mine = cases.iter().filter(|case| case.touches(*member));
-        let others = distinct(alloc, mine.map(|case| case.other(*member)))?;
-        let answered = count(&scene.good, |case| case.target == *member);
-        let probed = count(cases, |case| case.target == *member);
+        let others = others_of(scene, cases, *member)?;
+        let answered = probes_of(&scene.good, *member);
+        let probed = probes_of(cases, *member);
         let rank = (*touched, others.len(), u64::MAX - answered, probed);
         let is_better = match best {
             Some((other, _)) => other < rank,
@@ -122,6 +121,22 @@ fn most_touched(scene: &Scene, cases: &[&Case]) -> Result<Option<Member>, AllocE
     Ok(best.map(|(_, member)| member))
 }
 
+/// The other ends of the probes that touch the member.
+fn others_of(scene: &Scene, cases: &[&Case], member: Member) -> Result<Vec<Member>, AllocError> {
+    let mut others = Vec::new(scene.facts.alloc);
+    for case in cases {
+        if case.touches(member) {
+            add(&mut others, case.other(member))?;
+        }
+    }
+    Ok(others)
+}
+
+/// How many of these probes are of the member.
+fn probes_of(cases: &[&Case], member: Member) -> u64 {
+    cases.iter().filter(|case| case.target == member).count() as u64
+}
+
 /// What is told of the member by those of the probes that touch it.
 fn trouble_of<'a>(
     scene: &Scene<'a>,
@@ -131,7 +146,7 @@ fn trouble_of<'a>(
     let alloc = scene.facts.alloc;
     let mine = touching(scene, cases, Some(member))?;
     let (first, last) = span_of(&mine);
-    let others = distinct(alloc, mine.iter().map(|case| case.other(member)))?;
+    let others = others_of(scene, &mine, member)?;
     let mut of = member;
     let mut also = Vec::new(alloc);
     if let (1, Some(other)) = (others.len(), others.first()) {
@@ -156,8 +171,7 @@ fn trouble_of<'a>(
     if is_pair && cause.is_of_ways() {
         cause = Cause::LossBetween;
         let mut pair = others;
-        pair.push(member)?;
-        pair.sort_unstable();
+        add(&mut pair, member)?;
         of = Of::Several(pair);
     }
     let mut trouble = Trouble::new(alloc, (first, scene.end), of, cause, &mine)?;
@@ -188,12 +202,11 @@ fn asked_about(
             } else {
                 continue;
             };
-            if partner != except && !also.contains(&partner) {
-                also.push(partner)?;
+            if partner != except {
+                add(&mut also, partner)?;
             }
         }
     }
-    also.sort_unstable();
     Ok(also)
 }
 

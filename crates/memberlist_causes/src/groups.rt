@@ -1,9 +1,10 @@
 //! Several members in trouble at once.
 
+use crate::members::add;
 use crate::scene::Scene;
 use crate::trouble::{Of, Trouble};
 use crate::{Case, Cause, Evidence, Member, Tried};
-use memberlist_probes::Explanation;
+use memberlist_probes::{Explanation, Outcome};
 use std::alloc::{AllocError, Global};
 use std::collections::BTreeMap;
 
@@ -128,13 +129,15 @@ pub(crate) fn cut_off_together(scene: &Scene) -> Result<Option<Trouble>, AllocEr
     if silent.len() < 2 || !is_most || of_them.iter().any(|case| is_answered(case)) {
         return Ok(None);
     }
-    let by = distinct(alloc, of_them.iter().map(|case| case.prober))?;
+    let mut by = Vec::new(alloc);
+    for case in &of_them {
+        add(&mut by, case.prober)?;
+    }
     let mut heard = Vec::new(alloc);
     for case in &scene.good {
         let is_between = from < case.time && case.time < scene.last;
-        let is_new = !heard.contains(&case.target) && !silent.contains(&case.target);
-        if is_between && is_new && by.contains(&case.prober) {
-            heard.push(case.target)?;
+        if is_between && !silent.contains(&case.target) && by.contains(&case.prober) {
+            add(&mut heard, case.target)?;
         }
     }
     if heard.is_empty() && !only_point_hears(scene, from) {
@@ -158,13 +161,10 @@ fn silent_targets(scene: &Scene, from: u64) -> Result<Vec<Member>, AllocError> {
     let mut silent = Vec::new(facts.alloc);
     for case in &scene.bad {
         let member = case.target;
-        let is_failed = case.outcome == memberlist_probes::Outcome::Failed;
-        if is_failed
-            && !silent.contains(&member)
-            && !facts.is_captured(member)
-            && !facts.is_heard(member, from, scene.last)
-        {
-            silent.push(member)?;
+        let is_failed = case.outcome == Outcome::Failed;
+        let is_heard = facts.is_heard(member, from, scene.last);
+        if is_failed && !facts.is_captured(member) && !is_heard {
+            add(&mut silent, member)?;
         }
     }
     Ok(silent)
@@ -184,19 +184,4 @@ fn only_point_hears(scene: &Scene, from: u64) -> bool {
         }
         None => false,
     }
-}
-
-/// Each of these members once, in their order.
-pub(crate) fn distinct(
-    alloc: Global,
-    members: impl Iterator<Item = Member>,
-) -> Result<Vec<Member>, AllocError> {
-    let mut each = Vec::new(alloc);
-    for member in members {
-        if !each.contains(&member) {
-            each.push(member)?;
-        }
-    }
-    each.sort_unstable();
-    Ok(each)
 }

@@ -8,6 +8,20 @@ use std::net::{IpAddr, SocketAddr};
 #[derive(Clone, Copy, Debug, PartialEq, Eq, PartialOrd, Ord)]
 pub struct Member(u32);
 
+/// Adds a member to some in their order, unless it is among them.
+///
+/// # Errors
+///
+/// `AllocError` if out of memory.
+pub(crate) fn add(members: &mut Vec<Member>, member: Member) -> Result<(), AllocError> {
+    if members.contains(&member) {
+        return Ok(());
+    }
+    let later = members.iter().position(|other| member < *other);
+    let place = later.unwrap_or(members.len());
+    members.insert(place, member).map_err(AllocError::from)
+}
+
 /// The most members (own). Others are left out.
 const MAX_MEMBERS: usize = 65_536;
 

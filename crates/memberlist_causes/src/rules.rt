@@ -1,10 +1,10 @@
 //! Which cause is told of a member: a list of rules, of which the first that holds decides.
 
 use crate::evidence::{Evidence, Numbers};
-use crate::groups::distinct;
-use crate::subject::{Subject, count};
+use crate::members::add;
+use crate::subject::Subject;
 use crate::ways::ways;
-use crate::{Case, Cause, Member, Tried, Way};
+use crate::{Case, Cause, Member, Way};
 use memberlist_probes::Explanation;
 use std::alloc::AllocError;
 
@@ -51,10 +51,14 @@ fn counts(subject: &Subject, evidence: &mut Vec<Evidence>) -> Result<(), AllocEr
     let alloc = subject.facts.alloc;
     let (to, from) = (subject.to.len() as u64, subject.from.len() as u64);
     if to > 0 {
+        let mut by = Vec::new(alloc);
+        for case in &subject.to {
+            add(&mut by, case.prober)?;
+        }
         evidence.push(Evidence::ProbesOfIt {
             failed: to,
             all: to.saturating_add(subject.good_to.len() as u64),
-            by: distinct(alloc, subject.to.iter().map(|case| case.prober))?,
+            by,
             timeout: subject.facts.timeout,
         })?;
     }
@@ -96,13 +100,9 @@ fn contacts(subject: &Subject, evidence: &mut Vec<Evidence>) -> Result<(), Alloc
             times: host.half_open,
         })?;
     }
-    let unanswered = count(&subject.to, |case| {
-        matches!(case.tried, Some(Tried::Unanswered(_)))
-    });
-    if unanswered > 0 {
-        evidence.push(Evidence::Unanswered {
-            connections: unanswered,
-        })?;
+    let connections = subject.unanswered();
+    if connections > 0 {
+        evidence.push(Evidence::Unanswered { connections })?;
     }
     let heard = if subject.agent.words > 0 {
         Evidence::Silence {
@@ -121,11 +121,16 @@ fn answers(subject: &Subject, evidence: &mut Vec<Evidence>) -> Result<(), AllocE
     let alloc = subject.facts.alloc;
     let timeout = subject.facts.timeout;
     if let Some(by) = subject.late_from.percentile(50) {
-        let late = subject.to.iter().filter(|case| case.is_later_than(timeout));
+        let mut to = Vec::new(alloc);
+        for case in &subject.to {
+            if case.is_later_than(timeout) {
+                add(&mut to, case.prober)?;
+            }
+        }
         evidence.push(Evidence::LateFromIt {
             answers: subject.late_from.len(),
             by,
-            to: distinct(alloc, late.map(|case| case.prober))?,
+            to,
         })?;
     }
     if let Some(by) = subject.late_to.percentile(50) {
@@ -225,9 +230,7 @@ fn is_stopped(subject: &Subject, shares: &Shares) -> bool {
     let interval = subject.facts.interval;
     let is_long = interval.saturating_mul(22) < silence.len().saturating_mul(10);
     let from = silence.from.saturating_sub(BEFORE);
-    let inside = count(&subject.to, |case| {
-        from <= case.time && case.time <= silence.to
-    });
+    let inside = subject.sent_within(from, silence.to);
     let all = subject.to.len() as u64;
     let holds_most = all > 0 && all.saturating_mul(4) <= inside.saturating_mul(5);
     let is_late = all <= shares.late.saturating_mul(2) && shares.is_way_slow != Some(true);
@@ -242,7 +245,11 @@ fn late(subject: &Subject, shares: &Shares) -> Option<Cause> {
         return Some(Cause::SlowMember);
     }
     let all_late = shares.late.saturating_add(subject.late_to.len());
-    let acked = count(&subject.to, |case| case.acked.is_some());
+    let acked = subject
+        .to
+        .iter()
+        .filter(|case| case.acked.is_some())
+        .count();
     let is_seen = shares.way >= 2 && shares.way >= shares.lost;
     if is_seen || shares.is_way_slow == Some(true) && (all_late >= 2 || acked >= 2) {
         return Some(Cause::WaySlow);
@@ -269,7 +276,7 @@ fn heard_alone(
     let last = subject.from.iter().map(|case| case.time).max();
     let until = last.unwrap_or(first).saturating_add(facts.interval);
     let is_answered = subject.good_from.iter().any(|case| first < case.time);
-    let failed = count(&subject.from, |case| case.acked.is_none());
+    let failed = subject.unacked();
     let is_most = (subject.from.len() as u64).saturating_mul(4) <= failed.saturating_mul(5);
     if !facts.is_only_captured(subject.member) || is_answered || failed == 0 || !is_most {
         return Ok(None);

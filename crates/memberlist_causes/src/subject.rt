@@ -143,25 +143,16 @@ impl<'a> Subject<'a> {
             return Ok(());
         }
         if let Some(explanation) = case.only() {
-            self.explain(is_of_it, explanation);
+            if is_of_it {
+                add_one(&mut self.of_it, explanation);
+            } else {
+                add_one(&mut self.of_own, explanation);
+            }
         }
         match case.round_trip {
             Some(time) if timeout < time && is_of_it => self.late_from.note(time),
             Some(time) if timeout < time => self.late_to.note(time),
             _ => Ok(()),
-        }
-    }
-
-    /// Counts a probe of it, or its own, to which only this may have happened.
-    fn explain(&mut self, is_of_it: bool, explanation: Explanation) {
-        let place = place_of(explanation);
-        let count = if is_of_it {
-            self.of_it.get_mut(place)
-        } else {
-            self.of_own.get_mut(place)
-        };
-        if let Some(count) = count {
-            *count = count.saturating_add(1);
         }
     }
 
@@ -183,11 +174,7 @@ impl<'a> Subject<'a> {
         let until = self.end.saturating_add(SHAKEN);
         for contact in self.facts.contacts.all() {
             let is_at_it = contact.at == self.member;
-            if let Answer::Accepted {
-                took,
-                is_clean: true,
-            } = contact.answer
-            {
+            if let Some(took) = contact.took {
                 let is_end = is_at_it || contact.by == Some(self.member);
                 if is_end && shaken <= contact.time && contact.time <= until {
                     self.host.handshakes.note(took)?;
@@ -257,15 +244,41 @@ impl<'a> Subject<'a> {
 
     /// How many probes of it met a host that accepts and an agent that is mute.
     pub(crate) fn mute(&self) -> u64 {
-        count(&self.to, |case| case.is_mute)
+        self.to.iter().filter(|case| case.is_mute).count() as u64
+    }
+
+    /// How many probes of it were tried again over TCP, and nothing answered.
+    pub(crate) fn unanswered(&self) -> u64 {
+        self.to
+            .iter()
+            .filter(|case| matches!(case.tried, Some(Tried::Unanswered(_))))
+            .count() as u64
+    }
+
+    /// How many failed probes of it were sent between these times.
+    pub(crate) fn sent_within(&self, from: u64, to: u64) -> u64 {
+        self.to
+            .iter()
+            .filter(|case| from <= case.time && case.time <= to)
+            .count() as u64
+    }
+
+    /// How many of its own failed probes have no ack.
+    pub(crate) fn unacked(&self) -> u64 {
+        self.from.iter().filter(|case| case.acked.is_none()).count() as u64
     }
 
     /// How many of those failed probes were tried again over TCP, and how many answered so.
     pub(crate) fn tried(&self) -> (u64, u64) {
-        let is_tried = |case: &Case| case.tried.is_some();
-        let is_answered = |case: &Case| case.tried == Some(Tried::Answered);
-        let tried = count(&self.to, is_tried).saturating_add(count(&self.from, is_tried));
-        let answered = count(&self.to, is_answered).saturating_add(count(&self.from, is_answered));
+        let (mut tried, mut answered) = (0u64, 0u64);
+        for case in self.to.iter().chain(self.from.iter()) {
+            if case.tried.is_some() {
+                tried = tried.saturating_add(1);
+            }
+            if case.tried == Some(Tried::Answered) {
+                answered = answered.saturating_add(1);
+            }
+        }
         (tried, answered)
     }
 }
@@ -274,7 +287,7 @@ impl Host {
     /// Takes in what it did.
     fn take(&mut self, time: u64, answer: Answer) {
         match answer {
-            Answer::Accepted { .. } => self.accepted = self.accepted.saturating_add(1),
+            Answer::Accepted => self.accepted = self.accepted.saturating_add(1),
             Answer::HalfOpen => self.half_open = self.half_open.saturating_add(1),
             Answer::Refused => {
                 if self.refusals == 0 || time < self.first_refusal {
@@ -310,14 +323,16 @@ fn longer(longest: Silence, from: u64, to: u64) -> Silence {
     }
 }
 
+/// Counts a probe to which only this may have happened.
+fn add_one(counts: &mut [u64; 7], explanation: Explanation) {
+    if let Some(count) = counts.get_mut(place_of(explanation)) {
+        *count = count.saturating_add(1);
+    }
+}
+
 /// When the first and the last of these were sent.
 pub(crate) fn span_of(cases: &[&Case]) -> (u64, u64) {
     let first = cases.iter().map(|case| case.time).min().unwrap_or(0);
     let last = cases.iter().map(|case| case.time).max().unwrap_or(0);
     (first, last)
-}
-
-/// How many of these are so.
-pub(crate) fn count(cases: &[&Case], is_so: impl Fn(&Case) -> bool) -> u64 {
-    cases.iter().filter(|case| is_so(case)).count() as u64
 }

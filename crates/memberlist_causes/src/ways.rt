@@ -1,8 +1,8 @@
 //! Which way between a member and others is in trouble.
 
 use crate::evidence::Evidence;
-use crate::groups::distinct;
-use crate::subject::{Subject, count};
+use crate::members::add;
+use crate::subject::Subject;
 use crate::{Case, Cause, Member, Way};
 use memberlist_probes::Explanation;
 use std::alloc::AllocError;
@@ -85,26 +85,34 @@ fn few(subject: &Subject) -> Cause {
 fn hit_and_not(subject: &Subject, evidence: &mut Vec<Evidence>) -> Result<bool, AllocError> {
     let alloc = subject.facts.alloc;
     let member = subject.member;
-    let failed = subject.to.iter().chain(subject.from.iter());
-    let hit = distinct(alloc, failed.map(|case| case.other(member)))?;
-    let well = subject.good_to.iter().chain(subject.good_from.iter());
-    let answered = distinct(alloc, well.map(|case| case.other(member)))?;
+    let mut hit = Vec::new(alloc);
+    for case in subject.to.iter().chain(subject.from.iter()) {
+        add(&mut hit, case.other(member))?;
+    }
+    let mut answered = Vec::new(alloc);
+    for case in subject.good_to.iter().chain(subject.good_from.iter()) {
+        add(&mut answered, case.other(member))?;
+    }
     let through = helpers(subject)?;
     let only_hit = without(subject, &hit, &answered)?;
     let mut not = without(subject, &answered, &hit)?;
     for helper in &through {
-        if !hit.contains(helper) && !not.contains(helper) {
-            not.push(*helper)?;
+        if !hit.contains(helper) {
+            add(&mut not, *helper)?;
         }
     }
     let is_some = !only_hit.is_empty() && !not.is_empty() && subject.failed() >= 4;
     if is_some {
         evidence.push(Evidence::Hit { hit: only_hit, not })?;
     }
-    let reached = count(&subject.to, |case| case.is_relayed_answer());
+    let reached = subject
+        .to
+        .iter()
+        .filter(|case| case.is_relayed_answer())
+        .count();
     if reached > 0 {
         evidence.push(Evidence::Through {
-            probes: reached,
+            probes: reached as u64,
             by: through,
         })?;
     }
@@ -116,12 +124,11 @@ fn helpers(subject: &Subject) -> Result<Vec<Member>, AllocError> {
     let mut through = Vec::new(subject.facts.alloc);
     for case in &subject.to {
         for asked in &case.asked {
-            if asked.has_reached && !through.contains(&asked.member) {
-                through.push(asked.member)?;
+            if asked.has_reached {
+                add(&mut through, asked.member)?;
             }
         }
     }
-    through.sort_unstable();
     Ok(through)
 }
 

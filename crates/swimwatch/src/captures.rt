@@ -48,7 +48,7 @@ pub(crate) fn take_name(rt: &HostRuntime, chosen: &mut Chosen) -> Result<(), All
         return Ok(());
     };
     match File::open(rt, word) {
-        Err(error) if error.kind() == ErrorKind::NotFound && word != "-" => {
+        Err(error) if error.kind() == ErrorKind::NotFound && word.as_str() != "-" => {
             chosen.member = Some(name_bytes(rt.alloc(), word)?);
             let _ = chosen.inputs.remove(0);
         }
