@@ -1,6 +1,7 @@
 //! Reading captures to their ends.
 
 use crate::NAME;
+use crate::agent_log::AgentLog;
 use crate::chosen::{Chosen, Verb};
 use crate::limit::Limit;
 use crate::names::name_bytes;
@@ -12,7 +13,7 @@ use key_files::keyring_of;
 use std::alloc::AllocError;
 use std::fs::File;
 use std::io::ErrorKind;
-use swim_program::{Failure, What, print_bytes};
+use swim_program::{Failure, What, file_bytes, print_bytes};
 use swim_table::EncodeFault;
 
 /// Shows what the arguments ask for from the captures, and then prints what was read.
@@ -24,6 +25,7 @@ pub(crate) fn show_captures(rt: &HostRuntime, chosen: &Chosen) -> Result<(), Fai
         None => Vec::new(alloc),
     };
     let mut views = Views::new(alloc, &keys, chosen, start);
+    views.logs = logs_of(rt, &chosen.agent_logs)?;
     watch_captures(rt, &mut views, &chosen.inputs)?;
     // made before anything is printed, so that nothing is printed if memory runs out
     let said = views.counts().text(alloc, !keys.is_empty())?;
@@ -55,6 +57,18 @@ pub(crate) fn take_name(rt: &HostRuntime, chosen: &mut Chosen) -> Result<(), All
         _ => {}
     }
     Ok(())
+}
+
+/// The logs of agents in the files that these words name.
+fn logs_of(rt: &HostRuntime, words: &[String]) -> Result<Vec<AgentLog>, Failure> {
+    let alloc = rt.alloc();
+    let mut logs = Vec::new(alloc);
+    for word in words {
+        let bytes = file_bytes(rt, NAME, word)?;
+        logs.push(AgentLog::of(alloc, word, &bytes)?)
+            .map_err(AllocError::from)?;
+    }
+    Ok(logs)
 }
 
 /// Reads the captures to their ends, or for as long as was asked, and prints what is shown on the

@@ -92,6 +92,8 @@ pub(crate) struct Chosen {
     pub(crate) following: Option<Following>,
     /// Which probes to show.
     pub(crate) probing: Probing,
+    /// The files with the logs of agents.
+    pub(crate) agent_logs: Vec<String>,
 }
 
 /// Which probes to show, and how their cluster is set up.

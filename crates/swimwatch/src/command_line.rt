@@ -97,6 +97,7 @@ fn chosen_of(alloc: Global, verb: Verb, found: &ArgMatches) -> Result<Chosen, Re
         asking: asking_of(alloc, found)?,
         following: following_of(alloc, found)?,
         probing: probing_of(alloc, found)?,
+        agent_logs: texts_of(alloc, found, "agent-log")?,
     })
 }
 

@@ -69,6 +69,9 @@ pub(crate) const PROBE_TIMEOUT: &str =
 pub(crate) const PROBE_INTERVAL: &str =
     "memberlist's ProbeInterval, as 1s [default: as the captures show it]";
 
+pub(crate) const AGENT_LOG: &str =
+    "Say which lines of this log of a member's agent the captures confirm; its times are in UTC";
+
 pub(crate) const PROGRAM: &str = "\
 A capture is what tcpdump writes: a pcap or pcapng file. Several are read side by side, by the
 times of their records. The last line on standard error says what was read and what was left out.

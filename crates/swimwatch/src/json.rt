@@ -178,9 +178,9 @@ impl Object {
         self.object("rival", Some(object))
     }
 
-    /// Adds a member whose value is null.
-    pub(crate) fn null(&mut self, key: &str) -> Result<(), AllocError> {
-        put(&mut self.members, self.alloc, key, Value::Null)
+    /// Adds a member with this value.
+    pub(crate) fn value_of(&mut self, key: &str, value: Value) -> Result<(), AllocError> {
+        put(&mut self.members, self.alloc, key, value)
     }
 
     /// Adds a member whose value is true.

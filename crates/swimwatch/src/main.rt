@@ -9,7 +9,7 @@
 //! | `pings`, `warnings` | who a ping shows, and suspicions that only warn |
 //! | `listener`, `directory`, `places` | a listener that hears all of it |
 //! | `views`, `view_name`, `watch`, `change` | listening, and showing what was asked for |
-//! | `members`, `suspicion`, `timeline`, `claims`, `talkers`, `probes`, `health`, `why` | what is shown |
+//! | `members`, `suspicion`, `timeline`, `claims`, `talkers`, `probes`, `health`, `why`, `agent_log` | what is shown |
 //! | `pull`, `ask`, `inquiry`, `host`, `ring`, `connection`, `request`, `answer` | asking members |
 //! | `silence` | why a member that was asked has no table |
 //! | `roster`, `known` | what somebody knows about members |
@@ -22,6 +22,7 @@
 //! | `said` | ending the program with a message of its own |
 #![tactic(auto)]
 
+mod agent_log;
 mod agreement;
 mod answer;
 mod ask;

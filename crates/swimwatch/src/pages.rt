@@ -29,6 +29,7 @@ enum Flag {
     Target,
     ProbeTimeout,
     ProbeInterval,
+    AgentLog,
 }
 
 /// The words that a command reads.
@@ -184,6 +185,7 @@ const PAGES: [Page; 11] = [
         inputs: Inputs::Captures,
         flags: &[
             Flag::Member,
+            Flag::AgentLog,
             Flag::From,
             Flag::To,
             Flag::For,
@@ -288,6 +290,9 @@ fn flag_argument<'a>(alloc: Global, flag: Flag) -> Arg<'a> {
         Flag::Target => option(alloc, "target", "NAME", help::TARGET),
         Flag::ProbeTimeout => option(alloc, "probe-timeout", "TIME", help::PROBE_TIMEOUT),
         Flag::ProbeInterval => option(alloc, "probe-interval", "TIME", help::PROBE_INTERVAL),
+        Flag::AgentLog => {
+            option(alloc, "agent-log", "FILE", help::AGENT_LOG).action(ArgAction::Append)
+        }
     }
 }
 

@@ -1,5 +1,6 @@
 //! What each capture shows: a view of its own, or one of all.
 
+use crate::agent_log::AgentLog;
 use crate::agreement::{Voice, differing, fullest, opinions_in, write_views};
 use crate::chosen::{Chosen, Verb};
 use crate::counts::Counts;
@@ -13,6 +14,7 @@ use capture::Record;
 use memberlist_keyring::Keyring;
 use std::alloc::{AllocError, Global};
 use std::collections::BTreeMap;
+use std::mem::replace;
 use std::time::Duration;
 use swim_claim::Claim;
 
@@ -42,6 +44,8 @@ pub(crate) struct Views<'a> {
     window: Option<Window>,
     /// The records of the table to begin with.
     start: Vec<Claim>,
+    /// The logs of agents, until a view has them.
+    pub(crate) logs: Vec<AgentLog>,
     /// How often each event was printed.
     printed: BTreeMap<String, u64>,
     /// The output that was not printed yet.
@@ -64,6 +68,7 @@ impl<'a> Views<'a> {
             seat_of: BTreeMap::new(alloc),
             window: None,
             start,
+            logs: Vec::new(alloc),
             printed: BTreeMap::new(alloc),
             out: String::new(alloc),
         }
@@ -158,6 +163,7 @@ impl<'a> Views<'a> {
         };
         let mut watch = Watch::new(self.alloc, self.keys, self.chosen, window, name)?;
         watch.begin_with(&self.start)?;
+        watch.logs = replace(&mut self.logs, Vec::new(self.alloc));
         self.seats.push(Seat {
             watch,
             traffic: Traffic::new(self.alloc, self.chosen, &window)?,

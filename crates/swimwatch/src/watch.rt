@@ -13,6 +13,7 @@ mod showing;
 mod streams;
 mod tallies;
 
+use crate::agent_log::AgentLog;
 use crate::carriage::{Carriage, carriage_of};
 use crate::change::Change;
 use crate::chart::Chart;
@@ -84,6 +85,8 @@ pub(crate) struct Watch<'a> {
     detector: Option<Detector>,
     /// Why members were suspected, if that is asked for.
     causes: Option<Causes>,
+    /// The logs of agents, which are held against the captures.
+    pub(crate) logs: Vec<AgentLog>,
     /// The number of the capture whose record is taken in.
     pub(crate) capture: usize,
     /// Whose probes are shown, and of whom.
@@ -128,6 +131,7 @@ impl<'a> Watch<'a> {
             counts: Counts::default(),
             detector: detector_of(alloc, chosen, &window),
             causes: causes_of(alloc, chosen),
+            logs: Vec::new(alloc),
             capture: 0,
             prober: copied(alloc, &chosen.probing.prober)?,
             target: copied(alloc, &chosen.probing.target)?,

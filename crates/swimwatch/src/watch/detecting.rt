@@ -3,6 +3,7 @@
 ghost use Rattle.std.specs.Prelude.{◌≡◌};
 
 use super::Watch;
+use crate::agent_log::{write_log_objects, write_logs};
 use crate::chosen::{Chosen, Verb};
 use crate::counts::count;
 use crate::health::{write_health, write_health_objects};
@@ -96,11 +97,12 @@ impl<'a> Watch<'a> {
             let Some(probe) = over else {
                 break;
             };
+            let (captures, timing, now) = (detector.captures(), detector.timing(), detector.now());
+            for log in &mut self.logs {
+                log.probe(self.alloc, &probe, captures, timing, now)?;
+            }
             match &mut self.causes {
-                Some(causes) => {
-                    let now = detector.now();
-                    causes.probe(&probe, detector.captures(), detector.timing(), now)?;
-                }
+                Some(causes) => causes.probe(&probe, captures, timing, now)?,
                 None => detector.note(&probe)?,
             }
         }
@@ -201,6 +203,9 @@ impl<'a> Watch<'a> {
         let Message::Claim(claiming) = message else {
             return Ok(());
         };
+        for log in &mut self.logs {
+            log.claim(self.alloc, sent.time, claiming)?;
+        }
         match claiming.claim() {
             Claim::Suspect { name, inc } if !is_warning(all, claiming) => {
                 let accusation = Accusation {
@@ -293,7 +298,8 @@ impl<'a> Watch<'a> {
             (Verb::Probes, true) => {
                 write_pair_objects(self.alloc, &mut self.out, &detector.pairs, shown)
             }
-            (Verb::Why, _) => Ok(()),
+            (Verb::Why, false) => write_logs(&mut self.out, &self.logs),
+            (Verb::Why, true) => write_log_objects(self.alloc, &mut self.out, &self.logs),
             (_, false) => write_health(self.alloc, &mut self.out, &detector.healths, &self.member),
             (_, true) => {
                 write_health_objects(self.alloc, &mut self.out, &detector.healths, &self.member)

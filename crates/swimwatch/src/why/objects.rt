@@ -106,7 +106,7 @@ fn cause(
     let mut of = Vec::new(alloc);
     let mut failed = 0;
     match trouble {
-        None => object.null("cause")?,
+        None => object.value_of("cause", Value::Null)?,
         Some(trouble) => {
             object.word("cause", trouble.cause.words())?;
             of = of_values(alloc, teller, &trouble.of)?;
