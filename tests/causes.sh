@@ -63,6 +63,24 @@ if has_xz > /dev/null; then
     : > wanted
     check 'a suspicion before --from is not told'
 
+    # lines of serf-5.log of this cluster; the last is of another one
+    cat > serf-5.log << 'EOF'
+    2026/11/26 21:16:08 [INFO] serf: EventMemberJoin: web-5 10.77.51.15
+    2026/11/26 21:16:23 [DEBUG] memberlist: Failed ping: web-3 (timeout reached)
+    2026/11/26 21:16:24 [INFO] memberlist: Suspect web-3 has failed, no acks received
+    2026/11/26 21:16:28 [INFO] memberlist: Marking web-3 as failed, suspect timeout reached (2 peer confirmations)
+    2026/11/26 21:16:29 [DEBUG] memberlist: Stream connection from=10.77.11.11:42314
+    2026/11/26 21:19:18 [DEBUG] memberlist: Failed ping: web-3 (timeout reached)
+EOF
+    "$program" why --agent-log serf-5.log members_of/web-*.pcap 2> err | grep '^serf' > found
+    cat > wanted << 'EOF'
+serf-5.log:2: 2026-11-26T21:16:23Z failed ping web-3: captured
+serf-5.log:3: 2026-11-26T21:16:24Z suspect web-3: captured
+serf-5.log:4: 2026-11-26T21:16:28Z marked as failed web-3: captured
+serf-5.log:6: 2026-11-26T21:19:18Z failed ping web-3: not captured
+EOF
+    check 'which lines of the log of an agent the captures confirm'
+
     # a suspicion is told while a pipe goes on, half a minute after it was over
     mkfifo growing
     "$program" why - < growing > found 2> err &

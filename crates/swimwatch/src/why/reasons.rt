@@ -185,7 +185,7 @@ fn write_others(
             if heard.is_empty() {
                 return Ok(());
             }
-            text.push_str("; heard were ")?;
+            text.push_str(", who heard ")?;
             teller.names(text, heard)
         }
         Evidence::UnderWay { probes } => {
