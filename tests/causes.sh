@@ -8,11 +8,13 @@ told() {
 import json, sys
 for line in sys.stdin:
     told = json.loads(line)
-    if told["cause"]:
-        groups = [of if isinstance(of, list) else [of] for of in told["of"]]
-        whole = "|".join(",".join(sorted(group)) for group in groups)
-        print(whole if any(isinstance(of, list) for of in told["of"]) else whole.replace("|", ","), told["cause"])
-' | tr '|' '\001' | sort -u | tr '\001' '|'
+    if not told["cause"]:
+        continue
+    if any(isinstance(of, list) for of in told["of"]):
+        print("|".join(sorted(",".join(sorted(of)) for of in told["of"])), told["cause"])
+    else:
+        print(",".join(sorted(told["of"])), told["cause"])
+' | sort -u
 }
 
 # caused NAME: the causes that are told of the cluster, by each set of captures
