@@ -28,6 +28,8 @@ pub(crate) enum Verb {
     Probes,
     /// How healthy each member is, as its probes tell.
     Health,
+    /// When each member first had each piece of news.
+    Spread,
 }
 
 impl Verb {
@@ -44,6 +46,7 @@ impl Verb {
             "chart" => Some(Verb::Chart),
             "probes" => Some(Verb::Probes),
             "health" => Some(Verb::Health),
+            "spread" => Some(Verb::Spread),
             _ => None,
         }
     }

@@ -9,7 +9,7 @@
 //! | `pings`, `warnings` | who a ping shows, and suspicions that only warn |
 //! | `listener`, `directory`, `places` | a listener that hears all of it |
 //! | `views`, `view_name`, `watch`, `change` | listening, and showing what was asked for |
-//! | `members`, `suspicion`, `timeline`, `claims`, `talkers`, `probes`, `health` | what is shown |
+//! | `members`, `suspicion`, `timeline`, `claims`, `talkers`, `probes`, `health`, `spread` | what is shown |
 //! | `pull`, `ask`, `inquiry`, `host`, `ring`, `connection`, `request`, `answer` | asking members |
 //! | `silence` | why a member that was asked has no table |
 //! | `roster`, `known` | what somebody knows about members |
@@ -70,6 +70,7 @@ mod sent;
 mod side;
 mod silence;
 mod sources;
+mod spread;
 mod suspicion;
 mod svg;
 mod tags;

@@ -50,7 +50,7 @@ struct Page {
 }
 
 /// The program's commands.
-const PAGES: [Page; 10] = [
+const PAGES: [Page; 11] = [
     Page {
         name: "members",
         about: "Prints the members as they are at the end of the captures",
@@ -174,6 +174,22 @@ const PAGES: [Page; 10] = [
             Flag::Label,
             Flag::ProbeTimeout,
             Flag::ProbeInterval,
+            Flag::Json,
+        ],
+    },
+    Page {
+        name: "spread",
+        about: "Prints how news spread: when each member first had it",
+        example: help::SPREAD,
+        inputs: Inputs::Captures,
+        flags: &[
+            Flag::Wait,
+            Flag::Member,
+            Flag::From,
+            Flag::To,
+            Flag::For,
+            Flag::Port,
+            Flag::Label,
             Flag::Json,
         ],
     },
