@@ -69,7 +69,7 @@ pub(crate) struct Counts {
     pub(crate) timeless: u64,
     /// Records after the requested moment.
     pub(crate) later: u64,
-    /// What was not followed of news, since there was too much of it.
+    /// Claims that were not followed as news, since there was too much of it.
     pub(crate) crowded: u64,
     /// Frames of a link type that is not read.
     pub(crate) unknown_links: u64,
@@ -218,7 +218,7 @@ impl Counts {
             (self.later, "after the --at or --to time"),
             (
                 self.crowded,
-                "times that a member had news left out because there was too much news",
+                "claims left out because there was too much news",
             ),
             (self.unknown_links, "of an unknown link type"),
         ]

@@ -179,11 +179,10 @@ const PAGES: [Page; 11] = [
     },
     Page {
         name: "spread",
-        about: "Prints how news spread: when each member first had it",
+        about: "Prints when each member first heard or said each piece of news",
         example: help::SPREAD,
         inputs: Inputs::Captures,
         flags: &[
-            Flag::Wait,
             Flag::Member,
             Flag::From,
             Flag::To,

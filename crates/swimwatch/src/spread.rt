@@ -29,9 +29,9 @@ const NEAR: u64 = 6_000_000;
 /// The most pieces of news that are followed (own). Later ones are left out, and counted.
 const MAX_PIECES: usize = 65_536;
 
-/// The most pairs of a piece of news and an agent that are kept (own), some 100 MiB of memory. Later
-/// ones are left out, and counted.
-const MAX_PARTS: usize = 1_048_576;
+/// The most pairs of a piece of news and an agent that are kept (own), as of 2,048 members and as many
+/// pieces: some 300 MiB of memory. Later ones are left out, and counted.
+const MAX_PARTS: usize = 4_194_304;
 
 /// What tells a piece of news from others: the member's name, the incarnation, and the word for what
 /// is claimed.
@@ -103,7 +103,7 @@ pub(crate) struct Spread {
     marked: usize,
     /// The last time of a packet.
     now: u64,
-    /// How often an agent or its part was left out because there are too many, or a piece was.
+    /// How many claims were left out because there were too many pieces, agents or parts.
     pub(crate) left_out: u64,
 }
 
@@ -266,7 +266,12 @@ impl Spread {
 
     /// Notes that the agents that were heard at this time or later are near a piece of news.
     fn mark_one(&mut self, piece: usize, since: u64) -> Result<(), AllocError> {
-        for agent in &self.agents.since(since)? {
+        let room = MAX_PARTS.saturating_sub(self.parts.len());
+        let near = self.agents.since(since, room)?;
+        if near.len() == room {
+            count(&mut self.left_out);
+        }
+        for agent in &near {
             let part = Part {
                 is_near: true,
                 ..self.part(piece, *agent)

@@ -95,10 +95,10 @@ impl Agents {
         Ok(())
     }
 
-    /// The numbers of those that were heard at this time or later.
-    pub(super) fn since(&self, time: u64) -> Result<Vec<usize>, AllocError> {
+    /// The numbers of those that were heard at this time or later, but no more than so many.
+    pub(super) fn since(&self, time: u64, most: usize) -> Result<Vec<usize>, AllocError> {
         let mut numbers = Vec::new(self.alloc);
-        for (_, number) in self.recent.range((time, 0)..) {
+        for (_, number) in self.recent.range((time, 0)..).take(most) {
             numbers.push(*number)?;
         }
         Ok(numbers)
