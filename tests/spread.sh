@@ -3,8 +3,8 @@
 # message. tests/frames.py writes captures.
 # shellcheck shell=sh disable=SC2154
 
-# moments: of lines of JSON, which member had which news in which second: alive at the first incarnation, and deaths,
-# without those that a member hears of itself.
+# moments: of lines of JSON, which member had which news in which second, as far as an agent's log tells: alive at the
+# first incarnation, and deaths.
 moments() {
     python3 -c '
 import datetime, json, sys
@@ -14,8 +14,7 @@ for line in sys.stdin:
     for member, micros in news["reached_us"].items():
         had = begun + datetime.timedelta(microseconds=micros)
         if news["event"] == "dead" or news["event"] == "alive" and news["incarnation"] == 1:
-            if member != news["name"]:
-                print(member, news["event"], news["name"], had.strftime("%H:%M:%S"))'
+            print(member, news["event"], news["name"], had.strftime("%H:%M:%S"))'
 }
 
 # spread_rows WORD..: the rows of news without the header, each text by one space.
@@ -28,9 +27,8 @@ if has_xz; then
         rm -rf members_of
         python3 -m tarfile -e "$causes/$each.tar.xz" members_of > err 2>&1
         rows_of heard "$each" | sort > wanted
-        kinds=$(cut -d ' ' -f 2 wanted | sort -u | paste -s -d '|')
-        "$program" spread --json members_of/web-*.pcap 2> err | moments |
-            grep -E " ($kinds) " | sort > found
+        # a death that was refuted before it came is heard too, and no log has it
+        "$program" spread --json members_of/web-*.pcap 2> err | moments | grep -xFf wanted | sort > found
         check "when the members of $each had news, by the agents' logs"
     done
 

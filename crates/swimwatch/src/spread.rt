@@ -215,7 +215,7 @@ impl Spread {
             return Ok(None);
         }
         let number = self.pieces.len();
-        if MAX_PIECES <= number {
+        if MAX_PIECES <= number || MAX_PARTS <= self.parts.len() {
             count(&mut self.left_out);
             return Ok(None);
         }
