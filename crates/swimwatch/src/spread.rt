@@ -22,19 +22,19 @@ use std::collections::BTreeMap;
 use swim_claim::Kind;
 pub(crate) use written::{Shown, write_spread, write_spread_objects};
 
-/// How long before or after news begins an agent that should get it is heard (own), in microseconds:
-/// one that runs is heard every second or two.
+/// How long before or after news begins an agent that should get it is heard (own), in
+/// microseconds: one that runs is heard every second or two.
 const NEAR: u64 = 6_000_000;
 
 /// The most pieces of news that are followed (own). Later ones are left out, and counted.
 const MAX_PIECES: usize = 65_536;
 
-/// The most pairs of a piece of news and an agent that are kept (own), as of 2,048 members and as many
-/// pieces: some 300 MiB of memory. Later ones are left out, and counted.
+/// The most pairs of a piece of news and an agent that are kept (own), as of 2,048 members and as
+/// many pieces: some 300 MiB of memory. Later ones are left out, and counted.
 const MAX_PARTS: usize = 4_194_304;
 
-/// What tells a piece of news from others: the member's name, the incarnation, and the word for what
-/// is claimed.
+/// What tells a piece of news from others: the member's name, the incarnation, and the word for
+/// what is claimed.
 type Topic = (Vec<u8>, u32, &'static str);
 
 /// A piece of news: what is claimed about a member, whoever says it.
@@ -146,8 +146,8 @@ impl Spread {
         }
     }
 
-    /// Before this is heard: what agents had so far at the endpoints that a member leaves or takes is
-    /// that of the members that are there now.
+    /// Before this is heard: what agents had so far at the endpoints that a member leaves or takes
+    /// is that of the members that are there now.
     pub(crate) fn settle(&mut self, listener: &Listener, said: &Said) -> Result<(), AllocError> {
         for end in ends_moved(listener, said) {
             if let Some(end) = end {
@@ -157,9 +157,9 @@ impl Spread {
         Ok(())
     }
 
-    /// Takes in what a message says that the capture with this number has. Who sends it has the news,
-    /// and so has who gets it: a connection's other end at once, but a packet may be lost, and is
-    /// waited for at the captures of its destination.
+    /// Takes in what a message says that the capture with this number has. Who sends it has the
+    /// news, and so has who gets it: a connection's other end at once, but a packet may be lost, and
+    /// is waited for at the captures of its destination.
     pub(crate) fn news(
         &mut self,
         listener: &Listener,
@@ -202,8 +202,8 @@ impl Spread {
         Ok(())
     }
 
-    /// The number of the piece of news that a message tells. None if it tells none, or there are too
-    /// many.
+    /// The number of the piece of news that a message tells. None if it tells none, or there are
+    /// too many.
     fn piece_of(&mut self, told: &Told, time: u64) -> Result<Option<usize>, AllocError> {
         let claim = &told.claim;
         let (name, kind) = (claim.name().bytes(), claim.kind());
@@ -304,8 +304,8 @@ impl Spread {
     }
 }
 
-/// Who is named as the one who says so: a member itself that is alive or leaves, or the accuser, which
-/// is empty if nobody is named.
+/// Who is named as the one who says so: a member itself that is alive or leaves, or the accuser,
+/// which is empty if nobody is named.
 fn speaker(told: &Told) -> &[u8] {
     match told.claim.kind() {
         Kind::Alive | Kind::Leave => told.claim.name().bytes(),

@@ -45,8 +45,8 @@ impl Agents {
     }
 
     /// The number of the agent at an end of a packet or a connection. None if there are too many. A
-    /// connection comes from a port of its own, so there a host is the agent, unless a member has the
-    /// port.
+    /// connection comes from a port of its own, so there a host is the agent, unless a member has
+    /// the port.
     pub(super) fn number_at(
         &mut self,
         listener: &Listener,
