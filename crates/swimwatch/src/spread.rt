@@ -158,8 +158,8 @@ impl Spread {
     }
 
     /// Takes in what a message says that the capture with this number has. Who sends it has the
-    /// news, and so has who gets it: a connection's other end at once, but a packet may be lost, and
-    /// is waited for at the captures of its destination.
+    /// news, and so has who gets it: a connection's other end at once, but a packet may be lost, so
+    /// it is waited for at the captures of its destination.
     pub(crate) fn news(
         &mut self,
         listener: &Listener,
