@@ -78,7 +78,7 @@ impl Delays {
 }
 
 /// How many of so many are this percentage, rounded up.
-fn rank_of(total: u64, percent: u8) -> u64 {
+pub fn rank_of(total: u64, percent: u8) -> u64 {
     (total / 100)
         .saturating_mul(u64::from(percent))
         .saturating_add((total % 100 * u64::from(percent)).div_ceil(100))

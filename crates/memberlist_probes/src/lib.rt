@@ -39,7 +39,7 @@ mod timing;
 
 pub use awareness::{Awareness, Change};
 pub use captures::{Capture, Captures, Sighting, Sightings};
-pub use delays::Delays;
+pub use delays::{Delays, rank_of};
 pub use detector::{Detector, Span};
 pub use explanation::Explanation;
 pub use fallbacks::Segment;
@@ -49,5 +49,5 @@ pub use outcome::{Answers, Outcome, Terms};
 pub use pairs::{Left, Names, Outcomes, Pair, Pairs};
 pub use point::Point;
 pub use probe::{Fallback, Helper, Probe};
-pub use probes::{Accusation, Packet, Probes};
+pub use probes::{Accusation, Packet, Probes, SAME};
 pub use timing::Timing;

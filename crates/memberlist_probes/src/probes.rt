@@ -10,7 +10,7 @@ use std::collections::{BTreeMap, BTreeSet, VecDeque};
 use std::net::SocketAddr;
 
 /// How far apart two captures may have one packet, in microseconds (own).
-const SAME: u64 = 5_000_000;
+pub const SAME: u64 = 5_000_000;
 
 /// How long after its ping a probe is followed, in microseconds (own): an agent that was stopped
 /// answers late.

@@ -30,6 +30,8 @@ pub(crate) enum Verb {
     Health,
     /// Why members were suspected.
     Why,
+    /// When each member first had each piece of news.
+    Spread,
 }
 
 impl Verb {
@@ -47,6 +49,7 @@ impl Verb {
             "probes" => Some(Verb::Probes),
             "health" => Some(Verb::Health),
             "why" => Some(Verb::Why),
+            "spread" => Some(Verb::Spread),
             _ => None,
         }
     }

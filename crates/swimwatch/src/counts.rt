@@ -69,6 +69,8 @@ pub(crate) struct Counts {
     pub(crate) timeless: u64,
     /// Records after the requested moment.
     pub(crate) later: u64,
+    /// Claims that were not followed as news, since there was too much of it.
+    pub(crate) crowded: u64,
     /// Frames of a link type that is not read.
     pub(crate) unknown_links: u64,
 }
@@ -113,6 +115,7 @@ impl Counts {
         add(&mut self.malformed, other.malformed);
         add(&mut self.timeless, other.timeless);
         add(&mut self.later, other.later);
+        add(&mut self.crowded, other.crowded);
         add(&mut self.unknown_links, other.unknown_links);
         self.mixed = self.mixed.or(other.mixed);
         self.unencrypted_from = self.unencrypted_from.or(other.unencrypted_from);
@@ -177,7 +180,7 @@ impl Counts {
     }
 
     /// How often each other thing occurred, with its name.
-    fn others(&self, has_keys: bool) -> [(u64, &'static str); 22] {
+    fn others(&self, has_keys: bool) -> [(u64, &'static str); 23] {
         let closed = if has_keys {
             "that no key decrypts"
         } else {
@@ -213,6 +216,10 @@ impl Counts {
             (self.other_ports, "from and to other ports"),
             (self.other_labels, "with another label"),
             (self.later, "after the --at or --to time"),
+            (
+                self.crowded,
+                "claims left out because there was too much news",
+            ),
             (self.unknown_links, "of an unknown link type"),
         ]
     }

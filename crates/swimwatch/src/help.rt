@@ -128,6 +128,14 @@ Examples:
   swimwatch why web-1.pcap web-2.pcap web-3.pcap
   swimwatch why web-5 web-1.pcap";
 
+pub(crate) const SPREAD: &str = "\
+Give it captures of several members if you have them: when news came to a member is then known, and
+else only when it was sent.
+
+Examples:
+  swimwatch spread web-1.pcap web-2.pcap web-3.pcap
+  swimwatch spread --member web-5 web-1.pcap";
+
 pub(crate) const PULL: &str = "\
 Asks without joining, so nothing changes in the cluster. Of several members it prints what most of
 them report, and below it the names on which they differ and the members that do not answer.

@@ -77,15 +77,20 @@ impl Listener {
 
     /// Whether a member is at this address and port.
     pub(crate) fn has_member_at(&self, end: SocketAddr) -> bool {
-        match self.directory.member_at(&self.view, end) {
+        match self.member_at(end) {
             Some(name) => self.place(name) == Some(end),
             None => false,
         }
     }
 
+    /// The member at this endpoint, if there is one.
+    pub(crate) fn member_at(&self, end: SocketAddr) -> Option<&MemberName> {
+        self.directory.member_at(&self.view, end)
+    }
+
     /// The name of the member at this endpoint, if there is one.
     pub(crate) fn name_at(&self, end: SocketAddr) -> Result<Option<String>, AllocError> {
-        match self.directory.member_at(&self.view, end) {
+        match self.member_at(end) {
             Some(name) => Ok(Some(name_text(self.alloc, name)?)),
             None => Ok(None),
         }

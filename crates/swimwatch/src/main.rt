@@ -9,7 +9,8 @@
 //! | `pings`, `warnings` | who a ping shows, and suspicions that only warn |
 //! | `listener`, `directory`, `places` | a listener that hears all of it |
 //! | `views`, `view_name`, `watch`, `change` | listening, and showing what was asked for |
-//! | `members`, `suspicion`, `timeline`, `claims`, `talkers`, `probes`, `health`, `why`, `agent_log` | what is shown |
+//! | `members`, `suspicion`, `timeline`, `claims`, `talkers`, `probes`, `health` | what is shown |
+//! | `why`, `agent_log`, `spread` | why members were suspected, and how news spread |
 //! | `pull`, `ask`, `inquiry`, `host`, `ring`, `connection`, `request`, `answer` | asking members |
 //! | `silence` | why a member that was asked has no table |
 //! | `roster`, `known` | what somebody knows about members |
@@ -71,6 +72,7 @@ mod sent;
 mod side;
 mod silence;
 mod sources;
+mod spread;
 mod suspicion;
 mod svg;
 mod tags;

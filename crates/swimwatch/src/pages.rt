@@ -51,7 +51,7 @@ struct Page {
 }
 
 /// The program's commands.
-const PAGES: [Page; 11] = [
+const PAGES: [Page; 12] = [
     Page {
         name: "members",
         about: "Prints the members as they are at the end of the captures",
@@ -193,6 +193,21 @@ const PAGES: [Page; 11] = [
             Flag::Label,
             Flag::ProbeTimeout,
             Flag::ProbeInterval,
+            Flag::Json,
+        ],
+    },
+    Page {
+        name: "spread",
+        about: "Prints when each member first heard or said each piece of news",
+        example: help::SPREAD,
+        inputs: Inputs::Captures,
+        flags: &[
+            Flag::Member,
+            Flag::From,
+            Flag::To,
+            Flag::For,
+            Flag::Port,
+            Flag::Label,
             Flag::Json,
         ],
     },

@@ -176,19 +176,15 @@ impl Talkers {
     /// Before this is heard: if it moves a member, what was sent so far from the ends that the
     /// member leaves or takes is counted as sent by the members that are there now.
     pub(crate) fn settle(&mut self, listener: &Listener, said: &Said) -> Result<(), AllocError> {
-        let (true, Some(to)) = (self.is_asked, end_in(said)) else {
-            return Ok(());
-        };
-        let from = listener.place(said.name());
-        if from == Some(to) {
+        if !self.is_asked {
             return Ok(());
         }
-        if let Some(from) = from {
-            self.name_now(listener, from)?;
-            self.name_now(listener, host_of(from))?;
+        for end in ends_moved(listener, said) {
+            if let Some(end) = end {
+                self.name_now(listener, end)?;
+            }
         }
-        self.name_now(listener, to)?;
-        self.name_now(listener, host_of(to))
+        Ok(())
     }
 
     /// Counts what was sent from an end as sent by the member that is there, if one is.
@@ -279,6 +275,21 @@ fn add_to(
         let _ = tallies.insert(text, *more)?;
     }
     Ok(())
+}
+
+/// The ends that a member leaves and takes if what is said moves it, and their hosts.
+pub(crate) fn ends_moved(listener: &Listener, said: &Said) -> [Option<SocketAddr>; 4] {
+    let from = listener.place(said.name());
+    let to = end_in(said);
+    if to.is_none() || from == to {
+        return [None; 4];
+    }
+    [
+        from,
+        from.map(|end| host_of(end)),
+        to,
+        to.map(|end| host_of(end)),
+    ]
 }
 
 /// Where a member is by what is said, if that is said.

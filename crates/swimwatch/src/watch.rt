@@ -1,7 +1,7 @@
 //! Listening to packets and streams.
 //!
 //! `streams` hears connections, `tallies` counts what senders sent, `detecting` follows their probes,
-//! and `showing` shows what was asked for.
+//! `spreading` their news, and `showing` shows what was asked for.
 
 ghost use Rattle.std.specs.Prelude.{◌≡◌, OnOk, MatchBool};
 ghost use Rattle.memberlist_view.specs.Told.{view_after};
@@ -10,6 +10,7 @@ ghost use Rattle.swimwatch.specs.Views.{is_warning, MaySee, HearsMessage, HearsM
 
 mod detecting;
 mod showing;
+mod spreading;
 mod streams;
 mod tallies;
 
@@ -24,6 +25,7 @@ use crate::messages::Messages;
 use crate::pings::{Pings, place_at, sender_of};
 use crate::places::Places;
 use crate::sent::Sent;
+use crate::spread::Spread;
 use crate::talkers::{Kind, Talkers};
 use crate::texts::NONE;
 use crate::told::Told;
@@ -37,6 +39,7 @@ use memberlist_message::{Message, Ping};
 use memberlist_probes::Detector;
 use memberlist_transport::InTheClear;
 use memberlist_view::{Event, Heard, MemberName, Said};
+use spreading::spread_of;
 use std::alloc::{AllocError, Global};
 use std::collections::BTreeMap;
 use std::net::SocketAddr;
@@ -87,6 +90,8 @@ pub(crate) struct Watch<'a> {
     causes: Option<Causes>,
     /// The logs of agents, which are held against the captures.
     pub(crate) logs: Vec<AgentLog>,
+    /// How news spread, if that is asked for.
+    spread: Option<Spread>,
     /// The number of the capture whose record is taken in.
     pub(crate) capture: usize,
     /// Whose probes are shown, and of whom.
@@ -132,6 +137,7 @@ impl<'a> Watch<'a> {
             detector: detector_of(alloc, chosen, &window),
             causes: causes_of(alloc, chosen),
             logs: Vec::new(alloc),
+            spread: spread_of(alloc, chosen),
             capture: 0,
             prober: copied(alloc, &chosen.probing.prober)?,
             target: copied(alloc, &chosen.probing.target)?,
@@ -370,6 +376,7 @@ impl<'a> Watch<'a> {
         ensures view { OnOk result (self.new.listener.view
             ≡ view_after self.old.listener.view (heard_of sent.time (told_text told.now))) }
     {
+        self.spread_news(&sent, told)?;
         let heard = told.heard(self.alloc, sent.time)?;
         let event = self.take_in(&heard)?;
         self.places.note(&told.claim, sent.time)?;

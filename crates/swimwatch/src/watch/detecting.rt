@@ -73,6 +73,7 @@ impl<'a> Watch<'a> {
     pub(crate) fn captured(&mut self, sent: &Sent) -> Result<(), AllocError>
         ensures { self.new.listener ≡ self.old.listener }
     {
+        self.spread_packet(sent)?;
         let packet = self.packet(sent);
         match &mut self.detector {
             Some(detector) => detector.packet(packet)?,

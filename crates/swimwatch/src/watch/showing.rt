@@ -195,6 +195,7 @@ impl<'a> Watch<'a> {
             (Verb::Talkers, true) => self.talkers.write_objects(&mut self.out, &self.listener),
             (Verb::Chart, _) => self.chart.write(&mut self.out),
             (Verb::Probes | Verb::Health | Verb::Why, _) => self.show_detector(),
+            (Verb::Spread, _) => self.show_spread(),
             _ => Ok(()),
         }
     }

@@ -10,10 +10,13 @@ use std::alloc::AllocError;
 use std::net::SocketAddr;
 
 impl<'a> Watch<'a> {
-    /// Counts a message of this kind.
+    /// Counts a message of this kind. Who sent it runs.
     pub(super) fn said(&mut self, sent: Sent, kind: Kind) -> Result<(), AllocError>
         ensures { self.new.listener ≡ self.old.listener }
     {
+        if kind != Kind::Unread {
+            self.spread_sender(&sent)?;
+        }
         if !self.is_timely(sent.time) {
             return Ok(());
         }
@@ -35,6 +38,7 @@ impl<'a> Watch<'a> {
     pub(super) fn settle(&mut self, said: &Said) -> Result<(), AllocError>
         ensures { self.new.listener ≡ self.old.listener }
     {
+        self.spread_move(said)?;
         self.talkers.settle(&self.listener, said)
     }
 }
