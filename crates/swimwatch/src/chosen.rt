@@ -28,6 +28,8 @@ pub(crate) enum Verb {
     Probes,
     /// How healthy each member is, as its probes tell.
     Health,
+    /// One page with all of it.
+    Report,
 }
 
 impl Verb {
@@ -44,13 +46,14 @@ impl Verb {
             "chart" => Some(Verb::Chart),
             "probes" => Some(Verb::Probes),
             "health" => Some(Verb::Health),
+            "report" => Some(Verb::Report),
             _ => None,
         }
     }
 
     /// Whether it tells what the failure detectors did.
     pub(crate) fn detects(self) -> bool {
-        matches!(self, Verb::Probes | Verb::Health)
+        matches!(self, Verb::Probes | Verb::Health | Verb::Report)
     }
 }
 

@@ -215,7 +215,7 @@ impl Object {
 
 /// Adds a character as JSON escapes it: four hexadecimal digits, or twice four for a pair of
 /// surrogates (RFC 8259, section 7).
-fn write_escape(text: &mut String, code: u32) -> Result<(), AllocError> {
+pub(crate) fn write_escape(text: &mut String, code: u32) -> Result<(), AllocError> {
     if code < 0x1_0000 {
         return write!(text, "\\u{code:04x}");
     }

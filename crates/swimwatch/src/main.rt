@@ -17,6 +17,7 @@
 //! | `agreement` | what members answered, and whether they agree |
 //! | `diff`, `side`, `changes` | what changed between two captures, dumps or members |
 //! | `chart`, `svg` | what is drawn |
+//! | `report` | a page with all of it |
 //! | `moment`, `window`, `names`, `tags`, `endpoint`, `texts`, `columns`, `json` | how it is written |
 //! | `counts` | what was read, and what was left out and why |
 //! | `said` | ending the program with a message of its own |
@@ -62,6 +63,7 @@ mod progress;
 mod pull;
 mod recent;
 mod records;
+mod report;
 mod request;
 mod ring;
 mod roster;

@@ -151,6 +151,26 @@ impl<'a> Watch<'a> {
         }
     }
 
+    /// The objects of all pairs, as `probes` prints them.
+    pub(super) fn pair_objects(&mut self) -> Result<String, AllocError> {
+        let mut text = String::new(self.alloc);
+        let Some(detector) = &mut self.detector else {
+            return Ok(text);
+        };
+        detector.finish()?;
+        let shown = Shown {
+            prober: &None,
+            target: &None,
+        };
+        write_pair_objects(self.alloc, &mut text, &detector.pairs, shown)?;
+        Ok(text)
+    }
+
+    /// The objects of the episodes with their causes. None are told yet.
+    pub(super) fn episode_objects(&self) -> Result<String, AllocError> {
+        Ok(String::new(self.alloc))
+    }
+
     /// Shows what the failure detectors did.
     pub(super) fn show_detector(&mut self) -> Result<(), AllocError> {
         let Some(detector) = &mut self.detector else {

@@ -1,0 +1,46 @@
+//! New elements.
+
+pub(crate) const ELEMENTS: &str = r##"
+const byId = (id) => document.getElementById(id);
+
+/** A new element. What is no element among its children becomes text. */
+function make(tag, attributes = {}, ...children) {
+  const element = document.createElement(tag);
+  for (const [name, value] of Object.entries(attributes)) element.setAttribute(name, value);
+  element.append(...children);
+  return element;
+}
+
+/** A row of a table, with a cell for each text or element. The first one heads the row. */
+function makeRow([head, ...cells]) {
+  const row = make('tr', {}, make('th', { scope: 'row' }, head));
+  row.append(...cells.map((cell) => make('td', {}, cell)));
+  return row;
+}
+
+/** A table with a caption for screen readers, column heads and rows of texts or elements. */
+function makeTable(caption, heads, rows) {
+  const head = make('tr', {}, ...heads.map((word) => make('th', { scope: 'col' }, word)));
+  return make('table', {},
+    make('caption', {}, caption),
+    make('thead', {}, head),
+    make('tbody', {}, ...rows.map(makeRow)));
+}
+
+/** A moment of the captures, without its date if they are all of one day. */
+function makeTime(moment) {
+  return make('time', { datetime: moment, title: moment }, clock(moment));
+}
+
+/** The word for a state, behind a sample of its colour. */
+function makeState(state) {
+  const word = state.overdue ? 'overdue' : state.state;
+  return make('span', { class: `state ${state.state}-state` }, word);
+}
+
+/** Goes to an element, and lets the keyboard go on from there. */
+function goTo(element) {
+  element.scrollIntoView({ block: 'nearest' });
+  element.focus();
+}
+"##;
