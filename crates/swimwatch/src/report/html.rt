@@ -45,7 +45,8 @@ pub(crate) const AFTER_PICTURE: &str = r##"</div>
 <div id="chosen" hidden>
 <p id="chosen-bar" role="status"></p>
 <div id="chosen-episodes"></div>
-<p><button type="button" id="chosen-timeline"></button></p>
+<p><button type="button" id="chosen-timeline"></button>
+<button type="button" id="chosen-close">Close</button></p>
 </div>
 </section>
 <section id="part-episodes" aria-labelledby="head-episodes" hidden data-built>
@@ -59,8 +60,9 @@ and trouble for which nobody was accused.</p>
 <fieldset id="measures">
 <legend>Each cell shows, for the probes by its row's member of its column's member</legend>
 </fieldset>
-<ul id="scale" aria-label="What the cells' colours and digits mean"></ul>
-<p id="pair" role="status"></p>
+<ul id="scale" aria-label="What the colours and digits of cells mean"></ul>
+<p id="pair" role="status">Point at a cell, or go to one with Tab and the arrow keys, to read its
+numbers.</p>
 <div id="matrix" class="wide"></div>
 </section>
 <section id="part-timeline" aria-labelledby="head-timeline" hidden data-built>

@@ -38,7 +38,8 @@ dd { margin: 0; overflow-wrap: anywhere; }
 table { border-collapse: collapse; font-variant-numeric: tabular-nums; }
 caption { position: absolute; width: 1px; height: 1px; overflow: hidden; clip-path: inset(50%); }
 th { text-align: left; font-weight: 600; }
-td, th { padding: .2rem .9rem .2rem 0; vertical-align: top; overflow-wrap: anywhere; }
+td, th { padding: .2rem .9rem .2rem 0; vertical-align: top; }
+td { max-width: 30rem; overflow-wrap: break-word; }
 tbody tr { border-top: 1px solid var(--line); }
 summary { cursor: pointer; padding: .25rem 0; }
 time { white-space: nowrap; }
@@ -48,6 +49,7 @@ time { white-space: nowrap; }
   border-radius: 2px;
 }
 .event::before { display: none; }
+.event, .state { white-space: nowrap; }
 .alive-state::before { background: #009e73; }
 .suspect-state::before { background: #e69f00; }
 .dead-state::before { background: #d55e00; }
@@ -61,7 +63,10 @@ time { white-space: nowrap; }
 #chart g > rect, #chart g > path { cursor: pointer; }
 #chart [aria-pressed=true] { stroke: var(--text); stroke-width: 2.5; }
 #chart :focus-visible { outline: none; stroke: var(--focus); stroke-width: 3.5; }
-#chosen { padding: .2rem 1rem; background: var(--panel); }
+#chosen {
+  position: sticky; bottom: 0; max-height: 45vh; overflow: auto; padding: .2rem 1rem;
+  background: var(--panel); border-top: 2px solid var(--soft);
+}
 
 .episode { margin: .3rem 0; padding: .1rem .8rem; border-left: 4px solid var(--line); }
 .episode[open] { border-left-color: var(--soft); }
@@ -73,9 +78,10 @@ fieldset { border: 0; margin: 0; padding: 0; }
 fieldset label { margin-right: 1.5rem; }
 legend { padding: 0; color: var(--soft); }
 #scale { display: flex; flex-wrap: wrap; gap: .2rem 1.2rem; padding: 0; list-style: none; }
+#scale li { display: flex; gap: .4em; }
 .sample {
-  display: inline-block; width: 1.3em; height: 1.3em; text-align: center; line-height: 1.3;
-  border: 1px solid var(--line); vertical-align: -.2em;
+  width: 1.3em; height: 1.3em; text-align: center; line-height: 1.3;
+  border: 1px solid var(--line);
 }
 #matrix { max-height: 75vh; overflow: auto; }
 #matrix table { border-collapse: separate; border-spacing: 1px; font-size: 13px; }
@@ -83,15 +89,21 @@ legend { padding: 0; color: var(--soft); }
   min-width: 2.6em; padding: .15rem .2rem; text-align: center; white-space: nowrap;
 }
 #matrix th { position: sticky; left: 0; padding: 0 .4em; background: var(--page); }
-#matrix tbody th { text-align: right; white-space: nowrap; font-weight: normal; }
+#matrix tbody th {
+  max-width: 14rem; overflow: hidden; text-overflow: ellipsis;
+  text-align: right; vertical-align: middle; white-space: nowrap; font-weight: normal;
+}
 #matrix thead th { top: 0; z-index: 1; vertical-align: bottom; font-weight: normal; }
 #matrix thead th:first-child { z-index: 2; color: var(--soft); white-space: nowrap; }
-#matrix thead th + th span { writing-mode: vertical-rl; transform: rotate(180deg); }
+#matrix thead th + th span {
+  max-height: 12rem; overflow: hidden; text-overflow: ellipsis; white-space: nowrap;
+  writing-mode: vertical-rl; transform: rotate(180deg);
+}
 #matrix .lit { font-weight: bold; background: var(--panel); }
 #matrix td:hover, #matrix td:focus { outline: 2px solid var(--focus); outline-offset: 0; }
 #matrix .dense { font-size: 10px; line-height: 13px; }
 #matrix .dense td { min-width: 13px; width: 13px; height: 13px; padding: 0; }
-#matrix .dense th { padding: 0 2px; }
+#matrix .dense thead th + th { padding: 0; }
 #pair { min-height: 2.9em; margin: 0; }
 .level-0 { background: var(--level-0); color: var(--low); }
 .level-1 { background: var(--level-1); color: var(--low); }
@@ -99,13 +111,14 @@ legend { padding: 0; color: var(--soft); }
 .level-3 { background: var(--level-3); color: #1b1b1b; }
 .level-4 { background: var(--level-4); color: var(--high); }
 .level-5 { background: var(--level-5); color: var(--high); }
-.no-value { background: var(--panel); }
+.no-value { background: var(--panel); color: var(--soft); }
 
 #filter { display: flex; flex-wrap: wrap; gap: .5rem 1.5rem; align-items: center; }
 #events { margin-top: .6rem; }
+#events tbody th { font-weight: normal; }
 
 @media print {
-  nav, #chart-hint, #filter, #more-events, #chosen-timeline, #pair, #measures { display: none; }
+  nav, #chart-hint, #chosen, #filter, #more-events, #chosen-timeline, #pair, #measures { display: none; }
   body { max-width: none; padding: 0; font-size: 11px; }
   .wide, #matrix { overflow: visible; max-height: none; }
   .level-0, .level-1, .level-2, .level-3, .level-4, .level-5, svg, .state::before {

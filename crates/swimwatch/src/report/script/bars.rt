@@ -5,6 +5,9 @@ const TIME = String.raw`(?:\d{4}-\d\d-\d\d )?\d\d:\d\d:\d\d\.\d{6}`;
 const BAR_TIMES = new RegExp(` from (${TIME}) to (${TIME})(?: by .*)?$`);
 const MARK_TIME = new RegExp(`, (${TIME})$`);
 
+/** How much later than an episode's end a death or a mark may be drawn, in microseconds. */
+const LATER = 1e6;
+
 /** The bars and marks of each row of the chart, from left to right. */
 let barRows = [];
 
@@ -34,16 +37,20 @@ function asDrawn(name) {
   return bytes.map((byte) => (byte < 0x7f ? String.fromCharCode(byte) : '?')).join('');
 }
 
-/** Whether an episode is of a row's member and of a bar's time. One in which a member that is alive
-    is first suspected is not of its bar before that. */
+/** Whether an episode is of the time of a bar or a mark. A death and a mark are at an episode's end,
+    and may be drawn a little later. */
+function isOfTime(episode, shape) {
+  const [since, until] = timesOf(shape).map(microsOf);
+  const [begin, end] = [episode.time, endOf(episode)].map(microsOf);
+  const later = shape.matches('.dead, .mark') ? LATER : 0;
+  return begin === since || (begin < until && since < end + later);
+}
+
+/** Whether an episode is of a row's member, and of the time of a bar or a mark in it. */
 function belongs(episode, shape) {
   const drawn = titleOf(shape.parentNode);
   const names = [...namesOf(episode), ...(episode.of ?? [])];
-  const [since, until] = timesOf(shape);
-  const end = endOf(episode);
-  const touches = shape.matches('.alive') ? since < end : since <= end;
-  return names.some((name) => asDrawn(name) === drawn) && touches
-    && (episode.time < until || episode.time === since);
+  return names.some((name) => asDrawn(name) === drawn) && isOfTime(episode, shape);
 }
 
 /** Shows the episodes that a bar or a mark belongs to. */
@@ -52,12 +59,21 @@ function choose(shape) {
   shape.setAttribute('aria-pressed', true);
   const own = episodes.filter((episode) => belongs(episode, shape));
   const count = own.length === 0 ? 'no episode' : counted(own.length, 'episode');
-  byId('chosen-bar').textContent = `${titleOf(shape)}: ${count}`;
+  write(byId('chosen-bar'), `${titleOf(shape)}: ${count}`);
   const shown = own.map(makeEpisode);
   for (const details of shown) details.open = true;
   byId('chosen-episodes').replaceChildren(...shown);
   offerTimeline(titleOf(shape.parentNode));
   byId('chosen').hidden = false;
+  keepInSight(shape);
+}
+
+/** Scrolls until a bar or a mark is not behind the episodes of the chosen one. */
+function keepInSight(shape) {
+  const panel = byId('chosen');
+  if (panel.hidden) return;
+  const isBehind = shape.getBoundingClientRect().bottom > panel.getBoundingClientRect().top;
+  if (isBehind) shape.scrollIntoView({ block: 'center' });
 }
 
 /** Offers the timeline of the member with this name in the chart. */
@@ -65,8 +81,14 @@ function offerTimeline(drawn) {
   const button = byId('chosen-timeline');
   const name = distinct(events.map((event) => event.name)).find((each) => asDrawn(each) === drawn);
   button.hidden = name === undefined;
-  button.textContent = `Timeline of ${name}`;
+  write(button, `Timeline of ${name}`);
   button.onclick = () => showTimelineOf(name);
+}
+
+/** Hides the episodes of the chosen bar, and goes back to it. */
+function closeChosen() {
+  byId('chosen').hidden = true;
+  goTo(current);
 }
 
 /** Makes a bar or a mark the one that Tab goes to, and goes to it. */
@@ -75,6 +97,7 @@ function moveTo(shape) {
   current = shape;
   current.tabIndex = 0;
   goTo(current);
+  keepInSight(current);
 }
 
 /** The bar or mark of a row that is nearest to another one. */
@@ -130,5 +153,6 @@ function openBars() {
   [[current]] = barRows;
   current.tabIndex = 0;
   svg.addEventListener('keydown', onBarKey);
+  byId('chosen-close').addEventListener('click', closeChosen);
 }
 "##;

@@ -3,11 +3,19 @@
 pub(crate) const ELEMENTS: &str = r##"
 const byId = (id) => document.getElementById(id);
 
-/** A new element. What is no element among its children becomes text. */
+/** A text without characters that hide or turn what is around them: they are shown as %XX. */
+const visible = (text) => text.replace(/[\p{Cc}\p{DI}\p{Zl}\p{Zp}]/gu, encodeURIComponent);
+
+/** Makes a text all that is in an element. */
+function write(element, text) {
+  element.textContent = visible(text);
+}
+
+/** A new element. Its children are elements and texts. */
 function make(tag, attributes = {}, ...children) {
   const element = document.createElement(tag);
   for (const [name, value] of Object.entries(attributes)) element.setAttribute(name, value);
-  element.append(...children);
+  element.append(...children.map((child) => (child instanceof Node ? child : visible(child))));
   return element;
 }
 

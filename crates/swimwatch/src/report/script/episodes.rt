@@ -29,7 +29,7 @@ function endOf(episode) {
 
 /** What an episode is, in one line. */
 function makeSummary(episode) {
-  const what = episode.name === undefined ? 'trouble' : `suspected ${episode.incarnation}`;
+  const what = episode.name === undefined ? 'trouble' : `suspected at incarnation ${episode.incarnation}`;
   return make('summary', {},
     makeTime(episode.time), ' ',
     make('b', {}, namesOf(episode).join(', ')), ` ${what}, ${endText(episode)} `,
@@ -38,7 +38,7 @@ function makeSummary(episode) {
 
 /** The cause of an episode, whose it is, and its evidence. */
 function makeCause(episode) {
-  const whose = episode.cause && episode.of?.length ? ` of ${episode.of.join(', ')}` : '';
+  const whose = episode.cause && episode.of?.length ? `, of ${episode.of.join(', ')}` : '';
   const cause = make('p', {}, `Cause: ${episode.cause ?? 'unknown'}${whose}`);
   const evidence = (episode.evidence ?? []).map((text) => make('li', {}, text));
   return [cause, make('ul', {}, ...evidence)];

@@ -32,13 +32,13 @@ function fill(cell, measure) {
   const value = pair && measure.valueOf(pair);
   if (value === undefined) {
     cell.className = 'no-value';
-    cell.textContent = '';
+    write(cell, '-');
     return;
   }
   const level = classOf(measure, value);
   cell.className = `level-${level}`;
   const digit = level === 0 ? '' : String(level);
-  cell.textContent = isDense ? digit : measure.textOf(pair);
+  write(cell, isDense ? digit : measure.textOf(pair));
 }
 
 /** What each class means, with its colour and digit. */
@@ -47,7 +47,7 @@ function showScale(measure) {
     const digit = isDense && level > 0 ? String(level) : '';
     return make('li', {}, make('span', { class: `sample level-${level}` }, digit), ` ${name}`);
   });
-  const none = make('li', {}, make('span', { class: 'sample no-value' }), ' no value');
+  const none = make('li', {}, make('span', { class: 'sample no-value' }, '-'), ' no value');
   byId('scale').replaceChildren(...items, none);
 }
 
@@ -62,7 +62,7 @@ function tell(cell) {
   const text = cellText(cell);
   cell.title = text;
   cell.setAttribute('aria-label', text);
-  byId('pair').textContent = text;
+  write(byId('pair'), text);
   for (const head of document.querySelectorAll('#matrix .lit')) head.classList.remove('lit');
   cell.parentNode.cells[0].classList.add('lit');
   document.querySelector('#matrix thead tr').cells[cell.cellIndex].classList.add('lit');

@@ -20,14 +20,14 @@ function shareText(pair) {
 /** What a cell can show. A cell's class is the number of limits that are below its value. */
 const MEASURES = {
   missed: {
-    words: 'share without an answer in time',
+    words: 'share without an answer in time, in percent',
     valueOf: missedShare,
     textOf: shareText,
     limits: [0, 10, 25, 50, 99.999],
     names: ['none', 'up to 10 %', 'up to 25 %', 'up to 50 %', 'more than 50 %', 'all'],
   },
   trip: {
-    words: 'median round trip',
+    words: 'median round trip, in milliseconds',
     valueOf: (pair) => pair.rtt_us?.p50,
     textOf: (pair) => (pair.rtt_us.p50 / 1000).toFixed(pair.rtt_us.p50 < 10000 ? 1 : 0),
     limits: [1e3, 5e3, 20e3, 100e3, 500e3],

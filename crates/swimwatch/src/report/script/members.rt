@@ -19,8 +19,8 @@ function showFacts() {
   if (about.first === undefined) return;
   const until = isOfOneDay ? clock(about.last) : about.last;
   const span = between(about.first, about.last);
-  byId('period').textContent = `${about.first.replace('T', ' ').replace('Z', '')} to `
-    + `${until} UTC (${span})`;
+  const first = about.first.replace('T', ' ').replace('Z', '');
+  write(byId('period'), `${first} to ${until} UTC (${span})`);
   document.title = `Cluster report, ${about.first.slice(0, 16).replace('T', ' ')}`;
 }
 

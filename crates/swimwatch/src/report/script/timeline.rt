@@ -51,10 +51,10 @@ function showEvents() {
   const shown = found.slice(0, eventLimit);
   const heads = ['Time', 'Member', 'Event', 'Incarnation', 'Details', 'Sent'];
   byId('events').replaceChildren(makeTable('What changed', heads, shown.map(eventRow)));
-  byId('shown-events').textContent = `${shown.length} of ${counted(events.length, 'event')}`;
+  write(byId('shown-events'), `${found.length} of ${counted(events.length, 'event')}`);
   const left = found.length - shown.length;
   byId('more-events').hidden = left === 0;
-  byId('more-events').textContent = `Show ${Math.min(left, EVENTS_AT_ONCE)} more of ${left}`;
+  write(byId('more-events'), `Show ${Math.min(left, EVENTS_AT_ONCE)} more of ${left}`);
 }
 
 /** Shows the events that the filters now let through, from the first one. */
