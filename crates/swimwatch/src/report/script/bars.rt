@@ -37,8 +37,8 @@ function asDrawn(name) {
   return bytes.map((byte) => (byte < 0x7f ? String.fromCharCode(byte) : '?')).join('');
 }
 
-/** Whether an episode is of the time of a bar or a mark. A death and a mark are at an episode's end,
-    and may be drawn a little later. */
+/** Whether an episode is of the time of a bar or a mark. A death and a mark are at the end of an
+    episode, and may be drawn a little later. */
 function isOfTime(episode, shape) {
   const [since, until] = timesOf(shape).map(microsOf);
   const [begin, end] = [episode.time, endOf(episode)].map(microsOf);

@@ -40,10 +40,9 @@ function makeTime(moment) {
   return make('time', { datetime: moment, title: moment }, clock(moment));
 }
 
-/** The word for a state, behind a sample of its colour. */
-function makeState(state) {
-  const word = state.overdue ? 'overdue' : state.state;
-  return make('span', { class: `state ${state.state}-state` }, word);
+/** The word for a member's state, behind a sample of its colour. */
+function makeState(member) {
+  return make('span', { class: `state ${member.state}-state` }, stateOf(member));
 }
 
 /** Goes to an element, and lets the keyboard go on from there. */

@@ -29,7 +29,8 @@ function endOf(episode) {
 
 /** What an episode is, in one line. */
 function makeSummary(episode) {
-  const what = episode.name === undefined ? 'trouble' : `suspected at incarnation ${episode.incarnation}`;
+  const isTrouble = episode.name === undefined;
+  const what = isTrouble ? 'trouble' : `suspected at incarnation ${episode.incarnation}`;
   return make('summary', {},
     makeTime(episode.time), ' ',
     make('b', {}, namesOf(episode).join(', ')), ` ${what}, ${endText(episode)} `,

@@ -42,6 +42,9 @@ const counted = (number, noun) => `${number} ${noun}${number === 1 ? '' : 's'}`;
 /** The values of a list that are in it for the first time, in their order. */
 const distinct = (values) => [...new Set(values)];
 
+/** The word for a member's state. */
+const stateOf = (member) => (member.overdue ? 'overdue' : member.state);
+
 const addressOf = (object) => {
   if (object.address === undefined) return '';
   const host = object.address.includes(':') ? `[${object.address}]` : object.address;

@@ -129,7 +129,7 @@ function makeChoice([key, measure]) {
 function showMatrix() {
   if (pairs.length === 0) {
     byId('measures').hidden = true;
-    byId('matrix').append(make('p', {}, 'No probes were seen.'));
+    write(byId('pair'), 'No probes were seen.');
     return;
   }
   const table = makeMatrix();

@@ -26,7 +26,7 @@ function showFacts() {
 
 /** How many members are in each state: 4 alive, 1 dead. */
 function stateCounts() {
-  const states = members.map((member) => (member.overdue ? 'overdue' : member.state));
+  const states = members.map(stateOf);
   const counts = distinct(states).map((state) => {
     const number = states.filter((other) => other === state).length;
     return `${number} ${state}`;
@@ -38,7 +38,9 @@ function stateCounts() {
 function captureText() {
   const names = about.captures.join(', ');
   if (about.captures.length === 1) return names;
-  return `${names}. They are one view: what a member would show that hears all of them.`;
+  return `${names}. They are one view: what a member would show that hears all of them. If they are `
+    + 'of members that were cut off from each other, no member believed that: write a report for '
+    + 'each side.';
 }
 
 /** The members at the end of the captures. */
