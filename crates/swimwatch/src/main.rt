@@ -18,7 +18,7 @@
 //! | `diff`, `side`, `changes` | what changed between two captures, dumps or members |
 //! | `chart`, `svg` | what is drawn |
 //! | `report` | a page with all of it |
-//! | `moment`, `window`, `names`, `tags`, `endpoint`, `texts`, `columns`, `json` | how it is written |
+//! | `moment`, `window`, `names`, `tags`, `endpoint`, `texts`, `columns`, `json`, `escape` | how it is written |
 //! | `counts` | what was read, and what was left out and why |
 //! | `said` | ending the program with a message of its own |
 #![tactic(auto)]
@@ -40,6 +40,7 @@ mod counts;
 mod diff;
 mod directory;
 mod endpoint;
+mod escape;
 mod follow;
 mod health;
 mod help;

@@ -118,7 +118,7 @@ legend { padding: 0; color: var(--soft); }
 #events tbody th { font-weight: normal; }
 
 @media print {
-  nav, #chart-hint, #chosen, #filter, #more-events, #chosen-timeline, #pair, #measures { display: none; }
+  nav, #chart-hint, #chosen, #measures, #pair, #filter, #more-events { display: none; }
   body { max-width: none; padding: 0; font-size: 11px; }
   .wide, #matrix { overflow: visible; max-height: none; }
   .level-0, .level-1, .level-2, .level-3, .level-4, .level-5, svg, .state::before {

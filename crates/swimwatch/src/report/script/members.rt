@@ -38,9 +38,9 @@ function stateCounts() {
 function captureText() {
   const names = about.captures.join(', ');
   if (about.captures.length === 1) return names;
-  return `${names}. They are one view: what a member would show that hears all of them. If they are `
-    + 'of members that were cut off from each other, no member believed that: write a report for '
-    + 'each side.';
+  return `${names}. They are one view: what a member would show that hears all of them. If they `
+    + 'are of members that were cut off from each other, no member believed that: write a report '
+    + 'for each side.';
 }
 
 /** The members at the end of the captures. */
