@@ -1,19 +1,19 @@
-# The page that swimwatch report writes. tests/watched runs it in its folder. What the page should hold is what the
-# other commands print, and an independent parser of HTML says what it holds.
+# The page that swimwatch report writes. tests/watched runs it in its folder. What the page should
+# hold is what the other commands print, and an independent parser of HTML says what it holds.
 # shellcheck shell=sh disable=SC2154
 
-# parts_of FILE: reads a page. Prints for each block of data its id and its objects, a line each, and in the files
-# page.svg and page.text the picture and all else. Fails if an element is not closed, or something may be loaded.
+# parts_of FILE: reads a page. Prints for each block of data its id and its objects, a line each,
+# and writes the picture to page.svg. Fails if an element is not closed, or something may be loaded.
 parts_of() {
     python3 - "$1" <<'EOF'
 import html.parser, json, re, sys
-LONE = {"meta", "input", "link", "img", "base"}
+LONE = {"meta", "input"}
 source = open(sys.argv[1], encoding="ascii").read()
 
 class Page(html.parser.HTMLParser):
     def __init__(self):
         super().__init__(convert_charrefs=False)
-        self.open, self.scripts, self.other = [], [], []
+        self.open, self.scripts = [], []
     def handle_starttag(self, tag, attributes):
         assert tag not in {"link", "img", "base", "iframe", "object", "embed"}, tag
         for name, value in attributes:
@@ -32,8 +32,6 @@ class Page(html.parser.HTMLParser):
     def handle_data(self, data):
         if self.open and self.open[-1] == "script":
             self.scripts[-1][1].append(data)
-        else:
-            self.other.append(data)
 
 page = Page()
 page.feed(source)
@@ -48,7 +46,9 @@ for attributes, data in page.scripts:
     for each in json.loads("".join(data)):
         print(attributes["id"], json.dumps(each, sort_keys=True))
 assert len(code) == 1, "more than one script"
-assert not re.search(r"\b(innerHTML|outerHTML|insertAdjacentHTML|document\.write|eval|import|fetch|XMLHttpRequest)\b", code[0])
+MARKUP = r"\b(innerHTML|outerHTML|insertAdjacentHTML|document\.write|createContextualFragment)\b"
+LOADING = r"\b(eval|Function|import|fetch|XMLHttpRequest|WebSocket|sendBeacon)\b"
+assert not re.search(MARKUP, code[0]) and not re.search(LOADING, code[0])
 assert not re.search(r"@import|url\((?!#)", source)
 assert set(re.findall(r"\w+:/+[^\"' <]*", source)) <= {"http://www.w3.org/2000/svg"}
 svg = re.findall(r"<svg .*?</svg>\n", source, re.S)
@@ -62,18 +62,22 @@ same_objects() {
     id=$1
     shift
     "$program" "$@" 2> err |
-        python3 -c 'import json, sys; [print(json.dumps(json.loads(line), sort_keys=True)) for line in sys.stdin]' > wanted
+        python3 -c '
+import json, sys
+for line in sys.stdin:
+    print(json.dumps(json.loads(line), sort_keys=True))' > wanted
     sed -n "s/^$id //p" parts > found
     check "a report has what $* prints"
 }
 
-# reported WORD..: the report of these captures, read with these options, has what the other commands print.
+# reported WORD..: the report of these captures, with these options, has what other commands print.
 reported() {
     run report "$@"
     mv out page
     mv err said
-    parts_of page > parts 2> err
-    count "the report of $* is one page that loads nothing" "$([ $? -eq 0 ] || echo "; $(tail -n 1 err)")"
+    fault=
+    parts_of page > parts 2> err || fault="; $(tail -n 1 err)"
+    count "the report of $* is one page that loads nothing" "$fault"
     same_objects members members --merge --json "$@"
     same_objects timeline timeline --merge --json "$@"
     "$program" chart "$@" > wanted 2> err
@@ -84,7 +88,7 @@ reported() {
     check "the report of $* says what was read"
 }
 
-# probed WORD..: the report of these captures has their probes. (`probes` takes no --start and no --wait.)
+# probed WORD..: the report of these captures has their probes.
 probed() {
     same_objects probes probes --json "$@"
 }
@@ -110,13 +114,14 @@ if command -v python3 > /dev/null; then
     head -c 24 captures/basic/all.pcap > none.pcap
     reported none.pcap
 
-    # forged NAME: a member with this name in hexadecimal, which an Alive of it tells, is in the page by that name
+    # forged BYTES: the page is whole if an Alive has them as the name and the metadata of a member
     forged() {
-        packet "0486a441646472a47f000001ab496e6361726e6174696f6e01a44d657461$(raw "$1")a44e6f6465$(raw "$1")a4506f7274cd1f0aa356736ea0" \
-            > forged.pcap
+        name=$(raw "$1")
+        front=0486a441646472a47f000001ab496e6361726e6174696f6e01a44d657461
+        packet "$front${name}a44e6f6465${name}a4506f7274cd1f0aa356736ea0" > forged.pcap
         reported forged.pcap
     }
-    # </script><script>alert(1) and <!--<script> and "'>&lt; and a right-to-left mark, a line separator, a NUL
+    # </script><script>alert(1), <!--<script>, "'>&lt;]]>, and a name that turns and ends lines
     forged 3c2f7363726970743e3c7363726970743e616c6572742831
     forged 3c212d2d3c7363726970743e
     forged 22273e266c743b5d5d3e

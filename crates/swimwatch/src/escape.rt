@@ -7,8 +7,8 @@ ghost use Rattle.swimwatch.specs.Page.{IsData};
 
 use std::alloc::AllocError;
 
-/// Adds a character in four hexadecimal digits, or in twice four for a pair of surrogates (RFC 8259,
-/// section 7).
+/// Adds a character in four hexadecimal digits, or in twice four for a pair of surrogates (RFC
+/// 8259, section 7).
 pub(crate) fn write_escape(text: &mut String, code: u32) -> Result<(), AllocError>
     ensures inert { All IsData (string_bytes text.old)
         → OnOk result (All IsData (string_bytes text.new)) }

@@ -15,11 +15,9 @@ use std::alloc::AllocError;
 /// If out of memory for the text.
 pub(crate) fn write_block(text: &mut String, id: &str, objects: &str) -> Result<(), AllocError> {
     write!(text, "<script type=\"application/json\" id=\"{id}\">[")?;
-    let mut between = "\n";
-    for object in objects.lines() {
-        text.push_str(between)?;
+    for (index, object) in objects.lines().enumerate() {
+        text.push_str(if index == 0 { "\n" } else { ",\n" })?;
         write_inert(text, object)?;
-        between = ",\n";
     }
     text.push_str("\n]</script>\n")
 }

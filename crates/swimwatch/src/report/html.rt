@@ -61,7 +61,7 @@ and trouble for which nobody was accused.</p>
 <legend>Each cell shows, for the probes by its row's member of its column's member</legend>
 </fieldset>
 <ul id="scale" aria-label="What the colours and digits of cells mean"></ul>
-<p id="pair" role="status">Point at a cell, or go to one with Tab and the arrow keys, to read its
+<p id="pair">Point at a cell, or go to one with Tab and the arrow keys, to read its
 numbers.</p>
 <div id="matrix" class="wide"></div>
 </section>

@@ -1,7 +1,7 @@
 //! How the page looks. The colours of states are the chart's.
 //!
-//! The levels of the matrix go from light to dark, or from dark to light on a dark page, so that they
-//! can be told apart in grey.
+//! The levels of the matrix go from light to dark, or from dark to light on a dark page, so that
+//! they can be told apart in grey.
 
 pub(crate) const STYLE: &str = r##"
 :root {
@@ -39,7 +39,9 @@ table { border-collapse: collapse; font-variant-numeric: tabular-nums; }
 caption { position: absolute; width: 1px; height: 1px; overflow: hidden; clip-path: inset(50%); }
 th { text-align: left; font-weight: 600; }
 td, th { padding: .2rem .9rem .2rem 0; vertical-align: top; }
-td { max-width: 30rem; overflow-wrap: break-word; }
+td, tbody th { max-width: 30rem; overflow-wrap: break-word; }
+tbody th { min-width: 5.5em; }
+#matrix tbody th { min-width: 0; }
 tbody tr { border-top: 1px solid var(--line); }
 summary { cursor: pointer; padding: .25rem 0; }
 time { white-space: nowrap; }
