@@ -38,6 +38,9 @@ const MEASURES = {
 /** The class of a value, from 0 for the best to 5. */
 const classOf = (measure, value) => measure.limits.filter((limit) => value > limit).length;
 
+/** From this number of explanations on, they tell nothing. */
+const MANY_EXPLANATIONS = 5;
+
 /** The numbers of a pair, in words. */
 function pairText(pair) {
   const counts = [
@@ -48,7 +51,8 @@ function pairText(pair) {
   if (counts.length > 0) parts[0] += `: ${counts.join(', ')}`;
   if (decidedOf(pair) > 0) parts.push(`${shareText(pair)} % without an answer in time`);
   if (pair.rtt_us) parts.push(tripText(pair.rtt_us));
-  parts.push(...pair.maybe.map(({ of, probes }) => `${probes} maybe ${of.join(' or ')}`));
+  const telling = pair.maybe.filter(({ of }) => of.length < MANY_EXPLANATIONS);
+  parts.push(...telling.map(({ of, probes }) => `${probes} without an answer: ${of.join(' or ')}`));
   return parts.join('; ');
 }
 
