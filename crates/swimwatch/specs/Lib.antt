@@ -2,6 +2,7 @@ pub mod Asking
 pub mod Carriage
 pub mod Chart
 pub mod Datagrams
+pub mod Page
 pub mod Records
 pub mod Svg
 pub mod Told

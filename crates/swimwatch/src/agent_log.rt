@@ -7,7 +7,7 @@ mod shown;
 
 use lines::{Line, line_of, name_of_agent};
 use memberlist_probes::{Captures, Outcome, Probe, Timing};
-pub(crate) use shown::{write_logs, write_log_objects};
+pub(crate) use shown::{write_log_objects, write_logs};
 use std::alloc::{AllocError, Global};
 use std::collections::BTreeMap;
 use swim_claim::Claim;

@@ -53,6 +53,11 @@ impl Chart {
         };
     }
 
+    /// The period that the picture shows, if something was sent.
+    pub(crate) fn span(&self) -> Option<Span> {
+        self.span
+    }
+
     /// Takes in what a message changed about its member.
     pub(crate) fn take(
         &mut self,

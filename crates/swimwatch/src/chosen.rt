@@ -32,6 +32,8 @@ pub(crate) enum Verb {
     Why,
     /// When each member first had each piece of news.
     Spread,
+    /// One page with all of it.
+    Report,
 }
 
 impl Verb {
@@ -50,13 +52,14 @@ impl Verb {
             "health" => Some(Verb::Health),
             "why" => Some(Verb::Why),
             "spread" => Some(Verb::Spread),
+            "report" => Some(Verb::Report),
             _ => None,
         }
     }
 
     /// Whether it tells what the failure detectors did.
     pub(crate) fn detects(self) -> bool {
-        matches!(self, Verb::Probes | Verb::Health | Verb::Why)
+        matches!(self, Verb::Probes | Verb::Health | Verb::Why | Verb::Report)
     }
 }
 

@@ -136,6 +136,13 @@ Examples:
   swimwatch spread web-1.pcap web-2.pcap web-3.pcap
   swimwatch spread --member web-5 web-1.pcap";
 
+pub(crate) const REPORT: &str = "\
+The page has the members, a chart, the episodes, the probes and the timeline. It needs no network.
+Several captures are one view, that of a member which hears all of them.
+
+Examples:
+  swimwatch report web-1.pcap web-2.pcap web-3.pcap > incident.html";
+
 pub(crate) const PULL: &str = "\
 Asks without joining, so nothing changes in the cluster. Of several members it prints what most of
 them report, and below it the names on which they differ and the members that do not answer.

@@ -3,6 +3,7 @@
 use crate::change::Change;
 use crate::claims::kind_word;
 use crate::endpoint::endpoint;
+use crate::escape::write_escape;
 use crate::listener::Listener;
 use crate::names::{is_mark, write_name};
 use crate::places::Places;
@@ -216,18 +217,6 @@ impl Object {
         }
         text.push('\n')
     }
-}
-
-/// Adds a character as JSON escapes it: four hexadecimal digits, or twice four for a pair of
-/// surrogates (RFC 8259, section 7).
-fn write_escape(text: &mut String, code: u32) -> Result<(), AllocError> {
-    if code < 0x1_0000 {
-        return write!(text, "\\u{code:04x}");
-    }
-    let above = code.saturating_sub(0x1_0000);
-    let high = 0xd800 | (above >> 10) & 0x3ff;
-    let low = 0xdc00 | above & 0x3ff;
-    write!(text, "\\u{high:04x}\\u{low:04x}")
 }
 
 /// Adds the object for what a view shows about a name.

@@ -18,7 +18,8 @@
 //! | `agreement` | what members answered, and whether they agree |
 //! | `diff`, `side`, `changes` | what changed between two captures, dumps or members |
 //! | `chart`, `svg` | what is drawn |
-//! | `moment`, `window`, `names`, `tags`, `endpoint`, `texts`, `columns`, `json` | how it is written |
+//! | `report` | a page with all of it |
+//! | `moment`, `window`, `names`, `tags`, `endpoint`, `texts`, `columns`, `json`, `escape` | how it is written |
 //! | `counts` | what was read, and what was left out and why |
 //! | `said` | ending the program with a message of its own |
 #![tactic(auto)]
@@ -41,6 +42,7 @@ mod counts;
 mod diff;
 mod directory;
 mod endpoint;
+mod escape;
 mod follow;
 mod health;
 mod help;
@@ -64,6 +66,7 @@ mod progress;
 mod pull;
 mod recent;
 mod records;
+mod report;
 mod request;
 mod ring;
 mod roster;

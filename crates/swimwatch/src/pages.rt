@@ -51,7 +51,7 @@ struct Page {
 }
 
 /// The program's commands.
-const PAGES: [Page; 12] = [
+const PAGES: [Page; 13] = [
     Page {
         name: "members",
         about: "Prints the members as they are at the end of the captures",
@@ -209,6 +209,25 @@ const PAGES: [Page; 12] = [
             Flag::Port,
             Flag::Label,
             Flag::Json,
+        ],
+    },
+    Page {
+        name: "report",
+        about: "Writes one page about all of it, for a browser (HTML)",
+        example: help::REPORT,
+        inputs: Inputs::Captures,
+        flags: &[
+            Flag::Wait,
+            Flag::Mult,
+            Flag::Member,
+            Flag::From,
+            Flag::To,
+            Flag::For,
+            Flag::Start,
+            Flag::Port,
+            Flag::Label,
+            Flag::ProbeTimeout,
+            Flag::ProbeInterval,
         ],
     },
     Page {

@@ -1,7 +1,8 @@
 //! Listening to packets and streams.
 //!
 //! `streams` hears connections, `tallies` counts what senders sent, `detecting` follows their probes,
-//! `spreading` their news, and `showing` shows what was asked for.
+//! `spreading` their news, `showing` shows what was asked for, and `reporting` shows all of it in one
+//! page.
 
 ghost use Rattle.std.specs.Prelude.{◌≡◌, OnOk, MatchBool};
 ghost use Rattle.memberlist_view.specs.Told.{view_after};
@@ -9,6 +10,7 @@ ghost use Rattle.swimwatch.specs.Told.{told_text, packet_told, heard_of};
 ghost use Rattle.swimwatch.specs.Views.{is_warning, MaySee, HearsMessage, HearsMessages, HearsDatagram};
 
 mod detecting;
+mod reporting;
 mod showing;
 mod spreading;
 mod streams;
@@ -24,6 +26,7 @@ use crate::listener::Listener;
 use crate::messages::Messages;
 use crate::pings::{Pings, place_at, sender_of};
 use crate::places::Places;
+use crate::report::Gathered;
 use crate::sent::Sent;
 use crate::spread::Spread;
 use crate::talkers::{Kind, Talkers};
@@ -82,6 +85,8 @@ pub(crate) struct Watch<'a> {
     label: Vec<u8>,
     talkers: Talkers,
     chart: Chart,
+    /// What a report needs before the end.
+    gathered: Gathered,
     table: Table,
     pub(crate) counts: Counts,
     /// What the failure detectors did, if that is asked for.
@@ -124,7 +129,7 @@ impl<'a> Watch<'a> {
             warnings: Warnings::new(alloc),
             places: Places::new(alloc),
             verb: chosen.verb,
-            json: chosen.json,
+            json: chosen.json || chosen.verb == Verb::Report,
             member,
             now: 0,
             mult: chosen.mult,
@@ -132,6 +137,7 @@ impl<'a> Watch<'a> {
             label: chosen.asking.label.to_vec(alloc)?,
             talkers: Talkers::new(alloc, chosen.verb == Verb::Talkers),
             chart: Chart::new(alloc),
+            gathered: Gathered::new(alloc, chosen)?,
             table: Table::new(alloc),
             counts: Counts::default(),
             detector: detector_of(alloc, chosen, &window),

@@ -10,7 +10,8 @@ use crate::names::write_name;
 use crate::texts::millis_text;
 use crate::window::Window;
 use memberlist_causes::{
-    Accusation, Asked, Behind, Case, Chapter, Episode, Member, Members, Of, Suspicion, Tried, Trouble,
+    Accusation, Asked, Behind, Case, Chapter, Episode, Member, Members, Of, Suspicion, Tried,
+    Trouble,
 };
 use memberlist_probes::{Explanation, Outcome};
 use reasons::write_reason;
@@ -123,10 +124,8 @@ pub(crate) fn write_chapter(
 
 /// Whether trouble is told with a suspicion.
 pub(crate) fn is_told(chapter: &Chapter, teller: Teller, index: usize) -> bool {
-    chapter
-        .suspicions
-        .iter()
-        .any(|suspicion| suspicion.cause == Some(index) && teller.tells(suspicion))
+    chapter.suspicions.iter().any(|suspicion| suspicion.cause == Some(index)
+        && teller.tells(suspicion))
 }
 
 fn write_suspicion(
@@ -266,7 +265,10 @@ fn write_outcome(text: &mut String, teller: Teller, case: &Case) -> Result<(), A
     let alloc = *text.allocator();
     let took = millis_text(alloc, case.round_trip.unwrap_or(0))?;
     match case.outcome {
-        Outcome::Answered if case.is_unread => write!(text, "answered in {took} ms, but it went on"),
+        Outcome::Answered if case.is_unread => write!(
+            text,
+            "answered in {took} ms, but it went on"
+        ),
         Outcome::Answered => write!(text, "answered in {took} ms"),
         Outcome::Late => write!(text, "answered late, in {took} ms"),
         Outcome::Indirect => {

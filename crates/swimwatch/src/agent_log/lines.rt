@@ -23,19 +23,23 @@ const PHRASES: [(&str, &str, Says); 6] = [
     ("Failed UDP ping: ", " (timeout", Says::FailedPing),
     ("Suspect ", " has failed, no acks", Says::Suspect),
     ("Marking ", " as failed", Says::Failed),
-    ("Was able to connect to ", " but other probes", Says::Connected),
-    ("Was able to connect to ", " over TCP but UDP", Says::Connected),
+    (
+        "Was able to connect to ",
+        " but other probes",
+        Says::Connected,
+    ),
+    (
+        "Was able to connect to ",
+        " over TCP but UDP",
+        Says::Connected,
+    ),
 ];
 
 /// What stands before the name of a member that joins. The first is the agent itself.
 const JOINS: &str = "EventMemberJoin: ";
 
 /// The line with this number, if it says something that captures can confirm.
-pub(crate) fn line_of(
-    alloc: Global,
-    number: u64,
-    text: &str,
-) -> Result<Option<Line>, AllocError> {
+pub(crate) fn line_of(alloc: Global, number: u64, text: &str) -> Result<Option<Line>, AllocError> {
     let Some(time) = time_of(alloc, text)? else {
         return Ok(None);
     };

@@ -15,7 +15,7 @@ use crate::why::objects::write_chapter_objects;
 use crate::why::{Teller, write_chapter};
 use crate::window::Window;
 use capture::Segment;
-use memberlist_causes::{Causes, Chapter, Kind, News};
+use memberlist_causes::{Causes, Kind, News};
 use memberlist_message::Message;
 use memberlist_probes::{Accusation, Detector, Packet, Sighting, Span, Timing};
 use memberlist_view::Event;
@@ -40,7 +40,7 @@ pub(super) fn detector_of(alloc: Global, chosen: &Chosen, window: &Window) -> Op
 /// What tells why members were suspected, if that is asked for.
 pub(super) fn causes_of(alloc: Global, chosen: &Chosen) -> Option<Causes> {
     match chosen.verb {
-        Verb::Why => Some(Causes::new(alloc)),
+        Verb::Why | Verb::Report => Some(Causes::new(alloc)),
         _ => None,
     }
 }
@@ -83,7 +83,7 @@ impl<'a> Watch<'a> {
     }
 
     /// Takes in the probes that are over, or all that are left, and tells what can be told then.
-    fn take_probes(&mut self, is_end: bool) -> Result<(), AllocError>
+    pub(super) fn take_probes(&mut self, is_end: bool) -> Result<(), AllocError>
         ensures { self.new.listener ≡ self.old.listener }
     {
         let Some(detector) = &mut self.detector else {
@@ -102,9 +102,11 @@ impl<'a> Watch<'a> {
             for log in &mut self.logs {
                 log.probe(self.alloc, &probe, captures, timing, now)?;
             }
-            match &mut self.causes {
-                Some(causes) => causes.probe(&probe, captures, timing, now)?,
-                None => detector.note(&probe)?,
+            if let Some(causes) = &mut self.causes {
+                causes.probe(&probe, captures, timing, now)?;
+            }
+            if self.verb != Verb::Why {
+                detector.note(&probe)?;
             }
         }
         self.tell_causes(is_end)
@@ -133,7 +135,14 @@ impl<'a> Watch<'a> {
                 window: &self.window,
                 timeout: causes.timeout(),
             };
-            write_told(self.alloc, &mut self.out, self.json, teller, &chapter)?;
+            let alloc = self.alloc;
+            match (self.verb, self.json) {
+                (Verb::Report, _) => {
+                    write_chapter_objects(alloc, &mut self.gathered.episodes, teller, &chapter)?;
+                }
+                (_, true) => write_chapter_objects(alloc, &mut self.out, teller, &chapter)?,
+                (_, false) => write_chapter(&mut self.out, teller, &chapter)?,
+            }
         }
         Ok(())
     }
@@ -284,6 +293,19 @@ impl<'a> Watch<'a> {
         }
     }
 
+    /// The objects of the pairs, when all is taken in.
+    pub(super) fn pair_objects(&self) -> Result<String, AllocError> {
+        let mut text = String::new(self.alloc);
+        let shown = Shown {
+            prober: &self.prober,
+            target: &self.target,
+        };
+        if let Some(detector) = &self.detector {
+            write_pair_objects(self.alloc, &mut text, &detector.pairs, shown)?;
+        }
+        Ok(text)
+    }
+
     /// Shows what the failure detectors did.
     pub(super) fn show_detector(&mut self) -> Result<(), AllocError> {
         self.take_probes(true)?;
@@ -306,20 +328,5 @@ impl<'a> Watch<'a> {
                 write_health_objects(self.alloc, &mut self.out, &detector.healths, &self.member)
             }
         }
-    }
-}
-
-/// Writes what is told of suspicions at once.
-fn write_told(
-    alloc: Global,
-    text: &mut String,
-    is_json: bool,
-    teller: Teller,
-    chapter: &Chapter,
-) -> Result<(), AllocError> {
-    if is_json {
-        write_chapter_objects(alloc, text, teller, chapter)
-    } else {
-        write_chapter(text, teller, chapter)
     }
 }

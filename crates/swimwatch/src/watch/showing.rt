@@ -77,12 +77,13 @@ impl<'a> Watch<'a> {
         match self.verb {
             Verb::Timeline if self.is_timely(sent.time) => self.show_event(sent, change),
             Verb::Chart => self.chart.take(&self.listener, sent, change),
+            Verb::Report => self.report_event(sent, change),
             _ => Ok(()),
         }
     }
 
     /// Shows an event.
-    fn show_event(&mut self, sent: &Sent, change: &Change) -> Result<(), AllocError>
+    pub(super) fn show_event(&mut self, sent: &Sent, change: &Change) -> Result<(), AllocError>
         ensures { self.new.listener ≡ self.old.listener }
     {
         let mut line = String::new(self.alloc);
@@ -132,7 +133,7 @@ impl<'a> Watch<'a> {
                 let told = Told::of_packet(self.alloc, packet)?;
                 self.show_claim(&sent, &told)
             }
-            (Verb::Timeline, is_json) if is_first && self.is_timely(sent.time) => {
+            (Verb::Timeline | Verb::Report, is_json) if is_first && self.is_timely(sent.time) => {
                 let mut line = String::new(self.alloc);
                 if is_json {
                     write_warned(&mut line, &self.listener, &sent, packet)?;
@@ -147,10 +148,13 @@ impl<'a> Watch<'a> {
         }
     }
 
-    /// Notes an event to print.
+    /// Notes an event to print, or to report.
     fn tell(&mut self, key: String, line: String) -> Result<(), AllocError>
         ensures { self.new.listener ≡ self.old.listener }
     {
+        if self.verb == Verb::Report {
+            return self.gathered.timeline.push_str(&line);
+        }
         let nth = match self.came.get(&key) {
             Some(came) => came.saturating_add(1),
             None => 1,
@@ -196,6 +200,7 @@ impl<'a> Watch<'a> {
             (Verb::Chart, _) => self.chart.write(&mut self.out),
             (Verb::Probes | Verb::Health | Verb::Why, _) => self.show_detector(),
             (Verb::Spread, _) => self.show_spread(),
+            (Verb::Report, _) => self.write_report(deadline),
             _ => Ok(()),
         }
     }

@@ -67,7 +67,10 @@ fn write_host(text: &mut String, evidence: &Evidence) -> Result<(), AllocError> 
             if *mute == 0 {
                 return Ok(());
             }
-            write!(text, ", its agent answered none of {mute} pings in them in time")
+            write!(
+                text,
+                ", its agent answered none of {mute} pings in them in time"
+            )
         }
         Evidence::Handshake { took } => {
             let took = millis_text(*text.allocator(), *took)?;
@@ -89,11 +92,7 @@ fn write_host(text: &mut String, evidence: &Evidence) -> Result<(), AllocError> 
 }
 
 /// What its agent did.
-fn write_agent(
-    text: &mut String,
-    teller: Teller,
-    evidence: &Evidence,
-) -> Result<(), AllocError> {
+fn write_agent(text: &mut String, teller: Teller, evidence: &Evidence) -> Result<(), AllocError> {
     match evidence {
         Evidence::Silence { longest } => {
             text.push_str("its agent was heard meanwhile, longest silence ")?;
@@ -151,11 +150,7 @@ fn write_agent(
 }
 
 /// What others have to do with it.
-fn write_others(
-    text: &mut String,
-    teller: Teller,
-    evidence: &Evidence,
-) -> Result<(), AllocError> {
+fn write_others(text: &mut String, teller: Teller, evidence: &Evidence) -> Result<(), AllocError> {
     match evidence {
         Evidence::Hit { hit, not } => {
             text.push_str("hit: ")?;
@@ -196,11 +191,7 @@ fn write_others(
 }
 
 /// What happened to probes: `probes of it: 3 ping lost, 1 silent`.
-fn write_explained(
-    text: &mut String,
-    is_own: bool,
-    counts: &[u64; 7],
-) -> Result<(), AllocError> {
+fn write_explained(text: &mut String, is_own: bool, counts: &[u64; 7]) -> Result<(), AllocError> {
     let mut before = if is_own {
         "its own probes: "
     } else {

@@ -1,0 +1,68 @@
+//! Showing all of it in one page.
+
+ghost use Rattle.std.specs.Prelude.{◌≡◌};
+
+use super::Watch;
+use crate::change::Change;
+use crate::json::Object;
+use crate::members::{Deadline, write_member_objects};
+use crate::report::Report;
+use crate::sent::Sent;
+use crate::texts::moment_text;
+use serde_json::Value;
+use std::alloc::AllocError;
+
+impl<'a> Watch<'a> {
+    /// Takes in a change, for the chart and for the timeline.
+    pub(super) fn report_event(&mut self, sent: &Sent, change: &Change) -> Result<(), AllocError>
+        ensures { self.new.listener ≡ self.old.listener }
+    {
+        self.chart.take(&self.listener, sent, change)?;
+        if self.is_timely(sent.time) {
+            self.show_event(sent, change)?;
+        }
+        Ok(())
+    }
+
+    /// Writes the report. It has all members, also those whose state began before `--from`.
+    pub(super) fn write_report(&mut self, deadline: Deadline) -> Result<(), AllocError> {
+        self.take_probes(true)?;
+        let mut picture = String::new(self.alloc);
+        self.chart.write(&mut picture)?;
+        let mut members = String::new(self.alloc);
+        let deadline = Deadline {
+            from: None,
+            ..deadline
+        };
+        write_member_objects(&mut members, &self.listener, &self.places, deadline)?;
+        let report = Report {
+            about: self.about()?,
+            picture,
+            members,
+            probes: self.pair_objects()?,
+            episodes: &self.gathered.episodes,
+            timeline: &self.gathered.timeline,
+        };
+        report.write(&mut self.out)
+    }
+
+    /// The object about the captures: their files, the first and the last moment that is shown, and
+    /// what was read.
+    fn about(&self) -> Result<String, AllocError> {
+        let alloc = self.alloc;
+        let mut object = Object::new(alloc);
+        let mut captures = Vec::new(alloc);
+        for word in &self.gathered.captures {
+            captures.push(Value::String(word.clone()?))?;
+        }
+        object.list("captures", captures)?;
+        if let Some(span) = self.chart.span() {
+            object.text("first", moment_text(alloc, span.first)?)?;
+            object.text("last", moment_text(alloc, span.last)?)?;
+        }
+        object.text("read", self.counts.text(alloc, !self.keys.is_empty())?)?;
+        let mut text = String::new(alloc);
+        object.write(&mut text)?;
+        Ok(text)
+    }
+}
