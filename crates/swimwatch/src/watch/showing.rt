@@ -29,6 +29,7 @@ impl<'a> Watch<'a> {
     ) -> Result<(), AllocError>
         ensures { self.new.listener ≡ self.old.listener }
     {
+        self.spread_news(sent, told)?;
         let name = told.claim.name().bytes();
         self.detect_event(name, event)?;
         match (self.verb, event) {
