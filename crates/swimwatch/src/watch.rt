@@ -382,7 +382,6 @@ impl<'a> Watch<'a> {
         ensures view { OnOk result (self.new.listener.view
             ≡ view_after self.old.listener.view (heard_of sent.time (told_text told.now))) }
     {
-        self.spread_news(&sent, told)?;
         let heard = told.heard(self.alloc, sent.time)?;
         let event = self.take_in(&heard)?;
         self.places.note(&told.claim, sent.time)?;

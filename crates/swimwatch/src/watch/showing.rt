@@ -29,6 +29,7 @@ impl<'a> Watch<'a> {
     ) -> Result<(), AllocError>
         ensures { self.new.listener ≡ self.old.listener }
     {
+        self.spread_news(sent, told)?;
         let name = told.claim.name().bytes();
         self.detect_claim(sent, told)?;
         self.detect_event(sent, told, event)?;
