@@ -3,6 +3,7 @@
 use crate::chapter::Chapter;
 use crate::diagnosis::{diagnose, restart};
 use crate::facts::Facts;
+use crate::restarts::Restart;
 use crate::words::{Saying, Word};
 use crate::{Case, Episode, Members, News};
 use memberlist_message::Message;
@@ -115,6 +116,9 @@ impl Causes {
         let Some(member) = self.facts.members.at(from) else {
             return Ok(());
         };
+        if let Saying::Ping(number) = saying {
+            self.facts.restarts.ping(member, time, number)?;
+        }
         let to = self.facts.members.at(to);
         self.facts.words.note(member, Word { time, to, saying })
     }
@@ -227,6 +231,9 @@ impl Causes {
             self.facts.look(captures, timing)?;
             return self.alone(index);
         }
+        if let Some(restart) = self.restart(stretch, settled) {
+            return self.restarted(restart);
+        }
         self.looked = settled;
         self.forget(stretch, settled);
         Ok(None)
@@ -248,8 +255,11 @@ impl Causes {
         if let Some(stretch) = self.stretch() {
             return self.scene(stretch);
         }
-        match self.lone(None, u64::MAX) {
-            Some(index) => self.alone(index),
+        if let Some(index) = self.lone(None, u64::MAX) {
+            return self.alone(index);
+        }
+        match self.restart(None, u64::MAX) {
+            Some(restart) => self.restarted(restart),
             None => Ok(None),
         }
     }
@@ -301,6 +311,52 @@ impl Causes {
                 self.facts.episodes.ended.push_back(episode)?;
             }
         }
+        self.note_told(&chapter)?;
+        Ok(Some(chapter))
+    }
+
+    /// Forgets the restarts of which this tells.
+    fn note_told(&mut self, chapter: &Chapter) -> Result<(), AllocError> {
+        for trouble in &chapter.troubles {
+            let from = trouble.begin.saturating_sub(PAUSE);
+            let to = trouble.until.saturating_add(PAUSE);
+            self.facts.restarts.told(trouble, from, to)?;
+        }
+        Ok(())
+    }
+
+    /// The first restart that is over, to which no failed probes belong, unless it follows a leave.
+    fn restart(&mut self, stretch: Option<Stretch>, settled: u64) -> Option<Restart> {
+        for _ in 0..self.facts.restarts.all.len() {
+            let restart = self.facts.restarts.all.front().copied()?;
+            let belongs = match stretch {
+                Some(stretch) => stretch.begin <= restart.after.saturating_add(PAUSE),
+                None => false,
+            };
+            if belongs || settled <= restart.after.saturating_add(PAUSE) {
+                return None;
+            }
+            let _ = self.facts.restarts.all.pop_front();
+            let is_after_leave = self.facts.episodes.leaves.iter().any(|leave| leave.of
+                == restart.of
+                && restart.is_after_leave(leave.time));
+            if !is_after_leave {
+                return Some(restart);
+            }
+        }
+        None
+    }
+
+    /// Tells of a restart to which no suspicion and no failed probe belongs.
+    fn restarted(&mut self, restart: Restart) -> Result<Option<Chapter>, AllocError> {
+        let alloc = self.facts.alloc;
+        let mut chapter = Chapter {
+            suspicions: Vec::new(alloc),
+            troubles: Vec::new(alloc),
+        };
+        chapter
+            .troubles
+            .push(restart.trouble(alloc, &self.facts.contacts)?)?;
         Ok(Some(chapter))
     }
 
@@ -331,6 +387,7 @@ impl Causes {
             chapter.troubles.push(trouble)?;
         }
         chapter.add(&self.facts, episode)?;
+        self.note_told(&chapter)?;
         Ok(Some(chapter))
     }
 

@@ -2,6 +2,7 @@
 
 use crate::contacts::Contacts;
 use crate::episodes::Episodes;
+use crate::restarts::Restarts;
 use crate::words::Words;
 use crate::{Case, Member, Members};
 use memberlist_probes::{Captures, Timing};
@@ -16,6 +17,7 @@ pub(crate) struct Facts {
     pub(crate) words: Words,
     pub(crate) contacts: Contacts,
     pub(crate) episodes: Episodes,
+    pub(crate) restarts: Restarts,
     /// The probes that are over, in the order of their times.
     pub(crate) cases: VecDeque<Case>,
     /// The members at whose hosts captures were taken.
@@ -38,6 +40,7 @@ impl Facts {
             words: Words::new(alloc),
             contacts: Contacts::new(alloc),
             episodes: Episodes::new(alloc),
+            restarts: Restarts::new(alloc),
             cases: VecDeque::new(alloc),
             points: Vec::new(alloc),
             is_between: false,

@@ -11,6 +11,7 @@
 //! | `rules`, `ways` | which cause is told of a member |
 //! | `subject` | the member that failed probes touch, and what was captured of it meanwhile |
 //! | `numbers` | what the numbers of a member's pings tell of a silence |
+//! | `restarts` | members whose pings begin anew |
 //! | `scene` | the time in which probes failed |
 //! | `facts` | what the captures tell: `members`, `words`, `contacts`, `case`, `episodes` |
 #![tactic(auto)]
@@ -27,6 +28,7 @@ mod facts;
 mod groups;
 mod members;
 mod numbers;
+mod restarts;
 mod rules;
 mod scene;
 mod subject;

@@ -34,9 +34,9 @@ impl Silence {
 
 /// A ping that was seen.
 #[derive(Clone, Copy)]
-struct Ping {
-    time: u64,
-    number: u32,
+pub(crate) struct Ping {
+    pub(crate) time: u64,
+    pub(crate) number: u32,
 }
 
 /// What the numbers of its pings tell of the longest silence of a member in this time.
@@ -78,7 +78,7 @@ fn sent_within(facts: &Facts, time: u64) -> u64 {
 }
 
 /// Whether the numbers begin anew.
-fn anew(before: Ping, after: Ping) -> Option<Numbers> {
+pub(crate) fn anew(before: Ping, after: Ping) -> Option<Numbers> {
     let is_later = before.time.saturating_add(AT_ONCE) < after.time;
     let is_far = before.number.saturating_sub(after.number) > NEIGHBOURS;
     if is_later || is_far {
