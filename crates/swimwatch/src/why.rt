@@ -290,12 +290,12 @@ fn write_left(text: &mut String, case: &Case) -> Result<(), AllocError> {
     if MANY <= left {
         return text.push_str(" (nothing captured says why)");
     }
-    let mut before = " (";
+    let mut is_first = true;
     for (explanation, is_left) in Explanation::ALL.iter().zip(&case.left) {
         if *is_left {
-            text.push_str(before)?;
+            text.push_str(if is_first { " (" } else { " or " })?;
             text.push_str(explanation.words())?;
-            before = " or ";
+            is_first = false;
         }
     }
     text.push(')')

@@ -192,15 +192,17 @@ fn write_others(text: &mut String, teller: Teller, evidence: &Evidence) -> Resul
 
 /// What happened to probes: `probes of it: 3 ping lost, 1 silent`.
 fn write_explained(text: &mut String, is_own: bool, counts: &[u64; 7]) -> Result<(), AllocError> {
-    let mut before = if is_own {
+    text.push_str(if is_own {
         "its own probes: "
     } else {
         "probes of it: "
-    };
+    })?;
+    let mut is_first = true;
     for (explanation, count) in Explanation::ALL.iter().zip(counts) {
         if *count > 0 {
-            write!(text, "{before}{count} {}", explanation.words())?;
-            before = ", ";
+            text.push_str(if is_first { "" } else { ", " })?;
+            write!(text, "{count} {}", explanation.words())?;
+            is_first = false;
         }
     }
     Ok(())
