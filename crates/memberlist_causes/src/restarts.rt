@@ -8,8 +8,8 @@ use crate::{Cause, Member};
 use std::alloc::{AllocError, Global};
 use std::collections::{BTreeMap, VecDeque};
 
-/// How long before the first ping of a new process its host may have refused (own), in microseconds.
-const REFUSED: u64 = 12_000_000;
+/// How long a member may be away that nobody suspects meanwhile (own), in microseconds.
+const UNNOTICED: u64 = 12_000_000;
 
 /// How long after a leave a new process is no surprise (own).
 const LEFT: u64 = 60_000_000;
@@ -53,7 +53,9 @@ impl Restarts {
             let Some(Numbers::Anew { before, after }) = anew(before, ping) else {
                 return Ok(());
             };
-            self.all.push_back(Restart { of, before, after })?;
+            if after.saturating_sub(before) <= UNNOTICED {
+                self.all.push_back(Restart { of, before, after })?;
+            }
         }
         self.last.insert(of, ping)?;
         Ok(())
@@ -87,7 +89,7 @@ impl Restart {
         alloc: Global,
         contacts: &Contacts,
     ) -> Result<Trouble, AllocError> {
-        let from = self.after.saturating_sub(REFUSED);
+        let from = self.after.saturating_sub(UNNOTICED);
         let (mut times, mut first) = (0u64, self.after);
         for contact in contacts.all() {
             let is_timely = from <= contact.time && contact.time <= self.after;
