@@ -133,18 +133,18 @@ impl Case {
     }
 
     /// Whether it is one of the prober's own that had no answer in time.
-    pub fn is_bad(&self) -> bool {
+    pub(crate) fn is_bad(&self) -> bool {
         let is_well = matches!(self.outcome, Outcome::Answered | Outcome::Open);
         !self.is_relayed && (self.is_unread || !is_well)
     }
 
     /// Whether it is one of the prober's own that was answered in time.
-    pub fn is_good(&self) -> bool {
+    pub(crate) fn is_good(&self) -> bool {
         !self.is_relayed && self.outcome == Outcome::Answered && !self.is_unread
     }
 
     /// What happened, if only one thing may have.
-    pub fn only(&self) -> Option<Explanation> {
+    pub(crate) fn only(&self) -> Option<Explanation> {
         let mut found = None;
         for (explanation, is_left) in Explanation::ALL.iter().zip(&self.left) {
             if !*is_left {
@@ -159,12 +159,12 @@ impl Case {
     }
 
     /// Whether the member is the prober or the target.
-    pub fn touches(&self, member: Member) -> bool {
+    pub(crate) fn touches(&self, member: Member) -> bool {
         self.prober == member || self.target == member
     }
 
     /// The one of prober and target that is not this member.
-    pub fn other(&self, member: Member) -> Member {
+    pub(crate) fn other(&self, member: Member) -> Member {
         if self.target == member {
             self.prober
         } else {
@@ -173,7 +173,7 @@ impl Case {
     }
 
     /// Whether another member reached the target.
-    pub fn is_relayed_answer(&self) -> bool {
+    pub(crate) fn is_relayed_answer(&self) -> bool {
         self.asked.iter().any(|asked| asked.has_reached)
     }
 

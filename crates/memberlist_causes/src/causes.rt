@@ -62,8 +62,7 @@ impl Causes {
         &self.facts.members
     }
 
-    /// The timeout and the interval of probes, in microseconds, as they were when something was told
-    /// last.
+    /// memberlist's `ProbeTimeout`, in microseconds, as it was when something was told last.
     pub fn timeout(&self) -> u64 {
         self.facts.timeout
     }

@@ -70,7 +70,7 @@ pub struct Episode {
 
 impl Episode {
     /// When it ended, if it did.
-    pub fn end(&self) -> Option<u64> {
+    pub(crate) fn end(&self) -> Option<u64> {
         match (&self.dead, &self.refuted) {
             (Some(death), _) => Some(death.time),
             (None, Some(alive)) => Some(alive.time),

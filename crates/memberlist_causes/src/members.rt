@@ -47,7 +47,7 @@ pub struct Members {
 
 impl Members {
     /// None yet.
-    pub fn new(alloc: Global) -> Members {
+    pub(crate) fn new(alloc: Global) -> Members {
         Members {
             alloc,
             numbers: BTreeMap::new(alloc),
@@ -69,7 +69,7 @@ impl Members {
     /// # Errors
     ///
     /// `AllocError` if out of memory.
-    pub fn named(&mut self, name: &[u8]) -> Result<Option<Member>, AllocError> {
+    pub(crate) fn named(&mut self, name: &[u8]) -> Result<Option<Member>, AllocError> {
         if name.is_empty() {
             return Ok(None);
         }
@@ -92,7 +92,12 @@ impl Members {
     /// # Errors
     ///
     /// `AllocError` if out of memory.
-    pub fn note(&mut self, end: SocketAddr, name: &[u8], is_own: bool) -> Result<(), AllocError> {
+    pub(crate) fn note(
+        &mut self,
+        end: SocketAddr,
+        name: &[u8],
+        is_own: bool,
+    ) -> Result<(), AllocError> {
         match self.owners.get(&end) {
             Some(owner) if owner.is_own && !is_own => return Ok(()),
             Some(owner) if owner.is_own == is_own && self.name(owner.member) == name => {
@@ -109,12 +114,12 @@ impl Members {
     }
 
     /// The member whose agent listens at this address and port.
-    pub fn listening(&self, end: SocketAddr) -> Option<Member> {
+    pub(crate) fn listening(&self, end: SocketAddr) -> Option<Member> {
         self.owners.get(&end).map(|owner| owner.member)
     }
 
     /// The member whose agent listens at this address and port, or the only one at the address.
-    pub fn at(&self, end: SocketAddr) -> Option<Member> {
+    pub(crate) fn at(&self, end: SocketAddr) -> Option<Member> {
         match self.listening(end) {
             Some(member) => Some(member),
             None => self.at_host(end.ip()),
@@ -122,7 +127,7 @@ impl Members {
     }
 
     /// The only member at this address.
-    pub fn at_host(&self, host: IpAddr) -> Option<Member> {
+    pub(crate) fn at_host(&self, host: IpAddr) -> Option<Member> {
         let mut found = None;
         for (end, owner) in self.owners.range(SocketAddr::new(host, 0)..) {
             if end.ip() != host {

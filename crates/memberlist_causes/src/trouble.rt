@@ -15,7 +15,7 @@ pub enum Of {
 
 impl Of {
     /// Whether it is about the member.
-    pub fn has(&self, member: Member) -> bool {
+    pub(crate) fn has(&self, member: Member) -> bool {
         match self {
             Of::One(only) => *only == member,
             Of::Several(members) => members.contains(&member),
@@ -65,7 +65,7 @@ impl Trouble {
     }
 
     /// Whether one of the probes is of the member, or by it.
-    pub fn touches(&self, member: Member) -> bool {
+    pub(crate) fn touches(&self, member: Member) -> bool {
         self.legs
             .iter()
             .any(|(prober, target)| *prober == member || *target == member)
