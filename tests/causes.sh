@@ -17,6 +17,20 @@ for line in sys.stdin:
 ' | sort -u
 }
 
+# without_answer seen|unseen FILE..: prints the probes of suspects that had no answer: by whom, the number, of whom
+without_answer() {
+    kind=$1
+    shift
+    "$program" why --json "$@" 2> err | python3 -c '
+import json, sys
+for line in sys.stdin:
+    told = json.loads(line)
+    for probe in told.get("probes", []):
+        if (probe["outcome"] == "unseen") == (sys.argv[1] == "unseen"):
+            print(probe["by"], probe["seq"], told["name"])
+' "$kind" | sort
+}
+
 # caused NAME: the causes that are told of the cluster, by each set of captures
 caused() {
     rm -rf members_of
@@ -35,6 +49,17 @@ caused() {
 if has_xz > /dev/null; then
     for each in accuser delay hang kill loss50in onewayin partition restart serfmsgs; do
         caused "$each"
+    done
+
+    # each probe of which only indirect pings tell in web-1's capture is one that the captures of all have
+    for each in accuser hang kill onewayin partition; do
+        python3 -m tarfile -e "$causes/$each.tar.xz" members_of > err 2>&1
+        without_answer unseen members_of/web-1.pcap > found
+        without_answer seen members_of/web-*.pcap > all
+        grep -Fxf all found > wanted
+        [ -s found ] || echo 'one at least' > wanted
+        check "the probes of $each that web-1 was asked for"
+        rm -rf members_of
     done
 
     # nothing was done to it

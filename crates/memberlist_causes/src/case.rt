@@ -35,7 +35,11 @@ pub struct Case {
     /// When the ping was sent.
     pub time: u64,
     pub seq_no: u32,
+    /// Whether a capture has the ping. If none has, the time is that of the first indirect ping.
+    pub is_seen: bool,
     pub is_relayed: bool,
+    /// Whether no capture has the ping of the member that asked for it.
+    pub is_for_unseen: bool,
     pub outcome: Outcome,
     /// Whether the ack was there in time, and the prober went on all the same.
     pub is_unread: bool,
@@ -80,7 +84,9 @@ impl Case {
             target,
             time,
             seq_no: probe.seq_no,
+            is_seen: probe.is_seen(),
             is_relayed: probe.is_relayed,
+            is_for_unseen: probe.is_for_unseen,
             outcome,
             is_unread: outcome == Outcome::Answered && probe.is_unread(captures, timing),
             left: [false; 7],
@@ -132,15 +138,21 @@ impl Case {
         })
     }
 
-    /// Whether it is one of the prober's own that had no answer in time.
-    pub(crate) fn is_bad(&self) -> bool {
-        let is_well = matches!(self.outcome, Outcome::Answered | Outcome::Open);
-        !self.is_relayed && (self.is_unread || !is_well)
+    /// Whether it counts: one that was sent for another member does only if no capture has that
+    /// member's own ping.
+    fn counts(&self) -> bool {
+        !self.is_relayed || self.is_for_unseen
     }
 
-    /// Whether it is one of the prober's own that was answered in time.
+    /// Whether it counts, and had no answer in time.
+    pub(crate) fn is_bad(&self) -> bool {
+        let is_well = matches!(self.outcome, Outcome::Answered | Outcome::Open);
+        self.counts() && (self.is_unread || !is_well)
+    }
+
+    /// Whether it counts, and was answered in time.
     pub(crate) fn is_good(&self) -> bool {
-        !self.is_relayed && self.outcome == Outcome::Answered && !self.is_unread
+        self.counts() && self.outcome == Outcome::Answered && !self.is_unread
     }
 
     /// What happened, if only one thing may have.
@@ -158,9 +170,9 @@ impl Case {
         found
     }
 
-    /// Whether the member is the prober or the target.
+    /// Whether the member is the target, or the prober for itself.
     pub(crate) fn touches(&self, member: Member) -> bool {
-        self.prober == member || self.target == member
+        self.target == member || self.prober == member && !self.is_relayed
     }
 
     /// The one of prober and target that is not this member.

@@ -74,20 +74,21 @@ impl Causes {
     /// `AllocError` if out of memory.
     pub fn message(&mut self, packet: Packet, message: &Message) -> Result<(), AllocError> {
         let members = &mut self.facts.members;
+        let time = packet.seen.time;
         let saying = match message {
             Message::Ping(ping) => {
-                members.note(packet.from, &ping.source_node, true)?;
-                members.note(packet.to, &ping.node, false)?;
+                members.note(packet.from, &ping.source_node, true, time)?;
+                members.note(packet.to, &ping.node, false, time)?;
                 Saying::Ping(ping.seq_no)
             }
             Message::IndirectPing(ping) => {
-                members.note(packet.from, &ping.source_node, true)?;
-                Saying::IndirectPing(members.named(&ping.node)?)
+                members.note(packet.from, &ping.source_node, true, time)?;
+                Saying::Other
             }
             Message::Ack(_) => Saying::Ack,
             _ => Saying::Other,
         };
-        self.say(packet.seen.time, packet.from, packet.to, saying)
+        self.say(time, packet.from, packet.to, saying)
     }
 
     /// Takes in a stream from one end to another.

@@ -136,7 +136,7 @@ impl Suspicion {
 fn led_to(facts: &Facts, of: Member, accuser: Accuser) -> Result<Behind, AllocError> {
     let mut found = None;
     for case in &facts.cases {
-        let is_theirs = case.prober == accuser.by && case.target == of;
+        let is_theirs = case.prober == accuser.by && case.target == of && !case.is_relayed;
         let is_timely = case.time < accuser.time && accuser.time < case.time.saturating_add(BEHIND);
         if is_theirs && is_timely && case.is_bad() && case.outcome != Outcome::Indirect {
             found = Some(case);

@@ -10,17 +10,11 @@ use crate::rules::told;
 use crate::scene::Scene;
 use crate::subject::{Subject, span_of};
 use crate::trouble::{Of, Trouble};
-use crate::words::Saying;
 use crate::{Case, Cause, Member};
 use std::alloc::AllocError;
 
 /// How many members are told of one scene at most (own).
 const MOST: usize = 3;
-
-/// How long before and after one pair's probes others count that are asked (own), in microseconds.
-const BEFORE: u64 = 1_000_000;
-
-const AFTER: u64 = 2_000_000;
 
 /// How long before and after trouble numbers that begin anew explain it (own).
 const ANEW_BEFORE: u64 = 12_000_000;
@@ -66,13 +60,9 @@ fn one_by_one(scene: &Scene, troubles: &mut Vec<Trouble>) -> Result<(), AllocErr
             break;
         };
         let trouble = trouble_of(scene, member, &rest)?;
-        let told = match trouble.of {
-            Of::One(other) => other,
-            _ => member,
-        };
         let mut left = Vec::new(scene.facts.alloc);
         for case in &rest {
-            if !case.touches(told) {
+            if !case.touches(member) {
                 left.push(*case)?;
             }
         }
@@ -145,30 +135,13 @@ fn trouble_of<'a>(
 ) -> Result<Trouble, AllocError> {
     let alloc = scene.facts.alloc;
     let mine = touching(scene, cases, Some(member))?;
-    let (first, last) = span_of(&mine);
+    let (first, _) = span_of(&mine);
     let others = others_of(scene, &mine, member)?;
-    let mut of = member;
-    let mut also = Vec::new(alloc);
-    if let (1, Some(other)) = (others.len(), others.first()) {
-        let span = (first.saturating_sub(BEFORE), last.saturating_add(AFTER));
-        let with_it = asked_about(scene.facts, member, *other, span)?;
-        let with_other = asked_about(scene.facts, *other, member, span)?;
-        if with_it.len() < with_other.len() {
-            of = *other;
-            also = with_other;
-        } else if with_other.len() < with_it.len() {
-            also = with_it;
-        }
-    }
-    let subject = Subject::of(scene, of, &mine)?;
+    let subject = Subject::of(scene, member, &mine)?;
     let mut evidence = Vec::new(alloc);
     let mut cause = told(&subject, &mut evidence)?;
-    let is_pair = others.len() == 1 && also.is_empty();
-    if !also.is_empty() {
-        evidence.push(Evidence::AlsoWith { members: also })?;
-    }
-    let mut of = Of::One(of);
-    if is_pair && cause.is_of_ways() {
+    let mut of = Of::One(member);
+    if others.len() == 1 && cause.is_of_ways() {
         cause = Cause::LossBetween;
         let mut pair = others;
         add(&mut pair, member)?;
@@ -177,37 +150,6 @@ fn trouble_of<'a>(
     let mut trouble = Trouble::new(alloc, (first, scene.end), of, cause, &mine)?;
     trouble.evidence = evidence;
     Ok(trouble)
-}
-
-/// The members beside one that asked others to ping a member, or which it asked others to ping.
-fn asked_about(
-    facts: &Facts,
-    member: Member,
-    except: Member,
-    (from, to): (u64, u64),
-) -> Result<Vec<Member>, AllocError> {
-    let mut also = Vec::new(facts.alloc);
-    for (asker, words) in facts.words.all() {
-        for word in words {
-            let Saying::IndirectPing(Some(target)) = word.saying else {
-                continue;
-            };
-            if word.time <= from || to <= word.time {
-                continue;
-            }
-            let partner = if target == member {
-                *asker
-            } else if *asker == member {
-                target
-            } else {
-                continue;
-            };
-            if partner != except {
-                add(&mut also, partner)?;
-            }
-        }
-    }
-    Ok(also)
 }
 
 /// If little is known of trouble, and the numbers of a member's pings begin anew, that is told.

@@ -29,6 +29,12 @@ pub enum Evidence {
         failed: u64,
         all: u64,
     },
+    /// So many more of it, or of its own, had none: no capture has them, and indirect pings tell.
+    Unseen {
+        is_own: bool,
+        probes: u64,
+        with: Vec<Member>,
+    },
     /// Its host refused so many times.
     Refused {
         times: u64,
@@ -36,6 +42,11 @@ pub enum Evidence {
     },
     /// A process with small numbers began there.
     NewProcess,
+    /// From then on another member was at its address and port.
+    Succeeded {
+        by: Member,
+        from: u64,
+    },
     /// Its host accepted connections, and its agent answered so many pings in them too late or never.
     Accepted {
         connections: u64,
@@ -120,10 +131,6 @@ pub enum Evidence {
     Votes {
         to_it: u64,
         from_it: u64,
-    },
-    /// The same is between it and others, as indirect pings show.
-    AlsoWith {
-        members: Vec<Member>,
     },
     /// So many failed probes cross from one group to the other, and no answered one does.
     Crossing {

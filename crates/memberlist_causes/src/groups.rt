@@ -131,7 +131,9 @@ pub(crate) fn cut_off_together(scene: &Scene) -> Result<Option<Trouble>, AllocEr
     }
     let mut by = Vec::new(alloc);
     for case in &of_them {
-        add(&mut by, case.prober)?;
+        if case.is_seen {
+            add(&mut by, case.prober)?;
+        }
     }
     let mut heard = Vec::new(alloc);
     for case in &scene.good {

@@ -36,6 +36,13 @@ struct Owner {
     is_own: bool,
 }
 
+/// A member that is where another one was, and from when on.
+#[derive(Clone, Copy)]
+pub(crate) struct Heir {
+    pub(crate) member: Member,
+    pub(crate) time: u64,
+}
+
 /// The members, and where they are.
 #[derive(Drop)]
 pub struct Members {
@@ -43,6 +50,8 @@ pub struct Members {
     numbers: BTreeMap<Vec<u8>, Member>,
     names: Vec<Vec<u8>>,
     owners: BTreeMap<SocketAddr, Owner>,
+    /// The last that took the address and port of each.
+    heirs: BTreeMap<Member, Heir>,
 }
 
 impl Members {
@@ -53,6 +62,7 @@ impl Members {
             numbers: BTreeMap::new(alloc),
             names: Vec::new(alloc),
             owners: BTreeMap::new(alloc),
+            heirs: BTreeMap::new(alloc),
         }
     }
 
@@ -86,8 +96,8 @@ impl Members {
         Ok(Some(member))
     }
 
-    /// Notes that a member is at this address and port. What it says itself counts for more than
-    /// what others say.
+    /// Notes that at this time a member is at this address and port. What it says itself counts for
+    /// more than what others say.
     ///
     /// # Errors
     ///
@@ -97,6 +107,7 @@ impl Members {
         end: SocketAddr,
         name: &[u8],
         is_own: bool,
+        time: u64,
     ) -> Result<(), AllocError> {
         match self.owners.get(&end) {
             Some(owner) if owner.is_own && !is_own => return Ok(()),
@@ -109,8 +120,19 @@ impl Members {
         let Some(member) = self.named(name)? else {
             return Ok(());
         };
-        self.owners.insert(end, Owner { member, is_own })?;
+        let before = self.owners.insert(end, Owner { member, is_own })?;
+        match before {
+            Some(owner) if owner.is_own && owner.member != member => {
+                self.heirs.insert(owner.member, Heir { member, time })?;
+            }
+            _ => {}
+        }
         Ok(())
+    }
+
+    /// The member that took the address and port of another, if one did.
+    pub(crate) fn heir(&self, member: Member) -> Option<Heir> {
+        self.heirs.get(&member).copied()
     }
 
     /// The member whose agent listens at this address and port.

@@ -23,6 +23,13 @@ pub(crate) fn told(subject: &Subject, evidence: &mut Vec<Evidence>) -> Result<Ca
     if subject.host.refusals > 0 {
         return process_gone(subject, evidence);
     }
+    if let Some(heir) = subject.heir() {
+        evidence.push(Evidence::Succeeded {
+            by: heir.member,
+            from: heir.time,
+        })?;
+        return Ok(Cause::Restarted);
+    }
     contacts(subject, evidence)?;
     answers(subject, evidence)?;
     if let Some(cause) = at_work(subject, evidence)? {
@@ -40,10 +47,8 @@ pub(crate) fn told(subject: &Subject, evidence: &mut Vec<Evidence>) -> Result<Ca
 /// Whether nothing was heard of it, for longer than an agent at work is silent.
 fn is_unheard(subject: &Subject) -> bool {
     let agent = &subject.agent;
-    let silent = agent.next.saturating_sub(agent.silence.from);
-    let is_long = subject.facts.interval.saturating_mul(3) < silent;
-    let is_reached = subject.to.iter().any(|case| case.is_relayed_answer());
-    agent.words == 0 && is_long && !is_reached
+    let is_long = subject.facts.interval.saturating_mul(3) < agent.around.len();
+    agent.meanwhile == 0 && is_long && !subject.is_reached()
 }
 
 /// How many probes of it and by it had no answer.
@@ -66,6 +71,27 @@ fn counts(subject: &Subject, evidence: &mut Vec<Evidence>) -> Result<(), AllocEr
         evidence.push(Evidence::OwnProbes {
             failed: from,
             all: from.saturating_add(subject.good_from.len() as u64),
+        })?;
+    }
+    unseen(subject, evidence, false)?;
+    unseen(subject, evidence, true)
+}
+
+/// How many more had none, of which only indirect pings tell.
+fn unseen(subject: &Subject, evidence: &mut Vec<Evidence>, is_own: bool) -> Result<(), AllocError> {
+    let mut probes = 0u64;
+    let mut with = Vec::new(subject.facts.alloc);
+    for case in &subject.unseen {
+        if (case.prober == subject.member) == is_own {
+            probes = probes.saturating_add(1);
+            add(&mut with, case.other(subject.member))?;
+        }
+    }
+    if probes > 0 {
+        evidence.push(Evidence::Unseen {
+            is_own,
+            probes,
+            with,
         })?;
     }
     Ok(())
@@ -235,8 +261,19 @@ fn is_stopped(subject: &Subject, shares: &Shares) -> bool {
     let holds_most = all > 0 && all.saturating_mul(4) <= inside.saturating_mul(5);
     let is_late = all <= shares.late.saturating_mul(2) && shares.is_way_slow != Some(true);
     let has_arrived = subject.mute() > 0 || shares.own > 0 || is_late;
-    let was_at_work = matches!(subject.numbers, Some(Numbers::AtWork { .. }));
+    let was_at_work = was_at_work(subject);
     is_long && holds_most && has_arrived && shares.lost == 0 && !was_at_work
+}
+
+/// Whether the numbers of its pings show it at work for half of the silence.
+fn was_at_work(subject: &Subject) -> bool {
+    match subject.numbers {
+        Some(Numbers::AtWork { pings, silence }) => {
+            let time = pings.saturating_mul(subject.facts.interval);
+            silence <= time.saturating_mul(2)
+        }
+        _ => false,
+    }
 }
 
 /// Answers that are late, by its agent or by the way.
@@ -328,11 +365,7 @@ fn unheard(subject: &Subject) -> Cause {
     }
     match subject.numbers {
         Some(Numbers::Still { .. }) => Cause::Stopped,
-        Some(Numbers::AtWork { pings, silence })
-            if silence
-                <= pings
-                    .saturating_mul(subject.facts.interval)
-                    .saturating_mul(2) => { Cause::CutOff }
+        Some(Numbers::AtWork { .. }) if was_at_work(subject) => Cause::CutOff,
         Some(Numbers::Anew { .. }) => Cause::Restarted,
         _ => Cause::GoneOrCutOff,
     }

@@ -81,8 +81,10 @@ impl<'a> Scene<'a> {
         let mut counts = BTreeMap::new(self.facts.alloc);
         for case in cases {
             for member in [case.prober, case.target] {
-                let before = counts.get(&member).copied().unwrap_or(0u64);
-                counts.insert(member, before.saturating_add(1))?;
+                if case.touches(member) {
+                    let before = counts.get(&member).copied().unwrap_or(0u64);
+                    counts.insert(member, before.saturating_add(1))?;
+                }
             }
         }
         Ok(counts)

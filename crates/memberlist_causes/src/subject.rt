@@ -3,10 +3,11 @@
 use crate::contacts::Answer;
 use crate::evidence::{Numbers, place_of};
 use crate::facts::Facts;
+use crate::members::Heir;
 use crate::numbers::{Silence, numbers_of};
 use crate::scene::Scene;
 use crate::words::Saying;
-use crate::{Case, Member, Tried};
+use crate::{Case, Member, Tried, Word};
 use memberlist_probes::{Delays, Explanation};
 use std::alloc::AllocError;
 
@@ -19,6 +20,12 @@ const AROUND: u64 = 500_000;
 
 /// How long before and after handshakes count (own).
 const SHAKEN: u64 = 1_000_000;
+
+/// How long before the first failed probe, and after all is over, another member at its address and
+/// port explains it (own).
+const HEIR_BEFORE: u64 = 12_000_000;
+
+const HEIR_AFTER: u64 = 8_000_000;
 
 /// The greatest number of a ping of a process that has just begun (own).
 const FIRST: u32 = 8;
@@ -38,13 +45,16 @@ pub(crate) struct Host {
 /// What its agent did meanwhile.
 #[derive(Clone, Copy)]
 pub(crate) struct Agent {
-    /// How many words it sent, and how many of them are acks.
+    /// How many words it sent until all was over.
     pub(crate) words: u64,
+    /// How many it sent until the last failed probe, and how many of them are acks.
+    pub(crate) meanwhile: u64,
     pub(crate) acks: u64,
     /// The longest silence.
     pub(crate) silence: Silence,
-    /// When it was heard again after all was over, or else the last time of a packet.
-    pub(crate) next: u64,
+    /// From its last word before the first failed probe of it to the first one after the last, or else
+    /// the last time of a packet.
+    pub(crate) around: Silence,
     /// Whether a process with small numbers began after its host refused.
     pub(crate) is_new: bool,
 }
@@ -57,6 +67,8 @@ pub(crate) struct Subject<'a> {
     /// The probes of it and by it that had no answer in time, and those that had.
     pub(crate) to: Vec<&'a Case>,
     pub(crate) from: Vec<&'a Case>,
+    /// Those without an answer that no capture has.
+    pub(crate) unseen: Vec<&'a Case>,
     pub(crate) good_to: Vec<&'a Case>,
     pub(crate) good_from: Vec<&'a Case>,
     pub(crate) begin: u64,
@@ -87,6 +99,7 @@ impl<'a> Subject<'a> {
             member,
             to: Vec::new(alloc),
             from: Vec::new(alloc),
+            unseen: Vec::new(alloc),
             good_to: Vec::new(alloc),
             good_from: Vec::new(alloc),
             begin,
@@ -100,9 +113,13 @@ impl<'a> Subject<'a> {
             },
             agent: Agent {
                 words: 0,
+                meanwhile: 0,
                 acks: 0,
                 silence: Silence { from: 0, to: 0 },
-                next: facts.now,
+                around: Silence {
+                    from: 0,
+                    to: facts.now,
+                },
                 is_new: false,
             },
             numbers: None,
@@ -126,13 +143,16 @@ impl<'a> Subject<'a> {
             .min()
             .unwrap_or(begin);
         subject.meet_host(first)?;
-        subject.hear_agent(first);
+        subject.hear_agent(first, last);
         subject.numbers = numbers_of(facts, member, first, scene.end.max(last));
         Ok(subject)
     }
 
     /// Takes in a probe that had no answer in time.
     fn take_bad(&mut self, case: &'a Case) -> Result<(), AllocError> {
+        if !case.is_seen {
+            return self.unseen.push(case).map_err(AllocError::from);
+        }
         let timeout = self.facts.timeout;
         let is_of_it = case.target == self.member;
         if is_of_it {
@@ -187,9 +207,11 @@ impl<'a> Subject<'a> {
         Ok(())
     }
 
-    /// Takes in what its agent sent after the first failed probe of it.
-    fn hear_agent(&mut self, first: u64) {
+    /// Takes in what its agent sent after the first failed probe of it. `until` is when the last one
+    /// was sent that touches it.
+    fn hear_agent(&mut self, first: u64, until: u64) {
         let begun = first.saturating_add(CROSSING);
+        self.agent.around.from = first;
         let mut last = first;
         let mut longest = Silence {
             from: first,
@@ -200,10 +222,13 @@ impl<'a> Subject<'a> {
             for word in words {
                 if word.time <= begun {
                     last = word.time;
+                    self.agent.around.from = last;
                     continue;
                 }
+                if until < word.time && word.time < self.agent.around.to {
+                    self.agent.around.to = word.time;
+                }
                 if self.end <= word.time {
-                    self.agent.next = word.time;
                     break;
                 }
                 if !is_begun {
@@ -215,11 +240,18 @@ impl<'a> Subject<'a> {
                 }
                 longest = longer(longest, last, word.time);
                 last = word.time;
-                self.agent
-                    .hear(word.saying, word.time, self.host.first_refusal);
+                self.agent.hear(word, self.host.first_refusal, until);
             }
         }
         self.agent.silence = longer(longest, last, self.end);
+    }
+
+    /// The member that took its address and port about this time, if one did.
+    pub(crate) fn heir(&self) -> Option<Heir> {
+        let heir = self.facts.members.heir(self.member)?;
+        let from = self.begin.saturating_sub(HEIR_BEFORE);
+        let is_timely = from <= heir.time && heir.time <= self.end.saturating_add(HEIR_AFTER);
+        if is_timely { Some(heir) } else { None }
     }
 
     /// How many probes of it only this may have happened to.
@@ -232,7 +264,7 @@ impl<'a> Subject<'a> {
         self.of_own.get(place_of(explanation)).copied().unwrap_or(0)
     }
 
-    /// How many probes of it or by it had no answer in time.
+    /// How many captured probes of it or by it had no answer in time.
     pub(crate) fn failed(&self) -> u64 {
         (self.to.len() as u64).saturating_add(self.from.len() as u64)
     }
@@ -261,6 +293,11 @@ impl<'a> Subject<'a> {
             .iter()
             .filter(|case| from <= case.time && case.time <= to)
             .count() as u64
+    }
+
+    /// Whether another member reached it, or its agent answered over TCP.
+    pub(crate) fn is_reached(&self) -> bool {
+        self.to.iter().any(|case| case.is_relayed_answer() || case.tried == Some(Tried::Answered))
     }
 
     /// How many of its own failed probes have no ack.
@@ -300,12 +337,17 @@ impl Host {
 }
 
 impl Agent {
-    /// Takes in what it sent.
-    fn hear(&mut self, saying: Saying, time: u64, refused: u64) {
+    /// Takes in what it sent. Failed probes were sent until this time.
+    fn hear(&mut self, word: &Word, refused: u64, until: u64) {
         self.words = self.words.saturating_add(1);
-        match saying {
-            Saying::Ack => self.acks = self.acks.saturating_add(1),
-            Saying::Ping(number) if refused != 0 && refused < time && number < FIRST => {
+        if word.time <= until {
+            self.meanwhile = self.meanwhile.saturating_add(1);
+            if word.saying == Saying::Ack {
+                self.acks = self.acks.saturating_add(1);
+            }
+        }
+        match word.saying {
+            Saying::Ping(number) if refused != 0 && refused < word.time && number < FIRST => {
                 self.is_new = true;
             }
             _ => {}

@@ -17,17 +17,26 @@ struct Votes {
     from_it: u64,
 }
 
+impl Votes {
+    /// Whether fewer than a fifth of so many failed probes speak for one way (own): a few may be
+    /// mistaken.
+    fn are_few(self, failed: u64) -> bool {
+        let most = self.to_it.max(self.from_it);
+        most == 0 || most.saturating_mul(5) < failed.saturating_mul(2)
+    }
+}
+
 /// Which way is in trouble, by what each failed probe tells.
 pub(crate) fn ways(subject: &Subject, evidence: &mut Vec<Evidence>) -> Result<Cause, AllocError> {
     let some = hit_and_not(subject, evidence)?;
     if let Some(cause) = answers_nobody(subject, evidence)? {
         return Ok(cause);
     }
-    if subject.failed() < 3 {
+    if subject.failed().saturating_add(subject.unseen.len() as u64) < 3 {
         return Ok(few(subject));
     }
     let votes = counted(subject);
-    if votes.to_it == 0 && votes.from_it == 0 {
+    if votes.are_few(subject.failed()) {
         return Ok(match (some, subject.answered()) {
             (true, _) => Cause::Some,
             (false, 0) => Cause::Unknown,
@@ -154,7 +163,7 @@ fn answers_nobody(
 ) -> Result<Option<Cause>, AllocError> {
     let agent = subject.agent;
     let is_reached = subject.to.iter().any(|case| case.is_relayed_answer());
-    let is_sending = agent.acks == 0 && agent.words > 0;
+    let is_sending = agent.acks == 0 && agent.meanwhile > 0;
     if !is_sending || !subject.good_to.is_empty() || subject.to.len() < 2 || is_reached {
         return Ok(None);
     }

@@ -9,8 +9,6 @@ use std::collections::{BTreeMap, VecDeque};
 pub enum Saying {
     /// A ping with this number.
     Ping(u32),
-    /// A request to ping this member.
-    IndirectPing(Option<Member>),
     Ack,
     /// Another datagram, or a stream.
     Other,

@@ -141,14 +141,14 @@ impl Detector {
         &self.probes.timing
     }
 
-    /// Counts a probe that is over, for its pair and its prober.
+    /// Counts a probe that is over, for its pair and its prober, if a capture has its ping.
     ///
     /// # Errors
     ///
     /// `AllocError` if out of memory.
     pub fn note(&mut self, probe: &Probe) -> Result<(), AllocError> {
         let time = probe.time();
-        if time < self.span.from || self.span.to < time {
+        if !probe.is_seen() || time < self.span.from || self.span.to < time {
             return Ok(());
         }
         let timing = &self.probes.timing;

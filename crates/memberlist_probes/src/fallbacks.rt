@@ -97,7 +97,8 @@ impl Probes {
             }
             let due = probe.time().saturating_add(timeout);
             let is_due = due <= time.saturating_add(EARLY) && time <= due.saturating_add(LATE);
-            if is_due && probe.to == to && !probe.is_relayed && probe.fallback.is_none() {
+            let is_own = probe.is_seen() && !probe.is_relayed;
+            if is_due && probe.to == to && is_own && probe.fallback.is_none() {
                 found = Some((probe.time(), *key));
             }
         }

@@ -7,6 +7,7 @@
 //! | `captures` | the captures, and when each of them has a packet |
 //! | `probe` | a probe, and what the captures have of it |
 //! | `probes` | probes, as the packets of the captures tell them |
+//! | `indirect` | who asks whom to ping a member, and the probes of which nothing else tells |
 //! | `fallbacks` | what the target's host answers: to TCP connections, and by refusals |
 //! | `pairs` | what each prober made of its probes of each target |
 //! | `health` | how healthy each member is, as its probes tell |
@@ -26,6 +27,7 @@ mod detector;
 mod explanation;
 mod fallbacks;
 mod health;
+mod indirect;
 pub mod laws;
 mod leg;
 mod outcome;

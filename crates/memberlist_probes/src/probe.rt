@@ -1,6 +1,6 @@
 //! A probe, and what the captures have of it.
 
-ghost use Rattle.std.specs.Prelude.{◌≢◌, MatchBool, Contains};
+ghost use Rattle.std.specs.Prelude.{◌≡◌, ◌≢◌, MatchBool, Contains, is_some, slice_get};
 ghost use Rattle.std.specs.Net.Socket.{socket_ip};
 ghost use Rattle.memberlist_probes.specs.Captured.{IsSeenAt, IsPassage, IsFollowed, IsAwaited, IsLegOf};
 ghost use Rattle.memberlist_probes.specs.Complete.{ShowsComplete};
@@ -59,7 +59,8 @@ pub struct Fallback {
     pub answered: Option<u64>,
 }
 
-/// A ping of a member to another one, and all that came of it.
+/// A ping of a member to another one, and all that came of it. Of a ping that no capture has,
+/// indirect pings may tell: who asks for them had no answer in time.
 #[derive(Drop)]
 pub struct Probe {
     /// The name of who asks, or its address and port if the ping gives none.
@@ -71,6 +72,8 @@ pub struct Probe {
     pub seq_no: u32,
     /// Whether it was sent for another member, which asked for it.
     pub is_relayed: bool,
+    /// Whether no capture has the ping of the member that asked for it.
+    pub is_for_unseen: bool,
     pub pinged: Sightings,
     pub acked: Sightings,
     pub helpers: Vec<Helper>,
@@ -84,9 +87,20 @@ pub struct Probe {
 }
 
 impl Probe {
-    /// When the ping was first seen.
+    /// Whether a capture has the ping.
+    pub fn is_seen(&self) -> bool
+        ensures { result ≡ is_some (slice_get self.now.pinged 0) }
+    {
+        self.pinged.first().is_some()
+    }
+
+    /// When the ping was first seen, or else the first indirect ping.
     pub fn time(&self) -> u64 {
-        match self.pinged.first() {
+        let asked = match self.helpers.first() {
+            Some(helper) => helper.asked.first(),
+            None => None,
+        };
+        match self.pinged.first().or(asked) {
             Some(seen) => seen.time,
             None => 0,
         }

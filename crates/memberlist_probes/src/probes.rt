@@ -2,9 +2,10 @@
 
 use crate::captures::{Captures, Sighting, Sightings};
 use crate::fallbacks::Dial;
-use crate::probe::{Helper, Probe};
+use crate::indirect::Asked;
+use crate::probe::Probe;
 use crate::timing::Timing;
-use memberlist_message::{IndirectPing, Message, Ping};
+use memberlist_message::{Message, Ping};
 use std::alloc::{AllocError, Global};
 use std::collections::{BTreeMap, BTreeSet, VecDeque};
 use std::net::SocketAddr;
@@ -16,9 +17,6 @@ pub const SAME: u64 = 5_000_000;
 /// answers late.
 pub(crate) const FOLLOWED: u64 = 30_000_000;
 
-/// How long after an indirect ping the ping that was asked for may follow.
-const RELAYED: u64 = 1_000_000;
-
 /// How long after its ping a probe may lead to a suspicion, in microseconds (own).
 const ACCUSED: u64 = 12_000_000;
 
@@ -27,9 +25,6 @@ const EARLY: u64 = 150_000;
 
 /// The most probes that are followed (own). With one more the oldest is over.
 const MAX_OPEN: usize = 65_536;
-
-/// The most pings that are waited for after indirect ones (own). With one more all are forgotten.
-const MAX_ASKED: usize = 65_536;
 
 /// A packet that a capture has.
 #[derive(Clone, Copy)]
@@ -53,19 +48,6 @@ pub struct Accusation<'a> {
     pub inc: u32,
 }
 
-/// Pings that members were asked for.
-#[derive(Clone, Copy)]
-struct Asked {
-    /// How many were not sent yet.
-    pings: u32,
-    /// When the last of them was asked for.
-    time: u64,
-    /// Who asked for it, and the number in that.
-    by: Key,
-    /// Whether that was seen to come.
-    came: bool,
-}
-
 /// The probes that are followed.
 #[derive(Drop)]
 pub struct Probes {
@@ -78,9 +60,9 @@ pub struct Probes {
     /// The last ping of its own that each prober sent.
     last: BTreeMap<SocketAddr, u32>,
     /// From where the members with these names sent pings last.
-    ends: BTreeMap<Vec<u8>, SocketAddr>,
+    pub(crate) ends: BTreeMap<Vec<u8>, SocketAddr>,
     /// The pings that were asked for, by who is to send them, and to whom.
-    asked: BTreeMap<(SocketAddr, Vec<u8>), Asked>,
+    pub(crate) asked: BTreeMap<(SocketAddr, Vec<u8>), Asked>,
     /// The accusations that were heard.
     accusations: BTreeSet<(Vec<u8>, Vec<u8>, u32)>,
     /// The connections by which probers try again, by who opened them and to where.
@@ -169,7 +151,7 @@ impl Probes {
             if key.0 != end {
                 break;
             }
-            let sent = probe.time();
+            let sent = self.sent_at_most(probe);
             let is_timely = sent <= latest && time.saturating_sub(sent) < ACCUSED;
             if is_timely && !probe.is_relayed && probe.target.as_slice() == suspect {
                 found = later(found, sent, *key);
@@ -177,6 +159,15 @@ impl Probes {
         }
         let (_, key) = found?;
         Some(key)
+    }
+
+    /// When the ping was sent at the latest: a timeout before the first indirect one.
+    fn sent_at_most(&self, probe: &Probe) -> u64 {
+        if probe.is_seen() {
+            probe.time()
+        } else {
+            probe.time().saturating_sub(self.timing.timeout())
+        }
     }
 
     /// How many are followed, or over and not taken out yet.
@@ -217,12 +208,17 @@ impl Probes {
     /// Takes in a ping: one that another capture has, too, or that of a new probe.
     fn ping(&mut self, captures: &Captures, packet: Packet, ping: &Ping) -> Result<(), AllocError> {
         let key = (packet.from, ping.seq_no);
+        let mut helpers = Vec::new(self.alloc);
         if let Some(probe) = self.open.get_mut(&key) {
             if is_same(probe, packet, ping) {
-                return probe.pinged.note(packet.seen);
+                if probe.is_seen() {
+                    return probe.pinged.note(packet.seen);
+                }
+                std::mem::swap(&mut helpers, &mut probe.helpers);
             }
         }
-        let is_relayed = self.was_asked_for(captures, packet, &ping.node)?;
+        let asked_by = self.asked_by(captures, packet, &ping.node)?;
+        let is_relayed = asked_by.is_some();
         if !is_relayed {
             self.follow_last(packet, ping.seq_no)?;
             self.ends
@@ -237,51 +233,37 @@ impl Probes {
             to: packet.to,
             seq_no: ping.seq_no,
             is_relayed,
+            is_for_unseen: self.is_unseen(asked_by),
             pinged,
             acked: Sightings::new(self.alloc),
-            helpers: Vec::new(self.alloc),
+            helpers,
             fallback: None,
             is_refused: false,
             next: None,
             is_accused: false,
         };
-        self.queue.push_back((packet.seen.time, key))?;
+        self.follow(key, probe)
+    }
+
+    /// Follows a probe from now on. An older one with its number is over.
+    pub(crate) fn follow(&mut self, key: Key, probe: Probe) -> Result<(), AllocError> {
+        self.queue.push_back((probe.time(), key))?;
         if let Some(older) = self.open.insert(key, probe)? {
-            self.over.push_back(older)?;
+            if older.is_seen() || !older.helpers.is_empty() {
+                self.over.push_back(older)?;
+            }
         }
         Ok(())
     }
 
     /// The name that a ping gives, or else the address and the port.
-    fn name_of(&self, name: &[u8], end: SocketAddr) -> Result<Vec<u8>, AllocError> {
+    pub(crate) fn name_of(&self, name: &[u8], end: SocketAddr) -> Result<Vec<u8>, AllocError> {
         if name.is_empty() {
             let text = format!(in self.alloc; "{end}")?;
             text.as_bytes().to_vec(self.alloc)
         } else {
             name.to_vec(self.alloc)
         }
-    }
-
-    /// Whether the sender was asked for this ping a moment ago.
-    fn was_asked_for(
-        &mut self,
-        captures: &Captures,
-        packet: Packet,
-        node: &[u8],
-    ) -> Result<bool, AllocError> {
-        let key = (packet.from, node.to_vec(self.alloc)?);
-        let Some(asked) = self.asked.get_mut(&key) else {
-            return Ok(false);
-        };
-        if asked.pings == 0 || RELAYED < packet.seen.time.saturating_sub(asked.time) {
-            return Ok(false);
-        }
-        let host = packet.from.ip();
-        if !asked.came && captures.covers(host, asked.time, 0) {
-            return Ok(false);
-        }
-        asked.pings -= 1;
-        Ok(true)
     }
 
     /// Notes at the prober's last ping of its own when this one followed.
@@ -300,82 +282,6 @@ impl Probes {
         if probe.helpers.is_empty() {
             self.timing.note_gap(gap)?;
         }
-        Ok(())
-    }
-
-    /// Takes in an indirect ping: of the prober's open probe with its number, and a ping that will be
-    /// sent for it.
-    fn indirect_ping(
-        &mut self,
-        captures: &Captures,
-        packet: Packet,
-        ping: &IndirectPing,
-    ) -> Result<(), AllocError> {
-        self.ask(captures, packet, ping)?;
-        let Some(probe) = self.open.get_mut(&(packet.from, ping.seq_no)) else {
-            return Ok(());
-        };
-        if !is_of(probe, &ping.node) {
-            return Ok(());
-        }
-        if let Some(helper) = probe
-            .helpers
-            .iter_mut()
-            .find(|helper| helper.end == packet.to)
-        {
-            return helper.asked.note(packet.seen);
-        }
-        let after = packet.seen.time.saturating_sub(probe.time());
-        if probe.helpers.is_empty() {
-            self.timing.note_asked(after)?;
-        }
-        let mut asked = Sightings::new(self.alloc);
-        asked.note(packet.seen)?;
-        probe
-            .helpers
-            .push(Helper {
-                end: packet.to,
-                nacks: ping.nack,
-                asked,
-                acked: Sightings::new(self.alloc),
-                nacked: Sightings::new(self.alloc),
-            })
-            .map_err(AllocError::from)
-    }
-
-    /// Notes that a member was asked for a ping, once however many captures have that.
-    fn ask(
-        &mut self,
-        captures: &Captures,
-        packet: Packet,
-        ping: &IndirectPing,
-    ) -> Result<(), AllocError> {
-        if MAX_ASKED <= self.asked.len() {
-            self.asked = BTreeMap::new(self.alloc);
-        }
-        let key = (packet.to, ping.node.to_vec(self.alloc)?);
-        let by = (packet.from, ping.seq_no);
-        let time = packet.seen.time;
-        let came = captures.is_at(packet.seen.capture, packet.to.ip());
-        let asked = match self.asked.get(&key) {
-            Some(asked) if asked.by == by => Asked {
-                came: came || asked.came,
-                ..*asked
-            },
-            Some(asked) if time.saturating_sub(asked.time) <= RELAYED => Asked {
-                pings: asked.pings.saturating_add(1),
-                time,
-                by,
-                came,
-            },
-            _ => Asked {
-                pings: 1,
-                time,
-                by,
-                came,
-            },
-        };
-        let _ = self.asked.insert(key, asked)?;
         Ok(())
     }
 
@@ -414,7 +320,7 @@ impl Probes {
 }
 
 /// Whether the probe is of the member with this name, as far as a message names it.
-fn is_of(probe: &Probe, name: &[u8]) -> bool {
+pub(crate) fn is_of(probe: &Probe, name: &[u8]) -> bool {
     name.is_empty() || probe.target.as_slice() == name
 }
 

@@ -132,6 +132,10 @@ impl AgentLog {
             return Ok(());
         }
         let target = probe.target.as_slice();
+        if !probe.is_seen() {
+            let asked = probe.time();
+            return self.confirm(alloc, Says::FailedPing, target, asked, asked);
+        }
         let asked = probe.sent(captures).saturating_add(timing.timeout());
         self.confirm(alloc, Says::FailedPing, target, asked, asked)?;
         let over = asked.saturating_add(timing.longest());

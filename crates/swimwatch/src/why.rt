@@ -225,15 +225,20 @@ fn write_accusation(
     text.push('\n')
 }
 
-/// A probe: `probe 18 by web-5 at 21:19:12.963257: no answer (answer late); asked ..`.
+/// A probe: `probe 18 by web-5 at 21:19:12.963257: no answer (answer late); asked ..`. Of one that no
+/// capture has, the time is that of the indirect pings.
 fn write_probe(text: &mut String, teller: Teller, case: &Case) -> Result<(), AllocError> {
     write!(text, "probe {} by ", case.seq_no)?;
     teller.name(text, case.prober)?;
     text.push_str(" at ")?;
     write_as(text, case.time, CLOCK)?;
     text.push_str(": ")?;
-    write_outcome(text, teller, case)?;
-    write_left(text, case)?;
+    if case.is_seen {
+        write_outcome(text, teller, case)?;
+        write_left(text, case)?;
+    } else {
+        text.push_str("no answer in time (the ping was not captured)")?;
+    }
     let mut before = "; asked ";
     for asked in &case.asked {
         text.push_str(before)?;

@@ -180,6 +180,7 @@ fn probe(alloc: Global, teller: Teller, case: &Case) -> Result<Value, AllocError
 /// The word for what the prober made of a probe.
 fn outcome_word(case: &Case) -> &'static str {
     match case.outcome {
+        _ if !case.is_seen => "unseen",
         Outcome::Answered if case.is_unread => "unread",
         Outcome::Answered => "answered",
         Outcome::Late => "late",

@@ -45,9 +45,10 @@ pub(crate) fn write_reason(
         | Evidence::OverTcp { .. } => write_host(text, evidence),
         Evidence::Hit { .. }
         | Evidence::Through { .. }
-        | Evidence::AlsoWith { .. }
+        | Evidence::Unseen { .. }
         | Evidence::Crossing { .. }
         | Evidence::NotHeardTogether { .. }
+        | Evidence::Succeeded { .. }
         | Evidence::UnderWay { .. } => write_others(text, teller, evidence),
         _ => write_agent(text, teller, evidence),
     }
@@ -162,10 +163,19 @@ fn write_others(text: &mut String, teller: Teller, evidence: &Evidence) -> Resul
             write!(text, "{probes} of them were answered through ")?;
             teller.names(text, by)
         }
-        Evidence::AlsoWith { members } => {
-            text.push_str("between it and ")?;
-            teller.names(text, members)?;
-            text.push_str(" too, as indirect pings show")
+        Evidence::Unseen {
+            is_own,
+            probes,
+            with,
+        } => {
+            let (first, second) = if *is_own {
+                ("of its own", "of ")
+            } else {
+                ("of it", "by ")
+            };
+            write!(text, "{probes} more {first} had none, {second}")?;
+            teller.names(text, with)?;
+            text.push_str(", as indirect pings show")
         }
         Evidence::Crossing { probes } => write!(
             text,
@@ -182,6 +192,12 @@ fn write_others(text: &mut String, teller: Teller, evidence: &Evidence) -> Resul
             }
             text.push_str(", who heard ")?;
             teller.names(text, heard)
+        }
+        Evidence::Succeeded { by, from } => {
+            teller.name(text, *by)?;
+            text.push_str(" is at its address and port from ")?;
+            write_as(text, *from, CLOCK)?;
+            text.push_str(" on")
         }
         Evidence::UnderWay { probes } => {
             write!(text, "{probes} probes of it were under way as it left")
