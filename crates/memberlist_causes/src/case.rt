@@ -35,7 +35,8 @@ pub struct Case {
     /// When the ping was sent.
     pub time: u64,
     pub seq_no: u32,
-    /// Whether a capture has the ping. If none has, the time is that of the first indirect ping.
+    /// Whether a capture has the ping. If none has, it was sent a timeout before the first indirect
+    /// ping.
     pub is_seen: bool,
     pub is_relayed: bool,
     /// Whether no capture has the ping of the member that asked for it.
@@ -78,7 +79,7 @@ impl Case {
             return Ok(None);
         };
         let outcome = probe.outcome(captures, timing, end);
-        let time = probe.sent(captures);
+        let time = sent(probe, captures, timing);
         let mut case = Case {
             prober,
             target,
@@ -203,6 +204,15 @@ impl Case {
             Some(time) => time.saturating_sub(self.time) < timeout,
             None => false,
         }
+    }
+}
+
+/// When the ping was sent, as far as the captures tell.
+fn sent(probe: &Probe, captures: &Captures, timing: &Timing) -> u64 {
+    if probe.is_seen() {
+        probe.sent(captures)
+    } else {
+        probe.time().saturating_sub(timing.timeout())
     }
 }
 

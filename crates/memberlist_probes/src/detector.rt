@@ -1,5 +1,7 @@
 //! What the failure detectors of a cluster did, from the packets of captures.
 
+ghost use Rattle.std.specs.Prelude.{◌≡◌, None, IsOk, slice_get};
+
 use crate::captures::Captures;
 use crate::fallbacks::Segment;
 use crate::health::Healths;
@@ -146,7 +148,9 @@ impl Detector {
     /// # Errors
     ///
     /// `AllocError` if out of memory.
-    pub fn note(&mut self, probe: &Probe) -> Result<(), AllocError> {
+    pub fn note(&mut self, probe: &Probe) -> Result<(), AllocError>
+        ensures unseen { slice_get probe.now.pinged 0 ≡ None → IsOk result × (self.new ≡ self.old) }
+    {
         let time = probe.time();
         if !probe.is_seen() || time < self.span.from || self.span.to < time {
             return Ok(());

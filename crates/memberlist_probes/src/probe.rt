@@ -1,6 +1,7 @@
 //! A probe, and what the captures have of it.
 
-ghost use Rattle.std.specs.Prelude.{◌≡◌, ◌≢◌, MatchBool, Contains, is_some, slice_get};
+ghost use Rattle.std.specs.Prelude.{◌≡◌, ◌≢◌, ℕ, MatchBool, Contains, Option, Some, is_some, unwrap_or, slice_get};
+ghost use Rattle.memberlist_probes.specs.declared.captures.Sighting.{Sighting};
 ghost use Rattle.std.specs.Net.Socket.{socket_ip};
 ghost use Rattle.memberlist_probes.specs.Captured.{IsSeenAt, IsPassage, IsFollowed, IsAwaited, IsLegOf};
 ghost use Rattle.memberlist_probes.specs.Complete.{ShowsComplete};
@@ -95,7 +96,10 @@ impl Probe {
     }
 
     /// When the ping was first seen, or else the first indirect ping.
-    pub fn time(&self) -> u64 {
+    pub fn time(&self) -> u64
+        ensures seen { (seen : Sighting) → slice_get self.now.pinged 0 ≡ Some seen
+            → result ≡ seen.time }
+    {
         let asked = match self.helpers.first() {
             Some(helper) => helper.asked.first(),
             None => None,
@@ -107,7 +111,11 @@ impl Probe {
     }
 
     /// When the prober sent the ping: when it was seen there, or first seen.
-    pub fn sent(&self, captures: &Captures) -> u64 {
+    pub fn sent(&self, captures: &Captures) -> u64
+        ensures { (there : Option ℕ) × IsSeenAt captures.now (socket_ip self.now.from) self.now.pinged there
+            × ((seen : Sighting) → slice_get self.now.pinged 0 ≡ Some seen
+            → result ≡ unwrap_or there seen.time) }
+    {
         match self.pinged.at(captures, self.from.ip()) {
             Some(time) => time,
             None => self.time(),

@@ -1,6 +1,6 @@
 //! How a cluster is set up, read off the wire.
 
-ghost use Rattle.std.specs.Prelude.{◌<◌};
+ghost use Rattle.std.specs.Prelude.{◌<◌, ◌≡◌, ℕ, Some};
 
 use crate::Delays;
 use std::alloc::{AllocError, Global};
@@ -10,6 +10,10 @@ const LAN_TIMEOUT: u64 = 500_000;
 
 /// memberlist's `ProbeInterval` in a local network.
 const LAN_INTERVAL: u64 = 1_000_000;
+
+/// With fewer waits than this that the captures show, the timeout is that of a local network at least
+/// (own): a capture on a busy host may have had a ping late.
+const FEW: u64 = 5;
 
 /// How many intervals a prober whose own health is bad waits (memberlist's
 /// `AwarenessMaxMultiplier`).
@@ -56,17 +60,24 @@ impl Timing {
         self.gaps.note(gap)
     }
 
-    /// How long a prober waits for an ack before it asks others: the median, to a tenth of a second.
-    pub fn timeout(&self) -> u64 {
+    /// How long a prober waits for an ack before it asks others: the time that was given, or else the
+    /// median, to a tenth of a second.
+    pub fn timeout(&self) -> u64
+        ensures given { (timeout : ℕ) → self.now.timeout ≡ Some timeout → result ≡ timeout }
+    {
         match (self.timeout, self.asked.percentile(50)) {
             (Some(timeout), _) => timeout,
-            (None, Some(median)) => rounded(median, 100_000),
+            (None, Some(median)) if FEW <= self.asked.len() => rounded(median, 100_000),
+            (None, Some(median)) => rounded(median, 100_000).max(LAN_TIMEOUT),
             (None, None) => LAN_TIMEOUT,
         }
     }
 
-    /// How long a prober waits from one probe to the next: the median, to a fifth of a second.
-    pub fn interval(&self) -> u64 {
+    /// How long a prober waits from one probe to the next: the time that was given, or else the median,
+    /// to a fifth of a second.
+    pub fn interval(&self) -> u64
+        ensures given { (interval : ℕ) → self.now.interval ≡ Some interval → result ≡ interval }
+    {
         match (self.interval, self.gaps.percentile(50)) {
             (Some(interval), _) => interval,
             (None, Some(median)) => rounded(median, 200_000),
