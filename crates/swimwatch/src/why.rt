@@ -38,26 +38,41 @@ pub(crate) struct Teller<'a> {
 impl<'a> Teller<'a> {
     /// Whether a suspicion is told.
     pub(crate) fn tells(&self, suspicion: &Suspicion) -> bool {
-        let is_it = match self.only {
-            Some(only) => self.members.name(suspicion.episode.of) == only.as_slice(),
-            None => true,
-        };
-        is_it && self.window.shows(suspicion.episode.begin)
+        self.is_it(suspicion.episode.of) && self.window.shows(suspicion.episode.begin)
     }
 
-    /// Whether trouble is told without a suspicion.
-    pub(crate) fn tells_trouble(&self, trouble: &Trouble) -> bool {
-        let is_it = match self.only {
-            Some(only) => {
-                let is_it = |member: Member| self.members.name(member) == only.as_slice();
-                trouble
-                    .legs
-                    .iter()
-                    .any(|(prober, target)| is_it(*prober) || is_it(*target))
-            }
-            None => true,
+    /// Whether trouble is told without a suspicion. Of one member it is told if it is about it, or if
+    /// its probes touch it and it explains no suspicion of another one.
+    pub(crate) fn tells_trouble(&self, chapter: &Chapter, index: usize) -> bool {
+        let Some(trouble) = chapter.troubles.get(index) else {
+            return false;
         };
-        is_it && self.window.shows(trouble.begin)
+        let explains = chapter
+            .suspicions
+            .iter()
+            .any(|suspicion| suspicion.cause == Some(index));
+        let touches = trouble.legs.iter().any(|(prober, target)| self.is_it(*prober)
+            || self.is_it(*target));
+        let is_told = self.is_about(&trouble.of) || touches && !explains;
+        is_told && self.window.shows(trouble.begin)
+    }
+
+    /// Whether this is the only member to tell of, if there is one.
+    fn is_it(&self, member: Member) -> bool {
+        match self.only {
+            Some(only) => self.members.name(member) == only.as_slice(),
+            None => true,
+        }
+    }
+
+    fn is_about(&self, of: &Of) -> bool {
+        match of {
+            Of::One(member) => self.is_it(*member),
+            Of::Several(members) => members.iter().any(|member| self.is_it(*member)),
+            Of::Groups(groups) => groups
+                .iter()
+                .any(|group| group.iter().any(|member| self.is_it(*member))),
+        }
     }
 
     /// Adds a name.
@@ -115,7 +130,7 @@ pub(crate) fn write_chapter(
         }
     }
     for (index, trouble) in chapter.troubles.iter().enumerate() {
-        if !is_told(chapter, teller, index) && teller.tells_trouble(trouble) {
+        if !is_told(chapter, teller, index) && teller.tells_trouble(chapter, index) {
             write_trouble(text, teller, trouble)?;
         }
     }
@@ -225,8 +240,7 @@ fn write_accusation(
     text.push('\n')
 }
 
-/// A probe: `probe 18 by web-5 at 21:19:12.963257: no answer (answer late); asked ..`. Of one that no
-/// capture has, the time is that of the indirect pings.
+/// A probe: `probe 18 by web-5 at 21:19:12.963257: no answer (answer late); asked ..`.
 fn write_probe(text: &mut String, teller: Teller, case: &Case) -> Result<(), AllocError> {
     write!(text, "probe {} by ", case.seq_no)?;
     teller.name(text, case.prober)?;

@@ -28,7 +28,7 @@ pub(crate) fn write_chapter_objects(
         }
     }
     for (index, trouble) in chapter.troubles.iter().enumerate() {
-        if !is_told(chapter, teller, index) && teller.tells_trouble(trouble) {
+        if !is_told(chapter, teller, index) && teller.tells_trouble(chapter, index) {
             let mut object = Object::new(alloc);
             object.text("time", moment_text(alloc, trouble.begin)?)?;
             object.text("until", moment_text(alloc, trouble.until)?)?;
