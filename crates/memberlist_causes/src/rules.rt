@@ -44,11 +44,12 @@ pub(crate) fn told(subject: &Subject, evidence: &mut Vec<Evidence>) -> Result<Ca
     ways(subject, evidence)
 }
 
-/// Whether nothing was heard of it, for longer than an agent at work is silent.
+/// Whether nothing was heard of it while probes of it failed, for longer than an agent at work is
+/// silent.
 fn is_unheard(subject: &Subject) -> bool {
     let agent = &subject.agent;
     let is_long = subject.facts.interval.saturating_mul(3) < agent.around.len();
-    agent.meanwhile == 0 && is_long && !subject.is_reached()
+    agent.meanwhile == 0 && is_long && subject.is_probed() && !subject.is_reached()
 }
 
 /// How many probes of it and by it had no answer.

@@ -295,6 +295,12 @@ impl<'a> Subject<'a> {
             .count() as u64
     }
 
+    /// Whether a probe of it failed, captured or not.
+    pub(crate) fn is_probed(&self) -> bool {
+        let is_unseen = self.unseen.iter().any(|case| case.target == self.member);
+        !self.to.is_empty() || is_unseen
+    }
+
     /// Whether another member reached it, or its agent answered over TCP.
     pub(crate) fn is_reached(&self) -> bool {
         self.to.iter().any(|case| case.is_relayed_answer() || case.tried == Some(Tried::Answered))
