@@ -91,3 +91,16 @@ END
 spread_rows one.pcap two.pcap | cut -d ' ' -f 2-4,6-14 > found
 echo 'f5 dead 2 4 0 of 0 - - - - -' > wanted
 check 'a packet that two captures have is sent once'
+
+# 65,536 pieces of news are followed
+python3 - <<'END'
+from frames import *
+dead = lambda n: b"\x05\x83\xa4From\xa1b\xabIncarnation\x01\xa4Node\xa5%05d" % n
+pcap("much.pcap", ((n, packet("127.0.3.1", 17, udp(7946, dead(n)))) for n in range(65539)))
+END
+run spread much.pcap
+sed 1d out | wc -l > found
+grep -o '[0-9]* claims left out because there was too much news' err >> found
+printf '%s\n' 65536 '3 claims left out because there was too much news' > wanted
+check 'so many pieces of news that some are left out'
+rm -f much.pcap
