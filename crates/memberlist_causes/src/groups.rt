@@ -51,6 +51,15 @@ impl Groups {
         }
     }
 
+    /// Joins the prober and those that it asked and that said what came of it.
+    fn join_helpers(&mut self, case: &Case) {
+        for asked in &case.asked {
+            if asked.has_nacked || asked.has_reached {
+                self.join(case.prober, asked.member);
+            }
+        }
+    }
+
     fn label(&self, member: Member) -> Option<u32> {
         self.labels.get(&member).copied()
     }
@@ -83,8 +92,8 @@ impl Groups {
     }
 }
 
-/// Two groups of members or more that do not hear each other: answered probes join the members of
-/// each, each failed one crosses, and no member is an end of nearly all of them.
+/// Two groups of members or more that do not hear each other: answered probes and indirect pings join
+/// the members of each, each failed one crosses, and no member is an end of nearly all of them.
 pub(crate) fn partition(scene: &Scene) -> Result<Option<Trouble>, AllocError> {
     let alloc = scene.facts.alloc;
     let mut groups = Groups::apart(alloc, scene)?;
@@ -94,6 +103,9 @@ pub(crate) fn partition(scene: &Scene) -> Result<Option<Trouble>, AllocError> {
         if from <= case.time && case.time <= to {
             groups.join(case.prober, case.target);
         }
+    }
+    for case in &scene.bad {
+        groups.join_helpers(case);
     }
     let failed = scene.bad.len() as u64;
     let counts = scene.touched(&scene.bad)?;
@@ -126,7 +138,7 @@ pub(crate) fn cut_off_together(scene: &Scene) -> Result<Option<Trouble>, AllocEr
         }
     }
     let is_most = scene.bad.len().saturating_mul(4) <= of_them.len().saturating_mul(5);
-    if silent.len() < 2 || !is_most || of_them.iter().any(|case| is_answered(case)) {
+    if silent.len() < 2 || !is_most || are_answered(&of_them) {
         return Ok(None);
     }
     let mut by = Vec::new(alloc);
@@ -172,10 +184,19 @@ fn silent_targets(scene: &Scene, from: u64) -> Result<Vec<Member>, AllocError> {
     Ok(silent)
 }
 
+/// Whether one of the probes was refused, or something came from the targets of more than a fifth of
+/// them: a connection that is dialled before all is over may be answered after it.
+fn are_answered(cases: &[&Case]) -> bool {
+    let answered = cases.iter().filter(|case| is_answered(case)).count();
+    let is_refused = cases
+        .iter()
+        .any(|case| case.only() == Some(Explanation::Refused));
+    is_refused || cases.len() < answered.saturating_mul(5)
+}
+
 /// Whether something came from the target of a probe.
 fn is_answered(case: &Case) -> bool {
-    let is_silent = matches!(case.tried, None | Some(Tried::Unanswered(_)));
-    !is_silent || case.acked.is_some() || case.only() == Some(Explanation::Refused)
+    !matches!(case.tried, None | Some(Tried::Unanswered(_))) || case.acked.is_some()
 }
 
 /// Whether all captures are of one member, which hears something.
