@@ -1,4 +1,4 @@
-use Rattle.std.proofs.Common.{◌≡◌, ◌<◌, ◌+◌, suc, ◌∷◌, [], ◌++◌, All, take, take-suc, take_all, slice_index_or, sym, subst, ◌∙◌, ap, add-one}
+use Rattle.std.proofs.Common.{◌≡◌, All, take, take-suc, take_all, slice_index_or, sym, subst, ◌∙◌, ap, add-one}
 use Rattle.std.proofs.lemmas.List.Elements.{All-push}
 use Rattle.memberlist_probes.proofs.captures.Sightings.in_capture.Goals as goal
 

@@ -1,4 +1,4 @@
-use Rattle.std.proofs.Common.{◌≡◌, ℕ, Some, All, MatchOption, Contains, refl, sym, ap, subst}
+use Rattle.std.proofs.Common.{◌≡◌, Some, All, MatchOption, Contains, refl, sym, ap, subst}
 use Rattle.memberlist_probes.specs.declared.captures.Sighting.{Sighting}
 use Rattle.memberlist_probes.specs.Captured.{IsPassage as passage}
 use Rattle.memberlist_probes.proofs.probe.Probe.passage_in.Goals as goal

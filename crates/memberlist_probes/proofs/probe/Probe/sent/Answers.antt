@@ -7,7 +7,9 @@ use Rattle.memberlist_probes.proofs.probe.Probe.sent.Goals as goal
 pub returns-in-None : goal.returns-in-None
 returns-in-None c =
     let captures = c.args.captures.now in
-    let pings = c.args.self.now.pinged in
-    (None , subst (λ at. IsSeenAt captures (socket_ip c.args.self.now.from) pings at) c.in-None.is
-        (subst (λ host. IsSeenAt captures host pings c.at.result) c.ip.ensures c.at.ensures) ,
-        c.time.ensures.seen)
+    let pings = c.args.self.now.pinged in (
+      None,
+      subst (λ at. IsSeenAt captures (socket_ip c.args.self.now.from) pings at) c.in-None.is
+          (subst (λ host. IsSeenAt captures host pings c.at.result) c.ip.ensures c.at.ensures),
+      c.time.ensures.seen,
+    )
