@@ -1,8 +1,8 @@
 //! The captures, and when each of them has a packet.
 
-ghost use Rattle.std.specs.Prelude.{◌≡◌, ◌+◌, ◌≤◌, ◌∷◌, [], ◌++◌, if◌then◌else◌, Some, OnOk, OnErr, All, MatchBool, MatchOption, Contains, slice_get};
+ghost use Rattle.std.specs.Prelude.{◌≡◌, ◌+◌, ◌≤◌, ◌∷◌, [], ◌++◌, if◌then◌else◌, Some, ◌⊎◌, OnOk, OnErr, All, MatchBool, MatchOption, Contains, slice_get};
 ghost use Rattle.memberlist_probes.specs.declared.captures.Sighting.{Sighting};
-ghost use Rattle.memberlist_probes.specs.Captured.{IsAt, IsCovering, Covers, IsSeenAt, WasNotSeen, has_capture};
+ghost use Rattle.memberlist_probes.specs.Captured.{IsAt, IsCovering, Covers, IsSeenAt, WasNotSeen, WasSeen, has_capture};
 ghost use Rattle.memberlist_probes.specs.Points.{host_of};
 
 use crate::Point;
@@ -245,7 +245,10 @@ impl Sightings {
     pub fn came_to(&self, captures: &Captures, host: IpAddr) -> Option<u64>
         ensures { MatchOption result ((first : Sighting) → slice_get self.now 0 ≡ Some first
             → WasNotSeen captures.now host self.now × Covers captures.now host first.time 0)
-            (λ time. (seen : Sighting) × Contains self.now seen × (seen.time ≡ time)) }
+            (λ time. WasSeen captures.now host self.now time
+            ⊎ (WasNotSeen captures.now host self.now × (first : Sighting)
+            × (slice_get self.now 0 ≡ Some first) × (first.time ≡ time)
+            × (Covers captures.now host first.time 0 → ⊥))) }
     {
         let first = self.first()?.time;
         match self.at(captures, host) {

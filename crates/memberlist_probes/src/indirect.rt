@@ -14,6 +14,10 @@ const RELAYED: u64 = 1_000_000;
 /// The most pings that are waited for after indirect ones (own). With one more all are forgotten.
 const MAX_ASKED: usize = 65_536;
 
+/// The most members that one probe is known to have asked (own). memberlist asks `IndirectChecks`, 3
+/// by default (config.go). Others are left out.
+const MAX_HELPERS: usize = 64;
+
 /// Pings that members were asked for.
 #[derive(Clone, Copy)]
 pub(crate) struct Asked {
@@ -50,6 +54,9 @@ impl Probes {
             .find(|helper| helper.end == packet.to)
         {
             return helper.asked.note(packet.seen);
+        }
+        if MAX_HELPERS <= probe.helpers.len() {
+            return Ok(());
         }
         if probe.is_seen() && probe.helpers.is_empty() {
             let after = packet.seen.time.saturating_sub(probe.time());
