@@ -1,5 +1,5 @@
 -- How the parts of a prepared key follow from its bytes.
-use Rattle.std.proofs.Common.{◌≡◌, inl, inr, ℕ, ◌+◌, ◌-◌, ◌*◌, ◌/◌, ◌<◌, ◌≤◌, List, length, replicate, subst, sym, ap, ap₂, ◌∙◌, arith}
+use Rattle.std.proofs.Common.{◌≡◌, inl, inr, ℕ, ◌+◌, ◌-◌, ◌*◌, ◌/◌, ◌<◌, ◌≤◌, List, length, take, replicate, subst, sym, ap, ap₂, ◌∙◌, arith}
 use Rattle.std.specs.Int.{w128, from_be_bytes}
 use Rattle.memberlist_cipher.specs.Block.{cipher, schedule, aes}
 use Rattle.memberlist_cipher.specs.Gcm.{hash_key}
@@ -56,3 +56,12 @@ known key words w h view prepared same =
       under = under;
       block = p.block_is ∙ sym (ap hash_key under);
     }
+
+-- the schedule begins with the key, and is longer
+pub front_is : (key words w : List ℕ) (n h : ℕ) → scheduled_key words ≡ key → IsPrepared (scheduled_key words) words h → w ≡ words → n ≡ length w
+    → (take (n / 4 - 28) w ≡ key) × (28 ≤ n / 4)
+unfolding scheduled_key
+front_is key words w n h view prepared same count =
+    let p = seen key words h view prepared in
+    let size : length w ≡ 112 + 16 * (length key / 4) = ap length (same ∙ p.schedule_is) ∙ length-schedule key p.good_key in
+    (ap (λ (m : ℕ). take (m / 4 - 28) w) count ∙ ap (λ (v : List ℕ). take (length v / 4 - 28) v) same ∙ view, omega arith)

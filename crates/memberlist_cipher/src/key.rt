@@ -50,6 +50,14 @@ impl Key {
         let key = prepared(alloc, bytes)?;
         Ok(key)
     }
+
+    /// The bytes of the key. They are overwritten when the key is dropped.
+    pub fn bytes(&self) -> &[u8]
+        ensures { result.now ≡ self.now }
+    {
+        let words = &self.round_keys.words;
+        &words[..words.len() / 4 - 28]
+    }
 }
 
 /// Prepares a key.

@@ -11,7 +11,7 @@
 //! | `trial` | keys tried in order |
 //! | `keyring` | a cluster's keys |
 //! | `encrypt` | packets and streams encrypted under the first key |
-//! | `turn` | which key encrypts |
+//! | `turn` | each key, and which one encrypts |
 //! | `laws` | what holds for the definitions, independent of any code |
 #![tactic(auto)]
 

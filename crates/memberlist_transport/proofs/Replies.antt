@@ -16,7 +16,7 @@ one_text label bytes a b (inr is) (inl other) = absurd (omega (arith, is.0, ap l
 one_text label bytes a b (inr is) (inr other) = is.1 ∙ sym other.1
 
 -- a reply is read as one text
-one_reading : (label bytes a b : List ℕ) → IsReadAs label bytes a → IsReadAs label bytes b → a ≡ b
+pub one_reading : (label bytes a b : List ℕ) → IsReadAs label bytes a → IsReadAs label bytes b → a ≡ b
 one_reading label bytes a b (inl is) (inl other) = is.1 ∙ sym other.1
 one_reading label bytes a b (inl is) (inr other) = absurd (other.0 is.0)
 one_reading label bytes a b (inr is) (inl other) = absurd (is.0 other.0)

@@ -14,7 +14,7 @@ use Rattle.memberlist_transport.specs.declared.in_the_clear.InTheClear.{InTheCle
 use Rattle.memberlist_transport.specs.InTheClear.{AcceptsClear}
 use Rattle.memberlist_transport.specs.Stream.{BeginsAsStream, BeginsAsSealed, IsStreamIn, IsStreamIn as streams, IsClearStream, IsSealed, ReasonFor, ReasonFor as why, ReasonForClear, ReasonForClear as plainly, fault_of_start}
 
-same_message : (m n : ℕ) (bytes a b : List ℕ) → Unwraps m bytes a → Unwraps n bytes b → a ≡ b
+pub same_message : (m n : ℕ) (bytes a b : List ℕ) → Unwraps m bytes a → Unwraps n bytes b → a ≡ b
 same_message m n bytes a b one other = (one_message m n bytes one.wrappers other.wrappers a b one.wraps other.wraps).1
 
 -- no message starts as both

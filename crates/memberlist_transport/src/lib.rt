@@ -5,6 +5,7 @@
 //! | `packet` | the message of a packet |
 //! | `message` | what a message is |
 //! | `unwrapped` | the bytes of a packet's message, whatever they are |
+//! | `unwrapped_stream` | the bytes of a message in one direction of a connection |
 //! | `stream` | the push/pull stream of a connection |
 //! | `reply` | the push/pull stream that replies to one |
 //! | `in_the_clear` | what becomes of what is not encrypted |
@@ -20,6 +21,7 @@ mod packet;
 mod reply;
 mod stream;
 mod unwrapped;
+mod unwrapped_stream;
 
 pub use fault::{PacketFault, StreamFault, UNENCRYPTED};
 pub use in_the_clear::InTheClear;
@@ -28,6 +30,7 @@ pub use packet::{MAX_MESSAGE_LEN, open_packet};
 pub use reply::open_reply;
 pub use stream::open_stream;
 pub use unwrapped::unwrap_packet;
+pub use unwrapped_stream::unwrap_reply;
 
 #[cfg(test)]
 mod tests;

@@ -53,7 +53,7 @@ pub fn open_reply(
 }
 
 /// Whether the bytes start as a label does.
-fn begins_as_label(bytes: &[u8]) -> bool
+pub(crate) fn begins_as_label(bytes: &[u8]) -> bool
     ensures { MatchBool result (BeginsAsLabel bytes.now) (¬ BeginsAsLabel bytes.now) }
 {
     match bytes.split_first() {

@@ -115,7 +115,7 @@ fn if_accepted(
 }
 
 /// Whether the message starts as an encrypted stream.
-fn is_sealed(message: &[u8]) -> bool
+pub(crate) fn is_sealed(message: &[u8]) -> bool
     ensures { MatchBool result (BeginsAsSealed message.now) (¬ BeginsAsSealed message.now) }
 {
     match message.split_first() {

@@ -1,12 +1,11 @@
--- The dump that memberlist merges is a stream of the claims about names with a home, and of no
--- others.
-use Rattle.std.proofs.Common.{◌≡◌, ℕ, ◌≤◌, Bool, List, [], ◌∷◌, ◌++◌, length, All, Contains, Option, Some, None, inl, inr, refl, sym, ap, subst, append_assoc, append-nil, if◌then◌else◌, arith}
+-- The dump that memberlist merges is a stream of the claims that are told, and of no others.
+use Rattle.std.proofs.Common.{◌≡◌, ℕ, ◌≤◌, Bool, List, [], ◌∷◌, ◌++◌, length, All, Contains, Option, Some, None, true, false, nat_lt, inl, inr, refl, sym, ap, subst, append_assoc, append-nil, if◌then◌else◌, arith}
 use Rattle.std.proofs.lemmas.List.Elements.{All-head, All-tail, All-weaker, All-contains, All-contains_itself, Contains-append_left, Contains-append_right, Contains-append_cases}
+use Rattle.std.proofs.lemmas.Bool.Decides.{nat_tests}
 use Rattle.std.specs.List.{flat_map}
-use Rattle.std.specs.Option.{IsSome, option_and_then}
 use Rattle.swim_claim.specs.declared.claim.Claim.{Claim}
 use Rattle.swim_claim.specs.declared.claim.Claim.TheVariants.{Alive, Suspect, Confirm, Leave}
-use Rattle.swim_claim.specs.Claim.{details_of, IsLegalClaim}
+use Rattle.swim_claim.specs.Claim.{details_of, inc_of, IsLegalClaim}
 use Rattle.swim_claim.specs.Details.{DetailsValue}
 use Rattle.swim_wire.specs.declared.stream.Header.{Header}
 use Rattle.swim_wire.specs.Canonical.{header_bytes, state_bytes_with}
@@ -15,57 +14,92 @@ use Rattle.swim_wire.specs.Streams.{StateTexts, StreamText}
 use Rattle.swim_wire.specs.Streams.StateTexts.{none, one}
 use Rattle.swim_wire.proofs.OneStream.{one_stream}
 use Rattle.swim_wire.proofs.SpelledTexts.{Fits, Fits-legal, Fits-none, HeaderText-canonical, StateText-beside}
-use Rattle.swim_wire.specs.Limits.{max_nodes}
-use Rattle.swim_table.specs.MemberlistDump.{kept_with_home, with_homes, home_details, entry_bytes, memberlist_dump_bytes}
+use Rattle.swim_wire.specs.Limits.{max_nodes, max_user_state_len}
+use Rattle.swim_table.specs.MemberlistDump.{are_versions, details_at, later, told_at, told, told_of, home_details, entry_bytes, memberlist_dump_bytes}
 use Rattle.swim_table.specs.Standing.{Standing}
-use Rattle.swim_table.specs.Table.{Entries, Reduced, IsLegalTable, kept}
-use Rattle.swim_table.proofs.Lookups.{only_one}
+use Rattle.swim_table.specs.Table.{Entries, Reduced, IsLegalTable, beside_home, kept}
 
 -- ---- an entry
 
-pub kept_at_home : (entry : Standing) → IsSome entry.home → kept_with_home entry ≡ kept entry
-kept_at_home entry known = ap (λ b. if b then kept entry else []) known
+-- what is told of a member whose newest Alive has these details
+pub told_home : (entry : Standing) (home : Claim) (details : DetailsValue) → entry.home ≡ Some home → details_of home ≡ Some details
+    → (home_details entry ≡ details) × (told entry ≡ (if are_versions details.vsn then later entry.top home ∷ [] else []))
+told_home entry home details is known =
+    let same : details_at (Some home) ≡ details = ap details_or_none known in
+    let here : details_at entry.home ≡ details = subst (λ o. details_at o ≡ details) (sym is) same in
+    let list : told_at entry.top (Some home) ≡ (if are_versions details.vsn then later entry.top home ∷ [] else []) =
+    ap (λ (d : DetailsValue). if are_versions d.vsn then later entry.top home ∷ [] else []) same in
+    (here, subst (λ o. told_at entry.top o ≡ (if are_versions details.vsn then later entry.top home ∷ [] else [])) (sym is) list)
 
--- the records of an entry whose home has these details
-pub bytes_at_home : (entry : Standing) (home : Claim) (details : DetailsValue) → entry.home ≡ Some home → details_of home ≡ Some details
-    → entry_bytes entry ≡ flat_map (state_bytes_with details) (kept entry)
-bytes_at_home entry home details is told =
-    let known : IsSome entry.home = subst IsSome (sym is) refl in
-    let same : home_details entry ≡ details =
-    subst (λ o. details_or_none (option_and_then details_of o) ≡ details) (sym is) (ap details_or_none told) in
-    λ i. flat_map (state_bytes_with (same i)) (kept_at_home entry known i)
+-- what is told is kept
+later_within : (top home c : Claim) → Contains (later top home ∷ []) c → Contains (kept (record { top = top; home = Some home })) c
+later_within (Alive name inc details) home c at = at
+later_within (Suspect name inc) home c at = by_test (nat_lt inc (inc_of home)) at
+  where
+    by_test : (b : Bool) → Contains ((if b then home else Suspect name inc) ∷ []) c → Contains (home ∷ Suspect name inc ∷ []) c
+    by_test true at = Contains-append_left (home ∷ []) (Suspect name inc ∷ []) c at
+    by_test false at = Contains-append_right (home ∷ []) (Suspect name inc ∷ []) c at
+later_within (Confirm name inc) home c at = by_test (nat_lt inc (inc_of home)) at
+  where
+    by_test : (b : Bool) → Contains ((if b then home else Confirm name inc) ∷ []) c → Contains (home ∷ Confirm name inc ∷ []) c
+    by_test true at = Contains-append_left (home ∷ []) (Confirm name inc ∷ []) c at
+    by_test false at = Contains-append_right (home ∷ []) (Confirm name inc ∷ []) c at
+later_within (Leave name inc) home c at = by_test (nat_lt inc (inc_of home)) at
+  where
+    by_test : (b : Bool) → Contains ((if b then home else Leave name inc) ∷ []) c → Contains (home ∷ Leave name inc ∷ []) c
+    by_test true at = Contains-append_left (home ∷ []) (Leave name inc ∷ []) c at
+    by_test false at = Contains-append_right (home ∷ []) (Leave name inc ∷ []) c at
 
--- an entry without a home has no records
-pub kept_nowhere : (entry : Standing) → entry.home ≡ None → kept_with_home entry ≡ []
-kept_nowhere entry is = subst (λ (o : Option Claim). kept_with_home (record { top = entry.top; home = o }) ≡ []) (sym is) refl
+told_within : (top : Claim) (home : Option Claim) (c : Claim) → Contains (told_at top home) c → Contains (kept (record { top = top; home = home })) c
+told_within top None c at = absurd (omega (arith, at.1))
+told_within top (Some home) c at = by_versions (are_versions (details_at (Some home)).vsn) at
+  where
+    by_versions : (b : Bool) → Contains (if b then later top home ∷ [] else []) c → Contains (kept (record { top = top; home = Some home })) c
+    by_versions true at = later_within top home c at
+    by_versions false at = absurd (omega (arith, at.1))
 
-kept_within : (top : Claim) (home : Option Claim) (c : Claim) → Contains (kept_with_home (record { top = top; home = home })) c
-    → Contains (kept (record { top = top; home = home })) c
-kept_within top None c at = absurd (omega (arith, at.1))
-kept_within top (Some home) c at = at
+pub one_told : (entry : Standing) → length (told entry) ≤ 1
+one_told entry = by_home entry.home
+  where
+    by_versions : (b : Bool) (c : Claim) → length (if b then c ∷ [] else []) ≤ 1
+    by_versions true c = omega arith
+    by_versions false c = omega arith
+
+    by_home : (home : Option Claim) → length (told_at entry.top home) ≤ 1
+    by_home None = omega arith
+    by_home (Some home) = by_versions (are_versions (details_at (Some home)).vsn) (later entry.top home)
+
+pub told_if_sound : (top home : Claim) → are_versions (details_at (Some home)).vsn ≡ true → told (record { top = top; home = Some home }) ≡ later top home ∷ []
+told_if_sound top home sound = ap (λ b. if b then later top home ∷ [] else []) sound
+
+pub latest : (top home : Claim) → (inc_of home ≤ inc_of (later top home)) × (beside_home top ≡ top ∷ [] → inc_of top ≤ inc_of (later top home))
+latest (Alive name inc details) home = (omega arith, λ none. absurd (omega (arith, ap length none)))
+latest (Suspect name inc) home = by_test (nat_lt inc (inc_of home)) refl
+  where
+    by_test : (b : Bool) → nat_lt inc (inc_of home) ≡ b → (inc_of home ≤ inc_of (if b then home else Suspect name inc))
+        × (beside_home (Suspect name inc) ≡ Suspect name inc ∷ [] → inc ≤ inc_of (if b then home else Suspect name inc))
+    by_test true is = (omega arith, λ _. grind (arith, nat_tests))
+    by_test false is = (grind (arith, nat_tests), λ _. omega arith)
+latest (Confirm name inc) home = by_test (nat_lt inc (inc_of home)) refl
+  where
+    by_test : (b : Bool) → nat_lt inc (inc_of home) ≡ b → (inc_of home ≤ inc_of (if b then home else Confirm name inc))
+        × (beside_home (Confirm name inc) ≡ Confirm name inc ∷ [] → inc ≤ inc_of (if b then home else Confirm name inc))
+    by_test true is = (omega arith, λ _. grind (arith, nat_tests))
+    by_test false is = (grind (arith, nat_tests), λ _. omega arith)
+latest (Leave name inc) home = by_test (nat_lt inc (inc_of home)) refl
+  where
+    by_test : (b : Bool) → nat_lt inc (inc_of home) ≡ b → (inc_of home ≤ inc_of (if b then home else Leave name inc))
+        × (beside_home (Leave name inc) ≡ Leave name inc ∷ [] → inc ≤ inc_of (if b then home else Leave name inc))
+    by_test true is = (omega arith, λ _. grind (arith, nat_tests))
+    by_test false is = (grind (arith, nat_tests), λ _. omega arith)
 
 -- ---- a table
 
-pub all_with_homes : (table : Entries) → All (λ entry. IsSome entry.home) table → with_homes table ≡ Reduced table
-all_with_homes [] known = refl
-all_with_homes (entry ∷ rest) known =
-    let here = kept_at_home entry (All-head (λ s. IsSome s.home) entry rest known) in
-    let later = all_with_homes rest (All-tail (λ s. IsSome s.home) entry rest known) in
-    λ i. here i ++ later i
-
-pub with_homes_within : (table : Entries) (c : Claim) → Contains (with_homes table) c → Contains (Reduced table) c
-with_homes_within [] c at = at
-with_homes_within (entry ∷ rest) c at = elim (Contains-append_cases (kept_with_home entry) (with_homes rest) c at) [
-  | inl here ↦ Contains-append_left (kept entry) (Reduced rest) c (kept_within entry.top entry.home c here)
-  | inr later ↦ Contains-append_right (kept entry) (Reduced rest) c (with_homes_within rest c later)
-]
-
-pub kept_at_homes : (table : Entries) (s : Standing) (c : Claim) → Contains table s → IsSome s.home → Contains (kept s) c → Contains (with_homes table) c
-kept_at_homes [] s c at known made = absurd (omega (arith, at.1))
-kept_at_homes (entry ∷ rest) s c at known made = elim (Contains-append_cases (entry ∷ []) rest s at) [
-  | inl here ↦ Contains-append_left (kept_with_home entry) (with_homes rest) c
-      (subst (λ t. Contains (kept_with_home t) c) (sym (only_one entry s here)) (subst (λ l. Contains l c) (sym (kept_at_home s known)) made))
-  | inr later ↦ Contains-append_right (kept_with_home entry) (with_homes rest) c (kept_at_homes rest s c later known made)
+pub told_of_within : (table : Entries) (c : Claim) → Contains (told_of table) c → Contains (Reduced table) c
+told_of_within [] c at = at
+told_of_within (entry ∷ rest) c at = elim (Contains-append_cases (told entry) (told_of rest) c at) [
+  | inl here ↦ Contains-append_left (kept entry) (Reduced rest) c (told_within entry.top entry.home c here)
+  | inr after ↦ Contains-append_right (kept entry) (Reduced rest) c (told_of_within rest c after)
 ]
 
 -- ---- its records
@@ -91,39 +125,43 @@ Fits-home (Suspect name inc) legal = Fits-none
 Fits-home (Confirm name inc) legal = Fits-none
 Fits-home (Leave name inc) legal = Fits-none
 
-entry_texts : (top : Claim) (home : Option Claim) → All IsLegalClaim (kept (record { top = top; home = home }))
-    → StateTexts (entry_bytes (record { top = top; home = home })) (kept_with_home (record { top = top; home = home }))
-entry_texts top None legal = none
-entry_texts top (Some home) legal =
+fits : (top : Claim) (home : Option Claim) → All IsLegalClaim (kept (record { top = top; home = home })) → Fits (details_at home)
+fits top None legal = Fits-none
+fits top (Some home) legal =
     let entry : Standing = record { top = top; home = Some home } in
-    StateTexts-beside (home_details entry) (kept entry) (Fits-home home (All-contains IsLegalClaim (kept entry) home legal (0, omega arith, refl))) legal
+    Fits-home home (All-contains IsLegalClaim (kept entry) home legal (0, omega arith, refl))
 
 -- what holds for all elements of a list holds for those of a part of it
 All-part : (xs ys : List Claim) → ((c : Claim) → Contains xs c → Contains ys c) → All IsLegalClaim ys → All IsLegalClaim xs
 All-part xs ys within all = All-weaker (Contains xs) IsLegalClaim (λ c at. All-contains IsLegalClaim ys c all (within c at)) xs (All-contains_itself xs)
 
-table_texts : (table : Entries) → All IsLegalClaim (Reduced table) → StateTexts (flat_map entry_bytes table) (with_homes table)
+entry_texts : (entry : Standing) → All IsLegalClaim (kept entry) → StateTexts (entry_bytes entry) (told entry)
+entry_texts entry legal =
+    StateTexts-beside (home_details entry) (told entry) (fits entry.top entry.home legal)
+    (All-part (told entry) (kept entry) (told_within entry.top entry.home) legal)
+
+table_texts : (table : Entries) → All IsLegalClaim (Reduced table) → StateTexts (flat_map entry_bytes table) (told_of table)
 table_texts [] legal = none
 table_texts (entry ∷ rest) legal =
-    StateTexts-append (entry_bytes entry) (flat_map entry_bytes rest) (kept_with_home entry) (with_homes rest)
-    (entry_texts entry.top entry.home (All-part (kept entry) (Reduced (entry ∷ rest)) (Contains-append_left (kept entry) (Reduced rest)) legal))
+    StateTexts-append (entry_bytes entry) (flat_map entry_bytes rest) (told entry) (told_of rest)
+    (entry_texts entry (All-part (kept entry) (Reduced (entry ∷ rest)) (Contains-append_left (kept entry) (Reduced rest)) legal))
     (table_texts rest (All-part (Reduced rest) (Reduced (entry ∷ rest)) (Contains-append_right (kept entry) (Reduced rest)) legal))
 
 -- ---- the stream
 
 -- the header of the dump
-abbrev memberlist_header : Entries → Bool → Header
-memberlist_header table join = record { nodes = length (with_homes table); user_len = 0; join = join }
+abbrev memberlist_header : Entries → Bool → List ℕ → Header
+memberlist_header table join user = record { nodes = length (told_of table); user_len = length user; join = join }
 
-pub memberlist_dump_is_stream : (table : Entries) (join : Bool) → IsLegalTable table → length (with_homes table) ≤ max_nodes → StreamText
-    (memberlist_dump_bytes table join) (with_homes table) join
-memberlist_dump_is_stream table join legal few = record {
-  header = memberlist_header table join;
-  head = header_bytes (memberlist_header table join);
+pub memberlist_dump_is_stream : (table : Entries) (join : Bool) (user : List ℕ) → IsLegalTable table → length (told_of table) ≤ max_nodes
+    → length user ≤ max_user_state_len → StreamText (memberlist_dump_bytes table join user) (told_of table) join
+memberlist_dump_is_stream table join user legal few short = record {
+  header = memberlist_header table join user;
+  head = header_bytes (memberlist_header table join user);
   records = flat_map entry_bytes table;
-  user = [];
-  bytes = sym (append-nil (memberlist_dump_bytes table join));
-  head_text = HeaderText-canonical (memberlist_header table join) few (omega arith);
+  user = user;
+  bytes = refl;
+  head_text = HeaderText-canonical (memberlist_header table join user) few short;
   flag = refl;
   nodes = refl;
   record_texts = table_texts table legal.claims;
@@ -131,10 +169,9 @@ memberlist_dump_is_stream table join legal few = record {
 }
 
 -- a stream text of the dump has its claims and its flag
-pub memberlist_dump_claims : (table : Entries) (join flag : Bool) (claims : List Claim) → IsLegalTable table → length (with_homes table) ≤ max_nodes
-    → StreamText (memberlist_dump_bytes table join) claims flag → (claims ≡ with_homes table) × (flag ≡ join)
-memberlist_dump_claims table join flag claims legal few text =
-    let same =
-    one_stream (memberlist_dump_bytes table join) (memberlist_dump_bytes table join) [] [] claims (with_homes table) flag join text
-    (memberlist_dump_is_stream table join legal few) refl in
+pub memberlist_dump_claims : (table : Entries) (join flag : Bool) (user : List ℕ) (claims : List Claim) → IsLegalTable table → length (told_of table) ≤ max_nodes
+    → length user ≤ max_user_state_len → StreamText (memberlist_dump_bytes table join user) claims flag → (claims ≡ told_of table) × (flag ≡ join)
+memberlist_dump_claims table join flag user claims legal few short text =
+    let bytes = memberlist_dump_bytes table join user in
+    let same = one_stream bytes bytes [] [] claims (told_of table) flag join text (memberlist_dump_is_stream table join user legal few short) refl in
     (same.1, same.2)

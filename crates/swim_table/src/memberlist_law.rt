@@ -1,33 +1,39 @@
 //! Facts about the dump that memberlist merges, independent of any code. Each law is the contract
 //! of a function that does nothing.
 
-ghost use Rattle.std.specs.Prelude.{◌≡◌, ◌≤◌, Bool, List, All, Contains, IsSome, length};
+ghost use Rattle.std.specs.Prelude.{◌≡◌, ◌≤◌, ◌∷◌, [], Bool, ℕ, List, Option, Some, None, Contains, true, length};
 ghost use Rattle.swim_claim.specs.declared.claim.Claim.{Claim};
-ghost use Rattle.swim_wire.specs.Limits.{max_nodes};
+ghost use Rattle.swim_claim.specs.Claim.{inc_of};
+ghost use Rattle.swim_wire.specs.Limits.{max_nodes, max_user_state_len};
 ghost use Rattle.swim_wire.specs.Streams.{StreamText};
-ghost use Rattle.swim_table.specs.MemberlistDump.{memberlist_dump_bytes, with_homes};
+ghost use Rattle.swim_table.specs.MemberlistDump.{are_versions, details_at, later, memberlist_dump_bytes, told, told_of};
 ghost use Rattle.swim_table.specs.Standing.{Standing};
-ghost use Rattle.swim_table.specs.Table.{Entries, Reduced, IsLegalTable, kept};
+ghost use Rattle.swim_table.specs.Table.{Entries, Reduced, IsLegalTable, beside_home};
 
-/// The dump that memberlist merges has all claims that a table keeps for a name with a home, and
-/// none that it does not keep. If each name has a home, it has all that the table keeps.
-pub fn homes_are_told()
-    ensures all { (table : Entries) → All (λ entry. IsSome entry.home) table
-        → with_homes table ≡ Reduced table }
-    ensures within { (table : Entries) (c : Claim) → Contains (with_homes table) c
+/// Nothing is told that the table does not keep, and of no member more than one claim. A member
+/// whose newest Alive has sound versions is told: by its state, or by that Alive if it came back.
+/// Neither is older than what is told.
+pub fn one_record_each()
+    ensures within { (table : Entries) (c : Claim) → Contains (told_of table) c
         → Contains (Reduced table) c }
-    ensures each { (table : Entries) (entry : Standing) (c : Claim) → Contains table entry
-        → IsSome entry.home → Contains (kept entry) c → Contains (with_homes table) c }
+    ensures one { (entry : Standing) → length (told entry) ≤ 1 }
+    ensures told { (top home : Claim) → are_versions (details_at (Some home)).vsn ≡ true
+        → told (record { top = top; home = Some home }) ≡ later top home ∷ [] }
+    ensures latest { (top home : Claim)
+        → (inc_of home ≤ inc_of (later top home))
+        × (beside_home top ≡ top ∷ [] → inc_of top ≤ inc_of (later top home)) }
 {}
 
-/// The dump that memberlist merges, of at most 131,072 records, is a push/pull stream of the claims
-/// about names with a home and with the join flag, and of no other claims and no other flag.
+/// The dump that memberlist merges, of at most 131,072 records and 20,971,520 bytes of user state,
+/// is a push/pull stream of the claims that are told and with the join flag, and of no other claims
+/// and no other flag.
 pub fn memberlist_dump()
-    ensures stream { (table : Entries) (join : Bool) → IsLegalTable table
-        → length (with_homes table) ≤ max_nodes
-        → StreamText (memberlist_dump_bytes table join) (with_homes table) join }
-    ensures no_other { (table : Entries) (join flag : Bool) (claims : List Claim)
-        → IsLegalTable table → length (with_homes table) ≤ max_nodes
-        → StreamText (memberlist_dump_bytes table join) claims flag
-        → (claims ≡ with_homes table) × (flag ≡ join) }
+    ensures stream { (table : Entries) (join : Bool) (user : List ℕ) → IsLegalTable table
+        → length (told_of table) ≤ max_nodes → length user ≤ max_user_state_len
+        → StreamText (memberlist_dump_bytes table join user) (told_of table) join }
+    ensures no_other { (table : Entries) (join flag : Bool) (user : List ℕ) (claims : List Claim)
+        → IsLegalTable table → length (told_of table) ≤ max_nodes
+        → length user ≤ max_user_state_len
+        → StreamText (memberlist_dump_bytes table join user) claims flag
+        → (claims ≡ told_of table) × (flag ≡ join) }
 {}

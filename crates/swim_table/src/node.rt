@@ -24,6 +24,7 @@ use crate::room::Room;
 use crate::table::{Table, Taken};
 use std::alloc::{AllocError, Global};
 use std::marker::Model;
+use std::mem;
 use swim_claim::{Claim, Details, Kind, Name};
 use swim_wire::Datagram;
 
@@ -98,6 +99,15 @@ impl Node {
         // opens the invariant: the details are legal
         let _ = self.details.meta();
         &self.details
+    }
+
+    /// Gives the member other details, and returns those that it had. Its table does not change: it
+    /// still has the Alive with the old ones, which [`refute`](Node::refute) answers.
+    pub fn replace_details(&mut self, details: Details) -> Details
+        ensures new { self.new ≡ record self.old { details = details } }
+        ensures old { result ≡ self.old.details }
+    {
+        mem::replace(&mut self.details, details)
     }
 
     /// What the member has heard, including its own claims.

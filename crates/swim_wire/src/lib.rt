@@ -49,7 +49,7 @@ pub use message::{
 };
 pub use packet::{Packet, decode_packet};
 pub use state_record::{StateRecord, read_record};
-pub use stream::{Header, MAX_NODES, read_header, read_state};
+pub use stream::{Header, MAX_NODES, MAX_USER_STATE_LEN, read_header, read_state};
 pub use user_state::skip_user;
 
 #[cfg(test)]

@@ -28,7 +28,7 @@ use swim_pack::Inlet;
 pub const MAX_NODES: u64 = 131_072;
 
 /// The maximum length of a stream's user state in bytes.
-pub(crate) const MAX_USER_STATE_LEN: u64 = 20_971_520;
+pub const MAX_USER_STATE_LEN: u64 = 20_971_520;
 
 /// The header of a push/pull stream.
 #[derive(Clone, Copy, Debug, PartialEq, Eq)]

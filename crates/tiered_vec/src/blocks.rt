@@ -1,5 +1,5 @@
 //! Operations on the vectors that hold the blocks.
-ghost use Rattle.std.specs.Prelude.{◌≡◌, ◌+◌, ◌<◌, ◌≤◌, ◌++◌, ◌∷◌, [], All, max, length, take, drop, vec_capacity, slice_index_or, OnOk, OnErr, IfOk, IsOk, MatchResult};
+ghost use Rattle.std.specs.Prelude.{◌≡◌, ◌+◌, ◌<◌, ◌≤◌, ◌++◌, ◌∷◌, [], All, max, length, take, drop, vec_capacity, slice_index_or, OnOk, OnErr, IfOk, IsOk, MatchBool, MatchResult};
 ghost use Rattle.std.specs.Fn.{ComputesKey};
 ghost use Rattle.std.specs.List.{remove};
 ghost use Rattle.std.specs.List.Sorted.{IsBinarySearchResult};
@@ -313,6 +313,32 @@ pub(crate) fn place_after<T>(blocks: &[Vec<T>], place: Place) -> Place
             at: 0,
         }
     }
+}
+
+/// The same place, but the start of the next block in place of the end of one.
+#[tactic(auto, unfolding(crate::specs::Tiers::index_of))]
+pub(crate) fn settled<T>(blocks: &[Vec<T>], place: Place) -> Place
+    requires place { IsGap (shape blocks.now) place }
+    requires each { All IsBlock (shape blocks.now) }
+    ensures { IsPlaceOf (shape blocks.now) (index_of (shape blocks.now) place) result }
+{
+    let Place { block, at } = place;
+    if block + 1 >= blocks.len() || at < blocks[block].len() {
+        Place { block, at }
+    } else {
+        Place {
+            block: block + 1,
+            at: 0,
+        }
+    }
+}
+
+/// Whether an element is at a place.
+pub(crate) fn has_element<T>(blocks: &[Vec<T>], place: Place) -> bool
+    ensures { MatchBool result (IsPlace (shape blocks.now) place)
+        (¬ IsPlace (shape blocks.now) place) }
+{
+    place.block < blocks.len() && place.at < blocks[place.block].len()
 }
 
 /// A binary search over the first elements of the blocks, and then in a block.

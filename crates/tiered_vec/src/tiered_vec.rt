@@ -1,6 +1,6 @@
 //! A vector in blocks: what its callers see.
 ghost use Rattle.std.specs.declared.alloc.Global.{Global};
-ghost use Rattle.std.specs.Prelude.{◌≡◌, ◌+◌, ◌-◌, ◌/◌, ◌<◌, ◌≤◌, ◌^◌, ◌↔◌, ◌++◌, ◌∷◌, [], IsTrue, IsOk, IfOk, IfErr, OnOk, OnErr, MatchResult, slice_get, slice_set, length, min, max, slice_index_or};
+ghost use Rattle.std.specs.Prelude.{◌≡◌, ◌+◌, ◌-◌, ◌/◌, ◌<◌, ◌≤◌, ◌^◌, ◌↔◌, ◌++◌, ◌∷◌, [], IsTrue, IsOk, IfOk, IfErr, OnOk, OnErr, MatchBool, MatchResult, slice_get, slice_set, length, min, max, slice_index_or};
 ghost use Rattle.std.specs.List.{insert, remove};
 ghost use Rattle.std.specs.Option.{option_copied};
 ghost use Rattle.std.specs.List.Sorted.{IsBinarySearchResult};
@@ -8,8 +8,8 @@ ghost use Rattle.std.specs.Fn.{ComputesKey};
 ghost use Rattle.tiered_vec.specs.Tiers.{block_size, half_size, items, room, tail_room, IsPlace, IsGap, IsPlaceOf, index_of, index_result, with_item_at};
 
 use crate::blocks::{
-    BLOCK, HALF, end_of, find_among, make_spares, open, open_end, place_after, place_of, put,
-    take_out,
+    BLOCK, HALF, end_of, find_among, has_element, make_spares, open, open_end, place_after,
+    place_of, put, settled, take_out,
 };
 use crate::iter::{IntoIter, Iter};
 use crate::place::Place;
@@ -233,6 +233,37 @@ impl<T> TieredVec<T> {
         ensures { IsPlaceOf self.now.blocks (index_of self.now.blocks place + 1) result }
     {
         place_after(&self.blocks, place)
+    }
+
+    /// The element at a place where one can be put, which a search returns, or `None` past the last.
+    /// In constant time.
+    pub fn get_from(&self, place: Place) -> Option<&T>
+        requires { IsGap self.now.blocks place }
+        ensures { option_copied result
+            ≡ slice_get (items self.now) (index_of self.now.blocks place) }
+    {
+        let place = self.settled(place);
+        if self.has_element(place) {
+            Some(self.get_at(place))
+        } else {
+            None
+        }
+    }
+
+    /// The same place, but the start of the next block in place of the end of one.
+    fn settled(&self, place: Place) -> Place
+        requires { IsGap self.now.blocks place }
+        ensures { IsPlaceOf self.now.blocks (index_of self.now.blocks place) result }
+    {
+        settled(&self.blocks, place)
+    }
+
+    /// Whether an element is at a place.
+    fn has_element(&self, place: Place) -> bool
+        ensures { MatchBool result (IsPlace self.now.blocks place)
+            (¬ IsPlace self.now.blocks place) }
+    {
+        has_element(&self.blocks, place)
     }
 
     /// The element that has this many others before it, or `None` past the last. Its time is the

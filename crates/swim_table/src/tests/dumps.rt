@@ -159,7 +159,7 @@ fn assert_too_many(rt: &impl Abort, alloc: Global, table: &Table) {
         "no length",
     );
     // none of its names has a home
-    let without_homes = memberlist_dump_len(table, false).ok();
+    let without_homes = memberlist_dump_len(table, false, b"").ok();
     assert_that(rt, without_homes == Some(NO_RECORDS.len()), "no homes");
     assert_that(rt, list(alloc, table).is_ok(), "a listing");
 }

@@ -15,9 +15,9 @@ const ONE_RECORD_JOINING: &[u8] = b"\x06\x83\xa4Join\xc3\xa5Nodes\x01\xacUserSta
 
 const ONE_RECORD: &[u8] = b"\x06\x83\xa4Join\xc2\xa5Nodes\x01\xacUserStateLen\0";
 
-const SEVEN_RECORDS: &[u8] = b"\x06\x83\xa4Join\xc3\xa5Nodes\x07\xacUserStateLen\0";
+const FIVE_RECORDS: &[u8] = b"\x06\x83\xa4Join\xc3\xa5Nodes\x05\xacUserStateLen\x03";
 
-const EIGHT_RECORDS: &[u8] = b"\x06\x83\xa4Join\xc3\xa5Nodes\x08\xacUserStateLen\0";
+const TWELVE_RECORDS: &[u8] = b"\x06\x83\xa4Join\xc3\xa5Nodes\x0c\xacUserStateLen\0";
 
 /// `a` is alive since incarnation 3, at 127.0.0.1 and port 7946, with the metadata `m`.
 const ALIVE_A: &[u8] =
@@ -58,12 +58,27 @@ const LEAVE_D_WITH_HOME: &[u8] =
 const ALIVE_E: &[u8] =
     b"\x87\xa4Addr\xa4\x7f\0\0\x05\xabIncarnation\0\xa4Meta\xa0\xa4Name\xa1e\xa4Port\xcd\x1f\x0a\xa5State\0\xa3Vsn\xa6\x01\x05\x02\0\0\0";
 
-/// A stream that is read, the dump of it that memberlist merges, its flag, and the listing after
-/// reading that back.
+/// `f` left at incarnation 1, and is alive again since incarnation 4.
+const ALIVE_F: &[u8] =
+    b"\x87\xa4Addr\xa4\x7f\0\0\x06\xabIncarnation\x04\xa4Meta\xa0\xa4Name\xa1f\xa4Port\xcd\x1f\x0a\xa5State\0\xa3Vsn\xa6\x01\x05\x02\0\0\0";
+
+const LEAVE_F: &[u8] =
+    b"\x87\xa4Addr\xa0\xabIncarnation\x01\xa4Meta\xa0\xa4Name\xa1f\xa4Port\0\xa5State\x03\xa3Vsn\xa0";
+
+/// `g` is alive, and its versions are not known; those of `h` contradict themselves.
+const ALIVE_G: &[u8] =
+    b"\x87\xa4Addr\xa4\x7f\0\0\x07\xabIncarnation\0\xa4Meta\xa0\xa4Name\xa1g\xa4Port\xcd\x1f\x0a\xa5State\0\xa3Vsn\xa0";
+
+const ALIVE_H: &[u8] =
+    b"\x87\xa4Addr\xa4\x7f\0\0\x08\xabIncarnation\0\xa4Meta\xa0\xa4Name\xa1h\xa4Port\xcd\x1f\x0a\xa5State\0\xa3Vsn\xa6\x01\x05\x06\0\0\0";
+
+/// A stream that is read, the dump of it that memberlist merges, its flag and its user state, and
+/// the listing after reading that back.
 struct Row {
     read: &'static [&'static [u8]],
     dump: &'static [&'static [u8]],
     join: bool,
+    user: &'static [u8],
     listing: &'static str,
 }
 
@@ -72,12 +87,14 @@ const ROWS: &[Row] = &[
         read: &[NO_RECORDS],
         dump: &[NO_RECORDS],
         join: false,
+        user: b"",
         listing: "",
     },
     Row {
         read: &[ONE_RECORD, ALIVE_A],
         dump: &[ONE_RECORD_JOINING, ALIVE_A],
         join: true,
+        user: b"",
         listing: "a alive 3 3/7f000001/7946/6d/010502000000\n",
     },
     // a name without a home is left out
@@ -85,12 +102,14 @@ const ROWS: &[Row] = &[
         read: &[ONE_RECORD, SUSPECT_C],
         dump: &[NO_RECORDS],
         join: false,
+        user: b"",
         listing: "",
     },
-    // a suspicion, a death and a leave have the details of the home
+    // a suspicion, a death and a leave have the details of the home, and one that came back its
+    // Alive alone; without sound versions a name is left out
     Row {
         read: &[
-            EIGHT_RECORDS,
+            TWELVE_RECORDS,
             SUSPECT_A,
             ALIVE_A,
             ALIVE_D,
@@ -99,19 +118,23 @@ const ROWS: &[Row] = &[
             SUSPECT_C,
             CONFIRM_B,
             ALIVE_B,
+            LEAVE_F,
+            ALIVE_F,
+            ALIVE_G,
+            ALIVE_H,
         ],
         dump: &[
-            SEVEN_RECORDS,
-            ALIVE_A,
+            FIVE_RECORDS,
             SUSPECT_A_WITH_HOME,
-            ALIVE_B,
             CONFIRM_B_WITH_HOME,
-            ALIVE_D,
             LEAVE_D_WITH_HOME,
             ALIVE_E,
+            ALIVE_F,
+            b"xyz",
         ],
         join: true,
-        listing: "a suspect 3 3/7f000001/7946/6d/010502000000\nb confirm 5 1/7f000002/80//010502000000\nd leave 2 2/00000000000000000000000000000001/7946//010505000000\ne alive 0 0/7f000005/7946//010502000000\n",
+        user: b"xyz",
+        listing: "a suspect 3 -\nb confirm 5 -\nd leave 2 -\ne alive 0 0/7f000005/7946//010502000000\nf alive 4 4/7f000006/7946//010502000000\n",
     },
 ];
 
@@ -125,12 +148,12 @@ fn joined(alloc: Global, parts: &[&[u8]]) -> Result<Vec<u8>, AllocError> {
 }
 
 /// The dump of the table, at the second try if memory is refused and reported at the first.
-fn dump(rt: &impl Abort, alloc: Global, table: &Table, join: bool) -> Vec<u8> {
-    match encode_memberlist(alloc, table, join) {
+fn dump(rt: &impl Abort, alloc: Global, table: &Table, row: &Row) -> Vec<u8> {
+    match encode_memberlist(alloc, table, row.join, row.user) {
         Ok(bytes) => bytes,
         Err(fault) => {
             assert_memory(rt, fault);
-            encode_memberlist(alloc, table, join)
+            encode_memberlist(alloc, table, row.join, row.user)
                 .ok()
                 .expect(rt, "a dump")
         }
@@ -141,8 +164,8 @@ fn dump(rt: &impl Abort, alloc: Global, table: &Table, join: bool) -> Vec<u8> {
 fn assert_row(rt: &impl Abort, alloc: Global, row: &Row) -> Result<(), WireFault> {
     let (table, _) = read(alloc, &joined(alloc, row.read)?)?;
     let wanted = joined(alloc, row.dump)?;
-    assert_bytes(rt, &dump(rt, alloc, &table, row.join), &wanted, "the dump");
-    let len = memberlist_dump_len(&table, row.join).ok();
+    assert_bytes(rt, &dump(rt, alloc, &table, row), &wanted, "the dump");
+    let len = memberlist_dump_len(&table, row.join, row.user).ok();
     assert_that(rt, len == Some(wanted.len()), "its length");
     assert_dump(rt, alloc, &wanted, row.listing, row.join)
 }
@@ -159,10 +182,10 @@ fn a_table_has_a_dump_that_memberlist_merges_or_wants_memory_and_is_read_back(
 
 /// Writes the dump to the start of the buffer if it fits. Returns its length.
 fn put_in_front(table: &Table, out: &mut [u8]) -> usize {
-    match memberlist_dump_len(table, true) {
+    match memberlist_dump_len(table, true, b"") {
         Ok(len) if len <= out.len() => {
             let (front, _) = out.split_at_mut(len);
-            encode_memberlist_into(table, true, front);
+            encode_memberlist_into(table, true, b"", front);
             len
         }
         _ => 0,
