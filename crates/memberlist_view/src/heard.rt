@@ -1,10 +1,11 @@
 //! What was heard, and when.
 
-ghost use Rattle.std.specs.Prelude.{◌≡◌};
-ghost use Rattle.memberlist_view.specs.Heard.{about, said_in_record};
+ghost use Rattle.std.specs.Prelude.{◌≡◌, IfOk};
+ghost use Rattle.memberlist_view.specs.Heard.{about, accuser_of, said_in_packet, said_in_record};
 
 use crate::member_name::MemberName;
-use swim_claim::{Claim, Details};
+use std::alloc::{AllocError, Global};
+use swim_claim::{Claim, Details, Name};
 
 /// What was said about a member.
 #[derive(Drop, Debug)]
@@ -83,6 +84,46 @@ impl Said {
         }
     }
 
+    /// What a packet says in the name of this member, whose bytes may be none: then nobody is named.
+    ///
+    /// # Errors
+    ///
+    /// If out of memory for that name. The claim is dropped.
+    pub fn of_packet(alloc: Global, claim: Claim, from: &[u8]) -> Result<Said, AllocError>
+        ensures { IfOk result (λ said. said ≡ said_in_packet claim (accuser_of from.now)) }
+    {
+        let from = accuser(alloc, from)?;
+        Ok(Said::by(claim, from))
+    }
+
+    /// What a packet says, if this member says so.
+    fn by(claim: Claim, from: Option<MemberName>) -> Said
+        ensures { result ≡ said_in_packet claim from }
+    {
+        match claim {
+            Claim::Alive { name, inc, details } => Said::Alive {
+                name: MemberName::new(name),
+                inc,
+                details,
+                joins: true,
+            },
+            Claim::Suspect { name, inc } => Said::Suspect {
+                name: MemberName::new(name),
+                inc,
+                from,
+            },
+            Claim::Leave { name, inc } => Said::Left {
+                name: MemberName::new(name),
+                inc,
+            },
+            Claim::Confirm { name, inc } => Said::Dead {
+                name: MemberName::new(name),
+                inc,
+                from,
+            },
+        }
+    }
+
     /// The member it was said about.
     pub fn name(&self) -> &MemberName
         ensures { result.now ≡ about self.now }
@@ -94,5 +135,15 @@ impl Said {
             Said::Left { name, .. } => name,
             Said::Seen { name, .. } => name,
         }
+    }
+}
+
+/// Who makes a claim, if somebody is named.
+fn accuser(alloc: Global, from: &[u8]) -> Result<Option<MemberName>, AllocError>
+    ensures { IfOk result (λ name. name ≡ accuser_of from.now) }
+{
+    match Name::copied(alloc, from)? {
+        Ok(name) => Ok(Some(MemberName::new(name))),
+        Err(_) => Ok(None),
     }
 }

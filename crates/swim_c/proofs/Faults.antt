@@ -26,9 +26,8 @@ use Rattle.swim_sync.specs.declared.fault.SyncFault.{SyncFault}
 use Rattle.swim_sync.specs.declared.fault.SyncFault.TheVariants as sync
 use Rattle.swim_sync.specs.Exchanging as exchanging
 use Rattle.swim_sync.specs.Fault.{fault_of_wire, fault_of_encode}
-use Rattle.swim_c.specs.declared.form.Form.{Form}
 use Rattle.swim_c.specs.Exchanges.{HoldsNoStream, FinishCause, AnswerCause}
-use Rattle.swim_c.specs.Forms.{HasTooManyIn}
+use Rattle.swim_c.specs.Forms.{Wanted, HasTooManyIn}
 use Rattle.swim_c.specs.Taking.{IsNoDatagram, HearingAsks, TakeDone, RefuteDone}
 use Rattle.swim_c.specs.Compound.{LacksPackets, PackingAsks, CompoundDone}
 use Rattle.swim_c.proofs.WholeStreams.{begins}
@@ -95,7 +94,7 @@ unread bytes inlet rest fault is none reason failed = elim (memory_or fault) [
 ]
 
 -- no stream was read, so none is answered
-pub stream_unread : (form : Form) (bytes inlet rest : List ℕ) (table : Entries) (fault : WireFault) → inlet ≡ bytes
+pub stream_unread : (form : Wanted) (bytes inlet rest : List ℕ) (table : Entries) (fault : WireFault) → inlet ≡ bytes
     → UnlessFailed (wire_cause fault) (HasNone inlet) → ReasonForStream fault inlet
     → (fault ≡ wire.Fault → CountsFault 0 0) → AnswerCause form bytes table (fault_of_wire fault)
 stream_unread form bytes inlet rest table fault is none reason failed = elim (memory_or fault) [
@@ -107,7 +106,7 @@ stream_unread form bytes inlet rest table fault is none reason failed = elim (me
 ]
 
 -- a stream was read, but there is no reply: it has too many records, or memory was refused
-pub reply_refused : (form : Form) (bytes inlet rest : List ℕ) (offered table own : Entries) (join : Bool) (fault : EncodeFault) → inlet ≡ bytes → own ≡ table
+pub reply_refused : (form : Wanted) (bytes inlet rest : List ℕ) (offered table own : Entries) (join : Bool) (fault : EncodeFault) → inlet ≡ bytes → own ≡ table
     → exchanging.ReadsOffer (memory inlet) (memory rest) offered join → (fault ≡ encode.TooManyRecords → HasTooManyIn form own)
     → AnswerCause form bytes table (fault_of_encode fault)
 reply_refused form bytes inlet rest offered table own join encode.TooManyRecords is same read many = (

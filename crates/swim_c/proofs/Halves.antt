@@ -4,10 +4,9 @@ use Rattle.swim_claim.specs.declared.claim.Claim.{Claim}
 use Rattle.swim_table.specs.Node.{NodeValue, SameMember}
 use Rattle.swim_table.specs.Table.{Entries, TableOf, IsLegalTable}
 use Rattle.swim_sync.specs.Exchanging as exchanging
-use Rattle.swim_c.specs.declared.form.Form.{Form}
 use Rattle.swim_c.specs.Buffers.{Copied}
 use Rattle.swim_c.specs.Exchanges.{BeginsStream, NodeTakesStream, AnswersOffer, FinishDone}
-use Rattle.swim_c.specs.Forms.{bytes_in}
+use Rattle.swim_c.specs.Forms.{Wanted, bytes_in}
 use Rattle.swim_c.proofs.Faults.{memory}
 use Rattle.swim_c.proofs.WholeStreams.{begins, taken_in}
 
@@ -30,7 +29,7 @@ took bytes inlet rest offered join used before after is gone read legal all memb
     taken_in bytes offered offer.0 join used before after offer.2 offer.1 legal all member
 
 -- a reply was written, and the stream joined in
-pub answered : (form : Form) (bytes inlet rest old new dump : List ℕ) (offered : Entries) (join : Bool) (status used len : ℕ) (before after : NodeValue)
+pub answered : (form : Wanted) (bytes inlet rest old new dump : List ℕ) (offered : Entries) (join : Bool) (status used len : ℕ) (before after : NodeValue)
     → inlet ≡ bytes → used ≡ length bytes - length rest → exchanging.ReadsOffer (memory inlet) (memory rest) offered join → IsLegalTable before.table
     → ((claims others : List Claim) → TableOf before.table claims → TableOf offered others → TableOf after.table (claims ++ others))
     → SameMember before after → status ≡ 0 → dump ≡ bytes_in form before.table join → Copied dump old new status len

@@ -13,3 +13,5 @@ pub mod OwnPackets
 pub mod Unsealing
 pub mod Unwrappings
 pub mod WholeStreams
+pub mod Updates
+pub mod PartsAt

@@ -4,16 +4,14 @@ use Rattle.std.specs.Int.{w32, to_be_bytes}
 use Rattle.memberlist_cipher.specs.Encryption.{sealed, encrypted, encrypted_stream, head}
 use Rattle.memberlist_cipher.specs.Label.{IsLabelled}
 use Rattle.memberlist_keyring.proofs.OneOpened.{one_opened}
+use Rattle.memberlist_transport.proofs.Packets.{opens_packet}
 use Rattle.memberlist_wrap.specs.Wrapping.{Wrapper, kind, IsBare, Unwraps}
 use Rattle.memberlist_wrap.specs.Wrapping.Wrapper.{compression, checksum, label as labelling}
-use Rattle.memberlist_wrap.proofs.Unwrapping.{one_message}
-use Rattle.memberlist_transport.specs.declared.message.Message.{Message}
-use Rattle.memberlist_transport.specs.declared.message.Message.TheVariants.{Claims, Claimless, Empty}
 use Rattle.memberlist_transport.specs.declared.in_the_clear.InTheClear.{InTheClear}
-use Rattle.memberlist_transport.specs.Message.{claiming_of, IsMessage}
-use Rattle.memberlist_transport.specs.Packet.{max_message_len, HoldsClear, IsUnclear, Holds}
-use Rattle.memberlist_transport.specs.Reply.{IsReadAs, IsReplyIn}
-use Rattle.memberlist_transport.specs.Stream.{IsClearStream, IsSealed, IsStreamIn}
+use Rattle.memberlist_transport.specs.Packet.{max_message_len}
+use Rattle.memberlist_transport.specs.Reply.{IsReadAs}
+use Rattle.memberlist_transport.specs.Stream.{IsSealed}
+use Rattle.memberlist_transport.specs.Unwrapped.{IsInside, IsInsideStream, IsInsideReply}
 use Rattle.swim_c.specs.Sealing.{IsSealedPacket, IsSealedStream, IsSealedReply}
 use Rattle.swim_c.specs.Unwrapping.{max_stream_len}
 
@@ -40,61 +38,15 @@ label_wraps limit bytes name rest (inr some) bare few = record {
 
 -- ---- packets
 
-begins_packet : (key nonce label message : List ℕ) → encrypted key nonce label message ≡ 1 ∷ nonce ++ sealed key nonce label message
-unfolding encrypted
-begins_packet key nonce label message = refl
+pub packet_again : (policy : InTheClear) (keys : List (List ℕ)) (nonce label message packet inner : List ℕ) → IsSealedPacket keys nonce label message packet
+    → Unwraps max_message_len message inner → IsInside policy keys packet inner
+packet_again policy keys nonce label message packet inner s wraps = IsInside.opened message s.opens wraps
 
-claims_none : (key nonce label message : List ℕ) → claiming_of (encrypted key nonce label message) ≡ None
-claims_none key nonce label message = ap claiming_of (begins_packet key nonce label message)
-
-not_one : (w : Wrapper) → 1 ≢ kind w
-not_one compression e = omega (arith, e)
-not_one checksum e = omega (arith, e)
-not_one labelling e = omega (arith, e)
-
-wraps_packet : (keys : List (List ℕ)) (nonce label message packet : List ℕ) → (s : IsSealedPacket keys nonce label message packet)
-    → Unwraps max_message_len packet (encrypted s.sends.key nonce label message)
-wraps_packet keys nonce label message packet s =
-    let key = s.sends.key in
-    label_wraps max_message_len packet label (encrypted key nonce label message) s.sends.labelled
-    (bare_from (encrypted key nonce label message) (nonce ++ sealed key nonce label message) 1 (begins_packet key nonce label message) not_one) s.within
-
-unclear : (keys : List (List ℕ)) (nonce label message packet : List ℕ) → IsSealedPacket keys nonce label message packet → IsUnclear packet
-unclear keys nonce label message packet s =
-    let key = s.sends.key in (
-      1,
-      omega arith,
-      (
-        encrypted key nonce label message,
-        wraps_packet keys nonce label message packet s,
-        (
-          (nonce ++ sealed key nonce label message, begins_packet key nonce label message),
-          claims_none key nonce label message,
-          s.no_ping,
-        ),
-      ),
-    )
-
--- the same bytes are not a message
-is_none : (keys : List (List ℕ)) (nonce label message packet : List ℕ) → (s : IsSealedPacket keys nonce label message packet) → (inner : Message)
-    → ¬ IsMessage (encrypted s.sends.key nonce label message) inner
-is_none keys nonce label message packet s (Claims claim copy) is =
-    let none = claims_none s.sends.key nonce label message in let some = is.0 in cc (some, none)
-is_none keys nonce label message packet s (Claimless claimless) is = s.no_ping claimless is
-is_none keys nonce label message packet s Empty is = absurd (omega (arith, ap length (sym is ∙ begins_packet s.sends.key nonce label message)))
-
-pub packet_again : (policy : InTheClear) (keys : List (List ℕ)) (nonce label message packet : List ℕ) (inner : Message) → IsSealedPacket keys nonce label message packet
-    → HoldsClear message inner → Holds policy keys packet inner
-packet_again policy keys nonce label message packet inner s holds = Holds.opened message (unclear keys nonce label message packet s) s.opens holds
-
-pub no_other : (policy : InTheClear) (keys : List (List ℕ)) (nonce label message packet : List ℕ) (inner : Message) → IsSealedPacket keys nonce label message packet
-    → Holds policy keys packet inner → HoldsClear message inner
-no_other policy keys nonce label message packet inner s (Holds.clear read holds) =
-    let wraps = wraps_packet keys nonce label message packet s in
-    let one = (one_message max_message_len max_message_len packet holds.1.wrappers wraps.wrappers holds.0 _ holds.1.wraps wraps.wraps).1 in
-    absurd (is_none keys nonce label message packet s inner (subst (λ (b : List ℕ). IsMessage b inner) one holds.2))
-no_other policy keys nonce label message packet inner s (Holds.opened other is opens holds) =
-    subst (λ (m : List ℕ). HoldsClear m inner) (one_opened keys packet other message opens s.opens) holds
+pub no_other : (policy : InTheClear) (keys : List (List ℕ)) (nonce label message packet inner : List ℕ) → IsSealedPacket keys nonce label message packet
+    → IsInside policy keys packet inner → Unwraps max_message_len message inner
+no_other policy keys nonce label message packet inner s (IsInside.clear read closed wraps) = absurd (closed message (opens_packet keys packet message s.opens))
+no_other policy keys nonce label message packet inner s (IsInside.opened other opens wraps) =
+    subst (λ (m : List ℕ). Unwraps max_message_len m inner) (one_opened keys packet other message opens s.opens) wraps
 
 -- ---- streams
 
@@ -119,9 +71,9 @@ is_sealed keys nonce label message bytes s =
       (stream_rest key nonce label message, begins),
     )
 
-pub stream_again : (policy : InTheClear) (keys : List (List ℕ)) (nonce label message bytes stream : List ℕ) → IsSealedStream keys nonce label message bytes
-    → IsClearStream max_stream_len message stream → IsStreamIn max_stream_len policy keys bytes stream
-stream_again policy keys nonce label message bytes stream s clear = IsStreamIn.opened message (is_sealed keys nonce label message bytes s) s.opens clear
+pub stream_again : (policy : InTheClear) (keys : List (List ℕ)) (nonce label message bytes inner : List ℕ) → IsSealedStream keys nonce label message bytes
+    → Unwraps max_stream_len message inner → IsInsideStream max_stream_len policy keys bytes inner
+stream_again policy keys nonce label message bytes inner s wraps = IsInsideStream.opened message (is_sealed keys nonce label message bytes s) s.opens wraps
 
 -- ---- streams after their label, and replies, which have none before them
 
@@ -131,7 +83,7 @@ read_behind label own bytes rest (inl none) same = inr (λ begins. none.2 begins
 read_behind label own bytes rest (inr some) same = inl ((length label ∷ label ++ rest, some.1), refl)
 
 pub behind_again : (policy : InTheClear) (keys : List (List ℕ)) (nonce label own message bytes stream : List ℕ) → IsSealedStream keys nonce label message bytes
-    → IsClearStream max_stream_len message stream → (label ≡ [] → own ≡ []) → IsReplyIn max_stream_len policy keys own bytes stream
+    → Unwraps max_stream_len message stream → (label ≡ [] → own ≡ []) → IsInsideReply max_stream_len policy keys own bytes stream
 behind_again policy keys nonce label own message bytes stream s clear same =
     (bytes, read_behind label own bytes _ s.sends.labelled same, stream_again policy keys nonce label message bytes stream s clear)
 
@@ -155,7 +107,7 @@ sealed_behind keys nonce label message bytes s = record {
 }
 
 pub reply_again : (policy : InTheClear) (keys : List (List ℕ)) (nonce label message bytes stream : List ℕ) → IsSealedReply keys nonce label message bytes
-    → IsClearStream max_stream_len message stream → IsReplyIn max_stream_len policy keys label bytes stream
+    → Unwraps max_stream_len message stream → IsInsideReply max_stream_len policy keys label bytes stream
 reply_again policy keys nonce label message bytes stream s clear =
     let bare = (is_bare bytes _ s.sends.labelled).1 in
     (s.opens.0, inr (λ begins. bare begins.0 begins.1, s.opens.1), stream_again policy keys nonce label message s.opens.0 stream (sealed_behind keys nonce label message bytes s) clear)

@@ -10,9 +10,8 @@ use Rattle.swim_table.specs.Table.{Entries}
 use Rattle.swim_sync.specs.declared.fault.SyncFault.{SyncFault}
 use Rattle.swim_sync.specs.declared.fault.SyncFault.TheVariants.{Wire, TooManyRecords, Push, Memory}
 use Rattle.swim_sync.specs.Fault.{sync_number}
-use Rattle.swim_c.specs.declared.form.Form.{Form}
 use Rattle.swim_c.specs.Buffers.{Copied, WrittenOr}
-use Rattle.swim_c.specs.Forms.{form_number, bytes_in, HasTooManyIn, IsNoForm}
+use Rattle.swim_c.specs.Forms.{Wanted, bytes_in, HasTooManyIn, IsWanted, IsUnwanted}
 use Rattle.swim_c.specs.Taking.{TakesClaims}
 use Rattle.swim_c.specs.Statuses as statuses
 
@@ -46,7 +45,7 @@ pub record HoldsNoStream (bytes : List ℕ) (fault : WireFault) : Type 0 where
   pub reason : ReasonForStream fault bytes
 
 -- why a table has no dump in a form: it has too many records (23)
-abbrev pub LacksDump : Form → Entries → ℕ → Type 0
+abbrev pub LacksDump : Wanted → Entries → ℕ → Type 0
 LacksDump form table status = (status ≡ 23) × HasTooManyIn form table
 
 -- why a reply was not taken in
@@ -57,7 +56,7 @@ FinishCause stream Push = ⊥
 FinishCause stream Memory = Unit {0}
 
 -- why an offer was not answered; too many records only if there is a stream
-abbrev pub AnswerCause : Form → List ℕ → Entries → SyncFault → Type 0
+abbrev pub AnswerCause : Wanted → List ℕ → Entries → SyncFault → Type 0
 AnswerCause form stream table (Wire fault) = HoldsNoStream stream fault
 AnswerCause form stream table TooManyRecords = HasTooManyIn form table
     × ((join : Bool) × (used : ℕ) × ReadsStream stream join used)
@@ -82,7 +81,7 @@ pub data FinishDone (stream : List ℕ) (status : ℕ) (join : Bool) (used len :
 
 -- A stream was read. Either the dump of before was written in the form and the stream taken in (0),
 -- or the dump does not fit and nothing changed (66).
-pub data AnswersOffer (form : Form) (stream old new : List ℕ) (status : ℕ) (join : Bool)
+pub data AnswersOffer (form : Wanted) (stream old new : List ℕ) (status : ℕ) (join : Bool)
     (used len : ℕ) (before after : NodeValue) : Type 0 where
   answered : status ≡ 0 → NodeTakesStream stream join used before after
       → Copied (bytes_in form before.table join) old new status len
@@ -94,7 +93,7 @@ pub data AnswersOffer (form : Form) (stream old new : List ℕ) (status : ℕ) (
 -- An offer was answered, or the reply does not fit. Or the node and the buffer are unchanged: there
 -- is no stream, and the status is that of the fault; the node's table has too many records in the
 -- form (23); or memory was refused (10).
-pub data AnswerDone (form : Form) (stream old new : List ℕ) (status : ℕ) (join : Bool)
+pub data AnswerDone (form : Wanted) (stream old new : List ℕ) (status : ℕ) (join : Bool)
     (used len : ℕ) (before after : NodeValue) : Type 0 where
   answers : AnswersOffer form stream old new status join used len before after
       → AnswerDone form stream old new status join used len before after
@@ -102,23 +101,23 @@ pub data AnswerDone (form : Form) (stream old new : List ℕ) (status : ℕ) (jo
       → status ≡ sync_number fault → IsUntold join used len
       → after ≡ before → new ≡ old → AnswerDone form stream old new status join used len before after
 
--- An offer was written in the form with this number. Or there is no such form (70), and the buffer
--- is unchanged.
-pub data OfferedInForm (number : ℕ) (table : Entries) (join : Bool) (old new : List ℕ)
-    (status len : ℕ) : Type 0 where
-  in_form : (form : Form) → number ≡ form_number form
+-- An offer was written in the form with this number and with this user state. Or it may not be, and
+-- the buffer is unchanged.
+pub data OfferedInForm (number : ℕ) (user : List ℕ) (table : Entries) (join : Bool)
+    (old new : List ℕ) (status len : ℕ) : Type 0 where
+  in_form : (form : Wanted) → IsWanted number user form
       → WrittenOr (bytes_in form table join) old new status len (LacksDump form table)
-      → OfferedInForm number table join old new status len
-  bad_form : IsNoForm number → status ≡ statuses.bad_form → len ≡ 0 → new ≡ old
-      → OfferedInForm number table join old new status len
+      → OfferedInForm number user table join old new status len
+  bad_form : IsUnwanted number user status → len ≡ 0 → new ≡ old
+      → OfferedInForm number user table join old new status len
 
--- An offer was answered in the form with this number, or refused. Or there is no such form (70),
--- and the node and the buffer are unchanged.
-pub data AnsweredInForm (number : ℕ) (stream old new : List ℕ) (status : ℕ) (join : Bool)
+-- An offer was answered in the form with this number and with this user state, or refused. Or it
+-- may not be answered so, and the node and the buffer are unchanged.
+pub data AnsweredInForm (number : ℕ) (user stream old new : List ℕ) (status : ℕ) (join : Bool)
     (used len : ℕ) (before after : NodeValue) : Type 0 where
-  in_form : (form : Form) → number ≡ form_number form
+  in_form : (form : Wanted) → IsWanted number user form
       → AnswerDone form stream old new status join used len before after
-      → AnsweredInForm number stream old new status join used len before after
-  bad_form : IsNoForm number → status ≡ statuses.bad_form → IsUntold join used len → after ≡ before
+      → AnsweredInForm number user stream old new status join used len before after
+  bad_form : IsUnwanted number user status → IsUntold join used len → after ≡ before
       → new ≡ old
-      → AnsweredInForm number stream old new status join used len before after
+      → AnsweredInForm number user stream old new status join used len before after

@@ -19,3 +19,6 @@ pub mod Statuses
 pub mod Taking
 pub mod Unwrapping
 pub mod Watching
+pub mod Updating
+pub mod Messages
+pub mod Parts

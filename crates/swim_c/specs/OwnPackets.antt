@@ -24,3 +24,8 @@ IsNoName name status =
 -- the name is the member's own (68), or invalid
 abbrev pub IsUnsaid : List ℕ → List ℕ → ℕ → Type 0
 IsUnsaid own name status = ((status ≡ statuses.own_name) × (name ≡ own)) ⊎ IsNoName name status
+
+-- the name of who says so is too long (12), or that of the other member is invalid
+abbrev pub IsUnsaidBy : List ℕ → List ℕ → ℕ → Type 0
+IsUnsaidBy from name status =
+    ((status ≡ 12) × (max_name_len < length from)) ⊎ IsNoName name status

@@ -4,9 +4,6 @@ use Rattle.memberlist_cipher.specs.Encryption.{encrypted, encrypted_stream}
 use Rattle.memberlist_cipher.specs.Label.{IsLabelled}
 use Rattle.memberlist_keyring.specs.Opening.{OpensFirst, OpensStreamFirst, OpensReplyFirst}
 use Rattle.memberlist_keyring.specs.Sending.{MaySend, MaySendStream, SendsFirst}
-use Rattle.memberlist_transport.specs.Packet.{max_message_len}
-use Rattle.swim_wire.specs.declared.claimless.Claimless.{Claimless}
-use Rattle.swim_wire.specs.Claimless.{ClaimlessText}
 use Rattle.swim_c.specs.Buffers.{Copied}
 use Rattle.swim_c.specs.Unwrapping.{max_stream_len, IsUnwritten}
 
@@ -78,14 +75,11 @@ ReplySealed keys nonce label message old new status len =
 
 -- ---- what is encrypted, unwrapped again
 
--- With the keys the packet was made from this message, and it is not a message itself: not an
--- indirect ping, which has the same first byte.
+-- With the keys the packet was made from this message.
 pub record IsSealedPacket (keys : List (List ℕ)) (nonce label message packet : List ℕ) : Type 0
   where
     pub sends : SendsFirst (λ key. encrypted key nonce label message) keys label packet
     pub opens : OpensFirst keys packet message
-    pub within : length packet ≤ max_message_len
-    pub no_ping : (kind : Claimless) → ¬ ClaimlessText (encrypted sends.key nonce label message) kind
 
 -- With the keys the stream was made from this message.
 pub record IsSealedStream (keys : List (List ℕ)) (nonce label message stream : List ℕ) : Type 0

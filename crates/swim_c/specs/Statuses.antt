@@ -16,9 +16,17 @@ use Rattle.memberlist_wrap.specs.Fault.{wrap_number}
 abbrev pub memory : ℕ
 memory = 10
 
--- a message makes no claims
+-- the bytes end too soon, or there are none
+abbrev pub ended : ℕ
+ended = 1
+
+-- the message has another type, or none
 abbrev pub wrong_type : ℕ
 wrong_type = 16
+
+-- the user state of a stream is too long
+abbrev pub user_too_long : ℕ
+user_too_long = 21
 
 -- it is not encrypted, there are keys, and only what is encrypted is read
 abbrev pub unencrypted : ℕ
@@ -48,9 +56,21 @@ own_name = 68
 abbrev pub too_many_packets : ℕ
 too_many_packets = 69
 
--- a dump has form 0 or 1
+-- a dump has form 0 or 1, and only form 1 has user state
 abbrev pub bad_form : ℕ
 bad_form = 70
+
+-- there is no key, part or accuser at this index
+abbrev pub no_item : ℕ
+no_item = 71
+
+-- the first key encrypts, so it is not removed
+abbrev pub key_in_use : ℕ
+key_in_use = 72
+
+-- the member has not come back
+abbrev pub not_back : ℕ
+not_back = 73
 
 abbrev pub cipher_status : CipherFault → ℕ
 cipher_status cipher.Memory = memory
@@ -68,8 +88,11 @@ packet_status packet.NoKeyFits = 54
 packet_status packet.Unencrypted = unencrypted
 packet_status packet.Memory = memory
 
+-- what one side of a connection sends ends too soon, wherever it does (1)
 abbrev pub stream_status : StreamFault → ℕ
+stream_status (stream.Wrapped wrap.Ended) = ended
 stream_status (stream.Wrapped fault) = wrap_status fault
+stream_status (stream.Closed cipher.TooShort) = ended
 stream_status (stream.Closed fault) = cipher_status fault
 stream_status stream.Unencrypted = unencrypted
 stream_status (stream.NoStream first) = wrong_type

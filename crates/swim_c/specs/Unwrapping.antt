@@ -1,16 +1,16 @@
--- Packets and streams that are unwrapped into a buffer.
-use Rattle.std.specs.Prelude.{◌≡◌, ◌≢◌, ℕ, ◌<◌, List, length}
+-- The messages of packets and streams, unwrapped.
+use Rattle.std.specs.Prelude.{◌≡◌, ◌≢◌, ℕ, ◌<◌, ◌==◌, ◌||◌, Bool, List, [], ◌∷◌, length, nat_lt, Result, Ok, Err, MatchResult, if◌then◌else◌}
 use Rattle.memberlist_transport.specs.declared.fault.PacketFault.{PacketFault}
 use Rattle.memberlist_transport.specs.declared.fault.PacketFault.TheVariants as packet_fault
 use Rattle.memberlist_transport.specs.declared.fault.StreamFault.{StreamFault}
 use Rattle.memberlist_transport.specs.declared.fault.StreamFault.TheVariants as stream_fault
-use Rattle.memberlist_transport.specs.declared.message.Message.{Message}
-use Rattle.memberlist_transport.specs.declared.message.Message.TheVariants.{Claims, Claimless, Empty}
-use Rattle.memberlist_transport.specs.Packet.{Holds, Fails}
-use Rattle.memberlist_transport.specs.Reply.{IsReplyIn, ReasonForReply}
+use Rattle.memberlist_transport.specs.Unwrapped.{IsInside, IsInsideReply}
+use Rattle.swim_c.specs.declared.buffer.Buffer.{Buffer}
 use Rattle.swim_c.specs.declared.cluster_keys.ClusterKeys.{ClusterKeys}
-use Rattle.swim_c.specs.Buffers.{Copied}
+use Rattle.swim_c.specs.Buffers.{Copied, IsNoMemory}
+use Rattle.swim_c.specs.NewBytes.{FilledOr}
 use Rattle.swim_c.specs.Statuses.{packet_status, stream_status}
+use Rattle.swim_c.specs.Statuses as statuses
 
 -- the most bytes of a stream, and of what is compressed or encrypted in it
 abbrev pub max_stream_len : ℕ
@@ -22,38 +22,59 @@ pub record IsUnwritten (number : ℕ) (old new : List ℕ) (status len : ℕ) : 
   pub no_len : len ≡ 0
   pub same : new ≡ old
 
--- The bytes of a message that makes claims were copied or did not fit. One that makes none has the
--- wrong type (16), and an empty one ends too soon (1).
-abbrev pub GivesMessage : Message → List ℕ → List ℕ → ℕ → ℕ → Type 0
-GivesMessage (Claims kind bytes) old new status len = Copied bytes.items old new status len
-GivesMessage (Claimless kind) old new status len = IsUnwritten 16 old new status len
-GivesMessage Empty old new status len = IsUnwritten 1 old new status len
+-- the first byte of a message, which is its kind (memberlist's net.go): up to 8, or 11 or 13
+abbrev pub is_kind : ℕ → Bool
+is_kind first = nat_lt first 9 || first == 11 || first == 13
 
--- The result of unwrapping a packet: its message, the fault if it has none, or memory was refused
--- (10).
-pub data PacketUnwrapped (keys : ClusterKeys) (packet old new : List ℕ) (status len : ℕ)
-    : Type 0 where
-  message : (message : Message) → Holds keys.clear keys.keyring packet message
-      → GivesMessage message old new status len → PacketUnwrapped keys packet old new status len
-  refused : (fault : PacketFault) → fault ≢ packet_fault.Memory → Fails keys.clear keys.keyring packet fault
-      → ((message : Message) → ¬ Holds keys.clear keys.keyring packet message)
-      → IsUnwritten (packet_status fault) old new status len
-      → PacketUnwrapped keys packet old new status len
-  memory : IsUnwritten 10 old new status len → PacketUnwrapped keys packet old new status len
+-- The kind of the message. An empty one ends too soon (1), and what else begins like no message is
+-- none (16).
+abbrev pub kind_in : List ℕ → Result ℕ ℕ
+kind_in [] = Err statuses.ended
+kind_in (first ∷ rest) = if is_kind first then Ok first else Err statuses.wrong_type
 
--- The result of unwrapping a stream in a cluster with this label: it was copied or did not fit, or
--- the fault if there is none, or memory was refused (10). A label of more than 255 bytes is too
--- long (51).
-pub data StreamUnwrapped (keys : ClusterKeys) (label bytes old new : List ℕ) (status len : ℕ)
-    : Type 0 where
-  stream : (stream : List ℕ) → length label < 256 → IsReplyIn max_stream_len keys.clear keys.keyring label bytes stream
-      → Copied stream old new status len → StreamUnwrapped keys label bytes old new status len
+-- nothing is told and written, with this status
+abbrev pub Lacks : List ℕ → List ℕ → ℕ → ℕ → ℕ → ℕ → Type 0
+Lacks old new status kind len number = (kind ≡ 0) × IsUnwritten number old new status len
+
+-- nothing is told, and the buffer is unchanged, with this status
+abbrev pub LacksNew : Buffer → Buffer → ℕ → ℕ → ℕ → Type 0
+LacksNew old new status kind number = (kind ≡ 0) × (status ≡ number) × (new ≡ old)
+
+-- The result of unwrapping a packet: what is given of its message; the fault if it has none; or
+-- memory was refused (10).
+pub data PacketUnwrapped (keys : ClusterKeys) (packet : List ℕ) (Given : List ℕ → Type 0)
+    (Refused : ℕ → Type 0) : Type 0 where
+  given : (message : List ℕ) → IsInside keys.clear keys.keyring packet message → Given message
+      → PacketUnwrapped keys packet Given Refused
+  refused : (fault : PacketFault) → fault ≢ packet_fault.Memory
+      → ((message : List ℕ) → ¬ IsInside keys.clear keys.keyring packet message)
+      → Refused (packet_status fault) → PacketUnwrapped keys packet Given Refused
+  memory : Refused statuses.memory → PacketUnwrapped keys packet Given Refused
+
+-- The result of unwrapping what one side of a connection sends, in a cluster with this label: what
+-- is given of its message; the fault if there is none; or memory was refused (10). A label of more
+-- than 255 bytes is too long (51).
+pub data StreamUnwrapped (keys : ClusterKeys) (label bytes : List ℕ) (Given : List ℕ → Type 0)
+    (Refused : ℕ → Type 0) : Type 0 where
+  given : (message : List ℕ) → length label < 256
+      → IsInsideReply max_stream_len keys.clear keys.keyring label bytes message → Given message
+      → StreamUnwrapped keys label bytes Given Refused
   refused : (fault : StreamFault) → length label < 256 → fault ≢ stream_fault.Memory
-      → ReasonForReply max_stream_len keys.clear keys.keyring label bytes fault
-      → ((stream : List ℕ) → ¬ IsReplyIn max_stream_len keys.clear keys.keyring label bytes stream)
-      → IsUnwritten (stream_status fault) old new status len
-      → StreamUnwrapped keys label bytes old new status len
-  too_long : 255 < length label → IsUnwritten 51 old new status len
-      → StreamUnwrapped keys label bytes old new status len
-  memory : length label < 256 → IsUnwritten 10 old new status len
-      → StreamUnwrapped keys label bytes old new status len
+      → ((message : List ℕ)
+      → ¬ IsInsideReply max_stream_len keys.clear keys.keyring label bytes message)
+      → Refused (stream_status fault) → StreamUnwrapped keys label bytes Given Refused
+  too_long : 255 < length label → Refused 51 → StreamUnwrapped keys label bytes Given Refused
+  memory : length label < 256 → Refused statuses.memory
+      → StreamUnwrapped keys label bytes Given Refused
+
+-- in a buffer of the caller the message was copied or did not fit, and its kind is told
+abbrev pub GivesMessage : List ℕ → List ℕ → ℕ → ℕ → ℕ → List ℕ → Type 0
+GivesMessage old new status kind len text =
+    MatchResult (kind_in text) (λ first. (kind ≡ first) × Copied text old new status len)
+    (Lacks old new status kind len)
+
+-- a buffer of the library has the message, or memory was refused, and its kind is told
+abbrev pub GivesNewMessage : Buffer → Buffer → ℕ → ℕ → List ℕ → Type 0
+GivesNewMessage old new status kind text =
+    MatchResult (kind_in text) (λ first. (kind ≡ first) × FilledOr text old new status IsNoMemory)
+    (LacksNew old new status kind)

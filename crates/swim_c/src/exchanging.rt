@@ -3,12 +3,12 @@
 ghost use Rattle.std.specs.Prelude.{◌≡◌, false, IfOk, IfErr, OnErr};
 ghost use Rattle.swim_c.specs.Buffers.{WrittenOr};
 ghost use Rattle.swim_c.specs.Exchanges.{AnswersOffer, LacksDump, AnswerCause, FinishCause, FinishDone, AnswerDone, OfferedInForm, AnsweredInForm};
-ghost use Rattle.swim_c.specs.Forms.{bytes_in};
+ghost use Rattle.swim_c.specs.Forms.{Allows, bytes_in, wanted};
 ghost use Rattle.swim_c.specs.Watching.{Noted, TellsNews};
 
 use crate::copy::Written;
 use crate::form::Form;
-use crate::status::{BAD_FORM, DONE, TOO_SMALL};
+use crate::status::{DONE, TOO_SMALL};
 use crate::watching::Watched;
 use std::alloc::Global;
 use swim_pack::SliceInlet;
@@ -45,23 +45,24 @@ impl Exchanged {
     }
 }
 
-/// Writes the node's dump to the buffer in the form with this number. Refuses a number that no form
-/// has.
-pub fn offer_in_form(node: &Node, join: bool, form: u32, out: &mut [u8]) -> Written
-    ensures { OfferedInForm form node.now.table join out.old out.new result.status result.len }
+/// Writes the node's dump to the buffer in the form with this number, with this user state.
+pub fn offer_in_form(node: &Node, join: bool, form: u32, user: &[u8], out: &mut [u8]) -> Written
+    ensures { OfferedInForm form user.now node.now.table join
+        out.old out.new result.status result.len }
 {
-    match Form::of(form) {
-        Some(form) => offer_out(node, join, form, out),
-        None => Written::refused(BAD_FORM),
+    match Form::of(form, user) {
+        Ok(form) => offer_out(node, join, form, user, out),
+        Err(status) => Written::refused(status),
     }
 }
 
 /// Writes the node's dump in this form to the buffer if it fits. It takes no memory.
-fn offer_out(node: &Node, join: bool, form: Form, out: &mut [u8]) -> Written
-    ensures { WrittenOr (bytes_in form node.now.table join)
-        out.old out.new result.status result.len (LacksDump form node.now.table) }
+fn offer_out(node: &Node, join: bool, form: Form, user: &[u8], out: &mut [u8]) -> Written
+    requires { Allows form user.now }
+    ensures { WrittenOr (bytes_in (wanted form user.now) node.now.table join) out.old out.new
+        result.status result.len (LacksDump (wanted form user.now) node.now.table) }
 {
-    let len = match form.dump_len(node.table(), join) {
+    let len = match form.dump_len(node.table(), join, user) {
         Ok(len) => len,
         Err(fault) => return Written::refused(fault.number()),
     };
@@ -71,27 +72,28 @@ fn offer_out(node: &Node, join: bool, form: Form, out: &mut [u8]) -> Written
             len,
         };
     }
-    form.dump_front(node.table(), join, len, out);
+    form.dump_front(node.table(), join, user, len, out);
     Written { status: DONE, len }
 }
 
-/// Answers a stream in the form with this number. Refuses a number that no form has.
+/// Answers a stream in the form with this number, with this user state.
 pub fn answer_in_form(
     alloc: Global,
     held: &mut Watched,
     stream: &[u8],
     form: u32,
+    user: &[u8],
     out: &mut [u8],
 ) -> Exchanged
-    ensures answers { AnsweredInForm form stream.now out.old out.new
+    ensures answers { AnsweredInForm form user.now stream.now out.old out.new
         result.status result.join result.used result.len held.old.node held.new.node }
     ensures news { TellsNews result.status result.news held.old.node held.new.node }
     ensures noted { Noted held.old.changes held.new.changes
         result.status held.old.node held.new.node }
 {
-    match Form::of(form) {
-        Some(form) => answer_stream(alloc, held, stream, form, out),
-        None => Exchanged::refused(BAD_FORM),
+    match Form::of(form, user) {
+        Ok(form) => answer_stream(alloc, held, stream, form, user, out),
+        Err(status) => Exchanged::refused(status),
     }
 }
 
@@ -103,15 +105,17 @@ fn answer_stream(
     held: &mut Watched,
     stream: &[u8],
     form: Form,
+    user: &[u8],
     out: &mut [u8],
 ) -> Exchanged
-    ensures answers { AnswerDone form stream.now out.old out.new
+    requires { Allows form user.now }
+    ensures answers { AnswerDone (wanted form user.now) stream.now out.old out.new
         result.status result.join result.used result.len held.old.node held.new.node }
     ensures news { TellsNews result.status result.news held.old.node held.new.node }
     ensures noted { Noted held.old.changes held.new.changes
         result.status held.old.node held.new.node }
 {
-    match try_answer(alloc, held, stream, form, out) {
+    match try_answer(alloc, held, stream, form, user, out) {
         Ok(exchanged) => exchanged,
         Err(fault) => Exchanged::refused(fault.number()),
     }
@@ -122,20 +126,22 @@ fn try_answer(
     held: &mut Watched,
     stream: &[u8],
     form: Form,
+    user: &[u8],
     out: &mut [u8],
 ) -> Result<Exchanged, SyncFault>
-    ensures answers { IfOk result (λ made. AnswersOffer form stream.now
+    requires { Allows form user.now }
+    ensures answers { IfOk result (λ made. AnswersOffer (wanted form user.now) stream.now
         out.old out.new made.status made.join made.used made.len held.old.node held.new.node) }
     ensures news { IfOk result (λ made.
         TellsNews made.status made.news held.old.node held.new.node) }
     ensures noted { IfOk result (λ made. Noted held.old.changes held.new.changes
         made.status held.old.node held.new.node) }
     ensures unchanged { OnErr result ((held.new ≡ held.old) × (out.new ≡ out.old)) }
-    ensures refused { IfErr result (AnswerCause form stream.now held.old.node.table) }
+    ensures refused { IfErr result (AnswerCause (wanted form user.now) stream.now held.old.node.table) }
 {
     let mut inlet = SliceInlet::new(stream);
     let (offered, join) = read_stream(alloc, &mut inlet)?;
-    let reply_len = form.dump_len(held.node.table(), join)?;
+    let reply_len = form.dump_len(held.node.table(), join, user)?;
     let used = stream.len() - inlet.rest().len();
     if reply_len > out.len() {
         return Ok(Exchanged {
@@ -148,7 +154,7 @@ fn try_answer(
     }
     let news = held.news(alloc, &offered)?;
     let room = room_for_both(alloc, held.node.table(), &offered)?;
-    form.dump_front(held.node.table(), join, reply_len, out);
+    form.dump_front(held.node.table(), join, user, reply_len, out);
     let news = held.join_in(room, offered, news);
     Ok(Exchanged {
         status: DONE,

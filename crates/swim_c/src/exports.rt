@@ -3,12 +3,14 @@
 mod buffers;
 mod forgetting;
 mod keyrings;
+mod messages;
 mod open_close;
 mod packets;
+mod seal;
 mod streams;
 mod table;
 #[cfg(test)]
 mod tests;
+mod unwrap;
 mod version;
 mod watch;
-mod wrapped;

@@ -3,7 +3,7 @@
 ghost use Rattle.std.specs.Prelude.{◌≡◌};
 ghost use Rattle.swim_c.specs.Statuses.{cipher_status, wrap_status, packet_status, stream_status};
 
-use crate::status::{MEMORY, UNENCRYPTED};
+use crate::status::{ENDED, MEMORY, UNENCRYPTED};
 use memberlist_cipher::CipherFault;
 use memberlist_transport::{PacketFault, StreamFault};
 use memberlist_wrap::WrapFault;
@@ -41,16 +41,19 @@ pub fn packet_status(fault: PacketFault) -> u32
     }
 }
 
-/// The status for bytes without a stream.
+/// The status for what one side of a connection sends, without a message. What ends too soon has
+/// one status, wherever it does.
 pub fn stream_status(fault: StreamFault) -> u32
     ensures { result ≡ stream_status fault }
 {
     match fault {
+        StreamFault::Wrapped(WrapFault::Ended) => ENDED,
         StreamFault::Wrapped(fault) => wrap_status(fault),
+        StreamFault::Closed(CipherFault::TooShort) => ENDED,
         StreamFault::Closed(fault) => cipher_status(fault),
         StreamFault::Unencrypted => UNENCRYPTED,
         StreamFault::NoStream(found) => WireFault::WrongType { found }.number(),
-        StreamFault::Empty => WireFault::Ended.number(),
+        StreamFault::Empty => ENDED,
         StreamFault::Memory => MEMORY,
     }
 }

@@ -4,7 +4,7 @@ ghost use Rattle.std.specs.Prelude.{◌≡◌, length, IfOk, IfErr, IsErrOf, OnE
 ghost use Rattle.swim_table.specs.Listing.{listing};
 ghost use Rattle.swim_c.specs.Buffers.{IsNoMemory};
 ghost use Rattle.swim_c.specs.Exchanges.{AnswerCause, NodeTakesStream};
-ghost use Rattle.swim_c.specs.Forms.{bytes_in, HasTooManyIn};
+ghost use Rattle.swim_c.specs.Forms.{Allows, bytes_in, wanted, HasTooManyIn};
 ghost use Rattle.swim_c.specs.NewBytes.{AnsweredNew, AnswersNew, FilledOr, HasBytes, OfferedNew};
 ghost use Rattle.swim_c.specs.Watching.{Noted, TellsNews};
 
@@ -12,21 +12,30 @@ use crate::buffer::Buffer;
 use crate::exchanging::Exchanged;
 use crate::form::Form;
 use crate::kept::Kept;
-use crate::status::{BAD_FORM, DONE, MEMORY};
+use crate::status::{DONE, MEMORY};
 use crate::watching::Watched;
 use std::alloc::{AllocError, Global};
 use swim_pack::SliceInlet;
 use swim_sync::{SyncFault, room_for_both};
 use swim_table::{EncodeFault, Node, list, read_stream};
 
-/// Fills the buffer with the node's dump in the form with this number. Returns a status.
-pub fn offer_new(alloc: Global, node: &Node, join: bool, form: u32, buffer: &mut Buffer) -> u32
-    ensures { OfferedNew form node.now.table join buffer.old buffer.new result }
+/// Fills the buffer with the node's dump in the form with this number, with this user state. Returns
+/// a status.
+pub fn offer_new(
+    alloc: Global,
+    node: &Node,
+    join: bool,
+    form: u32,
+    user: &[u8],
+    buffer: &mut Buffer,
+) -> u32
+    ensures { OfferedNew form user.now node.now.table join buffer.old buffer.new result }
 {
-    let Some(form) = Form::of(form) else {
-        return BAD_FORM;
+    let form = match Form::of(form, user) {
+        Ok(form) => form,
+        Err(status) => return status,
     };
-    match kept_dump(alloc, node, join, form) {
+    match kept_dump(alloc, node, join, form, user) {
         Ok(kept) => {
             buffer.fill(alloc, kept);
             DONE
@@ -35,34 +44,43 @@ pub fn offer_new(alloc: Global, node: &Node, join: bool, form: u32, buffer: &mut
     }
 }
 
-fn kept_dump(alloc: Global, node: &Node, join: bool, form: Form) -> Result<Box<Kept>, EncodeFault>
-    ensures bytes { IfOk result (λ kept. kept.value.bytes ≡ bytes_in form node.now.table join) }
+fn kept_dump(
+    alloc: Global,
+    node: &Node,
+    join: bool,
+    form: Form,
+    user: &[u8],
+) -> Result<Box<Kept>, EncodeFault>
+    requires { Allows form user.now }
+    ensures bytes { IfOk result (λ kept.
+        kept.value.bytes ≡ bytes_in (wanted form user.now) node.now.table join) }
     ensures too_many { IsErrOf result EncodeFault.TooManyRecords
-        → HasTooManyIn form node.now.table }
+        → HasTooManyIn (wanted form user.now) node.now.table }
 {
-    let dump = form.dump(alloc, node.table(), join)?;
+    let dump = form.dump(alloc, node.table(), join, user)?;
     let kept = Kept::boxed(alloc, dump)?;
     Ok(kept)
 }
 
 /// Reads a stream, fills the buffer with the node's dump, as the table was before, in the form with
-/// this number, and takes the stream in.
+/// this number, with this user state, and takes the stream in.
 pub fn answer_new(
     alloc: Global,
     held: &mut Watched,
     stream: &[u8],
     form: u32,
+    user: &[u8],
     buffer: &mut Buffer,
 ) -> Exchanged
-    ensures answers { AnsweredNew form stream.now buffer.old buffer.new
+    ensures answers { AnsweredNew form user.now stream.now buffer.old buffer.new
         result.status result.join result.used result.len held.old.node held.new.node }
     ensures news { TellsNews result.status result.news held.old.node held.new.node }
     ensures noted { Noted held.old.changes held.new.changes
         result.status held.old.node held.new.node }
 {
-    match Form::of(form) {
-        Some(form) => answer_filling(alloc, held, stream, form, buffer),
-        None => Exchanged::refused(BAD_FORM),
+    match Form::of(form, user) {
+        Ok(form) => answer_filling(alloc, held, stream, form, user, buffer),
+        Err(status) => Exchanged::refused(status),
     }
 }
 
@@ -71,15 +89,17 @@ fn answer_filling(
     held: &mut Watched,
     stream: &[u8],
     form: Form,
+    user: &[u8],
     buffer: &mut Buffer,
 ) -> Exchanged
-    ensures answers { AnswersNew form stream.now buffer.old buffer.new
+    requires { Allows form user.now }
+    ensures answers { AnswersNew (wanted form user.now) stream.now buffer.old buffer.new
         result.status result.join result.used result.len held.old.node held.new.node }
     ensures news { TellsNews result.status result.news held.old.node held.new.node }
     ensures noted { Noted held.old.changes held.new.changes
         result.status held.old.node held.new.node }
 {
-    match try_answer_new(alloc, held, stream, form, buffer) {
+    match try_answer_new(alloc, held, stream, form, user, buffer) {
         Ok(exchanged) => exchanged,
         Err(fault) => Exchanged::refused(fault.number()),
     }
@@ -90,25 +110,27 @@ fn try_answer_new(
     held: &mut Watched,
     stream: &[u8],
     form: Form,
+    user: &[u8],
     buffer: &mut Buffer,
 ) -> Result<Exchanged, SyncFault>
+    requires { Allows form user.now }
     ensures done { IfOk result (λ made. made.status ≡ 0) }
     ensures takes { IfOk result (λ made.
         NodeTakesStream stream.now made.join made.used held.old.node held.new.node) }
     ensures fills { IfOk result (λ made.
-        HasBytes (bytes_in form held.old.node.table made.join) buffer.new) }
+        HasBytes (bytes_in (wanted form user.now) held.old.node.table made.join) buffer.new) }
     ensures len { IfOk result (λ made.
-        made.len ≡ length (bytes_in form held.old.node.table made.join)) }
+        made.len ≡ length (bytes_in (wanted form user.now) held.old.node.table made.join)) }
     ensures news { IfOk result (λ made.
         TellsNews made.status made.news held.old.node held.new.node) }
     ensures noted { IfOk result (λ made. Noted held.old.changes held.new.changes
         made.status held.old.node held.new.node) }
     ensures unchanged { OnErr result ((held.new ≡ held.old) × (buffer.new ≡ buffer.old)) }
-    ensures refused { IfErr result (AnswerCause form stream.now held.old.node.table) }
+    ensures refused { IfErr result (AnswerCause (wanted form user.now) stream.now held.old.node.table) }
 {
     let mut inlet = SliceInlet::new(stream);
     let (offered, join) = read_stream(alloc, &mut inlet)?;
-    let reply = form.dump(alloc, held.node.table(), join)?;
+    let reply = form.dump(alloc, held.node.table(), join, user)?;
     let used = stream.len() - inlet.rest().len();
     let len = reply.len();
     let kept = Kept::boxed(alloc, reply)?;

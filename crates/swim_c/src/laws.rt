@@ -2,10 +2,9 @@
 
 ghost use Rattle.std.specs.Prelude.{◌≡◌, List, ℕ, [], ◌++◌, Option, IsSome};
 ghost use Rattle.swim_claim.specs.declared.claim.Claim.{Claim};
-ghost use Rattle.memberlist_transport.specs.declared.message.Message.{Message};
-ghost use Rattle.memberlist_transport.specs.Packet.{Holds, HoldsClear};
-ghost use Rattle.memberlist_transport.specs.Reply.{IsReplyIn};
-ghost use Rattle.memberlist_transport.specs.Stream.{IsStreamIn, IsClearStream};
+ghost use Rattle.memberlist_wrap.specs.Wrapping.{Unwraps};
+ghost use Rattle.memberlist_transport.specs.Packet.{max_message_len};
+ghost use Rattle.memberlist_transport.specs.Unwrapped.{IsInside, IsInsideStream, IsInsideReply};
 ghost use Rattle.memberlist_transport.specs.declared.in_the_clear.InTheClear.{InTheClear};
 ghost use Rattle.swim_table.specs.Node.{NodeValue};
 ghost use Rattle.swim_table.specs.Table.{Entries, TableOf, Reduced, get};
@@ -23,30 +22,34 @@ pub fn progress_carries_on()
         → IsProgressIn (bytes ++ more) p }
 {}
 
-/// The keys that encrypted a packet or stream unwrap it to what is in the message, whatever becomes
-/// of what is in the clear. A packet unwraps
-/// to nothing else. A stream with a label is unwrapped whatever label the reader has, a stream
-/// without one by a reader without a label, and a reply by a reader with the label that it was
-/// encrypted with.
+/// The keys that encrypted a packet or a stream unwrap it to what is in the message, whatever it is,
+/// and whatever becomes of what is in the clear. A packet unwraps to nothing else. A stream with a
+/// label is unwrapped whatever label the reader has, a stream without one by a reader without a
+/// label, and a reply by a reader with the label that it was encrypted with.
 pub fn sealed_is_unwrapped()
-    ensures packet { (policy : InTheClear) (keys : List (List ℕ)) (nonce label message packet : List ℕ)
-        (inner : Message) → IsSealedPacket keys nonce label message packet
-        → HoldsClear message inner → Holds policy keys packet inner }
-    ensures no_other { (policy : InTheClear) (keys : List (List ℕ)) (nonce label message packet : List ℕ)
-        (inner : Message) → IsSealedPacket keys nonce label message packet
-        → Holds policy keys packet inner → HoldsClear message inner }
-    ensures stream { (policy : InTheClear) (keys : List (List ℕ)) (nonce label message bytes stream : List ℕ)
+    ensures packet { (policy : InTheClear) (keys : List (List ℕ))
+        (nonce label message packet inner : List ℕ)
+        → IsSealedPacket keys nonce label message packet
+        → Unwraps max_message_len message inner → IsInside policy keys packet inner }
+    ensures no_other { (policy : InTheClear) (keys : List (List ℕ))
+        (nonce label message packet inner : List ℕ)
+        → IsSealedPacket keys nonce label message packet
+        → IsInside policy keys packet inner → Unwraps max_message_len message inner }
+    ensures stream { (policy : InTheClear) (keys : List (List ℕ))
+        (nonce label message bytes inner : List ℕ)
         → IsSealedStream keys nonce label message bytes
-        → IsClearStream max_stream_len message stream
-        → IsStreamIn max_stream_len policy keys bytes stream }
-    ensures behind { (policy : InTheClear) (keys : List (List ℕ)) (nonce label own message bytes stream : List ℕ)
+        → Unwraps max_stream_len message inner
+        → IsInsideStream max_stream_len policy keys bytes inner }
+    ensures behind { (policy : InTheClear) (keys : List (List ℕ))
+        (nonce label own message bytes inner : List ℕ)
         → IsSealedStream keys nonce label message bytes
-        → IsClearStream max_stream_len message stream → (label ≡ [] → own ≡ [])
-        → IsReplyIn max_stream_len policy keys own bytes stream }
-    ensures reply { (policy : InTheClear) (keys : List (List ℕ)) (nonce label message bytes stream : List ℕ)
+        → Unwraps max_stream_len message inner → (label ≡ [] → own ≡ [])
+        → IsInsideReply max_stream_len policy keys own bytes inner }
+    ensures reply { (policy : InTheClear) (keys : List (List ℕ))
+        (nonce label message bytes inner : List ℕ)
         → IsSealedReply keys nonce label message bytes
-        → IsClearStream max_stream_len message stream
-        → IsReplyIn max_stream_len policy keys label bytes stream }
+        → Unwraps max_stream_len message inner
+        → IsInsideReply max_stream_len policy keys label bytes inner }
 {}
 
 /// A node knows each name that it noted, whatever claims it takes in and names it returns or

@@ -10,6 +10,7 @@
 //! | `status` | the statuses that calls return |
 //! | `fault` | the statuses of wrapped and encrypted bytes |
 //! | `copy` | bytes that are written to a buffer of the caller |
+//! | `keys` | the keys of a keyring, by index |
 //! | `kept`, `kept_handle`, `buffer` | bytes in memory of the library |
 //! | `opening` | a node from its parts |
 //! | `watching` | a node, and the names in it that changed |
@@ -18,6 +19,9 @@
 //! | `refuting` | refuting what others say about a node's member |
 //! | `own_packets` | what a member says, as packets |
 //! | `compound` | several packets as one compound packet |
+//! | `messages` | messages that make no claims |
+//! | `parts` | the parts of a message, by index |
+//! | `probe` | what they say, in the caller's memory |
 //! | `query` | what a node reports: its listing, members and relations |
 //! | `member` | a member as a table has it, in the caller's memory |
 //! | `form` | the two forms of a dump |
@@ -25,6 +29,8 @@
 //! | `filling` | filling buffers of the library |
 //! | `progress` | a stream that comes in pieces, and how far it has been read |
 //! | `forgetting` | forgetting a name |
+//! | `readmitting` | members that came back, believed |
+//! | `updating` | a member's own details, replaced |
 //! | `unwrapping` | unwrapping and decrypting packets and streams as a real cluster sends them |
 //! | `sealing` | messages encrypted with a keyring, or labelled in the clear |
 //! | `laws` | facts about the definitions, independent of any code |
@@ -44,16 +50,22 @@ mod handle;
 mod kept;
 mod kept_handle;
 mod keyring;
+mod keys;
 mod laws;
 mod member;
+mod messages;
 mod next_change;
 mod opening;
 mod own_packets;
+mod parts;
+mod probe;
 mod progress;
 mod query;
+mod readmitting;
 mod refuting;
 mod sealing;
 mod status;
 mod take;
 mod unwrapping;
+mod updating;
 mod watching;

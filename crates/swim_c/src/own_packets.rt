@@ -1,16 +1,16 @@
 //! What a member says, as packets: its own Alive and Leave, that others are suspected or dead, and
 //! another member's Alive.
 
-ghost use Rattle.std.specs.Prelude.{◌≡◌, ◌≤◌, [], length, IfOk, IfErr};
+ghost use Rattle.std.specs.Prelude.{◌≡◌, ◌≢◌, ◌≤◌, [], length, IfOk, IfErr};
 ghost use Rattle.swim_claim.specs.declared.claim.Claim.TheVariants.{Alive, Suspect, Confirm, Leave};
 ghost use Rattle.swim_c.specs.Buffers.{IsNoMemory};
 ghost use Rattle.swim_c.specs.Opening.{IsUnmade, told};
-ghost use Rattle.swim_c.specs.OwnPackets.{SaidOr, IsNoName, IsUnsaid};
+ghost use Rattle.swim_c.specs.OwnPackets.{SaidOr, IsNoName, IsUnsaid, IsUnsaidBy};
 ghost use Rattle.swim_claim.specs.Limits.{max_name_len};
 
 use crate::copy::{Written, copy_out};
 use crate::opening::{Parts, copied};
-use crate::status::{MEMORY, OWN_NAME};
+use crate::status::{MEMORY, NAME_TOO_LONG, OWN_NAME};
 use std::alloc::{AllocError, Global};
 use swim_claim::{Claim, Name};
 use swim_table::Node;
@@ -119,6 +119,84 @@ fn accusation(alloc: Global, node: &Node, name: &[u8]) -> Result<(Name, Vec<u8>)
     };
     let name = made.map_err(|fault| fault.number())?;
     let Ok(from) = node.name().bytes().to_vec(alloc) else {
+        return Err(MEMORY);
+    };
+    Ok((name, from))
+}
+
+/// Writes the packet by which the member of one name suspects that of another, at the incarnation,
+/// to the buffer.
+pub fn say_suspect_of(alloc: Global, from: &[u8], name: &[u8], inc: u32, out: &mut [u8]) -> Written
+    ensures { SaidOr (record { claim = Suspect name.now inc; from = from.now })
+        out.old out.new result.status result.len (IsUnsaidBy from.now name.now) }
+{
+    match accusation_by(alloc, from, name) {
+        Ok((name, from)) => {
+            let packet = Packet::new(Claim::Suspect { name, inc }, from);
+            packet_out(alloc, &packet, out)
+        }
+        Err(status) => Written::refused(status),
+    }
+}
+
+/// Writes the packet by which the member of one name declares that of another dead, at the
+/// incarnation, to the buffer; or its own leave.
+pub fn say_dead_of(alloc: Global, from: &[u8], name: &[u8], inc: u32, out: &mut [u8]) -> Written
+    ensures leave { from.now ≡ name.now
+        → SaidOr (record { claim = Leave name.now inc; from = name.now })
+        out.old out.new result.status result.len (IsUnsaidBy name.now name.now) }
+    ensures dead { from.now ≢ name.now
+        → SaidOr (record { claim = Confirm name.now inc; from = from.now })
+        out.old out.new result.status result.len (IsUnsaidBy from.now name.now) }
+{
+    if from == name {
+        say_leave_of(alloc, name, inc, out)
+    } else {
+        say_confirm_of(alloc, from, name, inc, out)
+    }
+}
+
+fn say_leave_of(alloc: Global, name: &[u8], inc: u32, out: &mut [u8]) -> Written
+    ensures { SaidOr (record { claim = Leave name.now inc; from = name.now })
+        out.old out.new result.status result.len (IsUnsaidBy name.now name.now) }
+{
+    match accusation_by(alloc, name, name) {
+        Ok((name, from)) => {
+            let packet = Packet::new(Claim::Leave { name, inc }, from);
+            packet_out(alloc, &packet, out)
+        }
+        Err(status) => Written::refused(status),
+    }
+}
+
+fn say_confirm_of(alloc: Global, from: &[u8], name: &[u8], inc: u32, out: &mut [u8]) -> Written
+    requires { from.now ≢ name.now }
+    ensures { SaidOr (record { claim = Confirm name.now inc; from = from.now })
+        out.old out.new result.status result.len (IsUnsaidBy from.now name.now) }
+{
+    match accusation_by(alloc, from, name) {
+        Ok((name, from)) => {
+            let packet = Packet::new(Claim::Confirm { name, inc }, from);
+            packet_out(alloc, &packet, out)
+        }
+        Err(status) => Written::refused(status),
+    }
+}
+
+/// The name of the accused, and of who accuses; or a status.
+fn accusation_by(alloc: Global, from: &[u8], name: &[u8]) -> Result<(Name, Vec<u8>), u32>
+    ensures names { IfOk result (λ names. (names.0 ≡ name.now) × (names.1.items ≡ from.now)) }
+    ensures short { IfOk result (λ names. length names.1.items ≤ max_name_len) }
+    ensures refused { IfErr result (IsUnsaidBy from.now name.now) }
+{
+    if from.len() > 1024 {
+        return Err(NAME_TOO_LONG);
+    }
+    let Ok(made) = Name::copied(alloc, name) else {
+        return Err(MEMORY);
+    };
+    let name = made.map_err(|fault| fault.number())?;
+    let Ok(from) = from.to_vec(alloc) else {
         return Err(MEMORY);
     };
     Ok((name, from))

@@ -1,8 +1,10 @@
 //! What a node reports: its listing, its members, and how it relates to another.
 
-ghost use Rattle.std.specs.Prelude.{slice_get};
+ghost use Rattle.std.specs.Prelude.{◌≡◌, ◌+◌, length, slice_get};
+ghost use Rattle.swim_table.specs.MemberlistDump.{told_of};
+ghost use Rattle.std.specs.Option.{option_copied};
 ghost use Rattle.swim_table.specs.Listing.{listing};
-ghost use Rattle.swim_table.specs.Table.{get};
+ghost use Rattle.swim_table.specs.Table.{after, get};
 ghost use Rattle.swim_c.specs.Buffers.{WrittenOr, IsNoMemory};
 ghost use Rattle.swim_c.specs.Members.{MemberDone};
 ghost use Rattle.swim_c.specs.Relating.{IsRelationNumber};
@@ -11,7 +13,7 @@ use crate::copy::{Written, copy_out};
 use crate::member::Member;
 use crate::status::{DONE, MEMORY, NO_MEMBER};
 use std::alloc::Global;
-use swim_table::{Node, Relation, list, relation};
+use swim_table::{Entry, Node, Relation, list, memberlist_records, relation};
 
 /// Writes the listing of the node's table to the buffer.
 pub fn list_out(alloc: Global, node: &Node, out: &mut [u8]) -> Written
@@ -28,7 +30,28 @@ pub fn list_out(alloc: Global, node: &Node, out: &mut [u8]) -> Written
 pub fn member_at(node: &Node, i: usize, member: &mut Member) -> u32
     ensures { MemberDone (slice_get node.now.table i) member.old member.new result }
 {
-    match node.table().at(i) {
+    copy_entry(node.table().at(i), member)
+}
+
+/// Copies what the node knows about the member of this name.
+pub fn member_named(node: &Node, name: &[u8], member: &mut Member) -> u32
+    ensures { MemberDone (get node.now.table name.now) member.old member.new result }
+{
+    copy_entry(node.table().get(name), member)
+}
+
+/// Copies what the node knows about the member of the first name above this one.
+pub fn member_after(node: &Node, name: &[u8], member: &mut Member) -> u32
+    ensures { MemberDone (after node.now.table name.now) member.old member.new result }
+{
+    copy_entry(node.table().after(name), member)
+}
+
+/// Copies an entry, if there is one.
+fn copy_entry(entry: Option<&Entry>, member: &mut Member) -> u32
+    ensures { MemberDone (option_copied entry.entry) member.old member.new result }
+{
+    match entry {
         Some(entry) => {
             member.fill(entry);
             DONE
@@ -37,17 +60,12 @@ pub fn member_at(node: &Node, i: usize, member: &mut Member) -> u32
     }
 }
 
-/// Copies what the node knows about the member of this name.
-pub fn member_named(node: &Node, name: &[u8], member: &mut Member) -> u32
-    ensures { MemberDone (get node.now.table name.now) member.old member.new result }
+/// How many members the dump that memberlist merges leaves out.
+pub fn left_out(node: &Node) -> usize
+    ensures { result + length (told_of node.now.table) ≡ length node.now.table }
 {
-    match node.table().get(name) {
-        Some(entry) => {
-            member.fill(entry);
-            DONE
-        }
-        None => NO_MEMBER,
-    }
+    let table = node.table();
+    table.len() - memberlist_records(table)
 }
 
 /// How the first node's table relates to the second's, as a number.

@@ -219,6 +219,7 @@ impl Node {
 
         ensures had { IsTrue result ↔ IsSome (get self.old.table name.now) }
         ensures absent { get self.old.table name.now ≡ None → self.new.table ≡ self.old.table }
+        ensures fewer { length self.new.table ≤ length self.old.table }
 
         ensures member { SameMember self.old self.new }
     {

@@ -1,13 +1,10 @@
 -- What a message says about a member, and what is then heard about the member.
-use Rattle.std.specs.Prelude.{ℕ, Bool, true, false, if◌then◌else◌, Option, Some, None, List, [], nat_lt, nat_le, ◌&&◌, length}
+use Rattle.std.specs.Prelude.{ℕ, Bool, true, false, if◌then◌else◌, List, []}
 use Rattle.swim_claim.specs.declared.claim.Claim.{Claim}
-use Rattle.swim_claim.specs.declared.claim.Claim.TheVariants as claim
-use Rattle.swim_claim.specs.Limits.{max_name_len}
 use Rattle.swim_wire.specs.Packet.{PacketValue}
 use Rattle.memberlist_view.specs.declared.heard.Heard.{Heard}
 use Rattle.memberlist_view.specs.declared.heard.Said.{Said}
-use Rattle.memberlist_view.specs.declared.heard.Said.TheVariants.{Alive, Suspect, Dead, Left}
-use Rattle.memberlist_view.specs.Heard.{said_in_record}
+use Rattle.memberlist_view.specs.Heard.{accuser_of, said_in_packet, said_in_record}
 use Rattle.swimwatch.specs.declared.told.Told.{Told}
 
 -- a claim, the bytes that name who makes it, whether it is in a record of a stream, and whether a
@@ -29,19 +26,6 @@ packet_told p = record { claim = p.claim; from = p.from; is_record = false; join
 -- what a record of a stream says: nobody is named
 abbrev pub record_told : Claim → Bool → ToldText
 record_told c joins = record { claim = c; from = []; is_record = true; joins = joins }
-
--- who makes a claim: somebody if the bytes are a name, of 1 to 1,024 bytes
-abbrev pub accuser_of : List ℕ → Option (List ℕ)
-accuser_of from =
-    if nat_lt 0 (length from) && nat_le (length from) max_name_len then Some from else None
-
--- net.go, handleAlive, handleSuspect, handleDead: what a packet says; a member that declares itself
--- dead has left, and a death that nobody declares is as one in a record (own)
-abbrev pub said_in_packet : Claim → Option (List ℕ) → Said
-said_in_packet (claim.Alive name inc details) from = Alive name inc details true
-said_in_packet (claim.Suspect name inc) from = Suspect name inc from
-said_in_packet (claim.Confirm name inc) from = Dead name inc from
-said_in_packet (claim.Leave name inc) from = Left name inc
 
 -- what is said: by a packet what it says itself, by a record what it means to a member that merges
 -- it

@@ -1,11 +1,11 @@
 //! What a message says about members.
 
 ghost use Rattle.std.specs.Prelude.{◌≡◌, Some, None, IfOk, map, [], true};
-ghost use Rattle.swimwatch.specs.Told.{told_text, packet_told, record_told, said_in_packet, accuser_of, heard_of};
+ghost use Rattle.swimwatch.specs.Told.{told_text, packet_told, record_told, heard_of};
 
-use memberlist_view::{Heard, MemberName, Said};
+use memberlist_view::{Heard, Said};
 use std::alloc::{AllocError, Global};
-use swim_claim::{Claim, Name};
+use swim_claim::Claim;
 use swim_wire::Packet;
 
 /// A claim, who made it, and in which kind of message it came.
@@ -60,48 +60,7 @@ impl Told {
                 said: Said::of_record(claim, self.joins),
             });
         }
-        let from = accuser(alloc, &self.from)?;
-        Ok(Heard {
-            time,
-            said: said_in_packet(claim, from),
-        })
-    }
-}
-
-/// Who makes a claim, if somebody is named.
-fn accuser(alloc: Global, from: &[u8]) -> Result<Option<MemberName>, AllocError>
-    ensures { IfOk result (λ name. name ≡ accuser_of from.now) }
-{
-    match Name::copied(alloc, from)? {
-        Ok(name) => Ok(Some(MemberName::new(name))),
-        Err(_) => Ok(None),
-    }
-}
-
-/// What a packet says, in memberlist's words.
-fn said_in_packet(claim: Claim, from: Option<MemberName>) -> Said
-    ensures { result ≡ said_in_packet claim from }
-{
-    match claim {
-        Claim::Alive { name, inc, details } => Said::Alive {
-            name: MemberName::new(name),
-            inc,
-            details,
-            joins: true,
-        },
-        Claim::Suspect { name, inc } => Said::Suspect {
-            name: MemberName::new(name),
-            inc,
-            from,
-        },
-        Claim::Leave { name, inc } => Said::Left {
-            name: MemberName::new(name),
-            inc,
-        },
-        Claim::Confirm { name, inc } => Said::Dead {
-            name: MemberName::new(name),
-            inc,
-            from,
-        },
+        let said = Said::of_packet(alloc, claim, &self.from)?;
+        Ok(Heard { time, said })
     }
 }

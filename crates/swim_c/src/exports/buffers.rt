@@ -15,15 +15,15 @@ use crate::handle::Handle;
 use crate::status::NO_NODE;
 use std::alloc::Global;
 
-/// Makes the buffer keep the dump of the node's table, with this join flag, as `swimtab_raw_offer`
-/// writes it. Frees what the buffer kept before. The node does not change.
+/// Makes the buffer keep the dump of the node's table, with this join flag and this user
+/// state, as `swimtab_raw_offer` writes it. Frees what the buffer kept before. The node does not change.
 ///
 /// # Statuses
 ///
 /// If the status is not 0, the buffer is unchanged.
 ///
 /// - 64 if the handle has no node.
-/// - 70 if the form is neither 0 nor 1.
+/// - 70 if the form is neither 0 nor 1, or 0 with user state; 21 if there is too much of that.
 /// - 23 if the dump has more than 131,072 records.
 /// - 10 if out of memory.
 #[unsafe(no_mangle)]
@@ -32,17 +32,18 @@ pub extern "C" fn swimtab_raw_offer_new(
     node: &mut Handle,
     join: bool,
     form: u32,
+    user: &[u8],
     buffer: &mut Buffer,
 ) -> u32
     ensures tells { OnSame node.old.node node.new.node
         ((result ≡ statuses.no_node) × (buffer.new ≡ buffer.old))
-        (λ held. OfferedNew form held.table join buffer.old buffer.new result) }
+        (λ held. OfferedNew form user.now held.table join buffer.old buffer.new result) }
     ensures noted { node.new.changes ≡ node.old.changes }
 {
     let Some(held) = node.take(alloc) else {
         return NO_NODE;
     };
-    let status = offer_new(alloc, &held.node, join, form, buffer);
+    let status = offer_new(alloc, &held.node, join, form, user, buffer);
     node.put(held);
     status
 }
@@ -55,7 +56,7 @@ pub extern "C" fn swimtab_raw_offer_new(
 /// If the status is not 0, the node and the buffer are unchanged.
 ///
 /// - 64 if the handle has no node.
-/// - 70 if the form is neither 0 nor 1.
+/// - 70 if the form is neither 0 nor 1, or 0 with user state; 21 if there is too much of that.
 /// - 1 to 21 if the bytes do not begin with a stream: the fault at which reading stops.
 /// - 23 if the reply has more than 131,072 records.
 /// - 10 if out of memory, for the stream's claims, the reply, the names that change or the join.
@@ -65,13 +66,14 @@ pub extern "C" fn swimtab_raw_answer_new(
     node: &mut Handle,
     stream: &[u8],
     form: u32,
+    user: &[u8],
     buffer: &mut Buffer,
 ) -> Exchanged
     ensures answers { OnNode node.old.node node.new.node
         ((result
         ≡ record { status = statuses.no_node; join = false; news = false; used = 0; len = 0 })
         × (buffer.new ≡ buffer.old))
-        (AnsweredNew form stream.now buffer.old buffer.new
+        (AnsweredNew form user.now stream.now buffer.old buffer.new
         result.status result.join result.used result.len) }
     ensures news { OnNode node.old.node node.new.node
         (result.news ≡ false) (TellsNews result.status result.news) }
@@ -82,7 +84,7 @@ pub extern "C" fn swimtab_raw_answer_new(
     let Some(mut held) = node.take(alloc) else {
         return Exchanged::refused(NO_NODE);
     };
-    let exchanged = answer_new(alloc, &mut held, stream, form, buffer);
+    let exchanged = answer_new(alloc, &mut held, stream, form, user, buffer);
     node.put(held);
     exchanged
 }

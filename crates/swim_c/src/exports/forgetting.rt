@@ -1,12 +1,14 @@
-//! Forgetting a name.
+//! Forgetting a name, and believing a member that came back.
 
 ghost use Rattle.std.specs.Prelude.{◌≡◌};
 ghost use Rattle.swim_c.specs.Forgetting.{ForgetDone, LetsNameGo};
 ghost use Rattle.swim_c.specs.OnNode.{OnNode};
 ghost use Rattle.swim_c.specs.Statuses as statuses;
+ghost use Rattle.swim_c.specs.Updating.{ReadmitDone};
 
 use crate::forgetting::forget;
 use crate::handle::Handle;
+use crate::readmitting::readmit;
 use crate::status::NO_NODE;
 use std::alloc::Global;
 
@@ -33,6 +35,32 @@ pub extern "C" fn swimtab_raw_forget(alloc: Global, node: &mut Handle, name: &[u
         return NO_NODE;
     };
     let status = forget(&mut held, name);
+    node.put(held);
+    status
+}
+
+/// Believes a member that came back, whose newest Alive is newer than its death or its leave, as
+/// memberlist does: of all claims about it only that Alive is left. A noted name stays noted. It
+/// takes memory for a table of this size.
+///
+/// # Statuses
+///
+/// If the status is not 0, the node is unchanged.
+///
+/// - 64 if the handle has no node.
+/// - 67 if the table has no such name.
+/// - 73 if the member has not come back.
+/// - 10 if out of memory.
+#[unsafe(no_mangle)]
+pub extern "C" fn swimtab_raw_readmit(alloc: Global, node: &mut Handle, name: &[u8]) -> u32
+    ensures readmits { OnNode node.old.node node.new.node
+        (result ≡ statuses.no_node) (ReadmitDone name.now result) }
+    ensures noted { node.new.changes ≡ node.old.changes }
+{
+    let Some(mut held) = node.take(alloc) else {
+        return NO_NODE;
+    };
+    let status = readmit(alloc, &mut held, name);
     node.put(held);
     status
 }

@@ -1,16 +1,19 @@
-//! Adding keys to a keyring, accepting what is in the clear, and freeing it.
+//! The keys of a keyring: added, listed, chosen and removed; and what becomes of what is in the
+//! clear.
 
-ghost use Rattle.std.specs.Prelude.{◌≡◌, ◌∷◌, [], None, MatchOption, IfOk, IfErr, OnOk};
+ghost use Rattle.std.specs.Prelude.{◌≡◌, ◌∷◌, [], length, None, MatchOption, IfOk, IfErr, OnOk};
 ghost use Rattle.memberlist_cipher.specs.Encryption.{IsKey};
 ghost use Rattle.memberlist_cipher.specs.Refusal.{KeyCause};
 ghost use Rattle.memberlist_transport.specs.declared.in_the_clear.InTheClear.TheVariants.{Refused};
-ghost use Rattle.swim_c.specs.Keyring.{KeyAdded, ClearAccepted};
+ghost use Rattle.swim_c.specs.Keyring.{keys_of, KeyAdded, KeyGiven, KeyUsed, KeyRemoved, ClearAccepted};
 ghost use Rattle.swim_c.specs.Statuses as statuses;
 
 use crate::cluster_keys::ClusterKeys;
+use crate::copy::Written;
 use crate::fault::cipher_status;
 use crate::keyring::KeyringHandle;
-use crate::status::{DONE, NO_NODE};
+use crate::keys::{key_out, remove_key, use_key};
+use crate::status::{DONE, NO_ITEM, NO_NODE};
 use memberlist_cipher::CipherFault;
 use std::alloc::Global;
 
@@ -68,6 +71,96 @@ fn keyring_of(alloc: Global, key: &[u8]) -> Result<Box<ClusterKeys>, CipherFault
     keys.add(alloc, key)?;
     let made = Box::new(alloc, keys)?;
     Ok(made)
+}
+
+/// How many keys a keyring has, or 0 if the handle has no keyring.
+#[unsafe(no_mangle)]
+pub extern "C" fn swimtab_raw_keyring_count(alloc: Global, keyring: &mut KeyringHandle) -> usize
+    ensures stays { keyring.new.keys ≡ keyring.old.keys }
+    ensures count { result ≡ length (keys_of keyring.old.keys).keyring }
+{
+    match keyring.take(alloc) {
+        Some(held) => {
+            let count = held.keyring.len();
+            keyring.put(held);
+            count
+        }
+        None => 0,
+    }
+}
+
+/// Writes the key at this index, from 0, to the buffer. The keyring does not change.
+///
+/// # Statuses
+///
+/// If the status is not 0, the buffer is unchanged.
+///
+/// - 71 if there is no such key.
+/// - 66 if the buffer is too small. The length is then that of the key.
+#[unsafe(no_mangle)]
+pub extern "C" fn swimtab_raw_keyring_key(
+    alloc: Global,
+    keyring: &mut KeyringHandle,
+    i: usize,
+    out: &mut [u8],
+) -> Written
+    ensures stays { keyring.new.keys ≡ keyring.old.keys }
+    ensures gives { KeyGiven (keys_of keyring.old.keys).keyring i
+        out.old out.new result.status result.len }
+{
+    let Some(held) = keyring.take(alloc) else {
+        return Written::refused(NO_ITEM);
+    };
+    let written = key_out(&held, i, out);
+    keyring.put(held);
+    written
+}
+
+/// From now on the key at this index, from 0, encrypts: it and the first one change places
+/// (memberlist's `UseKey`, keyring.go).
+///
+/// # Statuses
+///
+/// 71 if there is no such key. The keyring is then unchanged.
+#[unsafe(no_mangle)]
+pub extern "C" fn swimtab_raw_keyring_use(
+    alloc: Global,
+    keyring: &mut KeyringHandle,
+    i: usize,
+) -> u32
+    ensures { KeyUsed i result keyring.old.keys keyring.new.keys }
+{
+    let Some(mut held) = keyring.take(alloc) else {
+        return NO_ITEM;
+    };
+    let status = use_key(&mut held, i);
+    keyring.put(held);
+    status
+}
+
+/// Removes the key at this index, from 0, and overwrites it; the later ones move up (memberlist's
+/// `RemoveKey`, keyring.go).
+///
+/// # Statuses
+///
+/// If the status is not 0, the keyring is unchanged.
+///
+/// - 71 if there is no such key.
+/// - 72 if it is the first one, which encrypts.
+#[unsafe(no_mangle)]
+pub extern "C" fn swimtab_raw_keyring_remove(
+    alloc: Global,
+    keyring: &mut KeyringHandle,
+    i: usize,
+) -> u32
+    ensures { KeyRemoved i result keyring.old.keys keyring.new.keys }
+{
+    let Some(mut held) = keyring.take(alloc) else {
+        return NO_ITEM;
+    };
+    let status = remove_key(&mut held, i);
+    keyring.put(held);
+    status
 }
 
 /// From now on, packets and streams in the clear are unwrapped too, in a cluster that begins or ends

@@ -1,12 +1,12 @@
 //! Packets that a node takes in, and packets that a member sends.
 
-ghost use Rattle.std.specs.Prelude.{◌≡◌, [], false};
+ghost use Rattle.std.specs.Prelude.{◌≡◌, ◌≢◌, [], false};
 ghost use Rattle.swim_claim.specs.declared.claim.Claim.TheVariants.{Alive, Suspect, Confirm, Leave};
 ghost use Rattle.swim_c.specs.Buffers.{IsNoMemory};
 ghost use Rattle.swim_c.specs.OnNode.{OnNode, OnSame};
 ghost use Rattle.swim_c.specs.Opening.{IsUnmade, told};
 ghost use Rattle.swim_c.specs.Compound.{CompoundDone};
-ghost use Rattle.swim_c.specs.OwnPackets.{SaidOr, IsNoName, IsUnsaid};
+ghost use Rattle.swim_c.specs.OwnPackets.{SaidOr, IsNoName, IsUnsaid, IsUnsaidBy};
 ghost use Rattle.swim_c.specs.Taking.{TakeDone, RefuteDone};
 ghost use Rattle.swim_c.specs.Watching.{Noted, TellsNews};
 ghost use Rattle.swim_c.specs.Statuses as statuses;
@@ -15,7 +15,9 @@ use crate::compound::compound_out;
 use crate::copy::Written;
 use crate::handle::Handle;
 use crate::opening::Parts;
-use crate::own_packets::{say_alive, say_alive_of, say_confirm, say_leave, say_suspect};
+use crate::own_packets::{
+    say_alive, say_alive_of, say_confirm, say_dead_of, say_leave, say_suspect, say_suspect_of,
+};
 use crate::refuting::{Refuted, refute};
 use crate::status::NO_NODE;
 use crate::take::{Taken, hear};
@@ -245,6 +247,56 @@ pub extern "C" fn swimtab_raw_leave(
     let written = say_leave(alloc, &held.node, inc, out);
     node.put(held);
     written
+}
+
+/// Writes the packet by which the member of the name `from` suspects the member of this name, at the
+/// incarnation, to the buffer. A name has 1 to 1,024 bytes; that of who says so may be empty. No node
+/// is needed.
+///
+/// # Statuses
+///
+/// If the status is not 0, the buffer is unchanged.
+///
+/// - 12 if a name is too long, 11 if the name is empty.
+/// - 66 if the buffer is too small. The length is then that of the packet.
+/// - 10 if out of memory.
+#[unsafe(no_mangle)]
+pub extern "C" fn swimtab_raw_suspect_of(
+    alloc: Global,
+    from: &[u8],
+    name: &[u8],
+    inc: u32,
+    out: &mut [u8],
+) -> Written
+    ensures { SaidOr (record { claim = Suspect name.now inc; from = from.now })
+        out.old out.new result.status result.len (IsUnsaidBy from.now name.now) }
+{
+    say_suspect_of(alloc, from, name, inc, out)
+}
+
+/// Writes the packet by which the member of the name `from` declares the member of this name dead,
+/// at the incarnation, to the buffer; a member that declares itself dead leaves. Otherwise as
+/// [`swimtab_raw_suspect_of`].
+///
+/// # Statuses
+///
+/// Those of [`swimtab_raw_suspect_of`].
+#[unsafe(no_mangle)]
+pub extern "C" fn swimtab_raw_dead_of(
+    alloc: Global,
+    from: &[u8],
+    name: &[u8],
+    inc: u32,
+    out: &mut [u8],
+) -> Written
+    ensures leave { from.now ≡ name.now
+        → SaidOr (record { claim = Leave name.now inc; from = name.now })
+        out.old out.new result.status result.len (IsUnsaidBy name.now name.now) }
+    ensures dead { from.now ≢ name.now
+        → SaidOr (record { claim = Confirm name.now inc; from = from.now })
+        out.old out.new result.status result.len (IsUnsaidBy from.now name.now) }
+{
+    say_dead_of(alloc, from, name, inc, out)
 }
 
 /// Writes packets to the buffer as one compound packet, each in its canonical bytes. The bytes hold

@@ -16,14 +16,15 @@ use std::alloc::Global;
 
 /// Writes the dump of the node's table, with this join flag, to the buffer: the offer that begins
 /// an exchange (memberlist's `net.go`). Form 0 is the canonical dump of all that the table keeps,
-/// and form 1 the dump that memberlist merges. The node does not change.
+/// without user state, and form 1 the dump that memberlist merges, with this user state of at most
+/// 20,971,520 bytes. The node does not change.
 ///
 /// # Statuses
 ///
 /// If the status is not 0, the buffer is unchanged.
 ///
 /// - 64 if the handle has no node.
-/// - 70 if the form is neither.
+/// - 70 if the form is neither, or 0 with user state; 21 if there is too much of that.
 /// - 23 if the dump has more than 131,072 records.
 /// - 66 if the buffer is too small. The length is then that of the dump.
 ///
@@ -34,18 +35,19 @@ pub extern "C" fn swimtab_raw_offer(
     node: &mut Handle,
     join: bool,
     form: u32,
+    user: &[u8],
     out: &mut [u8],
 ) -> Written
     ensures tells { OnSame node.old.node node.new.node
         ((result ≡ record { status = statuses.no_node; len = 0 }) × (out.new ≡ out.old))
-        (λ held. OfferedInForm form held.table join
+        (λ held. OfferedInForm form user.now held.table join
         out.old out.new result.status result.len) }
     ensures noted { node.new.changes ≡ node.old.changes }
 {
     let Some(held) = node.take(alloc) else {
         return Written::refused(NO_NODE);
     };
-    let written = offer_in_form(&held.node, join, form, out);
+    let written = offer_in_form(&held.node, join, form, user, out);
     node.put(held);
     written
 }
@@ -53,14 +55,14 @@ pub extern "C" fn swimtab_raw_offer(
 /// Answers an offer: reads one stream from the start of the bytes, writes the dump of the node's
 /// table as it was before, with the stream's join flag, to the buffer, and takes the stream's
 /// claims in (memberlist's `net.go`). Form 0 is the canonical dump, and form 1 the dump that
-/// memberlist merges.
+/// memberlist merges, with this user state.
 ///
 /// # Statuses
 ///
 /// If the status is not 0, the node and the buffer are unchanged.
 ///
 /// - 64 if the handle has no node.
-/// - 70 if the form is neither.
+/// - 70 if the form is neither, or 0 with user state; 21 if there is too much of that.
 /// - 1 to 21 if the bytes do not begin with a stream: the fault at which reading stops.
 /// - 23 if the dump has more than 131,072 records.
 /// - 66 if the buffer is too small. The length is then that of the reply.
@@ -72,13 +74,14 @@ pub extern "C" fn swimtab_raw_answer(
     node: &mut Handle,
     stream: &[u8],
     form: u32,
+    user: &[u8],
     out: &mut [u8],
 ) -> Exchanged
     ensures answers { OnNode node.old.node node.new.node
         ((result
         ≡ record { status = statuses.no_node; join = false; news = false; used = 0; len = 0 })
         × (out.new ≡ out.old))
-        (AnsweredInForm form stream.now
+        (AnsweredInForm form user.now stream.now
         out.old out.new result.status result.join result.used result.len) }
     ensures news { OnNode node.old.node node.new.node
         (result.news ≡ false) (TellsNews result.status result.news) }
@@ -89,7 +92,7 @@ pub extern "C" fn swimtab_raw_answer(
     let Some(mut held) = node.take(alloc) else {
         return Exchanged::refused(NO_NODE);
     };
-    let exchanged = answer_in_form(alloc, &mut held, stream, form, out);
+    let exchanged = answer_in_form(alloc, &mut held, stream, form, user, out);
     node.put(held);
     exchanged
 }

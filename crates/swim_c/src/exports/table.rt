@@ -1,9 +1,10 @@
 //! What a node knows.
 
-ghost use Rattle.std.specs.Prelude.{◌≡◌, ◌⊎◌, length, slice_get, Some, None, MatchOption};
+ghost use Rattle.std.specs.Prelude.{◌≡◌, ◌⊎◌, ◌+◌, length, slice_get, Some, None, MatchOption};
 ghost use Rattle.swim_table.specs.Listing.{listing};
+ghost use Rattle.swim_table.specs.MemberlistDump.{told_of};
 ghost use Rattle.swim_table.specs.Node.{NodeValue};
-ghost use Rattle.swim_table.specs.Table.{get};
+ghost use Rattle.swim_table.specs.Table.{after, get};
 ghost use Rattle.swim_c.specs.Buffers.{WrittenOr, IsNoMemory};
 ghost use Rattle.swim_c.specs.Members.{MemberDone};
 ghost use Rattle.swim_c.specs.OnNode.{OnSame};
@@ -13,7 +14,7 @@ ghost use Rattle.swim_c.specs.Statuses as statuses;
 use crate::copy::Written;
 use crate::handle::Handle;
 use crate::member::Member;
-use crate::query::{list_out, member_at, member_named, relation_of};
+use crate::query::{left_out, list_out, member_after, member_at, member_named, relation_of};
 use crate::status::{DONE, NO_NODE};
 use std::alloc::Global;
 
@@ -88,6 +89,55 @@ pub extern "C" fn swimtab_raw_find(
     let status = member_named(&held.node, name, member);
     node.put(held);
     status
+}
+
+/// Copies what the node knows about the member of the first name above this one, in byte order,
+/// whether or not the node knows this one. So a walk goes on from the name where it was, whatever
+/// changed in between; it begins with an empty name.
+///
+/// # Statuses
+///
+/// If the status is not 0, `member` is unchanged.
+///
+/// - 64 if the handle has no node.
+/// - 67 if no name is above this one.
+#[unsafe(no_mangle)]
+pub extern "C" fn swimtab_raw_after(
+    alloc: Global,
+    node: &mut Handle,
+    name: &[u8],
+    member: &mut Member,
+) -> u32
+    ensures tells { OnSame node.old.node node.new.node
+        ((result ≡ statuses.no_node) × (member.new ≡ member.old))
+        (λ held. MemberDone (after held.table name.now) member.old member.new result) }
+    ensures noted { node.new.changes ≡ node.old.changes }
+{
+    let Some(held) = node.take(alloc) else {
+        return NO_NODE;
+    };
+    let status = member_after(&held.node, name, member);
+    node.put(held);
+    status
+}
+
+/// How many members a dump of form 1 leaves out, because no Alive of them with sound versions is
+/// known; 0 if the handle has no node.
+#[unsafe(no_mangle)]
+pub extern "C" fn swimtab_raw_left_out(alloc: Global, node: &mut Handle) -> usize
+    ensures same { node.new.node ≡ node.old.node }
+    ensures noted { node.new.changes ≡ node.old.changes }
+    ensures count { MatchOption node.old.node (result ≡ 0)
+        (λ held. result + length (told_of held.table) ≡ length held.table) }
+{
+    match node.take(alloc) {
+        Some(held) => {
+            let count = left_out(&held.node);
+            node.put(held);
+            count
+        }
+        None => 0,
+    }
 }
 
 /// Writes the listing of the node's table to the buffer (docs/PROTOCOL.md).

@@ -6,7 +6,7 @@ ghost use Rattle.std.specs.Prelude.{◌≡◌};
 /// the patch version.
 #[unsafe(no_mangle)]
 pub extern "C" fn swimtab_raw_version() -> u32
-    ensures { result ≡ 200 }
+    ensures { result ≡ 300 }
 {
-    200
+    300
 }

@@ -1,5 +1,6 @@
 use Rattle.std.proofs.Common.{Err, ap, rules}
 use Rattle.std.proofs.lemmas.Result.{err_from_is_err_and}
+use Rattle.swim_c.specs.Forms.{wanted}
 use Rattle.swim_c.proofs.Faults.{stream_unread, reply_refused}
 use Rattle.swim_c.proofs.Halves.{took}
 use Rattle.swim_c.proofs.filling.try_answer_new.Goals as goal
@@ -9,7 +10,7 @@ returns-in_err-offered-clause-refused c =
     let p = err_from_is_err_and c.from_residual.result c.from_residual.ensures.1 in
     let why = c.in_err-offered.ensures in
     rw (p.1, p.2)
-    (stream_unread c.args.form c.args.stream.now c.new-inlet.result c.read_stream.new.inlet c.args.held.now.node.table c.in_err-offered.field-0.0
+    (stream_unread (wanted c.args.form c.args.user.now) c.args.stream.now c.new-inlet.result c.read_stream.new.inlet c.args.held.now.node.table c.in_err-offered.field-0.0
     c.new-inlet.ensures why.lacks why.reason (λ e. why.fault (ap Err e)))
 
 pub returns-in_err-reply-clause-refused : goal.returns-in_err-reply-clause-refused
@@ -17,7 +18,7 @@ returns-in_err-reply-clause-refused c =
     let p = err_from_is_err_and c.from_residual-in_err-reply.result c.from_residual-in_err-reply.ensures.1 in
     let why = c.in_err-reply.ensures in
     rw (p.1, p.2)
-    (reply_refused c.args.form c.args.stream.now c.new-inlet.result c.read_stream.new.inlet c.in_ok-offered.offered c.args.held.now.node.table
+    (reply_refused (wanted c.args.form c.args.user.now) c.args.stream.now c.new-inlet.result c.read_stream.new.inlet c.in_ok-offered.offered c.args.held.now.node.table
     c.table.result.now c.in_ok-offered.join c.in_err-reply.field-0.0
     c.new-inlet.ensures c.table.ensures.table c.in_ok-offered.ensures.takes (λ e. why.too_many.0 (ap Err e)))
 

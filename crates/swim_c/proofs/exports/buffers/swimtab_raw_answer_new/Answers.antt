@@ -9,7 +9,7 @@ returns-clause-answers c =
     let r = c.answer_new-exchanged.result in let buffer = c.answer_new-exchanged.new.buffer in
     on_node c.args.node.now.node c.put.new.self.node
     ((r ≡ record { status = 64; join = false; news = false; used = 0; len = 0 }) × (buffer ≡ c.args.buffer.now))
-    (AnsweredNew c.args.form c.args.stream.now c.args.buffer.now buffer r.status r.join r.used r.len)
+    (AnsweredNew c.args.form c.args.user.now c.args.stream.now c.args.buffer.now buffer r.status r.join r.used r.len)
     c.deref_mut.result.now.node c.answer_new-exchanged.new.held.node (search rules) (search rules) c.answer_new-exchanged.ensures.answers
 
 pub returns-clause-news : goal.returns-clause-news

@@ -9,7 +9,7 @@ returns-clause-answers c =
     let r = c.answer_in_form-exchanged.result in let out = c.answer_in_form-exchanged.new.out in
     on_node c.args.node.now.node c.put.new.self.node
     ((r ≡ record { status = 64; join = false; news = false; used = 0; len = 0 }) × (out ≡ c.args.out.now))
-    (AnsweredInForm c.args.form c.args.stream.now c.args.out.now out r.status r.join r.used r.len)
+    (AnsweredInForm c.args.form c.args.user.now c.args.stream.now c.args.out.now out r.status r.join r.used r.len)
     c.deref_mut.result.now.node c.answer_in_form-exchanged.new.held.node (search rules) (search rules) c.answer_in_form-exchanged.ensures.answers
 
 pub returns-clause-news : goal.returns-clause-news

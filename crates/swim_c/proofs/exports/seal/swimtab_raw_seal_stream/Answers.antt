@@ -2,7 +2,7 @@ use Rattle.std.proofs.Common.{rules}
 use Rattle.std.specs.Prelude.{MatchBool}
 use Rattle.swim_c.specs.Sealing.{StreamSealed, ReplySealed}
 use Rattle.swim_c.proofs.Unwrappings.{without_keys, with_keys}
-use Rattle.swim_c.proofs.exports.wrapped.swimtab_raw_seal_stream.Goals as goal
+use Rattle.swim_c.proofs.exports.seal.swimtab_raw_seal_stream.Goals as goal
 
 pub returns-in_default-clause-seals : goal.returns-in_default-clause-seals
 returns-in_default-clause-seals c =

@@ -1,7 +1,7 @@
 use Rattle.std.proofs.Common.{rules}
 use Rattle.swim_c.specs.Sealing.{PacketSealed}
 use Rattle.swim_c.proofs.Unwrappings.{without_keys, with_keys}
-use Rattle.swim_c.proofs.exports.wrapped.swimtab_raw_seal.Goals as goal
+use Rattle.swim_c.proofs.exports.seal.swimtab_raw_seal.Goals as goal
 
 pub returns-in_default-clause-seals : goal.returns-in_default-clause-seals
 returns-in_default-clause-seals c =

@@ -1,0 +1,16 @@
+use Rattle.std.proofs.Common.{◌≡◌, ◌+◌, ◌++◌, length, arith, length-append, ap, ◌∙◌}
+use Rattle.swim_c.proofs.PartsAt.{next_same, next_behind, part_here}
+use Rattle.swim_c.proofs.parts.span_among.Goals as goal
+
+pub loop-left-preserved : goal.loop-left-preserved
+loop-left-preserved c =
+    let was = c.loop-left.invariant in
+    let part = c.in_ok-at.field-0.now in
+    let rest = c.next_part.new.self.bytes in
+    let long = ap length c.in_ok-at.ensures.bytes ∙ length-append part rest in
+    record {
+      same = was.same ∙ next_same _ _ part c.loop-left.left c.in_ok-at.ensures.part c.loop-left-test.true;
+      count = omega (arith, was.count, ap length c.in_ok-at.ensures.part, c.loop-left-test.true);
+      behind = next_behind _ _ rest part c.loop-left.at was.behind c.in_ok-at.ensures.bytes;
+      within = omega (arith, was.within, long);
+    }
