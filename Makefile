@@ -2,7 +2,7 @@
 # cluster; swimunwrap: what its members send, without wrappers.
 #
 #   make            builds the programs (build/swimwatch, build/swimtab and build/swimunwrap) and the
-#                   library for C (build/libswimtab.a and, if there is a C compiler, build/libswimtab.so)
+#                   library for C, if there is a C compiler (build/libswimtab.a and build/libswimtab.so)
 #   make run        lists examples/packets.hex within a minute or two, before any proof; then proves and
 #                   builds only swimtab, and lists the same file with it
 #   make test       runs the gate: all proofs from nothing, and all tests; README says how long it takes
@@ -30,8 +30,8 @@ LD ?= ld
 NM ?= nm
 OBJCOPY ?= objcopy
 SOURCES := $(shell find crates -type f -not -path '*/out/*') crates.txt HANDLES
-SONAME := libswimtab.so.1
-calls := $(shell sed -n 's/^static inline [a-z0-9_ ]*[ *]\(swimtab_[a-z_]*\).*/\1/p' include/swimtab.h)
+SONAME := libswimtab.so.2
+calls := $(shell sed -n 's/^[a-z][a-z0-9_ ]*[ *]\(swimtab_[a-z_]*\)[^a-z_ ;].*/\1/p' include/swimtab.h)
 VERSION := $(shell sed -n 's/^.define SWIMTAB_VERSION "\(.*\)"/\1/p' include/swimtab.h)
 
 .PHONY: all programs library run test wrong-bodies bench install install-programs install-library uninstall \
@@ -43,9 +43,9 @@ all: programs library
 
 programs: $(programs:%=build/%)
 
-library: build/libswimtab.a
+library:
 	@if command -v $(CC) > /dev/null; then $(MAKE) --no-print-directory build/libswimtab.so; \
-	else echo 'there is no $(CC), so build/libswimtab.so is not built'; fi
+	else echo 'there is no $(CC), so the library is not built'; fi
 
 build/swimbench: words := -- check
 build/swimwatch: words := -- members ../../examples/serf.pcap
@@ -54,21 +54,22 @@ $(programs:%=build/%) build/swimbench: build/%: $(SOURCES) | kit
 	@.ci/prove $* rt run $(words)
 	@cp crates/$*/out/$* build/$*
 
-# One object from the crate's archive and the kit's few functions that call malloc, realloc and free. It exports
-# only the functions of the header.
-build/libswimtab.a: $(SOURCES) | kit
+# One object from library/swimtab.c, the crate's archive and the kit's few functions that call malloc, realloc and
+# free. It exports only the functions of the header.
+build/libswimtab.a: $(SOURCES) include/swimtab.h library/swimtab.c library/raw.h | kit
 	@echo 'proving and building swim_c and the libraries that it uses; the first time, each takes some minutes'
 	@.ci/prove swim_c rt lib
 	@rm -f $@ build/libswimtab.o
-	@$(LD) -r --gc-sections -o build/libswimtab.o \
-		$$($(NM) -g --defined-only crates/swim_c/out/libswim_c.a | sed -n 's/.* \(swimtab_raw_.*\)/-u \1/p') \
+	$(CC) -std=c99 -O2 -fPIC -Iinclude -c library/swimtab.c -o build/calls.o
+	@printf '%s\n' $(calls) > build/calls
+	@$(LD) -r --gc-sections -o build/libswimtab.o $(calls:%=-u %) build/calls.o \
 		crates/swim_c/out/libswim_c.a "$$(dirname "$$(rt doc)")/c/liblibc_c.a"
-	@$(OBJCOPY) --wildcard --keep-global-symbol='swimtab_raw_*' build/libswimtab.o
+	@$(OBJCOPY) --keep-global-symbols=build/calls build/libswimtab.o
 	@$(AR) rcs $@ build/libswimtab.o
-	@rm -f build/libswimtab.o
+	@rm -f build/libswimtab.o build/calls.o build/calls
 
 build/libswimtab.so: build/libswimtab.a
-	@echo '{ global: swimtab_raw_*; local: *; };' > build/libswimtab.map
+	@echo '{ global: swimtab_*; local: *; };' > build/libswimtab.map
 	$(CC) -shared -o $@ -Wl,-soname,$(SONAME) -Wl,--version-script=build/libswimtab.map \
 		-Wl,--gc-sections -Wl,--whole-archive $< -Wl,--no-whole-archive
 	@rm -f build/libswimtab.map

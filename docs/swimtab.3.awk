@@ -1,7 +1,6 @@
 # Writes the man page of the library from the comments of its header:
-#   awk -v version=0.2.0 -f docs/swimtab.3.awk include/swimtab.h > swimtab.3
-# A comment tells of the declarations that follow it, up to the next comment. What the functions of the archive,
-# swimtab_raw_.., are to other languages stays in the header.
+#   awk -v version=0.3.0 -f docs/swimtab.3.awk include/swimtab.h > swimtab.3
+# A comment tells of the declarations that follow it, up to the next comment.
 
 # shown is a line as troff prints it.
 function shown(line) {
@@ -87,9 +86,6 @@ inside {
     next
 }
 
-/swimtab_raw_[a-z_]*\(/ && !within { raw = 1; text = "" }
-raw { raw = !/;$/; next }
-
 /^(typedef )?(struct|enum)|^#define SWIMTAB_[A-Z_]* / { listed = 1 }
 listed {
     declare($0)
@@ -97,32 +93,14 @@ listed {
     next
 }
 
-/^static inline / {
-    sub(/^static inline /, "")
+/^[a-z].*swimtab_[a-z_]*\(/ {
     match($0, /swimtab_[a-z_]*\(/)
-    name = substr($0, RSTART, RLENGTH - 1)
-    again = name in shown_names
-    shown_names[name]
+    names = names (names == "" ? "" : ", ") substr($0, RSTART, RLENGTH - 1)
     within = 1
-    open = 1
-}
-again {
-    again = !/^}/
-    within = 0
-    next
 }
 within {
-    if (open) {
-        # the lines of a declaration stand below each other without its first two words too
-        if (substr($0, 1, 14) ~ /^ +$/)
-            $0 = substr($0, 15)
-        open = !/[{;]$/
-        declare(open ? $0 : substr($0, 1, length($0) - (/;$/ ? 1 : 2)) ";")
-        if (match($0, /swimtab_[a-z_]*\(/))
-            names = names (names == "" ? "" : ", ") substr($0, RSTART, RLENGTH - 1)
-    }
-    if (/^}/ || (!open && /;$/ && !/^ /))
-        within = 0
+    declare($0)
+    within = !/;$/
 }
 
 END {

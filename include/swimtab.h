@@ -1,14 +1,18 @@
 /* swimtab.h: the membership table of a SWIM cluster, over memberlist's messages, for C and C++.
  *
  *     swimtab_node node = SWIMTAB_NODE_INIT;
- *     uint32_t status = swimtab_open(&node, name, 2, addr, 4, 7946, NULL, 0, NULL, 0, 1);
+ *     swimtab_details details = SWIMTAB_DETAILS_INIT;
+ *     details.name = "n1", details.name_len = 2;
+ *     details.addr = "\x7f\0\0\x01", details.addr_len = 4, details.port = 7946;
+ *     swimtab_status status = swimtab_open(&node, &details);
  *     swimtab_taken taken = swimtab_take(&node, packet, packet_len);
  *     status = swimtab_close(&node);
  *
  * A node is what one member of a cluster knows: who it is, and a table of all members that it has
  * heard of. The library has no sockets, timers, threads or failure detector. The program passes in
  * the bytes that it received, and sends the bytes that a call writes. docs/EMBEDDING.md is the guide;
- * docs/PROTOCOL.md has the rules, the bytes, the limits and the faults.
+ * docs/PROTOCOL.md has the rules, the bytes, the limits and the faults. It is for C99 and later, and for
+ * C++98 and later.
  *
  * What every call guarantees
  *
@@ -19,17 +23,19 @@
  *   SWIMTAB_TOO_SMALL and `len` is the length needed, so a buffer of length 0 asks for the length.
  *   Bytes of a buffer past those written are unchanged.
  * - A NULL pointer to bytes is a buffer of length 0, whatever length is passed with it. A NULL
- *   handle is an empty one.
+ *   handle is an empty one. What NULL means in another place is said where the call is.
  * - Memory comes from malloc and realloc only. If they refuse, the status is SWIMTAB_MEMORY, and the
- *   call may be repeated. No call asks for memory by a number that its input claims.
+ *   call may be repeated. No call asks for memory by a number that its input claims. A program with
+ *   an allocator of its own gives it these names when it links.
  *
  * What the caller must ensure, and nothing checks
  *
  * - A handle starts as SWIMTAB_NODE_INIT (all bytes zero), and only calls write to it. It may be
  *   moved in memory between calls, but after a copy only one of the two may be used.
  * - A handle is used by one call at a time, even by calls that only read it and take it as const:
- *   swimtab_count as much as swimtab_take. It may move from thread to thread if a lock, or starting
- *   or joining a thread, orders the calls. Different handles need no lock.
+ *   swimtab_count as much as swimtab_take, and swimtab_unwrap of one keyring. It may move from thread
+ *   to thread if a lock, or starting or joining a thread, orders the calls. Different handles need no
+ *   lock: threads that decrypt side by side have keyrings of their own.
  * - A buffer that a call writes overlaps nothing else that is passed to the call.
  * - A length passed with a pointer that is not NULL is at most that of its memory, and below 2^63.
  * - malloc, realloc and free belong to one allocator, whose memory is aligned to 16 bytes.
@@ -48,30 +54,32 @@ extern "C" {
 
 /* The version, as `swimtab --version` prints it. */
 #define SWIMTAB_VERSION_MAJOR 0
-#define SWIMTAB_VERSION_MINOR 2
+#define SWIMTAB_VERSION_MINOR 3
 #define SWIMTAB_VERSION_PATCH 0
-#define SWIMTAB_VERSION "0.2.0"
+#define SWIMTAB_VERSION "0.3.0"
 
 /* The version as one number: 10,000 * major + 100 * minor + patch. */
-#define SWIMTAB_VERSION_NUMBER 200
+#define SWIMTAB_VERSION_NUMBER 300
 
-/* The length of the longest packet that swimtab_alive, .._alive_of, .._suspect, .._confirm and .._leave
- * write. */
-#define SWIMTAB_MAX_PACKET_LEN 2083
+/* The length of the longest packet that swimtab_alive, .._suspect, .._confirm, .._leave, .._ping_of and
+ * the like write; an ack and a user message may be longer. */
+#define SWIMTAB_MAX_PACKET_LEN 2163
 
 /* The version of the linked library, in the form of SWIMTAB_VERSION_NUMBER, which is that of this header.
- * From 0.2 on, as long as the name of the shared library ends in .so.1, calls are only added, and structs
- * grow only into their reserved room. */
-static inline uint32_t swimtab_version(void);
+ * From 0.3 on, as long as the name of the shared library ends in .so.2, calls are only added, and structs
+ * grow only into their reserved room, or at their end if they begin with their size. */
+uint32_t swimtab_version(void);
 
-/* A handle: it holds a node, or is empty. Its contents belong to the library. */
+/* A handle: it holds a node, or is empty. Its contents belong to the library, but `user` is the
+ * program's, and no call reads or writes it. */
 typedef struct swimtab_node {
     void *at;
     bool held;
+    void *user;
 } swimtab_node;
 
 /* An empty handle: swimtab_node node = SWIMTAB_NODE_INIT; */
-#define SWIMTAB_NODE_INIT {NULL, false}
+#define SWIMTAB_NODE_INIT {NULL, false, NULL}
 
 /* A handle that holds a cluster's keys, or is empty. Its contents belong to the library. */
 typedef struct swimtab_keyring {
@@ -82,14 +90,33 @@ typedef struct swimtab_keyring {
 /* An empty keyring: swimtab_keyring keyring = SWIMTAB_KEYRING_INIT; */
 #define SWIMTAB_KEYRING_INIT {NULL, false}
 
+/* What a member says about itself. A name has 1 to 1,024 bytes of any values, an address 4 or 16, the
+ * metadata up to 512, and the versions 0 or 6 (memberlist accepts only members with 6). It starts as
+ * SWIMTAB_DETAILS_INIT, which sets `size`, so that later versions may add fields at the end. */
+typedef struct swimtab_details {
+    size_t size; /* sizeof(swimtab_details) */
+    const void *name;
+    size_t name_len;
+    const void *addr;
+    size_t addr_len;
+    const void *meta;
+    size_t meta_len;
+    const void *vsn;
+    size_t vsn_len;
+    uint32_t inc; /* the incarnation */
+    uint16_t port;
+} swimtab_details;
+
+#define SWIMTAB_DETAILS_INIT {sizeof(swimtab_details), NULL, 0, NULL, 0, NULL, 0, NULL, 0, 1, 0}
+
 /* The length of a nonce in bytes. */
 #define SWIMTAB_NONCE_LEN 12
 
 /* The status of a call: 0, the number of a fault in docs/PROTOCOL.md, or, from 64 on, a status of the
  * library itself. */
-enum {
+typedef enum swimtab_status {
     SWIMTAB_DONE = 0,
-    SWIMTAB_ENDED = 1,             /* the bytes end too soon */
+    SWIMTAB_ENDED = 1,             /* the bytes end too soon: of a stream, more may help */
     SWIMTAB_NOT_UNSIGNED = 2,      /* expected a number that is not negative */
     SWIMTAB_OUT_OF_RANGE = 3,      /* a number is above the maximum of its field */
     SWIMTAB_NOT_BOOL = 4,          /* expected a boolean */
@@ -108,7 +135,7 @@ enum {
     SWIMTAB_DUPLICATE_KEY = 18,    /* a map has a key twice */
     SWIMTAB_BAD_STATE = 19,        /* a state is not 0, 1, 2 or 3 */
     SWIMTAB_TOO_MANY_NODES = 20,   /* a stream announces more than 131,072 members */
-    SWIMTAB_USER_TOO_LONG = 21,    /* a stream announces more than 20,971,520 bytes of user state */
+    SWIMTAB_USER_TOO_LONG = 21,    /* a stream has more than 20,971,520 bytes of user state */
     SWIMTAB_TRAILING = 22,         /* bytes follow the end */
     SWIMTAB_TOO_MANY_RECORDS = 23, /* a table has more than 131,072 records, too many for a stream */
     SWIMTAB_EXHAUSTED = 24,        /* there is no greater incarnation */
@@ -137,8 +164,12 @@ enum {
     SWIMTAB_NO_MEMBER = 67,        /* there is no member at this index, or of this name */
     SWIMTAB_OWN_NAME = 68,         /* a member does not declare itself dead; it leaves */
     SWIMTAB_TOO_MANY_PACKETS = 69, /* there are more than 255 packets for one compound packet */
-    SWIMTAB_BAD_FORM = 70          /* the form of a stream is not 0 or 1 */
-};
+    SWIMTAB_BAD_FORM = 70,         /* the form of a stream is not 0 or 1, or has no user state */
+    SWIMTAB_NO_ITEM = 71,          /* there is no key or part at this index */
+    SWIMTAB_KEY_IN_USE = 72,       /* the first key encrypts, so it is not removed */
+    SWIMTAB_NOT_BACK = 73,         /* the member has not come back */
+    SWIMTAB_BAD_SIZE = 74          /* the size of a struct is not that of any version */
+} swimtab_status;
 
 /* A member's state. */
 enum { SWIMTAB_ALIVE = 0, SWIMTAB_SUSPECT = 1, SWIMTAB_CONFIRM = 2, SWIMTAB_LEAVE = 3 };
@@ -147,27 +178,78 @@ enum { SWIMTAB_ALIVE = 0, SWIMTAB_SUSPECT = 1, SWIMTAB_CONFIRM = 2, SWIMTAB_LEAV
  * something that the other one does not have. */
 enum { SWIMTAB_EQUAL = 0, SWIMTAB_BEHIND = 1, SWIMTAB_AHEAD = 2, SWIMTAB_APART = 3 };
 
-/* The form of a stream to write. SWIMTAB_CANONICAL: all that the table keeps, in canonical bytes.
- * SWIMTAB_MEMBERLIST: a stream that memberlist merges. memberlist refuses a whole stream if one of its
- * records has no versions, so in this form each record has the newest address, port, metadata and
- * versions of its member, and members without an address are left out. */
+/* The form of a stream to write. SWIMTAB_CANONICAL: all that the table keeps, in canonical bytes, and no
+ * user state. SWIMTAB_MEMBERLIST: a stream that memberlist merges, with one record for each member: its
+ * state, or its newest Alive if it came back, with the newest address, port, metadata and versions.
+ * memberlist refuses a whole stream if one of its records has no versions, or unsound ones, so members of
+ * which no sound ones are known are left out; swimtab_left_out tells how many. */
 enum { SWIMTAB_CANONICAL = 0, SWIMTAB_MEMBERLIST = 1 };
+
+/* The kind of a message: its first byte, as in memberlist's net.go. */
+enum {
+    SWIMTAB_KIND_PING = 0,
+    SWIMTAB_KIND_INDIRECT = 1, /* asks a member to ping another one */
+    SWIMTAB_KIND_ACK = 2,
+    SWIMTAB_KIND_SUSPECT = 3,
+    SWIMTAB_KIND_ALIVE = 4,
+    SWIMTAB_KIND_DEAD = 5,
+    SWIMTAB_KIND_PUSH_PULL = 6,
+    SWIMTAB_KIND_COMPOUND = 7,
+    SWIMTAB_KIND_USER = 8, /* the bytes behind the first are the program's */
+    SWIMTAB_KIND_NACK = 11,
+    SWIMTAB_KIND_ERROR = 13
+};
 
 /* The result of taking in a packet or compound packet. */
 typedef struct swimtab_taken {
-    uint32_t status;
+    swimtab_status status;
     bool news; /* whether the table changed; false if the status is not 0 */
 } swimtab_taken;
 
 /* The result of writing bytes. */
 typedef struct swimtab_written {
-    uint32_t status;
+    swimtab_status status;
     size_t len; /* how many were written or, with SWIMTAB_TOO_SMALL, are needed; otherwise 0 */
 } swimtab_written;
 
+/* The result of unwrapping. */
+typedef struct swimtab_unwrapped {
+    swimtab_status status;
+    uint32_t kind; /* with SWIMTAB_DONE and SWIMTAB_TOO_SMALL: SWIMTAB_KIND_..; otherwise 0 */
+    size_t len;    /* the length of the message, as in swimtab_written */
+} swimtab_unwrapped;
+
+/* Where a part of a message is. */
+typedef struct swimtab_part_place {
+    swimtab_status status;
+    uint32_t kind; /* the first byte of the part, or 0 if it has none */
+    size_t at;     /* its offset in the message */
+    size_t len;    /* its length */
+} swimtab_part_place;
+
+/* What a ping, an indirect ping, an ack or a nack says. What it has not is 0. */
+typedef struct swimtab_probe {
+    size_t payload_len;      /* of an ack; `payload` has its first 1,024 bytes */
+    uint32_t kind;           /* SWIMTAB_KIND_PING, .._INDIRECT, .._ACK or .._NACK */
+    uint32_t seq;            /* the number that the ack and the nack repeat */
+    uint16_t port;           /* of an indirect ping: the port of the member to ping */
+    uint16_t source_port;    /* the port of the member that asks */
+    uint16_t node_len;       /* the name of the member to ping: 0 to 1,024 */
+    uint16_t source_len;     /* the name of the member that asks */
+    uint8_t addr_len;        /* of an indirect ping: the address of the member to ping: 0, 4 or 16 */
+    uint8_t source_addr_len; /* the address of the member that asks */
+    bool nack;               /* of an indirect ping: whether a nack is wanted */
+    uint8_t addr[16];
+    uint8_t source_addr[16];
+    uint8_t node[1024];
+    uint8_t source[1024];
+    uint8_t payload[1024];
+    uint8_t reserved[32]; /* zeros, for later versions */
+} swimtab_probe;
+
 /* The result of taking in a stream. Unless the status is SWIMTAB_DONE or SWIMTAB_TOO_SMALL, all else is 0. */
 typedef struct swimtab_exchanged {
-    uint32_t status;
+    swimtab_status status;
     bool join;   /* the join flag of the stream that was read */
     bool news;   /* whether the table changed; false unless the status is SWIMTAB_DONE */
     size_t used; /* the length of the stream; bytes after it were not read */
@@ -176,14 +258,14 @@ typedef struct swimtab_exchanged {
 
 /* The result of a refutation. */
 typedef struct swimtab_refuted {
-    uint32_t status;
+    swimtab_status status;
     bool due;     /* whether there was something to refute, which is now refuted */
     uint32_t inc; /* if so, the incarnation at which the member is alive again; otherwise 0 */
 } swimtab_refuted;
 
 /* The result of a comparison. */
 typedef struct swimtab_related {
-    uint32_t status;
+    swimtab_status status;
     uint32_t relation; /* SWIMTAB_EQUAL, .._BEHIND, .._AHEAD or .._APART; 0 if the status is not 0 */
 } swimtab_related;
 
@@ -236,96 +318,29 @@ typedef struct swimtab_progress {
 
 #define SWIMTAB_PROGRESS_INIT {0, 0, 0, false}
 
-/* The functions of the archive, for languages other than C and C++. They do what the functions below do,
- * but no pointer passed to them may be NULL, not even with length 0, and swimtab_raw_relate takes two
- * different handles. */
-uint32_t swimtab_raw_open(swimtab_node *node, const void *name, size_t name_len,
-                          const void *addr, size_t addr_len, uint16_t port, const void *meta,
-                          size_t meta_len, const void *vsn, size_t vsn_len, uint32_t inc);
-uint32_t swimtab_raw_close(swimtab_node *node);
-uint32_t swimtab_raw_version(void);
-swimtab_taken swimtab_raw_take(swimtab_node *node, const void *bytes, size_t len);
-swimtab_written swimtab_raw_offer(const swimtab_node *node, bool join, uint32_t form, void *out,
-                                  size_t out_len);
-swimtab_exchanged swimtab_raw_answer(swimtab_node *node, const void *stream, size_t len,
-                                     uint32_t form, void *out, size_t out_len);
-swimtab_exchanged swimtab_raw_finish(swimtab_node *node, const void *stream, size_t len);
-swimtab_refuted swimtab_raw_refute(swimtab_node *node);
-swimtab_written swimtab_raw_alive_of(const void *name, size_t name_len, const void *addr,
-                                     size_t addr_len, uint16_t port, const void *meta,
-                                     size_t meta_len, const void *vsn, size_t vsn_len, uint32_t inc,
-                                     void *out, size_t out_len);
-swimtab_written swimtab_raw_alive(const swimtab_node *node, uint32_t inc, void *out, size_t out_len);
-swimtab_written swimtab_raw_suspect(const swimtab_node *node, const void *name, size_t name_len,
-                                    uint32_t inc, void *out, size_t out_len);
-swimtab_written swimtab_raw_confirm(const swimtab_node *node, const void *name, size_t name_len,
-                                    uint32_t inc, void *out, size_t out_len);
-swimtab_written swimtab_raw_leave(const swimtab_node *node, uint32_t inc, void *out, size_t out_len);
-swimtab_written swimtab_raw_compound(const void *packets, size_t len, const size_t *lens,
-                                     size_t count, void *out, size_t out_len);
-uint32_t swimtab_raw_forget(swimtab_node *node, const void *name, size_t name_len);
-uint32_t swimtab_raw_offer_new(const swimtab_node *node, bool join, uint32_t form,
-                               swimtab_buffer *buffer);
-swimtab_exchanged swimtab_raw_answer_new(swimtab_node *node, const void *stream, size_t len,
-                                         uint32_t form, swimtab_buffer *buffer);
-uint32_t swimtab_raw_list_new(const swimtab_node *node, swimtab_buffer *buffer);
-void swimtab_raw_free(swimtab_buffer *buffer);
-uint32_t swimtab_raw_whole(swimtab_progress *progress, const void *bytes, size_t len);
-uint32_t swimtab_raw_watch(swimtab_node *node, bool on);
-uint32_t swimtab_raw_next_change(swimtab_node *node, swimtab_member_data *member);
-size_t swimtab_raw_count(const swimtab_node *node);
-uint32_t swimtab_raw_member(const swimtab_node *node, size_t i, swimtab_member_data *member);
-uint32_t swimtab_raw_find(const swimtab_node *node, const void *name, size_t name_len,
-                          swimtab_member_data *member);
-swimtab_written swimtab_raw_list(const swimtab_node *node, void *out, size_t out_len);
-swimtab_related swimtab_raw_relate(const swimtab_node *first, const swimtab_node *second);
-uint32_t swimtab_raw_keyring_add(swimtab_keyring *keyring, const void *key, size_t key_len);
-uint32_t swimtab_raw_keyring_accept_clear(swimtab_keyring *keyring);
-uint32_t swimtab_raw_keyring_close(swimtab_keyring *keyring);
-swimtab_written swimtab_raw_unwrap(const swimtab_keyring *keyring, const void *packet, size_t len,
-                                   void *out, size_t out_len);
-swimtab_written swimtab_raw_unwrap_stream(const swimtab_keyring *keyring, const void *label,
-                                          size_t label_len, const void *stream, size_t len, void *out,
-                                          size_t out_len);
-swimtab_written swimtab_raw_seal(const swimtab_keyring *keyring, const void *nonce, const void *label,
-                                 size_t label_len, const void *message, size_t len, void *out,
-                                 size_t out_len);
-swimtab_written swimtab_raw_seal_stream(const swimtab_keyring *keyring, const void *nonce,
-                                        const void *label, size_t label_len, bool reply,
-                                        const void *message, size_t len, void *out, size_t out_len);
-
-static inline uint32_t swimtab_version(void) {
-    return swimtab_raw_version();
-}
-
 /* ------------------------------------------------------------------ opening and closing */
 
-/* Opens a node in an empty handle: the member of this name, alive at the incarnation `inc`, which knows
- * of nobody else yet. The name has 1 to 1,024 bytes of any values, the address 4 or 16, the metadata up
- * to 512, and the versions 0 or 6 (memberlist accepts only members with 6). The caller must close the
- * node with swimtab_close.
+/* Opens a node in an empty handle: the member with this name and these details, alive at the incarnation
+ * `inc`, which knows of nobody else yet. The caller must close the node with swimtab_close. `user` of the
+ * handle stays.
  *
  * SWIMTAB_DONE; SWIMTAB_NODE_THERE, .._NAME_EMPTY, .._NAME_TOO_LONG, .._BAD_ADDRESS,
- * .._META_TOO_LONG, .._BAD_VERSIONS, .._MEMORY: the handle is unchanged. If the handle is NULL,
- * SWIMTAB_NO_NODE. */
-static inline uint32_t swimtab_open(swimtab_node *node, const void *name, size_t name_len,
-                                    const void *addr, size_t addr_len, uint16_t port,
-                                    const void *meta, size_t meta_len, const void *vsn,
-                                    size_t vsn_len, uint32_t inc) {
-    const uint8_t none = 0;
-    if (!node) return SWIMTAB_NO_NODE;
-    return swimtab_raw_open(node, name ? name : &none, name ? name_len : 0, addr ? addr : &none,
-                            addr ? addr_len : 0, port, meta ? meta : &none, meta ? meta_len : 0,
-                            vsn ? vsn : &none, vsn ? vsn_len : 0, inc);
-}
+ * .._META_TOO_LONG, .._BAD_VERSIONS, .._MEMORY: the handle is unchanged; SWIMTAB_BAD_SIZE: `details` is
+ * NULL, or its size is that of no version. If the handle is NULL, SWIMTAB_NO_NODE. */
+swimtab_status swimtab_open(swimtab_node *node, const swimtab_details *details);
+
+/* Gives the member other details; the name and the incarnation in them are not used. If the node's table
+ * says otherwise, the member is then alive with them at the next incarnation, `inc`, as after
+ * swimtab_refute, and swimtab_alive writes the packet to send to the others.
+ *
+ * The statuses of swimtab_refute, and SWIMTAB_BAD_ADDRESS, .._META_TOO_LONG, .._BAD_VERSIONS,
+ * .._BAD_SIZE. Unless it is SWIMTAB_DONE nothing has changed. */
+swimtab_refuted swimtab_update(swimtab_node *node, const swimtab_details *details);
 
 /* Frees the node. The handle is then empty, and may be opened again.
  *
  * SWIMTAB_DONE; SWIMTAB_NO_NODE: the handle was empty, so closing twice is fine. */
-static inline uint32_t swimtab_close(swimtab_node *node) {
-    if (!node) return SWIMTAB_NO_NODE;
-    return swimtab_raw_close(node);
-}
+swimtab_status swimtab_close(swimtab_node *node);
 
 /* ------------------------------------------------------------------ gossip */
 
@@ -338,11 +353,7 @@ static inline uint32_t swimtab_close(swimtab_node *node) {
  * or compound packet, the fault at which reading stops: .._ENDED to .._MAP_COUNT, .._NAME_EMPTY,
  * .._BAD_ADDRESS, .._BAD_VERSIONS, .._WRONG_TYPE, .._UNKNOWN_KEY, .._DUPLICATE_KEY, .._TRAILING. Then
  * none of the claims was taken in. */
-static inline swimtab_taken swimtab_take(swimtab_node *node, const void *bytes, size_t len) {
-    const swimtab_taken refused = {SWIMTAB_NO_NODE, false};
-    const uint8_t none = 0;
-    return node ? swimtab_raw_take(node, bytes ? bytes : &none, bytes ? len : 0) : refused;
-}
+swimtab_taken swimtab_take(swimtab_node *node, const void *bytes, size_t len);
 
 /* Refutes what others say about the member, if its own table has it suspected, or alive with details
  * other than its own. The member is then alive at the next incarnation, `inc`, and swimtab_alive writes
@@ -351,37 +362,20 @@ static inline swimtab_taken swimtab_take(swimtab_node *node, const void *bytes, 
  * SWIMTAB_DONE, with `due` false if there was nothing to refute; SWIMTAB_NO_NODE; SWIMTAB_EXHAUSTED:
  * there is no greater incarnation; SWIMTAB_GONE: the member was declared dead, or left, which is final;
  * SWIMTAB_MEMORY. Unless it is SWIMTAB_DONE nothing has changed. */
-static inline swimtab_refuted swimtab_refute(swimtab_node *node) {
-    const swimtab_refuted refused = {SWIMTAB_NO_NODE, false, 0};
-    return node ? swimtab_raw_refute(node) : refused;
-}
+swimtab_refuted swimtab_refute(swimtab_node *node);
 
 /* Writes the packet that says that the member is alive at this incarnation, with its own address, port,
  * metadata and versions. The node does not change. Pass the incarnation of swimtab_open at first, and
  * later those that swimtab_refute returns.
  *
  * SWIMTAB_DONE; SWIMTAB_TOO_SMALL; SWIMTAB_NO_NODE; SWIMTAB_MEMORY. */
-static inline swimtab_written swimtab_alive(const swimtab_node *node, uint32_t inc, void *out,
-                                            size_t out_len) {
-    const swimtab_written refused = {SWIMTAB_NO_NODE, 0};
-    uint8_t none = 0;
-    return node ? swimtab_raw_alive(node, inc, out ? out : &none, out ? out_len : 0) : refused;
-}
+swimtab_written swimtab_alive(const swimtab_node *node, uint32_t inc, void *out, size_t out_len);
 
 /* Writes the packet that says that another member is alive, as a member passes it on. It needs no node.
  *
  * SWIMTAB_DONE; SWIMTAB_TOO_SMALL; SWIMTAB_NAME_EMPTY, .._NAME_TOO_LONG, .._BAD_ADDRESS,
- * .._META_TOO_LONG, .._BAD_VERSIONS: the first part that is invalid; SWIMTAB_MEMORY. */
-static inline swimtab_written swimtab_alive_of(const void *name, size_t name_len, const void *addr,
-                                               size_t addr_len, uint16_t port, const void *meta,
-                                               size_t meta_len, const void *vsn, size_t vsn_len,
-                                               uint32_t inc, void *out, size_t out_len) {
-    uint8_t none = 0;
-    return swimtab_raw_alive_of(name ? name : &none, name ? name_len : 0, addr ? addr : &none,
-                                addr ? addr_len : 0, port, meta ? meta : &none, meta ? meta_len : 0,
-                                vsn ? vsn : &none, vsn ? vsn_len : 0, inc, out ? out : &none,
-                                out ? out_len : 0);
-}
+ * .._META_TOO_LONG, .._BAD_VERSIONS: the first part that is invalid; SWIMTAB_BAD_SIZE; SWIMTAB_MEMORY. */
+swimtab_written swimtab_alive_of(const swimtab_details *details, void *out, size_t out_len);
 
 /* Writes the packet by which the member suspects the member of this name. The incarnation is that of the
  * Alive that it no longer believes. The node does not change: pass the packet to swimtab_take to add the
@@ -389,40 +383,31 @@ static inline swimtab_written swimtab_alive_of(const void *name, size_t name_len
  *
  * SWIMTAB_DONE; SWIMTAB_TOO_SMALL; SWIMTAB_NO_NODE; SWIMTAB_NAME_EMPTY;
  * SWIMTAB_NAME_TOO_LONG; SWIMTAB_MEMORY. */
-static inline swimtab_written swimtab_suspect(const swimtab_node *node, const void *name,
-                                              size_t name_len, uint32_t inc, void *out,
-                                              size_t out_len) {
-    const swimtab_written refused = {SWIMTAB_NO_NODE, 0};
-    uint8_t none = 0;
-    return node ? swimtab_raw_suspect(node, name ? name : &none, name ? name_len : 0, inc,
-                                      out ? out : &none, out ? out_len : 0)
-                : refused;
-}
+swimtab_written swimtab_suspect(const swimtab_node *node, const void *name, size_t name_len,
+                                uint32_t inc, void *out, size_t out_len);
 
 /* Writes the packet by which the member declares the member of this name dead. Otherwise like
  * swimtab_suspect.
  *
  * SWIMTAB_DONE; SWIMTAB_TOO_SMALL; SWIMTAB_NO_NODE; SWIMTAB_OWN_NAME: the name is the member's own;
  * SWIMTAB_NAME_EMPTY; SWIMTAB_NAME_TOO_LONG; SWIMTAB_MEMORY. */
-static inline swimtab_written swimtab_confirm(const swimtab_node *node, const void *name,
-                                              size_t name_len, uint32_t inc, void *out,
-                                              size_t out_len) {
-    const swimtab_written refused = {SWIMTAB_NO_NODE, 0};
-    uint8_t none = 0;
-    return node ? swimtab_raw_confirm(node, name ? name : &none, name ? name_len : 0, inc,
-                                      out ? out : &none, out ? out_len : 0)
-                : refused;
-}
+swimtab_written swimtab_confirm(const swimtab_node *node, const void *name, size_t name_len,
+                                uint32_t inc, void *out, size_t out_len);
 
 /* Writes the packet by which the member itself leaves, at this incarnation. The node does not change.
  *
  * SWIMTAB_DONE; SWIMTAB_TOO_SMALL; SWIMTAB_NO_NODE; SWIMTAB_MEMORY. */
-static inline swimtab_written swimtab_leave(const swimtab_node *node, uint32_t inc, void *out,
-                                            size_t out_len) {
-    const swimtab_written refused = {SWIMTAB_NO_NODE, 0};
-    uint8_t none = 0;
-    return node ? swimtab_raw_leave(node, inc, out ? out : &none, out ? out_len : 0) : refused;
-}
+swimtab_written swimtab_leave(const swimtab_node *node, uint32_t inc, void *out, size_t out_len);
+
+/* Writes the packet by which the member of the name `from` suspects the member of this name, or declares
+ * it dead; with its own name it leaves. They need no node, and `from` may be empty.
+ *
+ * SWIMTAB_DONE; SWIMTAB_TOO_SMALL; SWIMTAB_NAME_EMPTY; SWIMTAB_NAME_TOO_LONG; SWIMTAB_MEMORY. */
+swimtab_written swimtab_suspect_of(const void *from, size_t from_len, const void *name, size_t name_len,
+                                   uint32_t inc, void *out, size_t out_len);
+
+swimtab_written swimtab_dead_of(const void *from, size_t from_len, const void *name, size_t name_len,
+                                uint32_t inc, void *out, size_t out_len);
 
 /* Writes one compound packet from up to 255 packets. `packets` has their bytes one after the other, `len`
  * bytes in all, and `lens` has the length of each of the `count` packets. Each is written in its canonical
@@ -431,37 +416,72 @@ static inline swimtab_written swimtab_leave(const swimtab_node *node, uint32_t i
  * SWIMTAB_DONE; SWIMTAB_TOO_SMALL; SWIMTAB_TOO_MANY_PACKETS; SWIMTAB_ENDED: the sum of the lengths is
  * above `len`; SWIMTAB_TRAILING: it is below; SWIMTAB_MEMORY; if one is not a packet, the fault of the
  * first such one, as in swimtab_take, and SWIMTAB_WRONG_TYPE also if it is a compound packet. */
-static inline swimtab_written swimtab_compound(const void *packets, size_t len,
-                                               const size_t *lens, size_t count, void *out,
-                                               size_t out_len) {
-    const size_t no_lens = 0;
-    uint8_t none = 0;
-    return swimtab_raw_compound(packets ? packets : &none, packets ? len : 0,
-                                lens ? lens : &no_lens, lens ? count : 0, out ? out : &none,
-                                out ? out_len : 0);
-}
+swimtab_written swimtab_compound(const void *packets, size_t len, const size_t *lens, size_t count,
+                                 void *out, size_t out_len);
+
+/* ------------------------------------------------------------------ pings and other messages */
+
+/* Tells where the part of a message at index `i` is, from 0. A compound packet has up to 255 parts, and
+ * none after the first that is cut off; any other message is its own part. So a program reads the parts
+ * one by one, and a bad part refuses only itself. A part may be a compound packet again, which memberlist
+ * never writes: limit how deep you look. It needs no node.
+ *
+ * SWIMTAB_DONE; SWIMTAB_NO_ITEM: there are `i` parts or fewer. */
+swimtab_part_place swimtab_part(const void *message, size_t len, size_t i);
+
+/* Reads a ping, an indirect ping, an ack or a nack, as memberlist's handlers do: keys that they do not
+ * know are passed over. If `probe` is NULL, nothing is copied. It needs no node.
+ *
+ * SWIMTAB_DONE; SWIMTAB_WRONG_TYPE: it is another message; SWIMTAB_NAME_TOO_LONG: a name has more than
+ * 1,024 bytes; SWIMTAB_BAD_ADDRESS: an address does not have 4 or 16 bytes, or none; SWIMTAB_MEMORY; the
+ * fault at which reading stops: it is no message. Unless it is SWIMTAB_DONE `probe` is unchanged. */
+swimtab_status swimtab_read(const void *message, size_t len, swimtab_probe *probe);
+
+/* Write a ping to the member of this name, an indirect ping, which asks a member to ping the one in
+ * `target`, and the ack and the nack to a ping with this number. Of `target` the name, the address and the
+ * port are told, and of `source`, the member that asks, the same; a NULL source is none, and names and
+ * addresses may be empty. An ack's payload has at most 65,535 bytes. They need no node.
+ *
+ * SWIMTAB_DONE; SWIMTAB_TOO_SMALL; SWIMTAB_NAME_TOO_LONG; SWIMTAB_BAD_ADDRESS; SWIMTAB_TOO_LONG: the
+ * payload is too long; SWIMTAB_BAD_SIZE: `target` is NULL, or a size is that of no version;
+ * SWIMTAB_MEMORY. */
+swimtab_written swimtab_ping_of(uint32_t seq, const void *name, size_t name_len,
+                                const swimtab_details *source, void *out, size_t out_len);
+
+swimtab_written swimtab_indirect_of(uint32_t seq, const swimtab_details *target, bool nack,
+                                    const swimtab_details *source, void *out, size_t out_len);
+
+swimtab_written swimtab_ack_of(uint32_t seq, const void *payload, size_t payload_len, void *out,
+                               size_t out_len);
+
+swimtab_written swimtab_nack_of(uint32_t seq, void *out, size_t out_len);
+
+/* Writes a user message with these bytes, for the program that uses memberlist at the other end.
+ *
+ * SWIMTAB_DONE; SWIMTAB_TOO_SMALL; SWIMTAB_MEMORY. */
+swimtab_written swimtab_user_of(const void *bytes, size_t len, void *out, size_t out_len);
 
 /* ------------------------------------------------------------------ exchanges */
 
 /* Writes the node's table as a push/pull stream, which begins an exchange, in the form SWIMTAB_CANONICAL
- * or SWIMTAB_MEMBERLIST. memberlist sets `join` when a member joins. It takes no memory; without a buffer
- * it only adds up lengths.
+ * or SWIMTAB_MEMBERLIST. memberlist sets `join` when a member joins. `user` is the user state at the end
+ * of a stream for memberlist, which its delegates read, or NULL. It takes no memory; without a buffer it
+ * only adds up lengths.
  *
- * SWIMTAB_DONE; SWIMTAB_TOO_SMALL; SWIMTAB_NO_NODE; SWIMTAB_BAD_FORM; SWIMTAB_TOO_MANY_RECORDS. */
-static inline swimtab_written swimtab_offer(const swimtab_node *node, bool join, uint32_t form,
-                                            void *out, size_t out_len) {
-    const swimtab_written refused = {SWIMTAB_NO_NODE, 0};
-    uint8_t none = 0;
-    return node ? swimtab_raw_offer(node, join, form, out ? out : &none, out ? out_len : 0) : refused;
-}
+ * SWIMTAB_DONE; SWIMTAB_TOO_SMALL; SWIMTAB_NO_NODE; SWIMTAB_BAD_FORM: also for user state in the
+ * canonical form; SWIMTAB_USER_TOO_LONG; SWIMTAB_TOO_MANY_RECORDS. */
+swimtab_written swimtab_offer(const swimtab_node *node, bool join, uint32_t form, const void *user,
+                              size_t user_len, void *out, size_t out_len);
+
+/* How many members an offer in the form SWIMTAB_MEMBERLIST leaves out, because no Alive of them with sound
+ * versions is known; 0 if the handle is empty. */
+size_t swimtab_left_out(const swimtab_node *node);
 
 /* The canonical form without the join flag: the bytes that `swimtab merge` prints for the table. */
-static inline swimtab_written swimtab_dump(const swimtab_node *node, void *out, size_t out_len) {
-    return swimtab_offer(node, false, SWIMTAB_CANONICAL, out, out_len);
-}
+swimtab_written swimtab_dump(const swimtab_node *node, void *out, size_t out_len);
 
-/* Answers an offer: reads the stream, writes the node's table as it was before in this form and with the
- * same join flag, and takes the stream in. All memory is obtained before the reply is written, and none
+/* Answers an offer: reads the stream, writes the node's table as it was before in this form, with the same
+ * join flag and with this user state, and takes the stream in. All memory is obtained before the reply is written, and none
  * for the reply itself; without a buffer the call only reads the stream and adds up lengths. Bytes after
  * the stream are not read; `used` is where it ends.
  *
@@ -470,52 +490,28 @@ static inline swimtab_written swimtab_dump(const swimtab_node *node, void *out, 
  * do not begin with a stream, the fault at which reading stops: .._ENDED to .._MAP_COUNT, .._NAME_EMPTY,
  * .._BAD_ADDRESS, .._BAD_VERSIONS to .._USER_TOO_LONG. After SWIMTAB_ENDED, and only then, more bytes may
  * help. Unless it is SWIMTAB_DONE nothing has changed. */
-static inline swimtab_exchanged swimtab_answer(swimtab_node *node, const void *stream, size_t len,
-                                               uint32_t form, void *out, size_t out_len) {
-    const swimtab_exchanged refused = {SWIMTAB_NO_NODE, false, false, 0, 0};
-    uint8_t none = 0;
-    return node ? swimtab_raw_answer(node, stream ? stream : &none, stream ? len : 0, form,
-                                     out ? out : &none, out ? out_len : 0)
-                : refused;
-}
+swimtab_exchanged swimtab_answer(swimtab_node *node, const void *stream, size_t len, uint32_t form,
+                                 const void *user, size_t user_len, void *out, size_t out_len);
 
 /* Takes in a stream: the reply to an offer, or a dump. `len` of the result is 0.
  *
  * The statuses of swimtab_answer, except SWIMTAB_TOO_SMALL, SWIMTAB_BAD_FORM and SWIMTAB_TOO_MANY_RECORDS.
  * Unless it is SWIMTAB_DONE nothing was taken in. */
-static inline swimtab_exchanged swimtab_finish(swimtab_node *node, const void *stream,
-                                               size_t len) {
-    const swimtab_exchanged refused = {SWIMTAB_NO_NODE, false, false, 0, 0};
-    const uint8_t none = 0;
-    return node ? swimtab_raw_finish(node, stream ? stream : &none, stream ? len : 0) : refused;
-}
+swimtab_exchanged swimtab_finish(swimtab_node *node, const void *stream, size_t len);
 
 /* Like swimtab_offer and swimtab_answer, but the bytes are in memory of the library: the buffer holds them
  * in place of those that it held before, and swimtab_free frees them. They are encoded once. `len` of the
  * result of swimtab_answer_new is the length of the reply. A NULL buffer is SWIMTAB_TOO_SMALL.
  *
  * The statuses of those calls, except SWIMTAB_TOO_SMALL; SWIMTAB_MEMORY also for the bytes. */
-static inline uint32_t swimtab_offer_new(const swimtab_node *node, bool join, uint32_t form,
-                                         swimtab_buffer *buffer) {
-    if (!node) return SWIMTAB_NO_NODE;
-    if (!buffer) return SWIMTAB_TOO_SMALL;
-    return swimtab_raw_offer_new(node, join, form, buffer);
-}
+swimtab_status swimtab_offer_new(const swimtab_node *node, bool join, uint32_t form, const void *user,
+                                 size_t user_len, swimtab_buffer *buffer);
 
-static inline swimtab_exchanged swimtab_answer_new(swimtab_node *node, const void *stream, size_t len,
-                                                   uint32_t form, swimtab_buffer *buffer) {
-    swimtab_exchanged refused = {SWIMTAB_NO_NODE, false, false, 0, 0};
-    const uint8_t none = 0;
-    if (!node) return refused;
-    refused.status = SWIMTAB_TOO_SMALL;
-    if (!buffer) return refused;
-    return swimtab_raw_answer_new(node, stream ? stream : &none, stream ? len : 0, form, buffer);
-}
+swimtab_exchanged swimtab_answer_new(swimtab_node *node, const void *stream, size_t len, uint32_t form,
+                                     const void *user, size_t user_len, swimtab_buffer *buffer);
 
 /* Frees the bytes of a buffer, which is then empty. An empty buffer, or NULL, is left as it is. */
-static inline void swimtab_free(swimtab_buffer *buffer) {
-    if (buffer) swimtab_raw_free(buffer);
-}
+void swimtab_free(swimtab_buffer *buffer);
 
 /* Tells whether the bytes that came so far begin with a whole stream, if a stream comes in pieces. Start
  * with SWIMTAB_PROGRESS_INIT; pass each later call the progress that the last call left, and bytes that
@@ -526,11 +522,7 @@ static inline void swimtab_free(swimtab_buffer *buffer) {
  * SWIMTAB_DONE: there is a whole stream of `at` + `user_len` bytes; SWIMTAB_ENDED: the bytes end before
  * it does; SWIMTAB_MEMORY: the same call may be repeated; otherwise the fault at which reading stops:
  * the bytes do not begin with a stream, whatever follows. */
-static inline uint32_t swimtab_whole(swimtab_progress *progress, const void *bytes, size_t len) {
-    swimtab_progress fresh = SWIMTAB_PROGRESS_INIT;
-    const uint8_t none = 0;
-    return swimtab_raw_whole(progress ? progress : &fresh, bytes ? bytes : &none, bytes ? len : 0);
-}
+swimtab_status swimtab_whole(swimtab_progress *progress, const void *bytes, size_t len);
 
 /* ------------------------------------------------------------------ as a real cluster sends it */
 
@@ -541,71 +533,82 @@ static inline uint32_t swimtab_whole(swimtab_progress *progress, const void *byt
  *
  * SWIMTAB_DONE; SWIMTAB_BAD_KEY: another length; SWIMTAB_MEMORY: the keyring is unchanged. If the handle
  * is NULL, SWIMTAB_NO_NODE. */
-static inline uint32_t swimtab_keyring_add(swimtab_keyring *keyring, const void *key,
-                                           size_t key_len) {
-    const uint8_t none = 0;
-    if (!keyring) return SWIMTAB_NO_NODE;
-    return swimtab_raw_keyring_add(keyring, key ? key : &none, key ? key_len : 0);
-}
+swimtab_status swimtab_keyring_add(swimtab_keyring *keyring, const void *key, size_t key_len);
 
 /* From now on, packets and streams in the clear are read too, while a cluster begins or ends to encrypt.
  * swimtab_keyring_close ends it.
  *
  * SWIMTAB_DONE; SWIMTAB_NO_NODE: the handle has no key. */
-static inline uint32_t swimtab_keyring_accept_clear(swimtab_keyring *keyring) {
-    if (!keyring) return SWIMTAB_NO_NODE;
-    return swimtab_raw_keyring_accept_clear(keyring);
-}
+swimtab_status swimtab_keyring_accept_clear(swimtab_keyring *keyring);
+
+/* How many keys there are; 0 if the handle is empty. */
+size_t swimtab_keyring_count(const swimtab_keyring *keyring);
+
+/* Writes the key at index `i`, from 0. The keyring does not change.
+ *
+ * SWIMTAB_DONE; SWIMTAB_TOO_SMALL; SWIMTAB_NO_ITEM: there are `i` keys or fewer. */
+swimtab_written swimtab_keyring_key(const swimtab_keyring *keyring, size_t i, void *out,
+                                    size_t out_len);
+
+/* From now on the key at index `i` encrypts: it and the first one change places. So a cluster changes its
+ * key: add the new one on all members, then use it on all, then remove the old one.
+ *
+ * SWIMTAB_DONE; SWIMTAB_NO_ITEM: there is no such key, and nothing has changed. */
+swimtab_status swimtab_keyring_use(swimtab_keyring *keyring, size_t i);
+
+/* Removes the key at index `i` and overwrites it; the later ones move up.
+ *
+ * SWIMTAB_DONE; SWIMTAB_NO_ITEM: there is no such key; SWIMTAB_KEY_IN_USE: it is the first one, which
+ * encrypts. With the last two nothing has changed. */
+swimtab_status swimtab_keyring_remove(swimtab_keyring *keyring, size_t i);
 
 /* Overwrites the keys and frees the keyring. The handle is then empty, and keys may be added again.
  *
  * SWIMTAB_DONE; SWIMTAB_NO_NODE: the handle was empty. */
-static inline uint32_t swimtab_keyring_close(swimtab_keyring *keyring) {
-    if (!keyring) return SWIMTAB_NO_NODE;
-    return swimtab_raw_keyring_close(keyring);
-}
+swimtab_status swimtab_keyring_close(swimtab_keyring *keyring);
 
 /* Writes the message in a packet, one UDP payload as a member sends it: removes its label, checksum and
- * compression, and decrypts it with the keys. swimtab_take reads the result. With keys, packets in the
- * clear are refused, unless swimtab_keyring_accept_clear accepts them. Neither the message, nor what is
- * compressed or encrypted, may have more than 1,048,576 bytes. A NULL keyring has no key. The keyring does
- * not change.
+ * compression, and decrypts it with the keys. Any message is written, and its kind told: swimtab_part
+ * finds the parts of a compound one, swimtab_take takes in those that make claims, and swimtab_read reads
+ * pings and their answers. With keys, packets in the clear are refused, unless
+ * swimtab_keyring_accept_clear accepts them. Neither the message, nor what is compressed or encrypted, may
+ * have more than 1,048,576 bytes. A NULL keyring has no key; then an encrypted packet is written as it is,
+ * and looks like a ping that swimtab_read refuses. The keyring does not change.
  *
- * SWIMTAB_DONE; SWIMTAB_TOO_SMALL; SWIMTAB_MEMORY; SWIMTAB_WRONG_TYPE: the message makes no claims, like a
- * ping, or it is not a message; without a key also if it is encrypted; SWIMTAB_ENDED: it is empty;
- * .._WRAPPER_ENDED to .._TOO_DEEP: its wrappers are invalid; SWIMTAB_WRONG_TAG: it is encrypted, and no
- * key decrypts it; SWIMTAB_UNENCRYPTED: it is in the clear, and refused. */
-static inline swimtab_written swimtab_unwrap(const swimtab_keyring *keyring, const void *packet,
-                                             size_t len, void *out, size_t out_len) {
-    const swimtab_keyring no_keys = SWIMTAB_KEYRING_INIT;
-    uint8_t none = 0;
-    return swimtab_raw_unwrap(keyring ? keyring : &no_keys, packet ? packet : &none,
-                              packet ? len : 0, out ? out : &none, out ? out_len : 0);
-}
+ * SWIMTAB_DONE; SWIMTAB_TOO_SMALL; SWIMTAB_MEMORY; SWIMTAB_WRONG_TYPE: it begins like no message;
+ * SWIMTAB_ENDED: it is empty; .._WRAPPER_ENDED to .._TOO_DEEP: its wrappers are invalid;
+ * SWIMTAB_WRONG_TAG: there are keys, and none decrypts it; SWIMTAB_UNENCRYPTED: it is in the clear, and
+ * refused. */
+swimtab_unwrapped swimtab_unwrap(const swimtab_keyring *keyring, const void *packet, size_t len,
+                                 void *out, size_t out_len);
 
-/* Writes the push/pull stream in the bytes of one direction of a TCP connection, in the same way.
- * swimtab_answer and swimtab_finish read the result. Neither it, nor what is compressed or encrypted, may
- * have more than 268,435,456 bytes.
+/* Writes the message in the bytes of one direction of a TCP connection, in the same way: a push/pull
+ * stream, which swimtab_whole, swimtab_answer and swimtab_finish read, a ping or its ack, a user message,
+ * or an error. Neither it, nor what is compressed or encrypted, may have more than 268,435,456 bytes.
  *
  * `label` is the label of the cluster, or empty. In a cluster with a label only the side that opened the
  * connection writes the label before its stream; the other side does not, but authenticates it as well.
  * So a stream that does not begin with a label is read as if it began with this one. A stream that begins
  * with any label is read as it is.
  *
- * SWIMTAB_DONE; SWIMTAB_TOO_SMALL; SWIMTAB_MEMORY; SWIMTAB_WRONG_TYPE: it is not a push/pull stream;
- * without a key also if it is encrypted; SWIMTAB_ENDED: it is empty; .._WRAPPER_ENDED to .._TOO_DEEP;
- * .._CIPHER_TOO_LONG to .._CIPHER_TRAILING: it is encrypted and no key decrypts it; the fault is that of
- * the last key; SWIMTAB_CIPHER_TOO_LONG also if the label has more than 255 bytes; SWIMTAB_UNENCRYPTED: it
- * is in the clear, and refused. */
-static inline swimtab_written swimtab_unwrap_stream(const swimtab_keyring *keyring, const void *label,
-                                                    size_t label_len, const void *stream, size_t len,
-                                                    void *out, size_t out_len) {
-    const swimtab_keyring no_keys = SWIMTAB_KEYRING_INIT;
-    uint8_t none = 0;
-    return swimtab_raw_unwrap_stream(keyring ? keyring : &no_keys, label ? label : &none,
-                                     label ? label_len : 0, stream ? stream : &none,
-                                     stream ? len : 0, out ? out : &none, out ? out_len : 0);
-}
+ * SWIMTAB_DONE; SWIMTAB_ENDED: the bytes end too soon, and more may help; SWIMTAB_TOO_SMALL;
+ * SWIMTAB_MEMORY; SWIMTAB_WRONG_TYPE: it begins like no message; without a key also if it is encrypted;
+ * .._WRAPPER_TRAILING to .._TOO_DEEP; .._CIPHER_TOO_LONG to .._CIPHER_TRAILING: it is encrypted and no key
+ * decrypts it; the fault is that of the last key; SWIMTAB_CIPHER_TOO_LONG also if the label has more than
+ * 255 bytes; SWIMTAB_UNENCRYPTED: it is in the clear, and refused. */
+swimtab_unwrapped swimtab_unwrap_stream(const swimtab_keyring *keyring, const void *label,
+                                        size_t label_len, const void *stream, size_t len, void *out,
+                                        size_t out_len);
+
+/* The same in memory of the library, as in swimtab_offer_new, so that a message is unwrapped once,
+ * whatever its length. The statuses are those of the two calls above, except that SWIMTAB_TOO_SMALL is a
+ * NULL buffer. */
+swimtab_unwrapped swimtab_unwrap_new(const swimtab_keyring *keyring, const void *packet, size_t len,
+                                     swimtab_buffer *buffer);
+
+swimtab_unwrapped swimtab_unwrap_stream_new(const swimtab_keyring *keyring, const void *label,
+                                            size_t label_len, const void *stream, size_t len,
+                                            swimtab_buffer *buffer);
 
 /* Writes a packet with this message, as memberlist sends it: the label, if it is not empty, and then the
  * message, encrypted with the first key and the nonce of SWIMTAB_NONCE_LEN bytes, which authenticates the
@@ -615,94 +618,54 @@ static inline swimtab_written swimtab_unwrap_stream(const swimtab_keyring *keyri
  *
  * SWIMTAB_DONE; SWIMTAB_TOO_SMALL; SWIMTAB_MEMORY; SWIMTAB_CIPHER_TOO_LONG: the label has more than 255
  * bytes, or the message that is to be encrypted more than 2^36 - 32. */
-static inline swimtab_written swimtab_seal(const swimtab_keyring *keyring, const void *nonce,
-                                           const void *label, size_t label_len,
-                                           const void *message, size_t len, void *out,
-                                           size_t out_len) {
-    const uint8_t zeros[SWIMTAB_NONCE_LEN] = {0};
-    const swimtab_keyring no_keys = SWIMTAB_KEYRING_INIT;
-    uint8_t none = 0;
-    return swimtab_raw_seal(keyring ? keyring : &no_keys, nonce ? nonce : zeros,
-                            label ? label : &none, label ? label_len : 0,
-                            message ? message : &none, message ? len : 0, out ? out : &none,
-                            out ? out_len : 0);
-}
+swimtab_written swimtab_seal(const swimtab_keyring *keyring, const void *nonce, const void *label,
+                             size_t label_len, const void *message, size_t len, void *out,
+                             size_t out_len);
 
 /* Writes a stream with this message in the same way; a message to be encrypted has at most 268,435,427
  * bytes. `reply` is false on the side that opened the connection, for what swimtab_offer wrote, and true
  * on the other side, for what swimtab_answer wrote. No label is written before a reply; if the reply is
  * encrypted it authenticates the label all the same. A label of more than 255 bytes is refused in each
  * case, with a key and without, as swimtab_seal refuses it. */
-static inline swimtab_written swimtab_seal_stream(const swimtab_keyring *keyring, const void *nonce,
-                                                  const void *label, size_t label_len, bool reply,
-                                                  const void *message, size_t len, void *out,
-                                                  size_t out_len) {
-    const uint8_t zeros[SWIMTAB_NONCE_LEN] = {0};
-    const swimtab_keyring no_keys = SWIMTAB_KEYRING_INIT;
-    uint8_t none = 0;
-    return swimtab_raw_seal_stream(keyring ? keyring : &no_keys, nonce ? nonce : zeros,
-                                   label ? label : &none, label ? label_len : 0, reply,
-                                   message ? message : &none, message ? len : 0, out ? out : &none,
-                                   out ? out_len : 0);
-}
+swimtab_written swimtab_seal_stream(const swimtab_keyring *keyring, const void *nonce,
+                                    const void *label, size_t label_len, bool reply,
+                                    const void *message, size_t len, void *out, size_t out_len);
 
 /* ------------------------------------------------------------------ looking at the table */
 
 /* How many members the node knows of, itself included; 0 if the handle is empty. */
-static inline size_t swimtab_count(const swimtab_node *node) {
-    return node ? swimtab_raw_count(node) : 0;
-}
+size_t swimtab_count(const swimtab_node *node);
 
 /* Copies what the node knows about the member at index `i`, from 0, in the byte order of the names. It
  * takes no memory. If `member` is NULL, nothing is copied, and only the status is returned.
  *
  * SWIMTAB_DONE; SWIMTAB_NO_MEMBER: `i` is the count or above; SWIMTAB_NO_NODE. With the last two `member`
  * is unchanged. */
-static inline uint32_t swimtab_member(const swimtab_node *node, size_t i, swimtab_member_data *member) {
-    swimtab_member_data none;
-    if (!node) return SWIMTAB_NO_NODE;
-    return swimtab_raw_member(node, i, member ? member : &none);
-}
+swimtab_status swimtab_member(const swimtab_node *node, size_t i, swimtab_member_data *member);
 
 /* The same for the member of this name. A name that no member has, or can have, is SWIMTAB_NO_MEMBER. */
-static inline uint32_t swimtab_find(const swimtab_node *node, const void *name, size_t name_len,
-                                    swimtab_member_data *member) {
-    swimtab_member_data none_member;
-    const uint8_t none = 0;
-    if (!node) return SWIMTAB_NO_NODE;
-    return swimtab_raw_find(node, name ? name : &none, name ? name_len : 0,
-                            member ? member : &none_member);
-}
+swimtab_status swimtab_find(const swimtab_node *node, const void *name, size_t name_len,
+                            swimtab_member_data *member);
+
+/* The same for the first member whose name is above this one in byte order. So a walk over all members
+ * goes on where it was, whatever changes in between; it begins with an empty name. */
+swimtab_status swimtab_after(const swimtab_node *node, const void *name, size_t name_len,
+                             swimtab_member_data *member);
 
 /* Writes the listing of the table, as `swimtab list` prints it: a line with the name, state, incarnation
  * and newest address of each member, without a terminating zero.
  *
  * SWIMTAB_DONE; SWIMTAB_TOO_SMALL; SWIMTAB_NO_NODE; SWIMTAB_MEMORY. */
-static inline swimtab_written swimtab_list(const swimtab_node *node, void *out, size_t out_len) {
-    const swimtab_written refused = {SWIMTAB_NO_NODE, 0};
-    uint8_t none = 0;
-    return node ? swimtab_raw_list(node, out ? out : &none, out ? out_len : 0) : refused;
-}
+swimtab_written swimtab_list(const swimtab_node *node, void *out, size_t out_len);
 
 /* The same in memory of the library, as in swimtab_offer_new. */
-static inline uint32_t swimtab_list_new(const swimtab_node *node, swimtab_buffer *buffer) {
-    if (!node) return SWIMTAB_NO_NODE;
-    if (!buffer) return SWIMTAB_TOO_SMALL;
-    return swimtab_raw_list_new(node, buffer);
-}
+swimtab_status swimtab_list_new(const swimtab_node *node, swimtab_buffer *buffer);
 
 /* How the table of the first node relates to that of the second, by comparing each with their merge. A
  * handle is equal to itself.
  *
  * SWIMTAB_DONE; SWIMTAB_NO_NODE: one of the two is empty. */
-static inline swimtab_related swimtab_relate(const swimtab_node *first,
-                                             const swimtab_node *second) {
-    swimtab_related answer = {SWIMTAB_NO_NODE, 0};
-    if (!first || !second) return answer;
-    if (first != second) return swimtab_raw_relate(first, second);
-    if (first->held) answer.status = SWIMTAB_DONE;
-    return answer;
-}
+swimtab_related swimtab_relate(const swimtab_node *first, const swimtab_node *second);
 
 /* ------------------------------------------------------------------ what changed */
 
@@ -716,10 +679,7 @@ static inline swimtab_related swimtab_relate(const swimtab_node *first,
  * name.
  *
  * SWIMTAB_DONE; SWIMTAB_NO_NODE. */
-static inline uint32_t swimtab_watch(swimtab_node *node, bool on) {
-    if (!node) return SWIMTAB_NO_NODE;
-    return swimtab_raw_watch(node, on);
-}
+swimtab_status swimtab_watch(swimtab_node *node, bool on);
 
 /* Copies what the node knows about the first noted name, in byte order, and no longer notes that name. So
  * a program that calls this until it returns SWIMTAB_NO_MEMBER sees each member that changed, as it is
@@ -727,11 +687,7 @@ static inline uint32_t swimtab_watch(swimtab_node *node, bool on) {
  *
  * SWIMTAB_DONE; SWIMTAB_NO_MEMBER: no name is noted; SWIMTAB_NO_NODE. With the last two `member` and the
  * noted names are unchanged. */
-static inline uint32_t swimtab_next_change(swimtab_node *node, swimtab_member_data *member) {
-    swimtab_member_data none;
-    if (!node) return SWIMTAB_NO_NODE;
-    return swimtab_raw_next_change(node, member ? member : &none);
-}
+swimtab_status swimtab_next_change(swimtab_node *node, swimtab_member_data *member);
 
 /* Forgets a name: the table is then that of all claims taken in that are not about this name. Nothing else
  * makes a table shrink. Whatever comes about the name later is taken in as about a new one, even an old
@@ -740,138 +696,25 @@ static inline uint32_t swimtab_next_change(swimtab_node *node, swimtab_member_da
  * takes no memory.
  *
  * SWIMTAB_DONE; SWIMTAB_NO_NODE; SWIMTAB_NO_MEMBER: the table has no such name. */
-static inline uint32_t swimtab_forget(swimtab_node *node, const void *name, size_t name_len) {
-    const uint8_t none = 0;
-    if (!node) return SWIMTAB_NO_NODE;
-    return swimtab_raw_forget(node, name ? name : &none, name ? name_len : 0);
-}
+swimtab_status swimtab_forget(swimtab_node *node, const void *name, size_t name_len);
+
+/* Believes a member that came back, as memberlist does: of all that was said about it only its newest
+ * Alive is left, which is newer than its death or its leave. swimtab_member_data tells by `came_back`. So
+ * a program that lives with members of memberlist keeps their company; members that use only this library
+ * need it not, and then differ from those that call it. It takes memory for a table of this size.
+ *
+ * SWIMTAB_DONE; SWIMTAB_NO_NODE; SWIMTAB_NO_MEMBER: the table has no such name; SWIMTAB_NOT_BACK;
+ * SWIMTAB_MEMORY. Unless it is SWIMTAB_DONE nothing has changed. */
+swimtab_status swimtab_readmit(swimtab_node *node, const void *name, size_t name_len);
 
 /* ------------------------------------------------------------------ names */
 
 /* The name of a status, as in docs/PROTOCOL.md: "Done" for 0, and "Unknown" for a number that is not in
  * it. The text is static. */
-static inline const char *swimtab_fault_name(uint32_t status) {
-    switch (status) {
-    case 0: return "Done";
-    case 1: return "Ended";
-    case 2: return "NotUnsigned";
-    case 3: return "OutOfRange";
-    case 4: return "NotBool";
-    case 5: return "NotRaw";
-    case 6: return "TooLong";
-    case 7: return "NotMap";
-    case 8: return "MapCount";
-    case 9: return "Fault";
-    case 10: return "Memory";
-    case 11: return "NameEmpty";
-    case 12: return "NameTooLong";
-    case 13: return "BadAddress";
-    case 14: return "MetaTooLong";
-    case 15: return "BadVersions";
-    case 16: return "WrongType";
-    case 17: return "UnknownKey";
-    case 18: return "DuplicateKey";
-    case 19: return "BadState";
-    case 20: return "TooManyNodes";
-    case 21: return "UserTooLong";
-    case 22: return "Trailing";
-    case 23: return "TooManyRecords";
-    case 24: return "Exhausted";
-    case 25: return "Gone";
-    case 26: return "NoSuchNode";
-    case 27: return "SameNode";
-    case 28: return "TooLargeForLoop";
-    case 29: return "Push";
-    case 30: return "BadHex";
-    case 31: return "BadScript";
-    case 32: return "InputTooLong";
-    case 40: return "Ended";
-    case 41: return "Trailing";
-    case 42: return "BadCode";
-    case 43: return "BadChecksum";
-    case 44: return "BadMap";
-    case 45: return "BadAlgo";
-    case 46: return "BadLabel";
-    case 47: return "TooLarge";
-    case 48: return "TooDeep";
-    case 49: return "Memory";
-    case 50: return "BadKey";
-    case 51: return "TooLong";
-    case 52: return "TooShort";
-    case 53: return "WrongVersion";
-    case 54: return "WrongTag";
-    case 55: return "BadPadding";
-    case 56: return "NotEncrypted";
-    case 57: return "Trailing";
-    case 58: return "Memory";
-    case 59: return "Unencrypted";
-    case 64: return "NoNode";
-    case 65: return "NodeThere";
-    case 66: return "TooSmall";
-    case 67: return "NoMember";
-    case 68: return "OwnName";
-    case 69: return "TooManyPackets";
-    case 70: return "BadForm";
-    default: return "Unknown";
-    }
-}
+const char *swimtab_fault_name(uint32_t status);
 
 /* What a status means, as a sentence: "The bytes end too soon." The text is static. */
-static inline const char *swimtab_fault_text(uint32_t status) {
-    switch (status) {
-    case 0: return "Done.";
-    case 1: return "The bytes end too soon.";
-    case 2: return "Expected a number that is not negative.";
-    case 3: return "A number is above the maximum of its field.";
-    case 4: return "Expected a boolean.";
-    case 5: return "Expected text or bytes.";
-    case 6: return "Text or bytes are longer than their field allows.";
-    case 7: return "Expected a map.";
-    case 8: return "A map has more pairs than the message has fields.";
-    case 10: return "Out of memory.";
-    case 11: return "The name is empty.";
-    case 12: return "The name has more than 1,024 bytes.";
-    case 13: return "The address does not have 4 or 16 bytes.";
-    case 14: return "The metadata has more than 512 bytes.";
-    case 15: return "The versions do not have 0 or 6 bytes.";
-    case 16: return "The message is of another type.";
-    case 17: return "A map has a key that the message does not have.";
-    case 18: return "A map has a key twice.";
-    case 19: return "A state is not 0, 1, 2 or 3.";
-    case 20: return "The stream announces more than 131,072 members.";
-    case 21: return "The stream announces more than 20,971,520 bytes of user state.";
-    case 22: return "Bytes follow the end.";
-    case 23: return "The table has more than 131,072 records, too many for a stream.";
-    case 24: return "There is no greater incarnation.";
-    case 25: return "The member was declared dead, or left.";
-    case 40: return "A wrapper or compressed bytes end too soon.";
-    case 41: return "Bytes follow a compression.";
-    case 42: return "A compression has a code that is not in the dictionary.";
-    case 43: return "The checksum is wrong.";
-    case 44: return "The map of a compression is invalid.";
-    case 45: return "The compression is not LZW.";
-    case 46: return "The label is empty.";
-    case 47: return "Wrapped bytes exceed the limit.";
-    case 48: return "More than 4 wrappers are nested.";
-    case 50: return "The key does not have 16, 24 or 32 bytes.";
-    case 51: return "The label, or what is encrypted, is too long.";
-    case 52: return "Encrypted bytes end too soon.";
-    case 53: return "The version of the encryption is not 0 or 1.";
-    case 54: return "No key decrypts it.";
-    case 55: return "Decrypted bytes are not padded.";
-    case 56: return "The stream is not encrypted.";
-    case 57: return "Bytes follow an encrypted stream.";
-    case 59: return "It is not encrypted, and only what is encrypted is read.";
-    case 64: return "The handle is empty.";
-    case 65: return "The handle has a node already.";
-    case 66: return "The buffer is too small.";
-    case 67: return "There is no such member.";
-    case 68: return "A member does not declare itself dead; it leaves.";
-    case 69: return "There are more than 255 packets for one compound packet.";
-    case 70: return "There is no such form of a stream.";
-    default: return "There is no such status.";
-    }
-}
+const char *swimtab_fault_text(uint32_t status);
 
 #ifdef __cplusplus
 }

@@ -1,8 +1,8 @@
 package swimtab
 
 // #include <swimtab.h>
-// #if !defined(SWIMTAB_VERSION_NUMBER) || SWIMTAB_VERSION_NUMBER < 200
-// #error "this package needs libswimtab 0.2 or later"
+// #if !defined(SWIMTAB_VERSION_NUMBER) || SWIMTAB_VERSION_NUMBER < 300
+// #error "this package needs libswimtab 0.3 or later"
 // #endif
 import "C"
 

@@ -14,7 +14,7 @@ type Error uint32
 
 // The errors that a call can return.
 const (
-	ErrEnded           Error = C.SWIMTAB_ENDED            // the bytes end too soon
+	ErrEnded           Error = C.SWIMTAB_ENDED            // the bytes end too soon: of a stream, more may help
 	ErrNotUnsigned     Error = C.SWIMTAB_NOT_UNSIGNED     // expected a number that is not negative
 	ErrOutOfRange      Error = C.SWIMTAB_OUT_OF_RANGE     // a number is above the maximum of its field
 	ErrNotBool         Error = C.SWIMTAB_NOT_BOOL         // expected a boolean
@@ -33,7 +33,7 @@ const (
 	ErrDuplicateKey    Error = C.SWIMTAB_DUPLICATE_KEY    // a map has a key twice
 	ErrBadState        Error = C.SWIMTAB_BAD_STATE        // a state is not 0, 1, 2 or 3
 	ErrTooManyNodes    Error = C.SWIMTAB_TOO_MANY_NODES   // a stream announces more than 131,072 members
-	ErrUserTooLong     Error = C.SWIMTAB_USER_TOO_LONG    // a stream announces more than 20,971,520 bytes of user state
+	ErrUserTooLong     Error = C.SWIMTAB_USER_TOO_LONG    // a stream has more than 20,971,520 bytes of user state
 	ErrTrailing        Error = C.SWIMTAB_TRAILING         // bytes follow the end
 	ErrTooManyRecords  Error = C.SWIMTAB_TOO_MANY_RECORDS // a table has more than 131,072 records, too many for a stream
 	ErrExhausted       Error = C.SWIMTAB_EXHAUSTED        // there is no greater incarnation
@@ -60,7 +60,11 @@ const (
 	ErrNoMember        Error = C.SWIMTAB_NO_MEMBER        // there is no member at this index, or of this name
 	ErrOwnName         Error = C.SWIMTAB_OWN_NAME         // a member does not declare itself dead; it leaves
 	ErrTooManyPackets  Error = C.SWIMTAB_TOO_MANY_PACKETS // there are more than 255 packets for one compound packet
-	ErrBadForm         Error = C.SWIMTAB_BAD_FORM         // the form of a stream is neither Canonical nor MemberlistForm
+	ErrBadForm         Error = C.SWIMTAB_BAD_FORM         // there is no such form of a stream, or it has no user state
+	ErrNoItem          Error = C.SWIMTAB_NO_ITEM          // the keyring has no such key, or the message no such part
+	ErrKeyInUse        Error = C.SWIMTAB_KEY_IN_USE       // the first key encrypts, so it is not removed
+	ErrNotBack         Error = C.SWIMTAB_NOT_BACK         // the member has not come back
+	ErrBadSize         Error = C.SWIMTAB_BAD_SIZE         // the library is older than its header
 )
 
 // Name returns the name of the fault in docs/PROTOCOL.md: "Ended".
@@ -75,7 +79,7 @@ func (e Error) Error() string {
 }
 
 // done returns nil if a call was done, so that Error 0 is never returned.
-func done(status C.uint32_t) error {
+func done(status C.swimtab_status) error {
 	if status == C.SWIMTAB_DONE {
 		return nil
 	}

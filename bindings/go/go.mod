@@ -1,3 +1,3 @@
-module swimtab
+module swimtab.invalid/swimtab
 
 go 1.19

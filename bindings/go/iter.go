@@ -4,7 +4,7 @@ package swimtab
 
 import "iter"
 
-// All iterates over the members, as Each does.
+// All iterates over the members, as Each does: the table may change meanwhile.
 func (n *Node) All() iter.Seq[Member] {
 	return n.Each
 }
@@ -16,5 +16,12 @@ func (n *Node) Changes() iter.Seq[Member] {
 		for member, ok := n.NextChange(); ok && yield(member); {
 			member, ok = n.NextChange()
 		}
+	}
+}
+
+// Parts iterates over the parts of a message, as EachPart does.
+func Parts(message []byte) iter.Seq[Message] {
+	return func(yield func(Message) bool) {
+		EachPart(message, yield)
 	}
 }

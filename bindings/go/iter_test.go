@@ -25,3 +25,32 @@ func TestMembersAndChangesAreIterated(t *testing.T) {
 		t.Error(told)
 	}
 }
+
+func TestMembersAreIteratedWhileTheyChange(t *testing.T) {
+	a := opened(t, "a", 1)
+	takes(t, a, must[[]byte](t)(a.Suspect("q", 1)), true)
+	told := ""
+	for member := range a.All() {
+		told += member.Name
+		if member.Name == "a" {
+			takes(t, a, must[[]byte](t)(a.Suspect("b", 1)), true)
+			a.Forget("q")
+		}
+	}
+	if told != "ab" {
+		t.Error(told)
+	}
+}
+
+func TestPartsAreIterated(t *testing.T) {
+	told := ""
+	for part := range Parts([]byte("\x07\x03\x00\x01\x00\x02\x00\x01\x08\x00a\x02")) {
+		told += part.Kind().String() + " "
+		if part.Kind() == KindPing {
+			break
+		}
+	}
+	if told != "user ping " {
+		t.Error(told)
+	}
+}

@@ -5,6 +5,7 @@ import "C"
 
 import (
 	"crypto/rand"
+	"crypto/subtle"
 	"runtime"
 	"sync"
 	"unsafe"
@@ -48,6 +49,76 @@ func (k *Keyring) Add(key []byte) error {
 	return done(C.swimtab_keyring_add(&k.handle, unsafe.Pointer(&first[0]), size(key)))
 }
 
+// Keys returns copies of the keys. The first one encrypts.
+func (k *Keyring) Keys() [][]byte {
+	k = k.held()
+	defer k.lock.Unlock()
+	keys := make([][]byte, C.swimtab_keyring_count(&k.handle))
+	for i := range keys {
+		keys[i] = make([]byte, longestKey)
+		keys[i] = keys[i][:k.read(C.size_t(i), keys[i])]
+	}
+	return keys
+}
+
+// Use makes a key that is there the first one, which encrypts. So a cluster changes its key: Add the new one on all
+// members, then Use it on all, then Remove the old one.
+//
+// Errors: ErrNoItem if the key is not there.
+func (k *Keyring) Use(key []byte) error {
+	k = k.held()
+	defer k.lock.Unlock()
+	return done(C.swimtab_keyring_use(&k.handle, k.index(key)))
+}
+
+// Rotate adds the key if it is not there, and makes it the first one, which encrypts. The others still decrypt.
+//
+// Errors: ErrBadKey, ErrMemory.
+func (k *Keyring) Rotate(key []byte) error {
+	first := filled(key)
+	k.lock.Lock()
+	defer k.lock.Unlock()
+	i := k.index(key)
+	if i == C.swimtab_keyring_count(&k.handle) {
+		if err := done(C.swimtab_keyring_add(&k.handle, unsafe.Pointer(&first[0]), size(key))); err != nil {
+			return err
+		}
+	}
+	return done(C.swimtab_keyring_use(&k.handle, i))
+}
+
+// Remove removes a key and overwrites it. The first key encrypts and is not removed; if there is a key twice, one of
+// the two is.
+//
+// Errors: ErrNoItem if the key is not there; ErrKeyInUse if it is the first one.
+func (k *Keyring) Remove(key []byte) error {
+	k = k.held()
+	defer k.lock.Unlock()
+	return done(C.swimtab_keyring_remove(&k.handle, k.index(key)))
+}
+
+// longestKey is the length of the longest key.
+const longestKey = 32
+
+// read copies the key at index i, under the lock, and returns its length.
+func (k *Keyring) read(i C.size_t, out []byte) int {
+	return int(C.swimtab_keyring_key(&k.handle, i, unsafe.Pointer(&out[0]), size(out)).len)
+}
+
+// index returns the index of a key, under the lock, or how many keys there are if it is not there.
+func (k *Keyring) index(key []byte) C.size_t {
+	count := C.swimtab_keyring_count(&k.handle)
+	held := make([]byte, longestKey)
+	for i := C.size_t(0); i < count; i++ {
+		same := subtle.ConstantTimeCompare(held[:k.read(i, held)], key) == 1
+		copy(held, make([]byte, longestKey))
+		if same {
+			return i
+		}
+	}
+	return count
+}
+
 // AcceptClear makes the keyring also read packets and streams in the clear, while a cluster begins or ends to encrypt.
 // Close ends it.
 //
@@ -67,37 +138,42 @@ func (k *Keyring) Close() error {
 }
 
 // Unwrap returns the message in a packet, one UDP payload as a member sends it: it removes the label, checksum and
-// compression, and decrypts the message. Node.Take reads the result.
+// compression, and decrypts the message. EachPart finds the parts of a compound one, Node.Take takes in those that
+// make claims, and ReadProbe reads pings and their answers. Neither the message, nor what is compressed or encrypted,
+// may have more than 1,048,576 bytes. Without a key an encrypted packet is returned as it is, and looks like a ping
+// that ReadProbe refuses.
 //
-// Errors: ErrWrongType if the message makes no claims, like a ping, or is not a message, and without a key also if it
-// is encrypted; ErrEnded if it is empty; ErrWrapperEnded to ErrTooDeep if its wrappers are invalid; ErrWrongTag if
-// it is encrypted and no key decrypts it; ErrUnencrypted if it is in the clear, there are keys, and that is not
-// accepted; ErrMemory.
-func (k *Keyring) Unwrap(packet []byte) ([]byte, error) {
+// Errors: ErrWrongType if it begins like no message; ErrEnded if it is empty; ErrWrapperEnded to ErrTooDeep if its
+// wrappers are invalid; ErrWrongTag if there are keys, and none decrypts it; ErrUnencrypted if it is in the clear,
+// there are keys, and that is not accepted; ErrMemory.
+func (k *Keyring) Unwrap(packet []byte) (Message, error) {
 	first := filled(packet)
 	k = k.held()
 	defer k.lock.Unlock()
-	return written(2*len(packet)+1, func(out []byte) C.swimtab_written {
-		return C.swimtab_unwrap(&k.handle, unsafe.Pointer(&first[0]), size(packet), unsafe.Pointer(&out[0]), size(out))
-	})
+	var buffer C.swimtab_buffer
+	made := C.swimtab_unwrap_new(&k.handle, unsafe.Pointer(&first[0]), size(packet), &buffer)
+	return owned(&buffer, made.status)
 }
 
-// UnwrapStream returns the push/pull stream in the bytes of one direction of a TCP connection, without its wrappers.
-// Node.Answer and Node.Finish read the result. The label is that of the cluster, or empty. A stream that does not
-// begin with a label is read as if it began with this one, since the side that answers writes none.
+// UnwrapStream returns the message in the bytes of one direction of a TCP connection, without its wrappers: a stream,
+// which Progress.Whole, Node.Answer and Node.Finish read, a ping or its ack, a user message, or an error. Neither it,
+// nor what is compressed or encrypted, may have more than 268,435,456 bytes. The label is that of the cluster, or
+// empty. A stream that does not begin with a label is read as if it began with this one, since the side that answers
+// writes none.
 //
-// Errors: ErrWrongType if it is not a push/pull stream, and without a key also if it is encrypted; ErrEnded if it is
-// empty; ErrWrapperEnded to ErrTooDeep if its wrappers are invalid; ErrCipherTooLong to ErrCipherTrailing, the fault
-// of the last key, if it is encrypted and no key decrypts it; ErrCipherTooLong also if the label has more than 255
-// bytes; ErrUnencrypted if it is in the clear, there are keys, and that is not accepted; ErrMemory.
-func (k *Keyring) UnwrapStream(label string, stream []byte) ([]byte, error) {
+// Errors: ErrEnded if the bytes end too soon, so that more may help; ErrWrongType if it begins like no message, and
+// without a key also if it is encrypted; ErrWrapperTrailing to ErrTooDeep if its wrappers are invalid;
+// ErrCipherTooLong to ErrCipherTrailing, the fault of the last key, if it is encrypted and no key decrypts it;
+// ErrCipherTooLong also if the label has more than 255 bytes; ErrUnencrypted if it is in the clear, there are keys,
+// and that is not accepted; ErrMemory.
+func (k *Keyring) UnwrapStream(label string, stream []byte) (Message, error) {
 	text, first := textOf(label), filled(stream)
 	k = k.held()
 	defer k.lock.Unlock()
-	return written(2*len(stream)+1, func(out []byte) C.swimtab_written {
-		return C.swimtab_unwrap_stream(&k.handle, unsafe.Pointer(&text[0]), size(label), unsafe.Pointer(&first[0]),
-			size(stream), unsafe.Pointer(&out[0]), size(out))
-	})
+	var buffer C.swimtab_buffer
+	made := C.swimtab_unwrap_stream_new(&k.handle, unsafe.Pointer(&text[0]), size(label), unsafe.Pointer(&first[0]),
+		size(stream), &buffer)
+	return owned(&buffer, made.status)
 }
 
 // Seal returns a packet with this message, as memberlist sends it: the label, if it is not empty, and then the

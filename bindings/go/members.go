@@ -5,7 +5,6 @@ import "C"
 
 import (
 	"net/netip"
-	"sort"
 	"unsafe"
 )
 
@@ -96,37 +95,27 @@ func (n *Node) Members() []Member {
 	return members
 }
 
+// After returns the first member whose name is above this one in byte order. So a walk over all members goes on where
+// it was, whatever changes in between; it begins with an empty name. Each and All walk in this way.
+//
+// Errors: ErrNoMember, ErrNoNode.
+func (n *Node) After(name string) (Member, error) {
+	text := textOf(name)
+	n.lock.Lock()
+	defer n.lock.Unlock()
+	if err := done(C.swimtab_after(&n.handle, unsafe.Pointer(&text[0]), size(name), &n.member)); err != nil {
+		return Member{}, err
+	}
+	return n.seen(n.name()), nil
+}
+
 // Each calls f for each member, in the byte order of their names, until f returns false. The node is not locked
 // while f runs, so f may call its methods. f may or may not be called for a name that is added or forgotten
 // meanwhile; for each other name it is called once.
 func (n *Node) Each(f func(Member) bool) {
-	var last string
-	turns := uint64(0)
-	for i := 0; ; i++ {
-		n.lock.Lock()
-		if i > 0 && n.turns != turns {
-			i = n.after(last)
-		}
-		turns = n.turns
-		if C.swimtab_member(&n.handle, C.size_t(i), &n.member) != C.SWIMTAB_DONE {
-			n.lock.Unlock()
-			return
-		}
-		member := n.seen(n.name())
-		n.lock.Unlock()
-		if !f(member) {
-			return
-		}
-		last = member.Name
+	for member, err := n.After(""); err == nil && f(member); {
+		member, err = n.After(member.Name)
 	}
-}
-
-// after returns the index of the first name after this one, under the lock.
-func (n *Node) after(name string) int {
-	return sort.Search(n.counted(), func(i int) bool {
-		C.swimtab_member(&n.handle, C.size_t(i), &n.member)
-		return n.name() > name
-	})
 }
 
 // Watch starts to note the names of the members whose entries change, with none noted yet, or stops and drops the

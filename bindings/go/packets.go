@@ -9,7 +9,7 @@ import "unsafe"
 const longest = C.SWIMTAB_MAX_PACKET_LEN
 
 // Alive returns the packet that says that the member is alive at this incarnation. Pass the incarnation of Open at
-// first, and later those that Refute returns.
+// first, and later those that Refute and Update return.
 //
 // Errors: ErrMemory, ErrNoNode.
 func (n *Node) Alive(incarnation uint32) ([]byte, error) {
@@ -54,16 +54,27 @@ func (n *Node) Leave(incarnation uint32) ([]byte, error) {
 	return copied(n.packet[:], made)
 }
 
-// AliveOf returns the packet that says that another member is alive, as a member passes it on.
+// SuspectOf returns the packet by which the member of the name from suspects another one, as a member passes it on.
+// It may be empty.
 //
-// Errors: ErrNameEmpty, ErrNameTooLong, ErrBadAddress, ErrMetaTooLong, ErrBadVersions, ErrMemory.
-func AliveOf(name string, details Details, incarnation uint32) ([]byte, error) {
-	text, addr := textOf(name), details.Addr.AsSlice()
-	first, meta, versions := filled(addr), filled(details.Meta), filled(details.Versions)
+// Errors: ErrNameEmpty, ErrNameTooLong, ErrMemory.
+func SuspectOf(from, name string, incarnation uint32) ([]byte, error) {
+	origin, text := textOf(from), textOf(name)
 	return written(longest, func(out []byte) C.swimtab_written {
-		return C.swimtab_alive_of(unsafe.Pointer(&text[0]), size(name), unsafe.Pointer(&first[0]), size(addr),
-			C.uint16_t(details.Port), unsafe.Pointer(&meta[0]), size(details.Meta), unsafe.Pointer(&versions[0]),
-			size(details.Versions), C.uint32_t(incarnation), unsafe.Pointer(&out[0]), size(out))
+		return C.swimtab_suspect_of(unsafe.Pointer(&origin[0]), size(from), unsafe.Pointer(&text[0]), size(name),
+			C.uint32_t(incarnation), unsafe.Pointer(&out[0]), size(out))
+	})
+}
+
+// DeadOf returns the packet by which the member of the name from declares another one dead or, with its own name,
+// leaves. It may be empty.
+//
+// Errors: ErrNameEmpty, ErrNameTooLong, ErrMemory.
+func DeadOf(from, name string, incarnation uint32) ([]byte, error) {
+	origin, text := textOf(from), textOf(name)
+	return written(longest, func(out []byte) C.swimtab_written {
+		return C.swimtab_dead_of(unsafe.Pointer(&origin[0]), size(from), unsafe.Pointer(&text[0]), size(name),
+			C.uint32_t(incarnation), unsafe.Pointer(&out[0]), size(out))
 	})
 }
 

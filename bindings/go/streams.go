@@ -9,10 +9,12 @@ import "unsafe"
 type Form uint32
 
 const (
-	// Canonical is all that the table keeps, in canonical bytes.
+	// Canonical is all that the table keeps, in canonical bytes, and no user state.
 	Canonical Form = C.SWIMTAB_CANONICAL
-	// MemberlistForm is a stream that memberlist merges: each record has the newest address, port, metadata and
-	// versions of its member, and members without an address are left out.
+	// MemberlistForm is a stream that memberlist merges, with one record for each member: its state, or its newest
+	// Alive if it came back, with the newest address, port, metadata and versions. memberlist refuses a whole stream
+	// if one of its records has no versions, or unsound ones, so members of which no sound ones are known are left
+	// out; Node.LeftOut returns how many.
 	MemberlistForm Form = C.SWIMTAB_MEMBERLIST
 )
 
@@ -24,14 +26,16 @@ type Taken struct {
 }
 
 // Offer returns the node's table as a push/pull stream, which begins an exchange. memberlist sets join when a member
-// joins.
+// joins. user is the user state at the end of a stream for memberlist, which its delegates read, or nil.
 //
-// Errors: ErrTooManyRecords, ErrBadForm, ErrMemory, ErrNoNode.
-func (n *Node) Offer(join bool, form Form) ([]byte, error) {
+// Errors: ErrTooManyRecords, ErrUserTooLong, ErrBadForm (also if there is user state in the canonical form), ErrMemory,
+// ErrNoNode.
+func (n *Node) Offer(join bool, form Form, user []byte) ([]byte, error) {
+	state := filled(user)
 	n.lock.Lock()
 	defer n.lock.Unlock()
 	var buffer C.swimtab_buffer
-	status := C.swimtab_offer_new(&n.handle, C.bool(join), C.uint32_t(form), &buffer)
+	status := C.swimtab_offer_new(&n.handle, C.bool(join), C.uint32_t(form), unsafe.Pointer(&state[0]), size(user), &buffer)
 	return owned(&buffer, status)
 }
 
@@ -39,23 +43,33 @@ func (n *Node) Offer(join bool, form Form) ([]byte, error) {
 //
 // Errors: ErrTooManyRecords, ErrMemory, ErrNoNode.
 func (n *Node) Dump() ([]byte, error) {
-	return n.Offer(false, Canonical)
+	return n.Offer(false, Canonical, nil)
 }
 
-// Answer answers an offer: it takes the stream in, and returns the table as it was before, in this form. A suspicion
-// may have come with the stream, so call Refute afterwards. After an error, nothing was taken in.
+// Answer answers an offer: it takes the stream in, and returns the table as it was before, in this form, with the same
+// join flag and with this user state, or nil. A suspicion may have come with the stream, so call Refute afterwards.
+// After an error, nothing was taken in.
 //
-// Errors: ErrTooManyRecords, ErrBadForm, ErrMemory, ErrNoNode, and the fault at which reading the stream stops. After
-// ErrEnded, and only then, more bytes may help.
-func (n *Node) Answer(stream []byte, form Form) (reply []byte, taken Taken, err error) {
-	first := filled(stream)
+// Errors: those of Offer, and the fault at which reading the stream stops. After ErrEnded, and only then, more bytes
+// may help.
+func (n *Node) Answer(stream []byte, form Form, user []byte) (reply []byte, taken Taken, err error) {
+	first, state := filled(stream), filled(user)
 	n.lock.Lock()
 	defer n.lock.Unlock()
 	var buffer C.swimtab_buffer
-	made := C.swimtab_answer_new(&n.handle, unsafe.Pointer(&first[0]), size(stream), C.uint32_t(form), &buffer)
+	made := C.swimtab_answer_new(&n.handle, unsafe.Pointer(&first[0]), size(stream), C.uint32_t(form),
+		unsafe.Pointer(&state[0]), size(user), &buffer)
 	n.changed(bool(made.news))
 	reply, err = owned(&buffer, made.status)
 	return reply, takenOf(made), err
+}
+
+// LeftOut returns how many members an offer in MemberlistForm leaves out, because no Alive of them with sound versions
+// is known; 0 after Close.
+func (n *Node) LeftOut() int {
+	n.lock.Lock()
+	defer n.lock.Unlock()
+	return int(C.swimtab_left_out(&n.handle))
 }
 
 // Finish takes in a stream: the reply to an offer, or a dump. A suspicion may have come with it, so call Refute
@@ -90,7 +104,7 @@ func takenOf(made C.swimtab_exchanged) Taken {
 }
 
 // owned returns a copy of bytes in memory of the library, and frees them.
-func owned(buffer *C.swimtab_buffer, status C.uint32_t) ([]byte, error) {
+func owned(buffer *C.swimtab_buffer, status C.swimtab_status) ([]byte, error) {
 	if err := done(status); err != nil {
 		return nil, err
 	}
@@ -128,4 +142,14 @@ func (p *Progress) Whole(bytes []byte) (used int, whole bool, err error) {
 	default:
 		return 0, false, Error(status)
 	}
+}
+
+// User returns the user state at the end of the whole stream with which the bytes begin, after Whole said that there is
+// one. It shares the memory of the bytes, and is nil if the stream has none.
+func (p *Progress) User(bytes []byte) []byte {
+	from, to := uint64(p.read.at), uint64(p.read.at)+uint64(p.read.user_len)
+	if !p.read.has_header || p.read.left > 0 || from == to || to > uint64(len(bytes)) {
+		return nil
+	}
+	return bytes[from:to:to]
 }

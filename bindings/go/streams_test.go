@@ -14,10 +14,10 @@ func TestAnExchangeLevelsTwoMembers(t *testing.T) {
 		}
 	}
 	relates(Apart)
-	offer := must[[]byte](t)(a.Offer(true, Canonical))
-	_, _, err := b.Answer(offer[:len(offer)-1], Canonical)
+	offer := must[[]byte](t)(a.Offer(true, Canonical, nil))
+	_, _, err := b.Answer(offer[:len(offer)-1], Canonical, nil)
 	refused(t, err, ErrEnded)
-	reply, taken, err := b.Answer(offer, Canonical)
+	reply, taken, err := b.Answer(offer, Canonical, nil)
 	if err != nil || !taken.Join || !taken.News || taken.Used != len(offer) {
 		t.Fatal(taken, err)
 	}
@@ -58,20 +58,20 @@ func TestStreamsHaveTwoForms(t *testing.T) {
 	takes(t, a, must[[]byte](t)(a.Suspect("b", 3)), true)
 	takes(t, a, must[[]byte](t)(a.Suspect("z", 4)), true)
 	all := record("a", 0, 0, 1) + record("b", 3, 0, 2) + bare("b", 3, 1) + bare("z", 4, 1)
-	merged := record("a", 0, 0, 1) + record("b", 3, 0, 2) + record("b", 3, 1, 2)
-	same(t)(a.Offer(true, Canonical))(header(0xc3, 4) + all)
+	merged := record("a", 0, 0, 1) + record("b", 3, 1, 2)
+	same(t)(a.Offer(true, Canonical, nil))(header(0xc3, 4) + all)
 	same(t)(a.Dump())(header(0xc2, 4) + all)
-	same(t)(a.Offer(true, MemberlistForm))(header(0xc3, 3) + merged)
-	_, err := a.Offer(true, 2)
+	same(t)(a.Offer(true, MemberlistForm, nil))(header(0xc3, 2) + merged)
+	_, err := a.Offer(true, 2, nil)
 	refused(t, err, ErrBadForm)
 	none := header(0xc2, 0)
-	_, _, err = a.Answer([]byte(none), 2)
+	_, _, err = a.Answer([]byte(none), 2, nil)
 	refused(t, err, ErrBadForm)
-	reply, taken, err := a.Answer([]byte(none+"behind"), MemberlistForm)
+	reply, taken, err := a.Answer([]byte(none+"behind"), MemberlistForm, nil)
 	if taken.Join || taken.News || taken.Used != len(none) {
 		t.Error(taken)
 	}
-	same(t)(reply, err)(header(0xc2, 3) + merged)
+	same(t)(reply, err)(header(0xc2, 2) + merged)
 }
 
 func TestAStreamComesInPieces(t *testing.T) {

@@ -8,8 +8,6 @@ import "C"
 
 import (
 	"fmt"
-	"net/netip"
-	"runtime"
 	"sync"
 	"unsafe"
 )
@@ -22,41 +20,13 @@ type Node struct {
 	// what calls write to, under the lock, so that no call needs memory for it
 	member C.swimtab_member_data
 	packet [C.SWIMTAB_MAX_PACKET_LEN]byte
-	count  int    // how many members there are, or -1 if the table changed since they were counted
-	turns  uint64 // how many times the table changed
+	count  int // how many members there are, or -1 if the table changed since they were counted
 }
 
-// Details are what a member says about itself. Meta has at most 512 bytes, and Versions 0 or 6 (memberlist accepts
-// only members with 6).
-type Details struct {
-	Addr     netip.Addr
-	Port     uint16
-	Meta     []byte
-	Versions []byte
-}
-
-// Version returns the version of the linked library, as "0.2.0".
+// Version returns the version of the linked library, as "0.3.0".
 func Version() string {
 	number := uint32(C.swimtab_version())
 	return fmt.Sprintf("%d.%d.%d", number/10000, number/100%100, number%100)
-}
-
-// Open opens the node of the member of this name, which is alive at the incarnation and knows of nobody else yet.
-// Close frees it; so does the garbage collector, at some later time.
-//
-// Errors: ErrNameEmpty, ErrNameTooLong, ErrBadAddress, ErrMetaTooLong, ErrBadVersions, ErrMemory.
-func Open(name string, details Details, incarnation uint32) (*Node, error) {
-	n := &Node{count: -1}
-	text, addr := textOf(name), details.Addr.AsSlice()
-	first, meta, versions := filled(addr), filled(details.Meta), filled(details.Versions)
-	status := C.swimtab_open(&n.handle, unsafe.Pointer(&text[0]), size(name), unsafe.Pointer(&first[0]), size(addr),
-		C.uint16_t(details.Port), unsafe.Pointer(&meta[0]), size(details.Meta), unsafe.Pointer(&versions[0]),
-		size(details.Versions), C.uint32_t(incarnation))
-	if err := done(status); err != nil {
-		return nil, err
-	}
-	runtime.SetFinalizer(n, func(n *Node) { n.Close() })
-	return n, nil
 }
 
 // Close frees the node. Closing it again does nothing.
@@ -72,7 +42,6 @@ func (n *Node) Close() error {
 func (n *Node) changed(news bool) {
 	if news {
 		n.count = -1
-		n.turns++
 	}
 }
 
@@ -112,6 +81,20 @@ func (n *Node) Forget(name string) error {
 	n.lock.Lock()
 	defer n.lock.Unlock()
 	status := C.swimtab_forget(&n.handle, unsafe.Pointer(&text[0]), size(name))
+	n.changed(status == C.SWIMTAB_DONE)
+	return done(status)
+}
+
+// Readmit believes a member that came back, as memberlist does: of all that was said about it only its newest Alive
+// is left, which is newer than its death or its leave. Member.CameBack tells of which members this holds. Members that
+// use only this library need it not, and then differ from those that call it.
+//
+// Errors: ErrNotBack, ErrNoMember, ErrMemory, ErrNoNode.
+func (n *Node) Readmit(name string) error {
+	text := textOf(name)
+	n.lock.Lock()
+	defer n.lock.Unlock()
+	status := C.swimtab_readmit(&n.handle, unsafe.Pointer(&text[0]), size(name))
 	n.changed(status == C.SWIMTAB_DONE)
 	return done(status)
 }

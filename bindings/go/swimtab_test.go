@@ -76,14 +76,14 @@ func same(t *testing.T) func(got []byte, err error) func(wanted string) {
 }
 
 func TestTheVersionIsThatOfTheHeader(t *testing.T) {
-	if version := Version(); version != "0.2.0" {
+	if version := Version(); version != "0.3.0" {
 		t.Error(version)
 	}
 }
 
 func TestFaultsHaveNamesAndTexts(t *testing.T) {
 	seen := map[string]bool{}
-	for fault := Error(1); fault <= ErrBadForm; fault++ {
+	for fault := Error(1); fault <= ErrBadSize; fault++ {
 		told := fault.Name() != "Unknown" && !strings.HasSuffix(fault.Error(), "no such status")
 		if told && seen[fault.Error()] {
 			t.Error(fault)
@@ -94,7 +94,8 @@ func TestFaultsHaveNamesAndTexts(t *testing.T) {
 		ErrEnded:          "swimtab: fault 1 Ended: the bytes end too soon",
 		ErrMemory:         "swimtab: fault 10 Memory: out of memory",
 		ErrCipherTrailing: "swimtab: fault 57 Trailing: bytes follow an encrypted stream",
-		ErrBadForm:        "swimtab: fault 70 BadForm: there is no such form of a stream",
+		ErrKeyInUse:       "swimtab: fault 72 KeyInUse: the first key encrypts, so it is not removed",
+		ErrBadForm:        "swimtab: fault 70 BadForm: there is no such form of a stream, or it has no user state",
 	} {
 		if fault.Error() != text {
 			t.Error(fault)
@@ -216,7 +217,7 @@ func TestAClosedNodeHasNoNode(t *testing.T) {
 	a.Close()
 	_, err := a.Take(nil)
 	refused(t, err, ErrNoNode)
-	_, err = a.Offer(false, Canonical)
+	_, err = a.Offer(false, Canonical, nil)
 	refused(t, err, ErrNoNode)
 	refused(t, a.Forget("a"), ErrNoNode)
 	refused(t, a.Watch(true), ErrNoNode)
@@ -276,11 +277,11 @@ func TestBytesMayStandBesidePointers(t *testing.T) {
 	c := &connection{node: opened(t, "a", 1), others: []*connection{{}}}
 	b := opened(t, "b", 2)
 	takes(t, c.node, c.hears(must[[]byte](t)(b.Alive(3))), true)
-	used := must[Taken](t)(c.node.Finish(c.hears(must[[]byte](t)(b.Offer(false, Canonical))))).Used
+	used := must[Taken](t)(c.node.Finish(c.hears(must[[]byte](t)(b.Offer(false, Canonical, nil))))).Used
 	if used != c.length {
 		t.Error(used)
 	}
-	_, taken, err := c.node.Answer(c.hears(must[[]byte](t)(b.Offer(true, Canonical))), Canonical)
+	_, taken, err := c.node.Answer(c.hears(must[[]byte](t)(b.Offer(true, Canonical, nil))), Canonical, nil)
 	if err != nil || !taken.Join {
 		t.Error(err)
 	}

@@ -6,9 +6,10 @@
 
 #include <stdio.h>
 #include <stdlib.h>
+#include <string.h>
 
 /* Ends the program if a call was refused. */
-static void check(uint32_t status, const char *call) {
+static void check(swimtab_status status, const char *call) {
     if (status == SWIMTAB_DONE) return;
     fprintf(stderr, "%s: %s\n", call, swimtab_fault_text(status));
     exit(1);
@@ -29,9 +30,9 @@ static void show(const char *title, const swimtab_node *node) {
 /* A whole exchange, as when `joining` joins `other`. */
 static void exchange(swimtab_node *joining, swimtab_node *other) {
     swimtab_buffer offer = SWIMTAB_BUFFER_INIT, reply = SWIMTAB_BUFFER_INIT;
-    check(swimtab_offer_new(joining, true, SWIMTAB_CANONICAL, &offer), "offer");
+    check(swimtab_offer_new(joining, true, SWIMTAB_CANONICAL, NULL, 0, &offer), "offer");
     /* .. over TCP, to the other member, which replies with what it knew before .. */
-    check(swimtab_answer_new(other, offer.at, offer.len, SWIMTAB_CANONICAL, &reply).status, "answer");
+    check(swimtab_answer_new(other, offer.at, offer.len, SWIMTAB_CANONICAL, NULL, 0, &reply).status, "answer");
     /* .. and back */
     check(swimtab_finish(joining, reply.at, reply.len).status, "finish");
     printf("an exchange: %zu bytes offered, %zu in reply\n\n", offer.len, reply.len);
@@ -39,12 +40,22 @@ static void exchange(swimtab_node *joining, swimtab_node *other) {
     swimtab_free(&reply);
 }
 
+/* The details of a member at 10.0.0.`host`, as memberlist's members have them. */
+static swimtab_status open_at(swimtab_node *node, const char *name, uint8_t host, const char *meta) {
+    const uint8_t addr[4] = {10, 0, 0, host}, versions[6] = {1, 5, 2, 0, 0, 0};
+    swimtab_details details = SWIMTAB_DETAILS_INIT;
+    details.name = name, details.name_len = strlen(name);
+    details.addr = addr, details.addr_len = sizeof addr;
+    details.port = 7946;
+    details.meta = meta, details.meta_len = strlen(meta);
+    details.vsn = versions, details.vsn_len = sizeof versions;
+    return swimtab_open(node, &details);
+}
+
 int main(void) {
-    const uint8_t addr_a[4] = {10, 0, 0, 1}, addr_b[4] = {10, 0, 0, 2};
-    const uint8_t versions[6] = {1, 5, 2, 0, 0, 0};
     swimtab_node a = SWIMTAB_NODE_INIT, b = SWIMTAB_NODE_INIT;
-    check(swimtab_open(&a, "a", 1, addr_a, 4, 7946, "db", 2, versions, 6, 1), "open");
-    check(swimtab_open(&b, "b", 1, addr_b, 4, 7946, "web", 3, versions, 6, 1), "open");
+    check(open_at(&a, "a", 1, "db"), "open");
+    check(open_at(&b, "b", 2, "web"), "open");
 
     /* what a hears: c is alive at incarnation 3, and then d suspects it */
     const uint8_t c_is_alive[] = "\x04\x85\xa4""Addr\xa4\x0a\x00\x00\x03\xab""Incarnation\x03"

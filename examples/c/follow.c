@@ -22,7 +22,7 @@ enum { LONGEST_LINE = 2 * 65536 + 4, LONGEST_MESSAGE = 1 << 20 };
 static const char listener[] = "(follow)";
 
 /* Ends the program if a call that has to be done was refused. */
-static void check(uint32_t status, const char *what) {
+static void check(swimtab_status status, const char *what) {
     if (status == SWIMTAB_DONE) return;
     fprintf(stderr, "follow: %s: %s\n", what, swimtab_fault_text(status));
     exit(status == SWIMTAB_MEMORY ? 5 : 3);
@@ -73,12 +73,20 @@ static long read_hex(const char *line, uint8_t *bytes) {
     return (long)(len / 2);
 }
 
-/* Takes in a packet as a member sent it. */
-static uint32_t take(swimtab_node *node, const swimtab_keyring *keys, const uint8_t *packet, size_t len) {
+/* Takes in the claims of a packet as a member sent it: those of each part that makes one. Returns the last status
+ * that is not SWIMTAB_DONE, if there is one. */
+static swimtab_status take(swimtab_node *node, const swimtab_keyring *keys, const uint8_t *packet, size_t len) {
     static uint8_t message[LONGEST_MESSAGE];
-    swimtab_written unwrapped = swimtab_unwrap(keys, packet, len, message, sizeof message);
-    if (unwrapped.status != SWIMTAB_DONE) return unwrapped.status;
-    return swimtab_take(node, message, unwrapped.len).status;
+    swimtab_unwrapped unwrapped = swimtab_unwrap(keys, packet, len, message, sizeof message);
+    swimtab_status status = unwrapped.status;
+    for (size_t i = 0; status == SWIMTAB_DONE || i > 0; i++) {
+        swimtab_part_place part = swimtab_part(message, unwrapped.len, i);
+        if (part.status != SWIMTAB_DONE) break;
+        if (part.kind < SWIMTAB_KIND_SUSPECT || part.kind > SWIMTAB_KIND_DEAD) continue;
+        swimtab_taken taken = swimtab_take(node, message + part.at, part.len);
+        if (taken.status != SWIMTAB_DONE) status = taken.status;
+    }
+    return status;
 }
 
 /* Takes in a line, or prints why it cannot, unless it is a packet without claims. */
@@ -90,7 +98,7 @@ static void take_line(swimtab_node *node, const swimtab_keyring *keys, const cha
         fprintf(stderr, "follow: line %lu: This is not hexadecimal.\n", number);
         return;
     }
-    uint32_t status = take(node, keys, packet, (size_t)len);
+    swimtab_status status = take(node, keys, packet, (size_t)len);
     if (status == SWIMTAB_MEMORY) check(status, "take");
     if (status != SWIMTAB_DONE && status != SWIMTAB_WRONG_TYPE)
         fprintf(stderr, "follow: line %lu: %s\n", number, swimtab_fault_text(status));
@@ -125,7 +133,7 @@ static void add_keys(swimtab_keyring *keys, const char *path) {
     }
     for (unsigned long number = 1; fgets(line, sizeof line, file); number++) {
         size_t len = strcspn(line, "\r\n");
-        uint32_t status = len ? swimtab_keyring_add(keys, key, read_base64(line, len, key)) : SWIMTAB_DONE;
+        swimtab_status status = len ? swimtab_keyring_add(keys, key, read_base64(line, len, key)) : SWIMTAB_DONE;
         if (status != SWIMTAB_DONE) fprintf(stderr, "follow: %s: line %lu\n", path, number);
         check(status, "keys");
     }
@@ -142,7 +150,10 @@ int main(int argc, char **argv) {
         return 2;
     }
     if (argc == 2) add_keys(&keys, argv[1]);
-    check(swimtab_open(&node, listener, sizeof listener - 1, nowhere, 4, 0, NULL, 0, NULL, 0, 0), "open");
+    swimtab_details details = SWIMTAB_DETAILS_INIT;
+    details.name = listener, details.name_len = sizeof listener - 1;
+    details.addr = nowhere, details.addr_len = sizeof nowhere;
+    check(swimtab_open(&node, &details), "open");
     check(swimtab_watch(&node, true), "watch");
     for (unsigned long number = 1; fgets(line, sizeof line, stdin); number++) {
         take_line(&node, &keys, line, number);

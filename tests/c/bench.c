@@ -38,7 +38,7 @@ static uint8_t *room(size_t len) {
 static swimtab_node member(const char *name, unsigned i, uint32_t inc) {
     swimtab_node node = SWIMTAB_NODE_INIT;
     const uint8_t addr[4] = {10, (uint8_t)(i >> 16), (uint8_t)(i >> 8), (uint8_t)i}, versions[6] = {1, 5, 2, 0, 0, 0};
-    WANT(swimtab_open(&node, name, strlen(name), addr, 4, 7946, meta, strlen(meta), versions, 6, inc) == 0);
+    WANT(open_with(&node, name, strlen(name), addr, 4, 7946, meta, strlen(meta), versions, 6, inc) == 0);
     return node;
 }
 
@@ -132,7 +132,7 @@ static void streams_cost(swimtab_node *node) {
         WANT(swimtab_finish(&other, wire, len).status == 0);
         least(&again, since);
         since = now();
-        WANT(swimtab_answer(&other, wire, len, SWIMTAB_CANONICAL, reply, len + 4096).status == 0);
+        WANT(swimtab_answer(&other, wire, len, SWIMTAB_CANONICAL, NULL, 0, reply, len + 4096).status == 0);
         least(&answers, since);
         since = now();
         WANT(swimtab_list(&other, text, text_len).status == 0);

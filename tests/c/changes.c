@@ -79,7 +79,7 @@ static void what_changes_nothing_is_not_noted(void) {
     WANT(!has_news(&node, "0702001d0003" SUSPECT_A_5 "008080"));
     WANT(!swimtab_finish(&node, stream.at, stream.len).news && !swimtab_refute(&node).due);
     swimtab_buffer buffer = SWIMTAB_BUFFER_INIT;
-    swimtab_exchanged made = swimtab_answer_new(&node, stream.at, stream.len, SWIMTAB_CANONICAL, &buffer);
+    swimtab_exchanged made = swimtab_answer_new(&node, stream.at, stream.len, SWIMTAB_CANONICAL, NULL, 0, &buffer);
     WANT(made.status == SWIMTAB_DONE && !made.news);
     swimtab_free(&buffer);
     WANT(tells_nothing(&node));
@@ -96,10 +96,10 @@ static void refused_calls_note_nothing(void) {
     /* the second part of the compound packet is not a packet, and the last record of the stream lacks its last byte */
     WANT(take_hex(&node, "0702001d0002" SUSPECT_B_1 "0380") == SWIMTAB_NAME_EMPTY);
     WANT(swimtab_finish(&node, stream.at, stream.len - 1).status == SWIMTAB_ENDED);
-    WANT(swimtab_answer(&node, stream.at, stream.len, SWIMTAB_CANONICAL, out, 8).status == SWIMTAB_TOO_SMALL);
-    WANT(swimtab_answer(&node, stream.at, stream.len, 2, out, 8).status == SWIMTAB_BAD_FORM);
-    WANT(swimtab_answer_new(&node, stream.at, stream.len - 1, 0, &buffer).status == SWIMTAB_ENDED);
-    WANT(swimtab_answer_new(&node, stream.at, stream.len, 0, NULL).status == SWIMTAB_TOO_SMALL);
+    WANT(swimtab_answer(&node, stream.at, stream.len, SWIMTAB_CANONICAL, NULL, 0, out, 8).status == SWIMTAB_TOO_SMALL);
+    WANT(swimtab_answer(&node, stream.at, stream.len, 2, NULL, 0, out, 8).status == SWIMTAB_BAD_FORM);
+    WANT(swimtab_answer_new(&node, stream.at, stream.len - 1, 0, NULL, 0, &buffer).status == SWIMTAB_ENDED);
+    WANT(swimtab_answer_new(&node, stream.at, stream.len, 0, NULL, 0, NULL).status == SWIMTAB_TOO_SMALL);
     WANT(tells(&node, 'a', SWIMTAB_SUSPECT, 5) && tells_nothing(&node));
     free(stream.at);
     WANT(swimtab_close(&node) == SWIMTAB_DONE);
@@ -110,13 +110,13 @@ static void streams_and_refutations_are_noted(void) {
     struct bytes first = hex(DUMP_B_1), second = hex(DUMP_A_4_5);
     uint8_t out[512];
     WANT(swimtab_finish(&node, first.at, first.len).news && tells(&node, 'b', SWIMTAB_SUSPECT, 1));
-    WANT(swimtab_answer(&node, second.at, second.len, SWIMTAB_CANONICAL, out, sizeof out).news);
+    WANT(swimtab_answer(&node, second.at, second.len, SWIMTAB_CANONICAL, NULL, 0, out, sizeof out).news);
     WANT(tells(&node, 'a', SWIMTAB_SUSPECT, 5) && tells_nothing(&node));
     WANT(swimtab_close(&node) == SWIMTAB_DONE);
     node = opened("b", 1, 0);
     swimtab_buffer buffer = SWIMTAB_BUFFER_INIT;
     WANT(swimtab_watch(&node, true) == SWIMTAB_DONE);
-    WANT(swimtab_answer_new(&node, first.at, first.len, SWIMTAB_CANONICAL, &buffer).news);
+    WANT(swimtab_answer_new(&node, first.at, first.len, SWIMTAB_CANONICAL, NULL, 0, &buffer).news);
     WANT(tells(&node, 'b', SWIMTAB_SUSPECT, 1) && tells_nothing(&node));
     WANT(swimtab_refute(&node).inc == 2 && tells(&node, 'b', SWIMTAB_ALIVE, 2) && tells_nothing(&node));
     /* there is nothing to refute, and nothing is noted */
@@ -149,7 +149,7 @@ static void a_forgotten_name_is_gone(void) {
     WANT(swimtab_forget(&node, "b", 1) == SWIMTAB_DONE);
     WANT(swimtab_count(&node) == 1 && swimtab_find(&node, "b", 1, NULL) == SWIMTAB_NO_MEMBER);
     swimtab_buffer buffer = SWIMTAB_BUFFER_INIT;
-    WANT(lists(&node, LIST_A_0) && swimtab_offer_new(&node, false, SWIMTAB_CANONICAL, &buffer) == SWIMTAB_DONE);
+    WANT(lists(&node, LIST_A_0) && swimtab_offer_new(&node, false, SWIMTAB_CANONICAL, NULL, 0, &buffer) == SWIMTAB_DONE);
     WANT(is_hex(buffer.at, buffer.len, DUMP_A_0));
     swimtab_free(&buffer);
     WANT(swimtab_forget(&node, "b", 1) == SWIMTAB_NO_MEMBER);

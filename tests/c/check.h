@@ -132,10 +132,47 @@ static const uint8_t local_addr[4] = {127, 0, 0, 1};
 #define SUSPECT_B_1 "0383a446726f6da178ab496e6361726e6174696f6e01a44e6f6465a162"
 #define LIST_A_0 "a alive 0 0/7f000001/7946//\n"
 
+/* The details of a member from their parts. */
+static inline swimtab_details details_of(const void *name, size_t name_len, const void *addr, size_t addr_len,
+                                         uint16_t port, const void *meta, size_t meta_len, const void *vsn,
+                                         size_t vsn_len, uint32_t inc) {
+    swimtab_details details = SWIMTAB_DETAILS_INIT;
+    details.name = name, details.name_len = name_len;
+    details.addr = addr, details.addr_len = addr_len;
+    details.meta = meta, details.meta_len = meta_len;
+    details.vsn = vsn, details.vsn_len = vsn_len;
+    details.port = port, details.inc = inc;
+    return details;
+}
+
+/* Opens a node from the parts of its details. */
+static inline swimtab_status open_with(swimtab_node *node, const void *name, size_t name_len, const void *addr,
+                                       size_t addr_len, uint16_t port, const void *meta, size_t meta_len,
+                                       const void *vsn, size_t vsn_len, uint32_t inc) {
+    swimtab_details details =
+        details_of(name, name_len, addr, addr_len, port, meta, meta_len, vsn, vsn_len, inc);
+    return swimtab_open(node, &details);
+}
+
+/* Writes another member's Alive from its parts. */
+static inline swimtab_written alive_with(const void *name, size_t name_len, const void *addr, size_t addr_len,
+                                         uint16_t port, const void *meta, size_t meta_len, const void *vsn,
+                                         size_t vsn_len, uint32_t inc, void *out, size_t out_len) {
+    swimtab_details details =
+        details_of(name, name_len, addr, addr_len, port, meta, meta_len, vsn, vsn_len, inc);
+    return swimtab_alive_of(&details, out, out_len);
+}
+
+/* The status and the length of what was unwrapped. */
+static inline swimtab_written written_of(swimtab_unwrapped unwrapped) {
+    swimtab_written written = {unwrapped.status, unwrapped.len};
+    return written;
+}
+
 /* A node of this name, alive at the incarnation on 127.0.0.1. */
 static inline swimtab_node opened(const char *name, uint16_t port, uint32_t inc) {
     swimtab_node node = SWIMTAB_NODE_INIT;
-    WANT(swimtab_open(&node, name, strlen(name), local_addr, 4, port, NULL, 0, NULL, 0, inc) == 0);
+    WANT(open_with(&node, name, strlen(name), local_addr, 4, port, NULL, 0, NULL, 0, inc) == 0);
     return node;
 }
 

@@ -20,8 +20,10 @@ class Node {
 public:
     Node(const std::string &name, uint16_t port) : handle_(SWIMTAB_NODE_INIT) {
         const unsigned char local[4] = {127, 0, 0, 1};
-        status_ = swimtab_open(&handle_, name.data(), name.size(), local, sizeof local, port, nullptr, 0,
-                               nullptr, 0, 0);
+        swimtab_details details = SWIMTAB_DETAILS_INIT;
+        details.name = name.data(), details.name_len = name.size();
+        details.addr = local, details.addr_len = sizeof local, details.port = port, details.inc = 0;
+        status_ = swimtab_open(&handle_, &details);
     }
     ~Node() { swimtab_close(&handle_); }
     Node(const Node &) = delete;
@@ -31,7 +33,7 @@ public:
     swimtab_taken take(const std::string &packet) { return swimtab_take(&handle_, packet.data(), packet.size()); }
     bool join(const Node &other) {
         Bytes offer;
-        if (swimtab_offer_new(&other.handle_, true, SWIMTAB_CANONICAL, &offer.buffer) != SWIMTAB_DONE) return false;
+        if (swimtab_offer_new(&other.handle_, true, SWIMTAB_CANONICAL, NULL, 0, &offer.buffer) != SWIMTAB_DONE) return false;
         swimtab_exchanged made = swimtab_finish(&handle_, offer.buffer.at, offer.buffer.len);
         return made.status == SWIMTAB_DONE && made.join && made.news;
     }

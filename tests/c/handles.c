@@ -22,6 +22,7 @@ static void statuses_have_names(void) {
     WANT(strcmp(swimtab_fault_name(SWIMTAB_OWN_NAME), "OwnName") == 0);
     WANT(strcmp(swimtab_fault_name(SWIMTAB_TOO_MANY_PACKETS), "TooManyPackets") == 0);
     WANT(strcmp(swimtab_fault_name(SWIMTAB_BAD_FORM), "BadForm") == 0);
+    WANT(strcmp(swimtab_fault_name(SWIMTAB_BAD_SIZE), "BadSize") == 0);
     WANT(strcmp(swimtab_fault_name(63), "Unknown") == 0);
     WANT(strcmp(swimtab_fault_name(UINT32_MAX), "Unknown") == 0);
 }
@@ -29,14 +30,14 @@ static void statuses_have_names(void) {
 /* Whether a call of the library can return this status. */
 static bool is_answered(uint32_t status) {
     return status <= 8 || (status >= 10 && status <= 25) || (status >= 40 && status <= 48) ||
-           (status >= 50 && status <= 57) || status == 59 || (status >= 64 && status <= 70);
+           (status >= 50 && status <= 57) || status == 59 || (status >= 64 && status <= 74);
 }
 
 static void statuses_have_sentences(void) {
     static const char none[] = "There is no such status.";
     WANT(strcmp(swimtab_fault_text(SWIMTAB_DONE), "Done.") == 0);
     WANT(strcmp(swimtab_fault_text(SWIMTAB_MEMORY), "Out of memory.") == 0);
-    WANT(strcmp(swimtab_fault_text(SWIMTAB_BAD_FORM), "There is no such form of a stream.") == 0);
+    WANT(strcmp(swimtab_fault_text(SWIMTAB_BAD_FORM), "There is no such form of a stream, or it has no user state.") == 0);
     for (uint32_t status = 0; status < 256; status++) {
         const char *text = swimtab_fault_text(status);
         WANT((strcmp(text, none) == 0) != is_answered(status));
@@ -62,8 +63,8 @@ static void refuses_to_look_without_a_node(swimtab_node *none) {
 /* Each call that fills a buffer, on a handle without a node. */
 static void fills_nothing_without_a_node(swimtab_node *none) {
     swimtab_buffer buffer = SWIMTAB_BUFFER_INIT;
-    WANT(swimtab_offer_new(none, true, SWIMTAB_CANONICAL, &buffer) == SWIMTAB_NO_NODE);
-    WANT(swimtab_answer_new(none, "", 0, SWIMTAB_CANONICAL, &buffer).status == SWIMTAB_NO_NODE);
+    WANT(swimtab_offer_new(none, true, SWIMTAB_CANONICAL, NULL, 0, &buffer) == SWIMTAB_NO_NODE);
+    WANT(swimtab_answer_new(none, "", 0, SWIMTAB_CANONICAL, NULL, 0, &buffer).status == SWIMTAB_NO_NODE);
     WANT(swimtab_list_new(none, &buffer) == SWIMTAB_NO_NODE);
     WANT(buffer.at == NULL && buffer.len == 0 && !buffer.kept.held);
     WANT(swimtab_list_new(none, NULL) == (none ? SWIMTAB_TOO_SMALL : SWIMTAB_NO_NODE));
@@ -80,9 +81,9 @@ static void refuses_without_a_node(swimtab_node *none) {
     WANT(swimtab_suspect(none, "a", 1, 1, out, 4).status == SWIMTAB_NO_NODE);
     WANT(swimtab_confirm(none, "a", 1, 1, out, 4).status == SWIMTAB_NO_NODE);
     WANT(swimtab_leave(none, 1, out, 4).status == SWIMTAB_NO_NODE);
-    WANT(swimtab_offer(none, true, SWIMTAB_CANONICAL, out, 4).status == SWIMTAB_NO_NODE);
+    WANT(swimtab_offer(none, true, SWIMTAB_CANONICAL, NULL, 0, out, 4).status == SWIMTAB_NO_NODE);
     WANT(swimtab_dump(none, out, 4).status == SWIMTAB_NO_NODE);
-    WANT(swimtab_answer(none, "", 0, SWIMTAB_CANONICAL, out, 4).status == SWIMTAB_NO_NODE);
+    WANT(swimtab_answer(none, "", 0, SWIMTAB_CANONICAL, NULL, 0, out, 4).status == SWIMTAB_NO_NODE);
     WANT(swimtab_finish(none, "", 0).status == SWIMTAB_NO_NODE);
     refuses_to_look_without_a_node(none);
     fills_nothing_without_a_node(none);
@@ -102,7 +103,7 @@ static void a_handle_without_a_node_has_none(void) {
     refuses_without_a_node(&zeroed);
     refuses_without_a_node(&closed);
     refuses_without_a_node(NULL);
-    WANT(swimtab_open(NULL, "a", 1, local_addr, 4, 1, NULL, 0, NULL, 0, 0) == SWIMTAB_NO_NODE);
+    WANT(open_with(NULL, "a", 1, local_addr, 4, 1, NULL, 0, NULL, 0, 0) == SWIMTAB_NO_NODE);
 }
 
 /* Keyrings, and packets of a cluster, with NULL for each argument that may be NULL; tests/c/sealing.c has the rest. */
@@ -128,7 +129,7 @@ static void keyrings_and_packets_may_be_null(void) {
     swimtab_written written = swimtab_seal(NULL, NULL, "", 0, packet, 2, out, 4);
     WANT(written.status == SWIMTAB_DONE && is_hex(out, written.len, "0700") && out[2] == 7);
     out[0] = 9;
-    written = swimtab_unwrap(&keyring, packet, 2, out, 4);
+    written = written_of(swimtab_unwrap(&keyring, packet, 2, out, 4));
     WANT(written.status == SWIMTAB_DONE && is_hex(out, written.len, "0700") && out[2] == 7);
 }
 
@@ -156,17 +157,17 @@ static void openings_are_refused(void) {
         swimtab_node node = SWIMTAB_NODE_INIT;
         struct bytes name = bytes_of_size(cases[i].name_len, 'n'), addr = bytes_of_size(cases[i].addr_len, 1),
                      meta = bytes_of_size(cases[i].meta_len, 2), vsn = bytes_of_size(cases[i].vsn_len, 3);
-        WANT(swimtab_open(&node, name.at, name.len, addr.at, addr.len, 1, meta.at, meta.len, vsn.at,
+        WANT(open_with(&node, name.at, name.len, addr.at, addr.len, 1, meta.at, meta.len, vsn.at,
                           vsn.len, 0) == cases[i].status);
         WANT(swimtab_close(&node) == SWIMTAB_NO_NODE);
         free(name.at), free(addr.at), free(meta.at), free(vsn.at);
     }
     swimtab_node node = SWIMTAB_NODE_INIT;
-    WANT(swimtab_open(&node, NULL, 1, local_addr, 4, 1, NULL, 0, NULL, 0, 0) == SWIMTAB_NAME_EMPTY);
-    WANT(swimtab_open(&node, "a", 1, NULL, 4, 1, NULL, 0, NULL, 0, 0) == SWIMTAB_BAD_ADDRESS);
+    WANT(open_with(&node, NULL, 1, local_addr, 4, 1, NULL, 0, NULL, 0, 0) == SWIMTAB_NAME_EMPTY);
+    WANT(open_with(&node, "a", 1, NULL, 4, 1, NULL, 0, NULL, 0, 0) == SWIMTAB_BAD_ADDRESS);
     node = opened("a", 7946, 0);
-    WANT(swimtab_open(&node, "b", 1, local_addr, 4, 1, NULL, 0, NULL, 0, 0) == SWIMTAB_NODE_THERE);
-    WANT(swimtab_open(&node, NULL, 0, NULL, 0, 1, NULL, 0, NULL, 0, 0) == SWIMTAB_NODE_THERE);
+    WANT(open_with(&node, "b", 1, local_addr, 4, 1, NULL, 0, NULL, 0, 0) == SWIMTAB_NODE_THERE);
+    WANT(open_with(&node, NULL, 0, NULL, 0, 1, NULL, 0, NULL, 0, 0) == SWIMTAB_NODE_THERE);
     WANT(lists(&node, LIST_A_0));
     WANT(swimtab_close(&node) == 0);
 }
@@ -176,7 +177,7 @@ static void the_longest_values_are_copied_out(void) {
                  vsn = bytes_of_size(6, 3);
     for (size_t i = 0; i < name.len; i++) name.at[i] = (uint8_t)i;
     swimtab_node node = SWIMTAB_NODE_INIT;
-    WANT(swimtab_open(&node, name.at, name.len, addr.at, addr.len, 65535, meta.at, meta.len, vsn.at, vsn.len,
+    WANT(open_with(&node, name.at, name.len, addr.at, addr.len, 65535, meta.at, meta.len, vsn.at, vsn.len,
                       UINT32_MAX) == 0);
     swimtab_member_data member;
     memset(&member, 9, sizeof member);
@@ -267,8 +268,8 @@ static void a_whole_exchange_levels_two_members(void) {
     WANT(take_hex(&first, "0583a446726f6da162ab496e6361726e6174696f6e03a44e6f6465a163") == 0);
     swimtab_related relation = swimtab_relate(&first, &second);
     WANT(relation.status == 0 && relation.relation == SWIMTAB_APART);
-    swimtab_written offered = swimtab_offer(&first, true, SWIMTAB_CANONICAL, offer, sizeof offer);
-    swimtab_exchanged answered = swimtab_answer(&second, offer, offered.len, SWIMTAB_CANONICAL, reply, sizeof reply);
+    swimtab_written offered = swimtab_offer(&first, true, SWIMTAB_CANONICAL, NULL, 0, offer, sizeof offer);
+    swimtab_exchanged answered = swimtab_answer(&second, offer, offered.len, SWIMTAB_CANONICAL, NULL, 0, reply, sizeof reply);
     WANT(offered.status == 0 && answered.status == 0 && answered.join && answered.used == offered.len);
     relation = swimtab_relate(&first, &second);
     WANT(relation.status == 0 && relation.relation == SWIMTAB_BEHIND);

@@ -104,11 +104,11 @@ static const char db_3_meta[] = "\xff\x82\xa4role\xa2" "db\xa4rack\xa2r3";
 
 static swimtab_written write_alive_of(swimtab_node *node, uint8_t *out, size_t out_len) {
     (void)node;
-    return swimtab_alive_of("db-3", 4, db_3_addr, 16, 7946, db_3_meta, 18, db_3_vsn, 6, 1, out, out_len);
+    return alive_with("db-3", 4, db_3_addr, 16, 7946, db_3_meta, 18, db_3_vsn, 6, 1, out, out_len);
 }
 static swimtab_written write_plain_alive_of(swimtab_node *node, uint8_t *out, size_t out_len) {
     (void)node;
-    return swimtab_alive_of("a", 1, local_addr, 4, 7947, NULL, 0, NULL, 0, 4, out, out_len);
+    return alive_with("a", 1, local_addr, 4, 7947, NULL, 0, NULL, 0, 4, out, out_len);
 }
 
 /* The first packet is from a running cluster: tests/c/sealing.c has it as it was sent. */
@@ -139,8 +139,8 @@ static void an_alive_of_invalid_parts_is_refused(void) {
         struct bytes name = bytes_of_size(cases[i].name_len, 'n'), addr = bytes_of_size(cases[i].addr_len, 1),
                      meta = bytes_of_size(cases[i].meta_len, 2), vsn = bytes_of_size(cases[i].vsn_len, 3),
                      out = bytes_of_size(2100, 7);
-        swimtab_written written = swimtab_alive_of(name.at, name.len, addr.at, addr.len, 1, meta.at, meta.len,
-                                                   vsn.at, vsn.len, UINT32_MAX, out.at, out.len);
+        swimtab_written written = alive_with(name.at, name.len, addr.at, addr.len, 1, meta.at, meta.len,
+                                             vsn.at, vsn.len, UINT32_MAX, out.at, out.len);
         WANT(written.status == cases[i].status);
         WANT(written.status == SWIMTAB_DONE || (written.len == 0 && out.at[0] == 7));
         swimtab_node node = opened("a", 7946, 0);
@@ -152,8 +152,8 @@ static void an_alive_of_invalid_parts_is_refused(void) {
         free(name.at), free(addr.at), free(meta.at), free(vsn.at), free(out.at);
     }
     uint8_t out[8];
-    WANT(swimtab_alive_of(NULL, 1, local_addr, 4, 1, NULL, 0, NULL, 0, 0, out, 8).status == SWIMTAB_NAME_EMPTY);
-    WANT(swimtab_alive_of("a", 1, NULL, 4, 1, NULL, 0, NULL, 0, 0, out, 8).status == SWIMTAB_BAD_ADDRESS);
+    WANT(alive_with(NULL, 1, local_addr, 4, 1, NULL, 0, NULL, 0, 0, out, 8).status == SWIMTAB_NAME_EMPTY);
+    WANT(alive_with("a", 1, NULL, 4, 1, NULL, 0, NULL, 0, 0, out, 8).status == SWIMTAB_BAD_ADDRESS);
 }
 
 static void packets_are_written_where_they_fit(void) {
@@ -211,9 +211,9 @@ static void what_a_member_may_not_say_is_refused(void) {
     WANT(written.status == 0 && swimtab_take(&node, out.at, written.len).status == 0);
     WANT(swimtab_find(&node, name.at, 1024, NULL) == 0);
     WANT(swimtab_close(&node) == 0);
-    WANT(swimtab_open(&node, name.at, 1024, local_addr, 4, 1, NULL, 0, NULL, 0, 0) == 0);
+    WANT(open_with(&node, name.at, 1024, local_addr, 4, 1, NULL, 0, NULL, 0, 0) == 0);
     written = swimtab_suspect(&node, name.at, 1024, UINT32_MAX, out.at, out.len);
-    WANT(written.status == 0 && written.len == SWIMTAB_MAX_PACKET_LEN);
+    WANT(written.status == 0 && written.len == 2083);
     WANT(swimtab_close(&node) == 0);
     node = opened("a", 7946, 0);
     /* a member may suspect itself, though none does */

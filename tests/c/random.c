@@ -176,7 +176,7 @@ static void keep_line(const struct text *packet) {
 
 static void keep_dump(const swimtab_node *node, const char *name) {
     swimtab_buffer buffer = SWIMTAB_BUFFER_INIT;
-    WANT(swimtab_offer_new(node, false, SWIMTAB_CANONICAL, &buffer) == SWIMTAB_DONE);
+    WANT(swimtab_offer_new(node, false, SWIMTAB_CANONICAL, NULL, 0, &buffer) == SWIMTAB_DONE);
     keep(name, buffer.at, buffer.len);
     swimtab_free(&buffer);
 }
@@ -291,7 +291,7 @@ static void take_stream(swimtab_node *node, unsigned number) {
     WANT(progress.at + progress.user_len == stream.len);
     swimtab_buffer reply = SWIMTAB_BUFFER_INIT;
     swimtab_exchanged made = number % 2 ? swimtab_finish(node, stream.at, stream.len)
-                                        : swimtab_answer_new(node, stream.at, stream.len, number / 2 % 2, &reply);
+                                        : swimtab_answer_new(node, stream.at, stream.len, number / 2 % 2, NULL, 0, &reply);
     WANT(made.status == SWIMTAB_DONE && made.used == stream.len && made.len == reply.len);
     swimtab_free(&reply);
     compare(node, made.news);
@@ -305,7 +305,7 @@ static swimtab_node begun(void) {
     const uint8_t addr[4] = {127, 0, 0, 1};
     static struct text own;
     swimtab_node node = SWIMTAB_NODE_INIT;
-    WANT(swimtab_open(&node, "self", 4, addr, 4, 7946, NULL, 0, NULL, 0, 3) == SWIMTAB_DONE);
+    WANT(open_with(&node, "self", 4, addr, 4, 7946, NULL, 0, NULL, 0, 3) == SWIMTAB_DONE);
     WANT(swimtab_watch(&node, true) == SWIMTAB_DONE);
     own.len = swimtab_alive(&node, 3, own.at, ROOM).len;
     keep_line(&own);

@@ -51,12 +51,12 @@ static const char long_name[] = "a name of more than thirty bytes, which takes m
 static uint8_t meta[200];
 
 static uint32_t open_first(void) {
-    return swimtab_open(&first, long_name, sizeof long_name - 1, local, 4, 7946, meta, sizeof meta, NULL, 0, 1);
+    return open_with(&first, long_name, sizeof long_name - 1, local, 4, 7946, meta, sizeof meta, NULL, 0, 1);
 }
 static uint32_t watch_first(void) { return swimtab_watch(&first, true); }
 static uint32_t watch_second(void) { return swimtab_watch(&second, true); }
 static uint32_t open_second(void) {
-    return swimtab_open(&second, "b", 1, local, 4, 7947, NULL, 0, NULL, 0, 1);
+    return open_with(&second, "b", 1, local, 4, 7947, NULL, 0, NULL, 0, 1);
 }
 static uint32_t take(swimtab_node *node, const char *text) {
     uint8_t bytes[512];
@@ -90,6 +90,10 @@ static uint32_t kept(swimtab_written written) {
     out_len = written.len;
     return written.status;
 }
+static uint32_t kept_unwrapped(swimtab_unwrapped unwrapped) {
+    out_len = unwrapped.len;
+    return unwrapped.status;
+}
 static uint32_t say_alive(void) { return kept(swimtab_alive(&first, 2, out, ROOM)); }
 static uint32_t say_suspect(void) { return kept(swimtab_suspect(&first, long_name, 40, 2, out, ROOM)); }
 static uint32_t say_confirm(void) { return kept(swimtab_confirm(&first, long_name, 40, 2, out, ROOM)); }
@@ -101,20 +105,20 @@ static uint32_t say_compound(void) {
 }
 static uint32_t list_first(void) { return kept(swimtab_list(&first, out, ROOM)); }
 static uint32_t offer_first(void) {
-    uint32_t status = kept(swimtab_offer(&first, true, SWIMTAB_CANONICAL, out, ROOM));
+    uint32_t status = kept(swimtab_offer(&first, true, SWIMTAB_CANONICAL, NULL, 0, out, ROOM));
     memcpy(offer, out, out_len);
     offer_len = out_len;
     return status;
 }
 static uint32_t answer_second(void) {
-    swimtab_exchanged made = swimtab_answer(&second, offer, offer_len, SWIMTAB_CANONICAL, out, ROOM);
+    swimtab_exchanged made = swimtab_answer(&second, offer, offer_len, SWIMTAB_CANONICAL, NULL, 0, out, ROOM);
     out_len = made.len;
     memcpy(reply, out, out_len);
     reply_len = out_len;
     return made.status;
 }
 static uint32_t say_alive_of(void) {
-    return kept(swimtab_alive_of(long_name, 40, local, 4, 1, meta, sizeof meta, NULL, 0, 9, out, ROOM));
+    return kept(alive_with(long_name, 40, local, 4, 1, meta, sizeof meta, NULL, 0, 9, out, ROOM));
 }
 /* Two keys, and a suspicion that is sealed and unwrapped again. */
 static const uint8_t keys[2][32] = {{1, 2, 3}, {4, 5}};
@@ -132,7 +136,7 @@ static uint32_t seal(void) {
     return status;
 }
 static uint32_t unwrap(void) {
-    uint32_t status = kept(swimtab_unwrap(&keyring, sealed, sealed_len, out, ROOM));
+    uint32_t status = kept_unwrapped(swimtab_unwrap(&keyring, sealed, sealed_len, out, ROOM));
     memcpy(unwrapped, out, out_len);
     unwrapped_len = out_len;
     return status;
@@ -145,14 +149,45 @@ static uint32_t unwrap_compressed(void) {
         "\x84\x0c\x19\x39\xa4\xfe\x00\x00\x10\x60\x55\x12\x37\x63\xc2\xc8\x71\x13\x86\x4e\x9a\x37\x6e\x00\x90"
         "\x6a\x52\x86\x4e\x18\x50\xa4\x9c\xbc\x21\x53\x26\x54\x18\x52\x50\xde\xc8\xa1\xd3\xec\x83\x82\x51\x56"
         "\xe6\xb8\x01\x15\x10";
-    return kept(swimtab_unwrap(NULL, packet, sizeof packet - 1, out, ROOM));
+    return kept_unwrapped(swimtab_unwrap(NULL, packet, sizeof packet - 1, out, ROOM));
 }
+static uint32_t unwrap_new(void) { return swimtab_unwrap_new(&keyring, sealed, sealed_len, &buffer).status; }
+static uint32_t say_ping(void) {
+    swimtab_details source = details_of(long_name, 40, local, 4, 1, NULL, 0, NULL, 0, 1);
+    return kept(swimtab_ping_of(1, "d", 1, &source, out, ROOM));
+}
+static uint32_t say_indirect(void) {
+    swimtab_details target = details_of(long_name, 40, local, 4, 1, NULL, 0, NULL, 0, 1);
+    return kept(swimtab_indirect_of(1, &target, true, &target, out, ROOM));
+}
+static uint32_t say_ack(void) { return kept(swimtab_ack_of(1, meta, sizeof meta, out, ROOM)); }
+static uint32_t say_nack(void) { return kept(swimtab_nack_of(1, out, ROOM)); }
+static uint32_t say_user(void) { return kept(swimtab_user_of(meta, sizeof meta, out, ROOM)); }
+static uint32_t say_suspect_of(void) { return kept(swimtab_suspect_of(long_name, 40, "d", 1, 1, out, ROOM)); }
+static uint32_t say_dead_of(void) { return kept(swimtab_dead_of(long_name, 40, "d", 1, 1, out, ROOM)); }
+static uint32_t read_ping(void) {
+    static const uint8_t ping[] = "\x00\x82\xa4Node\xa2" "d3\xa5SeqNo\x01";
+    static swimtab_probe probe;
+    return swimtab_read(ping, sizeof ping - 1, &probe);
+}
+/* e dies and comes back, and is believed; then the details of the second node are others */
+static uint32_t kill_e(void) { return take(&second, "0583a446726f6da178ab496e6361726e6174696f6e01a44e6f6465a165"); }
+static uint32_t revive_e(void) {
+    return take(&second, "0486a441646472a47f000001ab496e6361726e6174696f6e02a44d657461a0a44e6f6465a165a4506f727401"
+                         "a356736ea0");
+}
+static uint32_t readmit_e(void) { return swimtab_readmit(&second, "e", 1); }
+static uint32_t update_second(void) {
+    swimtab_details details = details_of(NULL, 0, local, 4, 7950, meta, sizeof meta, NULL, 0, 0);
+    return swimtab_update(&second, &details).status;
+}
+static uint32_t use_second_key(void) { return swimtab_keyring_use(&keyring, 1); }
 static uint32_t list_new(void) { return swimtab_list_new(&first, &buffer); }
-static uint32_t offer_new(void) { return swimtab_offer_new(&first, true, SWIMTAB_MEMBERLIST, &buffer); }
-static uint32_t offer_new_again(void) { return swimtab_offer_new(&first, true, SWIMTAB_CANONICAL, &buffer); }
+static uint32_t offer_new(void) { return swimtab_offer_new(&first, true, SWIMTAB_MEMBERLIST, NULL, 0, &buffer); }
+static uint32_t offer_new_again(void) { return swimtab_offer_new(&first, true, SWIMTAB_CANONICAL, NULL, 0, &buffer); }
 static uint32_t answer_new(void) {
     /* a table that changes: the offer of the first node, which has more than the second one */
-    return swimtab_answer_new(&second, offer, offer_len, SWIMTAB_MEMBERLIST, &buffer).status;
+    return swimtab_answer_new(&second, offer, offer_len, SWIMTAB_MEMBERLIST, NULL, 0, &buffer).status;
 }
 static uint32_t whole_offer(void) {
     swimtab_progress progress = SWIMTAB_PROGRESS_INIT;
@@ -168,6 +203,8 @@ static uint32_t (*const calls[])(void) = {
     list_new,      offer_new,      offer_first,       watch_second, add_key,       seal,          add_another_key,
     unwrap,        take_unwrapped, unwrap_compressed, refute_second, suspect_second_again,        offer_new_again,
     whole_offer,   answer_second,  answer_new,        finish_first, refute_second, forget_d,      accept_clear,
+    unwrap_new,    say_ping,      say_indirect,      say_ack,      say_nack,      say_user,      say_suspect_of,
+    say_dead_of,   read_ping,     kill_e,            revive_e,     readmit_e,     update_second, use_second_key,
 };
 
 enum { CALLS = sizeof calls / sizeof *calls };
@@ -315,13 +352,13 @@ static void an_offer_takes_no_memory(void) {
     WANT(open_first() == 0 && take_alive() == 0 && take_compound() == 0);
     until_refused = 0;
     watching = true;
-    swimtab_written asked = swimtab_offer(&first, true, SWIMTAB_CANONICAL, NULL, 0);
+    swimtab_written asked = swimtab_offer(&first, true, SWIMTAB_CANONICAL, NULL, 0, NULL, 0);
     WANT(asked.status == SWIMTAB_TOO_SMALL);
-    swimtab_written short_by_one = swimtab_offer(&first, true, SWIMTAB_CANONICAL, out, asked.len - 1);
+    swimtab_written short_by_one = swimtab_offer(&first, true, SWIMTAB_CANONICAL, NULL, 0, out, asked.len - 1);
     WANT(short_by_one.status == SWIMTAB_TOO_SMALL && short_by_one.len == asked.len);
-    swimtab_written made = swimtab_offer(&first, true, SWIMTAB_CANONICAL, out, asked.len);
+    swimtab_written made = swimtab_offer(&first, true, SWIMTAB_CANONICAL, NULL, 0, out, asked.len);
     WANT(made.status == SWIMTAB_DONE && made.len == asked.len);
-    WANT(swimtab_offer(&first, true, SWIMTAB_MEMBERLIST, reply, ROOM).status == SWIMTAB_DONE);
+    WANT(swimtab_offer(&first, true, SWIMTAB_MEMBERLIST, NULL, 0, reply, ROOM).status == SWIMTAB_DONE);
     watching = false;
     WANT(until_refused == 0);
     until_refused = -1;

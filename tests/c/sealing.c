@@ -101,7 +101,7 @@
     "f86908430e42d76f5bae8aaf91d5153387d57ae1ffbd621086e929bf00f3f783854ca8be93a7e61f1a4dd7654271" \
     "1255994f2af38d89d1c698a2ae58d0d2a6d36eb14726b7c5d5c927fc"
 
-/* Encrypted with it, without a label: a byte that is not a message, and an ack as a stream. */
+/* Encrypted with it, without a label: the first byte of a push/pull, and an ack as a stream. */
 #define SEALED_BYTE "016e6f6e63652d6e756d6265723b0b56637d80325b1ad4163cc9c2cbef66"
 #define ACK_STREAM \
     "0a0000002f016e6f6e63652d6e756d6265723f24a82c73fb6e8007e572601a4dee56ab8f2b2c23af1a5a34fd34c8" \
@@ -122,31 +122,36 @@ typedef swimtab_written (*unwrapping)(const swimtab_keyring *, const void *, siz
 typedef swimtab_written (*sealing)(const swimtab_keyring *, const void *, const void *, size_t, const void *, size_t,
                                    void *, size_t);
 
+static swimtab_written unwrap(const swimtab_keyring *keyring, const void *packet, size_t len, void *out,
+                              size_t out_len) {
+    return written_of(swimtab_unwrap(keyring, packet, len, out, out_len));
+}
+
 /* A stream in a cluster without a label, and in the clusters `dc` and `east`. */
 static swimtab_written unwrap_stream(const swimtab_keyring *keyring, const void *stream, size_t len, void *out,
                                      size_t out_len) {
-    return swimtab_raw_unwrap_stream(keyring, "", 0, stream, len, out, out_len);
+    return written_of(swimtab_unwrap_stream(keyring, "", 0, stream, len, out, out_len));
 }
 
 static swimtab_written unwrap_in_dc(const swimtab_keyring *keyring, const void *stream, size_t len, void *out,
                                     size_t out_len) {
-    return swimtab_raw_unwrap_stream(keyring, "dc", 2, stream, len, out, out_len);
+    return written_of(swimtab_unwrap_stream(keyring, "dc", 2, stream, len, out, out_len));
 }
 
 static swimtab_written unwrap_in_east(const swimtab_keyring *keyring, const void *stream, size_t len, void *out,
                                       size_t out_len) {
-    return swimtab_raw_unwrap_stream(keyring, "east", 4, stream, len, out, out_len);
+    return written_of(swimtab_unwrap_stream(keyring, "east", 4, stream, len, out, out_len));
 }
 
 /* A stream from the side that opens a connection, and one from the side that answers. */
 static swimtab_written seal_stream(const swimtab_keyring *keyring, const void *nonce, const void *label,
                                    size_t label_len, const void *message, size_t len, void *out, size_t out_len) {
-    return swimtab_raw_seal_stream(keyring, nonce, label, label_len, false, message, len, out, out_len);
+    return swimtab_seal_stream(keyring, nonce, label, label_len, false, message, len, out, out_len);
 }
 
 static swimtab_written seal_reply(const swimtab_keyring *keyring, const void *nonce, const void *label,
                                   size_t label_len, const void *message, size_t len, void *out, size_t out_len) {
-    return swimtab_raw_seal_stream(keyring, nonce, label, label_len, true, message, len, out, out_len);
+    return swimtab_seal_stream(keyring, nonce, label, label_len, true, message, len, out, out_len);
 }
 
 /* A keyring with these keys in hexadecimal, up to the first NULL. */
@@ -154,7 +159,7 @@ static swimtab_keyring keyring_of(const char *const *keys) {
     swimtab_keyring keyring = SWIMTAB_KEYRING_INIT;
     for (; *keys; keys++) {
         struct bytes key = hex(*keys);
-        WANT(swimtab_raw_keyring_add(&keyring, key.at, key.len) == SWIMTAB_DONE && keyring.held);
+        WANT(swimtab_keyring_add(&keyring, key.at, key.len) == SWIMTAB_DONE && keyring.held);
         memset(key.at, 0, key.len);
         free(key.at);
     }
@@ -164,8 +169,8 @@ static swimtab_keyring keyring_of(const char *const *keys) {
 /* Closes a keyring, with or without keys. */
 static void closes(swimtab_keyring *keyring) {
     bool held = keyring->held;
-    WANT(swimtab_raw_keyring_close(keyring) == (held ? SWIMTAB_DONE : SWIMTAB_NO_NODE));
-    WANT(!keyring->held && swimtab_raw_keyring_close(keyring) == SWIMTAB_NO_NODE);
+    WANT(swimtab_keyring_close(keyring) == (held ? SWIMTAB_DONE : SWIMTAB_NO_NODE));
+    WANT(!keyring->held && swimtab_keyring_close(keyring) == SWIMTAB_NO_NODE);
 }
 
 static bool is_filled(struct bytes bytes, size_t from) {
@@ -240,20 +245,20 @@ static void keys_are_added_and_freed(void) {
     const uint8_t key[33] = {1};
     static const size_t wrong[] = {0, 1, 15, 17, 23, 25, 31, 33};
     for (size_t i = 0; i < sizeof wrong / sizeof *wrong; i++)
-        WANT(swimtab_raw_keyring_add(&keyring, key, wrong[i]) == 50 && !keyring.held);
+        WANT(swimtab_keyring_add(&keyring, key, wrong[i]) == 50 && !keyring.held);
     for (size_t len = 16; len <= 32; len += 8)
-        WANT(swimtab_raw_keyring_add(&keyring, key, len) == SWIMTAB_DONE && keyring.held);
+        WANT(swimtab_keyring_add(&keyring, key, len) == SWIMTAB_DONE && keyring.held);
     for (size_t i = 0; i < sizeof wrong / sizeof *wrong; i++)
-        WANT(swimtab_raw_keyring_add(&keyring, key, wrong[i]) == 50 && keyring.held);
+        WANT(swimtab_keyring_add(&keyring, key, wrong[i]) == 50 && keyring.held);
     closes(&keyring);
 }
 
 /* memberlist drops what is in the clear if it has keys (net.go, GossipVerifyIncoming in config.go). */
 static void what_is_in_the_clear_is_refused_with_keys(void) {
-    refused(both, swimtab_raw_unwrap, ALIVE, SWIMTAB_UNENCRYPTED);
-    refused(both, swimtab_raw_unwrap, ALIVE_CHECKED, SWIMTAB_UNENCRYPTED);
-    refused(both, swimtab_raw_unwrap, PACKED_ALIVE, SWIMTAB_UNENCRYPTED);
-    refused(both, swimtab_raw_unwrap, "f40161" ALIVE, SWIMTAB_UNENCRYPTED);
+    refused(both, unwrap, ALIVE, SWIMTAB_UNENCRYPTED);
+    refused(both, unwrap, ALIVE_CHECKED, SWIMTAB_UNENCRYPTED);
+    refused(both, unwrap, PACKED_ALIVE, SWIMTAB_UNENCRYPTED);
+    refused(both, unwrap, "f40161" ALIVE, SWIMTAB_UNENCRYPTED);
     refused(key_16, unwrap_stream, CLEAR_STREAM, SWIMTAB_UNENCRYPTED);
     refused(key_16, unwrap_in_dc, CLEAR_STREAM, SWIMTAB_UNENCRYPTED);
     refused(key_16, unwrap_stream, "f4026463" CLEAR_STREAM, SWIMTAB_UNENCRYPTED);
@@ -263,11 +268,11 @@ static void what_is_in_the_clear_is_refused_with_keys(void) {
 static void accepts(unwrapping call, const char *sent, const char *wanted) {
     swimtab_keyring keyring = SWIMTAB_KEYRING_INIT;
     struct bytes bytes = hex(sent), room = bytes_of_size(2000, 7);
-    WANT(swimtab_raw_keyring_accept_clear(&keyring) == SWIMTAB_NO_NODE);
+    WANT(swimtab_keyring_accept_clear(&keyring) == SWIMTAB_NO_NODE);
     keyring = keyring_of(key_16);
     WANT(call(&keyring, bytes.at, bytes.len, room.at, room.len).status == SWIMTAB_UNENCRYPTED);
-    WANT(swimtab_raw_keyring_accept_clear(&keyring) == SWIMTAB_DONE);
-    WANT(swimtab_raw_keyring_add(&keyring, "sixteen more byt", 16) == SWIMTAB_DONE);
+    WANT(swimtab_keyring_accept_clear(&keyring) == SWIMTAB_DONE);
+    WANT(swimtab_keyring_add(&keyring, "sixteen more byt", 16) == SWIMTAB_DONE);
     is_written(call(&keyring, bytes.at, bytes.len, room.at, room.len), room, wanted);
     closes(&keyring);
     keyring = keyring_of(key_16);
@@ -277,40 +282,78 @@ static void accepts(unwrapping call, const char *sent, const char *wanted) {
 }
 
 static void what_is_in_the_clear_is_accepted_if_asked(void) {
-    accepts(swimtab_raw_unwrap, ALIVE, ALIVE);
-    accepts(swimtab_raw_unwrap, ALIVE_CHECKED, ALIVE);
+    accepts(unwrap, ALIVE, ALIVE);
+    accepts(unwrap, ALIVE_CHECKED, ALIVE);
     accepts(unwrap_stream, CLEAR_STREAM, CLEAR_STREAM);
     accepts(unwrap_in_dc, CLEAR_STREAM, CLEAR_STREAM);
 }
 
 static void packets_of_a_cluster_are_unwrapped(void) {
-    unwraps(both, swimtab_raw_unwrap, ALIVE_SENT, ALIVE);
-    unwraps(old_only, swimtab_raw_unwrap, ALIVE_SENT, ALIVE);
-    unwraps(both, swimtab_raw_unwrap, PACKED_SENT, PACKED);
-    unwraps(both, swimtab_raw_unwrap, SUSPECT_SENT, SUSPECT);
-    unwraps(no_keys, swimtab_raw_unwrap, ALIVE_CHECKED, ALIVE);
-    unwraps(no_keys, swimtab_raw_unwrap, PACKED_ALIVE, CLEAR_ALIVE);
-    unwraps(no_keys, swimtab_raw_unwrap, "f40161" ALIVE, ALIVE);
-    unwraps(others, swimtab_raw_unwrap, SEALED_ALIVE, CLEAR_ALIVE);
+    unwraps(both, unwrap, ALIVE_SENT, ALIVE);
+    unwraps(old_only, unwrap, ALIVE_SENT, ALIVE);
+    unwraps(both, unwrap, PACKED_SENT, PACKED);
+    unwraps(both, unwrap, SUSPECT_SENT, SUSPECT);
+    unwraps(no_keys, unwrap, ALIVE_CHECKED, ALIVE);
+    unwraps(no_keys, unwrap, PACKED_ALIVE, CLEAR_ALIVE);
+    unwraps(no_keys, unwrap, "f40161" ALIVE, ALIVE);
+    unwraps(others, unwrap, SEALED_ALIVE, CLEAR_ALIVE);
 }
 
-static void packets_without_claims_are_refused(void) {
-    refused(both, swimtab_raw_unwrap, NACK_SENT, SWIMTAB_WRONG_TYPE);
-    refused(no_keys, swimtab_raw_unwrap, PING, SWIMTAB_WRONG_TYPE);
-    refused(no_keys, swimtab_raw_unwrap, "06", SWIMTAB_WRONG_TYPE);
-    refused(no_keys, swimtab_raw_unwrap, ALIVE_SENT, SWIMTAB_WRONG_TYPE);
-    refused(key_32, swimtab_raw_unwrap, SEALED_BYTE, SWIMTAB_WRONG_TYPE);
-    refused(no_keys, swimtab_raw_unwrap, "", SWIMTAB_ENDED);
-    refused(no_keys, swimtab_raw_unwrap, "0c00000000", SWIMTAB_ENDED);
-    refused(old_only, swimtab_raw_unwrap, SUSPECT_SENT, 54);
-    refused(key_16, swimtab_raw_unwrap, ALIVE_SENT, 54);
-    refused(both, swimtab_raw_unwrap, "01ff", 54);
-    refused(key_32, swimtab_raw_unwrap, "f4026463" SEALED_BYTE, 54);
-    refused(both, swimtab_raw_unwrap, "0c00", 40);
-    refused(both, swimtab_raw_unwrap, "0c00000001", 43);
-    refused(no_keys, swimtab_raw_unwrap, "0905", 44);
-    refused(no_keys, swimtab_raw_unwrap, "f400", 46);
-    refused(no_keys, swimtab_raw_unwrap, "f40161f40161f40161f40161f4016103", 48);
+/* The kind of what is unwrapped is told, also if the buffer is too small. */
+static void is_of_kind(const char *const *keys, bool in_stream, const char *sent, uint32_t kind) {
+    swimtab_keyring keyring = keyring_of(keys);
+    struct bytes bytes = hex(sent), room = bytes_of_size(2000, 7);
+    for (size_t len = 0; len <= room.len; len += room.len) {
+        swimtab_unwrapped made =
+            in_stream ? swimtab_unwrap_stream(&keyring, NULL, 0, bytes.at, bytes.len, room.at, len)
+                      : swimtab_unwrap(&keyring, bytes.at, bytes.len, room.at, len);
+        WANT(made.status == (len ? SWIMTAB_DONE : SWIMTAB_TOO_SMALL) && made.kind == kind);
+    }
+    swimtab_buffer buffer = SWIMTAB_BUFFER_INIT;
+    swimtab_unwrapped made = in_stream
+                                 ? swimtab_unwrap_stream_new(&keyring, NULL, 0, bytes.at, bytes.len, &buffer)
+                                 : swimtab_unwrap_new(&keyring, bytes.at, bytes.len, &buffer);
+    WANT(made.status == SWIMTAB_DONE && made.kind == kind && made.len == buffer.len);
+    WANT(memcmp(buffer.at, room.at, buffer.len) == 0);
+    made = in_stream ? swimtab_unwrap_stream_new(&keyring, NULL, 0, "\x09", 1, &buffer)
+                     : swimtab_unwrap_new(&keyring, "\x09", 1, &buffer);
+    WANT(made.status != SWIMTAB_DONE && made.kind == 0 && memcmp(buffer.at, room.at, buffer.len) == 0);
+    swimtab_free(&buffer);
+    free(bytes.at), free(room.at);
+    closes(&keyring);
+}
+
+static void any_message_is_unwrapped(void) {
+    is_of_kind(both, false, NACK_SENT, SWIMTAB_KIND_NACK);
+    is_of_kind(both, false, ALIVE_SENT, SWIMTAB_KIND_ALIVE);
+    is_of_kind(both, false, SUSPECT_SENT, SWIMTAB_KIND_SUSPECT);
+    is_of_kind(no_keys, false, PING, SWIMTAB_KIND_PING);
+    is_of_kind(no_keys, false, "06", SWIMTAB_KIND_PUSH_PULL);
+    is_of_kind(no_keys, true, "08616263", SWIMTAB_KIND_USER);
+    is_of_kind(both, true, STREAM_SENT, SWIMTAB_KIND_PUSH_PULL);
+    is_of_kind(key_32, true, ACK_STREAM, SWIMTAB_KIND_ACK);
+    unwraps(no_keys, unwrap, PING, PING);
+    unwraps(key_32, unwrap, SEALED_BYTE, "06");
+    unwraps(no_keys, unwrap_stream, "08616263", "08616263");
+    /* without a key, what is encrypted is given as it is */
+    unwraps(no_keys, unwrap, ALIVE_SENT, ALIVE_SENT);
+}
+
+static void packets_without_a_message_are_refused(void) {
+    refused(no_keys, unwrap, "0e", SWIMTAB_WRONG_TYPE);
+    refused(no_keys, unwrap, "0a", SWIMTAB_WRONG_TYPE);
+    refused(no_keys, unwrap, "", SWIMTAB_ENDED);
+    refused(no_keys, unwrap, "0c00000000", SWIMTAB_ENDED);
+    refused(old_only, unwrap, SUSPECT_SENT, 54);
+    refused(key_16, unwrap, ALIVE_SENT, 54);
+    refused(both, unwrap, "01ff", 54);
+    refused(key_32, unwrap, "f4026463" SEALED_BYTE, 54);
+    refused(both, unwrap, "0c00", 54);
+    refused(no_keys, unwrap, "0c00", 40);
+    refused(no_keys, unwrap, "0c00000001", 43);
+    refused(no_keys, unwrap, "0905", 44);
+    refused(no_keys, unwrap, "f400", 46);
+    refused(no_keys, unwrap, "f40161f40161f40161f40161f4016103", 48);
 }
 
 static void streams_of_a_cluster_are_unwrapped(void) {
@@ -334,24 +377,24 @@ static void replies_of_a_cluster_with_a_label_are_unwrapped(void) {
     refused(no_keys, unwrap_in_dc, "f400", 46);
 }
 
-static void what_holds_no_stream_is_refused(void) {
+static void what_holds_no_message_is_refused(void) {
     refused(no_keys, unwrap_stream, "", SWIMTAB_ENDED);
-    refused(no_keys, unwrap_stream, "08616263", SWIMTAB_WRONG_TYPE);
+    refused(no_keys, unwrap_stream, "0e", SWIMTAB_WRONG_TYPE);
     refused(no_keys, unwrap_stream, STREAM_SENT, SWIMTAB_WRONG_TYPE);
-    refused(key_32, unwrap_stream, ACK_STREAM, SWIMTAB_WRONG_TYPE);
+    refused(no_keys, unwrap_stream, "0c00", SWIMTAB_ENDED);
     refused(no_keys, unwrap_stream, "0c00000001", 43);
     refused(key_32, unwrap_stream, "0a10000001", 51);
-    refused(key_32, unwrap_stream, "0a000000", 52);
+    refused(key_32, unwrap_stream, "0a000000", SWIMTAB_ENDED);
     refused(key_16, unwrap_stream, STREAM_SENT, 54);
     refused(both, unwrap_stream, STREAM_SENT "00", 57);
 }
 
 static void messages_are_sealed_as_the_cluster_did(void) {
-    seals(old_only, swimtab_raw_seal, 1, "", ALIVE_CHECKED, ALIVE_SENT);
+    seals(old_only, swimtab_seal, 1, "", ALIVE_CHECKED, ALIVE_SENT);
     seals(old_only, seal_stream, 6, "", STREAM_PACKED, STREAM_SENT);
-    seals(key_16, swimtab_raw_seal, 7, "east", LABELLED, LABELLED_SENT);
+    seals(key_16, swimtab_seal, 7, "east", LABELLED, LABELLED_SENT);
     seals(key_16, seal_stream, 12, "east", LABELLED, LABELLED_STREAM_SENT);
-    seals(key_32, swimtab_raw_seal, 5, "dc", CLEAR_ALIVE, SEALED_ALIVE);
+    seals(key_32, swimtab_seal, 5, "dc", CLEAR_ALIVE, SEALED_ALIVE);
 }
 
 static void a_reply_is_sealed_without_its_label(void) {
@@ -363,13 +406,13 @@ static void a_reply_is_sealed_without_its_label(void) {
 
 static void the_first_key_seals(void) {
     static const char *const first[] = {OLD_KEY, NEW_KEY, KEY_16, NULL};
-    seals(first, swimtab_raw_seal, 1, "", ALIVE_CHECKED, ALIVE_SENT);
+    seals(first, swimtab_seal, 1, "", ALIVE_CHECKED, ALIVE_SENT);
     seals(first, seal_stream, 6, "", STREAM_PACKED, STREAM_SENT);
 }
 
 static void without_a_key_the_label_alone_is_written(void) {
-    seals(no_keys, swimtab_raw_seal, 0, "", CLEAR_ALIVE, CLEAR_ALIVE);
-    seals(no_keys, swimtab_raw_seal, 0, "dc", CLEAR_ALIVE, "f4026463" CLEAR_ALIVE);
+    seals(no_keys, swimtab_seal, 0, "", CLEAR_ALIVE, CLEAR_ALIVE);
+    seals(no_keys, swimtab_seal, 0, "dc", CLEAR_ALIVE, "f4026463" CLEAR_ALIVE);
     seals(no_keys, seal_stream, 0, "", CLEAR_STREAM, CLEAR_STREAM);
     seals(no_keys, seal_stream, 0, "dc", CLEAR_STREAM, "f4026463" CLEAR_STREAM);
 }
@@ -408,17 +451,17 @@ static void the_longest_label_of_a_reply(void) {
     WANT(written.status == 51 && written.len == 0 && is_filled(room, 0));
     written = seal_reply(&keyring, nonce, label.at, 255, "\x06", 1, room.at, room.len);
     WANT(written.status == SWIMTAB_DONE && written.len == 35 && room.at[0] == 10);
-    written = swimtab_raw_unwrap_stream(&keyring, label.at, 256, room.at, 35, read.at, read.len);
+    written = written_of(swimtab_unwrap_stream(&keyring, label.at, 256, room.at, 35, read.at, read.len));
     WANT(written.status == 51 && written.len == 0 && is_filled(read, 0));
-    written = swimtab_raw_unwrap_stream(&keyring, label.at, 255, room.at, 35, read.at, read.len);
+    written = written_of(swimtab_unwrap_stream(&keyring, label.at, 255, room.at, 35, read.at, read.len));
     is_written(written, read, "06");
     free(label.at), free(room.at), free(read.at);
     closes(&keyring);
 }
 
 static void a_label_has_255_bytes_at_most(void) {
-    the_longest_label(swimtab_raw_seal, no_keys);
-    the_longest_label(swimtab_raw_seal, key_16);
+    the_longest_label(swimtab_seal, no_keys);
+    the_longest_label(swimtab_seal, key_16);
     the_longest_label(seal_stream, no_keys);
     the_longest_label(seal_stream, key_16);
     the_longest_label_of_a_clear_reply();
@@ -433,23 +476,23 @@ static void what_is_sealed_is_taken_in(void) {
     const uint8_t nonce[12] = {9, 8, 7};
     swimtab_written said = swimtab_alive(&other, 3, packet, sizeof packet);
     WANT(said.status == SWIMTAB_DONE);
-    swimtab_written sealed = swimtab_raw_seal(&keyring, nonce, "dc", 2, packet, said.len, sent, sizeof sent);
+    swimtab_written sealed = swimtab_seal(&keyring, nonce, "dc", 2, packet, said.len, sent, sizeof sent);
     WANT(sealed.status == SWIMTAB_DONE && sealed.len == said.len + 33);
-    swimtab_written got = swimtab_raw_unwrap(&keyring, sent, sealed.len, read, sizeof read);
+    swimtab_written got = written_of(swimtab_unwrap(&keyring, sent, sealed.len, read, sizeof read));
     WANT(got.status == SWIMTAB_DONE && got.len == said.len && memcmp(read, packet, said.len) == 0);
     WANT(swimtab_take(&node, read, got.len).status == SWIMTAB_DONE && swimtab_count(&node) == 2);
 
-    said = swimtab_offer(&other, true, SWIMTAB_CANONICAL, packet, sizeof packet);
-    sealed = swimtab_raw_seal_stream(&keyring, nonce, "dc", 2, false, packet, said.len, sent, sizeof sent);
+    said = swimtab_offer(&other, true, SWIMTAB_CANONICAL, NULL, 0, packet, sizeof packet);
+    sealed = swimtab_seal_stream(&keyring, nonce, "dc", 2, false, packet, said.len, sent, sizeof sent);
     WANT(sealed.status == SWIMTAB_DONE && sealed.len == said.len + 38);
-    got = swimtab_raw_unwrap_stream(&keyring, "", 0, sent, sealed.len, read, sizeof read);
+    got = written_of(swimtab_unwrap_stream(&keyring, "", 0, sent, sealed.len, read, sizeof read));
     WANT(got.status == SWIMTAB_DONE && got.len == said.len);
-    swimtab_exchanged answered = swimtab_answer(&node, read, got.len, SWIMTAB_MEMBERLIST, packet, sizeof packet);
+    swimtab_exchanged answered = swimtab_answer(&node, read, got.len, SWIMTAB_CANONICAL, NULL, 0, packet, sizeof packet);
     WANT(answered.status == SWIMTAB_DONE);
 
-    sealed = swimtab_raw_seal_stream(&keyring, nonce, "dc", 2, true, packet, answered.len, sent, sizeof sent);
+    sealed = swimtab_seal_stream(&keyring, nonce, "dc", 2, true, packet, answered.len, sent, sizeof sent);
     WANT(sealed.status == SWIMTAB_DONE && sealed.len == answered.len + 34);
-    got = swimtab_raw_unwrap_stream(&keyring, "dc", 2, sent, sealed.len, read, sizeof read);
+    got = written_of(swimtab_unwrap_stream(&keyring, "dc", 2, sent, sealed.len, read, sizeof read));
     WANT(got.status == SWIMTAB_DONE && got.len == answered.len);
     WANT(swimtab_finish(&other, read, got.len).status == SWIMTAB_DONE && swimtab_count(&other) == 2);
     WANT(swimtab_close(&node) == SWIMTAB_DONE && swimtab_close(&other) == SWIMTAB_DONE);
@@ -462,10 +505,11 @@ int main(void) {
         {"packets of a cluster are unwrapped", packets_of_a_cluster_are_unwrapped},
         {"what is in the clear is refused with keys", what_is_in_the_clear_is_refused_with_keys},
         {"what is in the clear is accepted if asked", what_is_in_the_clear_is_accepted_if_asked},
-        {"packets without claims are refused", packets_without_claims_are_refused},
+        {"any message is unwrapped", any_message_is_unwrapped},
+        {"packets without a message are refused", packets_without_a_message_are_refused},
         {"streams of a cluster are unwrapped", streams_of_a_cluster_are_unwrapped},
         {"replies of a cluster with a label are unwrapped", replies_of_a_cluster_with_a_label_are_unwrapped},
-        {"what holds no stream is refused", what_holds_no_stream_is_refused},
+        {"what holds no message is refused", what_holds_no_message_is_refused},
         {"messages are sealed as the cluster did", messages_are_sealed_as_the_cluster_did},
         {"a reply is sealed without its label", a_reply_is_sealed_without_its_label},
         {"the first key seals", the_first_key_seals},

@@ -9,7 +9,7 @@ static void what_is_no_stream_is_refused(void) {
         uint8_t out[256];
         memset(out, 7, sizeof out);
         swimtab_exchanged finished = swimtab_finish(&node, stream.at, stream.len);
-        swimtab_exchanged answered = swimtab_answer(&node, stream.at, stream.len, SWIMTAB_CANONICAL, out, sizeof out);
+        swimtab_exchanged answered = swimtab_answer(&node, stream.at, stream.len, SWIMTAB_CANONICAL, NULL, 0, out, sizeof out);
         if (finished.status != no_streams[i].status)
             printf("    %s: %s\n", no_streams[i].bytes, swimtab_fault_name(finished.status));
         WANT(finished.status == no_streams[i].status && answered.status == no_streams[i].status);
@@ -20,7 +20,7 @@ static void what_is_no_stream_is_refused(void) {
         free(stream.at);
     }
     WANT(swimtab_finish(&node, NULL, 0).status == SWIMTAB_ENDED);
-    WANT(swimtab_answer(&node, NULL, 0, SWIMTAB_CANONICAL, NULL, 0).status == SWIMTAB_ENDED);
+    WANT(swimtab_answer(&node, NULL, 0, SWIMTAB_CANONICAL, NULL, 0, NULL, 0).status == SWIMTAB_ENDED);
     WANT(swimtab_close(&node) == 0);
 }
 
@@ -31,9 +31,9 @@ static void forms_that_do_not_exist_are_refused(void) {
     uint8_t out[256];
     memset(out, 7, sizeof out);
     for (size_t i = 0; i < sizeof forms / sizeof *forms; i++) {
-        swimtab_written offered = swimtab_offer(&node, true, forms[i], out, sizeof out);
+        swimtab_written offered = swimtab_offer(&node, true, forms[i], NULL, 0, out, sizeof out);
         WANT(offered.status == SWIMTAB_BAD_FORM && offered.len == 0);
-        swimtab_exchanged answered = swimtab_answer(&node, stream.at, stream.len, forms[i], out, sizeof out);
+        swimtab_exchanged answered = swimtab_answer(&node, stream.at, stream.len, forms[i], NULL, 0, out, sizeof out);
         WANT(answered.status == SWIMTAB_BAD_FORM && answered.used == 0 && answered.len == 0 && !answered.news);
     }
     WANT(out[0] == 7 && memcmp(out, out + 1, sizeof out - 1) == 0 && lists(&node, LIST_A_0));
@@ -42,7 +42,7 @@ static void forms_that_do_not_exist_are_refused(void) {
 }
 
 static swimtab_written write_offer(swimtab_node *node, uint8_t *out, size_t out_len) {
-    return swimtab_offer(node, true, SWIMTAB_CANONICAL, out, out_len);
+    return swimtab_offer(node, true, SWIMTAB_CANONICAL, NULL, 0, out, out_len);
 }
 
 static void dumps_are_canonical(void) {
@@ -55,7 +55,7 @@ static void dumps_are_canonical(void) {
     WANT(take_hex(&node, SUSPECT_A_5) == 0);
     written = swimtab_dump(&node, out, sizeof out);
     WANT(written.status == 0 && is_hex(out, written.len, DUMP_A_4_5));
-    written = swimtab_offer(&node, true, SWIMTAB_CANONICAL, out, sizeof out);
+    written = swimtab_offer(&node, true, SWIMTAB_CANONICAL, NULL, 0, out, sizeof out);
     WANT(written.status == 0 && out[7] == 0xc3);
     out[7] = 0xc2;
     WANT(is_hex(out, written.len, DUMP_A_4_5));
@@ -70,13 +70,13 @@ static void dumps_are_canonical(void) {
 static void an_offer_is_answered_with_the_table_of_before(void) {
     swimtab_node node = opened("a", 7946, 0);
     struct bytes stream = hex(DUMP_B_1 "ffff"), reply = bytes_of_size(86, 7);
-    swimtab_exchanged made = swimtab_answer(&node, stream.at, stream.len, SWIMTAB_CANONICAL, reply.at, 85);
+    swimtab_exchanged made = swimtab_answer(&node, stream.at, stream.len, SWIMTAB_CANONICAL, NULL, 0, reply.at, 85);
     WANT(made.status == SWIMTAB_TOO_SMALL && made.len == 86 && made.used == stream.len - 2);
     WANT(!made.join && !made.news);
     WANT(reply.at[0] == 7 && memcmp(reply.at, reply.at + 1, 85) == 0 && lists(&node, LIST_A_0));
-    made = swimtab_answer(&node, stream.at, stream.len, SWIMTAB_CANONICAL, NULL, 0);
+    made = swimtab_answer(&node, stream.at, stream.len, SWIMTAB_CANONICAL, NULL, 0, NULL, 0);
     WANT(made.status == SWIMTAB_TOO_SMALL && made.len == 86 && lists(&node, LIST_A_0));
-    made = swimtab_answer(&node, stream.at, stream.len, SWIMTAB_CANONICAL, reply.at, 86);
+    made = swimtab_answer(&node, stream.at, stream.len, SWIMTAB_CANONICAL, NULL, 0, reply.at, 86);
     WANT(made.status == SWIMTAB_DONE && made.len == 86 && made.used == stream.len - 2);
     WANT(!made.join && made.news);
     WANT(is_hex(reply.at, 86, DUMP_A_0));
@@ -86,7 +86,7 @@ static void an_offer_is_answered_with_the_table_of_before(void) {
     joins[15] = '3';
     stream = hex(joins);
     reply = bytes_of_size(200, 7);
-    made = swimtab_answer(&node, stream.at, stream.len, SWIMTAB_CANONICAL, reply.at, reply.len);
+    made = swimtab_answer(&node, stream.at, stream.len, SWIMTAB_CANONICAL, NULL, 0, reply.at, reply.len);
     WANT(made.status == SWIMTAB_DONE && made.join && made.used == stream.len && reply.at[7] == 0xc3);
     WANT(!made.news);
     free(stream.at), free(reply.at);
@@ -136,17 +136,17 @@ static void a_table_of_too_many_records_has_no_dump(void) {
     swimtab_exchanged made = swimtab_finish(&node, stream.at, stream.len);
     WANT(made.status == SWIMTAB_DONE && made.used == stream.len && swimtab_count(&node) == 131073);
     uint8_t out[16] = {7};
-    WANT(swimtab_offer(&node, false, SWIMTAB_CANONICAL, out, sizeof out).status == SWIMTAB_TOO_MANY_RECORDS);
+    WANT(swimtab_offer(&node, false, SWIMTAB_CANONICAL, NULL, 0, out, sizeof out).status == SWIMTAB_TOO_MANY_RECORDS);
     WANT(swimtab_dump(&node, out, sizeof out).len == 0);
     swimtab_buffer buffer = SWIMTAB_BUFFER_INIT;
-    WANT(swimtab_offer_new(&node, false, SWIMTAB_CANONICAL, &buffer) == SWIMTAB_TOO_MANY_RECORDS);
-    made = swimtab_answer_new(&node, small.at, small.len, SWIMTAB_CANONICAL, &buffer);
+    WANT(swimtab_offer_new(&node, false, SWIMTAB_CANONICAL, NULL, 0, &buffer) == SWIMTAB_TOO_MANY_RECORDS);
+    made = swimtab_answer_new(&node, small.at, small.len, SWIMTAB_CANONICAL, NULL, 0, &buffer);
     WANT(made.status == SWIMTAB_TOO_MANY_RECORDS && !buffer.kept.held && buffer.at == NULL);
-    /* no Alive of the suspects is known, so the form for memberlist has only the member */
-    WANT(swimtab_offer_new(&node, false, SWIMTAB_MEMBERLIST, &buffer) == SWIMTAB_DONE);
-    WANT(is_hex(buffer.at, buffer.len, DUMP_A_0));
+    /* nobody's versions are known, so the form for memberlist has no records */
+    WANT(swimtab_offer_new(&node, false, SWIMTAB_MEMBERLIST, NULL, 0, &buffer) == SWIMTAB_DONE);
+    WANT(is_hex(buffer.at, buffer.len, HEADER("c2", "00")) && swimtab_left_out(&node) == 131073);
     swimtab_free(&buffer);
-    made = swimtab_answer(&node, small.at, small.len, SWIMTAB_CANONICAL, out, sizeof out);
+    made = swimtab_answer(&node, small.at, small.len, SWIMTAB_CANONICAL, NULL, 0, out, sizeof out);
     WANT(made.status == SWIMTAB_TOO_MANY_RECORDS && out[0] == 7);
     WANT(swimtab_count(&node) == 131073 && swimtab_find(&node, "b", 1, NULL) == SWIMTAB_NO_MEMBER);
     WANT(swimtab_find(&node, "131071", 6, NULL) == 0);

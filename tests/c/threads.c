@@ -37,7 +37,7 @@ static void handles_move_between_threads(void) {
     const uint8_t local[4] = {127, 0, 0, 1};
     pthread_t threads[HANDLES], last;
     for (size_t i = 0; i < HANDLES; i++)
-        WANT(swimtab_open(&nodes[i], "self", 4, local, 4, 1, NULL, 0, NULL, 0, 1) == 0);
+        WANT(open_with(&nodes[i], "self", 4, local, 4, 1, NULL, 0, NULL, 0, 1) == 0);
     for (size_t i = 0; i < HANDLES; i++) WANT(pthread_create(&threads[i], NULL, use, &nodes[i]) == 0);
     for (size_t i = 0; i < HANDLES; i++) WANT(pthread_join(threads[i], NULL) == 0);
     for (size_t i = 0; i < HANDLES; i++) {

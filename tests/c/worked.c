@@ -66,8 +66,8 @@ static void take_lines(swimtab_node *node, const char *path) {
 
 static void exchange(swimtab_node *x, swimtab_node *y) {
     struct bytes offer = dump(x);
-    struct bytes reply = bytes_of_size(swimtab_answer(y, offer.at, offer.len, SWIMTAB_CANONICAL, NULL, 0).len, 0);
-    swimtab_exchanged answered = swimtab_answer(y, offer.at, offer.len, SWIMTAB_CANONICAL, reply.at, reply.len);
+    struct bytes reply = bytes_of_size(swimtab_answer(y, offer.at, offer.len, SWIMTAB_CANONICAL, NULL, 0, NULL, 0).len, 0);
+    swimtab_exchanged answered = swimtab_answer(y, offer.at, offer.len, SWIMTAB_CANONICAL, NULL, 0, reply.at, reply.len);
     WANT(answered.status == 0 && !answered.join && answered.used == offer.len && answered.len == reply.len);
     swimtab_exchanged finished = swimtab_finish(x, reply.at, reply.len);
     WANT(finished.status == 0 && !finished.join && finished.used == reply.len);
@@ -82,8 +82,8 @@ int main(int argc, char **argv) {
     swimtab_node x = SWIMTAB_NODE_INIT, y = SWIMTAB_NODE_INIT;
     if (argc != 4) return 2;
     folder = argv[3];
-    WANT(swimtab_open(&x, "x", 1, addr_x, 4, 7946, "m", 1, versions, 6, 0) == 0);
-    WANT(swimtab_open(&y, "y", 1, addr_y, 4, 7946, NULL, 0, versions, 6, 0) == 0);
+    WANT(open_with(&x, "x", 1, addr_x, 4, 7946, "m", 1, versions, 6, 0) == 0);
+    WANT(open_with(&y, "y", 1, addr_y, 4, 7946, NULL, 0, versions, 6, 0) == 0);
     keep_alive(&x, "x.alive");
     keep_node(&y, "y.alone");
     take_lines(&x, argv[1]);

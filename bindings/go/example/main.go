@@ -6,7 +6,7 @@ import (
 	"log"
 	"net/netip"
 
-	"swimtab"
+	"swimtab.invalid/swimtab"
 )
 
 func member(name string, last byte) *swimtab.Node {
@@ -45,7 +45,7 @@ func main() {
 	hears(a, sent(a.Suspect("c", 4)))
 
 	// b joins a: b's offer goes out over TCP, and a's reply comes back
-	reply, _, err := a.Answer(sent(b.Offer(true, swimtab.MemberlistForm)), swimtab.MemberlistForm)
+	reply, _, err := a.Answer(sent(b.Offer(true, swimtab.Canonical, nil)), swimtab.Canonical, nil)
 	check(err)
 	_, err = b.Finish(reply)
 	check(err)

@@ -1,7 +1,7 @@
 //! The texts of help and version, except what `clap` generates for the commands.
 
 /// The version of the program, and what it was proved with.
-pub(crate) static VERSION: &str = "0.2.0, proved with rattle-kit-13f, logic dac8208d650f15bf";
+pub(crate) static VERSION: &str = "0.3.0, proved with rattle-kit-13f, logic dac8208d650f15bf";
 
 pub(crate) static FILE: &str = "The bytes of the connection; standard input if it is - or absent";
 

@@ -1,7 +1,7 @@
 //! The texts of the help and the version, except for those that `clap` makes of the commands.
 
 /// The version of the program, and the tools that proved it.
-pub(crate) const VERSION: &str = "0.2.0, proved with rattle-kit-13f, logic dac8208d650f15bf";
+pub(crate) const VERSION: &str = "0.3.0, proved with rattle-kit-13f, logic dac8208d650f15bf";
 
 pub(crate) const CAPTURE: &str = "A pcap or pcapng file; - is standard input";
 

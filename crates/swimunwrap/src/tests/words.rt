@@ -155,7 +155,7 @@ fn help_and_version_tell_what_there_is(rt: HostRuntime) -> Result<(), Fail> {
                 "encrypted",
             ],
         ),
-        (&["--version"], &["swimunwrap 0.2.0", "rattle-kit-13f"]),
+        (&["--version"], &["swimunwrap 0.3.0", "rattle-kit-13f"]),
         (
             &["stream", "--help"],
             &[
