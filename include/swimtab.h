@@ -481,9 +481,9 @@ size_t swimtab_left_out(const swimtab_node *node);
 swimtab_written swimtab_dump(const swimtab_node *node, void *out, size_t out_len);
 
 /* Answers an offer: reads the stream, writes the node's table as it was before in this form, with the same
- * join flag and with this user state, and takes the stream in. All memory is obtained before the reply is written, and none
- * for the reply itself; without a buffer the call only reads the stream and adds up lengths. Bytes after
- * the stream are not read; `used` is where it ends.
+ * join flag and with this user state, and takes the stream in. All memory is obtained before the reply
+ * is written, and none for the reply itself; without a buffer the call only reads the stream and adds up
+ * lengths. Bytes after the stream are not read; `used` is where it ends.
  *
  * SWIMTAB_DONE; SWIMTAB_TOO_SMALL: nothing was written or taken in, and `join`, `used` and `len` are what
  * they would be; SWIMTAB_NO_NODE; SWIMTAB_BAD_FORM; SWIMTAB_TOO_MANY_RECORDS; SWIMTAB_MEMORY; if the bytes

@@ -64,7 +64,7 @@ const (
 	ErrNoItem          Error = C.SWIMTAB_NO_ITEM          // the keyring has no such key, or the message no such part
 	ErrKeyInUse        Error = C.SWIMTAB_KEY_IN_USE       // the first key encrypts, so it is not removed
 	ErrNotBack         Error = C.SWIMTAB_NOT_BACK         // the member has not come back
-	ErrBadSize         Error = C.SWIMTAB_BAD_SIZE         // the library is older than its header
+	ErrBadSize         Error = C.SWIMTAB_BAD_SIZE         // the linked library is older than the header
 )
 
 // Name returns the name of the fault in docs/PROTOCOL.md: "Ended".

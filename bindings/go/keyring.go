@@ -61,8 +61,8 @@ func (k *Keyring) Keys() [][]byte {
 	return keys
 }
 
-// Use makes a key that is there the first one, which encrypts. So a cluster changes its key: Add the new one on all
-// members, then Use it on all, then Remove the old one.
+// Use makes a key that is there the first one, which encrypts. So a cluster changes its key: all
+// members Add the new one, then all Use it, then all Remove the old one.
 //
 // Errors: ErrNoItem if the key is not there.
 func (k *Keyring) Use(key []byte) error {

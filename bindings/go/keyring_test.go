@@ -64,7 +64,12 @@ func TestPacketsAreUnwrapped(t *testing.T) {
 	same(t)(all.Unwrap(unhex(sealedAlive)))(string(unhex(clearAlive)))
 	var none *Keyring
 	same(t)(none.Unwrap(unhex(packedAlive)))(string(unhex(clearAlive)))
-	_, err := none.Unwrap(unhex(suspectSent))
+	// an encrypted packet looks like a ping, and is none
+	same(t)(none.Unwrap(unhex(suspectSent)))(string(unhex(suspectSent)))
+	if _, err := ReadProbe(unhex(suspectSent)); err == nil {
+		t.Error("it was read as a ping")
+	}
+	_, err := none.Unwrap([]byte{200})
 	refused(t, err, ErrWrongType)
 	_, err = none.Unwrap(nil)
 	refused(t, err, ErrEnded)
@@ -83,8 +88,10 @@ func TestStreamsAreUnwrapped(t *testing.T) {
 	refused(t, err, ErrWrongTag)
 	_, err = all.UnwrapStream(strings.Repeat("x", 256), unhex(sealedReply))
 	refused(t, err, ErrCipherTooLong)
-	_, err = all.UnwrapStream("", nil)
+	_, err = new(Keyring).UnwrapStream("", nil)
 	refused(t, err, ErrEnded)
+	_, err = new(Keyring).UnwrapStream("", unhex(sealedStream))
+	refused(t, err, ErrWrongType)
 }
 
 func TestWhatIsInTheClearIsReadIfThatIsAccepted(t *testing.T) {
@@ -104,13 +111,74 @@ func TestWhatIsInTheClearIsReadIfThatIsAccepted(t *testing.T) {
 func TestStreamsAreUnwrappedWhenAllHasCome(t *testing.T) {
 	all := keyring(t, key16, key32)
 	for _, sent := range []string{sealedStream, sealedReply} {
-		for end := 0; end < len(sent)/2; end++ {
-			_, err := all.UnwrapStream("dc", unhex(sent)[:end])
-			if err != ErrEnded && err != ErrWrapperEnded && err != ErrCipherTooShort {
+		bytes := unhex(sent)
+		for end := 1; end < len(bytes); end++ {
+			if string(bytes[:end]) == "\xf4\x02dc" {
+				continue // nothing behind the label tells whether it is encrypted
+			}
+			if _, err := all.UnwrapStream("dc", bytes[:end]); err != ErrEnded {
 				t.Fatal(end, err)
 			}
 		}
 	}
+}
+
+// listed checks the keys of a keyring.
+func listed(t *testing.T, k *Keyring, wanted ...string) {
+	t.Helper()
+	keys := k.Keys()
+	if len(keys) != len(wanted) {
+		t.Fatalf("%d keys, wanted %d", len(keys), len(wanted))
+	}
+	for i, key := range keys {
+		if !bytes.Equal(key, unhex(wanted[i])) {
+			t.Errorf("key %d is %x, wanted %s", i, key, wanted[i])
+		}
+	}
+}
+
+func TestKeysAreListedChosenAndRemoved(t *testing.T) {
+	key24 := key16 + "0001020304050607"
+	keys := keyring(t, key16, key24, key32)
+	listed(t, keys, key16, key24, key32)
+	keys.Keys()[0][0]++ // a copy
+	if err := keys.Use(unhex(key32)); err != nil {
+		t.Error(err)
+	}
+	listed(t, keys, key32, key24, key16)
+	refused(t, keys.Use(unhex(newKey)), ErrNoItem)
+	refused(t, keys.Use(unhex(key24)[1:17]), ErrNoItem)
+	refused(t, keys.Remove(unhex(newKey)), ErrNoItem)
+	refused(t, keys.Remove(nil), ErrNoItem)
+	refused(t, keys.Remove(unhex(key32)), ErrKeyInUse)
+	if err := keys.Remove(unhex(key24)); err != nil {
+		t.Error(err)
+	}
+	listed(t, keys, key32, key16)
+	keys.Close()
+	listed(t, keys)
+	refused(t, keys.Use(unhex(key32)), ErrNoItem)
+	var none *Keyring
+	listed(t, none)
+	refused(t, none.Use(unhex(key16)), ErrNoItem)
+	refused(t, none.Remove(unhex(key16)), ErrNoItem)
+}
+
+func TestKeysAreRotated(t *testing.T) {
+	keys, message := new(Keyring), unhex(clearAlive)
+	defer keys.Close()
+	refused(t, keys.Rotate(unhex(key16)[1:]), ErrBadKey)
+	for _, step := range []struct{ key, all string }{
+		{key16, key16}, {key16, key16}, {newKey, newKey + " " + key16}, {newKey, newKey + " " + key16},
+		{key16, key16 + " " + newKey}, {key32, key32 + " " + newKey + " " + key16},
+	} {
+		if err := keys.Rotate(unhex(step.key)); err != nil {
+			t.Error(err)
+		}
+		listed(t, keys, strings.Split(step.all, " ")...)
+		same(t)(keyring(t, step.key).Unwrap(must[[]byte](t)(keys.Seal("", message))))(string(message))
+	}
+	same(t)(keys.Unwrap(unhex(suspectSent)))(string(unhex(suspectClear))) // an old key still decrypts
 }
 
 func TestMessagesAreSealed(t *testing.T) {

@@ -92,6 +92,39 @@ func TestAMemberComesBack(t *testing.T) {
 	}
 }
 
+func TestAMemberThatCameBackIsReadmitted(t *testing.T) {
+	a, c := opened(t, "a", 1), opened(t, "c", 3)
+	refused(t, a.Readmit("c"), ErrNoMember)
+	refused(t, a.Readmit("a"), ErrNotBack)
+	takes(t, a, must[[]byte](t)(c.Alive(4)), true)
+	takes(t, a, must[[]byte](t)(a.Confirm("c", 4)), true)
+	refused(t, a.Readmit("c"), ErrNotBack)
+	takes(t, a, must[[]byte](t)(c.Alive(5)), true)
+	if err := a.Readmit("c"); err != nil {
+		t.Fatal(err)
+	}
+	known := must[Member](t)(a.Find("c"))
+	if known.CameBack || known.State != Alive || known.Incarnation != 5 || a.Len() != 2 {
+		t.Error(known)
+	}
+	takes(t, a, must[[]byte](t)(a.Suspect("c", 5)), true)
+}
+
+func TestAWalkGoesOnAfterAName(t *testing.T) {
+	a := opened(t, "m", 1)
+	takes(t, a, must[[]byte](t)(a.Suspect("z", 1)), true)
+	for after, wanted := range map[string]string{"": "m", "lzz": "m", "m": "z", "n": "z", "y\xff": "z"} {
+		if member := must[Member](t)(a.After(after)); member.Name != wanted {
+			t.Errorf("after %q comes %q", after, member.Name)
+		}
+	}
+	_, err := a.After("z")
+	refused(t, err, ErrNoMember)
+	a.Close()
+	_, err = a.After("")
+	refused(t, err, ErrNoNode)
+}
+
 func TestEachTellsOfAllInOrder(t *testing.T) {
 	a := opened(t, "m", 1)
 	for _, name := range []string{"z", "b", "q", "d"} {

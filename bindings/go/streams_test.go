@@ -74,6 +74,55 @@ func TestStreamsHaveTwoForms(t *testing.T) {
 	same(t)(reply, err)(header(0xc2, 2) + merged)
 }
 
+func TestUserStateIsSentAndRead(t *testing.T) {
+	a := opened(t, "a", 1)
+	wanted := strings.Replace(header(0xc3, 1), "UserStateLen\x00", "UserStateLen\x02", 1) + record("a", 0, 0, 1) + "us"
+	same(t)(a.Offer(true, MemberlistForm, []byte("us")))(wanted)
+	_, err := a.Offer(true, Canonical, []byte("us"))
+	refused(t, err, ErrBadForm)
+	_, err = a.Offer(true, MemberlistForm, make([]byte, 20971521))
+	refused(t, err, ErrUserTooLong)
+	reply, taken, err := a.Answer([]byte(wanted+"behind"), MemberlistForm, []byte("us"))
+	same(t)(reply, err)(wanted)
+	if taken.Used != len(wanted) {
+		t.Error(taken)
+	}
+	var progress Progress
+	if user := progress.User(reply); user != nil {
+		t.Errorf("%q", user)
+	}
+	progress.Whole(reply[:len(reply)-1])
+	if user := progress.User(reply[:len(reply)-1]); user != nil {
+		t.Errorf("%q", user)
+	}
+	if _, whole, err := progress.Whole(reply); !whole || err != nil || string(progress.User(reply)) != "us" {
+		t.Error(err)
+	}
+	progress = Progress{}
+	none := must[[]byte](t)(a.Dump())
+	if _, whole, err := progress.Whole(none); !whole || err != nil || progress.User(none) != nil {
+		t.Error(err)
+	}
+}
+
+func TestMembersWithoutVersionsAreLeftOut(t *testing.T) {
+	a := opened(t, "a", 1)
+	takes(t, a, must[[]byte](t)(a.Suspect("z", 4)), true)
+	takes(t, a, must[[]byte](t)(AliveOf("old", Details{Addr: details(3).Addr}, 1)), true)
+	if left := a.LeftOut(); left != 2 {
+		t.Error(left)
+	}
+	same(t)(a.Offer(false, MemberlistForm, nil))(header(0xc2, 1) + record("a", 0, 0, 1))
+	takes(t, a, must[[]byte](t)(AliveOf("old", details(3), 2)), true)
+	if left := a.LeftOut(); left != 1 {
+		t.Error(left)
+	}
+	a.Close()
+	if left := a.LeftOut(); left != 0 {
+		t.Error(left)
+	}
+}
+
 func TestAStreamComesInPieces(t *testing.T) {
 	stream := header(0xc2, 2) + record("a", 0, 0, 1) + bare("b", 3, 1)
 	with := strings.Replace(stream, "UserStateLen\x00", "UserStateLen\x02", 1) + "us"

@@ -106,25 +106,6 @@ func TestFaultsHaveNamesAndTexts(t *testing.T) {
 	}
 }
 
-func TestOpeningsAreRefused(t *testing.T) {
-	_, err := Open("", details(1), 0)
-	refused(t, err, ErrNameEmpty)
-	_, err = Open(strings.Repeat("n", 1025), details(1), 0)
-	refused(t, err, ErrNameTooLong)
-	_, err = Open("a", Details{}, 0)
-	refused(t, err, ErrBadAddress)
-	long := details(1)
-	long.Meta = make([]byte, 513)
-	_, err = Open("a", long, 0)
-	refused(t, err, ErrMetaTooLong)
-	long.Meta, long.Versions = nil, make([]byte, 5)
-	_, err = Open("a", long, 0)
-	refused(t, err, ErrBadVersions)
-	if text := err.Error(); text != "swimtab: fault 15 BadVersions: the versions do not have 0 or 6 bytes" {
-		t.Error(text)
-	}
-}
-
 func TestPacketsAreTakenInOrRefused(t *testing.T) {
 	a, b := opened(t, "a", 1), opened(t, "b", 2)
 	takes(t, a, must[[]byte](t)(b.Alive(3)), true)
@@ -301,19 +282,19 @@ func TestBytesMayStandBesidePointers(t *testing.T) {
 	details := Details{Addr: details(1).Addr, Meta: c.bytes[:1], Versions: c.key[:6]}
 	must[[]byte](t)(AliveOf("c", details, 1))
 	must[*Node](t)(Open("c", details, 1)).Close()
-}
-
-func TestAnotherMembersAliveIsWritten(t *testing.T) {
-	details := Details{Addr: netip.AddrFrom4([4]byte{127, 0, 0, 1}), Port: 7947}
-	same(t)(AliveOf("a", details, 4))("\x04\x86\xa4Addr\xa4\x7f\x00\x00\x01\xabIncarnation\x04\xa4Meta\xa0" +
-		"\xa4Node\xa1a\xa4Port\xcd\x1f\x0b\xa3Vsn\xa0")
-	_, err := AliveOf("", details, 4)
-	refused(t, err, ErrNameEmpty)
-	_, err = AliveOf("a", Details{}, 4)
-	refused(t, err, ErrBadAddress)
-	long := strings.Repeat("n", 1024)
-	details.Meta = make([]byte, 512)
-	if packet := must[[]byte](t)(AliveOf(long, details, 1<<32-1)); len(packet) > longest {
-		t.Error(len(packet))
+	if _, _, err := c.node.Update(details); err != nil {
+		t.Error(err)
 	}
+	if err := c.keys.Rotate(c.key[:16]); err != nil {
+		t.Error(err)
+	}
+	if err := c.keys.Remove(c.key[:]); err != nil {
+		t.Error(err)
+	}
+	if len(c.keys.Keys()) != 1 {
+		t.Error(c.keys.Keys())
+	}
+	must[[]byte](t)(c.node.Offer(false, MemberlistForm, c.bytes[:3]))
+	must[Probe](t)(ReadProbe(c.hears(must[[]byte](t)(Ack(1, c.key[:])))))
+	EachPart(c.hears(must[[]byte](t)(User(c.key[:]))), func(part Message) bool { return part.Kind() == KindUser })
 }

@@ -2,11 +2,13 @@
 //! else in build/ of this repository.
 
 use std::env;
+use std::fs;
 use std::path::{Path, PathBuf};
-use std::process::Command;
+use std::process::{exit, Command};
 
-/// The oldest library that has all calls.
-const OLDEST: &str = "0.2.0";
+/// The oldest library that has all calls, and the name of a call that older ones do not have.
+const OLDEST: &str = "0.3.0";
+const NEWEST_CALL: &[u8] = b"swimtab_readmit\0";
 
 /// Whether to link the shared library.
 fn is_shared() -> bool {
@@ -31,13 +33,21 @@ fn by_pkg_config() -> Result<PathBuf, String> {
     Ok(folder.into())
 }
 
-/// The folder, if the file is in it, or a text that says that it is not.
+/// The folder, if the file is in it and new enough, or a text that says what is wrong.
 fn holding(file: &str, folder: PathBuf, whose: &str) -> Result<PathBuf, String> {
-    if folder.join(file).exists() {
-        Ok(folder)
-    } else {
-        Err(format!("it is not in {}, {whose}", folder.display()))
+    let here = folder.display();
+    if !folder.is_dir() {
+        return Err(format!("there is no folder {here}, {whose}"));
     }
+    let path = folder.join(file);
+    if !path.is_file() {
+        return Err(format!("it is not in {here}, {whose}"));
+    }
+    let bytes = fs::read(&path).map_err(|error| format!("{} cannot be read: {error}", path.display()))?;
+    if !bytes.windows(NEWEST_CALL.len()).any(|name| name == NEWEST_CALL) {
+        return Err(format!("the one in {here}, {whose}, is older than {OLDEST}"));
+    }
+    Ok(folder)
 }
 
 /// The folder of the library, or why it is in none of the places that were searched.
@@ -52,18 +62,25 @@ fn folder_of(file: &str) -> Result<PathBuf, Vec<String>> {
     })
 }
 
+/// Says what is missing and what to do next, and stops the build.
+fn stop(file: &str, places: &[String]) -> ! {
+    eprintln!("The swimtab crate needs the C library {file}, version {OLDEST} or later. It was not found:");
+    for place in places {
+        eprintln!("  - {place}");
+    }
+    eprintln!("Do one of these, and then build again:");
+    eprintln!("  - run `make library` in the swimtab repository, and set SWIMTAB_LIB to its folder `build`;");
+    eprintln!("  - run `make install-library` there, if pkg-config then knows swimtab;");
+    eprintln!("  - set SWIMTAB_LIB to another folder that has {file}.");
+    exit(1)
+}
+
 fn main() {
     for variable in ["SWIMTAB_LIB", "SWIMTAB_SHARED", "PKG_CONFIG_PATH", "PKG_CONFIG_LIBDIR"] {
         println!("cargo:rerun-if-env-changed={variable}");
     }
     let (kind, file) = if is_shared() { ("dylib", "libswimtab.so") } else { ("static", "libswimtab.a") };
-    let folder = folder_of(file).unwrap_or_else(|places| {
-        panic!(
-            "{file} was not found: {}. Run `make library` in the swimtab repository, and set \
-             SWIMTAB_LIB to the folder that has {file}, or run `make install-library` there.",
-            places.join("; ")
-        )
-    });
+    let folder = folder_of(file).unwrap_or_else(|places| stop(file, &places));
     println!("cargo:rerun-if-changed={}", folder.join(file).display());
     println!("cargo:rustc-link-search=native={}", folder.display());
     println!("cargo:rustc-link-lib={kind}=swimtab");

@@ -14,9 +14,9 @@ Data = Union[bytes, bytearray, memoryview]
 #: A name or a label. Text is encoded as UTF-8, with surrogateescape, as `os.fsencode` does.
 Name = Union[str, Data]
 Address = Union[ipaddress.IPv4Address, ipaddress.IPv6Address]
-#: An address that is passed to a call: its 4 or 16 bytes, its text, or an object of the module `ipaddress`.
+#: An address that is passed to a call: 4 or 16 bytes, text, or an object of module `ipaddress`.
 AnyAddress = Union[Address, str, Data]
-#: A member that pings or is to be pinged: its name, address and port. Names and addresses may be empty bytes.
+#: A member that pings or is to be pinged: name, address, port. The first two may be empty bytes.
 Peer = Tuple[Name, AnyAddress, int]
 
 lib = load()
@@ -101,8 +101,8 @@ def version() -> str:
 def done(status: int) -> None:
     """Raises the error of a status, if the call was refused."""
     if status:
-        text = fault_text(status).rstrip(".")
-        raise error_of(status, f"fault {status} {fault_name(status)}: {text[:1].lower()}{text[1:]}")
+        name, text = fault_name(status), fault_text(status).rstrip(".")
+        raise error_of(status, f"fault {status} {name}: {text[:1].lower()}{text[1:]}")
 
 
 def there(status: int) -> bool:
@@ -154,7 +154,12 @@ def span(value: bytes) -> Tuple[bytes, int]:
 
 
 def details(
-    name: Name, addr: AnyAddress, port: int, meta: Data = b"", versions: Data = b"", incarnation: int = 1
+    name: Name,
+    addr: AnyAddress,
+    port: int,
+    meta: Data = b"",
+    versions: Data = b"",
+    incarnation: int = 1,
 ) -> raw.RawDetails:
     """The details of a member, which hold on to the bytes that they name."""
     parts = name_bytes(name), address_bytes(addr), data(meta), data(versions)

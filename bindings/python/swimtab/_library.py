@@ -10,13 +10,14 @@ SONAME = "libswimtab.so.2"
 OLDEST = 300  # 0.3.0, the version in which this series of the library begins
 
 _NEXT_STEP = (
-    "Install it with `make install-library` in the repository of swimtab, and run `ldconfig` once as root; "
-    "or run `make library` there, and set SWIMTAB_LIB to the folder build, or to the file libswimtab.so in it."
+    "Install it with `make install-library` in the repository of swimtab, and run `ldconfig` once "
+    "as root; or run `make library` there, and set SWIMTAB_LIB to the folder build or the file "
+    "libswimtab.so in it."
 )
 
 
 def load() -> ctypes.CDLL:
-    """Returns the library that SWIMTAB_LIB names, or that the loader finds, or that of this repository."""
+    """The library that SWIMTAB_LIB names, or that the loader finds, or that of this repository."""
     named = os.environ.get("SWIMTAB_LIB")
     if named:
         return _checked(_load_file(_file_of(Path(named))))
@@ -79,5 +80,5 @@ def _checked(library: ctypes.CDLL) -> ctypes.CDLL:
         raise ImportError(f"libswimtab is older than 0.3. {_NEXT_STEP}") from None
     version.argtypes, version.restype = (), ctypes.c_uint32
     if version() < OLDEST:
-        raise ImportError(f"libswimtab is older than 0.3: its version is {version()}. {_NEXT_STEP}")
+        raise ImportError(f"libswimtab is older than 0.3: version {version()}. {_NEXT_STEP}")
     return library

@@ -1,6 +1,7 @@
 """The structs of swimtab.h, with its layouts."""
 
-from ctypes import Structure, c_bool, c_char_p, c_size_t, c_uint8, c_uint16, c_uint32, c_void_p, sizeof
+from ctypes import Structure, c_bool, c_char_p, c_size_t, c_uint8, c_uint16, c_uint32, c_void_p
+from ctypes import sizeof
 
 
 class RawNode(Structure):
@@ -111,10 +112,15 @@ class RawBuffer(Structure):
 
 
 class RawProgress(Structure):
-    _fields_ = [("at", c_size_t), ("left", c_uint32), ("user_len", c_uint32), ("has_header", c_bool)]
+    _fields_ = [
+        ("at", c_size_t),
+        ("left", c_uint32),
+        ("user_len", c_uint32),
+        ("has_header", c_bool),
+    ]
 
 
-#: The length of the longest packet that a node writes about itself or others: SWIMTAB_MAX_PACKET_LEN.
+#: The length of the longest packet about a member, or ping: SWIMTAB_MAX_PACKET_LEN.
 MAX_PACKET_LEN = 2163
 #: The length of a nonce: SWIMTAB_NONCE_LEN.
 NONCE_LEN = 12

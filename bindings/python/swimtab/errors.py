@@ -237,4 +237,4 @@ class NotBack(SwimtabError, status=73):
 
 
 class BadSize(SwimtabError, status=74):
-    """The size of a struct is not that of any version. The calls of this package do not raise it."""
+    """The size of a struct is of no version. The calls of this package do not raise it."""

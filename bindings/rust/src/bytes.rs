@@ -1,8 +1,8 @@
-//! Bytes that the library writes.
+//! Bytes that the library writes, and addresses as bytes.
 
 use crate::error::{done, Error, Result};
 use crate::raw::{self, DONE, TOO_SMALL};
-use std::net::IpAddr;
+use std::net::{IpAddr, Ipv6Addr};
 use std::{ptr, slice};
 
 /// Makes a call that writes bytes, and repeats it with a larger buffer if it needs one.
@@ -45,7 +45,7 @@ impl Buffer {
 impl Drop for Buffer {
     fn drop(&mut self) {
         // SAFETY: no other call runs on this buffer. An empty one is fine.
-        unsafe { raw::swimtab_raw_free(&mut self.0) };
+        unsafe { raw::swimtab_free(&mut self.0) };
     }
 }
 
@@ -58,13 +58,15 @@ pub(crate) fn owned(call: impl FnOnce(*mut raw::Buffer) -> u32) -> Result<Vec<u8
     }
 }
 
-/// An address as 4 or 16 bytes.
+/// An address as 4 or 16 bytes, or none.
 pub(crate) struct Octets {
     bytes: [u8; 16],
     len: usize,
 }
 
 impl Octets {
+    pub(crate) const NONE: Octets = Octets { bytes: [0; 16], len: 0 };
+
     pub(crate) fn of(addr: IpAddr) -> Octets {
         match addr {
             IpAddr::V4(addr) => {
@@ -77,5 +79,15 @@ impl Octets {
 
     pub(crate) fn bytes(&self) -> &[u8] {
         &self.bytes[..self.len]
+    }
+}
+
+/// The address in the first `len` of these bytes, if there are 4 or 16.
+pub(crate) fn addr_of(bytes: [u8; 16], len: u8) -> Option<IpAddr> {
+    let [a, b, c, d, ..] = bytes;
+    match len {
+        4 => Some([a, b, c, d].into()),
+        16 => Some(Ipv6Addr::from(bytes).into()),
+        _ => None,
     }
 }

@@ -8,11 +8,14 @@ pub type Result<T> = std::result::Result<T, Error>;
 
 macro_rules! errors {
     ($($number:literal $name:ident $text:literal)*) => {
-        /// Why a call was refused: the faults of `docs/PROTOCOL.md`.
+        /// Why a call was refused: the faults of `docs/PROTOCOL.md`, by their names in `swimtab.h`. This crate
+        /// never causes `NodeThere`, `TooSmall`, `BadForm` and `BadSize`.
         #[derive(Clone, Copy, Debug, PartialEq, Eq, Hash)]
         #[non_exhaustive]
         pub enum Error {
             $(#[doc = $text] $name,)*
+            /// the system gave no random bytes for a nonce
+            NoRandom,
             /// A status that this crate does not know.
             Unknown(u32),
         }
@@ -25,10 +28,16 @@ macro_rules! errors {
                 }
             }
 
-            /// The fault's number in `docs/PROTOCOL.md`.
+            /// The fault's number in `docs/PROTOCOL.md`, or 0 for [`NoRandom`](Error::NoRandom), which is not
+            /// the library's.
+            ///
+            /// ```
+            /// assert_eq!(swimtab::Error::Gone.number(), 25);
+            /// ```
             pub fn number(self) -> u32 {
                 match self {
                     $(Error::$name => $number,)*
+                    Error::NoRandom => 0,
                     Error::Unknown(status) => status,
                 }
             }
@@ -38,6 +47,7 @@ macro_rules! errors {
             fn fmt(&self, f: &mut fmt::Formatter<'_>) -> fmt::Result {
                 match self {
                     $(Error::$name => f.write_str($text),)*
+                    Error::NoRandom => f.write_str("the system gave no random bytes for a nonce"),
                     Error::Unknown(status) => write!(f, "status {status}"),
                 }
             }
@@ -65,7 +75,7 @@ errors! {
     18 DuplicateKey "a map has a key twice"
     19 BadState "a state is not 0, 1, 2 or 3"
     20 TooManyNodes "the stream announces more than 131,072 members"
-    21 UserTooLong "the stream announces more than 20,971,520 bytes of user state"
+    21 UserTooLong "the stream has more than 20,971,520 bytes of user state"
     22 Trailing "bytes follow the end"
     23 TooManyRecords "the table has more than 131,072 records, too many for a stream"
     24 Exhausted "there is no greater incarnation"
@@ -89,9 +99,16 @@ errors! {
     57 CipherTrailing "bytes follow an encrypted stream"
     59 Unencrypted "it is not encrypted, and only what is encrypted is read"
     64 NoNode "the handle is empty"
+    65 NodeThere "the handle has a node already"
+    66 TooSmall "the buffer is too small"
     67 NoMember "there is no such member"
     68 OwnName "a member does not declare itself dead; it leaves"
     69 TooManyPackets "there are more than 255 packets for one compound packet"
+    70 BadForm "there is no such form of a stream, or it has no user state"
+    71 NoItem "there is no key or part at this index"
+    72 KeyInUse "the first key encrypts, so it is not removed"
+    73 NotBack "the member has not come back"
+    74 BadSize "the size of a struct is not that of any version"
 }
 
 impl std::error::Error for Error {}
@@ -102,5 +119,34 @@ pub(crate) fn done(status: u32) -> Result<()> {
         Ok(())
     } else {
         Err(Error::of(status))
+    }
+}
+
+#[cfg(test)]
+mod tests {
+    use super::Error;
+    use crate::raw;
+    use std::ffi::CStr;
+
+    /// What the library says of a status.
+    fn told(status: u32) -> String {
+        // SAFETY: the text is static, and ends with a zero.
+        let text = unsafe { CStr::from_ptr(raw::swimtab_fault_text(status)) };
+        text.to_str().unwrap().to_owned()
+    }
+
+    #[test]
+    fn each_status_has_an_error_with_the_text_of_the_library() {
+        for status in 1..256 {
+            let (error, told) = (Error::of(status), told(status));
+            assert_eq!(error.number(), status);
+            if told == "There is no such status." {
+                assert_eq!(error, Error::Unknown(status));
+            } else {
+                let text = error.to_string();
+                let (first, rest) = text.split_at(1);
+                assert_eq!(format!("{}{rest}.", first.to_uppercase()), told);
+            }
+        }
     }
 }

@@ -1,17 +1,13 @@
-//! Packets and streams as a real cluster sends them.
+//! A cluster's keys.
 
-use crate::bytes::written;
-use crate::error::{done, Result};
-use crate::raw;
+use crate::error::{done, Error, Result};
+use crate::raw::{self, DONE};
 use std::cell::UnsafeCell;
 use std::fmt;
-use std::ptr;
+use std::hint;
 
-/// The length of a nonce in bytes.
-pub const NONCE: usize = 12;
-
-/// The greatest length that sealing adds to the label and the message.
-const OVERHEAD: usize = 2 + 5 + 1 + NONCE + 16;
+/// The greatest length of a key in bytes.
+const KEY: usize = 32;
 
 /// A cluster's keys, or none. The first key encrypts; to decrypt, all are tried in order. Without a key, it
 /// reads and writes what is not encrypted; with one it refuses to read that, as memberlist does by default,
@@ -19,9 +15,19 @@ const OVERHEAD: usize = 2 + 5 + 1 + NONCE + 16;
 /// dropped.
 ///
 /// It may move from thread to thread, but only one uses it at a time: it is `Send`, not `Sync`.
+///
+/// ```
+/// use swimtab::{nack, Keyring, Kind};
+///
+/// let mut keys = Keyring::new();
+/// keys.add(&[7; 32])?;
+/// let packet = keys.seal(b"dc", &nack(9)?)?;
+/// assert_eq!(keys.unwrap(&packet)?.kind, Kind::Nack);
+/// # Ok::<(), swimtab::Error>(())
+/// ```
 pub struct Keyring {
     // Like a node's handle.
-    handle: UnsafeCell<raw::Keyring>,
+    pub(crate) handle: UnsafeCell<raw::Keyring>,
 }
 
 // SAFETY: the library keeps no state per thread, and a handle may move between calls.
@@ -30,7 +36,7 @@ unsafe impl Send for Keyring {}
 impl Keyring {
     /// A keyring without keys.
     pub fn new() -> Keyring {
-        Keyring { handle: UnsafeCell::new(raw::Keyring { at: ptr::null_mut(), held: false }) }
+        Keyring { handle: UnsafeCell::new(raw::Keyring::empty()) }
     }
 
     /// Adds a key of 16, 24 or 32 bytes after those that are there.
@@ -39,8 +45,8 @@ impl Keyring {
     ///
     /// `BadKey` if it has another length; `Memory`. Then the keyring is unchanged.
     pub fn add(&mut self, key: &[u8]) -> Result<()> {
-        // SAFETY: a slice's pointer is never null, and no other call runs; so in all calls below.
-        done(unsafe { raw::swimtab_raw_keyring_add(self.handle.get(), key.as_ptr(), key.len()) })
+        // SAFETY: no other call runs, and the slice lives as long as the call.
+        done(unsafe { raw::swimtab_keyring_add(self.handle.get(), key.as_ptr(), key.len()) })
     }
 
     /// From now on, packets and streams in the clear are read too, while a cluster begins or ends to encrypt.
@@ -49,102 +55,93 @@ impl Keyring {
     ///
     /// `NoNode` if there is no key.
     pub fn accept_clear(&mut self) -> Result<()> {
-        done(unsafe { raw::swimtab_raw_keyring_accept_clear(self.handle.get()) })
+        // SAFETY: no other call runs.
+        done(unsafe { raw::swimtab_keyring_accept_clear(self.handle.get()) })
     }
 
-    /// The message in a packet, one UDP payload as a member sends it: removes the label, checksum and
-    /// compression, and decrypts the message. [`Node::take`](crate::Node::take) reads the result.
+    /// How many keys there are.
+    pub fn len(&self) -> usize {
+        // SAFETY: no other call runs.
+        unsafe { raw::swimtab_keyring_count(self.handle.get()) }
+    }
+
+    /// Whether there is no key, so that nothing is encrypted.
+    pub fn is_empty(&self) -> bool {
+        self.len() == 0
+    }
+
+    /// Copies of the keys, in their order. Nothing overwrites these copies.
+    pub fn keys(&self) -> Vec<Vec<u8>> {
+        (0..self.len()).map(|i| self.look(i, <[u8]>::to_vec)).collect()
+    }
+
+    /// From now on this key encrypts: it and the first one change places.
     ///
     /// # Errors
     ///
-    /// `WrongType` if the message makes no claims, like a ping, or is not a message, and without a key also
-    /// if it is encrypted; `Ended` if it is empty; `WrapperEnded` to `TooDeep` if its wrappers are invalid;
-    /// `WrongTag` if it is encrypted and no key decrypts it; `Unencrypted` if it is in the clear, there are
-    /// keys, and that is not accepted; `Memory`.
-    pub fn unwrap_packet(&self, packet: &[u8]) -> Result<Vec<u8>> {
-        written(2 * packet.len(), |out, len| unsafe {
-            raw::swimtab_raw_unwrap(self.handle.get(), packet.as_ptr(), packet.len(), out, len)
-        })
+    /// `NoItem` if there is no such key. Then nothing has changed.
+    pub fn use_key(&mut self, key: &[u8]) -> Result<()> {
+        let i = self.index(key).ok_or(Error::NoItem)?;
+        // SAFETY: no other call runs.
+        done(unsafe { raw::swimtab_keyring_use(self.handle.get(), i) })
     }
 
-    /// The push/pull stream in the bytes of one direction of a TCP connection, without its wrappers.
-    /// [`Node::answer`](crate::Node::answer) and [`Node::finish`](crate::Node::finish) read the result. The
-    /// label is that of the cluster, or empty. A stream that does not begin with a label is read as if it
-    /// began with this one, since the side that answers writes none.
+    /// Removes this key, each time that it was added, and overwrites it.
     ///
     /// # Errors
     ///
-    /// `WrongType` if it is not a push/pull stream, and without a key also if it is encrypted; `Ended` if it
-    /// is empty; `WrapperEnded` to `TooDeep` if its wrappers are invalid; `CipherTooLong` to
-    /// `CipherTrailing`, the fault of the last key, if it is encrypted and no key decrypts it;
-    /// `CipherTooLong` also if the label has more than 255 bytes; `Unencrypted` if it is in the clear, there
-    /// are keys, and that is not accepted; `Memory`.
-    pub fn unwrap_stream(&self, label: &[u8], stream: &[u8]) -> Result<Vec<u8>> {
-        written(2 * stream.len(), |out, len| unsafe {
-            raw::swimtab_raw_unwrap_stream(
-                self.handle.get(),
-                label.as_ptr(),
-                label.len(),
-                stream.as_ptr(),
-                stream.len(),
-                out,
-                len,
-            )
-        })
+    /// `NoItem` if there is no such key; `KeyInUse` if it is the first one, which encrypts. Then nothing has
+    /// changed.
+    pub fn remove(&mut self, key: &[u8]) -> Result<()> {
+        let mut next = Some(self.index(key).ok_or(Error::NoItem)?);
+        while let Some(i) = next {
+            // SAFETY: no other call runs.
+            done(unsafe { raw::swimtab_keyring_remove(self.handle.get(), i) })?;
+            next = self.index(key);
+        }
+        Ok(())
     }
 
-    /// A packet with this message, as memberlist sends it: the label, if it is not empty, and then the
-    /// message, encrypted with the first key and the nonce, which authenticates the label too. Never use a
-    /// nonce twice with one key, for packets or streams: draw each at random. Without a key the message is
-    /// not encrypted, and the nonce is not read.
+    /// From now on this key encrypts, which is added if it is not there. A cluster changes its key so: `add`
+    /// the new one on all members, then `rotate` to it on all, and then `remove` the old one on all.
+    ///
+    /// ```
+    /// use swimtab::Keyring;
+    ///
+    /// let (old, new) = ([1; 16], [2; 32]);
+    /// let mut keys = Keyring::new();
+    /// keys.add(&old)?;
+    /// keys.rotate(&new)?;
+    /// assert_eq!(keys.keys(), [&new[..], &old]);
+    /// keys.remove(&old)?;
+    /// # Ok::<(), swimtab::Error>(())
+    /// ```
     ///
     /// # Errors
     ///
-    /// `CipherTooLong` if the label has more than 255 bytes, or the message is too long; `Memory`.
-    pub fn seal_packet(&self, nonce: &[u8; NONCE], label: &[u8], message: &[u8]) -> Result<Vec<u8>> {
-        written(label.len() + message.len() + OVERHEAD, |out, len| unsafe {
-            raw::swimtab_raw_seal(
-                self.handle.get(),
-                nonce.as_ptr(),
-                label.as_ptr(),
-                label.len(),
-                message.as_ptr(),
-                message.len(),
-                out,
-                len,
-            )
-        })
+    /// `BadKey` if it does not have 16, 24 or 32 bytes; `Memory`. Then nothing has changed.
+    pub fn rotate(&mut self, key: &[u8]) -> Result<()> {
+        if self.index(key).is_none() {
+            self.add(key)?;
+        }
+        self.use_key(key)
     }
 
-    /// A stream with this message in the same way. `reply` is false on the side that opened the connection,
-    /// for what [`Node::offer`](crate::Node::offer) wrote, and true on the other side, for
-    /// [`Answer::reply`](crate::Answer::reply). No label is written before a reply; if the reply is encrypted
-    /// it authenticates the label all the same.
-    ///
-    /// # Errors
-    ///
-    /// Those of [`seal_packet`](Keyring::seal_packet); a message to be encrypted has at most 268,435,427
-    /// bytes.
-    pub fn seal_stream(
-        &self,
-        nonce: &[u8; NONCE],
-        label: &[u8],
-        reply: bool,
-        message: &[u8],
-    ) -> Result<Vec<u8>> {
-        written(label.len() + message.len() + OVERHEAD, |out, len| unsafe {
-            raw::swimtab_raw_seal_stream(
-                self.handle.get(),
-                nonce.as_ptr(),
-                label.as_ptr(),
-                label.len(),
-                reply,
-                message.as_ptr(),
-                message.len(),
-                out,
-                len,
-            )
-        })
+    /// The index of the first such key.
+    fn index(&self, key: &[u8]) -> Option<usize> {
+        (0..self.len()).find(|&i| self.look(i, |here| here == key))
+    }
+
+    /// What a look at the key at index `i` returns; of one that is not there nothing is seen.
+    fn look<T>(&self, i: usize, see: impl FnOnce(&[u8]) -> T) -> T {
+        let mut key = [0; KEY];
+        // SAFETY: no other call runs, and the array lives as long as the call.
+        let told = unsafe { raw::swimtab_keyring_key(self.handle.get(), i, key.as_mut_ptr(), key.len()) };
+        debug_assert_eq!(told.status, DONE);
+        let seen = see(&key[..told.len.min(KEY)]);
+        key.fill(0);
+        hint::black_box(&key); // so that the zeros are written
+        seen
     }
 }
 
@@ -156,14 +153,14 @@ impl Default for Keyring {
 
 impl Drop for Keyring {
     fn drop(&mut self) {
-        // SAFETY: as in add. An empty handle is fine.
-        unsafe { raw::swimtab_raw_keyring_close(self.handle.get()) };
+        // SAFETY: no other call runs. An empty handle is fine.
+        unsafe { raw::swimtab_keyring_close(self.handle.get()) };
     }
 }
 
 /// It shows no key.
 impl fmt::Debug for Keyring {
     fn fmt(&self, f: &mut fmt::Formatter<'_>) -> fmt::Result {
-        f.debug_struct("Keyring").finish_non_exhaustive()
+        f.debug_struct("Keyring").field("keys", &self.len()).finish_non_exhaustive()
     }
 }

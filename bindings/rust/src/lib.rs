@@ -2,30 +2,53 @@
 //!
 //! A [`Node`] is what one member of a cluster knows. It has no sockets or timers: the program passes in the
 //! packets and streams that it received, and sends those that a call writes. A [`Keyring`] reads packets and
-//! streams as a real cluster wraps them, and wraps those to send. The repository's `docs/EMBEDDING.md` is the
-//! guide; `docs/PROTOCOL.md` has the rules and the faults.
+//! streams as a real cluster wraps them, and wraps those to send. A [`Probe`] is a ping or its answer. The
+//! repository's `docs/EMBEDDING.md` is the guide; `docs/PROTOCOL.md` has the rules and the faults.
 //!
 //! Make no call in a signal handler, or in the child after a fork of a process with threads.
 
+#![warn(clippy::undocumented_unsafe_blocks, clippy::missing_errors_doc)]
+
 mod bytes;
+mod claims;
+mod details;
 mod error;
+mod exchange;
 mod keyring;
 mod member;
+mod message;
 mod node;
+mod nonce;
 mod packet;
+mod probe;
 mod raw;
 mod stream;
+mod table;
+mod wrapping;
 
+pub use details::Details;
 pub use error::{Error, Result};
-pub use keyring::{Keyring, NONCE};
-pub use member::{Address, Details, Member, Members, State};
-pub use node::{Node, Relation};
-pub use packet::{alive_of, compound};
-pub use stream::{Answer, Form, Progress, Taken};
+pub use keyring::Keyring;
+pub use member::{Member, Members, State};
+pub use message::{parts, Kind, Message, Part, Parts};
+pub use node::Node;
+pub use packet::{alive_of, compound, dead_of, suspect_of};
+pub use probe::{ack, indirect_ping, nack, ping, user, Peer, Probe};
+pub use stream::{Answer, Form, Progress, Taken, Whole};
+pub use table::Relation;
 
-/// The version of the linked library, as "0.2.0".
+/// The version of the linked library.
+///
+/// ```
+/// assert_eq!(swimtab::version(), "0.3.0");
+/// ```
 pub fn version() -> String {
     // SAFETY: it takes no arguments.
-    let number = unsafe { raw::swimtab_raw_version() };
+    let number = unsafe { raw::swimtab_version() };
     format!("{}.{}.{}", number / 10_000, number / 100 % 100, number % 100)
 }
+
+// The examples in the README are compiled and run.
+#[cfg(doctest)]
+#[doc = include_str!("../README.md")]
+struct Readme;

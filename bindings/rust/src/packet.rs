@@ -1,8 +1,8 @@
-//! Packets that need no node.
+//! Packets with claims that need no node.
 
-use crate::bytes::{written, Octets};
+use crate::bytes::written;
+use crate::details::Details;
 use crate::error::Result;
-use crate::member::Details;
 use crate::raw::{self, MAX_PACKET_LEN};
 
 /// The packet that says that another member is alive, as a member passes it on.
@@ -10,25 +10,50 @@ use crate::raw::{self, MAX_PACKET_LEN};
 /// # Errors
 ///
 /// `NameEmpty`, `NameTooLong`, `MetaTooLong`, `Memory`.
-pub fn alive_of(name: &[u8], details: Details<'_>, incarnation: u32) -> Result<Vec<u8>> {
-    let addr = Octets::of(details.addr);
-    let (addr, versions) = (addr.bytes(), details.version_bytes());
-    written(MAX_PACKET_LEN, |out, len| unsafe {
-        // SAFETY: a slice's pointer is never null, and `out` has room for `len` bytes.
-        raw::swimtab_raw_alive_of(
-            name.as_ptr(),
-            name.len(),
-            addr.as_ptr(),
-            addr.len(),
-            details.port,
-            details.meta.as_ptr(),
-            details.meta.len(),
-            versions.as_ptr(),
-            versions.len(),
-            incarnation,
-            out,
-            len,
-        )
+pub fn alive_of(name: &[u8], details: &Details) -> Result<Vec<u8>> {
+    details.with(name, |details| {
+        written(MAX_PACKET_LEN, |out, len| {
+            // SAFETY: the details live as long as the call, and `out` has room for `len` bytes.
+            unsafe { raw::swimtab_alive_of(details, out, len) }
+        })
+    })
+}
+
+/// The packet by which the member of the name `from`, which may be empty, suspects the member of this name.
+///
+/// # Errors
+///
+/// `NameEmpty`, `NameTooLong`, `Memory`.
+pub fn suspect_of(from: &[u8], name: &[u8], incarnation: u32) -> Result<Vec<u8>> {
+    let (at, at_len, of, of_len) = (from.as_ptr(), from.len(), name.as_ptr(), name.len());
+    written(MAX_PACKET_LEN, |out, len| {
+        // SAFETY: the slices live as long as the call, and `out` has room for `len` bytes.
+        unsafe { raw::swimtab_suspect_of(at, at_len, of, of_len, incarnation, out, len) }
+    })
+}
+
+/// The packet by which the member of the name `from`, which may be empty, declares the member of this name
+/// dead; with its own name it leaves.
+///
+/// ```
+/// use swimtab::{dead_of, Details, Node, State};
+///
+/// let mut node = Node::open(b"a", &Details::new(([10, 0, 0, 1], 7946)))?;
+/// node.take(&dead_of(b"c", b"b", 4)?)?;
+/// node.take(&dead_of(b"d", b"d", 5)?)?;
+/// let states: Vec<State> = node.iter().map(|member| member.state).collect();
+/// assert_eq!(states, [State::Alive, State::Confirm, State::Leave]);
+/// # Ok::<(), swimtab::Error>(())
+/// ```
+///
+/// # Errors
+///
+/// `NameEmpty`, `NameTooLong`, `Memory`.
+pub fn dead_of(from: &[u8], name: &[u8], incarnation: u32) -> Result<Vec<u8>> {
+    let (at, at_len, of, of_len) = (from.as_ptr(), from.len(), name.as_ptr(), name.len());
+    written(MAX_PACKET_LEN, |out, len| {
+        // SAFETY: as in suspect_of.
+        unsafe { raw::swimtab_dead_of(at, at_len, of, of_len, incarnation, out, len) }
     })
 }
 
@@ -42,7 +67,7 @@ pub fn compound<P: AsRef<[u8]>>(packets: &[P]) -> Result<Vec<u8>> {
     let lens: Vec<usize> = packets.iter().map(|packet| packet.as_ref().len()).collect();
     let bytes: Vec<u8> = packets.iter().flat_map(|packet| packet.as_ref()).copied().collect();
     written(bytes.len() + 2 * lens.len() + 2, |out, len| {
-        // SAFETY: a vector's pointer is never null, and `out` has room for `len` bytes.
-        unsafe { raw::swimtab_raw_compound(bytes.as_ptr(), bytes.len(), lens.as_ptr(), lens.len(), out, len) }
+        // SAFETY: the vectors live as long as the call, and `out` has room for `len` bytes.
+        unsafe { raw::swimtab_compound(bytes.as_ptr(), bytes.len(), lens.as_ptr(), lens.len(), out, len) }
     })
 }

@@ -2,9 +2,9 @@
 
 mod common;
 
-use common::{details, opened, VERSIONS};
-use std::net::{IpAddr, Ipv4Addr, Ipv6Addr};
-use swimtab::{alive_of, compound, version, Details, Error, Member, Node, State};
+use common::{details, opened};
+use std::net::{Ipv4Addr, Ipv6Addr};
+use swimtab::{alive_of, compound, dead_of, suspect_of, version, Details, Error, Member, Node, State};
 
 #[test]
 fn the_version_is_that_of_the_crate() {
@@ -13,10 +13,10 @@ fn the_version_is_that_of_the_crate() {
 
 #[test]
 fn openings_are_refused() {
-    assert_eq!(Node::open(b"", details(1), 0).unwrap_err(), Error::NameEmpty);
-    assert_eq!(Node::open(&[b'n'; 1025], details(1), 0).unwrap_err(), Error::NameTooLong);
-    let meta = [0; 513];
-    assert_eq!(Node::open(b"a", Details { meta: &meta, ..details(1) }, 0).unwrap_err(), Error::MetaTooLong);
+    assert_eq!(Node::open(b"", &details(1)).unwrap_err(), Error::NameEmpty);
+    assert_eq!(Node::open(&[b'n'; 1025], &details(1)).unwrap_err(), Error::NameTooLong);
+    let long = Details { meta: vec![0; 513], ..details(1) };
+    assert_eq!(Node::open(b"a", &long).unwrap_err(), Error::MetaTooLong);
 }
 
 #[test]
@@ -24,6 +24,9 @@ fn errors_have_numbers_and_texts() {
     assert_eq!(Error::Gone.number(), 25);
     assert_eq!(Error::OwnName.number(), 68);
     assert_eq!(Error::CipherTrailing.number(), 57);
+    let new = [Error::BadForm, Error::NoItem, Error::KeyInUse, Error::NotBack, Error::BadSize];
+    assert_eq!(new.map(Error::number), [70, 71, 72, 73, 74]);
+    assert_eq!((Error::NodeThere.number(), Error::TooSmall.number(), Error::NoRandom.number()), (65, 66, 0));
     assert_eq!(Error::Trailing.to_string(), "bytes follow the end");
     let error: Box<dyn std::error::Error + Send + Sync> = Error::WrongType.into();
     assert_eq!(error.to_string(), "the message is of another type");
@@ -63,14 +66,13 @@ fn members_come_in_the_order_of_their_names() {
     let packets =
         [a.suspect(b"z", 4).unwrap(), opened("c", 9).alive(2).unwrap(), opened("d", 8).leave(5).unwrap()];
     a.take(&compound(&packets).unwrap()).unwrap();
-    assert_eq!(a.members().len(), 4);
-    let all: Vec<Member> = a.members().collect();
+    assert_eq!((a.iter().len(), a.iter().count()), (4, 4));
+    let all: Vec<Member> = a.iter().collect();
+    assert!(all.iter().cloned().eq(&a));
     let names: Vec<&[u8]> = all.iter().map(|member| &member.name[..]).collect();
     assert_eq!(names, [b"c", b"d", b"m", b"z"]);
-    assert_eq!((all[1].state, all[1].incarnation, &all[1].address), (State::Leave, 5, &None));
-    let address = all[0].address.as_ref().unwrap();
-    assert_eq!((address.incarnation, address.addr, address.port), (2, IpAddr::from([127, 0, 0, 9]), 7946));
-    assert_eq!((&address.meta[..], address.versions), (&b"m"[..], Some(VERSIONS)));
+    assert_eq!((all[1].state, all[1].incarnation, &all[1].details), (State::Leave, 5, &None));
+    assert_eq!(all[0].details, Some(Details { incarnation: 2, ..details(9) }));
     assert_eq!(all[3], a.find(b"z").unwrap());
     assert_eq!((a.find(b"none"), a.at(4)), (None, None));
 }
@@ -114,7 +116,7 @@ fn a_name_is_forgotten() {
     assert_eq!(a.take(&c.alive(1).unwrap()), Ok(true));
     assert_eq!(a.find(b"c").map(|c| c.state), Some(State::Alive));
     assert_eq!((a.forget(b"c"), a.is_empty(), a.forget(b"a"), a.is_empty()), (Ok(()), false, Ok(()), true));
-    assert_eq!((a.list(), a.members().len()), (Ok(String::new()), 0));
+    assert_eq!((a.list(), a.iter().len()), (Ok(String::new()), 0));
 }
 
 #[test]
@@ -126,26 +128,114 @@ fn a_member_comes_back() {
     assert_eq!(a.take(&c.alive(5).unwrap()), Ok(true));
     let known = a.find(b"c").unwrap();
     assert_eq!((known.state, known.incarnation, known.came_back), (State::Confirm, 4, true));
-    assert_eq!(known.address.map(|address| address.incarnation), Some(5));
+    assert_eq!(known.details.map(|details| details.incarnation), Some(5));
+}
+
+#[test]
+fn a_member_that_came_back_is_readmitted() {
+    let (mut a, c) = (opened("a", 1), opened("c", 3));
+    assert_eq!((a.readmit(b"c"), a.readmit(b"")), (Err(Error::NoMember), Err(Error::NoMember)));
+    a.take(&c.alive(4).unwrap()).unwrap();
+    a.take(&a.confirm(b"c", 4).unwrap()).unwrap();
+    assert_eq!(a.readmit(b"c"), Err(Error::NotBack));
+    a.take(&c.alive(5).unwrap()).unwrap();
+    a.watch(true);
+    assert_eq!(a.readmit(b"c"), Ok(()));
+    let known = a.find(b"c").unwrap();
+    assert_eq!((known.state, known.incarnation, known.came_back), (State::Alive, 5, false));
+    assert_eq!((a.readmit(b"c"), a.readmit(b"a")), (Err(Error::NotBack), Err(Error::NotBack)));
+}
+
+#[test]
+fn a_member_gets_other_details() {
+    let mut a = opened("a", 1);
+    assert_eq!(a.update(&details(1)), Ok(None));
+    // the incarnation is not used
+    assert_eq!(a.update(&Details { incarnation: 9, ..details(1) }), Ok(None));
+    let moved = Details { meta: b"new".to_vec(), ..details(7) };
+    assert_eq!((a.update(&moved), a.update(&moved)), (Ok(Some(1)), Ok(None)));
+    let known = a.find(b"a").unwrap();
+    assert_eq!((known.state, known.incarnation), (State::Alive, 1));
+    assert_eq!(known.details, Some(Details { incarnation: 1, ..moved.clone() }));
+    // the others hear of it
+    let mut b = opened("b", 2);
+    assert_eq!(b.take(&a.alive(1).unwrap()), Ok(true));
+    assert_eq!(b.find(b"a").map(|a| a.details), Some(known.details));
+    let long = Details { meta: vec![0; 513], ..details(1) };
+    assert_eq!(a.update(&long), Err(Error::MetaTooLong));
+    // a suspicion at the same time is refuted too
+    a.take(&b.suspect(b"a", 6).unwrap()).unwrap();
+    assert_eq!((a.update(&details(8)), a.refute()), (Ok(Some(7)), Ok(None)));
+    a.take(&b.suspect(b"a", u32::MAX).unwrap()).unwrap();
+    assert_eq!(a.update(&details(9)), Err(Error::Exhausted));
+    a.take(&b.confirm(b"a", u32::MAX).unwrap()).unwrap();
+    assert_eq!(a.update(&details(9)), Err(Error::Gone));
+}
+
+#[test]
+fn a_walk_goes_on_where_it_was() {
+    let mut a = opened("m", 1);
+    for name in [b"c", b"x"] {
+        a.take(&suspect_of(b"m", name, 1).unwrap()).unwrap();
+    }
+    let name = |member: Option<Member>| member.map(|member| member.name);
+    assert_eq!(name(a.after(b"")), Some(b"c".to_vec()));
+    assert_eq!(name(a.after(b"c")), Some(b"m".to_vec()));
+    a.forget(b"m").unwrap();
+    a.take(&suspect_of(b"", b"mm", 1).unwrap()).unwrap();
+    assert_eq!(name(a.after(b"m")), Some(b"mm".to_vec()));
+    assert_eq!(name(a.after(b"mm")), Some(b"x".to_vec()));
+    assert_eq!((a.after(b"x"), a.after(&[0xff; 2000])), (None, None));
 }
 
 #[test]
 fn another_members_alive_is_written() {
-    let details = Details { addr: Ipv4Addr::LOCALHOST.into(), port: 7947, meta: b"", versions: None };
+    let address = (Ipv4Addr::LOCALHOST, 7947);
+    let details = Details { incarnation: 4, versions: None, ..Details::new(address) };
     let wanted = b"\x04\x86\xa4Addr\xa4\x7f\0\0\x01\xabIncarnation\x04\xa4Meta\xa0\xa4Node\xa1a\
         \xa4Port\xcd\x1f\x0b\xa3Vsn\xa0";
-    assert_eq!(alive_of(b"a", details, 4).unwrap(), wanted);
-    assert_eq!(alive_of(b"", details, 4), Err(Error::NameEmpty));
-    let meta = [0; 513];
-    assert_eq!(alive_of(b"a", Details { meta: &meta, ..details }, 4), Err(Error::MetaTooLong));
+    assert_eq!(alive_of(b"a", &details).unwrap(), wanted);
+    assert_eq!(alive_of(b"", &details), Err(Error::NameEmpty));
+    let long = Details { meta: vec![0; 513], ..details };
+    assert_eq!(alive_of(b"a", &long), Err(Error::MetaTooLong));
+}
+
+#[test]
+fn what_is_known_of_a_member_is_passed_on() {
+    let (mut a, mut b) = (opened("a", 1), opened("b", 2));
+    a.take(&opened("c", 3).alive(5).unwrap()).unwrap();
+    let c = a.find(b"c").unwrap();
+    b.take(&alive_of(&c.name, c.details.as_ref().unwrap()).unwrap()).unwrap();
+    assert_eq!(b.find(b"c"), Some(c));
+}
+
+#[test]
+fn claims_of_others_are_written() {
+    let (a, b) = (opened("a", 1), opened("b", 2));
+    let wanted = b"\x83\xa4From\xa1a\xabIncarnation\x06\xa4Node\xa1b";
+    assert_eq!(suspect_of(b"a", b"b", 6).unwrap(), [&[3][..], wanted].concat());
+    assert_eq!(dead_of(b"a", b"b", 6).unwrap(), [&[5][..], wanted].concat());
+    assert_eq!(suspect_of(b"a", b"b", 6), a.suspect(b"b", 6));
+    assert_eq!(dead_of(b"a", b"b", 6), a.confirm(b"b", 6));
+    assert_eq!(dead_of(b"b", b"b", 6), b.leave(6));
+    let nobody = b"\x03\x83\xa4From\xa0\xabIncarnation\0\xa4Node\xa1b";
+    assert_eq!(suspect_of(b"", b"b", 0).unwrap(), nobody);
+    let long = [b'n'; 1025];
+    for write in [suspect_of, dead_of] {
+        assert_eq!(write(b"a", b"", 1), Err(Error::NameEmpty));
+        assert_eq!(
+            (write(b"a", &long, 1), write(&long, b"a", 1)),
+            (Err(Error::NameTooLong), Err(Error::NameTooLong))
+        );
+        assert_eq!(write(&long[1..], &long[1..], u32::MAX).map(|packet| packet.len() > 2048), Ok(true));
+    }
 }
 
 #[test]
 fn addresses_of_both_kinds_come_back() {
-    let addr = IpAddr::from(Ipv6Addr::LOCALHOST);
-    let node = Node::open(b"six", Details { addr, port: 1, meta: b"", versions: None }, 0).unwrap();
-    let address = node.find(b"six").unwrap().address.unwrap();
-    assert_eq!((address.addr, address.port, address.versions, address.meta.len()), (addr, 1, None, 0));
+    let six = Details { versions: None, ..Details::new((Ipv6Addr::LOCALHOST, 1)) };
+    let node = Node::open(b"six", &six).unwrap();
+    assert_eq!(node.find(b"six").and_then(|member| member.details), Some(six));
 }
 
 #[test]

@@ -3,7 +3,9 @@
 mod common;
 
 use common::opened;
-use swimtab::{Error, Form, Node, Progress, Relation, Taken};
+use swimtab::{alive_of, Details, Error, Form, Node, Progress, Relation, State, Taken, Whole};
+
+const MEMBERLIST: Form<'static> = Form::Memberlist { user: b"" };
 
 #[test]
 fn an_exchange_levels_two_members() {
@@ -63,14 +65,58 @@ fn streams_have_two_forms() {
     a.take(&a.suspect(b"b", 3).unwrap()).unwrap();
     a.take(&a.suspect(b"z", 4).unwrap()).unwrap();
     let all = [record(b"a", 0, 0, 1), record(b"b", 3, 0, 2), bare(b"b", 3, 1), bare(b"z", 4, 1)].concat();
-    let merged = [record(b"a", 0, 0, 1), record(b"b", 3, 0, 2), record(b"b", 3, 1, 2)].concat();
+    let merged = [record(b"a", 0, 0, 1), record(b"b", 3, 1, 2)].concat();
     assert_eq!(a.offer(true, Form::Canonical).unwrap(), [header(0xc3, 4, 0), all.clone()].concat());
     assert_eq!(a.dump().unwrap(), [header(0xc2, 4, 0), all].concat());
-    assert_eq!(a.offer(true, Form::Memberlist).unwrap(), [header(0xc3, 3, 0), merged.clone()].concat());
+    assert_eq!(a.offer(true, MEMBERLIST).unwrap(), [header(0xc3, 2, 0), merged.clone()].concat());
+    assert_eq!(a.left_out(), 1);
     let none = header(0xc2, 0, 0);
-    let answer = a.answer(&[&none[..], b"behind"].concat(), Form::Memberlist).unwrap();
+    let answer = a.answer(&[&none[..], b"behind"].concat(), MEMBERLIST).unwrap();
     assert_eq!(answer.taken, Taken { join: false, news: false, used: none.len() });
-    assert_eq!(answer.reply, [header(0xc2, 3, 0), merged].concat());
+    assert_eq!(answer.reply, [header(0xc2, 2, 0), merged].concat());
+}
+
+#[test]
+fn a_stream_for_memberlist_has_user_state() {
+    let (mut a, mut b) = (opened("a", 1), opened("b", 2));
+    let form = Form::Memberlist { user: b"mine" };
+    let stream = [&header(0xc3, 1, 4)[..], &record(b"a", 0, 0, 1), b"mine"].concat();
+    assert_eq!(a.offer(true, form).unwrap(), stream);
+    let whole = Progress::new().whole(&stream).unwrap().unwrap();
+    assert_eq!((whole.used, whole.user), (stream.len(), &b"mine"[..]));
+    let answer = b.answer(&stream, Form::Memberlist { user: b"theirs" }).unwrap();
+    assert_eq!(answer.taken, Taken { join: true, news: true, used: stream.len() });
+    assert_eq!(answer.reply, [&header(0xc3, 1, 6)[..], &record(b"b", 0, 0, 2), b"theirs"].concat());
+    let used = answer.reply.len();
+    assert_eq!(a.finish(&answer.reply), Ok(Taken { join: true, news: true, used }));
+    assert_eq!(a.relation(&b), Relation::Equal);
+    let long = vec![b'u'; 20_971_521];
+    assert_eq!(a.offer(true, Form::Memberlist { user: &long }), Err(Error::UserTooLong));
+    assert_eq!(a.answer(&stream, Form::Memberlist { user: &long }), Err(Error::UserTooLong));
+    let most = a.offer(true, Form::Memberlist { user: &long[1..] }).unwrap();
+    assert_eq!(Progress::new().whole(&most).unwrap().map(|whole| whole.user.len()), Some(20_971_520));
+}
+
+/// memberlist refuses a stream with such a member.
+#[test]
+fn members_without_versions_are_left_out() {
+    let mut a = opened("a", 1);
+    assert_eq!(a.left_out(), 0);
+    let old = Details { versions: None, ..Details::new(([127, 0, 0, 2], 7946)) };
+    a.take(&alive_of(b"b", &old).unwrap()).unwrap();
+    assert_eq!((a.left_out(), a.len()), (1, 2));
+    let stream = [header(0xc2, 1, 0), record(b"a", 0, 0, 1)].concat();
+    assert_eq!(a.offer(false, MEMBERLIST).unwrap(), stream);
+}
+
+#[test]
+fn a_member_that_came_back_is_alive_to_memberlist() {
+    let (mut a, b) = (opened("a", 1), opened("b", 2));
+    a.take(&b.leave(4).unwrap()).unwrap();
+    a.take(&b.alive(5).unwrap()).unwrap();
+    assert_eq!(a.find(b"b").map(|b| (b.state, b.came_back)), Some((State::Leave, true)));
+    let stream = [header(0xc2, 2, 0), record(b"a", 0, 0, 1), record(b"b", 5, 0, 2)].concat();
+    assert_eq!(a.offer(false, MEMBERLIST).unwrap(), stream);
 }
 
 #[test]
@@ -83,7 +129,9 @@ fn a_stream_comes_in_pieces() {
             assert_eq!(progress.whole(&stream[..end]), Ok(None), "{end}");
         }
         let more = [&stream[..], b"behind"].concat();
-        assert_eq!(progress.whole(&more), Ok(Some(stream.len())));
+        assert_eq!(progress.whole(&more), Ok(Some(Whole { used: stream.len(), user })));
+        // other bytes than before are safe, but the result means nothing
+        let _ = progress.whole(&stream[..3]);
     }
     assert_eq!(Progress::new().whole(&[3]), Err(Error::WrongType));
     assert_eq!(Progress::new().whole(&[6, 0xc0]), Err(Error::NotMap));

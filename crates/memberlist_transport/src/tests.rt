@@ -313,6 +313,20 @@ fn a_reply_is_opened_with_the_label_of_the_cluster(rt: HostRuntime) -> Result<()
     Ok(())
 }
 
+#[test]
+fn a_reply_of_any_kind_is_unwrapped(rt: HostRuntime) -> Result<(), Fail> {
+    let keys = keyring(rt.alloc(), KEY)?;
+    let clear = InTheClear::Refused;
+    let mut found = unwrap_reply(rt.alloc(), &keys, clear, b"dc", SEALED_REPLY, 999);
+    if let Err(StreamFault::Memory) = found {
+        found = unwrap_reply(rt.alloc(), &keys, clear, b"dc", SEALED_REPLY, 999);
+    }
+    assert_eq!(rt; found.ok().as_deref(), Some(STREAM));
+    let clear = unwrap_reply(rt.alloc(), &keys, InTheClear::Accepted, b"dc", PING, 999);
+    assert!(rt; clear.as_deref() == Ok(PING) || clear == Err(StreamFault::Memory));
+    Ok(())
+}
+
 /// The texts of two faults.
 fn texts(
     alloc: Global,

@@ -1,21 +1,21 @@
 //! What the tests share.
 #![allow(dead_code)] // each test uses some of it
 
-use std::net::Ipv4Addr;
-use swimtab::{Details, Node};
+pub mod sealed;
 
-pub const VERSIONS: [u8; 6] = [1, 5, 2, 0, 0, 0];
+use swimtab::{Details, Keyring, Node};
 
-pub fn details(last: u8) -> Details<'static> {
-    Details { addr: Ipv4Addr::new(127, 0, 0, last).into(), port: 7946, meta: b"m", versions: Some(VERSIONS) }
+pub fn details(last: u8) -> Details {
+    let meta = b"m".to_vec();
+    Details { incarnation: 0, meta, ..Details::new(([127, 0, 0, last], 7946)) }
 }
 
 /// A node of this name, alive at 0.
 pub fn opened(name: &str, last: u8) -> Node {
-    Node::open(name.as_bytes(), details(last), 0).unwrap()
+    Node::open(name.as_bytes(), &details(last)).unwrap()
 }
 
-/// The bytes that hexadecimal digits stand for.
+/// The bytes that hexadecimal digits stand for, of which spaces are skipped.
 pub fn unhex(text: &str) -> Vec<u8> {
-    (0..text.len()).step_by(2).map(|i| u8::from_str_radix(&text[i..i + 2], 16).unwrap()).collect()
+    sealed::unhex(&text.replace(' ', ""))
 }

@@ -250,3 +250,13 @@ fn want_of_memory_is_answered_as_such_and_then_repeated(rt: HostRuntime) -> Resu
     assert_opens_again(&rt, rt.alloc(), &keyring, Of::Stream, STREAMS[0])?;
     Ok(())
 }
+
+#[test]
+fn keys_change_places_and_are_removed(rt: HostRuntime) -> Result<(), Fail> {
+    let mut keys = keyring(rt.alloc(), OTHER_AND_KEY)?;
+    assert!(rt; keys.use_key(1) && !keys.use_key(2));
+    assert_eq!(rt; keys.get(1), Some([0; 16].as_slice()));
+    assert!(rt; keys.remove(1) && !keys.remove(0));
+    assert_eq!(rt; keys.len(), 1);
+    Ok(())
+}

@@ -2,17 +2,20 @@
 //! is refused, and then finds what it would have found at first.
 
 mod keyrings;
+mod messages;
 mod streams;
 mod watch;
 
-use super::open_close::{swimtab_raw_close, swimtab_raw_open};
+use super::open_close::{swimtab_raw_close, swimtab_raw_open, swimtab_raw_update};
 use super::packets::{
-    swimtab_raw_alive, swimtab_raw_compound, swimtab_raw_confirm, swimtab_raw_leave,
-    swimtab_raw_refute, swimtab_raw_suspect, swimtab_raw_take,
+    swimtab_raw_alive, swimtab_raw_compound, swimtab_raw_confirm, swimtab_raw_dead_of,
+    swimtab_raw_leave, swimtab_raw_refute, swimtab_raw_suspect, swimtab_raw_suspect_of,
+    swimtab_raw_take,
 };
 use super::streams::{swimtab_raw_answer, swimtab_raw_finish, swimtab_raw_offer};
 use super::table::{
-    swimtab_raw_count, swimtab_raw_find, swimtab_raw_list, swimtab_raw_member, swimtab_raw_relate,
+    swimtab_raw_after, swimtab_raw_count, swimtab_raw_find, swimtab_raw_list, swimtab_raw_member,
+    swimtab_raw_relate,
 };
 use crate::copy::Written;
 use crate::handle::Handle;
@@ -156,6 +159,22 @@ fn a_member_is_copied_by_its_name(rt: HostRuntime) {
     assert_eq!(rt; swimtab_raw_find(alloc, &mut node, b"a", &mut member), 0);
     assert_is_a(&rt, &member);
     assert_eq!(rt; swimtab_raw_find(alloc, &mut node, b"b", &mut member), 67);
+    assert_eq!(rt; swimtab_raw_after(alloc, &mut node, b"", &mut member), 0);
+    assert_is_a(&rt, &member);
+    assert_eq!(rt; swimtab_raw_after(alloc, &mut node, b"a", &mut member), 67);
+    assert_eq!(rt; swimtab_raw_close(alloc, &mut node), 0);
+}
+
+#[test]
+fn a_node_gets_new_details(rt: HostRuntime) {
+    let alloc = rt.alloc();
+    let mut node = opened(&rt, alloc, b"a");
+    let mut updated = swimtab_raw_update(alloc, &mut node, b"\x7f\0\0\x02", 7947, b"m", &[]);
+    if updated.status == 10 {
+        updated = swimtab_raw_update(alloc, &mut node, b"\x7f\0\0\x02", 7947, b"m", &[]);
+    }
+    assert!(rt; updated.status == 0 && updated.due && updated.inc == 1);
+    assert_lists(&rt, alloc, &mut node, "a alive 1 1/7f000002/7947/6d/\n");
     assert_eq!(rt; swimtab_raw_close(alloc, &mut node), 0);
 }
 
@@ -202,6 +221,10 @@ fn what_a_member_says_is_a_packet(rt: HostRuntime) {
         swimtab_raw_confirm(alloc, &mut node, b"a", 0, &mut out).status,
         68
     );
+    let suspected = swimtab_raw_suspect_of(alloc, b"a", b"b", 0, &mut out);
+    assert_says(&rt, suspected, &out, SUSPECT);
+    let declared = swimtab_raw_dead_of(alloc, b"a", b"b", 0, &mut out);
+    assert_says(&rt, declared, &out, DEATH);
     assert_eq!(rt; swimtab_raw_close(alloc, &mut node), 0);
 }
 
@@ -236,15 +259,15 @@ fn an_exchange_levels_two_nodes(rt: HostRuntime) {
 fn exchange(rt: &impl Abort, alloc: Global, first: &mut Handle, second: &mut Handle) {
     let mut wire = [0; 200];
     let mut reply = [0; 200];
-    let offered = swimtab_raw_offer(alloc, first, true, 0, &mut wire);
+    let offered = swimtab_raw_offer(alloc, first, true, 0, &[], &mut wire);
     if offered.status == 10 {
         return;
     }
     let mut short = [0; 3];
-    let small = swimtab_raw_answer(alloc, second, &wire, 0, &mut short);
+    let small = swimtab_raw_answer(alloc, second, &wire, 0, &[], &mut short);
     assert!(rt; small.status == 66 || small.status == 10);
     assert_eq!(rt; swimtab_raw_count(alloc, second), 1);
-    let answered = swimtab_raw_answer(alloc, second, &wire, 0, &mut reply);
+    let answered = swimtab_raw_answer(alloc, second, &wire, 0, &[], &mut reply);
     if answered.status == 10 {
         return;
     }

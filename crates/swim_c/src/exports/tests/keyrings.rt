@@ -4,11 +4,13 @@
 use crate::copy::Written;
 use crate::exports::keyrings::{
     swimtab_raw_keyring_accept_clear, swimtab_raw_keyring_add, swimtab_raw_keyring_close,
+    swimtab_raw_keyring_count, swimtab_raw_keyring_key, swimtab_raw_keyring_remove,
+    swimtab_raw_keyring_use,
 };
-use crate::exports::wrapped::{
-    swimtab_raw_seal, swimtab_raw_seal_stream, swimtab_raw_unwrap, swimtab_raw_unwrap_stream,
-};
+use crate::exports::seal::{swimtab_raw_seal, swimtab_raw_seal_stream};
+use crate::exports::unwrap::{swimtab_raw_unwrap, swimtab_raw_unwrap_stream};
 use crate::keyring::KeyringHandle;
+use crate::unwrapping::Unwrapped;
 use std::alloc::Global;
 use std::process::Abort;
 
@@ -24,6 +26,12 @@ const ALIVE: &[u8] =
 
 const SEALED: &[u8] =
     b"\xf4\x02dc\x01nonce-number\xb2\x98\x0f\xe9$}H\x05W]\x83\x00#a\x8e\xf4\xdb\xc4\x89V\x7f\
+      \x15\x853\xac[\x98P\xe4M~\xed\x8a\xbdkK\x98\xa8\xb5\xfb4\xa4\xd3!\x18\x7f3r\xc0\xb7\x93\
+      \x84S\x20b\xb2\xa68\x8412\x96\xf0\xbe\x0e\xf2K";
+
+/// The packet without its label, still encrypted.
+const UNLABELLED: &[u8] =
+    b"\x01nonce-number\xb2\x98\x0f\xe9$}H\x05W]\x83\x00#a\x8e\xf4\xdb\xc4\x89V\x7f\
       \x15\x853\xac[\x98P\xe4M~\xed\x8a\xbdkK\x98\xa8\xb5\xfb4\xa4\xd3!\x18\x7f3r\xc0\xb7\x93\
       \x84S\x20b\xb2\xa68\x8412\x96\xf0\xbe\x0e\xf2K";
 
@@ -58,6 +66,14 @@ enum Does {
     SealReply(&'static [u8]),
 }
 
+/// What was unwrapped, without its kind.
+fn written(unwrapped: Unwrapped) -> Written {
+    Written {
+        status: unwrapped.status,
+        len: unwrapped.len,
+    }
+}
+
 /// Makes the call.
 fn call(
     alloc: Global,
@@ -68,9 +84,9 @@ fn call(
 ) -> Written {
     let nonce = b"nonce-number";
     match does {
-        Does::Unwrap => swimtab_raw_unwrap(alloc, keyring, bytes, out),
+        Does::Unwrap => written(swimtab_raw_unwrap(alloc, keyring, bytes, out)),
         Does::UnwrapStream(label) => {
-            swimtab_raw_unwrap_stream(alloc, keyring, label, bytes, out)
+            written(swimtab_raw_unwrap_stream(alloc, keyring, label, bytes, out))
         }
         Does::Seal(label) => swimtab_raw_seal(alloc, keyring, nonce, label, bytes, out),
         Does::SealStream(label) => {
@@ -114,7 +130,15 @@ fn assert_writes(
 fn a_keyring_seals_under_its_first_key_and_unwraps_by_each(rt: HostRuntime) {
     let alloc = rt.alloc();
     let mut keyring = KeyringHandle::none();
-    assert_writes(&rt, alloc, &mut keyring, Does::Unwrap, SEALED, 16, b"");
+    assert_writes(
+        &rt,
+        alloc,
+        &mut keyring,
+        Does::Unwrap,
+        SEALED,
+        0,
+        UNLABELLED,
+    );
     assert_writes(&rt, alloc, &mut keyring, Does::Seal(b""), ALIVE, 0, ALIVE);
     assert_writes(
         &rt,
@@ -138,7 +162,7 @@ fn a_keyring_seals_under_its_first_key_and_unwraps_by_each(rt: HostRuntime) {
         (Does::UnwrapStream(b""), SEALED_STREAM, 0, STREAM),
         (Does::UnwrapStream(b""), SEALED_REPLY, 54, b""),
         (Does::UnwrapStream(b"dc"), SEALED_REPLY, 0, STREAM),
-        (Does::UnwrapStream(b"dc"), SEALED, 16, b""),
+        (Does::UnwrapStream(b"dc"), SEALED, 59, b""),
         (Does::Unwrap, b"\x01\xff", 54, b""),
         (Does::Unwrap, b"", 59, b""),
     ] {
@@ -155,4 +179,31 @@ fn a_keyring_seals_under_its_first_key_and_unwraps_by_each(rt: HostRuntime) {
     assert_eq!(rt; swimtab_raw_keyring_close(alloc, &mut keyring), 0);
     assert_eq!(rt; swimtab_raw_keyring_accept_clear(alloc, &mut keyring), 64);
     assert_eq!(rt; swimtab_raw_keyring_close(alloc, &mut keyring), 64);
+}
+
+/// Asserts that a key is removed.
+fn assert_removes(rt: &impl Abort, alloc: Global, keyring: &mut KeyringHandle, i: usize) {
+    if swimtab_raw_keyring_remove(alloc, keyring, i) == 10 {
+        assert_eq!(rt; swimtab_raw_keyring_remove(alloc, keyring, i), 0);
+    }
+}
+
+#[test]
+fn keys_are_turned(rt: HostRuntime) {
+    let alloc = rt.alloc();
+    let mut keyring = KeyringHandle::none();
+    let mut key = [0; 32];
+    assert_adds(&rt, alloc, &mut keyring, KEY);
+    assert_adds(&rt, alloc, &mut keyring, OTHER);
+    assert_eq!(rt; swimtab_raw_keyring_count(alloc, &mut keyring), 2);
+    if swimtab_raw_keyring_use(alloc, &mut keyring, 1) == 10 {
+        assert_eq!(rt; swimtab_raw_keyring_use(alloc, &mut keyring, 1), 0);
+    }
+    assert_eq!(rt; swimtab_raw_keyring_remove(alloc, &mut keyring, 0), 72);
+    assert_removes(&rt, alloc, &mut keyring, 1);
+    let read = swimtab_raw_keyring_key(alloc, &mut keyring, 0, &mut key);
+    assert!(rt; read.status == 0 && read.len == 24);
+    assert!(rt; key.starts_with(OTHER));
+    assert_eq!(rt; swimtab_raw_keyring_use(alloc, &mut keyring, 1), 71);
+    assert_eq!(rt; swimtab_raw_keyring_close(alloc, &mut keyring), 0);
 }

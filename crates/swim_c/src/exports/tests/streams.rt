@@ -7,11 +7,11 @@ use crate::exchanging::Exchanged;
 use crate::exports::buffers::{
     swimtab_raw_answer_new, swimtab_raw_free, swimtab_raw_list_new, swimtab_raw_offer_new,
 };
-use crate::exports::forgetting::swimtab_raw_forget;
+use crate::exports::forgetting::{swimtab_raw_forget, swimtab_raw_readmit};
 use crate::exports::open_close::swimtab_raw_close;
 use crate::exports::packets::swimtab_raw_alive_of;
 use crate::exports::streams::{swimtab_raw_offer, swimtab_raw_whole};
-use crate::exports::table::{swimtab_raw_count, swimtab_raw_find};
+use crate::exports::table::{swimtab_raw_count, swimtab_raw_find, swimtab_raw_left_out};
 use crate::handle::Handle;
 use crate::kept_handle::KeptHandle;
 use crate::progress::Progress;
@@ -35,18 +35,21 @@ fn a_name_is_forgotten(rt: HostRuntime) {
     assert_eq!(rt; swimtab_raw_forget(alloc, &mut node, b"a"), 64);
 }
 
+/// The header of a dump of no members with the user state `me`.
+const EMPTY_WITH_STATE: &[u8] = b"\x06\x83\xa4Join\xc2\xa5Nodes\x00\xacUserStateLen\x02me";
+
 #[test]
 fn a_dump_has_two_forms(rt: HostRuntime) {
     let alloc = rt.alloc();
     let mut node = opened(&rt, alloc, b"a");
-    assert_takes(&rt, alloc, &mut node, SUSPECT);
     let mut out = [0; 300];
-    let all = swimtab_raw_offer(alloc, &mut node, false, 0, &mut out).len;
-    let merged = swimtab_raw_offer(alloc, &mut node, false, 1, &mut out).len;
-    assert!(rt; out.starts_with(STREAM));
-    assert!(rt; merged == STREAM.len() && merged < all);
+    let all = swimtab_raw_offer(alloc, &mut node, false, 0, &[], &mut out).len;
+    assert!(rt; all == STREAM.len() && out.starts_with(STREAM));
+    let merged = swimtab_raw_offer(alloc, &mut node, false, 1, b"me", &mut out).len;
+    assert!(rt; merged == EMPTY_WITH_STATE.len() && out.starts_with(EMPTY_WITH_STATE));
+    assert_eq!(rt; swimtab_raw_left_out(alloc, &mut node), 1);
     assert_eq!(rt;
-        swimtab_raw_offer(alloc, &mut node, false, 2, &mut out).status,
+        swimtab_raw_offer(alloc, &mut node, false, 2, &[], &mut out).status,
         70
     );
     assert_eq!(rt; swimtab_raw_close(alloc, &mut node), 0);
@@ -75,6 +78,12 @@ fn a_dead_member_came_back(rt: HostRuntime) {
     assert_eq!(rt; swimtab_raw_find(alloc, &mut node, b"b", &mut member), 0);
     assert!(rt; member.state == 2 && member.came_back && member.home_inc == 1);
     assert!(rt; member.reserved == [0; 32]);
+    if swimtab_raw_readmit(alloc, &mut node, b"b") == 10 {
+        assert_eq!(rt; swimtab_raw_readmit(alloc, &mut node, b"b"), 0);
+    }
+    assert_eq!(rt; swimtab_raw_find(alloc, &mut node, b"b", &mut member), 0);
+    assert!(rt; member.state == 0 && member.inc == 1);
+    assert_eq!(rt; swimtab_raw_readmit(alloc, &mut node, b"b"), 73);
     assert_eq!(rt; swimtab_raw_close(alloc, &mut node), 0);
 }
 
@@ -84,16 +93,16 @@ const ALIVE_AGAIN: &[u8] =
 
 /// The length of the dump in the form, in memory of the library, or 0 if memory is refused twice.
 fn offered(alloc: Global, node: &mut Handle, form: u32, buffer: &mut Buffer) -> usize {
-    if swimtab_raw_offer_new(alloc, node, false, form, buffer) == 10 {
-        let _ = swimtab_raw_offer_new(alloc, node, false, form, buffer);
+    if swimtab_raw_offer_new(alloc, node, false, form, &[], buffer) == 10 {
+        let _ = swimtab_raw_offer_new(alloc, node, false, form, &[], buffer);
     }
     buffer.len
 }
 
 fn answered(alloc: Global, node: &mut Handle, buffer: &mut Buffer) -> Exchanged {
-    let answered = swimtab_raw_answer_new(alloc, node, STREAM, 1, buffer);
+    let answered = swimtab_raw_answer_new(alloc, node, STREAM, 0, &[], buffer);
     if answered.status == 10 {
-        return swimtab_raw_answer_new(alloc, node, STREAM, 1, buffer);
+        return swimtab_raw_answer_new(alloc, node, STREAM, 0, &[], buffer);
     }
     answered
 }
@@ -114,9 +123,9 @@ fn the_library_keeps_bytes_until_they_are_freed(rt: HostRuntime) {
         len: 0,
         kept: KeptHandle::none(),
     };
-    assert_eq!(rt; offered(alloc, &mut node, 1, &mut buffer), STREAM.len());
+    assert_eq!(rt; offered(alloc, &mut node, 0, &mut buffer), STREAM.len());
     assert_eq!(rt;
-        swimtab_raw_offer_new(alloc, &mut node, false, 2, &mut buffer),
+        swimtab_raw_offer_new(alloc, &mut node, false, 2, &[], &mut buffer),
         70
     );
     let reply = answered(alloc, &mut node, &mut buffer);

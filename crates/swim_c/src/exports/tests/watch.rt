@@ -109,7 +109,7 @@ fn the_names_are_told_in_byte_order_and_let_go(rt: HostRuntime) {
     let mut other = opened(&rt, alloc, b"d");
     let mut node = opened(&rt, alloc, b"c");
     assert_eq!(rt;
-        swimtab_raw_offer(alloc, &mut other, true, 0, &mut wire).status,
+        swimtab_raw_offer(alloc, &mut other, true, 0, &[], &mut wire).status,
         0
     );
     assert_eq!(rt; swimtab_raw_watch(alloc, &mut node, true), 0);
@@ -118,10 +118,10 @@ fn the_names_are_told_in_byte_order_and_let_go(rt: HostRuntime) {
     assert_hears(&rt, alloc, &mut node, &(BOTH, true, b"ab"));
     assert_eq!(rt; swimtab_raw_watch(alloc, &mut other, true), 0);
     assert_eq!(rt;
-        swimtab_raw_offer(alloc, &mut node, false, 0, &mut wire).status,
+        swimtab_raw_offer(alloc, &mut node, false, 0, &[], &mut wire).status,
         0
     );
-    let answered = swimtab_raw_answer(alloc, &mut other, &wire, 0, &mut reply);
+    let answered = swimtab_raw_answer(alloc, &mut other, &wire, 0, &[], &mut reply);
     assert!(rt; answered.news || answered.status == 10);
     let told: &[u8] = if answered.news { b"abc" } else { b"" };
     assert_told(&rt, alloc, &mut other, told);
