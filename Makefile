@@ -32,6 +32,7 @@ OBJCOPY ?= objcopy
 SOURCES := $(shell find crates -type f -not -path '*/out/*') crates.txt HANDLES
 SONAME := libswimtab.so.2
 calls := $(shell sed -n 's/^[a-z][a-z0-9_ ]*[ *]\(swimtab_[a-z_]*\)[^a-z_ ;].*/\1/p' include/swimtab.h)
+cmake_files := swimtab-config.cmake swimtab-config-version.cmake
 VERSION := $(shell sed -n 's/^.define SWIMTAB_VERSION "\(.*\)"/\1/p' include/swimtab.h)
 
 .PHONY: all programs library run test wrong-bodies bench install install-programs install-library uninstall \
@@ -120,6 +121,11 @@ install-library:
 		install -m 755 build/libswimtab.so '$(libdir)/$(SONAME)' && \
 		ln -sf $(SONAME) '$(libdir)/libswimtab.so' && \
 		echo 'if the loader does not find $(SONAME) in $(LIBDIR), run ldconfig once as root, or set LD_LIBRARY_PATH'; fi
+	@mkdir -p '$(root)/share/doc/swimtab' '$(libdir)/cmake/swimtab'
+	install -m 644 docs/EMBEDDING.md docs/PROTOCOL.md '$(root)/share/doc/swimtab'
+	@for file in $(cmake_files); do \
+		sed -e 's|@prefix@|$(prefix)|g' -e 's|@libdir@|$(LIBDIR)|g' -e 's|@version@|$(VERSION)|g' \
+			library/cmake/$$file.in > '$(libdir)/cmake/swimtab/'$$file || exit 1; done
 	@printf '%s\n' 'prefix=$(prefix)' 'libdir=$(LIBDIR)' 'includedir=$${prefix}/include' '' \
 		'Name: swimtab' 'Description: membership tables of SWIM clusters, over the messages of memberlist' \
 		$(if $(URL),'URL: $(URL)') 'Version: $(VERSION)' 'Libs: -L$${libdir} -lswimtab' 'Libs.private:' \
@@ -128,7 +134,9 @@ install-library:
 uninstall:
 	rm -f $(programs:%='$(root)/bin/%') $(programs:%='$(root)/share/man/man1/%.1') \
 		$(patsubst %,'$(root)/share/man/man3/%.3',swimtab $(sort $(calls))) '$(root)/include/swimtab.h' \
-		'$(libdir)/libswimtab.a' '$(libdir)/libswimtab.so' '$(libdir)/$(SONAME)' '$(libdir)/pkgconfig/swimtab.pc'
+		'$(libdir)/libswimtab.a' '$(libdir)/libswimtab.so' '$(libdir)/$(SONAME)' '$(libdir)/pkgconfig/swimtab.pc' \
+		$(cmake_files:%='$(libdir)/cmake/swimtab/%') '$(root)/share/doc/swimtab/EMBEDDING.md' \
+		'$(root)/share/doc/swimtab/PROTOCOL.md'
 
 help:
 	@sed -n 's/^#   //p' Makefile

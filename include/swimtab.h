@@ -576,7 +576,8 @@ swimtab_status swimtab_keyring_close(swimtab_keyring *keyring);
  * and looks like a ping that swimtab_read refuses. The keyring does not change.
  *
  * SWIMTAB_DONE; SWIMTAB_TOO_SMALL; SWIMTAB_MEMORY; SWIMTAB_WRONG_TYPE: it begins like no message;
- * SWIMTAB_ENDED: it is empty; .._WRAPPER_ENDED to .._TOO_DEEP: its wrappers are invalid;
+ * SWIMTAB_ENDED: it is empty, and there are no keys; .._WRAPPER_ENDED to .._TOO_DEEP: its wrappers are
+ * invalid;
  * SWIMTAB_WRONG_TAG: there are keys, and none decrypts it; SWIMTAB_UNENCRYPTED: it is in the clear, and
  * refused. */
 swimtab_unwrapped swimtab_unwrap(const swimtab_keyring *keyring, const void *packet, size_t len,
@@ -670,8 +671,8 @@ swimtab_related swimtab_relate(const swimtab_node *first, const swimtab_node *se
 /* ------------------------------------------------------------------ what changed */
 
 /* Starts to note the names of the members whose entries change, with none noted yet, or stops and drops
- * the noted names. swimtab_take, swimtab_answer, swimtab_finish and swimtab_refute note a name if it is
- * new or its entry changes. A name that changes several times is noted once. A node that was just opened
+ * the noted names. swimtab_take, swimtab_answer, swimtab_finish, swimtab_refute and swimtab_update note a
+ * name if it is new or its entry changes. A name that changes several times is noted once. A node that was just opened
  * does not note names. It takes no memory.
  *
  * While names are noted, those calls obtain the memory for it before anything changes: with SWIMTAB_MEMORY
@@ -701,7 +702,8 @@ swimtab_status swimtab_forget(swimtab_node *node, const void *name, size_t name_
 /* Believes a member that came back, as memberlist does: of all that was said about it only its newest
  * Alive is left, which is newer than its death or its leave. swimtab_member_data tells by `came_back`. So
  * a program that lives with members of memberlist keeps their company; members that use only this library
- * need it not, and then differ from those that call it. It takes memory for a table of this size.
+ * need it not, and then differ from those that call it. It notes no name. It takes memory for a table of
+ * this size.
  *
  * SWIMTAB_DONE; SWIMTAB_NO_NODE; SWIMTAB_NO_MEMBER: the table has no such name; SWIMTAB_NOT_BACK;
  * SWIMTAB_MEMORY. Unless it is SWIMTAB_DONE nothing has changed. */

@@ -30,11 +30,11 @@ func TestDetailsAreUpdated(t *testing.T) {
 	if inc, due, err := a.Update(details(1)); inc != 0 || due || err != nil {
 		t.Error(inc, due, err)
 	}
-	other := Details{Addr: netip.MustParseAddr("fe80::7"), Port: 7, Meta: []byte("new"), Versions: []byte{1, 5, 3, 0, 0, 0}}
+	other := Details{Addr: netip.MustParseAddr("fe80::7"), Port: 7, Meta: []byte("new"), Versions: details(1).Versions}
 	if inc, due, err := a.Update(other); inc != 1 || !due || err != nil {
 		t.Error(inc, due, err)
 	}
-	wanted := "a alive 1 1/fe800000000000000000000000000007/7/6e6577/010503000000\n"
+	wanted := "a alive 1 1/fe800000000000000000000000000007/7/6e6577/010502000000\n"
 	if text := must[string](t)(a.List()); text != wanted {
 		t.Error(text)
 	}

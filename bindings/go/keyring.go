@@ -61,8 +61,8 @@ func (k *Keyring) Keys() [][]byte {
 	return keys
 }
 
-// Use makes a key that is there the first one, which encrypts. So a cluster changes its key: all
-// members Add the new one, then all Use it, then all Remove the old one.
+// Use makes a key that is there the first one, which encrypts. So a cluster changes its key: all members Add the new
+// one, then all Use it, then all Remove the old one.
 //
 // Errors: ErrNoItem if the key is not there.
 func (k *Keyring) Use(key []byte) error {
@@ -87,14 +87,17 @@ func (k *Keyring) Rotate(key []byte) error {
 	return done(C.swimtab_keyring_use(&k.handle, i))
 }
 
-// Remove removes a key and overwrites it. The first key encrypts and is not removed; if there is a key twice, one of
-// the two is.
+// Remove removes a key, however often it was added, and overwrites it. The first key encrypts and is not removed.
 //
 // Errors: ErrNoItem if the key is not there; ErrKeyInUse if it is the first one.
 func (k *Keyring) Remove(key []byte) error {
 	k = k.held()
 	defer k.lock.Unlock()
-	return done(C.swimtab_keyring_remove(&k.handle, k.index(key)))
+	err := done(C.swimtab_keyring_remove(&k.handle, k.index(key)))
+	for again := err; again == nil; {
+		again = done(C.swimtab_keyring_remove(&k.handle, k.index(key)))
+	}
+	return err
 }
 
 // longestKey is the length of the longest key.

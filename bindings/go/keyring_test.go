@@ -155,6 +155,16 @@ func TestKeysAreListedChosenAndRemoved(t *testing.T) {
 		t.Error(err)
 	}
 	listed(t, keys, key32, key16)
+	for _, key := range []string{key24, key16, key24, key24} {
+		keys.Add(unhex(key))
+	}
+	if err := keys.Remove(unhex(key24)); err != nil {
+		t.Error(err)
+	}
+	listed(t, keys, key32, key16, key16)
+	keys.Add(unhex(key32))
+	refused(t, keys.Remove(unhex(key32)), ErrKeyInUse)
+	listed(t, keys, key32, key16, key16, key32)
 	keys.Close()
 	listed(t, keys)
 	refused(t, keys.Use(unhex(key32)), ErrNoItem)

@@ -28,14 +28,15 @@ type Taken struct {
 // Offer returns the node's table as a push/pull stream, which begins an exchange. memberlist sets join when a member
 // joins. user is the user state at the end of a stream for memberlist, which its delegates read, or nil.
 //
-// Errors: ErrTooManyRecords, ErrUserTooLong, ErrBadForm (also if there is user state in the canonical form), ErrMemory,
-// ErrNoNode.
+// Errors: ErrTooManyRecords, ErrUserTooLong, ErrBadForm (also if there is user state in the canonical form),
+// ErrMemory, ErrNoNode.
 func (n *Node) Offer(join bool, form Form, user []byte) ([]byte, error) {
 	state := filled(user)
 	n.lock.Lock()
 	defer n.lock.Unlock()
 	var buffer C.swimtab_buffer
-	status := C.swimtab_offer_new(&n.handle, C.bool(join), C.uint32_t(form), unsafe.Pointer(&state[0]), size(user), &buffer)
+	status := C.swimtab_offer_new(&n.handle, C.bool(join), C.uint32_t(form), unsafe.Pointer(&state[0]), size(user),
+		&buffer)
 	return owned(&buffer, status)
 }
 
@@ -144,8 +145,8 @@ func (p *Progress) Whole(bytes []byte) (used int, whole bool, err error) {
 	}
 }
 
-// User returns the user state at the end of the whole stream with which the bytes begin, after Whole said that there is
-// one. It shares the memory of the bytes, and is nil if the stream has none.
+// User returns the user state at the end of the whole stream with which the bytes begin, after Whole said that there
+// is one. It shares the memory of the bytes, and is nil if the stream has none.
 func (p *Progress) User(bytes []byte) []byte {
 	from, to := uint64(p.read.at), uint64(p.read.at)+uint64(p.read.user_len)
 	if !p.read.has_header || p.read.left > 0 || from == to || to > uint64(len(bytes)) {

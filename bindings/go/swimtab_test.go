@@ -89,6 +89,9 @@ func TestFaultsHaveNamesAndTexts(t *testing.T) {
 			t.Error(fault)
 		}
 		seen[fault.Error()] = true
+		if !errors.Is(fmt.Errorf("a call: %w", fault), fault) || errors.Is(fault, fault+1) {
+			t.Error(fault)
+		}
 	}
 	for fault, text := range map[Error]string{
 		ErrEnded:          "swimtab: fault 1 Ended: the bytes end too soon",

@@ -53,7 +53,7 @@ fn holding(file: &str, folder: PathBuf, whose: &str) -> Result<PathBuf, String> 
 /// The folder of the library, or why it is in none of the places that were searched.
 fn folder_of(file: &str) -> Result<PathBuf, Vec<String>> {
     if let Some(folder) = env::var_os("SWIMTAB_LIB") {
-        return holding(file, folder.into(), "the folder SWIMTAB_LIB").map_err(|place| vec![place]);
+        return holding(file, folder.into(), "which SWIMTAB_LIB names").map_err(|place| vec![place]);
     }
     let manifest = env::var_os("CARGO_MANIFEST_DIR").unwrap_or_default();
     let build = Path::new(&manifest).ancestors().nth(2).unwrap_or(Path::new("")).join("build");
@@ -64,7 +64,9 @@ fn folder_of(file: &str) -> Result<PathBuf, Vec<String>> {
 
 /// Says what is missing and what to do next, and stops the build.
 fn stop(file: &str, places: &[String]) -> ! {
-    eprintln!("The swimtab crate needs the C library {file}, version {OLDEST} or later. It was not found:");
+    eprintln!(
+        "The swimtab crate needs the C library {file}, version {OLDEST} or later, and did not find it:"
+    );
     for place in places {
         eprintln!("  - {place}");
     }

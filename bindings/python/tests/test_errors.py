@@ -9,7 +9,7 @@ from swimtab import errors
 class Errors(unittest.TestCase):
     def statuses(self):
         header = (ROOT / "include" / "swimtab.h").read_text()
-        enum = header[header.index("typedef enum swimtab_status") : header.index("} swimtab_status;")]
+        enum = header.split("typedef enum swimtab_status")[1].split("} swimtab_status;")[0]
         return {name: int(number) for name, number in re.findall(r"SWIMTAB_(\w+) = (\d+)", enum)}
 
     def test_each_status_of_the_header_has_its_class(self):

@@ -29,8 +29,8 @@ class Library(unittest.TestCase):
         self.folder = Path(tempfile.mkdtemp())
         self.addCleanup(shutil.rmtree, self.folder)
         self.copy = self.folder / "packages"
-        source = Path(swimtab.__file__).parent
-        shutil.copytree(source, self.copy / "swimtab", ignore=shutil.ignore_patterns("__pycache__"))
+        cache = shutil.ignore_patterns("__pycache__")
+        shutil.copytree(Path(swimtab.__file__).parent, self.copy / "swimtab", ignore=cache)
         named = os.environ.get("SWIMTAB_LIB")
         self.library = _library._file_of(Path(named)).resolve() if named else BUILT
 
@@ -68,7 +68,8 @@ class Library(unittest.TestCase):
 
     def test_a_library_of_another_series_is_refused(self):
         other = self.folder / "libswimtab.so"
-        other.write_bytes(self.library.read_bytes().replace(b"libswimtab.so.2\0", b"libswimtab.so.3\0"))
+        file = self.library.read_bytes()
+        other.write_bytes(file.replace(b"libswimtab.so.2\0", b"libswimtab.so.3\0"))
         self.refused("is not libswimtab.so.2", SWIMTAB_LIB=str(other))
 
     def test_a_file_that_is_no_library_is_refused(self):

@@ -13,7 +13,8 @@ class Messages(unittest.TestCase):
         probe = swimtab.read_probe(PING)
         self.assertEqual((probe.kind, probe.seq, probe.node), (Kind.PING, 1, "d3"))
         self.assertEqual((probe.source, str(probe.source_address), probe.source_port), source)
-        self.assertEqual((probe.address, probe.port, probe.nack, probe.payload), (None, 0, False, b""))
+        rest = probe.address, probe.port, probe.nack, probe.payload, probe.payload_len
+        self.assertEqual(rest, (None, 0, False, b"", 0))
 
     def test_a_ping_may_come_from_nobody(self):
         probe = swimtab.read_probe(swimtab.ping(7, b"\xff"))

@@ -9,8 +9,8 @@ from known import VERSIONS, opened
 from swimtab import State, errors
 
 ALIVE = (
-    b"\x04\x86\xa4Addr\xa4\x7f\0\0\1\xabIncarnation\1\xa4Meta\xa1m\xa4Node\xa1a\xa4Port\xcd\x1f\x0a"
-    b"\xa3Vsn\xa6\1\5\2\0\0\0"
+    b"\x04\x86\xa4Addr\xa4\x7f\0\0\1\xabIncarnation\1\xa4Meta\xa1m\xa4Node\xa1a"
+    b"\xa4Port\xcd\x1f\x0a\xa3Vsn\xa6\1\5\2\0\0\0"
 )
 
 
@@ -109,7 +109,8 @@ class Nodes(unittest.TestCase):
     def test_packets_of_the_member(self):
         self.assertEqual(self.node.alive(1), ALIVE)
         self.assertEqual(
-            self.node.suspect("b", 200), b"\x03\x83\xa4From\xa1a\xabIncarnation\xcc\xc8\xa4Node\xa1b"
+            self.node.suspect("b", 200),
+            b"\x03\x83\xa4From\xa1a\xabIncarnation\xcc\xc8\xa4Node\xa1b",
         )
         self.assertEqual(
             self.node.confirm("b", 0), b"\x05\x83\xa4From\xa1a\xabIncarnation\0\xa4Node\xa1b"
@@ -190,9 +191,11 @@ class Nodes(unittest.TestCase):
             self.node.readmit("b")
         self.node.take(swimtab.alive_of("b", "10.0.0.2", incarnation=4))
         member = self.node.find("b")
-        self.assertEqual((member.state, member.came_back, member.address_incarnation), (State.CONFIRM, True, 4))
+        self.assertEqual((member.state, member.came_back), (State.CONFIRM, True))
+        self.assertEqual(member.address_incarnation, 4)
         self.node.readmit("b")
-        self.assertEqual((self.node.find("b").state, self.node.find("b").incarnation), (State.ALIVE, 4))
+        member = self.node.find("b")
+        self.assertEqual((member.state, member.incarnation), (State.ALIVE, 4))
         with self.assertRaises(errors.NoMember):
             self.node.readmit("c")
         with self.assertRaises(errors.NoMember):

@@ -58,7 +58,8 @@ class RealClusters(unittest.TestCase):
             + ["db-4 leave 127.0.8.4:7946"]
             + [f"db-3 {state} 127.0.8.3:7946" for state in ("suspect", "confirm")],
         )
-        self.assertLessEqual({Kind.PING, Kind.ACK, Kind.INDIRECT, Kind.NACK, Kind.USER}, follower.kinds)
+        others = {Kind.PING, Kind.ACK, Kind.INDIRECT, Kind.NACK, Kind.USER}
+        self.assertLessEqual(others, follower.kinds)
 
     def test_the_streams_of_a_cluster_with_a_key(self):
         key = base64.b64decode((EXAMPLES / "encrypted.key").read_text())

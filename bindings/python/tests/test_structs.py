@@ -41,7 +41,8 @@ class Structs(unittest.TestCase):
         places += ["SWIMTAB_MAX_PACKET_LEN", "SWIMTAB_NONCE_LEN"]
         wanted += [raw.MAX_PACKET_LEN, raw.NONCE_LEN]
         lines = "".join(f'printf("%zu\\n", (size_t)({place}));' for place in places)
-        source = f"#include <stdio.h>\n#include <swimtab.h>\nint main(void) {{ {lines} return 0; }}\n"
+        main = f"int main(void) {{ {lines} return 0; }}\n"
+        source = "#include <stdio.h>\n#include <swimtab.h>\n" + main
         with tempfile.TemporaryDirectory() as folder:
             program = Path(folder) / "sizes"
             compile_it = ["cc", f"-I{ROOT}/include", "-x", "c", "-", "-o", str(program)]

@@ -4,8 +4,8 @@ use crate::bytes::Octets;
 use crate::raw;
 use std::net::SocketAddr;
 
-/// What a member says about itself: where it is, and at which incarnation. A program says it of its own member
-/// in [`Node::open`](crate::Node::open) and [`Node::update`](crate::Node::update), passes it on with
+/// What a member says about itself: where it is, and at which incarnation. A program says it of its own
+/// member in [`Node::open`](crate::Node::open) and [`Node::update`](crate::Node::update), passes it on with
 /// [`alive_of`](crate::alive_of), and finds it in a [`Member`](crate::Member).
 ///
 /// ```
@@ -30,7 +30,8 @@ impl Details {
     /// The versions of a member of memberlist without a delegate of its own.
     pub const VERSIONS: [u8; 6] = [1, 5, 2, 0, 0, 0];
 
-    /// A member at this address, at incarnation 1, without metadata, and with [`VERSIONS`](Details::VERSIONS).
+    /// A member at this address, at incarnation 1, without metadata, and with
+    /// [`VERSIONS`](Details::VERSIONS).
     pub fn new(address: impl Into<SocketAddr>) -> Details {
         let (incarnation, address, versions) = (1, address.into(), Some(Details::VERSIONS));
         Details { incarnation, address, meta: Vec::new(), versions }

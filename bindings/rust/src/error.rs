@@ -8,8 +8,8 @@ pub type Result<T> = std::result::Result<T, Error>;
 
 macro_rules! errors {
     ($($number:literal $name:ident $text:literal)*) => {
-        /// Why a call was refused: the faults of `docs/PROTOCOL.md`, by their names in `swimtab.h`. This crate
-        /// never causes `NodeThere`, `TooSmall`, `BadForm` and `BadSize`.
+        /// Why a call was refused: the faults of `docs/PROTOCOL.md`, by their names in `swimtab.h`. This
+        /// crate never causes `NodeThere`, `TooSmall`, `BadForm` and `BadSize`.
         #[derive(Clone, Copy, Debug, PartialEq, Eq, Hash)]
         #[non_exhaustive]
         pub enum Error {

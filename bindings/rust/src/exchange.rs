@@ -28,7 +28,7 @@ impl Node {
     pub fn offer(&self, join: bool, form: Form<'_>) -> Result<Vec<u8>> {
         let (number, user) = form.parts();
         owned(|buffer| {
-            // SAFETY: the handle has a node, no other call runs, and what is passed lives as long as the call.
+            // SAFETY: the handle has a node, no other call runs, and what is passed lives during the call.
             unsafe {
                 raw::swimtab_offer_new(self.handle.get(), join, number, user.as_ptr(), user.len(), buffer)
             }

@@ -103,8 +103,8 @@ impl Probe {
     /// # Errors
     ///
     /// `WrongType` if it is another message; `NameTooLong` if a name has more than 1,024 bytes; `BadAddress`
-    /// if an address does not have 4 or 16 bytes, or none; `Memory`; the fault at which reading stops if it is
-    /// no message.
+    /// if an address does not have 4 or 16 bytes, or none; `Memory`; the fault at which reading stops if it
+    /// is no message.
     pub fn read(message: &[u8]) -> Result<Probe> {
         let mut raw = raw::Probe::zeroed();
         // SAFETY: the slice and the probe live as long as the call.

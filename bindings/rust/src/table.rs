@@ -93,7 +93,8 @@ impl Node {
     }
 
     /// Starts to note the names of the members whose entries change, with none noted yet, or stops and drops
-    /// the noted names. While names are noted, any packet or stream may take memory.
+    /// the noted names. `forget` and `readmit` note no name. While names are noted, any packet or stream may
+    /// take memory, and the more are noted, the longer a packet takes: take them out often.
     pub fn watch(&mut self, on: bool) {
         // SAFETY: the handle has a node, and no other call runs. Only an empty handle is refused.
         unsafe { raw::swimtab_watch(self.handle.get(), on) };

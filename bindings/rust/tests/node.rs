@@ -139,7 +139,6 @@ fn a_member_that_came_back_is_readmitted() {
     a.take(&a.confirm(b"c", 4).unwrap()).unwrap();
     assert_eq!(a.readmit(b"c"), Err(Error::NotBack));
     a.take(&c.alive(5).unwrap()).unwrap();
-    a.watch(true);
     assert_eq!(a.readmit(b"c"), Ok(()));
     let known = a.find(b"c").unwrap();
     assert_eq!((known.state, known.incarnation, known.came_back), (State::Alive, 5, false));

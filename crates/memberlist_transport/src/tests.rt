@@ -322,8 +322,12 @@ fn a_reply_of_any_kind_is_unwrapped(rt: HostRuntime) -> Result<(), Fail> {
         found = unwrap_reply(rt.alloc(), &keys, clear, b"dc", SEALED_REPLY, 999);
     }
     assert_eq!(rt; found.ok().as_deref(), Some(STREAM));
-    let clear = unwrap_reply(rt.alloc(), &keys, InTheClear::Accepted, b"dc", PING, 999);
-    assert!(rt; clear.as_deref() == Ok(PING) || clear == Err(StreamFault::Memory));
+    let label_alone = unwrap_reply(rt.alloc(), &keys, clear, b"dc", b"\xf4\x02dc", 999).err();
+    assert!(rt;
+        label_alone == Some(StreamFault::Empty) || label_alone == Some(StreamFault::Memory)
+    );
+    let read = unwrap_reply(rt.alloc(), &keys, InTheClear::Accepted, b"dc", PING, 999);
+    assert!(rt; read.as_deref() == Ok(PING) || read == Err(StreamFault::Memory));
     Ok(())
 }
 

@@ -25,7 +25,7 @@ use std::alloc::Global;
 ///
 /// `Wrapped`, with the cause, if the bytes, or those that a key decrypts, wrap nothing within the
 /// limit. If there are keys: `Unencrypted` if it is a message in the clear and `clear` refuses it,
-/// and `Closed`, with the fault of the last key, if it is encrypted and none decrypts it. `Memory`
+/// `Empty` if then there are no bytes of it, and `Closed`, with the fault of the last key, if it is encrypted and none decrypts it. `Memory`
 /// if out of memory.
 ///
 /// Source: `readStream` and `decryptRemoteState` in memberlist's net.go.
@@ -78,7 +78,17 @@ fn unwrap_stream(
     if clear.is_accepted(keys) {
         Ok(message)
     } else {
-        Err(StreamFault::Unencrypted)
+        Err(why_unread(&message))
+    }
+}
+
+/// Why a message that does not begin as an encrypted one is not read. Of no bytes nothing is known
+/// yet: the label of a stream may come before the rest.
+fn why_unread(message: &[u8]) -> StreamFault {
+    if message.is_empty() {
+        StreamFault::Empty
+    } else {
+        StreamFault::Unencrypted
     }
 }
 

@@ -1,7 +1,7 @@
 -- What was encrypted is unwrapped again.
-use Rattle.std.proofs.Common.{◌≡◌, ◌≢◌, ℕ, ◌+◌, ◌≤◌, List, [], ◌∷◌, ◌++◌, length, length-append, get_or, inl, inr, refl, sym, ap, ◌∙◌, subst, None, arith}
+use Rattle.std.proofs.Common.{◌≡◌, ◌≢◌, ℕ, ◌+◌, ◌≤◌, List, [], ◌∷◌, ◌++◌, length, length-append, get_or, inl, inr, refl, sym, ap, ◌∙◌, subst, arith}
 use Rattle.std.specs.Int.{w32, to_be_bytes}
-use Rattle.memberlist_cipher.specs.Encryption.{sealed, encrypted, encrypted_stream, head}
+use Rattle.memberlist_cipher.specs.Encryption.{encrypted, encrypted_stream, head}
 use Rattle.memberlist_cipher.specs.Label.{IsLabelled}
 use Rattle.memberlist_keyring.proofs.OneOpened.{one_opened}
 use Rattle.memberlist_transport.proofs.Packets.{opens_packet}

@@ -1,11 +1,10 @@
 -- Messages that make no claims, as a program in another language writes and reads them.
-use Rattle.std.specs.Prelude.{◌≡◌, ◌≢◌, ◌⊎◌, ◌<◌, ◌≤◌, ℕ, Bool, true, false, List, [], ◌∷◌, ◌++◌, length, drop, replicate, take, min, Ok, Err}
+use Rattle.std.specs.Prelude.{◌≡◌, ◌⊎◌, ◌<◌, ◌≤◌, ℕ, false, List, [], ◌++◌, length, drop, replicate, take, min, Ok, Err}
 use Rattle.swim_claim.specs.Limits.{max_name_len}
 use Rattle.swim_wire.specs.declared.fault.WireFault.{WireFault}
-use Rattle.swim_wire.specs.declared.fault.WireFault.TheVariants.{Memory}
 use Rattle.swim_wire.specs.Fault.{wire_number}
 use Rattle.memberlist_message.specs.Messages.{PingValue, IndirectPingValue, AckValue, MessageValue, message_of}
-use Rattle.memberlist_message.specs.Messages.MessageValue.{ping, indirect_ping, ack, nack, user, error, claim}
+use Rattle.memberlist_message.specs.Messages.MessageValue.{ping, indirect_ping, ack, nack}
 use Rattle.swim_c.specs.declared.probe.Probe.{Probe}
 use Rattle.swim_c.specs.Statuses as statuses
 

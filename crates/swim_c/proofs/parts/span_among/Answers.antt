@@ -1,5 +1,5 @@
-use Rattle.std.proofs.Common.{◌≡◌, ◌+◌, ◌++◌, length, arith, length-append, ap, ◌∙◌}
-use Rattle.swim_c.proofs.PartsAt.{next_same, next_behind, part_here}
+use Rattle.std.proofs.Common.{length, arith, length-append, ap, ◌∙◌}
+use Rattle.swim_c.proofs.PartsAt.{next_same, next_behind}
 use Rattle.swim_c.proofs.parts.span_among.Goals as goal
 
 pub loop-left-preserved : goal.loop-left-preserved

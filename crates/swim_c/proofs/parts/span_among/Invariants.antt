@@ -1,4 +1,4 @@
-use Rattle.std.proofs.Common.{◌≡◌, ◌≤◌, ◌+◌, length, drop, slice_get}
+use Rattle.std.proofs.Common.{◌≡◌, ◌+◌, length, drop, slice_get}
 use Rattle.memberlist_message.specs.Compounds.{parts_in}
 use Rattle.swim_c.proofs.parts.span_among.Given as goal
 

@@ -1,4 +1,4 @@
-use Rattle.std.proofs.Common.{◌≡◌, ◌≤◌, ◌<◌, ◌+◌, ◌*◌, ◌^◌, ℕ, length, take, drop, slice_get, Some, ap, ◌∙◌, sym, arith, Fits, w64}
+use Rattle.std.proofs.Common.{◌+◌, ◌*◌, ℕ, take, drop, Some, ap, ◌∙◌, sym, arith}
 use Rattle.memberlist_message.proofs.Opening.{weight_of_compound}
 use Rattle.swim_c.proofs.PartsAt.{part_in_all}
 use Rattle.swim_c.proofs.parts.span_in_compound.Goals as goal

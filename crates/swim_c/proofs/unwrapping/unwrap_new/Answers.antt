@@ -1,4 +1,4 @@
-use Rattle.std.proofs.Common.{ℕ, List, ◌<◌, length, ◌∙◌, ap, subst, rules}
+use Rattle.std.proofs.Common.{ℕ, ◌∙◌, ap}
 use Rattle.swim_c.specs.Unwrapping.{PacketUnwrapped, GivesNewMessage, LacksNew}
 use Rattle.swim_c.proofs.Unwrappings.{lacked_new, packet_refused}
 use Rattle.swim_c.proofs.unwrapping.unwrap_new.Goals as goal

@@ -1,4 +1,4 @@
-use Rattle.std.proofs.Common.{ℕ, List, ◌<◌, length, ◌∙◌, ap, subst, rules}
+use Rattle.std.proofs.Common.{ℕ, ◌∙◌, ap, subst}
 use Rattle.swim_c.specs.Unwrapping.{PacketUnwrapped, GivesMessage, Lacks}
 use Rattle.swim_c.proofs.Unwrappings.{lacked, packet_refused}
 use Rattle.swim_c.proofs.unwrapping.unwrap_out.Goals as goal

@@ -1,4 +1,4 @@
-use Rattle.std.proofs.Common.{ℕ, List, ◌<◌, length, ◌∙◌, ap, subst, rules}
+use Rattle.std.proofs.Common.{ℕ, ◌<◌, length, ◌∙◌, ap, rules}
 use Rattle.swim_c.specs.Unwrapping.{StreamUnwrapped, GivesNewMessage, LacksNew}
 use Rattle.swim_c.proofs.Unwrappings.{lacked_new, stream_refused}
 use Rattle.swim_c.proofs.unwrapping.unwrap_stream_new.Goals as goal

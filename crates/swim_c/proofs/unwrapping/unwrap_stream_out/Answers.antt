@@ -1,4 +1,4 @@
-use Rattle.std.proofs.Common.{ℕ, List, ◌<◌, length, ◌∙◌, ap, subst, rules}
+use Rattle.std.proofs.Common.{ℕ, ◌<◌, length, ◌∙◌, ap, subst, rules}
 use Rattle.swim_c.specs.Unwrapping.{StreamUnwrapped, GivesMessage, Lacks}
 use Rattle.swim_c.proofs.Unwrappings.{lacked, stream_refused}
 use Rattle.swim_c.proofs.unwrapping.unwrap_stream_out.Goals as goal
