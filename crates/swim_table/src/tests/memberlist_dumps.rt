@@ -1,6 +1,9 @@
 //! The dumps that memberlist merges, written and read back. Each is encoded as memberlist encodes
 //! its own push/pull streams.
 
+ghost use Rattle.std.specs.Prelude.{◌≤◌, length};
+ghost use Rattle.swim_wire.specs.Limits.{max_user_state_len};
+
 use super::dumps::assert_memory;
 use super::streams::{assert_dump, read};
 use super::{assert_bytes, assert_that};
@@ -72,13 +75,13 @@ const ALIVE_G: &[u8] =
 const ALIVE_H: &[u8] =
     b"\x87\xa4Addr\xa4\x7f\0\0\x08\xabIncarnation\0\xa4Meta\xa0\xa4Name\xa1h\xa4Port\xcd\x1f\x0a\xa5State\0\xa3Vsn\xa6\x01\x05\x06\0\0\0";
 
-/// A stream that is read, the dump of it that memberlist merges, its flag and its user state, and
-/// the listing after reading that back.
+/// A stream that is read, the dump of it that memberlist merges, its flag, whether it has user
+/// state, and the listing after reading that back.
 struct Row {
     read: &'static [&'static [u8]],
     dump: &'static [&'static [u8]],
     join: bool,
-    user: &'static [u8],
+    has_user: bool,
     listing: &'static str,
 }
 
@@ -87,14 +90,14 @@ const ROWS: &[Row] = &[
         read: &[NO_RECORDS],
         dump: &[NO_RECORDS],
         join: false,
-        user: b"",
+        has_user: false,
         listing: "",
     },
     Row {
         read: &[ONE_RECORD, ALIVE_A],
         dump: &[ONE_RECORD_JOINING, ALIVE_A],
         join: true,
-        user: b"",
+        has_user: false,
         listing: "a alive 3 3/7f000001/7946/6d/010502000000\n",
     },
     // a name without a home is left out
@@ -102,7 +105,7 @@ const ROWS: &[Row] = &[
         read: &[ONE_RECORD, SUSPECT_C],
         dump: &[NO_RECORDS],
         join: false,
-        user: b"",
+        has_user: false,
         listing: "",
     },
     // a suspicion, a death and a leave have the details of the home, and one that came back its
@@ -133,10 +136,19 @@ const ROWS: &[Row] = &[
             b"xyz",
         ],
         join: true,
-        user: b"xyz",
+        has_user: true,
         listing: "a suspect 3 -\nb confirm 5 -\nd leave 2 -\ne alive 0 0/7f000005/7946//010502000000\nf alive 4 4/7f000006/7946//010502000000\n",
     },
 ];
+
+impl Row {
+    /// The user state of the dump.
+    fn user(&self) -> &'static [u8]
+        ensures { length result.now ≤ max_user_state_len }
+    {
+        if self.has_user { b"xyz" } else { b"" }
+    }
+}
 
 /// The parts, one after another.
 fn joined(alloc: Global, parts: &[&[u8]]) -> Result<Vec<u8>, AllocError> {
@@ -149,11 +161,11 @@ fn joined(alloc: Global, parts: &[&[u8]]) -> Result<Vec<u8>, AllocError> {
 
 /// The dump of the table, at the second try if memory is refused and reported at the first.
 fn dump(rt: &impl Abort, alloc: Global, table: &Table, row: &Row) -> Vec<u8> {
-    match encode_memberlist(alloc, table, row.join, row.user) {
+    match encode_memberlist(alloc, table, row.join, row.user()) {
         Ok(bytes) => bytes,
         Err(fault) => {
             assert_memory(rt, fault);
-            encode_memberlist(alloc, table, row.join, row.user)
+            encode_memberlist(alloc, table, row.join, row.user())
                 .ok()
                 .expect(rt, "a dump")
         }
@@ -165,7 +177,7 @@ fn assert_row(rt: &impl Abort, alloc: Global, row: &Row) -> Result<(), WireFault
     let (table, _) = read(alloc, &joined(alloc, row.read)?)?;
     let wanted = joined(alloc, row.dump)?;
     assert_bytes(rt, &dump(rt, alloc, &table, row), &wanted, "the dump");
-    let len = memberlist_dump_len(&table, row.join, row.user).ok();
+    let len = memberlist_dump_len(&table, row.join, row.user()).ok();
     assert_that(rt, len == Some(wanted.len()), "its length");
     assert_dump(rt, alloc, &wanted, row.listing, row.join)
 }
