@@ -33,6 +33,7 @@ SOURCES := $(shell find crates -type f -not -path '*/out/*') crates.txt HANDLES
 SONAME := libswimtab.so.2
 calls := $(shell sed -n 's/^[a-z][a-z0-9_ ]*[ *]\(swimtab_[a-z_]*\)[^a-z_ ;].*/\1/p' include/swimtab.h)
 cmake_files := swimtab-config.cmake swimtab-config-version.cmake
+call_groups := $(shell sed -n 's/^\/\* -* \([a-z]*\): .*/\1/p' include/swimtab.h)
 VERSION := $(shell sed -n 's/^.define SWIMTAB_VERSION "\(.*\)"/\1/p' include/swimtab.h)
 
 .PHONY: all programs library run test wrong-bodies bench install install-programs install-library uninstall \
@@ -113,9 +114,7 @@ install-library:
 	@mkdir -p '$(libdir)/pkgconfig' '$(root)/include'
 	install -m 644 include/swimtab.h '$(root)/include/swimtab.h'
 	@mkdir -p '$(root)/share/man/man3'
-	awk -v version=$(VERSION) -f docs/swimtab.3.awk include/swimtab.h > '$(root)/share/man/man3/swimtab.3'
-	@for call in $(sort $(calls)); do \
-		echo '.so man3/swimtab.3' > '$(root)/share/man/man3/'"$$call.3" || exit 1; done
+	awk -v version=$(VERSION) -v folder='$(root)/share/man/man3' -f docs/swimtab.3.awk include/swimtab.h
 	install -m 644 build/libswimtab.a '$(libdir)/libswimtab.a'
 	@if [ -f build/libswimtab.so ]; then \
 		install -m 755 build/libswimtab.so '$(libdir)/$(SONAME)' && \
@@ -133,7 +132,7 @@ install-library:
 
 uninstall:
 	rm -f $(programs:%='$(root)/bin/%') $(programs:%='$(root)/share/man/man1/%.1') \
-		$(patsubst %,'$(root)/share/man/man3/%.3',swimtab $(sort $(calls))) '$(root)/include/swimtab.h' \
+		$(patsubst %,'$(root)/share/man/man3/%.3',swimtab $(call_groups:%=swimtab-%) $(sort $(calls))) '$(root)/include/swimtab.h' \
 		'$(libdir)/libswimtab.a' '$(libdir)/libswimtab.so' '$(libdir)/$(SONAME)' '$(libdir)/pkgconfig/swimtab.pc' \
 		$(cmake_files:%='$(libdir)/cmake/swimtab/%') '$(root)/share/doc/swimtab/EMBEDDING.md' \
 		'$(root)/share/doc/swimtab/PROTOCOL.md'

@@ -1,6 +1,12 @@
-# Writes the man page of the library from the comments of its header:
-#   awk -v version=0.3.0 -f docs/swimtab.3.awk include/swimtab.h > swimtab.3
-# A comment tells of the declarations that follow it, up to the next comment.
+# Writes the man pages of the library from the comments of its header, to a folder that exists:
+#   awk -v version=0.3.0 -v folder=man3 -f docs/swimtab.3.awk include/swimtab.h
+# swimtab.3 has what is said of all calls, and the types. Each group of calls has a page of its own, swimtab-GROUP.3,
+# to which the pages of its calls lead. A comment tells of the declarations that follow it, up to the next comment.
+
+# out prints to the page that is being written.
+function out(text) {
+    print text > page
+}
 
 # shown is a line as troff prints it.
 function shown(line) {
@@ -16,15 +22,15 @@ function tell(text, lines, count, i) {
     for (i = 1; i <= count; i++) {
         if (lines[i] == "") {
             if (i < count && lines[i + 1] !~ /^(- |    )/)
-                print ".PP"
+                out(".PP")
         } else if (lines[i] ~ /^- /)
-            print ".IP \\(bu 2\n" shown(substr(lines[i], 3))
+            out(".IP \\(bu 2\n" shown(substr(lines[i], 3)))
         else if (lines[i] ~ /^    /)
-            print (lines[i - 1] == "" ? ".PP\n" : "") ".nf\n" shown(lines[i]) "\n.fi"
+            out((lines[i - 1] == "" ? ".PP\n" : "") ".nf\n" shown(lines[i]) "\n.fi")
         else {
             sub(/^ +/, "", lines[i])
             if (lines[i] != "")
-                print shown(lines[i])
+                out(shown(lines[i]))
         }
     }
 }
@@ -32,15 +38,15 @@ function tell(text, lines, count, i) {
 # flush prints what was gathered: the heading, the declarations and the comment that tells of them.
 function flush() {
     if (code != "" && names != "") {
-        print ".SS " names "\n.nf\n" code ".fi"
+        out(".SS " names "\n.nf\n" code ".fi")
         if (text != "")
-            print ".PP"
+            out(".PP")
     } else if (code != "" && text != "" && !heads)
-        print ".PP"
+        out(".PP")
     if (text != "")
         tell(text)
     if (code != "" && names == "")
-        print ".PP\n.nf\n" code ".fi"
+        out(".PP\n.nf\n" code ".fi")
     if (code != "")
         heads = 0
     code = names = text = ""
@@ -51,17 +57,27 @@ function declare(line) {
     code = code shown(line) "\n"
 }
 
-NR == 1 {
-    print ".TH SWIMTAB 3 \"\" \"swimtab " version "\" \"Library Functions\"\n.SH NAME\nswimtab \\- the membership table of a SWIM cluster"
-    print ".SH SYNOPSIS\n.B #include <swimtab.h>\n.PP\n.B cc \\-o program program.c $(pkg\\-config \\-\\-cflags \\-\\-libs swimtab)"
-    print ".SH DESCRIPTION"
+# start begins a page.
+function start(name, what, title) {
+    page = folder "/" name ".3"
+    title = toupper(name)
+    out(".TH " shown(title) " 3 \"\" \"swimtab " version "\" \"Library Functions\"")
+    out(".SH NAME\n" shown(name) " \\- " what "\n.SH SYNOPSIS\n.B #include <swimtab.h>\n.PP")
+    out(".B cc \\-o program program.c $(pkg\\-config \\-\\-cflags \\-\\-libs swimtab)\n.SH DESCRIPTION")
 }
+
+NR == 1 { start("swimtab", "the membership table of a SWIM cluster") }
 
 /^\/\* -+ / {
     flush()
     sub(/^\/\* -+ /, "")
     sub(/ \*\/$/, "")
-    print ".SH " toupper($0)
+    split($0, title, ": ")
+    if (groups++)
+        out(".SH SEE ALSO\n.BR swimtab (3)")
+    listed_groups = listed_groups ".TP\n.BR swimtab\\-" title[1] " (3)\n" title[2] "\n"
+    start("swimtab-" title[1], title[2])
+    group = title[1]
     next
 }
 
@@ -78,7 +94,7 @@ inside {
         inside = 0
         if (!described) {
             tell(text)
-            print ".SH TYPES AND CONSTANTS"
+            out(".SH TYPES AND CONSTANTS")
             described = heads = 1
             text = ""
         }
@@ -95,7 +111,10 @@ listed {
 
 /^[a-z].*swimtab_[a-z_]*\(/ {
     match($0, /swimtab_[a-z_]*\(/)
-    names = names (names == "" ? "" : ", ") substr($0, RSTART, RLENGTH - 1)
+    name = substr($0, RSTART, RLENGTH - 1)
+    names = names (names == "" ? "" : ", ") name
+    print ".so man3/swimtab" (group == "" ? "" : "-" group) ".3" > (folder "/" name ".3")
+    close(folder "/" name ".3")
     within = 1
 }
 within {
@@ -105,5 +124,8 @@ within {
 
 END {
     flush()
-    print ".SH SEE ALSO\n.BR swimtab (1),\n.BR swimunwrap (1)"
+    out(".SH SEE ALSO\n.BR swimtab (3)")
+    page = folder "/swimtab.3"
+    printf ".SH CALLS\n%s", listed_groups > page
+    out(".SH SEE ALSO\n.BR swimtab (1),\n.BR swimunwrap (1)")
 }

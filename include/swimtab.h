@@ -318,7 +318,7 @@ typedef struct swimtab_progress {
 
 #define SWIMTAB_PROGRESS_INIT {0, 0, 0, false}
 
-/* ------------------------------------------------------------------ opening and closing */
+/* --------------------- opening: a node opened, given other details, and closed */
 
 /* Opens a node in an empty handle: the member with this name and these details, alive at the incarnation
  * `inc`, which knows of nobody else yet. The caller must close the node with swimtab_close. `user` of the
@@ -342,7 +342,7 @@ swimtab_refuted swimtab_update(swimtab_node *node, const swimtab_details *detail
  * SWIMTAB_DONE; SWIMTAB_NO_NODE: the handle was empty, so closing twice is fine. */
 swimtab_status swimtab_close(swimtab_node *node);
 
-/* ------------------------------------------------------------------ gossip */
+/* --------------------- gossip: packets taken in and written */
 
 /* Takes in the claim of a packet, or all claims of a compound packet: one UDP payload without wrappers,
  * as swimtab_unwrap writes it. `news` is whether the table changed; a program that gossips passes on the
@@ -419,7 +419,7 @@ swimtab_written swimtab_dead_of(const void *from, size_t from_len, const void *n
 swimtab_written swimtab_compound(const void *packets, size_t len, const size_t *lens, size_t count,
                                  void *out, size_t out_len);
 
-/* ------------------------------------------------------------------ pings and other messages */
+/* --------------------- messages: the parts of a message, pings, their answers, and messages of the program */
 
 /* Tells where the part of a message at index `i` is, from 0. A compound packet has up to 255 parts, and
  * none after the first that is cut off; any other message is its own part. So a program reads the parts
@@ -461,7 +461,7 @@ swimtab_written swimtab_nack_of(uint32_t seq, void *out, size_t out_len);
  * SWIMTAB_DONE; SWIMTAB_TOO_SMALL; SWIMTAB_MEMORY. */
 swimtab_written swimtab_user_of(const void *bytes, size_t len, void *out, size_t out_len);
 
-/* ------------------------------------------------------------------ exchanges */
+/* --------------------- exchanges: whole tables sent, answered and taken in */
 
 /* Writes the node's table as a push/pull stream, which begins an exchange, in the form SWIMTAB_CANONICAL
  * or SWIMTAB_MEMBERLIST. memberlist sets `join` when a member joins. `user` is the user state at the end
@@ -524,7 +524,7 @@ void swimtab_free(swimtab_buffer *buffer);
  * the bytes do not begin with a stream, whatever follows. */
 swimtab_status swimtab_whole(swimtab_progress *progress, const void *bytes, size_t len);
 
-/* ------------------------------------------------------------------ as a real cluster sends it */
+/* --------------------- wrapping: keys, and packets and streams as a cluster sends them */
 
 /* Adds a key of 16, 24 or 32 bytes after those that are there. The first key encrypts; to decrypt, all
  * are tried in order. The keyring copies what it needs of the key. It is used by one call at a time, as a
@@ -632,7 +632,7 @@ swimtab_written swimtab_seal_stream(const swimtab_keyring *keyring, const void *
                                     const void *label, size_t label_len, bool reply,
                                     const void *message, size_t len, void *out, size_t out_len);
 
-/* ------------------------------------------------------------------ looking at the table */
+/* --------------------- members: the members of the table, listed, found and compared */
 
 /* How many members the node knows of, itself included; 0 if the handle is empty. */
 size_t swimtab_count(const swimtab_node *node);
@@ -668,7 +668,7 @@ swimtab_status swimtab_list_new(const swimtab_node *node, swimtab_buffer *buffer
  * SWIMTAB_DONE; SWIMTAB_NO_NODE: one of the two is empty. */
 swimtab_related swimtab_relate(const swimtab_node *first, const swimtab_node *second);
 
-/* ------------------------------------------------------------------ what changed */
+/* --------------------- changes: members that changed, are forgotten, or came back */
 
 /* Starts to note the names of the members whose entries change, with none noted yet, or stops and drops
  * the noted names. swimtab_take, swimtab_answer, swimtab_finish, swimtab_refute and swimtab_update note a
@@ -709,7 +709,7 @@ swimtab_status swimtab_forget(swimtab_node *node, const void *name, size_t name_
  * SWIMTAB_MEMORY. Unless it is SWIMTAB_DONE nothing has changed. */
 swimtab_status swimtab_readmit(swimtab_node *node, const void *name, size_t name_len);
 
-/* ------------------------------------------------------------------ names */
+/* --------------------- statuses: the names and the meaning of statuses */
 
 /* The name of a status, as in docs/PROTOCOL.md: "Done" for 0, and "Unknown" for a number that is not in
  * it. The text is static. */
