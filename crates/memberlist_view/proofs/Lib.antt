@@ -6,3 +6,4 @@ pub mod Sourced
 pub mod Known
 pub mod Staying
 pub mod Since
+pub mod Forgetting

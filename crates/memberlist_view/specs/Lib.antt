@@ -1,5 +1,6 @@
 pub mod Heard
 pub mod Lasting
+pub mod Member
 pub mod Rules
 pub mod Shown
 pub mod Sources

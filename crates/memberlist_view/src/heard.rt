@@ -1,6 +1,7 @@
 //! What was heard, and when.
 
 ghost use Rattle.std.specs.Prelude.{◌≡◌, IfOk};
+ghost use Rattle.memberlist_view.specs.Member.{is_alive};
 ghost use Rattle.memberlist_view.specs.Heard.{about, accuser_of, said_in_packet, said_in_record};
 
 use crate::member_name::MemberName;
@@ -122,6 +123,13 @@ impl Said {
                 from,
             },
         }
+    }
+
+    /// Whether it is an Alive.
+    pub(crate) fn is_alive(&self) -> bool
+        ensures { result ≡ is_alive self.now }
+    {
+        matches!(self, Said::Alive { .. })
     }
 
     /// The member it was said about.

@@ -1,10 +1,11 @@
 //! The view of all names.
 
-ghost use Rattle.std.specs.Prelude.{◌≡◌, ◌↔◌, ◌<◌, ◌^◌, ◌++◌, ◌∷◌, [], List, length, IsSome, IfOk, OnOk, OnErr, IsTrue};
+ghost use Rattle.std.specs.Prelude.{◌≡◌, ◌↔◌, ◌+◌, ◌<◌, ◌^◌, ◌++◌, ◌∷◌, [], not, List, length, slice_get, IsSome, IfOk, OnOk, OnErr, IsTrue};
 ghost use Rattle.std.specs.BTreeMap.{insert_entry};
-ghost use Rattle.std.specs.Option.{option_copied};
+ghost use Rattle.std.specs.Option.{option_copied, option_map};
 ghost use Rattle.memberlist_view.specs.declared.heard.Heard.{Heard};
-ghost use Rattle.memberlist_view.specs.Rules.{name_cmp};
+ghost use Rattle.memberlist_view.specs.Member.{about_others, entries_above, heeded, member_event_of, member_view_after, view_without_forgotten};
+ghost use Rattle.memberlist_view.specs.Rules.{name_cmp, is_forgotten};
 ghost use Rattle.memberlist_view.specs.Told.{entry_of, change_of, event_of, view_after, IsViewOf};
 
 use crate::change::change;
@@ -15,6 +16,7 @@ use crate::member_name::MemberName;
 use std::alloc::{AllocError, Global};
 use std::collections::{BTreeMap, btree_map};
 use std::marker::Model;
+use std::ops::Bound;
 
 /// What a member of a cluster that heard these messages at these times would show, by memberlist's
 /// `state.go`, if it only listens and says nothing.
@@ -67,6 +69,29 @@ impl View {
         self.take(heard)
     }
 
+    /// Adds what was heard as a member of the cluster does, and returns what changed: a member knows
+    /// a name by an Alive, and passes over what else is said about a name that it does not know.
+    /// `None` if nothing changed, and then it takes no memory.
+    ///
+    /// # Errors
+    ///
+    /// `AllocError` if there is not enough memory for the change. The view is as it was.
+    pub fn hear_as_member(&mut self, heard: &Heard) -> Result<Option<Event>, AllocError>
+        ensures event { IfOk result (λ event. event ≡ member_event_of self.old heard.now) }
+        ensures step { OnOk result (self.new ≡ member_view_after self.old heard.now) }
+        ensures view { OnOk result ((past : List Heard) → IsViewOf self.old past
+            → IsViewOf self.new (past ++ heeded self.old heard.now)) }
+
+        ensures err { OnErr result (self.new ≡ self.old) }
+        ensures asks { OnErr result (IsSome (member_event_of self.old heard.now)) }
+    {
+        if heard.said.is_alive() || self.get(heard.said.name()).is_some() {
+            self.hear(heard)
+        } else {
+            Ok(None)
+        }
+    }
+
     fn take(&mut self, heard: &Heard) -> Result<Option<Event>, AllocError>
         ensures event { IfOk result (λ event. event ≡ event_of self.old heard.now) }
         ensures step { OnOk result (self.new ≡ view_after self.old heard.now) }
@@ -96,6 +121,26 @@ impl View {
         }
     }
 
+    /// Forgets the members that have been dead, or have left, for longer than the wait at this time,
+    /// in microseconds since the start of 1970, and returns how many these are (`resetNodes`). What
+    /// is left is the view of what was heard about the other names. It takes no memory.
+    pub fn forget(&mut self, time: u64) -> usize
+        ensures forgets { self.new ≡ view_without_forgotten self.old time }
+        ensures count { result + length self.new.entries ≡ length self.old.entries }
+        ensures view { (past : List Heard) → IsViewOf self.old past
+            → IsViewOf self.new (about_others self.old time past) }
+    {
+        let wait = self.wait;
+        let before = self.entries.len();
+        self.entries.retain(
+            |_: &MemberName, entry: &mut Entry| -> bool
+                ensures kept { result ≡ not (is_forgotten wait time entry.old) }
+                ensures same { entry.new ≡ entry.old }
+            { !entry.is_forgotten(wait, time) },
+        );
+        before - self.entries.len()
+    }
+
     /// How many microseconds after its death a member is forgotten.
     pub fn wait(&self) -> u64
         ensures { result ≡ self.now.wait }
@@ -108,6 +153,18 @@ impl View {
         ensures { option_copied result ≡ entry_of self.now name.now }
     {
         self.entries.get(name)
+    }
+
+    /// The first name above this one in byte order that the view shows, with its entry, whether or
+    /// not it shows this one. `None` past the last name.
+    pub fn after(&self, name: &MemberName) -> Option<(&MemberName, &Entry)>
+        ensures { option_map (λ p. (p.0.now, p.1.now)) result
+            ≡ slice_get (entries_above name.now self.now.entries) 0 }
+    {
+        let mut above = self
+            .entries
+            .range((Bound::Excluded(name), Bound::Unbounded));
+        above.next()
     }
 
     /// Each name that the view shows, with its entry, in ascending byte order of the names.
