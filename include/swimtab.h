@@ -90,6 +90,16 @@ typedef struct swimtab_keyring {
 /* An empty keyring: swimtab_keyring keyring = SWIMTAB_KEYRING_INIT; */
 #define SWIMTAB_KEYRING_INIT {NULL, false}
 
+/* A handle that holds a view, or is empty. Its contents belong to the library, but `user` is the program's. */
+typedef struct swimtab_view {
+    void *at;
+    bool held;
+    void *user;
+} swimtab_view;
+
+/* An empty view: swimtab_view view = SWIMTAB_VIEW_INIT; */
+#define SWIMTAB_VIEW_INIT {NULL, false, NULL}
+
 /* What a member says about itself. A name has 1 to 1,024 bytes of any values, an address 4 or 16, the
  * metadata up to 512, and the versions 0 or 6 (memberlist accepts only members with 6). It starts as
  * SWIMTAB_DETAILS_INIT, which sets `size`, so that later versions may add fields at the end. */
@@ -159,20 +169,37 @@ typedef enum swimtab_status {
     SWIMTAB_CIPHER_TRAILING = 57,  /* bytes follow an encrypted stream */
     SWIMTAB_UNENCRYPTED = 59,      /* it is in the clear, there are keys, and that is not accepted */
     SWIMTAB_NO_NODE = 64,          /* the handle is empty */
-    SWIMTAB_NODE_THERE = 65,       /* the handle has a node already */
+    SWIMTAB_NODE_THERE = 65,       /* the handle has a node or a view already */
     SWIMTAB_TOO_SMALL = 66,        /* the buffer is too small; `len` is the length needed */
     SWIMTAB_NO_MEMBER = 67,        /* there is no member at this index, or of this name */
     SWIMTAB_OWN_NAME = 68,         /* a member does not declare itself dead; it leaves */
     SWIMTAB_TOO_MANY_PACKETS = 69, /* there are more than 255 packets for one compound packet */
     SWIMTAB_BAD_FORM = 70,         /* the form of a stream is not 0 or 1, or has no user state */
-    SWIMTAB_NO_ITEM = 71,          /* there is no key or part at this index */
+    SWIMTAB_NO_ITEM = 71,          /* there is no key, part or accuser at this index, or no further record */
     SWIMTAB_KEY_IN_USE = 72,       /* the first key encrypts, so it is not removed */
     SWIMTAB_NOT_BACK = 73,         /* the member has not come back */
     SWIMTAB_BAD_SIZE = 74          /* the size of a struct is not that of any version */
 } swimtab_status;
 
-/* A member's state. */
-enum { SWIMTAB_ALIVE = 0, SWIMTAB_SUSPECT = 1, SWIMTAB_CONFIRM = 2, SWIMTAB_LEAVE = 3 };
+/* A member's state. SWIMTAB_NOTED is a state of views alone: an Alive at incarnation 0 gave an address, and
+ * is not believed. */
+enum { SWIMTAB_ALIVE = 0, SWIMTAB_SUSPECT = 1, SWIMTAB_CONFIRM = 2, SWIMTAB_LEAVE = 3, SWIMTAB_NOTED = 4 };
+
+/* What changed in a view. */
+enum {
+    SWIMTAB_NO_EVENT = 0,
+    SWIMTAB_JOINED = 1,         /* a new member: its Alive came in a packet */
+    SWIMTAB_KNOWN = 2,          /* a new member: its record came in a stream; or only its address came */
+    SWIMTAB_BACK = 3,           /* it was dead or had left, and is alive */
+    SWIMTAB_UPDATED = 4,        /* it is alive at a greater incarnation, with other metadata or versions */
+    SWIMTAB_RENEWED = 5,        /* it is alive at a greater incarnation, and nothing else changed */
+    SWIMTAB_REFUTED = 6,        /* it was suspected, and is alive at a greater incarnation */
+    SWIMTAB_SUSPECTED = 7,      /* it was alive, and is suspected */
+    SWIMTAB_ALSO_SUSPECTED = 8, /* one more member suspects it */
+    SWIMTAB_DEAD = 9,           /* another member declared it dead */
+    SWIMTAB_LEFT = 10,          /* it left */
+    SWIMTAB_CONFLICT = 11       /* another member uses its name at another address, and is not believed */
+};
 
 /* How a table relates to another: they are equal; the other one has more; this one has more; each has
  * something that the other one does not have. */
@@ -290,6 +317,33 @@ typedef struct swimtab_member_data {
     uint8_t name[1024];   /* any bytes, without a terminating zero */
     uint8_t reserved[32]; /* zeros, for later versions */
 } swimtab_member_data;
+
+/* The result of telling a view something. */
+typedef struct swimtab_told {
+    swimtab_status status;
+    uint32_t event; /* what changed: SWIMTAB_JOINED and the like; SWIMTAB_NO_EVENT if the status is not 0 */
+} swimtab_told;
+
+/* What a view shows of a member. Bytes of an array past its length are unchanged by the call. */
+typedef struct swimtab_view_data {
+    uint64_t since;    /* the time at which the state began */
+    uint32_t state;    /* SWIMTAB_ALIVE, .._SUSPECT, .._CONFIRM, .._LEAVE or .._NOTED */
+    uint32_t inc;      /* the incarnation of that state */
+    uint16_t port;     /* the address and all else of the newest Alive that was believed */
+    uint16_t name_len; /* 1 to 1,024 */
+    uint16_t meta_len; /* 0 to 512 */
+    uint16_t by_len;   /* 0 if nobody is named */
+    uint8_t accusers;  /* how many members that are named suspect it, up to 255: swimtab_view_accuser */
+    uint8_t rivals;    /* how many other addresses claimed its name since, up to 255 */
+    uint8_t addr_len;  /* 4 or 16 */
+    uint8_t vsn_len;   /* 0 or 6 */
+    uint8_t addr[16];
+    uint8_t vsn[6];
+    uint8_t meta[512];
+    uint8_t name[1024];
+    uint8_t by[1024];     /* the last of its accusers, or who declared it dead */
+    uint8_t reserved[32]; /* zeros, for later versions */
+} swimtab_view_data;
 
 /* Bytes in memory of the library, or none. The program reads `len` bytes at `at`, and writes nothing here;
  * `kept` belongs to the library. A buffer is used by one call at a time. It may be moved in memory between
@@ -708,6 +762,90 @@ swimtab_status swimtab_forget(swimtab_node *node, const void *name, size_t name_
  * SWIMTAB_DONE; SWIMTAB_NO_NODE; SWIMTAB_NO_MEMBER: the table has no such name; SWIMTAB_NOT_BACK;
  * SWIMTAB_MEMORY. Unless it is SWIMTAB_DONE nothing has changed. */
 swimtab_status swimtab_readmit(swimtab_node *node, const void *name, size_t name_len);
+
+/* --------------------- views: the members as memberlist shows them, with times, events and accusers */
+
+/* Opens a view in an empty handle: what a member of memberlist shows that hears what the view is told, at
+ * these times, by the rules of memberlist's state.go. A member that died or left may come back, and one that
+ * is suspected stays so until somebody refutes it or declares it dead. A node is the other model: there, the
+ * same claims in any order give the same table, and death is final.
+ *
+ * `wait` is for how long a member that died or left is remembered (memberlist's GossipToTheDeadTime, 30
+ * seconds in a local network). It and all times are microseconds, of any clock that never goes back. The
+ * caller must close the view with swimtab_view_close. `user` of the handle stays.
+ *
+ * SWIMTAB_DONE; SWIMTAB_NODE_THERE, SWIMTAB_MEMORY: the handle is unchanged. If the handle is NULL,
+ * SWIMTAB_NO_NODE. */
+swimtab_status swimtab_view_open(swimtab_view *view, uint64_t wait);
+
+/* Frees the view. The handle is then empty, and may be opened again.
+ *
+ * SWIMTAB_DONE; SWIMTAB_NO_NODE: the handle was empty. */
+swimtab_status swimtab_view_close(swimtab_view *view);
+
+/* Tells the view the claim of a message that came at this time: one that is not a compound one, as
+ * swimtab_part finds it. Keys that memberlist does not know are passed over, as it does. A suspicion, a death
+ * or a leave of a name that the view does not know changes nothing. The member itself is a name like any
+ * other: tell the view its own Alive first, and refute what is said of it at the next incarnation.
+ *
+ * If there is an event, what the view now shows of the member is copied; otherwise `member` is unchanged. It
+ * may be NULL.
+ *
+ * SWIMTAB_DONE, also without an event; SWIMTAB_NO_NODE; SWIMTAB_WRONG_TYPE: it makes no claim, or is a
+ * compound message; SWIMTAB_MEMORY; the fault at which reading stops: it is no message. Unless it is
+ * SWIMTAB_DONE nothing has changed. */
+swimtab_told swimtab_view_take(swimtab_view *view, uint64_t time, const void *message, size_t len,
+                               swimtab_view_data *member);
+
+/* Tells the view the next record of a push/pull stream that came at this time. Start with
+ * SWIMTAB_PROGRESS_INIT, pass each later call the progress that the last call left, and call it until it
+ * returns SWIMTAB_NO_ITEM: all records were told. memberlist merges a stream only if all of it came, so ask
+ * swimtab_whole first, with a progress of its own. Otherwise like swimtab_view_take.
+ *
+ * SWIMTAB_DONE; SWIMTAB_NO_ITEM: no record is left; SWIMTAB_NO_NODE; SWIMTAB_MEMORY; the fault at which
+ * reading stops. Unless it is SWIMTAB_DONE the view is unchanged. With SWIMTAB_MEMORY the call may be
+ * repeated. */
+swimtab_told swimtab_view_merge(swimtab_view *view, uint64_t time, swimtab_progress *progress,
+                                const void *stream, size_t len, swimtab_view_data *member);
+
+/* Forgets the members that at this time have been dead, or have left, for longer than the wait, and returns
+ * how many these are. memberlist does it at the end of each round of its probes. The view is then that of
+ * what it was told about the others. It takes no memory. */
+size_t swimtab_view_forget(swimtab_view *view, uint64_t time);
+
+/* How many members the view shows, those that died or left included; 0 if the handle is empty. */
+size_t swimtab_view_count(const swimtab_view *view);
+
+/* Copies what the view shows of the member of this name. If `member` is NULL, only the status is returned. It
+ * takes memory for a copy of the name.
+ *
+ * SWIMTAB_DONE; SWIMTAB_NO_MEMBER: it shows no such name; SWIMTAB_NO_NODE; SWIMTAB_MEMORY. Unless it is
+ * SWIMTAB_DONE `member` is unchanged. */
+swimtab_status swimtab_view_find(const swimtab_view *view, const void *name, size_t name_len,
+                                 swimtab_view_data *member);
+
+/* The same for the first member whose name is above this one in byte order, as swimtab_after; a walk begins
+ * with an empty name. A name of more than 1,024 bytes is SWIMTAB_NAME_TOO_LONG. */
+swimtab_status swimtab_view_after(const swimtab_view *view, const void *name, size_t name_len,
+                                  swimtab_view_data *member);
+
+/* Writes the name of the member at index `i`, from 0, among those that suspect the member of this name, in
+ * the order in which they were heard.
+ *
+ * SWIMTAB_DONE; SWIMTAB_TOO_SMALL; SWIMTAB_NO_ITEM: `i` or fewer do; SWIMTAB_NO_MEMBER; SWIMTAB_NO_NODE;
+ * SWIMTAB_MEMORY. */
+swimtab_written swimtab_view_accuser(const swimtab_view *view, const void *name, size_t name_len, size_t i,
+                                     void *out, size_t out_len);
+
+/* Writes what the view shows as a push/pull stream in the form SWIMTAB_MEMBERLIST, into memory of the
+ * library, as swimtab_offer_new: one record a member, in its state, with its address, metadata and versions.
+ * Members without sound versions are left out, and those in the state SWIMTAB_NOTED. A reply is the same
+ * stream, from before the other side's stream was told. It takes memory for a table of this size.
+ *
+ * SWIMTAB_DONE; SWIMTAB_NO_NODE; SWIMTAB_USER_TOO_LONG; SWIMTAB_TOO_MANY_RECORDS; SWIMTAB_MEMORY. Unless it
+ * is SWIMTAB_DONE the buffer is unchanged. A NULL buffer is SWIMTAB_TOO_SMALL. */
+swimtab_status swimtab_view_offer(const swimtab_view *view, bool join, const void *user, size_t user_len,
+                                  swimtab_buffer *buffer);
 
 /* --------------------- statuses: the names and the meaning of statuses */
 
