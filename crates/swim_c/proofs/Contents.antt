@@ -1,4 +1,4 @@
--- The three handles and what they hold: a node, keys, kept bytes. Assumes `Logic`.
+-- The four handles and what they hold: a node, keys, kept bytes, a view. Assumes `Logic`.
 use Rattle.std.proofs.Common.{[], ◌∷◌, refl}
 use seplogic.Ra.Ura.{Ura}
 use mir.Syntax.{Dict, impl, method, tnil, dnil, no_args}
@@ -25,12 +25,20 @@ use Rattle.swim_c.proofs.swim_c++kept++Kept+Destruct.drop.Symbol as kept_drop
 use Rattle.swim_c.proofs.swim_c++kept++Kept+Destruct.drop.Kinds as kept_kinds
 use Rattle.swim_c.proofs.swim_c++kept++Kept+Destruct.drop.Reads as kept_reads
 use Rattle.swim_c.proofs.swim_c++kept++Kept+Destruct.drop.Met.{met as kept_met}
+use Rattle.swim_c.specs.contracts.view.held.HeldView as view
+use Rattle.swim_c.proofs.view.held.HeldView.TheLaws as view_laws
+use Rattle.swim_c.proofs.swim_c++view++held++HeldView+Destruct.drop.Symbol as view_drop
+use Rattle.swim_c.proofs.swim_c++view++held++HeldView+Destruct.drop.Kinds as view_kinds
+use Rattle.swim_c.proofs.swim_c++view++held++HeldView+Destruct.drop.Reads as view_reads
+use Rattle.swim_c.proofs.swim_c++view++held++HeldView+Destruct.drop.Met.{met as view_met}
 use Rattle.swim_c.specs.Handle.{handle_owns}
 use Rattle.swim_c.specs.Keyring.{keyring_owns}
 use Rattle.swim_c.specs.Kept.{kept_owns}
+use Rattle.swim_c.specs.Views.{view_owns}
 use Rattle.swim_c.specs.contracts.handle.Handle as node_handle
 use Rattle.swim_c.specs.contracts.keyring.KeyringHandle as keyring_handle
 use Rattle.swim_c.specs.contracts.kept_handle.KeptHandle as kept_handle
+use Rattle.swim_c.specs.contracts.view.handle.ViewHandle as view_handle
 use Rattle.swim_c.proofs.Drops.{passed, passed_laws, goes}
 use Rattle.swim_c.proofs.Handles.{Content, Handle}
 
@@ -128,6 +136,39 @@ of_kept = record {
   at = λ h. h.at;
   held = λ h. h.held;
   owns = λ h. kept_owns h.at h.held h.kept;
+  opened = λ h vs. refl;
+  last = λ h. tt;
+  silent = λ h f. refl;
+}
+
+abbrev pub view_drops : Dict
+view_drops = impl ("swim_c::swim_c++view++held++HeldView+Destruct::drop" ∷ []) tnil dnil
+
+pub view_goes : {M : Type 1} (𝓤 : Ura M) (𝓛 : Logic 𝓤) (𝓜 : Model 𝓤 𝓛.H) (𝓡 : Running 𝓤 𝓛.H 𝓜) → Wired 𝓡.env view_drop.code → Met 𝓛 𝓜 𝓡 𝓡.env (passed view.the_row) view_drops
+unfolding tables_of
+view_goes {M} 𝓤 𝓛 𝓜 𝓡 wired =
+    goes view.the_row (passed_laws view.the_row view_laws.the_row_laws refl) view_drops _ _ _ view_kinds.ps refl view_reads.requires view_reads.ensures view_reads.Asked view_reads.Learnt view_reads.known (λ κs a. tt)
+    (record { M = M; 𝓤 = 𝓤; 𝓛 = 𝓛; 𝓜 = 𝓜; 𝓡 = 𝓡 }) view_drop.name (view_drop.as_method 𝓡.env wired (method view_drops 0 no_args) refl) (view_met 𝓤 𝓛 𝓜 𝓡 wired)
+
+abbrev pub a_view : Content
+a_view = record {
+  row = view.the_row;
+  laws = passed_laws view.the_row view_laws.the_row_laws refl;
+  lives = view_laws.the_within [];
+  drops = view_drops;
+  drop_code = view_drop.code;
+  goes = view_goes;
+  same_owns = λ p x. refl;
+  same = λ d vs. refl;
+}
+
+abbrev pub of_view : Handle
+of_view = record {
+  row = view_handle.the_row;
+  name = view_handle.the_type.name;
+  at = λ h. h.at;
+  held = λ h. h.held;
+  owns = λ h. view_owns h.at h.held h.view;
   opened = λ h vs. refl;
   last = λ h. tt;
   silent = λ h f. refl;

@@ -15,3 +15,5 @@ pub mod Unwrappings
 pub mod WholeStreams
 pub mod Updates
 pub mod PartsAt
+pub mod Offering
+pub mod ViewCalls

@@ -56,6 +56,13 @@ noted (Some old) (Some new) before after (Some also) changes adds = λ name. (
   λ some. (adds name).1 (elim some [ inl had ↦ inl had | inr differs ↦ inr (found (get also.names name) _ (changes name) differs) ]),
 )
 
+-- what a join changed is noted with the names that it changed
+pub noted_with : (old new before after other names : Entries) → IsLegalTable old → IsLegalTable names → new ≡ Join old names → after ≡ Join before other
+    → AreChanges before (Join before other) names → NotesChanges (Some old) (Some new) before after
+noted_with old new before after other names h g is joined changes =
+    let also : Names = record { names = names; room = 0 } in
+    noted (Some old) (Some new) before after (Some also) (subst (λ t. AreChanges before t names) (sym joined) changes) (joined_names old new also h g is)
+
 -- nothing was to be noted
 pub unchanged : (changes : Option Entries) (table : Entries) → NotesChanges changes changes table table
 unchanged None table = tt

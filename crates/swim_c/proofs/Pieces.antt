@@ -23,7 +23,7 @@ use Rattle.swim_table.specs.Steps.{BeginText, IsWanted, ReasonForBegin, ReasonFo
 use Rattle.swim_table.specs.Streaming.{Streaming}
 use Rattle.swim_c.specs.declared.progress.Progress.{Progress}
 use Rattle.swim_c.specs.Exchanges.{HoldsNoStream}
-use Rattle.swim_c.specs.Progressing.{progress, IsProgressIn, StopsAt, WholeDone}
+use Rattle.swim_c.specs.Progressing.{progress, HasBegun, IsProgressIn, StopsAt, TakesRecord, WholeDone}
 use Rattle.swim_c.proofs.Faults.{memory, lacks}
 
 -- ---- what is read, and what is not
@@ -56,6 +56,15 @@ header_read bytes rest old new h fresh taken is (IsProgressIn.none was) =
     IsProgressIn.some taken.0 rest h [] (record { head = taken.0; records = []; bytes = sym (append-nil taken.0); head_text = taken.1; record_texts = StateTexts.none })
     parts (omega (arith, left)) (is ∙ (λ i. progress (place bytes taken.0 rest parts i) (sym left i) h.user_len true))
 header_read bytes rest old new h fresh taken is (IsProgressIn.some front more header claims begun parts sum was) = absurd (has_one old _ _ _ was fresh)
+
+pub header_begun : (bytes rest : List ℕ) (old new : Progress) (h : Header) → old.has_header ≡ false
+    → ConsumesText (memory (drop old.at bytes)) (memory rest) (λ b. HeaderText b h)
+    → new ≡ progress (length bytes - length rest) h.nodes h.user_len true → HasBegun bytes old new
+header_begun bytes rest old new h fresh taken is = HasBegun.now taken.0 rest h fresh taken.1 taken.2 is
+
+pub record_taken : (bytes rest : List ℕ) (old new : Progress) (c : Claim) → 0 < old.left → ConsumesText (memory (drop old.at bytes)) (memory rest) (λ b. StateText b c)
+    → new ≡ progress (length bytes - length rest) (old.left - 1) old.user_len true → TakesRecord bytes old new c
+record_taken bytes rest old new c some taken is = (taken.0, rest, taken.1, some, taken.2, is)
 
 -- one more record is read
 pub record_read : (bytes rest : List ℕ) (old new : Progress) (c : Claim) → old.has_header ≡ true → old.left ≡ new.left + 1

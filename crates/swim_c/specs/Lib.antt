@@ -22,3 +22,5 @@ pub mod Watching
 pub mod Updating
 pub mod Messages
 pub mod Parts
+pub mod Views
+pub mod ViewMembers

@@ -1,10 +1,11 @@
 -- A stream that comes in pieces, and how far it has been read.
-use Rattle.std.specs.Prelude.{◌≡◌, ℕ, ◌+◌, ◌<◌, Bool, true, false, List, ◌++◌, length, drop}
+use Rattle.std.specs.Prelude.{◌≡◌, ℕ, ◌+◌, ◌-◌, ◌<◌, Bool, true, false, List, ◌++◌, length, drop}
 use Rattle.swim_claim.specs.declared.claim.Claim.{Claim}
 use Rattle.swim_wire.specs.declared.fault.WireFault.{WireFault}
 use Rattle.swim_wire.specs.declared.fault.WireFault.TheVariants.{Memory}
 use Rattle.swim_wire.specs.declared.stream.Header.{Header}
 use Rattle.swim_wire.specs.Fault.{wire_number}
+use Rattle.swim_wire.specs.Texts.{HeaderText, StateText}
 use Rattle.swim_table.specs.Steps.{BeginText, ReasonForBegin, ReasonForRecord, ReasonForUser}
 use Rattle.swim_c.specs.declared.progress.Progress.{Progress}
 use Rattle.swim_c.specs.Exchanges.{HoldsNoStream, ReadsStream}
@@ -43,3 +44,17 @@ pub data WholeDone (bytes : List ℕ) (p : Progress) (status : ℕ) : Type 0 whe
   refused : (fault : WireFault) → status ≡ wire_number fault → HoldsNoStream bytes fault
       → StopsAt p fault bytes → WholeDone bytes p status
   memory : status ≡ statuses.memory → StopsAt p Memory bytes → WholeDone bytes p status
+
+-- The header was read at a call before, or is read from the first byte that was not read.
+pub data HasBegun (bytes : List ℕ) (p begun : Progress) : Type 0 where
+  before : p.has_header ≡ true → begun ≡ p → HasBegun bytes p begun
+  now : (text rest : List ℕ) (header : Header) → p.has_header ≡ false → HeaderText text header
+      → drop p.at bytes ≡ text ++ rest
+      → begun ≡ progress (length bytes - length rest) header.nodes header.user_len true
+      → HasBegun bytes p begun
+
+-- One more record was read, from the first byte that was not read: that of this claim.
+abbrev pub TakesRecord : List ℕ → Progress → Progress → Claim → Type 0
+TakesRecord bytes p q claim = (text : List ℕ) × (rest : List ℕ) × StateText text claim
+    × (0 < p.left) × (drop p.at bytes ≡ text ++ rest)
+    × (q ≡ progress (length bytes - length rest) (p.left - 1) p.user_len true)

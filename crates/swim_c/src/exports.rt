@@ -13,4 +13,5 @@ mod table;
 mod tests;
 mod unwrap;
 mod version;
+mod views;
 mod watch;

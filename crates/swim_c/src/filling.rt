@@ -17,25 +17,25 @@ use crate::watching::Watched;
 use std::alloc::{AllocError, Global};
 use swim_pack::SliceInlet;
 use swim_sync::{SyncFault, room_for_both};
-use swim_table::{EncodeFault, Node, list, read_stream};
+use swim_table::{EncodeFault, Node, Table, list, read_stream};
 
-/// Fills the buffer with the node's dump in the form with this number, with this user state. Returns
+/// Fills the buffer with the table's dump in the form with this number, with this user state. Returns
 /// a status.
 pub fn offer_new(
     alloc: Global,
-    node: &Node,
+    table: &Table,
     join: bool,
     form: u32,
     user: &[u8],
     buffer: &mut Buffer,
 ) -> u32
-    ensures { OfferedNew form user.now node.now.table join buffer.old buffer.new result }
+    ensures { OfferedNew form user.now table.now join buffer.old buffer.new result }
 {
     let form = match Form::of(form, user) {
         Ok(form) => form,
         Err(status) => return status,
     };
-    match kept_dump(alloc, node, join, form, user) {
+    match kept_dump(alloc, table, join, form, user) {
         Ok(kept) => {
             buffer.fill(alloc, kept);
             DONE
@@ -46,18 +46,18 @@ pub fn offer_new(
 
 fn kept_dump(
     alloc: Global,
-    node: &Node,
+    table: &Table,
     join: bool,
     form: Form,
     user: &[u8],
 ) -> Result<Box<Kept>, EncodeFault>
     requires { Allows form user.now }
     ensures bytes { IfOk result (λ kept.
-        kept.value.bytes ≡ bytes_in (wanted form user.now) node.now.table join) }
+        kept.value.bytes ≡ bytes_in (wanted form user.now) table.now join) }
     ensures too_many { IsErrOf result EncodeFault.TooManyRecords
-        → HasTooManyIn (wanted form user.now) node.now.table }
+        → HasTooManyIn (wanted form user.now) table.now }
 {
-    let dump = form.dump(alloc, node.table(), join, user)?;
+    let dump = form.dump(alloc, table, join, user)?;
     let kept = Kept::boxed(alloc, dump)?;
     Ok(kept)
 }

@@ -33,6 +33,7 @@
 //! | `updating` | a member's own details, replaced |
 //! | `unwrapping` | unwrapping and decrypting packets and streams as a real cluster sends them |
 //! | `sealing` | messages encrypted with a keyring, or labelled in the clear |
+//! | `view` | views: the members as memberlist shows them |
 //! | `laws` | facts about the definitions, independent of any code |
 #![tactic(auto)]
 
@@ -68,4 +69,5 @@ mod status;
 mod take;
 mod unwrapping;
 mod updating;
+mod view;
 mod watching;

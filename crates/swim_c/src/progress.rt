@@ -1,12 +1,14 @@
 //! A stream that comes in pieces, and how far it has been read.
 
-ghost use Rattle.std.specs.Prelude.{◌≡◌, ◌≢◌, ◌+◌, ◌<◌, ◌≤◌, true, false, length, drop, OnOk, OnErr, IfErr};
+ghost use Rattle.std.specs.Prelude.{◌≡◌, ◌≢◌, ◌+◌, ◌<◌, ◌≤◌, true, false, length, drop, OnOk, OnErr, IfOk, IfErr, MatchOption};
 ghost use Rattle.swim_wire.specs.declared.fault.WireFault.TheVariants.{Memory};
 ghost use Rattle.swim_c.specs.Exchanges.{HoldsNoStream};
-ghost use Rattle.swim_c.specs.Progressing.{IsProgressIn, StopsAt, WholeDone};
+ghost use Rattle.swim_c.specs.declared.progress.Progress.{Progress};
+ghost use Rattle.swim_c.specs.Progressing.{HasBegun, IsProgressIn, StopsAt, TakesRecord, WholeDone};
 
 use crate::status::DONE;
 use std::alloc::Global;
+use swim_claim::Claim;
 use swim_pack::SliceInlet;
 use swim_wire::{WireFault, read_header, read_state};
 
@@ -36,6 +38,26 @@ impl Progress {
         }
     }
 
+    /// Reads the next record, and the header before it if that was not read. None if no record is
+    /// left.
+    pub fn next_record(&mut self, alloc: Global, bytes: &[u8]) -> Result<Option<Claim>, WireFault>
+        ensures progress { IsProgressIn bytes.now self.old → IsProgressIn bytes.now self.new }
+        ensures read { IfOk result (λ read. MatchOption read
+            (HasBegun bytes.now self.old self.new × (self.new.left ≡ 0))
+            (λ claim. (begun : Progress) × HasBegun bytes.now self.old begun
+            × TakesRecord bytes.now begun self.new claim)) }
+        ensures stops { IfErr result (λ fault. StopsAt self.new fault bytes.now) }
+    {
+        self.begin(bytes)?;
+        if self.left == 0 {
+            return Ok(None);
+        }
+        match self.take_record(alloc, bytes) {
+            Ok(claim) => Ok(Some(claim)),
+            Err(fault) => Err(fault),
+        }
+    }
+
     fn read_all(&mut self, alloc: Global, bytes: &[u8]) -> Result<(), WireFault>
         ensures progress { IsProgressIn bytes.now self.old → IsProgressIn bytes.now self.new }
         ensures whole { OnOk result (IsProgressIn bytes.now self.old
@@ -44,13 +66,28 @@ impl Progress {
             → HoldsNoStream bytes.now fault) }
         ensures stops { IfErr result (λ fault. StopsAt self.new fault bytes.now) }
     {
-        if !self.has_header {
-            self.read_header(bytes)?;
-        }
+        self.begin(bytes)?;
         while self.left > 0 {
             self.read_record(alloc, bytes)?;
         }
         self.check_user_state(bytes)
+    }
+
+    /// Reads the header if it was not read.
+    fn begin(&mut self, bytes: &[u8]) -> Result<(), WireFault>
+        ensures progress { OnOk result (IsProgressIn bytes.now self.old
+            → IsProgressIn bytes.now self.new) }
+        ensures read { OnOk result (self.new.has_header ≡ true) }
+        ensures begun { OnOk result (HasBegun bytes.now self.old self.new) }
+        ensures unchanged { OnErr result (self.new ≡ self.old) }
+        ensures lacks { IfErr result (λ fault. IsProgressIn bytes.now self.old → fault ≢ Memory
+            → HoldsNoStream bytes.now fault) }
+        ensures stops { IfErr result (λ fault. StopsAt self.old fault bytes.now) }
+    {
+        if self.has_header {
+            return Ok(());
+        }
+        self.read_header(bytes)
     }
 
     /// Reads the header.
@@ -59,6 +96,7 @@ impl Progress {
         ensures progress { OnOk result (IsProgressIn bytes.now self.old
             → IsProgressIn bytes.now self.new) }
         ensures read { OnOk result (self.new.has_header ≡ true) }
+        ensures begun { OnOk result (HasBegun bytes.now self.old self.new) }
         ensures unchanged { OnErr result (self.new ≡ self.old) }
         ensures lacks { IfErr result (λ fault. IsProgressIn bytes.now self.old
             → HoldsNoStream bytes.now fault) }
@@ -73,7 +111,7 @@ impl Progress {
         Ok(())
     }
 
-    /// Reads the next record.
+    /// Reads the next record, and drops its claim.
     fn read_record(&mut self, alloc: Global, bytes: &[u8]) -> Result<(), WireFault>
         requires header { self.old.has_header ≡ true }
         requires left { 0 < self.old.left }
@@ -86,11 +124,31 @@ impl Progress {
             → HoldsNoStream bytes.now fault) }
         ensures stops { IfErr result (λ fault. StopsAt self.old fault bytes.now) }
     {
+        match self.take_record(alloc, bytes) {
+            Ok(_) => Ok(()),
+            Err(fault) => Err(fault),
+        }
+    }
+
+    /// Reads the next record.
+    fn take_record(&mut self, alloc: Global, bytes: &[u8]) -> Result<Claim, WireFault>
+        requires header { self.old.has_header ≡ true }
+        requires left { 0 < self.old.left }
+        ensures progress { OnOk result (IsProgressIn bytes.now self.old
+            → IsProgressIn bytes.now self.new) }
+        ensures read { OnOk result (self.old.left ≡ self.new.left + 1) }
+        ensures header { self.new.has_header ≡ true }
+        ensures takes { IfOk result (λ claim. TakesRecord bytes.now self.old self.new claim) }
+        ensures unchanged { OnErr result (self.new ≡ self.old) }
+        ensures lacks { IfErr result (λ fault. IsProgressIn bytes.now self.old → fault ≢ Memory
+            → HoldsNoStream bytes.now fault) }
+        ensures stops { IfErr result (λ fault. StopsAt self.old fault bytes.now) }
+    {
         let mut inlet = SliceInlet::new(self.unread(bytes));
-        read_state(alloc, &mut inlet)?;
+        let claim = read_state(alloc, &mut inlet)?;
         self.at = bytes.len() - inlet.rest().len();
         self.left -= 1;
-        Ok(())
+        Ok(claim)
     }
 
     /// Checks that the user state follows the records.

@@ -121,13 +121,9 @@ impl Watched {
     {
         // opens the invariant: the table is legal
         let _ = self.node.table();
-        let News { any, names } = self.news(alloc, &other)?;
-        match self.node.table_mut().join(other) {
-            Ok(()) => {
-                self.note(names);
-                Ok(any)
-            }
-            Err((_, error)) => Err(error),
+        match &mut self.changes {
+            Some(noted) => join_noted(alloc, &mut self.node, noted, other),
+            None => join_unnoted(&mut self.node, other),
         }
     }
 
@@ -260,6 +256,47 @@ fn with_names(changes: Option<Table>, names: Option<Names>) -> Option<Table>
         }
         (Some(_), None) => unreachable!(),
         (None, _) => None,
+    }
+}
+
+/// Joins a table into that of a node, and notes the names that change. Returns whether one did.
+fn join_noted(
+    alloc: Global,
+    node: &mut Node,
+    noted: &mut Table,
+    other: Table,
+) -> Result<bool, AllocError>
+    ensures joined { OnOk result ((claims others : List Claim)
+        → TableOf node.old.table claims → TableOf other others
+        → TableOf node.new.table (claims ++ others)) }
+    ensures member { SameMember node.old node.new }
+    ensures news { IfOk result (λ news. TellsChange news node.old.table node.new.table) }
+    ensures noted { OnOk result (NotesChanges (Some noted.old) (Some noted.new)
+        node.old.table node.new.table) }
+    ensures err { OnErr result ((node.new ≡ node.old) × (noted.new ≡ noted.old)) }
+{
+    let names = news_of(alloc, node.table(), &other)?;
+    // opens the invariants: the tables are legal
+    let _ = node.table();
+    let _ = (noted.len(), names.len());
+    let any = !names.is_empty();
+    node.table_mut().join_noting(other, noted, names)?;
+    Ok(any)
+}
+
+/// Joins a table into that of a node that does not note names. Returns whether anything changed.
+fn join_unnoted(node: &mut Node, other: Table) -> Result<bool, AllocError>
+    ensures joined { OnOk result ((claims others : List Claim)
+        → TableOf node.old.table claims → TableOf other others
+        → TableOf node.new.table (claims ++ others)) }
+    ensures member { SameMember node.old node.new }
+    ensures news { IfOk result (λ news. TellsChange news node.old.table node.new.table) }
+    ensures err { OnErr result (node.new ≡ node.old) }
+{
+    let any = has_news(node.table(), &other);
+    match node.table_mut().join(other) {
+        Ok(()) => Ok(any),
+        Err((_, error)) => Err(error),
     }
 }
 

@@ -43,7 +43,7 @@ pub extern "C" fn swimtab_raw_offer_new(
     let Some(held) = node.take(alloc) else {
         return NO_NODE;
     };
-    let status = offer_new(alloc, &held.node, join, form, user, buffer);
+    let status = offer_new(alloc, held.node.table(), join, form, user, buffer);
     node.put(held);
     status
 }

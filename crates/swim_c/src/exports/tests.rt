@@ -4,6 +4,7 @@
 mod keyrings;
 mod messages;
 mod streams;
+mod views;
 mod watch;
 
 use super::open_close::{swimtab_raw_close, swimtab_raw_open, swimtab_raw_update};

@@ -2,7 +2,6 @@ use Rattle.std.proofs.Common.{◌∙◌, Result, Ok, Err, OnOk, IfErr, ap, sym, 
 use Rattle.std.proofs.lemmas.Result.{err_from_is_err_and}
 use Rattle.swim_c.specs.declared.progress.Progress.{Progress}
 use Rattle.swim_c.specs.Progressing.{IsProgressIn}
-use Rattle.swim_c.proofs.progress.Progress.read_all.Goals.{then-not-self+in_ok-read_header, else-not-self}
 use Rattle.swim_c.proofs.progress.Progress.read_all.Goals as goal
 
 then_ok : {A E P Q : Type 0} (r : Result A E) → OnOk r P → (P → Q) → OnOk r Q
@@ -14,17 +13,7 @@ then_err (Ok a) p f = tt
 then_err (Err e) p f = f e p
 
 pub loop-self-init : goal.loop-self-init
-loop-self-init c = elim c.if-not-self.branch [
-  | then-not-self+in_ok-read_header w ↦
-      let read = w.in_ok-read_header.ensures in record {
-        header = ap (λ (p : Progress). p.has_header) w.self-is ∙ read.read;
-        progress = λ at. subst (λ (p : Progress). IsProgressIn c.args.bytes.now p) (sym w.self-is) (read.progress at);
-      }
-  | else-not-self w ↦ record {
-    header = ap (λ (p : Progress). p.has_header) w.self-is ∙ search rules;
-    progress = λ at. subst (λ (p : Progress). IsProgressIn c.args.bytes.now p) (sym w.self-is) at;
-  }
-]
+loop-self-init c = record { header = c.in_ok-begin.ensures.read; progress = c.in_ok-begin.ensures.progress }
 
 pub loop-self-preserved : goal.loop-self-preserved
 loop-self-preserved c = record {
@@ -48,3 +37,6 @@ returns-clause-whole c =
 pub returns-clause-lacks : goal.returns-clause-lacks
 returns-clause-lacks c =
     then_err c.check_user_state.result c.check_user_state.ensures.lacks (λ e lacks at no_memory. lacks (c.loop-self.invariant.progress at))
+
+pub returns-in_err-begin-clause-progress : goal.returns-in_err-begin-clause-progress
+returns-in_err-begin-clause-progress c = λ at. subst (λ (p : Progress). IsProgressIn c.args.bytes.now p) (sym c.in_err-begin.ensures.unchanged) at

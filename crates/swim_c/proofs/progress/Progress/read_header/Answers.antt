@@ -8,7 +8,7 @@ use Rattle.swim_wire.specs.Reading.{wire_cause}
 use Rattle.swim_wire.specs.Texts.{HeaderText}
 use Rattle.swim_c.specs.Progressing.{progress}
 use Rattle.swim_c.proofs.Faults.{memory}
-use Rattle.swim_c.proofs.Pieces.{header_missing, header_read}
+use Rattle.swim_c.proofs.Pieces.{header_begun, header_missing, header_read}
 use Rattle.swim_c.proofs.progress.Progress.read_header.Goals as goal
 
 pub returns-in_err-header-clause-lacks : goal.returns-in_err-header-clause-lacks
@@ -26,5 +26,13 @@ returns-clause-progress c =
     let header = c.in_ok-header.header in
     let is : c.new-inlet.result ≡ drop c.args.self.now.at c.args.bytes.now = c.new-inlet.ensures ∙ c.unread.ensures.unread in
     header_read c.args.bytes.now c.read_header.new.inlet c.args.self.now _ header c.requires
+    (subst (λ (b : List ℕ). ConsumesText (memory b) (memory c.read_header.new.inlet) (λ t. HeaderText t header)) is c.in_ok-header.ensures.takes)
+    (λ i. progress (length c.args.bytes.now - length (c.rest.ensures i)) header.nodes header.user_len true)
+
+pub returns-clause-begun : goal.returns-clause-begun
+returns-clause-begun c =
+    let header = c.in_ok-header.header in
+    let is : c.new-inlet.result ≡ drop c.args.self.now.at c.args.bytes.now = c.new-inlet.ensures ∙ c.unread.ensures.unread in
+    header_begun c.args.bytes.now c.read_header.new.inlet c.args.self.now _ header c.requires
     (subst (λ (b : List ℕ). ConsumesText (memory b) (memory c.read_header.new.inlet) (λ t. HeaderText t header)) is c.in_ok-header.ensures.takes)
     (λ i. progress (length c.args.bytes.now - length (c.rest.ensures i)) header.nodes header.user_len true)

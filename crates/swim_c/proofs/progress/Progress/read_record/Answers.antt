@@ -1,30 +1,10 @@
-use Rattle.std.proofs.Common.{◌≡◌, ◌∙◌, ◌-◌, ℕ, List, length, drop, arith, subst}
-use Rattle.std.proofs.lemmas.Result.{err_from_is_err_and}
-use Rattle.swim_claim.specs.declared.claim.Claim.{Claim}
-use Rattle.swim_pack.specs.Composing.{UnlessFailed}
-use Rattle.swim_pack.specs.Ends.{NoTextAtFront, ConsumesText}
-use Rattle.swim_table.specs.Steps.{ReasonForRecord}
-use Rattle.swim_wire.specs.Reading.{wire_cause}
-use Rattle.swim_wire.specs.Texts.{StateText}
-use Rattle.swim_c.specs.Progressing.{progress}
-use Rattle.swim_c.proofs.Faults.{memory}
-use Rattle.swim_c.proofs.Pieces.{record_missing, record_read}
+use Rattle.std.proofs.Common.{OnOk, sym, subst}
+use Rattle.swim_c.specs.Progressing.{IsProgressIn}
+use Rattle.swim_c.proofs.progress.Progress.read_record.Goals.{in-Ok, in-Err}
 use Rattle.swim_c.proofs.progress.Progress.read_record.Goals as goal
 
-pub returns-in_err-read_state-clause-lacks : goal.returns-in_err-read_state-clause-lacks
-returns-in_err-read_state-clause-lacks c =
-    let p = err_from_is_err_and c.from_residual.result c.from_residual.ensures.1 in
-    let fault = c.in_err-read_state.field-0.0 in let why = c.in_err-read_state.ensures in
-    let is : c.new-inlet.result ≡ drop c.args.self.now.at c.args.bytes.now = c.new-inlet.ensures ∙ c.unread.ensures.unread in
-    rw (p.1, p.2)
-    (λ at no_memory. record_missing c.args.bytes.now c.args.self.now fault no_memory why.exact.fault
-    (subst (λ (b : List ℕ). UnlessFailed (wire_cause fault) (NoTextAtFront (memory b) (λ t. (r : Claim) × StateText t r))) is why.lacks)
-    (subst (λ (b : List ℕ). ReasonForRecord fault b) is (why.reason, why.exact.answer)) c.requires.header c.requires.left at)
-
 pub returns-clause-progress : goal.returns-clause-progress
-returns-clause-progress c =
-    let claim = c.in_ok-read_state.field-0 in let old = c.args.self.now in let some = c.requires.left in
-    let is : c.new-inlet.result ≡ drop old.at c.args.bytes.now = c.new-inlet.ensures ∙ c.unread.ensures.unread in
-    record_read c.args.bytes.now c.read_state.new.inlet old _ claim c.requires.header (omega (arith, some))
-    (subst (λ (b : List ℕ). ConsumesText (memory b) (memory c.read_state.new.inlet) (λ t. StateText t claim)) is c.in_ok-read_state.ensures.takes)
-    (λ i. progress (length c.args.bytes.now - length (c.rest.ensures i)) (old.left - 1) old.user_len (c.requires.header i))
+returns-clause-progress c = elim c.match-take_record.branch [
+  | in-Ok w ↦ subst (λ r. OnOk r (IsProgressIn c.args.bytes.now c.args.self.now → IsProgressIn c.args.bytes.now c.take_record.new.self)) (sym w.result-is) w.in-Ok.ensures.progress
+  | in-Err w ↦ subst (λ r. OnOk r (IsProgressIn c.args.bytes.now c.args.self.now → IsProgressIn c.args.bytes.now c.take_record.new.self)) (sym w.result-is) tt
+]
