@@ -162,6 +162,17 @@ static void who_is_gone_is_forgotten_after_the_wait(void) {
     WANT(swimtab_view_close(&view) == SWIMTAB_DONE);
 }
 
+/* The wait is over whether or not swimtab_view_forget was called. */
+static void who_is_gone_for_long_comes_back_at_any_incarnation(void) {
+    swimtab_view view = new_view();
+    told_at(&view, 100, alive("b", 5, 2, ""), SWIMTAB_JOINED);
+    told_at(&view, 200, death("x", "b", 5), SWIMTAB_DEAD);
+    WANT(passes_over(&view, 200 + WAIT, alive("b", 1, 2, "")) && passes_over(&view, 201 + WAIT, alive("b", 0, 2, "")));
+    WANT(hears(&view, 201 + WAIT, alive("b", 1, 3, "m"), SWIMTAB_BACK,
+               (struct shown){"b", SWIMTAB_ALIVE, 1, 201 + WAIT, 3, "m", NULL, 0, 0}));
+    WANT(swimtab_view_close(&view) == SWIMTAB_DONE);
+}
+
 static void an_alive_at_incarnation_0_is_noted(void) {
     swimtab_view view = new_view();
     struct shown noted = {"b", SWIMTAB_NOTED, 0, 100, 2, "m", NULL, 0, 0};
@@ -266,6 +277,7 @@ int main(void) {
         {"another address is a conflict", another_address_is_a_conflict},
         {"what is said of unknown names changes nothing", what_is_said_of_unknown_names_changes_nothing},
         {"who is gone is forgotten after the wait", who_is_gone_is_forgotten_after_the_wait},
+        {"who is gone for long comes back at any incarnation", who_is_gone_for_long_comes_back_at_any_incarnation},
         {"an Alive at incarnation 0 is noted", an_alive_at_incarnation_0_is_noted},
         {"messages without claims are refused", messages_without_claims_are_refused},
         {"the parts of a compound message are told one by one", the_parts_of_a_compound_message_are_told_one_by_one},
