@@ -94,5 +94,21 @@ swimtab_written swimtab_raw_ack_of(uint32_t seq, const void *payload, size_t pay
                                    size_t out_len);
 swimtab_written swimtab_raw_nack_of(uint32_t seq, void *out, size_t out_len);
 swimtab_written swimtab_raw_user_of(const void *bytes, size_t len, void *out, size_t out_len);
+swimtab_status swimtab_raw_view_open(swimtab_view *view, uint64_t wait);
+swimtab_status swimtab_raw_view_close(swimtab_view *view);
+swimtab_told swimtab_raw_view_take(swimtab_view *view, uint64_t time, const void *message, size_t len,
+                                   swimtab_view_data *member);
+swimtab_told swimtab_raw_view_merge(swimtab_view *view, uint64_t time, swimtab_progress *progress,
+                                    const void *stream, size_t len, swimtab_view_data *member);
+size_t swimtab_raw_view_forget(swimtab_view *view, uint64_t time);
+size_t swimtab_raw_view_count(const swimtab_view *view);
+swimtab_status swimtab_raw_view_find(const swimtab_view *view, const void *name, size_t name_len,
+                                     swimtab_view_data *member);
+swimtab_status swimtab_raw_view_after(const swimtab_view *view, const void *name, size_t name_len,
+                                      swimtab_view_data *member);
+swimtab_written swimtab_raw_view_accuser(const swimtab_view *view, const void *name, size_t name_len,
+                                         size_t i, void *out, size_t out_len);
+swimtab_status swimtab_raw_view_offer(const swimtab_view *view, bool join, const void *user,
+                                      size_t user_len, swimtab_buffer *buffer);
 
 #endif

@@ -381,6 +381,72 @@ swimtab_status swimtab_readmit(swimtab_node *node, const void *name, size_t name
     return swimtab_raw_readmit(node, given(name), name ? name_len : 0);
 }
 
+swimtab_status swimtab_view_open(swimtab_view *view, uint64_t wait) {
+    if (!view) return SWIMTAB_NO_NODE;
+    return swimtab_raw_view_open(view, wait);
+}
+
+swimtab_status swimtab_view_close(swimtab_view *view) {
+    if (!view) return SWIMTAB_NO_NODE;
+    return swimtab_raw_view_close(view);
+}
+
+swimtab_told swimtab_view_take(swimtab_view *view, uint64_t time, const void *message, size_t len,
+                               swimtab_view_data *member) {
+    const swimtab_told no_view = {SWIMTAB_NO_NODE, SWIMTAB_NO_EVENT};
+    swimtab_view_data unread;
+    if (!view) return no_view;
+    return swimtab_raw_view_take(view, time, given(message), message ? len : 0, member ? member : &unread);
+}
+
+swimtab_told swimtab_view_merge(swimtab_view *view, uint64_t time, swimtab_progress *progress,
+                                const void *stream, size_t len, swimtab_view_data *member) {
+    const swimtab_told no_view = {SWIMTAB_NO_NODE, SWIMTAB_NO_EVENT};
+    swimtab_progress fresh = SWIMTAB_PROGRESS_INIT;
+    swimtab_view_data unread;
+    if (!view) return no_view;
+    return swimtab_raw_view_merge(view, time, progress ? progress : &fresh, given(stream), stream ? len : 0,
+                                  member ? member : &unread);
+}
+
+size_t swimtab_view_forget(swimtab_view *view, uint64_t time) {
+    if (!view) return 0;
+    return swimtab_raw_view_forget(view, time);
+}
+
+size_t swimtab_view_count(const swimtab_view *view) {
+    if (!view) return 0;
+    return swimtab_raw_view_count(view);
+}
+
+swimtab_status swimtab_view_find(const swimtab_view *view, const void *name, size_t name_len,
+                                 swimtab_view_data *member) {
+    swimtab_view_data unread;
+    if (!view) return SWIMTAB_NO_NODE;
+    return swimtab_raw_view_find(view, given(name), name ? name_len : 0, member ? member : &unread);
+}
+
+swimtab_status swimtab_view_after(const swimtab_view *view, const void *name, size_t name_len,
+                                  swimtab_view_data *member) {
+    swimtab_view_data unread;
+    if (!view) return SWIMTAB_NO_NODE;
+    return swimtab_raw_view_after(view, given(name), name ? name_len : 0, member ? member : &unread);
+}
+
+swimtab_written swimtab_view_accuser(const swimtab_view *view, const void *name, size_t name_len, size_t i,
+                                     void *out, size_t out_len) {
+    const swimtab_written no_view = {SWIMTAB_NO_NODE, 0};
+    if (!view) return no_view;
+    return swimtab_raw_view_accuser(view, given(name), name ? name_len : 0, i, some(out), out ? out_len : 0);
+}
+
+swimtab_status swimtab_view_offer(const swimtab_view *view, bool join, const void *user, size_t user_len,
+                                  swimtab_buffer *buffer) {
+    if (!view) return SWIMTAB_NO_NODE;
+    if (!buffer) return SWIMTAB_TOO_SMALL;
+    return swimtab_raw_view_offer(view, join, given(user), user ? user_len : 0, buffer);
+}
+
 const char *swimtab_fault_name(uint32_t status) {
     switch (status) {
     case 0: return "Done";
@@ -497,13 +563,13 @@ const char *swimtab_fault_text(uint32_t status) {
     case 57: return "Bytes follow an encrypted stream.";
     case 59: return "It is not encrypted, and only what is encrypted is read.";
     case 64: return "The handle is empty.";
-    case 65: return "The handle has a node already.";
+    case 65: return "The handle has a node or a view already.";
     case 66: return "The buffer is too small.";
     case 67: return "There is no such member.";
     case 68: return "A member does not declare itself dead; it leaves.";
     case 69: return "There are more than 255 packets for one compound packet.";
     case 70: return "There is no such form of a stream, or it has no user state.";
-    case 71: return "There is no key or part at this index.";
+    case 71: return "There is no key, part or accuser at this index, or no further record.";
     case 72: return "The first key encrypts, so it is not removed.";
     case 73: return "The member has not come back.";
     case 74: return "The size of a struct is not that of any version.";

@@ -56,12 +56,12 @@ const (
 	ErrNotEncrypted    Error = C.SWIMTAB_NOT_ENCRYPTED    // a stream is not encrypted: its first byte is not 10
 	ErrCipherTrailing  Error = C.SWIMTAB_CIPHER_TRAILING  // bytes follow an encrypted stream
 	ErrUnencrypted     Error = C.SWIMTAB_UNENCRYPTED      // it is in the clear, there are keys, and that is not accepted
-	ErrNoNode          Error = C.SWIMTAB_NO_NODE          // the node was closed
+	ErrNoNode          Error = C.SWIMTAB_NO_NODE          // the node or the view was closed
 	ErrNoMember        Error = C.SWIMTAB_NO_MEMBER        // there is no member at this index, or of this name
 	ErrOwnName         Error = C.SWIMTAB_OWN_NAME         // a member does not declare itself dead; it leaves
 	ErrTooManyPackets  Error = C.SWIMTAB_TOO_MANY_PACKETS // there are more than 255 packets for one compound packet
 	ErrBadForm         Error = C.SWIMTAB_BAD_FORM         // there is no such form of a stream, or it has no user state
-	ErrNoItem          Error = C.SWIMTAB_NO_ITEM          // the keyring has no such key, or the message no such part
+	ErrNoItem          Error = C.SWIMTAB_NO_ITEM          // there is no such key, part or accuser, or no further record
 	ErrKeyInUse        Error = C.SWIMTAB_KEY_IN_USE       // the first key encrypts, so it is not removed
 	ErrNotBack         Error = C.SWIMTAB_NOT_BACK         // the member has not come back
 	ErrBadSize         Error = C.SWIMTAB_BAD_SIZE         // the linked library is older than the header

@@ -3,6 +3,7 @@ package swimtab_test
 import (
 	"fmt"
 	"net/netip"
+	"time"
 
 	"swimtab.invalid/swimtab"
 )
@@ -81,6 +82,38 @@ func ExampleNode_Each() {
 	// a suspect 4
 	// b alive 1
 	// c suspect 4
+}
+
+// An agent among members that run memberlist shows what they show, and refutes what is said of it.
+func ExampleView() {
+	start := time.Now()
+	view, err := swimtab.OpenView(30 * time.Second)
+	if err != nil {
+		fmt.Println(err)
+		return
+	}
+	defer view.Close()
+	details := swimtab.Details{Addr: netip.MustParseAddr("10.0.0.1"), Port: 7946, Versions: versions}
+	packet, _ := swimtab.AliveOf("me", details, 1) // send it to the others
+	view.Take(time.Since(start), packet)
+
+	packet, _ = swimtab.SuspectOf("you", "me", 1) // as if "you" had sent it
+	view.TakeParts(time.Since(start), packet, func(change swimtab.Change, err error) bool {
+		if err != nil {
+			return true // a bad part refuses only itself
+		}
+		member := change.Member
+		fmt.Println(member.Name, change.Event, "by", member.By)
+		if member.Name == "me" && change.Event != swimtab.EventConflict {
+			packet, _ := swimtab.AliveOf("me", details, member.Incarnation+1) // send it to the others
+			change, _ := view.Take(time.Since(start), packet)
+			fmt.Println(member.Name, change.Event, "at", change.Member.Incarnation)
+		}
+		return true
+	})
+	// Output:
+	// me suspected by you
+	// me refuted at 2
 }
 
 // A packet may have several messages, and each is read by itself.

@@ -42,6 +42,29 @@ func TestMembersAreIteratedWhileTheyChange(t *testing.T) {
 	}
 }
 
+func TestMembersOfAViewAreIterated(t *testing.T) {
+	view := openedView(t)
+	hears(t, view, 1, alive(t, "z", 2, 1), alive(t, "b", 2, 1), alive(t, "m", 2, 1))
+	told := ""
+	for member, err := range view.All() {
+		if err != nil {
+			t.Error(err)
+		}
+		told += member.Name
+		if member.Name == "m" {
+			break
+		}
+	}
+	view.Close()
+	for _, err := range view.All() {
+		refused(t, err, ErrNoNode)
+		told += "."
+	}
+	if told != "bm." {
+		t.Error(told)
+	}
+}
+
 func TestPartsAreIterated(t *testing.T) {
 	told := ""
 	for part := range Parts([]byte("\x07\x03\x00\x01\x00\x02\x00\x01\x08\x00a\x02")) {

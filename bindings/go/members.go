@@ -16,10 +16,11 @@ const (
 	Suspect State = C.SWIMTAB_SUSPECT
 	Confirm State = C.SWIMTAB_CONFIRM // declared dead by other members
 	Leave   State = C.SWIMTAB_LEAVE   // left by itself
+	Noted   State = C.SWIMTAB_NOTED   // of views alone: an Alive at incarnation 0 gave an address, and is not believed
 )
 
 func (s State) String() string {
-	if names := [...]string{"alive", "suspect", "confirm", "leave"}; int(s) < len(names) {
+	if names := [...]string{"alive", "suspect", "confirm", "leave", "noted"}; int(s) < len(names) {
 		return names[s]
 	}
 	return "unknown"

@@ -8,7 +8,7 @@ use std::process::{exit, Command};
 
 /// The oldest library that has all calls, and the name of a call that older ones do not have.
 const OLDEST: &str = "0.3.0";
-const NEWEST_CALL: &[u8] = b"swimtab_readmit\0";
+const NEWEST_CALL: &[u8] = b"swimtab_view_offer\0";
 
 /// Whether to link the shared library.
 fn is_shared() -> bool {

@@ -1,4 +1,4 @@
-// The library from C++: a handle in a class that closes it, and calls without a cast.
+// The library from C++: handles in classes that close them, and calls without a cast.
 #include <swimtab.h>
 
 #include <cstdio>
@@ -55,6 +55,55 @@ private:
     uint32_t status_;
 };
 
+class View {
+public:
+    View() : handle_(SWIMTAB_VIEW_INIT) { swimtab_view_open(&handle_, 30000000); }
+    ~View() { swimtab_view_close(&handle_); }
+    View(const View &) = delete;
+    View &operator=(const View &) = delete;
+
+    swimtab_told take(uint64_t time, const std::string &message) {
+        return swimtab_view_take(&handle_, time, message.data(), message.size(), NULL);
+    }
+    uint32_t merge(uint64_t time, const Bytes &stream) {
+        swimtab_progress progress = SWIMTAB_PROGRESS_INIT;
+        swimtab_view_data member;
+        return swimtab_view_merge(&handle_, time, &progress, stream.buffer.at, stream.buffer.len, &member).event;
+    }
+    bool offer(Bytes &stream) const {
+        return swimtab_view_offer(&handle_, true, NULL, 0, &stream.buffer) == SWIMTAB_DONE;
+    }
+    std::string accuser(const std::string &name) const {
+        char out[1024];
+        swimtab_written written = swimtab_view_accuser(&handle_, name.data(), name.size(), 0, out, sizeof out);
+        return std::string(out, written.len);
+    }
+    size_t count() const { return swimtab_view_count(&handle_); }
+
+private:
+    swimtab_view handle_;
+};
+
+std::string alive(const std::string &name) {
+    const unsigned char local[4] = {127, 0, 0, 1}, versions[6] = {1, 5, 2, 0, 0, 0};
+    std::string packet(SWIMTAB_MAX_PACKET_LEN, ' ');
+    swimtab_details details = SWIMTAB_DETAILS_INIT;
+    details.name = name.data(), details.name_len = name.size();
+    details.addr = local, details.addr_len = sizeof local;
+    details.vsn = versions, details.vsn_len = sizeof versions;
+    packet.resize(swimtab_alive_of(&details, &packet[0], packet.size()).len);
+    return packet;
+}
+
+bool views_work(const std::string &suspicion) {
+    View view, other;
+    Bytes stream;
+    bool fine = view.take(1, suspicion).event == SWIMTAB_NO_EVENT && view.count() == 0;
+    fine = fine && view.take(2, alive("b")).event == SWIMTAB_JOINED && view.offer(stream);
+    fine = fine && other.merge(3, stream) == SWIMTAB_KNOWN && other.count() == 1;
+    return fine && view.take(4, suspicion).event == SWIMTAB_SUSPECTED && view.accuser("b") == "a";
+}
+
 } // namespace
 
 int main() {
@@ -65,6 +114,7 @@ int main() {
     fine = fine && b.take(suspicion).news && !b.take(suspicion).news && b.take("\x09").status == SWIMTAB_WRONG_TYPE;
     fine = fine && b.list() == "b suspect 4 0/7f000001/2//\n" && a.list() == "a alive 0 0/7f000001/1//\n";
     fine = fine && a.join(b) && a.list() == "a alive 0 0/7f000001/1//\nb suspect 4 0/7f000001/2//\n";
+    fine = fine && views_work(suspicion);
     std::puts(fine ? "1 passed, 0 failed" : "0 passed, 1 failed");
     return fine ? 0 : 1;
 }

@@ -1,43 +1,12 @@
 /* Refuses each allocation of a run in turn. Every call is done, or returns SWIMTAB_MEMORY and has changed no
- * node, buffer or noted name; repeated, it is done; and at the end all memory is freed. Link it with
+ * node, view, buffer or noted name; repeated, it is done; and at the end all memory is freed. Link it with
  * -Wl,--wrap=malloc,--wrap=realloc,--wrap=free. */
-#include "check.h"
-
-void *__real_malloc(size_t size);
-void *__real_realloc(void *at, size_t size);
-void __real_free(void *at);
-void *__wrap_malloc(size_t size);
-void *__wrap_realloc(void *at, size_t size);
-void __wrap_free(void *at);
-
-static long until_refused = -1; /* how many allocations until one is refused; none if negative */
-static long held = 0;           /* blocks that were not freed */
-static bool watching = false;   /* whether a call of the library runs */
-
-static bool is_refused(void) { return watching && until_refused >= 0 && until_refused-- == 0; }
-
-void *__wrap_malloc(size_t size) {
-    if (is_refused()) return NULL;
-    void *at = __real_malloc(size);
-    held += at != NULL;
-    return at;
-}
-
-void *__wrap_realloc(void *at, size_t size) {
-    if (is_refused()) return NULL;
-    void *moved = __real_realloc(at, size);
-    held += !at && moved;
-    return moved;
-}
-
-void __wrap_free(void *at) {
-    held -= at != NULL;
-    __real_free(at);
-}
+#include "refusing.h"
 
 enum { ROOM = 1 << 14 };
 
 static swimtab_node first, second;
+static swimtab_view view;
 static swimtab_keyring keyring;
 static swimtab_buffer buffer;
 static uint8_t offer[ROOM], reply[ROOM], out[ROOM];
@@ -197,6 +166,56 @@ static uint32_t forget_d(void) { return swimtab_forget(&first, "d", 1); }
 static uint32_t finish_first(void) { return swimtab_finish(&first, reply, reply_len).status; }
 static uint32_t refute_second(void) { return swimtab_refute(&second).status; }
 
+/* What a view is told of a long name, by long names; write_said writes it before the first run. */
+enum { ALIVE, SUSPECT, ALSO_SUSPECT, RIVAL, DEATH, RETURN, MESSAGES };
+static uint8_t said[MESSAGES][SWIMTAB_MAX_PACKET_LEN];
+static size_t said_len[MESSAGES];
+static swimtab_progress told_records;
+static swimtab_view_data shown;
+
+static void write_said(void) {
+    const size_t len = sizeof long_name - 1, room = SWIMTAB_MAX_PACKET_LEN;
+    said_len[ALIVE] = alive_with(long_name, 40, local, 4, 1, meta, sizeof meta, NULL, 0, 1, said[ALIVE], room).len;
+    said_len[SUSPECT] = swimtab_suspect_of(long_name, len, long_name, 40, 1, said[SUSPECT], room).len;
+    said_len[ALSO_SUSPECT] = swimtab_suspect_of(long_name, 41, long_name, 40, 1, said[ALSO_SUSPECT], room).len;
+    said_len[RIVAL] = alive_with(long_name, 40, local, 4, 2, meta, sizeof meta, NULL, 0, 1, said[RIVAL], room).len;
+    said_len[DEATH] = swimtab_dead_of(long_name, len, long_name, 40, 1, said[DEATH], room).len;
+    said_len[RETURN] = alive_with(long_name, 40, local, 4, 1, meta, 100, NULL, 0, 2, said[RETURN], room).len;
+}
+static uint32_t open_view(void) {
+    told_records = (swimtab_progress)SWIMTAB_PROGRESS_INIT;
+    return swimtab_view_open(&view, 1000);
+}
+static uint32_t has_event(swimtab_told told, uint32_t event) {
+    WANT(told.event == (told.status == SWIMTAB_DONE ? event : SWIMTAB_NO_EVENT));
+    return told.status;
+}
+static uint32_t hear(size_t i, uint32_t event) {
+    return has_event(swimtab_view_take(&view, i, said[i], said_len[i], &shown), event);
+}
+static uint32_t hear_alive(void) { return hear(ALIVE, SWIMTAB_JOINED); }
+static uint32_t hear_suspect(void) { return hear(SUSPECT, SWIMTAB_SUSPECTED); }
+static uint32_t hear_also_suspect(void) { return hear(ALSO_SUSPECT, SWIMTAB_ALSO_SUSPECTED); }
+static uint32_t hear_rival(void) { return hear(RIVAL, SWIMTAB_CONFLICT); }
+static uint32_t hear_death(void) { return hear(DEATH, SWIMTAB_DEAD); }
+static uint32_t hear_return(void) { return hear(RETURN, SWIMTAB_BACK); }
+/* The offer of the first node has five records: a alive and dead, its own, c and d suspected. The view only suspects
+ * a, in nobody's name, and does not know c and d. */
+static uint32_t hear_record(uint32_t event) {
+    return has_event(swimtab_view_merge(&view, 9, &told_records, offer, offer_len, &shown), event);
+}
+static uint32_t hear_new_record(void) { return hear_record(SWIMTAB_KNOWN); }
+static uint32_t hear_suspect_record(void) { return hear_record(SWIMTAB_SUSPECTED); }
+static uint32_t hear_idle_record(void) { return hear_record(SWIMTAB_NO_EVENT); }
+static uint32_t hear_no_record(void) {
+    uint32_t status = hear_idle_record();
+    return status == SWIMTAB_NO_ITEM ? SWIMTAB_DONE : status;
+}
+static uint32_t find_shown(void) { return swimtab_view_find(&view, long_name, 40, &shown); }
+static uint32_t find_after(void) { return swimtab_view_after(&view, long_name, 39, &shown); }
+static uint32_t find_accuser(void) { return kept(swimtab_view_accuser(&view, long_name, 40, 1, out, ROOM)); }
+static uint32_t offer_view(void) { return swimtab_view_offer(&view, true, meta, sizeof meta, &buffer); }
+
 static uint32_t (*const calls[])(void) = {
     open_first,    watch_first,    open_second,       take_alive,   take_known,    take_compound, suspect_second,
     say_alive,     say_alive_of,   say_suspect,       say_confirm,  say_leave,     say_compound,  list_first,
@@ -205,16 +224,37 @@ static uint32_t (*const calls[])(void) = {
     whole_offer,   answer_second,  answer_new,        finish_first, refute_second, forget_d,      accept_clear,
     unwrap_new,    say_ping,      say_indirect,      say_ack,      say_nack,      say_user,      say_suspect_of,
     say_dead_of,   read_ping,     kill_e,            revive_e,     readmit_e,     update_second, use_second_key,
+    open_view,     hear_alive,    hear_suspect,      hear_also_suspect,           find_accuser,  hear_rival,
+    hear_death,    hear_return,   hear_new_record,   hear_suspect_record,         hear_new_record,
+    hear_idle_record,             hear_idle_record,  hear_no_record,              find_shown,    find_after,
+    offer_view,
 };
 
 enum { CALLS = sizeof calls / sizeof *calls };
 
-/* The output of both nodes, without watching, followed by the bytes of the buffer. */
-static size_t show(uint8_t *shown) {
-    swimtab_written one = swimtab_list(&first, shown, ROOM);
-    swimtab_written two = swimtab_list(&second, shown + one.len, ROOM - one.len);
-    if (buffer.len) memcpy(shown + one.len + two.len, buffer.at, buffer.len);
-    return one.len + two.len + buffer.len;
+/* What the view shows, without watching. */
+static size_t show_view(char *text, size_t room) {
+    static swimtab_view_data data;
+    char name[64] = "";
+    size_t len = 0;
+    while (swimtab_view_after(&view, name, strlen(name), &data) == SWIMTAB_DONE && len < room) {
+        snprintf(name, sizeof name, "%.*s", (int)data.name_len, (const char *)data.name);
+        len += (size_t)snprintf(text + len, room - len, "%s %u %u %u %u %u %u %u %.*s\n", name, (unsigned)data.since,
+                                (unsigned)data.state, (unsigned)data.inc, (unsigned)data.port, (unsigned)data.meta_len,
+                                (unsigned)data.accusers, (unsigned)data.rivals, (int)data.by_len,
+                                (const char *)data.by);
+    }
+    return len;
+}
+
+/* The output of both nodes and of the view, without watching, followed by the bytes of the buffer. */
+static size_t show(uint8_t *text) {
+    swimtab_written one = swimtab_list(&first, text, ROOM);
+    swimtab_written two = swimtab_list(&second, text + one.len, ROOM - one.len);
+    size_t len = one.len + two.len;
+    len += show_view((char *)text + len, ROOM - len);
+    if (buffer.len) memcpy(text + len, buffer.at, buffer.len);
+    return len + buffer.len;
 }
 
 /* Makes a call with the next allocations as they come, and once more if it was refused. */
@@ -240,6 +280,7 @@ static bool make(uint32_t (*call)(void)) {
 
 static void close_all(void) {
     swimtab_close(&first), swimtab_close(&second), swimtab_free(&buffer), swimtab_keyring_close(&keyring);
+    swimtab_view_close(&view);
     WANT(held == 0);
 }
 
@@ -292,19 +333,19 @@ static bool noted_names_stay(long number) {
 /* Makes a run with the allocation of this number refused. Returns how many calls were refused, or -1 if there
  * was no such allocation. */
 static int run(long number) {
-    static uint8_t wanted[ROOM], shown[ROOM];
+    static uint8_t wanted[ROOM], got[ROOM];
     static size_t wanted_len;
     int refused = 0;
     until_refused = number;
     for (size_t i = 0; i < CALLS; i++) refused += make(calls[i]);
     bool reached = until_refused < 0 && number >= 0;
     until_refused = -1;
-    size_t len = show(shown);
+    size_t len = show(got);
     if (number < 0) {
-        memcpy(wanted, shown, len);
+        memcpy(wanted, got, len);
         wanted_len = len;
     }
-    WANT(len == wanted_len && memcmp(shown, wanted, len) == 0);
+    WANT(len == wanted_len && memcmp(got, wanted, len) == 0);
     close_all();
     return reached ? refused : -1;
 }
@@ -381,6 +422,18 @@ static void watching_and_forgetting_take_no_memory(void) {
     WANT(swimtab_close(&first) == 0 && held == 0);
 }
 
+static void a_view_forgets_without_memory(void) {
+    WANT(open_view() == 0 && hear_alive() == 0 && hear_death() == 0);
+    until_refused = 0;
+    watching = true;
+    WANT(swimtab_view_forget(&view, DEATH + 1000) == 0 && swimtab_view_forget(&view, DEATH + 1001) == 1);
+    WANT(swimtab_view_count(&view) == 0);
+    watching = false;
+    WANT(until_refused == 0);
+    until_refused = -1;
+    WANT(swimtab_view_close(&view) == SWIMTAB_DONE && held == 0);
+}
+
 int main(void) {
     static const struct test tests[] = {
         {"each allocation may be refused", each_allocation_may_be_refused},
@@ -388,9 +441,11 @@ int main(void) {
         {"an Alive of a known name takes no memory", an_alive_of_a_known_name_takes_no_memory},
         {"an offer takes no memory", an_offer_takes_no_memory},
         {"watching and forgetting take no memory", watching_and_forgetting_take_no_memory},
+        {"a view forgets without memory", a_view_forgets_without_memory},
     };
     /* the first print takes a block for its buffer */
     printf("refused memory:\n");
+    write_said();
     held = 0;
     int failed = run_tests(tests, sizeof tests / sizeof *tests);
     printf("%ld allocations, each refused in turn: %ld calls were refused\n", runs, refusals);

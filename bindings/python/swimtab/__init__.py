@@ -1,8 +1,8 @@
 """The membership table of a SWIM cluster, over memberlist's messages, around libswimtab.
 
 A Node has no sockets or timers: the program passes in the packets and streams that it received,
-and sends those that a call returns. The repository's docs/EMBEDDING.md is the guide;
-docs/PROTOCOL.md has the rules.
+and sends those that a call returns. A View is what a member of memberlist shows, by memberlist's
+own rules. The repository's docs/EMBEDDING.md is the guide; docs/PROTOCOL.md has the rules.
 """
 
 from . import errors
@@ -14,6 +14,7 @@ from .members import Form, Member, Relation, State
 from .messages import Kind, Message, Probe, Progress, ack, alive_of, compound, dead_of
 from .messages import indirect_ping, nack, parts, ping, read_probe, suspect_of, user
 from .node import Exchange, Node
+from .view import Change, Event, Shown, View
 
 __version__ = "0.3.0"
 
@@ -22,7 +23,9 @@ __all__ = [
     "NONCE_LEN",
     "Address",
     "AnyAddress",
+    "Change",
     "Data",
+    "Event",
     "Exchange",
     "Form",
     "Keyring",
@@ -35,8 +38,10 @@ __all__ = [
     "Probe",
     "Progress",
     "Relation",
+    "Shown",
     "State",
     "SwimtabError",
+    "View",
     "ack",
     "alive_of",
     "compound",

@@ -2,7 +2,7 @@
 
 import ctypes
 import ipaddress
-from ctypes import POINTER, c_bool, c_char_p, c_size_t, c_uint16, c_uint32, c_void_p
+from ctypes import POINTER, c_bool, c_char_p, c_size_t, c_uint32, c_uint64
 from typing import Any, Callable, Dict, Optional, Tuple, Union
 
 from . import _structs as raw
@@ -23,6 +23,7 @@ lib = load()
 
 _NODE, _KEYRING, _DETAILS = POINTER(raw.RawNode), POINTER(raw.RawKeyring), POINTER(raw.RawDetails)
 _MEMBER, _BUFFER = POINTER(raw.RawMember), POINTER(raw.RawBuffer)
+_VIEW, _SHOWN, _PROGRESS = POINTER(raw.RawView), POINTER(raw.RawViewData), POINTER(raw.RawProgress)
 _IN = (c_char_p, c_size_t)
 _OUT = (c_char_p, c_size_t)
 
@@ -52,7 +53,7 @@ _CALLS: Dict[str, Tuple[Any, Tuple[Any, ...]]] = {
     "offer_new": (c_uint32, (_NODE, c_bool, c_uint32, *_IN, _BUFFER)),
     "answer_new": (raw.RawExchanged, (_NODE, *_IN, c_uint32, *_IN, _BUFFER)),
     "free": (None, (_BUFFER,)),
-    "whole": (c_uint32, (POINTER(raw.RawProgress), *_IN)),
+    "whole": (c_uint32, (_PROGRESS, *_IN)),
     "keyring_add": (c_uint32, (_KEYRING, *_IN)),
     "keyring_accept_clear": (c_uint32, (_KEYRING,)),
     "keyring_count": (c_size_t, (_KEYRING,)),
@@ -74,6 +75,16 @@ _CALLS: Dict[str, Tuple[Any, Tuple[Any, ...]]] = {
     "next_change": (c_uint32, (_NODE, _MEMBER)),
     "forget": (c_uint32, (_NODE, *_IN)),
     "readmit": (c_uint32, (_NODE, *_IN)),
+    "view_open": (c_uint32, (_VIEW, c_uint64)),
+    "view_close": (c_uint32, (_VIEW,)),
+    "view_take": (raw.RawTold, (_VIEW, c_uint64, *_IN, _SHOWN)),
+    "view_merge": (raw.RawTold, (_VIEW, c_uint64, _PROGRESS, *_IN, _SHOWN)),
+    "view_forget": (c_size_t, (_VIEW, c_uint64)),
+    "view_count": (c_size_t, (_VIEW,)),
+    "view_find": (c_uint32, (_VIEW, *_IN, _SHOWN)),
+    "view_after": (c_uint32, (_VIEW, *_IN, _SHOWN)),
+    "view_accuser": (raw.RawWritten, (_VIEW, *_IN, c_size_t, *_OUT)),
+    "view_offer": (c_uint32, (_VIEW, c_bool, *_IN, _BUFFER)),
     "fault_name": (c_char_p, (c_uint32,)),
     "fault_text": (c_char_p, (c_uint32,)),
 }

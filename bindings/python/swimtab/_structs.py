@@ -1,7 +1,7 @@
 """The structs of swimtab.h, with its layouts."""
 
-from ctypes import Structure, c_bool, c_char_p, c_size_t, c_uint8, c_uint16, c_uint32, c_void_p
-from ctypes import sizeof
+from ctypes import Structure, c_bool, c_char_p, c_size_t, c_uint8, c_uint16, c_uint32, c_uint64
+from ctypes import c_void_p, sizeof
 
 
 class RawNode(Structure):
@@ -10,6 +10,10 @@ class RawNode(Structure):
 
 class RawKeyring(Structure):
     _fields_ = [("at", c_void_p), ("held", c_bool)]
+
+
+class RawView(Structure):
+    _fields_ = [("at", c_void_p), ("held", c_bool), ("user", c_void_p)]
 
 
 class RawDetails(Structure):
@@ -99,6 +103,32 @@ class RawMember(Structure):
         ("vsn", c_uint8 * 6),
         ("meta", c_uint8 * 512),
         ("name", c_uint8 * 1024),
+        ("reserved", c_uint8 * 32),
+    ]
+
+
+class RawTold(Structure):
+    _fields_ = [("status", c_uint32), ("event", c_uint32)]
+
+
+class RawViewData(Structure):
+    _fields_ = [
+        ("since", c_uint64),
+        ("state", c_uint32),
+        ("inc", c_uint32),
+        ("port", c_uint16),
+        ("name_len", c_uint16),
+        ("meta_len", c_uint16),
+        ("by_len", c_uint16),
+        ("accusers", c_uint8),
+        ("rivals", c_uint8),
+        ("addr_len", c_uint8),
+        ("vsn_len", c_uint8),
+        ("addr", c_uint8 * 16),
+        ("vsn", c_uint8 * 6),
+        ("meta", c_uint8 * 512),
+        ("name", c_uint8 * 1024),
+        ("by", c_uint8 * 1024),
         ("reserved", c_uint8 * 32),
     ]
 

@@ -197,11 +197,11 @@ class Unencrypted(SwimtabError, status=59):
 
 
 class NoNode(SwimtabError, status=64):
-    """The node is closed, or the keyring has no key."""
+    """The node or the view is closed, or the keyring has no key."""
 
 
 class NodeThere(SwimtabError, status=65):
-    """The handle has a node already. The calls of this package do not raise it."""
+    """The handle has a node or a view already. The calls of this package do not raise it."""
 
 
 class TooSmall(SwimtabError, status=66):
@@ -225,7 +225,7 @@ class BadForm(SwimtabError, status=70):
 
 
 class NoItem(SwimtabError, status=71):
-    """There is no key or part at this index."""
+    """There is no key, part or accuser at this index, or no further record."""
 
 
 class KeyInUse(SwimtabError, status=72):

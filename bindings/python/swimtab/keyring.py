@@ -3,17 +3,17 @@
 import os
 import threading
 import weakref
-from types import TracebackType
-from typing import ContextManager, List, Optional, Type
+from typing import ContextManager, List, Optional
 
 from . import _structs as raw
 from ._calls import Data, Name, buffered, data, done, lib, name_bytes, span, uint, written
+from ._closing import Closing
 from .messages import Message, kind_of
 
 _MOST_ADDED = 2 + 5 + 1 + raw.NONCE_LEN + 16  # to a label and a message by `seal`
 
 
-class Keyring:
+class Keyring(Closing):
     """A cluster's keys, or none. The first key encrypts; to decrypt, all are tried in order.
 
     Without a key, it reads and writes what is not encrypted. With keys it refuses to read that, as
@@ -33,17 +33,6 @@ class Keyring:
     def close(self) -> None:
         """Overwrites the keys. The keyring is then empty, and keys may be added again."""
         _close(self._lock, self._handle)
-
-    def __enter__(self) -> "Keyring":
-        return self
-
-    def __exit__(
-        self,
-        kind: Optional[Type[BaseException]],
-        error: Optional[BaseException],
-        trace: Optional[TracebackType],
-    ) -> None:
-        self.close()
 
     def add(self, key: Data) -> None:
         """Adds a key of 16, 24 or 32 bytes after those that are there."""

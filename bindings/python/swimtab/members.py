@@ -15,6 +15,7 @@ class State(enum.IntEnum):
     SUSPECT = 1
     CONFIRM = 2  # declared dead by other members
     LEAVE = 3  # left by itself
+    NOTED = 4  # of views alone: an Alive at incarnation 0 gave an address, and is not believed
 
     def __str__(self) -> str:
         return self.name.lower()

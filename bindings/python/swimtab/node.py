@@ -3,12 +3,12 @@
 import threading
 import weakref
 from dataclasses import dataclass
-from types import TracebackType
-from typing import ContextManager, Iterator, Optional, Tuple, Type
+from typing import ContextManager, Iterator, Optional, Tuple
 
 from . import _structs as raw
 from ._calls import AnyAddress, Data, Name, buffered, data, details, done, lib, name_bytes, span
 from ._calls import there, uint, written
+from ._closing import Closing
 from .members import Form, Member, Relation, member_of
 
 
@@ -21,7 +21,7 @@ class Exchange:
     used: int  # the length of the stream; bytes after it were not read
 
 
-class Node:
+class Node(Closing):
     """What one member of a cluster knows: who it is, and a table of all that it has heard of.
 
     `Node.open` makes one; a node is closed at the end of a `with` block, by `close`, or when
@@ -58,17 +58,6 @@ class Node:
     def close(self) -> None:
         """Frees the node. Closing it again does nothing."""
         self._closing()
-
-    def __enter__(self) -> "Node":
-        return self
-
-    def __exit__(
-        self,
-        kind: Optional[Type[BaseException]],
-        error: Optional[BaseException],
-        trace: Optional[TracebackType],
-    ) -> None:
-        self.close()
 
     # ------------------------------------------------------------------ gossip
 

@@ -202,7 +202,8 @@ class Nodes(unittest.TestCase):
             self.node.forget("c")
 
     def test_states_print_as_in_a_listing(self):
-        self.assertEqual([str(state) for state in State], ["alive", "suspect", "confirm", "leave"])
+        words = ["alive", "suspect", "confirm", "leave", "noted"]
+        self.assertEqual([str(state) for state in State], words)
         self.assertEqual(f"{State.LEAVE:>6}|{State.ALIVE}", " leave|alive")
 
     def test_threads_share_a_node(self):

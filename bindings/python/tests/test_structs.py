@@ -21,6 +21,9 @@ STRUCTS = {
     "swimtab_refuted": raw.RawRefuted,
     "swimtab_related": raw.RawRelated,
     "swimtab_member_data": raw.RawMember,
+    "swimtab_view": raw.RawView,
+    "swimtab_told": raw.RawTold,
+    "swimtab_view_data": raw.RawViewData,
     "swimtab_buffer": raw.RawBuffer,
     "swimtab_progress": raw.RawProgress,
 }

@@ -1,9 +1,10 @@
 //! The membership table of a SWIM cluster, over memberlist's messages: a safe wrapper around libswimtab.
 //!
 //! A [`Node`] is what one member of a cluster knows. It has no sockets or timers: the program passes in the
-//! packets and streams that it received, and sends those that a call writes. A [`Keyring`] reads packets and
-//! streams as a real cluster wraps them, and wraps those to send. A [`Probe`] is a ping or its answer. The
-//! repository's `docs/EMBEDDING.md` is the guide; `docs/PROTOCOL.md` has the rules and the faults.
+//! packets and streams that it received, and sends those that a call writes. A [`View`] is what a member of
+//! memberlist shows, by memberlist's own rules. A [`Keyring`] reads packets and streams as a real cluster wraps
+//! them, and wraps those to send. A [`Probe`] is a ping or its answer. The repository's `docs/EMBEDDING.md` is
+//! the guide; `docs/PROTOCOL.md` has the rules and the faults.
 //!
 //! Make no call in a signal handler, or in the child after a fork of a process with threads.
 
@@ -22,8 +23,10 @@ mod nonce;
 mod packet;
 mod probe;
 mod raw;
+mod shown;
 mod stream;
 mod table;
+mod view;
 mod wrapping;
 
 pub use details::Details;
@@ -34,8 +37,10 @@ pub use message::{parts, Kind, Message, Part, Parts};
 pub use node::Node;
 pub use packet::{alive_of, compound, dead_of, suspect_of};
 pub use probe::{ack, indirect_ping, nack, ping, user, Peer, Probe};
+pub use shown::{Change, Event, Shown};
 pub use stream::{Answer, Form, Progress, Taken, Whole};
 pub use table::Relation;
+pub use view::View;
 
 /// The version of the linked library.
 ///

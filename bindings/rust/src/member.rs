@@ -16,6 +16,21 @@ pub enum State {
     Confirm,
     /// Left by itself.
     Leave,
+    /// A state of views alone: an Alive at incarnation 0 gave an address, and is not believed.
+    Noted,
+}
+
+impl State {
+    /// The state of this number.
+    pub(crate) fn of(number: u32) -> State {
+        match number {
+            0 => State::Alive,
+            1 => State::Suspect,
+            2 => State::Confirm,
+            3 => State::Leave,
+            _ => State::Noted,
+        }
+    }
 }
 
 /// A member as a node knows it.
@@ -40,12 +55,7 @@ impl From<&raw::Member> for Member {
         let addr = addr_of(raw.addr, raw.addr_len).filter(|_| raw.has_address);
         Member {
             name: raw.name[..raw.name_len.into()].to_vec(),
-            state: match raw.state {
-                0 => State::Alive,
-                1 => State::Suspect,
-                2 => State::Confirm,
-                _ => State::Leave,
-            },
+            state: State::of(raw.state),
             incarnation: raw.inc,
             came_back: raw.came_back,
             details: addr.map(|addr| Details {

@@ -1,8 +1,12 @@
-//! The functions of the library, as `include/swimtab.h` declares them.
+//! The functions of the library, as `include/swimtab.h` declares them; those of views are in `raw/view.rs`.
 
 use std::ffi::{c_char, c_void};
 use std::mem;
 use std::ptr;
+
+mod view;
+
+pub use view::*;
 
 #[repr(C)]
 pub struct Node {
