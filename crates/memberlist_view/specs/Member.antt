@@ -1,5 +1,5 @@
--- What a member does that an observer does not: it believes nothing of a name that it does not know,
--- and forgets members that are gone.
+-- What a member does that an observer does not: it believes nothing of a name that it does not
+-- know, and forgets members that are gone.
 use Rattle.std.specs.Prelude.{ℕ, Bool, true, false, not, ◌||◌, if◌then◌else◌, Option, Some, None, List, [], ◌∷◌}
 use Rattle.std.specs.BTreeMap.Range.{entries_between}
 use Rattle.std.specs.List.{filter}

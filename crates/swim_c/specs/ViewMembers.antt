@@ -80,8 +80,8 @@ abbrev pub named : List ℕ → Option Entry → Option (List ℕ × Entry)
 named name None = None
 named name (Some entry) = Some (name, entry)
 
--- The member of the name was copied; the view shows none, or there is no such name (67); or memory was
--- refused (10).
+-- The member of the name was copied; the view shows none, or there is no such name (67); or memory
+-- was refused (10).
 pub data FindDone (v : ViewValue) (name : List ℕ) (status : ℕ) (old new : Shown) : Type 0 where
   found : Finds (named name (entry_of v name)) status old new → FindDone v name status old new
   no_name : ¬ IsLegalName name → status ≡ statuses.no_member → new ≡ old
@@ -108,15 +108,18 @@ pub data Accuses (names : List (List ℕ)) (i : ℕ) (old new : List ℕ) (statu
   none : length names ≤ i → IsUnwritten statuses.no_item old new status len
       → Accuses names i old new status len
 
--- The accuser of the member of this name was copied or did not fit, or there is none. Or nothing was
--- copied: the view shows no such name (67), or memory was refused (10).
+-- The accuser of the member of this name was copied or did not fit, or there is none. Or nothing
+-- was copied: the view shows no such name (67), or memory was refused (10).
 pub data AccuserDone (v : ViewValue) (name : List ℕ) (i : ℕ) (old new : List ℕ)
     (status len : ℕ) : Type 0 where
   known : (entry : Entry) → entry_of v name ≡ Some entry
-      → Accuses (accusers entry.state) i old new status len → AccuserDone v name i old new status len
+      → Accuses (accusers entry.state) i old new status len
+      → AccuserDone v name i old new status len
   unknown : (entry_of v name ≡ None) ⊎ (¬ IsLegalName name)
-      → IsUnwritten statuses.no_member old new status len → AccuserDone v name i old new status len
-  memory : IsUnwritten statuses.memory old new status len → AccuserDone v name i old new status len
+      → IsUnwritten statuses.no_member old new status len
+      → AccuserDone v name i old new status len
+  memory : IsUnwritten statuses.memory old new status len
+      → AccuserDone v name i old new status len
 
 -- ---- what a view says of its members
 
@@ -138,9 +141,9 @@ claims_of name inc (Some details) state = claims_in_state name inc details state
 abbrev pub claims_shown : view.Entries → List Claim
 claims_shown entries = flat_map (λ e. claims_of e.0 e.1.inc e.1.details e.1.state) entries
 
--- The buffer has the stream for memberlist of the table of what the view says, with this user state, or
--- there is none for the same reasons as of a node's. Or memory was refused for that table (10), and the
--- buffer is unchanged.
+-- The buffer has the stream for memberlist of the table of what the view says, with this user
+-- state, or there is none for the same reasons as of a node's. Or memory was refused for that table
+-- (10), and the buffer is unchanged.
 pub data ViewOffered (v : ViewValue) (user : List ℕ) (join : Bool) (old new : Buffer)
     (status : ℕ) : Type 0 where
   offered : (table : Entries) → TableOf table (claims_shown v.entries)

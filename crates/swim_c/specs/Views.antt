@@ -61,14 +61,15 @@ heard_in_packet time packet =
 abbrev pub heard_in_record : ℕ → Claim → Heard
 heard_in_record time c = record { time = time; said = said_in_record c false }
 
--- The view heard this as a member does. The event is returned, and if there is one, the data are what
--- the view then shows of the member.
+-- The view heard this as a member does. The event is returned, and if there is one, the data are
+-- what the view then shows of the member.
 pub record Hears (heard : Heard) (event : ℕ) (before after : ViewValue)
     (old new : Shown) : Type 0 where
   pub view : after ≡ member_view_after before heard
   pub event_is : event ≡ event_number (member_event_of before heard)
   pub data_are : MatchOption (member_event_of before heard) (new ≡ old)
-      (λ _. IfSome (entry_of after (about heard.said)) (λ entry. IsShown (about heard.said) entry new))
+      (λ _. IfSome (entry_of after (about heard.said))
+      (λ entry. IsShown (about heard.said) entry new))
 
 -- nothing was heard
 pub record IsUnheard (event : ℕ) (before after : ViewValue) (old new : Shown) : Type 0 where
@@ -91,8 +92,8 @@ Heeds time (claim packet) status event before after old new =
 Heeds time m status event before after old new =
     (status ≡ statuses.wrong_type) × IsUnheard event before after old new
 
--- There is a message, and the view heard its claim if it makes one. Or it heard nothing: the bytes are
--- none, and the status is that of the fault at which reading stops; or memory was refused (10).
+-- There is a message, and the view heard its claim if it makes one. Or it heard nothing: the bytes
+-- are none, and the status is that of the fault at which reading stops; or memory was refused (10).
 pub data MessageTold (time : ℕ) (text : List ℕ) (status event : ℕ) (before after : ViewValue)
     (old new : Shown) : Type 0 where
   message : (m : MessageValue) → message_of text ≡ Ok m
@@ -104,9 +105,9 @@ pub data MessageTold (time : ℕ) (text : List ℕ) (status event : ℕ) (before
   memory : status ≡ statuses.memory → IsUnheard event before after old new
       → MessageTold time text status event before after old new
 
--- The view heard the next record, which was read (0). Or it heard nothing: no record is left (71); there is
--- no record, and the status is that of the fault at which reading stops; or memory was refused (10), and the
--- record is still to be read.
+-- The view heard the next record, which was read (0). Or it heard nothing: no record is left (71);
+-- there is no record, and the status is that of the fault at which reading stops; or memory was
+-- refused (10), and the record is still to be read.
 pub data RecordTold (time : ℕ) (bytes : List ℕ) (p q : Progress) (status event : ℕ)
     (before after : ViewValue) (old new : Shown) : Type 0 where
   told : (begun : Progress) (c : Claim) → HasBegun bytes p begun → TakesRecord bytes begun q c
@@ -121,9 +122,10 @@ pub data RecordTold (time : ℕ) (bytes : List ℕ) (p q : Progress) (status eve
   memory : status ≡ statuses.memory → q ≡ p → IsUnheard event before after old new
       → RecordTold time bytes p q status event before after old new
 
--- If the handle has a view, the call does this to it, and the handle keeps it. If it has none, it gets
--- none.
-abbrev pub OnView : Option HeldView → Option HeldView → Type 0 → (ViewValue → ViewValue → Type 0) → Type 0
+-- If the handle has a view, the call does this to it, and the handle keeps it. If it has none, it
+-- gets none.
+abbrev pub OnView : Option HeldView → Option HeldView → Type 0
+    → (ViewValue → ViewValue → Type 0) → Type 0
 OnView None None Without Does = Without
 OnView None (Some after) Without Does = ⊥
 OnView (Some before) None Without Does = ⊥
@@ -135,8 +137,8 @@ pub record OnSameView (old new : Option HeldView) (Without : Type 0)
   pub same : new ≡ old
   pub tells : MatchOption old Without (λ held. Tells held.view)
 
--- A handle with a view keeps it (65). An empty one gets the view of a member that heard nothing (0), or
--- stays empty (10).
+-- A handle with a view keeps it (65). An empty one gets the view of a member that heard nothing
+-- (0), or stays empty (10).
 abbrev pub ViewOpened : ℕ → Option HeldView → Option HeldView → ℕ → Type 0
 ViewOpened wait (Some before) new status = (status ≡ statuses.node_there) × (new ≡ Some before)
 ViewOpened wait None (Some after) status =

@@ -61,8 +61,8 @@ pub extern "C" fn swimtab_raw_view_close(alloc: Global, view: &mut ViewHandle) -
     }
 }
 
-/// Tells the view the claim of a message that came at this time, and copies what it then shows of the
-/// member if there is an event.
+/// Tells the view the claim of a message that came at this time, and copies what it then shows of
+/// the member if there is an event.
 ///
 /// # Statuses
 ///
@@ -126,8 +126,8 @@ pub extern "C" fn swimtab_raw_view_merge(
     told
 }
 
-/// Forgets the members that at this time have been dead, or have left, for longer than the wait, and
-/// returns how many these are; 0 if the handle has no view.
+/// Forgets the members that at this time have been dead, or have left, for longer than the wait,
+/// and returns how many these are; 0 if the handle has no view.
 #[unsafe(no_mangle)]
 pub extern "C" fn swimtab_raw_view_forget(alloc: Global, view: &mut ViewHandle, time: u64) -> usize
     ensures { OnView view.old.view view.new.view (result ≡ 0)
@@ -188,8 +188,8 @@ pub extern "C" fn swimtab_raw_view_find(
     status
 }
 
-/// Copies what the view shows of the member of the first name above this one, in byte order, whether
-/// or not it shows this one. A walk begins with an empty name.
+/// Copies what the view shows of the member of the first name above this one, in byte order,
+/// whether or not it shows this one. A walk begins with an empty name.
 ///
 /// # Statuses
 ///
@@ -249,8 +249,8 @@ pub extern "C" fn swimtab_raw_view_accuser(
     written
 }
 
-/// Makes the buffer keep the stream of what the view shows, with this join flag and this user state,
-/// as memberlist merges it. Frees what the buffer kept before.
+/// Makes the buffer keep the stream of what the view shows, with this join flag and this user
+/// state, as memberlist merges it. Frees what the buffer kept before.
 ///
 /// # Statuses
 ///

@@ -118,7 +118,8 @@ pub fn take_record(
 
 /// Tells the view something, and copies what it then shows of the member if there is an event.
 fn hear(view: &mut View, heard: &Heard, member: &mut Shown) -> Told
-    ensures { HearDone heard.now result.status result.event view.old view.new member.old member.new }
+    ensures { HearDone heard.now result.status result.event
+        view.old view.new member.old member.new }
 {
     match view.hear_as_member(heard) {
         Ok(Some(event)) => {

@@ -16,9 +16,9 @@ returns-clause-news c =
     let before = c.args.node.now.table in
     let other = c.args.other in
     let after : c.join_noting.new.self ≡ Join before other =
-        c.in_ok-join_noting.ensures.join ∙ ap (λ (t : Entries). Join t other) c.table_mut.ensures.table in
+    c.in_ok-join_noting.ensures.join ∙ ap (λ (t : Entries). Join t other) c.table_mut.ensures.table in
     let changes : AreChanges before (Join before other) c.in_ok-names.names =
-        subst (λ (t : Entries). AreChanges t (Join t other) c.in_ok-names.names) c.table.ensures.table c.in_ok-names.ensures in
+    subst (λ (t : Entries). AreChanges t (Join t other) c.in_ok-names.names) c.table.ensures.table c.in_ok-names.ensures in
     joined_tells _ before c.join_noting.new.self other after
     (named_tells c.is_empty-any.result before other c.in_ok-names.names c.table.ensures.legal changes c.is_empty-any.ensures)
 
@@ -27,8 +27,8 @@ returns-clause-noted c =
     let before = c.args.node.now.table in
     let other = c.args.other in
     let after : c.join_noting.new.self ≡ Join before other =
-        c.in_ok-join_noting.ensures.join ∙ ap (λ (t : Entries). Join t other) c.table_mut.ensures.table in
+    c.in_ok-join_noting.ensures.join ∙ ap (λ (t : Entries). Join t other) c.table_mut.ensures.table in
     let changes : AreChanges before (Join before other) c.in_ok-names.names =
-        subst (λ (t : Entries). AreChanges t (Join t other) c.in_ok-names.names) c.table.ensures.table c.in_ok-names.ensures in
+    subst (λ (t : Entries). AreChanges t (Join t other) c.in_ok-names.names) c.table.ensures.table c.in_ok-names.ensures in
     noted_with c.args.noted.now c.join_noting.new.noted before c.join_noting.new.self other c.in_ok-names.names
     c.len.ensures.legal c.len-2.ensures.legal c.in_ok-join_noting.ensures.noted after changes
