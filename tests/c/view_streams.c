@@ -258,7 +258,7 @@ static void the_longest_values_are_copied_out(void) {
 static void accusers_and_rivals_are_counted_to_255(void) {
     swimtab_view view = new_view();
     swimtab_view_data data;
-    char from[8];
+    char from[16];
     told_at(&view, 1, alive("b", 1, 2, ""), SWIMTAB_JOINED);
     for (int i = 0; i < 257; i++) {
         struct said rival = alive_with_versions("b", 1, 2, (uint16_t)i, "", sound);

@@ -113,9 +113,8 @@ static inline bool is_shown(const swimtab_view_data *data, struct shown wanted) 
     swimtab_view_data expected = data_of(wanted);
     bool same = is_same(data, &expected);
     if (!same)
-        printf("    shown: %.*s %u %u since %llu, by %.*s, %u accusers, %u rivals\n", (int)data->name_len,
-               (const char *)data->name, (unsigned)data->state, (unsigned)data->inc, (unsigned long long)data->since,
-               (int)data->by_len, (const char *)data->by, (unsigned)data->accusers, (unsigned)data->rivals);
+        printf("    shown: state %u at %u since %llu, %u accusers, %u rivals\n", (unsigned)data->state,
+               (unsigned)data->inc, (unsigned long long)data->since, (unsigned)data->accusers, (unsigned)data->rivals);
     return same;
 }
 
