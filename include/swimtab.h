@@ -785,7 +785,8 @@ swimtab_status swimtab_view_close(swimtab_view *view);
 
 /* Tells the view the claim of a message that came at this time: one that is not a compound one, as
  * swimtab_part finds it. Keys that memberlist does not know are passed over, as it does. A suspicion, a death
- * or a leave of a name that the view does not know changes nothing. The member itself is a name like any
+ * or a leave of a name of which no Alive was believed changes nothing. A death that names no accuser only
+ * suspects. The member itself is a name like any
  * other: tell the view its own Alive first, and refute what is said of it at the next incarnation.
  *
  * If there is an event, what the view now shows of the member is copied; otherwise `member` is unchanged. It
@@ -808,9 +809,9 @@ swimtab_told swimtab_view_take(swimtab_view *view, uint64_t time, const void *me
 swimtab_told swimtab_view_merge(swimtab_view *view, uint64_t time, swimtab_progress *progress,
                                 const void *stream, size_t len, swimtab_view_data *member);
 
-/* Forgets the members that at this time have been dead, or have left, for longer than the wait, and returns
- * how many these are. memberlist does it at the end of each round of its probes. The view is then that of
- * what it was told about the others. It takes no memory. */
+/* Forgets the members that at this time have been dead, or have left, for longer than the wait, and those in
+ * the state SWIMTAB_NOTED, and returns how many these are. memberlist does it at the end of each round of its
+ * probes. The view is then that of what it was told about the others. It takes no memory. */
 size_t swimtab_view_forget(swimtab_view *view, uint64_t time);
 
 /* How many members the view shows, those that died or left included; 0 if the handle is empty. */

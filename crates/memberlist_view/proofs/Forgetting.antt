@@ -12,8 +12,8 @@ use Rattle.std.proofs.lemmas.Map.Lookups.{exact_bytes}
 use Rattle.memberlist_view.specs.declared.entry.Entry.{Entry}
 use Rattle.memberlist_view.specs.declared.heard.Heard.{Heard}
 use Rattle.memberlist_view.specs.Heard.{about}
-use Rattle.memberlist_view.specs.Member.{about_others, forgets, is_any_forgotten, view_without_forgotten}
-use Rattle.memberlist_view.specs.Rules.{name_cmp, is_forgotten, change}
+use Rattle.memberlist_view.specs.Member.{about_others, forgets, is_any_dropped, is_dropped, view_without_dropped}
+use Rattle.memberlist_view.specs.Rules.{name_cmp, change}
 use Rattle.memberlist_view.specs.Shown.{changed, shown, shown_next, shown_from}
 use Rattle.memberlist_view.specs.Told.{Entries, ViewValue, IsAscending, IsViewOf, entry_at, entry_of}
 use Rattle.memberlist_view.proofs.Inserting.{IsBelowAll, IsAscending-head, IsAscending-tail, IsAscending-cons, IsAscending-nil}
@@ -83,31 +83,31 @@ gone keep wait name (heard ∷ past) old h = by_test (λ o. gone keep wait name 
 -- ---- the view
 
 pub IsViewOf-others : (view : ViewValue) (time : ℕ) (past : List Heard) → IsViewOf view past
-    → IsViewOf (view_without_forgotten view time) (about_others view time past)
+    → IsViewOf (view_without_dropped view time) (about_others view time past)
 IsViewOf-others view time past v = record {
-  ascending = IsAscending-filter (λ e. not (is_forgotten view.wait time e.1)) view.entries v.ascending;
+  ascending = IsAscending-filter (λ e. not (is_dropped view.wait time e.1)) view.entries v.ascending;
   each = λ name.
       entry_at-filter stays view.entries name v.ascending ∙ by_entry name (entry_of view name) refl;
 }
   where
     stays : Entry → Bool
-    stays entry = not (is_forgotten view.wait time entry)
+    stays entry = not (is_dropped view.wait time entry)
 
     keep : List ℕ → Bool
     keep name = not (forgets view time name)
 
-    by_forgotten : (name : List ℕ) (entry : Entry) → entry_of view name ≡ Some entry → (b : Bool) → is_forgotten view.wait time entry ≡ b
+    by_forgotten : (name : List ℕ) (entry : Entry) → entry_of view name ≡ Some entry → (b : Bool) → is_dropped view.wait time entry ≡ b
         → cond (not b) (Some entry) None ≡ shown view.wait (about_others view time past) name
     by_forgotten name entry is true e =
-        let out : keep name ≡ false = ap (λ o. not (is_any_forgotten view.wait time o)) is ∙ ap not e in
+        let out : keep name ≡ false = ap (λ o. not (is_any_dropped view.wait time o)) is ∙ ap not e in
         sym (gone keep view.wait name past None out)
     by_forgotten name entry is false e =
-        let in_ : keep name ≡ true = ap (λ o. not (is_any_forgotten view.wait time o)) is ∙ ap not e in
+        let in_ : keep name ≡ true = ap (λ o. not (is_any_dropped view.wait time o)) is ∙ ap not e in
         sym is ∙ v.each name ∙ sym (kept keep view.wait name past None in_)
 
     by_entry : (name : List ℕ) (o : Option Entry) → entry_of view name ≡ o
         → option_filter stays o ≡ shown view.wait (about_others view time past) name
     by_entry name None is =
-        let in_ : keep name ≡ true = ap (λ o. not (is_any_forgotten view.wait time o)) is in
+        let in_ : keep name ≡ true = ap (λ o. not (is_any_dropped view.wait time o)) is in
         sym is ∙ v.each name ∙ sym (kept keep view.wait name past None in_)
-    by_entry name (Some entry) is = by_forgotten name entry is (is_forgotten view.wait time entry) refl
+    by_entry name (Some entry) is = by_forgotten name entry is (is_dropped view.wait time entry) refl

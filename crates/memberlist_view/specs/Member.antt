@@ -3,9 +3,10 @@
 use Rattle.std.specs.Prelude.{ℕ, Bool, true, false, not, ◌||◌, if◌then◌else◌, Option, Some, None, List, [], ◌∷◌}
 use Rattle.std.specs.BTreeMap.Range.{entries_between}
 use Rattle.std.specs.List.{filter}
-use Rattle.std.specs.Option.{is_some}
 use Rattle.std.specs.declared.ops.Bound.TheVariants.{Excluded, Unbounded}
 use Rattle.memberlist_view.specs.declared.entry.Entry.{Entry}
+use Rattle.memberlist_view.specs.declared.entry.State.{State}
+use Rattle.memberlist_view.specs.declared.entry.State.TheVariants as state
 use Rattle.memberlist_view.specs.declared.event.Event.{Event}
 use Rattle.memberlist_view.specs.declared.heard.Heard.{Heard}
 use Rattle.memberlist_view.specs.declared.heard.Said.{Said}
@@ -21,10 +22,23 @@ is_alive (Dead name inc from) = false
 is_alive (Left name inc) = false
 is_alive (Seen name place) = false
 
--- suspectNode, deadNode: a member knows a name by an Alive, and passes over what else is said about
--- a name that it does not know
+-- whether only its address is known, by an Alive at incarnation 0
+abbrev pub is_noted : State → Bool
+is_noted state.Noted = true
+is_noted state.Seen = false
+is_noted state.Alive = false
+is_noted (state.Suspect by) = false
+is_noted (state.Dead by) = false
+is_noted state.Left = false
+
+abbrev pub is_known : Option Entry → Bool
+is_known None = false
+is_known (Some entry) = not (is_noted entry.state)
+
+-- suspectNode, deadNode: a member knows a name by an Alive that it believed, and passes over what
+-- else is said about a name that it does not know
 abbrev pub is_heeded : ViewValue → Heard → Bool
-is_heeded view heard = is_alive heard.said || is_some (entry_of view (about heard.said))
+is_heeded view heard = is_alive heard.said || is_known (entry_of view (about heard.said))
 
 -- what a member hears of it: this, or nothing
 abbrev pub heeded : ViewValue → Heard → List Heard
@@ -38,18 +52,23 @@ member_event_of view heard = if is_heeded view heard then event_of view heard el
 abbrev pub member_view_after : ViewValue → Heard → ViewValue
 member_view_after view heard = if is_heeded view heard then view_after view heard else view
 
--- resetNodes: the view without the members that have been dead, or left, for longer than the wait
-abbrev pub view_without_forgotten : ViewValue → ℕ → ViewValue
-view_without_forgotten view time =
-    record view { entries = filter (λ e. not (is_forgotten view.wait time e.1)) view.entries }
+-- resetNodes: a member is dropped that has been dead, or has left, for longer than the wait; and one
+-- that is only noted, which memberlist keeps as dead since the beginning of time
+abbrev pub is_dropped : ℕ → ℕ → Entry → Bool
+is_dropped wait time entry = is_forgotten wait time entry || is_noted entry.state
 
-abbrev pub is_any_forgotten : ℕ → ℕ → Option Entry → Bool
-is_any_forgotten wait time None = false
-is_any_forgotten wait time (Some entry) = is_forgotten wait time entry
+-- the view without these members
+abbrev pub view_without_dropped : ViewValue → ℕ → ViewValue
+view_without_dropped view time =
+    record view { entries = filter (λ e. not (is_dropped view.wait time e.1)) view.entries }
+
+abbrev pub is_any_dropped : ℕ → ℕ → Option Entry → Bool
+is_any_dropped wait time None = false
+is_any_dropped wait time (Some entry) = is_dropped wait time entry
 
 -- whether the view shows the name, and forgets it at this time
 abbrev pub forgets : ViewValue → ℕ → List ℕ → Bool
-forgets view time name = is_any_forgotten view.wait time (entry_of view name)
+forgets view time name = is_any_dropped view.wait time (entry_of view name)
 
 -- what was heard about the names that the view does not forget at this time
 abbrev pub about_others : ViewValue → ℕ → List Heard → List Heard

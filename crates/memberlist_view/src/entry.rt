@@ -2,6 +2,7 @@
 
 ghost use Rattle.std.specs.Prelude.{◌≡◌, Some, IfOk};
 ghost use Rattle.std.specs.Option.{option_copied};
+ghost use Rattle.memberlist_view.specs.Member.{is_dropped, is_noted};
 ghost use Rattle.memberlist_view.specs.Rules.{blank, is_gone, has_left, is_forgotten, lacks_place, place_of};
 
 use crate::accusers::Accusers;
@@ -58,6 +59,17 @@ impl State {
             | State::Alive
             | State::Suspect { .. }
             | State::Dead { .. } => false,
+        }
+    }
+
+    /// Whether only its address is known.
+    pub(crate) fn is_noted(&self) -> bool
+        ensures { result ≡ is_noted self.now }
+    {
+        match self {
+            State::Noted => true,
+            State::Seen | State::Alive | State::Suspect { .. } | State::Dead { .. } | State::Left =>
+                false,
         }
     }
 
@@ -143,6 +155,13 @@ impl Entry {
         ensures { result ≡ is_forgotten wait time self.now }
     {
         self.state.is_gone() && wait < time.saturating_sub(self.since)
+    }
+
+    /// Whether a member that forgets drops it.
+    pub(crate) fn is_dropped(&self, wait: u64, time: u64) -> bool
+        ensures { result ≡ is_dropped wait time self.now }
+    {
+        self.is_forgotten(wait, time) || self.state.is_noted()
     }
 
     /// Whether neither an Alive nor a packet gave an address.

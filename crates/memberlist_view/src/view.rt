@@ -4,8 +4,8 @@ ghost use Rattle.std.specs.Prelude.{◌≡◌, ◌↔◌, ◌+◌, ◌<◌, ◌^
 ghost use Rattle.std.specs.BTreeMap.{insert_entry};
 ghost use Rattle.std.specs.Option.{option_copied, option_map};
 ghost use Rattle.memberlist_view.specs.declared.heard.Heard.{Heard};
-ghost use Rattle.memberlist_view.specs.Member.{about_others, entries_above, heeded, member_event_of, member_view_after, view_without_forgotten};
-ghost use Rattle.memberlist_view.specs.Rules.{name_cmp, is_forgotten};
+ghost use Rattle.memberlist_view.specs.Member.{about_others, entries_above, heeded, is_dropped, is_known, member_event_of, member_view_after, view_without_dropped};
+ghost use Rattle.memberlist_view.specs.Rules.{name_cmp};
 ghost use Rattle.memberlist_view.specs.Told.{entry_of, change_of, event_of, view_after, IsViewOf};
 
 use crate::change::change;
@@ -70,8 +70,8 @@ impl View {
     }
 
     /// Adds what was heard as a member of the cluster does, and returns what changed: a member knows
-    /// a name by an Alive, and passes over what else is said about a name that it does not know.
-    /// `None` if nothing changed, and then it takes no memory.
+    /// a name by an Alive that it believed, and passes over what else is said about a name that it
+    /// does not know. `None` if nothing changed, and then it takes no memory.
     ///
     /// # Errors
     ///
@@ -85,10 +85,20 @@ impl View {
         ensures err { OnErr result (self.new ≡ self.old) }
         ensures asks { OnErr result (IsSome (member_event_of self.old heard.now)) }
     {
-        if heard.said.is_alive() || self.get(heard.said.name()).is_some() {
+        if heard.said.is_alive() || self.knows(heard.said.name()) {
             self.hear(heard)
         } else {
             Ok(None)
+        }
+    }
+
+    /// Whether an Alive of the name was believed.
+    fn knows(&self, name: &MemberName) -> bool
+        ensures { result ≡ is_known (entry_of self.now name.now) }
+    {
+        match self.get(name) {
+            Some(entry) => !entry.state.is_noted(),
+            None => false,
         }
     }
 
@@ -122,10 +132,11 @@ impl View {
     }
 
     /// Forgets the members that have been dead, or have left, for longer than the wait at this time,
-    /// in microseconds since the start of 1970, and returns how many these are (`resetNodes`). What
-    /// is left is the view of what was heard about the other names. It takes no memory.
+    /// in microseconds since the start of 1970, and those that are only noted, and returns how many
+    /// these are (`resetNodes`). What is left is the view of what was heard about the other names.
+    /// It takes no memory.
     pub fn forget(&mut self, time: u64) -> usize
-        ensures forgets { self.new ≡ view_without_forgotten self.old time }
+        ensures forgets { self.new ≡ view_without_dropped self.old time }
         ensures count { result + length self.new.entries ≡ length self.old.entries }
         ensures view { (past : List Heard) → IsViewOf self.old past
             → IsViewOf self.new (about_others self.old time past) }
@@ -134,9 +145,9 @@ impl View {
         let before = self.entries.len();
         self.entries.retain(
             |_: &MemberName, entry: &mut Entry| -> bool
-                ensures kept { result ≡ not (is_forgotten wait time entry.old) }
+                ensures kept { result ≡ not (is_dropped wait time entry.old) }
                 ensures same { entry.new ≡ entry.old }
-            { !entry.is_forgotten(wait, time) },
+            { !entry.is_dropped(wait, time) },
         );
         before - self.entries.len()
     }

@@ -1,7 +1,7 @@
 //! Views: the members as memberlist shows them, with times, events and accusers.
 
 ghost use Rattle.std.specs.Prelude.{◌≡◌, ◌+◌, length, None, Some, MatchOption};
-ghost use Rattle.memberlist_view.specs.Member.{view_without_forgotten};
+ghost use Rattle.memberlist_view.specs.Member.{view_without_dropped};
 ghost use Rattle.swim_c.specs.declared.view.held.HeldView.{HeldView};
 ghost use Rattle.swim_c.specs.Views.{MessageTold, OnSameView, OnView, RecordTold, ViewOpened};
 ghost use Rattle.swim_c.specs.ViewMembers.{AccuserDone, AfterDone, FindDone, ViewOffered};
@@ -127,11 +127,11 @@ pub extern "C" fn swimtab_raw_view_merge(
 }
 
 /// Forgets the members that at this time have been dead, or have left, for longer than the wait,
-/// and returns how many these are; 0 if the handle has no view.
+/// and those that are only noted, and returns how many these are; 0 if the handle has no view.
 #[unsafe(no_mangle)]
 pub extern "C" fn swimtab_raw_view_forget(alloc: Global, view: &mut ViewHandle, time: u64) -> usize
     ensures { OnView view.old.view view.new.view (result ≡ 0)
-        (λ before after. (after ≡ view_without_forgotten before time)
+        (λ before after. (after ≡ view_without_dropped before time)
         × (result + length after.entries ≡ length before.entries)) }
 {
     match view.take(alloc) {
