@@ -91,6 +91,20 @@ static void packets_cost(swimtab_node *node, const struct packet *packets, const
     printf("    that raises it, in random order      %8.0f ns\n", take_all(node, higher, order, count));
 }
 
+static void others_cost(const struct packet *packets, const unsigned *order, unsigned count) {
+    swimtab_node node = member("listener", 1, 0);
+    swimtab_view view = SWIMTAB_VIEW_INIT;
+    WANT(swimtab_watch(&node, true) == 0 && swimtab_view_open(&view, 30000000) == 0);
+    printf("    of a new name, which is noted        %8.0f ns\n", take_all(&node, packets, order, count));
+    printf("    of a known name, which stays noted   %8.0f ns\n", least_of_all(&node, packets, order, count));
+    double since = now();
+    for (unsigned i = 0; i < count; i++)
+        WANT(swimtab_view_take(&view, i, packets[order[i]].bytes, packets[order[i]].len, NULL).status == 0);
+    printf("    of a new name, told to a view        %8.0f ns\n", (now() - since) / count);
+    swimtab_view_close(&view);
+    swimtab_close(&node);
+}
+
 static void looks_cost(swimtab_node *node, const unsigned *order, unsigned count) {
     static swimtab_member_data member;
     double best_count = 1e18, best_member = 1e18, best_find = 1e18;
@@ -162,6 +176,7 @@ int main(int argc, char **argv) {
     swimtab_node node = member("listener", 1, 0);
     printf("%u names\n", count);
     packets_cost(&node, packets, higher, order, ascending, count);
+    others_cost(packets, order, count);
     looks_cost(&node, order, count);
     streams_cost(&node);
     swimtab_close(&node);
