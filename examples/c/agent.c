@@ -1,370 +1,250 @@
-/* agent: a small member of a memberlist cluster over libswimtab: it answers and sends pings, suspects and declares
- * dead, gossips, exchanges tables, refutes, and changes keys.
- *
- *     agent NAME ADDRESS PORT [ADDRESS PORT]
- *
- * The second address is that of a member to join. It prints each change as `NAME STATE ADDRESS:PORT`, and reads
- * commands from standard input: `list`, `add HEX`, `use HEX`, `remove HEX` for keys, and `leave`, which ends it.
- */
-#define _GNU_SOURCE
+/* agent NAME ADDRESS PORT [ADDRESS PORT]..: a whole member of a memberlist cluster over libswimtab, in one thread.
+ * The other addresses are seeds, which it joins, and dials again while it is alone. It prints each event as `NAME EVENT
+ * STATE INCARNATION ADDRESS:PORT [BY]`. It reads commands: `list` prints `NAME STATE INCARNATION ADDRESS:PORT` for each
+ * member, and a line `.`; `add HEX`, `use HEX`, `remove HEX` are for keys; `leave`, or the end of the input, ends it.
+ * Its times are those of memberlist in a local network; -DSECOND=250000 makes them four times as short. If AGENT_SERF
+ * is in its environment, its versions are those of Serf's agents. */
+#define _GNU_SOURCE 1
 #include <arpa/inet.h>
 #include <poll.h>
 #include <stdio.h>
 #include <stdlib.h>
 #include <string.h>
 #include <swimtab.h>
-#include <sys/random.h>
 #include <time.h>
 #include <unistd.h>
-
-enum { INTERVAL = 1000, PATIENCE = 500, GOSSIP = 200, EXCHANGE = 10000, SUSPICION = 5000, DEATH = 30000 };
-enum { RELAYS = 3, SENDS = 8, NEWS = 64, TIMERS = 256, ROOM = 65536, PAYLOAD = 1400, STREAM = 1 << 24 };
-
-static const char *const STATES[] = {"alive", "suspect", "dead", "left"};
-
-typedef struct { uint8_t name[1024]; size_t name_len; uint32_t state, inc; int64_t due; } timer;
-typedef struct { uint8_t bytes[SWIMTAB_MAX_PACKET_LEN]; size_t len; int sends; } piece;
-typedef struct { uint32_t seq, asked; int64_t until; struct sockaddr_in to; } relay;
-
-static swimtab_node node = SWIMTAB_NODE_INIT;
+#ifndef SECOND
+#define SECOND 1000000 /* microseconds */
+#endif
+#define NAME(of) (of)->name, (of)->name_len
+enum { GOSSIP = SECOND / 5, PATIENCE = SECOND / 2, SUSPICION = 4 * SECOND, EXCHANGE = 10 * SECOND, DEAD = 30 * SECOND };
+enum { OTHERS = 3, ROUNDS = 3, NEWS = 256, RELAYS = 64, CALLS = 16, CLAIMS = 1280, LEN = SWIMTAB_MAX_PACKET_LEN };
+typedef swimtab_view_data member; typedef struct sockaddr_in place;
+typedef struct { uint32_t seq, asked; uint64_t due; place to; } relay;
+typedef struct { int fd; bool is_own; uint64_t until; size_t got, len, sent; uint8_t in[1 << 21], out[1 << 21]; } call;
+static const char *const STATES[] = {"alive", "suspect", "dead", "left", "noted"};
+static const char *const EVENTS[] = {"", "joined ", "known ", "back ", "updated ", "renewed ", "refuted ", "suspected ",
+                                     "also-suspected ", "dead ", "left ", "conflict "};
+static swimtab_view view = SWIMTAB_VIEW_INIT;
 static swimtab_keyring keys = SWIMTAB_KEYRING_INIT;
 static swimtab_details me = SWIMTAB_DETAILS_INIT;
-static struct sockaddr_in own;
+static swimtab_buffer message = SWIMTAB_BUFFER_INIT, offer = SWIMTAB_BUFFER_INIT;
+static member heard, probed, peer;                   /* who changed last, is probed, and exchanges tables */
+static bool is_acked = true;                         /* whether the one that is probed has answered, or there is none */
+static uint32_t probe_seq, sequence;                 /* the number of its ping, and that of the last ping */
+static struct { member of; int rounds; } news[NEWS]; /* what is gossiped, and in how many more rounds */
+static relay relays[RELAYS];                         /* pings for others, and when a nack is due */
+static call calls[CALLS];                            /* connections; `fd` is 0 where there is none */
+static uint8_t made[6 + 2 * LEN];                    /* what was written last, or tried: then its length is 0 */
+static uint64_t now, gossip_at, probe_at, exchange_at;
 static int udp, tcp;
-static timer timers[TIMERS]; /* what is done about a member that is suspected or gone, and when */
-static piece news[NEWS];     /* what is still gossiped */
-static relay relays[NEWS];   /* pings for others */
-/* the member that is pinged in this interval */
-static swimtab_member_data probed;
-static uint32_t sequence, probe_seq;
-static bool is_probing, is_acked;
 
-static int64_t now(void) {
-    struct timespec at;
-    clock_gettime(CLOCK_MONOTONIC, &at);
-    return (int64_t)at.tv_sec * 1000 + at.tv_nsec / 1000000;
+static bool is_same(const void *a, size_t n, const void *b, size_t m) { return n == m && !memcmp(a, b, n); }
+static place parsed(char **of) { return (place){AF_INET, htons((uint16_t)atoi(of[1])), {inet_addr(of[0])}, {0}}; }
+static place at(const uint8_t *addr, uint16_t port) {
+    place to = {.sin_family = AF_INET, .sin_port = htons(port)};
+    return memcpy(&to.sin_addr, addr, 4), to;
+}
+static swimtab_details details_of(const member *m) {
+    return (swimtab_details){sizeof(swimtab_details), NAME(m), m->addr, m->addr_len, m->meta, m->meta_len, m->vsn,
+                             m->vsn_len, m->inc, m->port};
+}
+static void show(member m, const char *event) { /* with a ? for each byte of a name that would break the line */
+    char addr[INET6_ADDRSTRLEN] = "";
+    for (size_t i = 0; i < sizeof m.name; i++)
+        m.name[i] = m.name[i] > ' ' ? m.name[i] : '?', m.by[i] = m.by[i] > ' ' ? m.by[i] : '?';
+    inet_ntop(m.addr_len == 4 ? AF_INET : AF_INET6, m.addr, addr, sizeof addr);
+    printf("%.*s %s%s %u %s:%u", m.name_len, (char *)m.name, event, STATES[m.state], m.inc, addr, m.port);
+    printf(*event && m.by_len ? " %.*s\n" : "\n", m.by_len, (char *)m.by);
 }
 
-static struct sockaddr_in at(const uint8_t *addr, uint16_t port) {
-    struct sockaddr_in to = {.sin_family = AF_INET, .sin_port = htons(port)};
-    memcpy(&to.sin_addr, addr, 4);
-    return to;
+static bool next(member *m) { /* goes on to the next name; a walk begins with an empty one */
+    member last = *m;
+    return swimtab_view_after(&view, NAME(&last), m) == SWIMTAB_DONE;
+}
+static bool go_on(member *m, uint32_t worst) { /* to another member in this state or a better one, round and round */
+    for (size_t left = swimtab_view_count(&view) + 1; left > 0; left--)
+        if (!next(m)) m->name_len = 0;
+        else if (m->state <= worst && m->addr_len == 4 && !is_same(NAME(m), NAME(&me))) return true;
+    return m->name_len = 0, false;
 }
 
-/* writes a message as the cluster sends it; `stream` and `reply` as in swimtab_seal_stream */
-static swimtab_buffer sealed(bool stream, bool reply, const void *bytes, size_t len, uint8_t *out, size_t room) {
-    uint8_t nonce[SWIMTAB_NONCE_LEN];
-    swimtab_buffer made = SWIMTAB_BUFFER_INIT;
-    if (getrandom(nonce, sizeof nonce, 0) != sizeof nonce) return made;
-    swimtab_written written = stream ? swimtab_seal_stream(&keys, nonce, NULL, 0, reply, bytes, len, out, room)
-                                     : swimtab_seal(&keys, nonce, NULL, 0, bytes, len, out, room);
-    if (written.status == SWIMTAB_DONE) made.at = out, made.len = written.len;
-    return made;
+static void post(call *c, place to, const void *what, size_t len) { /* over a connection, or in a packet */
+    uint8_t nonce[SWIMTAB_NONCE_LEN], packet[3 * LEN];
+    if (len == 0 || (c && c->len) || getentropy(nonce, sizeof nonce)) return;
+    swimtab_written w = c ? swimtab_seal_stream(&keys, nonce, NULL, 0, !c->is_own, what, len, c->out, sizeof c->out)
+                          : swimtab_seal(&keys, nonce, NULL, 0, what, len, packet, sizeof packet);
+    if (w.status == SWIMTAB_DONE && c) c->len = w.len;
+    if (w.status == SWIMTAB_DONE && !c) sendto(udp, packet, w.len, 0, (struct sockaddr *)&to, sizeof to);
+}
+static void post_to_some(uint32_t worst, bool to_ask, const void *what, size_t len) { /* they take turns */
+    static member turn;
+    for (size_t left = OTHERS, i = swimtab_view_count(&view); left > 0 && i > 1 && go_on(&turn, worst); i--)
+        if (!to_ask || !is_same(NAME(&turn), NAME(&probed))) post(NULL, at(turn.addr, turn.port), what, len), left--;
 }
 
-static void send_packet(struct sockaddr_in to, const void *bytes, swimtab_written written) {
-    uint8_t payload[ROOM];
-    if (written.status != SWIMTAB_DONE) return;
-    swimtab_buffer made = sealed(false, false, bytes, written.len, payload, sizeof payload);
-    if (made.len > 0) sendto(udp, made.at, made.len, 0, (struct sockaddr *)&to, sizeof to);
-}
-
-/* ------------------------------------------------------------------ the table */
-
-static void gossip_later(const void *bytes, size_t len) {
-    int worn = 0; /* the place of what was sent most often */
-    if (len > SWIMTAB_MAX_PACKET_LEN) return;
-    for (int i = 1; i < NEWS; i++) worn = news[i].sends < news[worn].sends ? i : worn;
-    memcpy(news[worn].bytes, bytes, len);
-    news[worn].len = len, news[worn].sends = SENDS;
-}
-
-static void take(const void *bytes, size_t len) {
-    if (swimtab_take(&node, bytes, len).news) gossip_later(bytes, len);
-}
-
-static void say(const void *bytes, swimtab_written written) {
-    if (written.status == SWIMTAB_DONE) take(bytes, written.len);
-}
-
-static void refute(void) {
-    uint8_t packet[SWIMTAB_MAX_PACKET_LEN];
-    swimtab_refuted refuted = swimtab_refute(&node);
-    if (!refuted.due) return;
-    swimtab_written written = swimtab_alive(&node, refuted.inc, packet, sizeof packet);
-    if (written.status == SWIMTAB_DONE) gossip_later(packet, written.len);
-}
-
-static void show(const swimtab_member_data *member) {
-    char addr[INET_ADDRSTRLEN] = "-";
-    if (member->addr_len == 4) inet_ntop(AF_INET, member->addr, addr, sizeof addr);
-    printf("%.*s %s %s:%u\n", (int)member->name_len, (const char *)member->name, STATES[member->state], addr, member->port);
-}
-
-/* starts or stops what is to be done about a member later */
-static void set_timer(const swimtab_member_data *member) {
-    timer *free = NULL;
-    for (timer *each = timers; each < timers + TIMERS; each++) {
-        if (each->due && each->name_len == member->name_len && !memcmp(each->name, member->name, member->name_len)) {
-            if (each->state == member->state && each->inc == member->inc) return;
-            each->due = 0;
-        }
-        if (!each->due) free = each;
-    }
-    if (member->state == SWIMTAB_ALIVE || !free) return;
-    memcpy(free->name, member->name, member->name_len);
-    free->name_len = member->name_len, free->state = member->state, free->inc = member->inc;
-    free->due = now() + (member->state == SWIMTAB_SUSPECT ? SUSPICION : DEATH);
-}
-
-static void run_timers(void) {
-    uint8_t packet[SWIMTAB_MAX_PACKET_LEN];
-    for (timer *each = timers; each < timers + TIMERS; each++) {
-        if (!each->due || each->due > now()) continue;
-        each->due = 0;
-        if (each->state == SWIMTAB_SUSPECT)
-            say(packet, swimtab_confirm(&node, each->name, each->name_len, each->inc, packet, sizeof packet));
-        else
-            swimtab_forget(&node, each->name, each->name_len);
+static void on_event(uint32_t event) {
+    static size_t turn;
+    if (event != SWIMTAB_NO_EVENT) show(heard, EVENTS[event]);
+    if (event == SWIMTAB_NO_EVENT || event == SWIMTAB_CONFLICT || heard.state == SWIMTAB_NOTED) return;
+    if (is_same(NAME(&heard), NAME(&me)) && (heard.state != SWIMTAB_ALIVE || heard.inc != me.inc)) { /* it refutes */
+        me.inc = heard.inc + (heard.inc < UINT32_MAX);
+        on_event(swimtab_view_take(&view, now, made, swimtab_alive_of(&me, made, LEN).len, &heard).event);
+    } else if (event != SWIMTAB_ALSO_SUSPECTED || heard.accusers <= OTHERS) {
+        news[turn].of = heard, news[turn].rounds = ROUNDS, turn = (turn + 1) % NEWS;
     }
 }
-
-static void show_changes(void) {
-    swimtab_member_data member;
-    refute();
-    while (swimtab_next_change(&node, &member) == SWIMTAB_DONE) {
-        if (member.came_back && swimtab_readmit(&node, member.name, member.name_len) == SWIMTAB_DONE)
-            swimtab_find(&node, member.name, member.name_len, &member);
-        set_timer(&member);
-        show(&member);
+static void take(const void *claim, size_t len) { on_event(swimtab_view_take(&view, now, claim, len, &heard).event); }
+static void judge(void) { /* declares dead who was suspected for 24 seconds, 11 by two members, or 4 by three */
+    for (member each = {0}; next(&each);) {
+        uint64_t parts = swimtab_view_count(&view) < 4 || each.accusers > 2 ? 0 : each.accusers == 2 ? 369 : 1000;
+        if (each.state == SWIMTAB_SUSPECT && now >= each.since + SUSPICION + 5 * SUSPICION * parts / 1000)
+            take(made, swimtab_dead_of(NAME(&me), NAME(&each), each.inc, made, LEN).len);
     }
-    fflush(stdout);
+    swimtab_view_forget(&view, now);
 }
 
-/* the next member after a name that is not this one and can be reached; it goes around once */
-static bool next_member(swimtab_member_data *member) {
-    for (size_t left = swimtab_count(&node) + 1; left > 0; left--) {
-        if (swimtab_after(&node, member->name, member->name_len, member) != SWIMTAB_DONE) member->name_len = 0;
-        else if (member->state < SWIMTAB_CONFIRM && member->addr_len == 4 &&
-                 (member->name_len != me.name_len || memcmp(member->name, me.name, me.name_len))) return true;
-    }
-    return false;
+static swimtab_written claim_of(const member *m, uint8_t *out, size_t len) { /* what the view shows of a member */
+    swimtab_details of = details_of(m), by = m->state == SWIMTAB_LEAVE ? of : me; /* or this one, if nobody is named */
+    if (m->by_len > 0) by.name = m->by, by.name_len = m->by_len;
+    if (m->state == SWIMTAB_ALIVE) return swimtab_alive_of(&of, out, len);
+    if (m->state == SWIMTAB_SUSPECT) return swimtab_suspect_of(NAME(&by), NAME(m), m->inc, out, len);
+    return swimtab_dead_of(NAME(&by), NAME(m), m->inc, out, len);
 }
-
-static bool any_member(swimtab_member_data *member) {
-    size_t count = swimtab_count(&node);
-    member->name_len = 0;
-    if (count > 0) swimtab_member(&node, (size_t)rand() % count, member);
-    return next_member(member);
-}
-
-/* ------------------------------------------------------------------ packets */
-
-static void on_probe(const swimtab_probe *probe, struct sockaddr_in from) {
-    uint8_t packet[SWIMTAB_MAX_PACKET_LEN];
-    if (probe->kind == SWIMTAB_KIND_PING) {
-        if (probe->node_len && (probe->node_len != me.name_len || memcmp(probe->node, me.name, me.name_len))) return;
-        send_packet(from, packet, swimtab_ack_of(probe->seq, NULL, 0, packet, sizeof packet));
-    } else if (probe->kind == SWIMTAB_KIND_INDIRECT && probe->addr_len == 4) {
-        relay *each = &relays[++sequence % NEWS];
-        *each = (relay){sequence, probe->seq, now() + PATIENCE, from};
-        send_packet(at(probe->addr, probe->port), packet,
-                    swimtab_ping_of(sequence, probe->node, probe->node_len, &me, packet, sizeof packet));
-    } else if (probe->kind == SWIMTAB_KIND_ACK) {
-        is_acked |= is_probing && probe->seq == probe_seq;
-        relay *each = &relays[probe->seq % NEWS];
-        if (each->seq == probe->seq && each->until > now())
-            send_packet(each->to, packet, swimtab_ack_of(each->asked, NULL, 0, packet, sizeof packet));
-    }
-}
-
-static void on_packet(void) {
-    static uint8_t payload[ROOM], message[ROOM];
-    struct sockaddr_in from;
-    socklen_t from_len = sizeof from;
-    swimtab_probe probe;
-    swimtab_part_place part;
-    ssize_t len = recvfrom(udp, payload, sizeof payload, 0, (struct sockaddr *)&from, &from_len);
-    if (len < 0) return;
-    swimtab_unwrapped unwrapped = swimtab_unwrap(&keys, payload, (size_t)len, message, sizeof message);
-    if (unwrapped.status != SWIMTAB_DONE) return;
-    for (size_t i = 0; (part = swimtab_part(message, unwrapped.len, i)).status == SWIMTAB_DONE; i++)
-        if (swimtab_read(message + part.at, part.len, &probe) == SWIMTAB_DONE) on_probe(&probe, from);
-        else take(message + part.at, part.len);
-}
-
 static void gossip(void) {
-    uint8_t packets[PAYLOAD], packet[ROOM];
+    uint8_t all[CLAIMS], out[2 * CLAIMS];
     size_t lens[NEWS], count = 0, len = 0;
-    for (piece *each = news; each < news + NEWS; each++) {
-        if (each->sends <= 0 || len + each->len > sizeof packets) continue;
-        memcpy(packets + len, each->bytes, each->len);
-        len += lens[count++] = each->len, each->sends--;
+    for (size_t i = 0; i < NEWS; i++) {
+        swimtab_written w = claim_of(&news[i].of, all + len, CLAIMS - len);
+        if (news[i].rounds > 0 && w.status == SWIMTAB_DONE) len += lens[count++] = w.len, news[i].rounds--;
     }
-    swimtab_member_data member;
-    for (int i = 0; i < RELAYS && count > 0 && any_member(&member); i++)
-        send_packet(at(member.addr, member.port), packet, swimtab_compound(packets, len, lens, count, packet, sizeof packet));
+    if (count) post_to_some(SWIMTAB_CONFIRM, false, out, swimtab_compound(all, len, lens, count, out, sizeof out).len);
 }
 
-/* ------------------------------------------------------------------ probes */
-
-static void begin_probe(void) {
-    uint8_t packet[SWIMTAB_MAX_PACKET_LEN];
-    is_acked = false, is_probing = next_member(&probed), probe_seq = ++sequence;
-    if (is_probing)
-        send_packet(at(probed.addr, probed.port), packet,
-                    swimtab_ping_of(probe_seq, probed.name, probed.name_len, &me, packet, sizeof packet));
-}
-
-static void ask_others(void) {
-    uint8_t packet[SWIMTAB_MAX_PACKET_LEN];
-    swimtab_member_data other;
-    swimtab_details target = SWIMTAB_DETAILS_INIT;
-    target.name = probed.name, target.name_len = probed.name_len;
-    target.addr = probed.addr, target.addr_len = probed.addr_len, target.port = probed.port;
-    for (int i = 0; i < RELAYS && is_probing && !is_acked && any_member(&other); i++)
-        send_packet(at(other.addr, other.port), packet,
-                    swimtab_indirect_of(probe_seq, &target, false, &me, packet, sizeof packet));
-}
-
-static void end_probe(void) {
-    uint8_t packet[SWIMTAB_MAX_PACKET_LEN];
-    swimtab_member_data member;
-    if (!is_probing || is_acked || swimtab_find(&node, probed.name, probed.name_len, &member) != SWIMTAB_DONE) return;
-    if (member.state == SWIMTAB_ALIVE)
-        say(packet, swimtab_suspect(&node, member.name, member.name_len, member.inc, packet, sizeof packet));
-}
-
-/* ------------------------------------------------------------------ streams */
-
-static void send_stream(int connection, bool reply, const void *bytes, size_t len) {
-    uint8_t *out = malloc(len + 1024);
-    if (!out) return;
-    swimtab_buffer made = sealed(true, reply, bytes, len, out, len + 1024);
-    for (size_t sent = 0; sent < made.len;) {
-        ssize_t more = send(connection, made.at + sent, made.len - sent, MSG_NOSIGNAL);
-        if (more <= 0) break;
-        sent += (size_t)more;
+static bool on_probe(call *c, place from, const void *what, size_t len) { /* whether it is a ping or an answer */
+    swimtab_probe p;
+    if (swimtab_read(what, len, &p) != SWIMTAB_DONE) return false;
+    relay *r = &relays[p.seq % RELAYS];
+    if (p.source_addr_len == 4 && p.source_port) from = at(p.source_addr, p.source_port);
+    if (p.kind == SWIMTAB_KIND_PING && (p.node_len == 0 || is_same(p.node, p.node_len, NAME(&me)))) {
+        post(c, from, made, swimtab_ack_of(p.seq, NULL, 0, made, LEN).len);
+    } else if (p.kind == SWIMTAB_KIND_INDIRECT && p.addr_len == 4) {
+        sequence++, relays[sequence % RELAYS] = (relay){sequence, p.seq, p.nack ? now + PATIENCE : 0, from};
+        post(NULL, at(p.addr, p.port), made, swimtab_ping_of(sequence, p.node, p.node_len, &me, made, LEN).len);
+    } else if (p.kind == SWIMTAB_KIND_ACK) {
+        is_acked |= p.seq == probe_seq;
+        if (p.seq == r->seq) post(NULL, r->to, made, swimtab_ack_of(r->asked, NULL, 0, made, LEN).len), r->due = 0;
     }
-    free(out);
+    return true;
+}
+static bool on_packet(void) {
+    static uint8_t packet[1 << 16], parts[1 << 16];
+    place from = {0};
+    swimtab_part_place part;
+    ssize_t len = recvfrom(udp, packet, sizeof packet, MSG_DONTWAIT, (void *)&from, &(socklen_t){sizeof from});
+    swimtab_unwrapped got = swimtab_unwrap(&keys, packet, len < 0 ? 0 : (size_t)len, parts, sizeof parts);
+    for (size_t i = 0; !got.status && (part = swimtab_part(parts, got.len, i)).status == SWIMTAB_DONE; i++)
+        if (!on_probe(NULL, from, parts + part.at, part.len)) take(parts + part.at, part.len);
+    return len >= 0;
 }
 
-/* reads the message that the other side sends, which is then in the buffer; false if none comes */
-static bool receive(int connection, swimtab_buffer *message, uint32_t *kind) {
-    static uint8_t bytes[STREAM];
-    size_t len = 0;
-    while (len < sizeof bytes) {
-        ssize_t more = recv(connection, bytes + len, sizeof bytes - len, 0);
-        if (more <= 0) return false;
-        len += (size_t)more;
-        swimtab_unwrapped unwrapped = swimtab_unwrap_stream_new(&keys, NULL, 0, bytes, len, message);
-        if (unwrapped.status != SWIMTAB_DONE && unwrapped.status != SWIMTAB_ENDED) return false;
-        swimtab_progress progress = SWIMTAB_PROGRESS_INIT;
-        *kind = unwrapped.kind;
-        if (unwrapped.status == SWIMTAB_DONE &&
-            (*kind != SWIMTAB_KIND_PUSH_PULL || swimtab_whole(&progress, message->at, message->len) != SWIMTAB_ENDED)) return true;
+static void begin(place to, const void *what, size_t len) { /* a connection; if there is nothing to say, a caller's */
+    call *c = calls;
+    int fd = what ? socket(AF_INET, SOCK_STREAM | SOCK_NONBLOCK, 0) : accept4(tcp, NULL, NULL, SOCK_NONBLOCK);
+    while (c < calls + CALLS - 1 && c->fd) c++;
+    if (fd < 0 || c->fd) { close(fd); return; }
+    c->fd = fd, c->is_own = what, c->until = now + 10 * PATIENCE, c->got = c->len = c->sent = 0;
+    if (what) connect(fd, (struct sockaddr *)&to, sizeof to), post(c, to, what, len);
+}
+static bool serve(call *c) { /* sends or reads some bytes; returns whether there is more to send or to read */
+    swimtab_progress whole = SWIMTAB_PROGRESS_INIT, progress = SWIMTAB_PROGRESS_INIT;
+    bool sends = c->sent < c->len;
+    ssize_t more = sends ? send(c->fd, c->out + c->sent, c->len - c->sent, MSG_NOSIGNAL)
+                         : recv(c->fd, c->in + c->got, sizeof c->in - c->got, 0);
+    if (more <= 0) return false;
+    if (sends) return c->sent += (size_t)more, c->is_own || c->sent < c->len;
+    swimtab_status status = swimtab_unwrap_stream_new(&keys, NULL, 0, c->in, c->got += (size_t)more, &message).status;
+    bool is_table = status == SWIMTAB_DONE && !on_probe(c, (place){0}, message.at, message.len);
+    if (is_table && (status = swimtab_whole(&whole, message.at, message.len)) == SWIMTAB_DONE) {
+        if (!c->is_own && !swimtab_view_offer(&view, false, NULL, 0, &offer)) post(c, (place){0}, offer.at, offer.len);
+        for (swimtab_told told = {SWIMTAB_DONE, SWIMTAB_NO_EVENT}; told.status == SWIMTAB_DONE; on_event(told.event))
+            told = swimtab_view_merge(&view, now, &progress, message.at, message.len, &heard);
     }
-    return false;
+    return status == SWIMTAB_ENDED || c->sent < c->len;
 }
 
-static int with_patience(int connection) {
-    struct timeval patience = {1, 0};
-    setsockopt(connection, SOL_SOCKET, SO_RCVTIMEO, &patience, sizeof patience);
-    setsockopt(connection, SOL_SOCKET, SO_SNDTIMEO, &patience, sizeof patience);
-    return connection;
-}
-
-static void exchange(struct sockaddr_in to, bool join) {
-    swimtab_buffer offer = SWIMTAB_BUFFER_INIT, reply = SWIMTAB_BUFFER_INIT;
-    uint32_t kind;
-    int connection = with_patience(socket(AF_INET, SOCK_STREAM, 0));
-    if (connect(connection, (struct sockaddr *)&to, sizeof to) == 0 &&
-        swimtab_offer_new(&node, join, SWIMTAB_MEMBERLIST, NULL, 0, &offer) == SWIMTAB_DONE) {
-        send_stream(connection, false, offer.at, offer.len);
-        if (receive(connection, &reply, &kind)) swimtab_finish(&node, reply.at, reply.len);
+static void probe(void) { /* each half second: goes on to the next member, or asks others if it has not answered */
+    static bool asks = true;
+    if (!(asks = !asks)) {
+        if (!is_acked) take(made, swimtab_suspect_of(NAME(&me), NAME(&probed), probed.inc, made, LEN).len);
+        is_acked = !go_on(&probed, SWIMTAB_SUSPECT), probe_seq = ++sequence;
     }
-    swimtab_free(&offer), swimtab_free(&reply);
-    close(connection);
-}
-
-static void on_connection(void) {
-    swimtab_buffer message = SWIMTAB_BUFFER_INIT, reply = SWIMTAB_BUFFER_INIT;
-    uint8_t ack[64];
-    uint32_t kind;
-    swimtab_probe probe;
-    int connection = with_patience(accept(tcp, NULL, NULL));
-    if (connection >= 0 && receive(connection, &message, &kind)) {
-        if (kind == SWIMTAB_KIND_PUSH_PULL &&
-            swimtab_answer_new(&node, message.at, message.len, SWIMTAB_MEMBERLIST, NULL, 0, &reply).status == SWIMTAB_DONE)
-            send_stream(connection, true, reply.at, reply.len);
-        else if (swimtab_read(message.at, message.len, &probe) == SWIMTAB_DONE && probe.kind == SWIMTAB_KIND_PING)
-            send_stream(connection, true, ack, swimtab_ack_of(probe.seq, NULL, 0, ack, sizeof ack).len);
+    if (is_acked) return;
+    swimtab_details of = details_of(&probed);
+    uint16_t len = (uint16_t)swimtab_ping_of(probe_seq, NAME(&of), &me, made + 6, LEN).len, more;
+    if (asks) {
+        begin(at(probed.addr, probed.port), made + 6, len);
+        post_to_some(SWIMTAB_ALIVE, true, made, swimtab_indirect_of(probe_seq, &of, false, &me, made, LEN).len);
+    } else if (probed.state == SWIMTAB_ALIVE) {
+        post(NULL, at(probed.addr, probed.port), made + 6, len);
+    } else { /* a compound message with the suspicion, so that it can refute at once */
+        more = (uint16_t)swimtab_suspect_of(NAME(&me), NAME(&of), of.inc, made + 6 + len, LEN).len;
+        made[0] = SWIMTAB_KIND_COMPOUND, made[1] = 2, memcpy(made + 2, (uint16_t[]){htons(len), htons(more)}, 4);
+        post(NULL, at(probed.addr, probed.port), made, 6u + len + more);
     }
-    swimtab_free(&message), swimtab_free(&reply);
-    if (connection >= 0) close(connection);
 }
 
-/* ------------------------------------------------------------------ commands */
-
-static bool on_command(void) {
-    static char line[256];
-    char word[16] = "", hex[128] = "";
-    uint8_t key[32], packet[SWIMTAB_MAX_PACKET_LEN];
-    size_t len = 0;
-    swimtab_member_data member;
-    if (!fgets(line, sizeof line, stdin)) return false;
-    sscanf(line, "%15s %127s", word, hex);
+static bool on_command(const char *line) { /* returns whether it goes on */
+    uint8_t key[32], held[32];
+    char word[8] = "", hex[65] = "";
+    size_t len = 0, i = 0, count = swimtab_keyring_count(&keys);
+    sscanf(line, "%7s %64[0-9a-fA-F]", word, hex);
     while (len < sizeof key && sscanf(hex + 2 * len, "%2hhx", &key[len]) == 1) len++;
-    if (!strcmp(word, "add")) swimtab_keyring_add(&keys, key, len);
-    for (size_t i = swimtab_keyring_count(&keys); i-- > 0;) {
-        uint8_t held[32];
-        swimtab_written written = swimtab_keyring_key(&keys, i, held, sizeof held);
-        if (written.len != len || memcmp(held, key, len)) continue;
-        if (!strcmp(word, "use")) swimtab_keyring_use(&keys, i);
-        if (!strcmp(word, "remove")) swimtab_keyring_remove(&keys, i);
-    }
-    for (size_t i = 0; !strcmp(word, "list") && swimtab_member(&node, i, &member) == SWIMTAB_DONE; i++) show(&member);
+    while (i < count && !is_same(key, len, held, swimtab_keyring_key(&keys, i, held, sizeof held).len)) i++;
+    if (!strcmp(word, "add") && i == count && strlen(hex) == 2 * len) swimtab_keyring_add(&keys, key, len);
+    if (!strcmp(word, "use")) swimtab_keyring_use(&keys, i);
+    if (!strcmp(word, "remove")) swimtab_keyring_remove(&keys, i);
+    for (member each = {0}; !strcmp(word, "list") && next(&each);) show(each, "");
     if (!strcmp(word, "list")) puts(".");
-    if (strcmp(word, "leave")) return true;
-    if (swimtab_find(&node, me.name, me.name_len, &member) == SWIMTAB_DONE)
-        say(packet, swimtab_leave(&node, member.inc, packet, sizeof packet));
-    for (int i = 0; i < SENDS; i++) gossip(), usleep(GOSSIP * 1000);
-    return false;
+    return strcmp(word, "leave");
 }
 
 int main(int argc, char **argv) {
-    static const uint8_t versions[6] = {1, 5, 2, 0, 0, 0};
-    if (argc != 4 && argc != 6) return fputs("agent: NAME ADDRESS PORT [ADDRESS PORT]\n", stderr), 2;
-    own = (struct sockaddr_in){.sin_family = AF_INET, .sin_port = htons((uint16_t)atoi(argv[3]))};
-    me.name = argv[1], me.name_len = strlen(argv[1]), me.vsn = versions, me.vsn_len = sizeof versions;
-    me.addr = &own.sin_addr, me.addr_len = 4, me.port = ntohs(own.sin_port), me.inc = (uint32_t)time(NULL);
-    udp = socket(AF_INET, SOCK_DGRAM, 0), tcp = socket(AF_INET, SOCK_STREAM, 0);
-    setsockopt(tcp, SOL_SOCKET, SO_REUSEADDR, &(int){1}, sizeof(int));
-    if (inet_pton(AF_INET, argv[2], &own.sin_addr) != 1 || bind(udp, (struct sockaddr *)&own, sizeof own) ||
-        bind(tcp, (struct sockaddr *)&own, sizeof own) || listen(tcp, 16))
+    char line[128];
+    struct timespec time;
+    place own = argc < 4 ? (place){0} : parsed(argv + 2);
+    if (!own.sin_port || argc % 2 || !*argv[1]) return fputs("agent: NAME ADDRESS PORT [ADDRESS PORT]..\n", stderr), 2;
+    me.name = argv[1], me.name_len = strnlen(argv[1], 1024), me.addr = &own.sin_addr, me.addr_len = 4;
+    me.vsn = getenv("AGENT_SERF") ? "\1\5\2\2\5\4" : "\1\5\2\0\0\0", me.vsn_len = 6, me.port = ntohs(own.sin_port);
+    udp = socket(AF_INET, SOCK_DGRAM, 0), tcp = socket(AF_INET, SOCK_STREAM | SOCK_NONBLOCK, 0);
+    if (setsockopt(tcp, SOL_SOCKET, SO_REUSEADDR, &(int){1}, sizeof(int)) || getentropy(&sequence, sizeof sequence) ||
+        bind(udp, (void *)&own, sizeof own) || bind(tcp, (void *)&own, sizeof own) || listen(tcp, CALLS))
         return perror("agent"), 1;
-    if (swimtab_open(&node, &me) || swimtab_watch(&node, true)) return 1;
-    setvbuf(stdin, NULL, _IONBF, 0);
-    struct sockaddr_in first = {.sin_family = AF_INET};
-    if (argc == 6) inet_pton(AF_INET, argv[4], &first.sin_addr), first.sin_port = htons((uint16_t)atoi(argv[5]));
-    int64_t next_probe = now(), next_gossip = now(), next_exchange = now();
-    bool asked = true, goes_on = true;
-    while (goes_on) {
-        struct pollfd from[] = {{udp, POLLIN, 0}, {tcp, POLLIN, 0}, {0, POLLIN, 0}};
-        poll(from, 3, 50);
-        if (from[0].revents) on_packet();
-        if (from[1].revents) on_connection();
-        if (from[2].revents) goes_on = on_command();
-        if (now() >= next_gossip) gossip(), run_timers(), next_gossip = now() + GOSSIP;
-        if (!asked && now() >= next_probe - PATIENCE) ask_others(), asked = true;
-        if (now() >= next_probe) end_probe(), begin_probe(), asked = false, next_probe = now() + INTERVAL;
-        if (now() >= next_exchange) {
-            swimtab_member_data member;
-            bool alone = !any_member(&member);
-            if (!alone || argc == 6) exchange(alone ? first : at(member.addr, member.port), alone);
-            next_exchange = now() + (alone ? INTERVAL : EXCHANGE);
-        }
-        show_changes();
+    setvbuf(stdin, NULL, _IONBF, 0), setvbuf(stdout, NULL, _IOLBF, 0);
+    swimtab_view_open(&view, DEAD), take(made, swimtab_alive_of(&me, made, LEN).len);
+    for (bool goes_on = true; goes_on;) {
+        struct pollfd from[3 + CALLS] = {{udp, POLLIN, 0}, {tcp, POLLIN, 0}, {0, POLLIN, 0}};
+        for (call *c = calls; c < calls + CALLS; c++)
+            from[3 + (c - calls)] = (struct pollfd){c->fd ? c->fd : -1, c->sent < c->len ? POLLOUT : POLLIN, 0};
+        poll(from, 3 + CALLS, 20), clock_gettime(CLOCK_MONOTONIC, &time);
+        now = (uint64_t)time.tv_sec * 1000000 + (uint64_t)time.tv_nsec / 1000;
+        for (int i = 0; i < 1000 && on_packet(); i++) continue;
+        if (from[1].revents) begin(own, NULL, 0);
+        if (from[2].revents) goes_on = fgets(line, sizeof line, stdin) && on_command(line);
+        for (call *c = calls; c < calls + CALLS; c++)
+            if (c->fd && ((from[3 + (c - calls)].revents && !serve(c)) || now >= c->until)) close(c->fd), c->fd = 0;
+        for (relay *r = relays; r < relays + RELAYS; r++)
+            if (r->due && now >= r->due) post(NULL, r->to, made, swimtab_nack_of(r->asked, made, LEN).len), r->due = 0;
+        if (now >= gossip_at) judge(), gossip(), gossip_at = now + GOSSIP;
+        if (now >= probe_at) probe(), probe_at = now + PATIENCE;
+        if (now < exchange_at) continue;
+        bool is_alone = !go_on(&peer, SWIMTAB_ALIVE);
+        exchange_at = now + (is_alone ? SECOND : EXCHANGE);
+        if ((is_alone && argc == 4) || swimtab_view_offer(&view, is_alone, NULL, 0, &offer)) continue;
+        place with = is_alone ? parsed(argv + 4 + 2 * (sequence % (unsigned)(argc / 2 - 2))) : at(peer.addr, peer.port);
+        begin(with, offer.at, offer.len);
     }
-    return swimtab_keyring_close(&keys), swimtab_close(&node), 0;
+    for (size_t i = swimtab_view_count(&view); i > 0; i--)
+        post_to_some(SWIMTAB_CONFIRM, false, made, swimtab_dead_of(NAME(&me), NAME(&me), me.inc, made, LEN).len);
+    return swimtab_free(&offer), swimtab_free(&message), swimtab_keyring_close(&keys), swimtab_view_close(&view), 0;
 }

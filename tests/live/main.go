@@ -3,7 +3,7 @@
 // line for each failed check; the last line is 'N passed, M failed'.
 //
 // run has members that do nothing but what the test does; history has members that probe each other, and that die,
-// leave, are forgotten and come back.
+// leave, are forgotten and come back. With the path of a compiled examples/c/agent.c, lives has it among them.
 package main
 
 import (
@@ -27,11 +27,14 @@ const patience = 20 * time.Second
 
 var (
 	passed, failed int
+	checking       sync.Mutex
 	// the versions that memberlist accepts: the protocol's least, greatest and current version, and the delegate's
 	versions = []byte{1, 5, 2, 0, 0, 0}
 )
 
 func check(what string, ok bool) {
+	checking.Lock()
+	defer checking.Unlock()
 	if ok {
 		passed++
 		return
@@ -610,6 +613,10 @@ func main() {
 	}{{"in the clear", 7946, nil}, {"with a key", 7947, []byte("0123456789abcdef")}} {
 		run(cluster.kind, cluster.port, cluster.key)
 		history(cluster.kind, cluster.port, cluster.key)
+	}
+	if len(os.Args) > 1 {
+		lives("the agent in the clear", 7948, os.Args[1], true)
+		lives("the agent with keys", 7949, os.Args[1], false, "0123456789abcdef", "the new key has thirty-two bytes")
 	}
 	fmt.Printf("%d passed, %d failed\n", passed, failed)
 	if failed > 0 {
