@@ -6,6 +6,7 @@ import (
 	"fmt"
 	"io"
 	"net"
+	"net/netip"
 	"os"
 	"os/exec"
 	"sort"
@@ -168,6 +169,7 @@ func (a *agent) ends(kind string) {
 		check(kind+": the agent ends", !more)
 	case <-time.After(patience):
 		check(kind+": the agent ends", false)
+		a.process.Kill()
 	}
 	state, err := a.process.Wait()
 	check(fmt.Sprintf("%s: the agent ends well: %v, %v", kind, state, err), err == nil && state.Success())
@@ -175,21 +177,25 @@ func (a *agent) ends(kind string) {
 
 // life is a cluster with the agent.
 type life struct {
-	kind    string
-	port    int
-	agent   *agent
-	reader  *member // reads the tables of members of memberlist
-	rings   []*memberlist.Keyring
-	lock    sync.Mutex
-	living  map[string]*memberlist.Memberlist
-	changed time.Time // when the test did something, or a member of memberlist told an event
-	stopped bool      // whether the agent stands still
-	looks   int
+	kind   string
+	port   int
+	agent  *agent
+	reader *member // reads the tables of members of memberlist, and is in nobody's table
+	rings  []*memberlist.Keyring
+	looks  int
+	lock   sync.Mutex
+	living map[string]*memberlist.Memberlist
+	// held while the lists are compared, so that the agent does not come to stand still meanwhile
+	standing sync.Mutex
+	stopped  bool
+	// memberlist tells events while its members are locked, so this has a lock of its own
+	changing sync.Mutex
+	changed  time.Time // when the test did something, or a member of memberlist told an event
 }
 
 func (l *life) changes() {
-	l.lock.Lock()
-	defer l.lock.Unlock()
+	l.changing.Lock()
+	defer l.changing.Unlock()
 	l.changed = time.Now()
 }
 
@@ -214,13 +220,13 @@ type role struct {
 func (r *role) NodeMeta(int) []byte { return []byte(r.meta) }
 
 // begins adds a member of memberlist, which joins the one at this address.
-func (l *life) begins(name string, last int, key, join string) (*memberlist.Memberlist, *heard, *role) {
+func (l *life) begins(name string, last int, key []byte, join string) (*memberlist.Memberlist, *heard, *role) {
 	l.changes()
 	told, role := &heard{life: l}, &role{meta: "role=" + name}
 	list := cluster(name, fmt.Sprintf("127.0.11.%d", last), l.port, nil, scaled, func(config *memberlist.Config) {
 		config.Events, config.Delegate = told, role
-		if key != "" {
-			ring, err := memberlist.NewKeyring(nil, []byte(key))
+		if key != nil {
+			ring, err := memberlist.NewKeyring(nil, key)
 			must(err)
 			config.Keyring = ring
 			l.rings = append(l.rings, ring)
@@ -252,11 +258,10 @@ func (l *life) stops(stopped bool) {
 	if stopped {
 		signal = syscall.SIGSTOP
 	}
-	l.agent.asking.Lock()
-	defer l.agent.asking.Unlock()
-	l.lock.Lock()
-	defer l.lock.Unlock()
-	l.stopped, l.changed = stopped, time.Now()
+	l.standing.Lock()
+	defer l.standing.Unlock()
+	l.changes()
+	l.stopped = stopped
 	must(l.agent.process.Signal(signal))
 }
 
@@ -330,6 +335,21 @@ func (l *life) difference() string {
 	return strings.Join(found, "; ")
 }
 
+// compare returns the difference, when it was looked for, and when the last change before that was. While the agent stands
+// still there is none.
+func (l *life) compare() (difference string, now, changed time.Time) {
+	l.changing.Lock()
+	now, changed = time.Now(), l.changed
+	l.changing.Unlock()
+	l.standing.Lock()
+	defer l.standing.Unlock()
+	if !l.stopped {
+		difference = l.difference()
+		l.looks++
+	}
+	return difference, now, changed
+}
+
 // watch compares the lists until it is done.
 func (l *life) watch(done, ended chan bool) {
 	var since time.Time // when they began to differ
@@ -341,14 +361,7 @@ func (l *life) watch(done, ended chan bool) {
 			return
 		case <-time.After(look):
 		}
-		l.lock.Lock()
-		now, stopped, changed := time.Now(), l.stopped, l.changed
-		l.lock.Unlock()
-		difference := ""
-		if !stopped {
-			difference = l.difference()
-			l.looks++
-		}
+		difference, now, changed := l.compare()
 		if difference == "" {
 			since, told = time.Time{}, false
 			continue
@@ -362,6 +375,33 @@ func (l *life) watch(done, ended chan bool) {
 			check(fmt.Sprintf("%s: the lists differ for %v: %s", l.kind, now.Sub(since), difference), false)
 		}
 	}
+}
+
+// pings asks the agent, which answers pings that name it or nobody, and pings others for those that ask it.
+func (l *life) pings() {
+	peer := func(name string, last int) swimtab.Peer {
+		return swimtab.Peer{Name: name, Addr: netip.MustParseAddr(fmt.Sprintf("127.0.11.%d", last)), Port: uint16(l.port)}
+	}
+	ping := func(seq uint32, name string) []byte {
+		packet, err := swimtab.Ping(seq, name, peer("reader", 8))
+		must(err)
+		return packet
+	}
+	l.reader.tells(l.at(9), ping(901, "another"), nil)
+	l.reader.tells(l.at(9), ping(902, ""), nil)
+	l.reader.tells(l.at(9), ping(903, "agent"), nil)
+	soon(l.kind+": the agent answers pings", func() bool { return l.reader.noted("ack 902")() && l.reader.noted("ack 903")() })
+	check(l.kind+": but for that of another name", !l.reader.noted("ack 901")())
+	for seq, target := range map[uint32]swimtab.Peer{904: peer("n1", 1), 905: peer("another", 1)} {
+		packet, err := swimtab.IndirectPing(seq, target, seq == 905, peer("reader", 8))
+		l.reader.tells(l.at(9), packet, err)
+	}
+	soon(l.kind+": it passes an answer on", l.reader.noted("ack 904"))
+	soon(l.kind+": and that there is none", l.reader.noted("nack 905"))
+	answer, err := l.reader.asks(l.at(9), ping(906, "agent"))
+	must(err)
+	probe, err := swimtab.ReadProbe(answer)
+	check(l.kind+": it answers a ping over TCP", err == nil && probe.Kind == swimtab.KindAck && probe.Seq == 906)
 }
 
 // rotates gives all members another key: it is added everywhere, then used everywhere, and then the old one is removed.
@@ -388,13 +428,13 @@ func (l *life) rotates(old, next string) {
 // the member that died comes back when all have forgotten it. With two keys the cluster begins with the first one, and
 // ends with the second one.
 func lives(kind string, port int, path string, forgets bool, keys ...string) {
-	l := &life{kind: kind, port: port, reader: new(member), living: make(map[string]*memberlist.Memberlist)}
-	key, first := "", ""
+	l := &life{kind: kind, port: port, living: make(map[string]*memberlist.Memberlist)}
+	var key []byte
+	first := ""
 	if len(keys) > 0 {
-		ring, err := swimtab.NewKeyring([]byte(keys[0]))
-		must(err)
-		l.reader.keys, key, first = ring, keys[0], "add "+hex.EncodeToString([]byte(keys[0]))+"\n"
+		key, first = []byte(keys[0]), "add "+hex.EncodeToString([]byte(keys[0]))+"\n"
 	}
+	l.reader = join("reader", "127.0.11.8", uint16(port), key)
 	n1, told1, role1 := l.begins("n1", 1, key, "")
 	n2, told2, _ := l.begins("n2", 2, key, l.at(1))
 	_, told3, _ := l.begins("n3", 3, key, l.at(1))
@@ -404,6 +444,7 @@ func lives(kind string, port int, path string, forgets bool, keys ...string) {
 	soon(kind+": the agent joins it", l.all("agent", "n1", "n2", "n3"))
 	done, ended := make(chan bool), make(chan bool)
 	go l.watch(done, ended)
+	l.pings()
 
 	l.kills("n3")
 	soon(kind+": a death", l.all("agent", "n1", "n2"))
@@ -425,7 +466,7 @@ func lives(kind string, port int, path string, forgets bool, keys ...string) {
 	soon(kind+": the agent hears of an update", func() bool { return l.agent.of("n1", "updated") == "updated" })
 	if len(keys) > 1 {
 		l.rotates(keys[0], keys[1])
-		key = keys[1]
+		key = []byte(keys[1])
 	}
 
 	l.changes()
