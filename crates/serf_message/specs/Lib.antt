@@ -1,0 +1,9 @@
+pub mod Fault
+pub mod Forms
+pub mod Keys
+pub mod Slots
+pub mod Values
+pub mod Reading
+pub mod Layouts
+pub mod Messages
+pub mod Writing
