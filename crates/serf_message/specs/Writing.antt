@@ -65,6 +65,12 @@ IsShort (MessageValue.leave m) = length m.node < 2 ^ 16
 IsShort (MessageValue.join m) = length m.node < 2 ^ 16
 IsShort (MessageValue.event m) = (length m.name < 2 ^ 16) × (length m.payload < 2 ^ 16)
 
+-- the numbers of a message are of their types
+abbrev pub IsInRange : MessageValue → Type 0
+IsInRange (MessageValue.leave m) = m.time < 2 ^ 64
+IsInRange (MessageValue.join m) = m.time < 2 ^ 64
+IsInRange (MessageValue.event m) = m.time < 2 ^ 64
+
 -- ---- what the code writes
 
 -- a value

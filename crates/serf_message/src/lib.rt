@@ -7,6 +7,7 @@ mod fault;
 mod fields;
 mod form;
 mod heads;
+pub mod laws;
 mod layout;
 mod lists;
 mod message;
