@@ -4,3 +4,4 @@ pub mod Slotting
 pub mod SpelledSteps
 pub mod Again
 pub mod Written
+pub mod Listing

@@ -2,14 +2,14 @@
 
 ghost use Rattle.std.specs.Prelude.{◌≡◌, ◌<◌, ◌≤◌, ℕ, List, Ok, length, MatchResult, IfSome};
 ghost use Rattle.std.specs.Option.{option_map};
-ghost use Rattle.serf_message.specs.Reading.{IsFault, alone, in_map, in_list, fields_at, fields_of, pairs_at, pair_at, elements_at, place_of, slot_at, value_at};
+ghost use Rattle.serf_message.specs.Reading.{IsFault, alone, without_rest, in_map, in_list, fields_at, fields_in, fields_of, pairs_at, pair_at, elements_at, place_of, slot_at, value_at};
 ghost use Rattle.serf_message.specs.Slots.{no_slots, huge_or_zero, long_or_zero, short_or_zero, tiny_or_zero, signed_or_zero, raw_or_empty, flag_or_false};
 ghost use Rattle.serf_message.specs.Values.{slot_of, slots_of};
 ghost use Rattle.serf_message.specs.declared.fields.TheConstants.{SLOTS};
 
 use crate::fault::SerfFault;
 use crate::form::{Count, Form, form_of};
-use crate::heads::{next_byte, next_count, next_flag, next_number, next_text};
+use crate::heads::{next_byte, next_count, next_flag, next_float, next_number, next_text};
 use crate::layout::{Field, Kind};
 use crate::lists::next_field_bytes;
 use crate::passing::{after_values, next_whole};
@@ -59,6 +59,24 @@ pub(crate) fn read_all_fields(
     if !rest.is_empty() {
         return Err(SerfFault::Trailing);
     }
+    Ok(values)
+}
+
+/// Reads the fields of a struct from the bytes of its value. If there are none, all are zero.
+#[tactic(auto, unfolding(crate::specs::Reading::fields_in))]
+pub(crate) fn read_fields_in(
+    alloc: Global,
+    whole: &[u8],
+    layout: &[Field],
+) -> Result<Values, SerfFault>
+    requires { length layout.now ≤ SLOTS }
+    ensures { MatchResult result (λ values. fields_in layout.now whole.now ≡ Ok (slots_of values))
+        (IsFault (fields_in layout.now whole.now)) }
+{
+    if whole.is_empty() {
+        return Ok(no_values());
+    }
+    let (values, _) = read_fields(alloc, whole, layout)?;
     Ok(values)
 }
 
@@ -265,6 +283,10 @@ fn next_field(
         Kind::Int64 => {
             let (number, rest) = next_signed(bytes)?;
             Ok((Value::Signed(number), rest))
+        }
+        Kind::Float => {
+            let (bits, rest) = next_float(bytes)?;
+            Ok((Value::Huge(bits), rest))
         }
         Kind::Text => {
             let (text, rest) = next_text(bytes)?;

@@ -2,7 +2,7 @@
 //! bytes after it.
 
 ghost use Rattle.std.specs.Prelude.{◌≡◌, ◌≤◌, Ok, Err, length, MatchResult, IfOk};
-ghost use Rattle.serf_message.specs.Reading.{byte_at, bytes_at, count_at, number_at, flag_of, flag_at, text_count, text_at};
+ghost use Rattle.serf_message.specs.Reading.{byte_at, bytes_at, count_at, number_at, float_at, flag_of, flag_at, text_count, text_at};
 
 use crate::fault::SerfFault;
 use crate::form::{Count, Form, form_of};
@@ -67,6 +67,24 @@ pub(crate) fn next_number(bytes: &[u8], max: u64) -> Result<(u64, &[u8]), SerfFa
     let number = read_uint(&mut inlet, max)?;
     let rest = &bytes[bytes.len() - inlet.rest().len()..];
     Ok((number, rest))
+}
+
+/// The bits of a number of 64 bits with a floating point. Nil is 0. go-msgpack reads other numbers,
+/// too, which Serf does not write.
+#[tactic(auto, unfolding(crate::specs::Reading::float_at))]
+pub(crate) fn next_float(bytes: &[u8]) -> Result<(u64, &[u8]), SerfFault>
+    ensures { MatchResult result (λ read. float_at bytes.now ≡ Ok (read.0, read.1.now))
+        (λ fault. float_at bytes.now ≡ Err fault) }
+{
+    let (first, rest) = next_byte(bytes)?;
+    match first {
+        0xcb => {
+            let (digits, rest) = next_bytes(rest, 8)?;
+            Ok((BigEndian::read_u64(digits), rest))
+        }
+        0xc0 => Ok((0, rest)),
+        _ => Err(SerfFault::NotFloat),
+    }
 }
 
 /// A truth value, as go-msgpack reads them: 0 and nil are false, and 1 is true.

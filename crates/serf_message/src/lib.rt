@@ -10,6 +10,7 @@ mod heads;
 pub mod laws;
 mod layout;
 mod lists;
+mod many;
 mod message;
 mod pairs;
 mod passing;
