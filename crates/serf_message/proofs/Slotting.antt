@@ -34,6 +34,10 @@ pub slot_is : (values : List (Option Value)) (place : ℕ) (old : Option Value) 
 slot_is values place old lt e =
     get_or-map (λ value. option_map slot_of value) values place old None lt ∙ ap (λ value. option_map slot_of value) (sym e)
 
+pub slot_seen : (values : List (Option Value)) (place : ℕ) (d : Option Value) → place < length values
+    → slot (slots_of values) place ≡ option_map slot_of (get_or values place d)
+slot_seen values place d lt = get_or-map (λ value. option_map slot_of value) values place d None lt
+
 pub slots_after : (values : List (Option Value)) (place : ℕ) (between : Option Value) (value : Value)
     → slots_of (set (set values place between) place (Some value)) ≡ set (slots_of values) place (Some (slot_of value))
 slots_after values place between value =

@@ -17,3 +17,9 @@ pub each_holds : {X : Type 0} (P : X → Type 0) (xs : List X) (i : ℕ) (d : X)
 each_holds P [] i d all lt = absurd (omega arith)
 each_holds P (x ∷ xs) zero d all lt = all.0
 each_holds P (x ∷ xs) (suc i) d all lt = each_holds P xs i d all.1 (omega arith)
+
+-- what holds of what is seen of each element holds of what is seen of the one at an index
+pub each_seen : {X A : Type 0} (P : A → Type 0) (view : X → A) (xs : List X) (i : ℕ) (d : X) → AllByRecursion P (map view xs) → i < length xs → P (view (get_or xs i d))
+each_seen P view [] i d all lt = absurd (omega arith)
+each_seen P view (x ∷ xs) zero d all lt = all.0
+each_seen P view (x ∷ xs) (suc i) d all lt = each_seen P view xs i d all.1 (omega arith)

@@ -3,7 +3,7 @@
 ghost use Rattle.std.specs.Prelude.{◌≡◌, ◌<◌, ◌≤◌, ℕ, List, Ok, length, MatchResult, IfSome};
 ghost use Rattle.std.specs.Option.{option_map};
 ghost use Rattle.serf_message.specs.Reading.{IsFault, alone, without_rest, in_map, in_list, fields_at, fields_in, fields_of, pairs_at, pair_at, elements_at, place_of, slot_at, value_at};
-ghost use Rattle.serf_message.specs.Slots.{no_slots, huge_or_zero, long_or_zero, short_or_zero, tiny_or_zero, signed_or_zero, raw_or_empty, flag_or_false};
+ghost use Rattle.serf_message.specs.Slots.{no_slots, huge_or_zero, long_or_zero, short_or_zero, tiny_or_zero, signed_or_zero, raw_or_empty, raw_in, flag_or_false};
 ghost use Rattle.serf_message.specs.Values.{slot_of, slots_of};
 ghost use Rattle.serf_message.specs.declared.fields.TheConstants.{SLOTS};
 
@@ -357,8 +357,16 @@ pub(crate) fn signed(value: &Option<Value>) -> i64
     }
 }
 
+/// The bytes of the field at this index, or none if none were read.
+pub(crate) fn raw_at(values: &Values, place: usize) -> &[u8]
+    requires { place < SLOTS }
+    ensures { result.now ≡ raw_in (slots_of values.now) place }
+{
+    raw(&values[place])
+}
+
 /// The text or bytes, or none if none were read.
-pub(crate) fn raw(value: &Option<Value>) -> &[u8]
+fn raw(value: &Option<Value>) -> &[u8]
     ensures { result.now ≡ raw_or_empty (option_map slot_of value.now) }
 {
     match value {

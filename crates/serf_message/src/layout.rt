@@ -295,12 +295,10 @@ pub(crate) const GROUPED: [Field; 2] = [
 ];
 
 /// Serf's `keyRequest`.
-pub(crate) const KEY_REQUEST: [Field; 1] = [
-    Field {
-        key: Key::Key,
-        kind: Kind::Bytes,
-    },
-];
+pub(crate) const KEY_REQUEST: [Field; 1] = [Field {
+    key: Key::Key,
+    kind: Kind::Bytes,
+}];
 
 /// Serf's `nodeKeyResponse`.
 pub(crate) const KEY_RESPONSE: [Field; 4] = [

@@ -15,8 +15,9 @@ mod message;
 mod pairs;
 mod passing;
 mod signed;
+mod write;
 
 pub use decode::decode_message;
 pub use encode::encode_message;
 pub use fault::SerfFault;
-pub use message::{Join, Leave, Message, UserEvent};
+pub use message::{Join, Leave, Message, Query, QueryResponse, Relay, UserEvent};

@@ -1,10 +1,11 @@
 //! Maps as Serf writes them: a count, and then each key and its value.
 
-ghost use Rattle.std.specs.Prelude.{◌≡◌, ◌<◌, ◌^◌, ◌++◌, ◌∷◌, length, OnOk};
+ghost use Rattle.std.specs.Prelude.{◌≡◌, ◌<◌, ◌++◌, length, OnOk};
 ghost use Rattle.std.specs.List.{AllByRecursion, flat_map};
-ghost use Rattle.serf_message.specs.Writing.{entry_text, entries_text, entry_of, entries_of, bytes_text, FitsTwoBytes};
+ghost use Rattle.serf_message.specs.Writing.{entry_text, entries_text, entry_of, entries_of, FitsTwoBytes};
 
 use crate::layout::Key;
+use crate::write::{write_bytes, write_signed};
 use std::alloc::AllocError;
 use swim_pack::{write_bool, write_map_len, write_raw, write_uint};
 
@@ -12,9 +13,12 @@ use swim_pack::{write_bool, write_map_len, write_raw, write_uint};
 #[derive(Clone, Copy)]
 pub(crate) enum Written<'a> {
     Number(u64),
+    Signed(i64),
     Text(&'a [u8]),
     Bytes(&'a [u8]),
     Flag(bool),
+    /// A value in its bytes.
+    Whole(&'a [u8]),
 }
 
 /// Appends a map of these fields. A failed call may leave a part of it.
@@ -48,19 +52,10 @@ fn append_pair(out: &mut Vec<u8>, key: Key, value: Written) -> Result<(), AllocE
     write_raw(out, key.text())?;
     match value {
         Written::Number(number) => write_uint(out, number),
+        Written::Signed(number) => write_signed(out, number),
         Written::Text(text) => write_raw(out, text),
         Written::Bytes(bytes) => write_bytes(out, bytes),
         Written::Flag(flag) => write_bool(out, flag),
+        Written::Whole(bytes) => out.extend_from_slice(bytes),
     }
-}
-
-/// Appends bytes, or nil for none.
-fn write_bytes(out: &mut Vec<u8>, bytes: &[u8]) -> Result<(), AllocError>
-    requires { length bytes.now < 2 ^ 16 }
-    ensures { OnOk result (out.new.items ≡ out.old.items ++ bytes_text bytes.now) }
-{
-    if bytes.is_empty() {
-        return out.extend_from_slice(&[0xc0]);
-    }
-    write_raw(out, bytes)
 }
