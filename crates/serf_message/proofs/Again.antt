@@ -43,7 +43,7 @@ flag_again true rest = refl
 flag_again false rest = refl
 
 -- the form of a short text
-short_form : (n : ℕ) → n < 32 → form_of (0xa0 + n) ≡ Some (forms.Text (Fixed n))
+pub short_form : (n : ℕ) → n < 32 → form_of (0xa0 + n) ≡ Some (forms.Text (Fixed n))
 unfolding form_of
 short_form n lt =
     let a : ltb (0xa0 + n) 0x80 ≡ false = le-ltb _ _ (omega arith) in
@@ -54,7 +54,7 @@ short_form n lt =
     rw (a, b, c, d, e) refl
 
 -- the length in two bytes
-two_again : (n : ℕ) (rest : List ℕ) → n < 2 ^ 16 → count_at Two (big_bytes 2 n ++ rest) ≡ read n rest
+pub two_again : (n : ℕ) (rest : List ℕ) → n < 2 ^ 16 → count_at Two (big_bytes 2 n ++ rest) ≡ read n rest
 unfolding count_at
 two_again n rest lt =
     let long : length (big_bytes 2 n) ≡ 2 = length-bytes_high_first 2 n in
@@ -62,7 +62,7 @@ two_again n rest lt =
     let digits : bytes_at 2 (big_bytes 2 n ++ rest) ≡ read (big_bytes 2 n) rest = ap (λ k. bytes_at k (big_bytes 2 n ++ rest)) (sym long) ∙ bytes_again (big_bytes 2 n) rest in
     rw (digits, value) refl
 
-split : {A : Type 0} (b : Bool) (P : A → Type 0) (x y : A) → (b ≡ true → P x) → (b ≡ false → P y) → P (cond b x y)
+pub split : {A : Type 0} (b : Bool) (P : A → Type 0) (x y : A) → (b ≡ true → P x) → (b ≡ false → P y) → P (cond b x y)
 split true P x y first other = first refl
 split false P x y first other = other refl
 
@@ -83,7 +83,7 @@ text_again s rest lt =
     split (ltb (length s) 32) (λ head. text_at ((head ++ s) ++ rest) ≡ read s rest) ((0xa0 + length s) ∷ []) (0xda ∷ big_bytes 2 (length s))
     (λ e. short_text s rest (ltb-true _ _ e)) (λ _. long_text s rest lt)
 
-fixed_again : (n : ℕ) (rest : List ℕ) → count_at (Fixed n) rest ≡ read n rest
+pub fixed_again : (n : ℕ) (rest : List ℕ) → count_at (Fixed n) rest ≡ read n rest
 unfolding count_at
 fixed_again n rest = refl
 
@@ -122,6 +122,18 @@ pub huge_again : (old : Option Slot) (v : ℕ) (rest : List ℕ) → v < 2 ^ 64 
 unfolding value_at
 huge_again old v rest lt = rw (number_again 0xffff_ffff_ffff_ffff v rest (omega arith) lt) refl
 
+pub long_again : (old : Option Slot) (v : ℕ) (rest : List ℕ) → v < 2 ^ 32 → value_at kinds.Uint32 old (number_text v ++ rest) ≡ read (Slot.long v) rest
+unfolding value_at
+long_again old v rest lt = rw (number_again 0xffff_ffff v rest (omega arith) (omega arith)) refl
+
+pub short_again : (old : Option Slot) (v : ℕ) (rest : List ℕ) → v < 2 ^ 16 → value_at kinds.Uint16 old (number_text v ++ rest) ≡ read (Slot.short v) rest
+unfolding value_at
+short_again old v rest lt = rw (number_again 0xffff v rest (omega arith) (omega arith)) refl
+
+pub tiny_again : (old : Option Slot) (v : ℕ) (rest : List ℕ) → v < 2 ^ 8 → value_at kinds.Uint8 old (number_text v ++ rest) ≡ read (Slot.tiny v) rest
+unfolding value_at
+tiny_again old v rest lt = rw (number_again 0xff v rest (omega arith) (omega arith)) refl
+
 pub string_again : (old : Option Slot) (s rest : List ℕ) → length s < 2 ^ 16 → value_at kinds.Text old (raw_text s ++ rest) ≡ read (Slot.raw s) rest
 unfolding value_at
 string_again old s rest lt = rw (text_again s rest lt) refl
@@ -158,7 +170,7 @@ entry_step layout entry entries slots place filling rest short found within e =
     ∙ one_pair layout (length (entry ∷ entries)) (length entries) slots _ _ more refl
     (pair_again layout slots (key_text entry.0) (value_text entry.1) more place filling short found within (e more))
 
-map_form : (n : ℕ) → n < 16 → form_of (0x80 + n) ≡ Some (forms.Map (Fixed n))
+pub map_form : (n : ℕ) → n < 16 → form_of (0x80 + n) ≡ Some (forms.Map (Fixed n))
 unfolding form_of
 map_form n lt =
     let a : ltb (0x80 + n) 0x80 ≡ false = le-ltb _ _ (omega arith) in

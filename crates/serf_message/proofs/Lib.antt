@@ -5,3 +5,5 @@ pub mod SpelledSteps
 pub mod Again
 pub mod Written
 pub mod Listing
+pub mod Skipped
+pub mod Signs
