@@ -62,6 +62,19 @@ unfolding many_at
 all_read reading n k front start rest e none =
     ap without_rest (e ∙ ap (λ (i : ℕ). before front (many_at reading i rest)) none) ∙ ap (λ (xs : List _). Ok xs) (append-nil front)
 
+-- one value too many, and what follows
+pub bad_many : {A : Type 0} (reading : Reading A) (n k next : ℕ) (front : List A) (error : SerfFault) (start bytes : List ℕ)
+    → many_at reading n start ≡ before front (many_at reading k bytes) → k ≡ suc next
+    → reading bytes ≡ Err error → many_at reading n start ≡ Err error
+bad_many reading n k next front error start bytes e s read = e ∙ ap (before front) (bad_of_many reading k next bytes error s read)
+
+-- all values, and what follows
+pub many_read : {A : Type 0} (reading : Reading A) (n k : ℕ) (front : List A) (start rest : List ℕ)
+    → many_at reading n start ≡ before front (many_at reading k rest) → k ≡ 0 → many_at reading n start ≡ Ok (front, rest)
+unfolding many_at
+many_read reading n k front start rest e none =
+    e ∙ ap (λ (i : ℕ). before front (many_at reading i rest)) none ∙ ap (λ (xs : List _). Ok (xs, rest)) (append-nil front)
+
 -- what is seen of one more value
 pub mapped_more : {X A : Type 0} (view : X → A) (xs ys : List X) (x : X) → ys ≡ xs ++ x ∷ [] → map view ys ≡ map view xs ++ view x ∷ []
 mapped_more view xs ys x e = ap (map view) e ∙ map-append view xs (x ∷ [])

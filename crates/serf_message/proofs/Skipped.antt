@@ -86,7 +86,7 @@ whole_again t rest a =
     let all : length (t ++ rest) ≡ a.steps + (length (t ++ rest) - a.steps) = omega (arith, a.few, length-append t rest) in
     let one : 1 ≡ 1 + 0 = omega arith in
     let passed = ap (λ (k : ℕ). values_within k 1 (t ++ rest)) all ∙ ap (λ (n : ℕ). values_within (a.steps + (length (t ++ rest) - a.steps)) n (t ++ rest)) one
-        ∙ a.passes (length (t ++ rest) - a.steps) 0 rest (omega arith) ∙ none_left (length (t ++ rest) - a.steps) 0 rest refl in
+    ∙ a.passes (length (t ++ rest) - a.steps) 0 rest (omega arith) ∙ none_left (length (t ++ rest) - a.steps) 0 rest refl in
     let front : length (t ++ rest) - length rest ≡ length t = omega (arith, length-append t rest) in
     rw (passed, front, take-append_seam t rest) refl
 

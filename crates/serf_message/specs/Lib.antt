@@ -7,3 +7,6 @@ pub mod Reading
 pub mod Layouts
 pub mod Messages
 pub mod Writing
+pub mod Tags
+pub mod Coordinates
+pub mod KeyMessages

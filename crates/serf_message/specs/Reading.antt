@@ -8,7 +8,7 @@ use Rattle.swim_pack.specs.Composing.{◌>>=◌, gives, refuses, some_or, lift}
 use Rattle.swim_pack.specs.Composing as composing
 use Rattle.swim_pack.specs.Reading.{uint_at}
 use Rattle.serf_message.specs.declared.fault.SerfFault.{SerfFault}
-use Rattle.serf_message.specs.declared.fault.SerfFault.TheVariants.{Ended, NotNumber, NotBool, NotRaw, NotMap, NotList, NotFloat, NotValue, Trailing, Memory}
+use Rattle.serf_message.specs.declared.fault.SerfFault.TheVariants.{Ended, NotNumber, NotBool, NotRaw, NotMap, NotList, NotFloat, NotValue, WrongType, Trailing, Memory}
 use Rattle.serf_message.specs.Fault.{fault_of_pack}
 use Rattle.serf_message.specs.declared.form.Count.{Count}
 use Rattle.serf_message.specs.declared.form.Count.TheVariants.{Fixed, One, Two, Four}
@@ -377,6 +377,23 @@ list_len_at = do
   first ← byte_at
   list_len_of (form_of first)
 
+-- the number of pairs of a map of this form; nil is an empty map
+unfoldable pub map_len_of : Option Form → Reading ℕ
+map_len_of None = refuses NotMap
+map_len_of (Some forms.Nil) = gives 0
+map_len_of (Some (forms.Plain size)) = refuses NotMap
+map_len_of (Some (forms.Text count)) = refuses NotMap
+map_len_of (Some (forms.Bytes count)) = refuses NotMap
+map_len_of (Some (forms.List count)) = refuses NotMap
+map_len_of (Some (forms.Map count)) = count_at count
+map_len_of (Some (forms.Extension count)) = refuses NotMap
+
+-- the number of pairs of a map
+unfoldable pub map_len_at : Reading ℕ
+map_len_at = do
+  first ← byte_at
+  map_len_of (form_of first)
+
 -- what was read, whatever follows it
 abbrev pub without_rest : {A : Type 0} → Result (A × List ℕ) SerfFault → Result A SerfFault
 without_rest (Ok read) = Ok read.0
@@ -395,3 +412,8 @@ fresh_bytes_at = field_bytes_at []
 unfoldable pub fields_in : Fields → List ℕ → Result Slots SerfFault
 fields_in layout [] = Ok no_slots
 fields_in layout (first ∷ rest) = without_rest (fields_at layout (first ∷ rest))
+
+-- what follows a type byte of this number
+abbrev pub body_of : ℕ → List ℕ → Result (List ℕ) SerfFault
+body_of wanted [] = Err Ended
+body_of wanted (first ∷ body) = if first == wanted then Ok body else Err (WrongType first)

@@ -12,10 +12,15 @@ use Rattle.serf_message.specs.declared.pairs.Written.TheVariants as written
 use Rattle.serf_message.specs.Keys.{key_text}
 use Rattle.serf_message.specs.Messages.{LeaveValue, JoinValue, EventValue, QueryValue, ResponseValue, RelayValue, MessageValue}
 
--- a value: a number, one with a sign, text, bytes, a truth value, or one whose bytes these are
+-- the number of pairs of a map, at most 65,535
+abbrev pub map_len_text : ℕ → List ℕ
+map_len_text n = if nat_lt n 16 then (0x80 + n) ∷ [] else 0xde ∷ big_bytes 2 n
+
+-- a value: a number, one with a sign, the bits of one with a floating point, text, bytes, a truth value, or one whose bytes these are
 pub data Spelled : Type 0 where
   number : ℕ → Spelled
   signed : ℤ → Spelled
+  float : ℕ → Spelled
   text : List ℕ → Spelled
   bytes : List ℕ → Spelled
   flag : Bool → Spelled
@@ -43,10 +48,15 @@ list_len_text n = if nat_lt n 16 then (0x90 + n) ∷ [] else 0xdc ∷ big_bytes 
 abbrev pub bytes_text : List ℕ → List ℕ
 bytes_text s = if length s == 0 then 0xc0 ∷ [] else raw_text s
 
+-- a number of 64 bits with a floating point, of these bits
+abbrev pub float_text : ℕ → List ℕ
+float_text bits = 0xcb ∷ big_bytes 8 bits
+
 -- the bytes of a value
 abbrev pub value_text : Spelled → List ℕ
 value_text (Spelled.number v) = number_text v
 value_text (Spelled.signed v) = signed_text v
+value_text (Spelled.float bits) = float_text bits
 value_text (Spelled.text s) = raw_text s
 value_text (Spelled.bytes s) = bytes_text s
 value_text (Spelled.flag f) = flag_text f
@@ -167,6 +177,7 @@ IsInRange (MessageValue.relay m) = m.port < 2 ^ 16
 abbrev pub spelled : Written → Spelled
 spelled (written.Number v) = Spelled.number v
 spelled (written.Signed v) = Spelled.signed v
+spelled (written.Float bits) = Spelled.float bits
 spelled (written.Text s) = Spelled.text s.now
 spelled (written.Bytes s) = Spelled.bytes s.now
 spelled (written.Flag f) = Spelled.flag f
@@ -184,6 +195,7 @@ entries_of pairs = map entry_of pairs
 abbrev pub FitsTwoBytes : Written → Type 0
 FitsTwoBytes (written.Number v) = Unit {0}
 FitsTwoBytes (written.Signed v) = Unit {0}
+FitsTwoBytes (written.Float bits) = Unit {0}
 FitsTwoBytes (written.Text s) = length s.now < 2 ^ 16
 FitsTwoBytes (written.Bytes s) = length s.now < 2 ^ 16
 FitsTwoBytes (written.Flag f) = Unit {0}

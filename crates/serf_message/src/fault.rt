@@ -41,6 +41,9 @@ pub enum SerfFault {
     /// The message does not start with a type that is read here.
     #[error("a message of type {found} is not read here")]
     WrongType { found: u8 },
+    /// The payload of an ack does not start with the version that is read here.
+    #[error("a payload of version {found} is not read here")]
+    WrongVersion { found: u8 },
     /// There are bytes after the end of the message.
     #[error("there are bytes after the message")]
     Trailing,

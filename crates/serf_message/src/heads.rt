@@ -2,7 +2,7 @@
 //! bytes after it.
 
 ghost use Rattle.std.specs.Prelude.{◌≡◌, ◌≤◌, Ok, Err, length, MatchResult, IfOk};
-ghost use Rattle.serf_message.specs.Reading.{byte_at, bytes_at, count_at, number_at, float_at, flag_of, flag_at, text_count, text_at};
+ghost use Rattle.serf_message.specs.Reading.{body_of, byte_at, bytes_at, count_at, number_at, float_at, flag_of, flag_at, text_count, text_at};
 
 use crate::fault::SerfFault;
 use crate::form::{Count, Form, form_of};
@@ -18,6 +18,18 @@ pub(crate) fn next_byte(bytes: &[u8]) -> Result<(u8, &[u8]), SerfFault>
         Some((first, rest)) => Ok((*first, rest)),
         None => Err(SerfFault::Ended),
     }
+}
+
+/// What follows a type byte of this number.
+pub(crate) fn body_of(bytes: &[u8], wanted: u8) -> Result<&[u8], SerfFault>
+    ensures { MatchResult result (λ body. body_of wanted bytes.now ≡ Ok body.now)
+        (λ fault. body_of wanted bytes.now ≡ Err fault) }
+{
+    let (first, body) = next_byte(bytes)?;
+    if first != wanted {
+        return Err(SerfFault::WrongType { found: first });
+    }
+    Ok(body)
 }
 
 /// The next `count` bytes.

@@ -5,7 +5,7 @@ ghost use Rattle.std.specs.List.{AllByRecursion, flat_map};
 ghost use Rattle.serf_message.specs.Writing.{entry_text, entries_text, entry_of, entries_of, FitsTwoBytes};
 
 use crate::layout::Key;
-use crate::write::{write_bytes, write_signed};
+use crate::write::{write_bytes, write_float, write_signed};
 use std::alloc::AllocError;
 use swim_pack::{write_bool, write_map_len, write_raw, write_uint};
 
@@ -14,6 +14,8 @@ use swim_pack::{write_bool, write_map_len, write_raw, write_uint};
 pub(crate) enum Written<'a> {
     Number(u64),
     Signed(i64),
+    /// The bits of a number with a floating point.
+    Float(u64),
     Text(&'a [u8]),
     Bytes(&'a [u8]),
     Flag(bool),
@@ -53,6 +55,7 @@ fn append_pair(out: &mut Vec<u8>, key: Key, value: Written) -> Result<(), AllocE
     match value {
         Written::Number(number) => write_uint(out, number),
         Written::Signed(number) => write_signed(out, number),
+        Written::Float(bits) => write_float(out, bits),
         Written::Text(text) => write_raw(out, text),
         Written::Bytes(bytes) => write_bytes(out, bytes),
         Written::Flag(flag) => write_bool(out, flag),

@@ -3,7 +3,9 @@
 
 ghost use Rattle.std.specs.Prelude.{◌≡◌, ◌<◌, ◌≤◌, ◌^◌, ◌++◌, ◌∷◌, length, map, OnOk};
 ghost use Rattle.std.specs.List.{AllByRecursion, flat_map};
-ghost use Rattle.serf_message.specs.Writing.{bytes_text, negative_text, signed_text, list_len_text, list_text, IsShortList};
+ghost use Rattle.swim_pack.specs.Spelling.{raw_text};
+ghost use Rattle.serf_message.specs.KeyMessages.{texts_text};
+ghost use Rattle.serf_message.specs.Writing.{bytes_text, negative_text, signed_text, list_len_text, map_len_text, float_text, list_text, IsShortList};
 
 use std::alloc::AllocError;
 use swim_pack::{write_raw, write_uint};
@@ -45,6 +47,13 @@ fn write_negative(out: &mut Vec<u8>, below: u64) -> Result<(), AllocError>
     }
 }
 
+/// Appends a number of 64 bits with a floating point, of these bits.
+pub(crate) fn write_float(out: &mut Vec<u8>, bits: u64) -> Result<(), AllocError>
+    ensures { OnOk result (out.new.items ≡ out.old.items ++ float_text bits) }
+{
+    write_behind(out, 0xcb, &bits.to_be_bytes())
+}
+
 /// Appends a first byte, and bytes behind it.
 fn write_behind(out: &mut Vec<u8>, first: u8, bytes: &[u8]) -> Result<(), AllocError>
     ensures { OnOk result (out.new.items ≡ out.old.items ++ first ∷ bytes.now) }
@@ -62,6 +71,17 @@ pub(crate) fn write_list_len(out: &mut Vec<u8>, count: usize) -> Result<(), Allo
         return out.extend_from_slice(&[0x90 + count as u8]);
     }
     write_behind(out, 0xdc, &(count as u16).to_be_bytes())
+}
+
+/// Appends the number of pairs of a map.
+pub(crate) fn write_map_len(out: &mut Vec<u8>, count: usize) -> Result<(), AllocError>
+    requires { count < 2 ^ 16 }
+    ensures { OnOk result (out.new.items ≡ out.old.items ++ map_len_text count) }
+{
+    if count < 16 {
+        return out.extend_from_slice(&[0x80 + count as u8]);
+    }
+    write_behind(out, 0xde, &(count as u16).to_be_bytes())
 }
 
 /// Appends a list of bytes, or nil for none.
@@ -85,6 +105,31 @@ fn write_each_bytes(out: &mut Vec<u8>, list: &[Vec<u8>]) -> Result<(), AllocErro
 {
     for value in list {
         write_bytes(out, value)?;
+    }
+    Ok(())
+}
+
+/// Appends a list of texts, or nil for none.
+pub(crate) fn write_texts(out: &mut Vec<u8>, list: &[Vec<u8>]) -> Result<(), AllocError>
+    requires { IsShortList (map (λ v. v.items) list.now) }
+    ensures { OnOk result
+        (out.new.items ≡ out.old.items ++ texts_text (map (λ v. v.items) list.now)) }
+{
+    if list.is_empty() {
+        return out.extend_from_slice(&[0xc0]);
+    }
+    write_list_len(out, list.len())?;
+    write_each_text(out, list)
+}
+
+/// Appends each of these texts.
+pub(crate) fn write_each_text(out: &mut Vec<u8>, list: &[Vec<u8>]) -> Result<(), AllocError>
+    requires { AllByRecursion (λ x. length x < 2 ^ 16) (map (λ v. v.items) list.now) }
+    ensures { OnOk result
+        (out.new.items ≡ out.old.items ++ flat_map raw_text (map (λ v. v.items) list.now)) }
+{
+    for value in list {
+        write_raw(out, value)?;
     }
     Ok(())
 }
