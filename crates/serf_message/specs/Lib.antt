@@ -10,3 +10,4 @@ pub mod Writing
 pub mod Tags
 pub mod Coordinates
 pub mod KeyMessages
+pub mod States

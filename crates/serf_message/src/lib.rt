@@ -16,9 +16,12 @@ mod many;
 mod message;
 mod pairs;
 mod passing;
+mod read_state;
 mod signed;
+mod state;
 mod tags;
 mod write;
+mod write_state;
 
 pub use coordinate::{Coordinate, decode_coordinate, encode_coordinate};
 pub use decode::decode_message;
@@ -29,4 +32,7 @@ pub use key_messages::{
     encode_key_response,
 };
 pub use message::{Join, Leave, Message, Query, QueryResponse, Relay, UserEvent};
+pub use read_state::decode_state;
+pub use state::{EventGroup, GroupedEvent, State, StatusTime};
 pub use tags::{Tag, decode_tags, encode_tags};
+pub use write_state::encode_state;
