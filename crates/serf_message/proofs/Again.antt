@@ -1,5 +1,5 @@
 -- Values that Serf writes are read back.
-use Rattle.std.proofs.Common.{◌≡◌, ℕ, ◌+◌, ◌-◌, ◌^◌, ◌<◌, ◌≤◌, Bool, true, false, cond, ltb, eqb, List, [], ◌∷◌, ◌++◌, length, get_or, set, Option, Some, None, Result, Ok, refl, sym, ap, ◌∙◌, append_assoc, append-nil, arith, length-append}
+use Rattle.std.proofs.Common.{◌≡◌, ℕ, ◌+◌, ◌-◌, ◌^◌, ◌<◌, ◌≤◌, Bool, true, false, cond, ltb, eqb, List, [], ◌∷◌, ◌++◌, length, get_or, set, Option, Some, Result, Ok, refl, sym, ap, ◌∙◌, append_assoc, append-nil, arith, length-append}
 use Rattle.std.specs.List.{flat_map}
 use Rattle.std.proofs.lemmas.Bool.{lt-ltb, le-ltb, ltb-true, eqb-true}
 use Rattle.std.proofs.lemmas.List.{nil_from_length}
@@ -7,7 +7,7 @@ use Rattle.std.proofs.Math.Seq.{take-append_seam, drop-append_seam}
 use Rattle.byteorder.specs.Endian.{big_number, big_bytes}
 use Rattle.byteorder.specs.Numbers.{big_number-reads_back, length-bytes_high_first}
 use Rattle.swim_pack.specs.Spelling.{number_text, raw_text, flag_text}
-use Rattle.swim_pack.specs.Composing.{gives, lift_error}
+use Rattle.swim_pack.specs.Composing.{lift_error}
 use Rattle.swim_pack.proofs.Canonical.{number_text_is}
 use Rattle.swim_pack.proofs.Numbers.{uint_again}
 use Rattle.serf_message.specs.declared.fault.SerfFault.{SerfFault}
@@ -18,7 +18,7 @@ use Rattle.serf_message.specs.declared.form.Form.TheVariants as forms
 use Rattle.serf_message.specs.Keys.{key_text}
 use Rattle.serf_message.specs.Writing.{Entry, entry_text, entries_text, value_text, bytes_text}
 use Rattle.serf_message.specs.Forms.{form_of, long_form_of}
-use Rattle.serf_message.specs.Reading.{Reading, bytes_at, count_at, number_at, flag_of, flag_at, text_count, text_at, raw_over, bytes_of, field_bytes_at, Fields, value_at, place_of, slot_at, pair_at, pairs_at, fields_at, fields_of, in_map}
+use Rattle.serf_message.specs.Reading.{bytes_at, count_at, number_at, flag_of, flag_at, text_count, text_at, raw_over, bytes_of, field_bytes_at, Fields, value_at, place_of, slot_at, pair_at, pairs_at, fields_at, fields_of, in_map}
 use Rattle.serf_message.specs.declared.layout.Kind.TheVariants as kinds
 use Rattle.serf_message.specs.Slots.{Slot, Slots, slot, no_slots, raw_or_empty}
 use Rattle.serf_message.proofs.Slotting.{no_field, known_pair, one_pair, filled}

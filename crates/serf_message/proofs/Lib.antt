@@ -7,3 +7,6 @@ pub mod Written
 pub mod Listing
 pub mod Skipped
 pub mod Signs
+pub mod WrittenTags
+pub mod WrittenParts
+pub mod WrittenState

@@ -1,5 +1,5 @@
 -- Values that Serf writes are passed over.
-use Rattle.std.proofs.Common.{◌≡◌, ℕ, suc, ◌+◌, ◌-◌, ◌*◌, ◌<◌, ◌≤◌, ◌^◌, Bool, true, false, cond, ltb, eqb, List, [], ◌∷◌, ◌++◌, length, take, Some, Result, Ok, refl, sym, ap, ◌∙◌, append_assoc, append-nil, arith, length-append}
+use Rattle.std.proofs.Common.{◌≡◌, ℕ, suc, ◌+◌, ◌-◌, ◌*◌, ◌<◌, ◌≤◌, ◌^◌, true, false, ltb, eqb, List, [], ◌∷◌, ◌++◌, length, Some, Ok, refl, sym, ap, ◌∙◌, append_assoc, append-nil, arith, length-append}
 use Rattle.std.proofs.lemmas.Bool.{lt-ltb, le-ltb, ltb-true, eqb-true}
 use Rattle.std.proofs.Math.Seq.{take-append_seam}
 use Rattle.std.specs.List.{AllByRecursion, flat_map}
@@ -12,7 +12,6 @@ use Rattle.serf_message.specs.declared.form.Count.TheVariants.{Fixed}
 use Rattle.serf_message.specs.declared.form.Form.TheVariants as forms
 use Rattle.serf_message.specs.Keys.{key_text}
 use Rattle.serf_message.specs.Writing.{Entry, value_text, entry_text, entries_text, bytes_text, list_len_text, list_text, IsShortList}
-use Rattle.serf_message.specs.declared.fault.SerfFault.{SerfFault}
 use Rattle.serf_message.specs.Forms.{form_of, long_form_of}
 use Rattle.serf_message.specs.Reading.{bytes_at, count_at, inside, outside_at, values_within, values_at, whole_at, Reading, many_at, list_len_of, list_len_at, listed, without_rest, fresh_bytes_at}
 use Rattle.serf_message.proofs.Again.{read, split, bytes_again, two_again, short_form, map_form, fixed_again, field_bytes_again}

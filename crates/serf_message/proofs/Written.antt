@@ -15,7 +15,7 @@ use Rattle.serf_message.proofs.Skipped.{ArePassed, whole_again, list_text_passed
 use Rattle.serf_message.proofs.Slotting.{no_pairs, filled}
 
 -- a map of fields, behind which nothing follows
-alone_again : (layout : Fields) (entries : List Entry) (out : Slots) → length entries < 16
+pub alone_again : (layout : Fields) (entries : List Entry) (out : Slots) → length entries < 16
     → pairs_at layout (length entries) no_slots (flat_map entry_text entries ++ []) ≡ filled out [] → fields_at layout (entries_text entries) ≡ filled out []
 alone_again layout entries out few e = ap (fields_at layout) (sym (append-nil (entries_text entries))) ∙ fields_again layout entries out [] few e
 
@@ -73,7 +73,7 @@ unfolding value_at
 signed_field_again old z rest fits = rw (signed_again z rest fits) refl
 
 -- the bytes of a value are read into its slot
-whole_field_again : (old : Option Slot) (t rest : List ℕ) → ArePassed 1 t → value_at kinds.Whole old (t ++ rest) ≡ read (Slot.raw t) rest
+pub whole_field_again : (old : Option Slot) (t rest : List ℕ) → ArePassed 1 t → value_at kinds.Whole old (t ++ rest) ≡ read (Slot.raw t) rest
 unfolding value_at
 whole_field_again old t rest passed = rw (whole_again t rest passed) refl
 

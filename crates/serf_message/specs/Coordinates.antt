@@ -1,6 +1,6 @@
 -- Network coordinates, and their reading from the payload of an ack (ping_delegate.go).
-use Rattle.std.specs.Prelude.{ℕ, ◌==◌, List, [], ◌∷◌, ◌++◌, length, Result, Ok, Err, if◌then◌else◌}
-use Rattle.std.specs.List.{flat_map}
+use Rattle.std.specs.Prelude.{ℕ, ◌<◌, ◌^◌, ◌==◌, List, [], ◌∷◌, ◌++◌, length, Result, Ok, Err, if◌then◌else◌}
+use Rattle.std.specs.List.{AllByRecursion, flat_map}
 use Rattle.serf_message.specs.declared.fault.SerfFault.{SerfFault}
 use Rattle.serf_message.specs.declared.fault.SerfFault.TheVariants.{Ended, WrongVersion}
 use Rattle.serf_message.specs.declared.coordinate.Coordinate.{Coordinate}
@@ -56,3 +56,11 @@ coordinate_entries c =
 -- the payload with this coordinate
 abbrev pub coordinate_bytes : CoordinateValue → List ℕ
 coordinate_bytes c = 1 ∷ entries_text (coordinate_entries c)
+
+-- the numbers of a coordinate are bits of 64, and few enough for a length in two bytes
+pub record IsCoordinateInRange (c : CoordinateValue) : Type 0 where
+  pub few : length c.vec < 2 ^ 16
+  pub vec : AllByRecursion (λ v. v < 2 ^ 64) c.vec
+  pub error : c.error < 2 ^ 64
+  pub adjustment : c.adjustment < 2 ^ 64
+  pub height : c.height < 2 ^ 64

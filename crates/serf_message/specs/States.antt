@@ -185,3 +185,22 @@ pub record IsShortState (s : StateValue) : Type 0 where
   pub left_members : IsShortList s.left_members
   pub places : length s.events < 2 ^ 16
   pub each_place : AllByRecursion IsShortPlace s.events
+
+-- ---- what is short enough, with numbers of 64 bits
+
+abbrev pub IsTimed : StatusValue → Type 0
+IsTimed s = (length s.0 < 2 ^ 16) × (s.1 < 2 ^ 64)
+
+abbrev pub IsPlaceTimed : Option GroupValue → Type 0
+IsPlaceTimed None = ⊤
+IsPlaceTimed (Some g) = IsShortGroup g × (g.time < 2 ^ 64)
+
+pub record IsStateInRange (s : StateValue) : Type 0 where
+  pub time : s.time < 2 ^ 64
+  pub event_time : s.event_time < 2 ^ 64
+  pub query_time : s.query_time < 2 ^ 64
+  pub statuses : length s.status_times < 2 ^ 16
+  pub each_status : AllByRecursion IsTimed s.status_times
+  pub left_members : IsShortList s.left_members
+  pub places : length s.events < 2 ^ 16
+  pub each_place : AllByRecursion IsPlaceTimed s.events

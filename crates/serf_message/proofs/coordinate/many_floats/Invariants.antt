@@ -1,4 +1,4 @@
-use Rattle.std.proofs.Common.{◌≡◌, ◌-◌, map}
+use Rattle.std.proofs.Common.{◌≡◌, ◌-◌}
 use Rattle.serf_message.specs.Reading.{many_at}
 use Rattle.serf_message.specs.Reading.{float_at}
 use Rattle.serf_message.proofs.Listing.{before}

@@ -1,4 +1,4 @@
-use Rattle.std.proofs.Common.{◌≡◌, ◌++◌, take, map}
+use Rattle.std.proofs.Common.{◌≡◌, ◌++◌, take}
 use Rattle.std.specs.List.{flat_map}
 use Rattle.serf_message.specs.Writing.{float_text}
 use Rattle.serf_message.proofs.coordinate.write_each_float.Given as goal

@@ -1,6 +1,6 @@
 use Rattle.std.proofs.Common.{subst, sym}
 use Rattle.serf_message.specs.declared.tags.Tag.{Tag}
-use Rattle.serf_message.specs.Tags.{tag_text, tag_value, IsShortTag}
+use Rattle.serf_message.specs.Tags.{tag_value, IsShortTag}
 use Rattle.serf_message.proofs.SpelledSteps.{each_seen}
 use Rattle.serf_message.proofs.tags.write_each_tag.Goals as goal
 

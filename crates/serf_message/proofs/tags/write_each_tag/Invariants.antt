@@ -1,6 +1,6 @@
 use Rattle.std.proofs.Common.{◌≡◌, ◌++◌, take, map}
 use Rattle.std.specs.List.{flat_map}
-use Rattle.serf_message.specs.Tags.{tag_text, tag_value, IsShortTag}
+use Rattle.serf_message.specs.Tags.{tag_text, tag_value}
 use Rattle.serf_message.proofs.tags.write_each_tag.Given as goal
 
 abbrev pub invariant-loop-tag : goal.invariant-loop-tag

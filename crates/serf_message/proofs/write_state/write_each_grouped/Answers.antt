@@ -1,6 +1,6 @@
 use Rattle.std.proofs.Common.{subst, sym}
 use Rattle.serf_message.specs.declared.state.GroupedEvent.{GroupedEvent}
-use Rattle.serf_message.specs.States.{grouped_text, grouped_value, IsShortGrouped}
+use Rattle.serf_message.specs.States.{grouped_value, IsShortGrouped}
 use Rattle.serf_message.proofs.SpelledSteps.{each_seen}
 use Rattle.serf_message.proofs.write_state.write_each_grouped.Goals as goal
 

@@ -1,6 +1,6 @@
 use Rattle.std.proofs.Common.{◌≡◌, ◌++◌, take, map}
 use Rattle.std.specs.List.{flat_map}
-use Rattle.serf_message.specs.States.{grouped_text, grouped_value, IsShortGrouped}
+use Rattle.serf_message.specs.States.{grouped_text, grouped_value}
 use Rattle.serf_message.proofs.write_state.write_each_grouped.Given as goal
 
 abbrev pub invariant-loop-event : goal.invariant-loop-event

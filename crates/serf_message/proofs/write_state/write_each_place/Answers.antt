@@ -1,7 +1,7 @@
 use Rattle.std.proofs.Common.{subst, sym}
 use Rattle.std.proofs.Common.{Option}
 use Rattle.serf_message.specs.declared.state.EventGroup.{EventGroup}
-use Rattle.serf_message.specs.States.{place_text, place_value, IsShortPlace}
+use Rattle.serf_message.specs.States.{place_value, IsShortPlace}
 use Rattle.serf_message.proofs.SpelledSteps.{each_seen}
 use Rattle.serf_message.proofs.write_state.write_each_place.Goals as goal
 

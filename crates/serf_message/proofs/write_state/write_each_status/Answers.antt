@@ -1,6 +1,6 @@
 use Rattle.std.proofs.Common.{subst, sym}
 use Rattle.serf_message.specs.declared.state.StatusTime.{StatusTime}
-use Rattle.serf_message.specs.States.{status_text, status_value, IsShortStatus}
+use Rattle.serf_message.specs.States.{status_value, IsShortStatus}
 use Rattle.serf_message.proofs.SpelledSteps.{each_seen}
 use Rattle.serf_message.proofs.write_state.write_each_status.Goals as goal
 

@@ -1,6 +1,6 @@
 use Rattle.std.proofs.Common.{◌≡◌, ◌++◌, take, map}
 use Rattle.std.specs.List.{flat_map}
-use Rattle.serf_message.specs.States.{status_text, status_value, IsShortStatus}
+use Rattle.serf_message.specs.States.{status_text, status_value}
 use Rattle.serf_message.proofs.write_state.write_each_status.Given as goal
 
 abbrev pub invariant-loop-status : goal.invariant-loop-status
