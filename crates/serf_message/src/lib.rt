@@ -20,6 +20,8 @@ mod read_state;
 mod signed;
 mod state;
 mod tags;
+#[cfg(test)]
+mod tests;
 mod write;
 mod write_state;
 
