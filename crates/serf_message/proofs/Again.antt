@@ -18,7 +18,7 @@ use Rattle.serf_message.specs.declared.form.Form.TheVariants as forms
 use Rattle.serf_message.specs.Keys.{key_text}
 use Rattle.serf_message.specs.Writing.{Entry, entry_text, entries_text, value_text, bytes_text}
 use Rattle.serf_message.specs.Forms.{form_of, long_form_of}
-use Rattle.serf_message.specs.Reading.{bytes_at, count_at, number_at, flag_of, flag_at, text_count, text_at, raw_over, bytes_of, field_bytes_at, Fields, value_at, place_of, slot_at, pair_at, pairs_at, fields_at, fields_of, in_map}
+use Rattle.serf_message.specs.Reading.{bytes_at, count_at, number_at, flag_of, flag_at, text_count, text_at, raw_over, bytes_of, field_bytes_at, Fields, value_at, number_value_at, place_of, slot_at, pair_at, pairs_at, fields_at, fields_of, in_map}
 use Rattle.serf_message.specs.declared.layout.Kind.TheVariants as kinds
 use Rattle.serf_message.specs.Slots.{Slot, Slots, slot, no_slots, raw_or_empty}
 use Rattle.serf_message.proofs.Slotting.{no_field, known_pair, one_pair, filled}
@@ -119,31 +119,31 @@ field_bytes_again old s rest lt =
 -- ---- the value of a field
 
 pub huge_again : (old : Option Slot) (v : ℕ) (rest : List ℕ) → v < 2 ^ 64 → value_at kinds.Uint64 old (number_text v ++ rest) ≡ read (Slot.huge v) rest
-unfolding value_at
+unfolding value_at number_value_at
 huge_again old v rest lt = rw (number_again 0xffff_ffff_ffff_ffff v rest (omega arith) lt) refl
 
 pub long_again : (old : Option Slot) (v : ℕ) (rest : List ℕ) → v < 2 ^ 32 → value_at kinds.Uint32 old (number_text v ++ rest) ≡ read (Slot.long v) rest
-unfolding value_at
+unfolding value_at number_value_at
 long_again old v rest lt = rw (number_again 0xffff_ffff v rest (omega arith) (omega arith)) refl
 
 pub short_again : (old : Option Slot) (v : ℕ) (rest : List ℕ) → v < 2 ^ 16 → value_at kinds.Uint16 old (number_text v ++ rest) ≡ read (Slot.short v) rest
-unfolding value_at
+unfolding value_at number_value_at
 short_again old v rest lt = rw (number_again 0xffff v rest (omega arith) (omega arith)) refl
 
 pub tiny_again : (old : Option Slot) (v : ℕ) (rest : List ℕ) → v < 2 ^ 8 → value_at kinds.Uint8 old (number_text v ++ rest) ≡ read (Slot.tiny v) rest
-unfolding value_at
+unfolding value_at number_value_at
 tiny_again old v rest lt = rw (number_again 0xff v rest (omega arith) (omega arith)) refl
 
 pub string_again : (old : Option Slot) (s rest : List ℕ) → length s < 2 ^ 16 → value_at kinds.Text old (raw_text s ++ rest) ≡ read (Slot.raw s) rest
-unfolding value_at
+unfolding value_at number_value_at
 string_again old s rest lt = rw (text_again s rest lt) refl
 
 pub array_again : (old : Option Slot) (s rest : List ℕ) → length s < 2 ^ 16 → value_at kinds.Bytes old (bytes_text s ++ rest) ≡ read (Slot.raw s) rest
-unfolding value_at
+unfolding value_at number_value_at
 array_again old s rest lt = rw (field_bytes_again (raw_or_empty old) s rest lt) refl
 
 pub truth_again : (old : Option Slot) (f : Bool) (rest : List ℕ) → value_at kinds.Flag old (flag_text f ++ rest) ≡ read (Slot.flag f) rest
-unfolding value_at
+unfolding value_at number_value_at
 truth_again old f rest = rw (flag_again f rest) refl
 
 -- ---- a field of a map

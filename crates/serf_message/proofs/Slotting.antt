@@ -4,7 +4,7 @@ use Rattle.std.proofs.lemmas.List.{get_or-map, map-set, set-set}
 use Rattle.std.specs.Option.{option_map}
 use Rattle.swim_pack.specs.Composing.{gives, then_read}
 use Rattle.serf_message.specs.declared.fault.SerfFault.{SerfFault}
-use Rattle.serf_message.specs.declared.fields.Value.{Value}
+use Rattle.serf_message.specs.declared.field_value.Value.{Value}
 use Rattle.serf_message.specs.declared.layout.Field.{Field}
 use Rattle.serf_message.specs.declared.layout.Key.TheVariants as keys
 use Rattle.serf_message.specs.declared.layout.Kind.TheVariants as kinds

@@ -5,7 +5,7 @@ use Rattle.serf_message.specs.declared.layout.Key.TheVariants as keys
 use Rattle.serf_message.specs.declared.layout.Kind.TheVariants as kinds
 use Rattle.serf_message.specs.Layouts.{leave_layout, join_layout, event_layout, query_layout, response_layout, relay_layout, address_layout}
 use Rattle.serf_message.specs.Messages.{LeaveValue, JoinValue, EventValue, QueryValue, ResponseValue, RelayValue, MessageValue, message_of, message_after, leave_after, join_after, event_after, query_after, query_from, response_after, relay_after}
-use Rattle.serf_message.specs.Reading.{Fields, fields_at, fields_in, pairs_at, value_at}
+use Rattle.serf_message.specs.Reading.{Fields, fields_at, fields_in, pairs_at, value_at, number_value_at}
 use Rattle.std.specs.List.{flat_map}
 use Rattle.serf_message.specs.Slots.{Slot, Slots, no_slots}
 use Rattle.serf_message.specs.Writing.{Spelled, Entry, IsShort, IsShortQuery, IsShortRelay, IsInRange, IsQueryInRange, entry_text, entries_text, signed_text, list_text, message_bytes, leave_entries, join_entries, event_entries, query_entries, response_entries, address_entries, relay_entries}
@@ -69,12 +69,12 @@ address_slots m =
 
 -- a number with a sign is read into its slot
 signed_field_again : (old : Option Slot) (z : ℤ) (rest : List ℕ) → FitsSigned w64 z → value_at kinds.Int64 old (signed_text z ++ rest) ≡ read (Slot.signed z) rest
-unfolding value_at
+unfolding value_at number_value_at
 signed_field_again old z rest fits = rw (signed_again z rest fits) refl
 
 -- the bytes of a value are read into its slot
 pub whole_field_again : (old : Option Slot) (t rest : List ℕ) → ArePassed 1 t → value_at kinds.Whole old (t ++ rest) ≡ read (Slot.raw t) rest
-unfolding value_at
+unfolding value_at number_value_at
 whole_field_again old t rest passed = rw (whole_again t rest passed) refl
 
 query_fields_again : (m : QueryValue) → IsShortQuery m → IsQueryInRange m → fields_at query_layout (entries_text (query_entries m)) ≡ filled (query_slots m) []

@@ -231,26 +231,39 @@ field_bytes_at old = do
 abbrev pub Fields : Type 0
 Fields = List Field
 
--- a value of this kind, over the earlier one of its field
-unfoldable pub value_at : Kind → Option Slot → Reading Slot
-value_at kinds.Uint64 old = do
+-- a number of this kind; values of other kinds are no numbers
+unfoldable pub number_value_at : Kind → Reading Slot
+number_value_at kinds.Uint64 = do
   v ← number_at 0xffff_ffff_ffff_ffff
   gives (huge v)
-value_at kinds.Uint32 old = do
+number_value_at kinds.Uint32 = do
   v ← number_at 0xffff_ffff
   gives (long v)
-value_at kinds.Uint16 old = do
+number_value_at kinds.Uint16 = do
   v ← number_at 0xffff
   gives (short v)
-value_at kinds.Uint8 old = do
+number_value_at kinds.Uint8 = do
   v ← number_at 0xff
   gives (tiny v)
-value_at kinds.Int64 old = do
+number_value_at kinds.Int64 = do
   v ← signed_at
   gives (signed v)
-value_at kinds.Float old = do
+number_value_at kinds.Float = do
   v ← float_at
   gives (huge v)
+number_value_at kinds.Text = refuses NotNumber
+number_value_at kinds.Bytes = refuses NotNumber
+number_value_at kinds.Flag = refuses NotNumber
+number_value_at kinds.Whole = refuses NotNumber
+
+-- a value of this kind, over the earlier one of its field
+unfoldable pub value_at : Kind → Option Slot → Reading Slot
+value_at kinds.Uint64 old = number_value_at kinds.Uint64
+value_at kinds.Uint32 old = number_value_at kinds.Uint32
+value_at kinds.Uint16 old = number_value_at kinds.Uint16
+value_at kinds.Uint8 old = number_value_at kinds.Uint8
+value_at kinds.Int64 old = number_value_at kinds.Int64
+value_at kinds.Float old = number_value_at kinds.Float
 value_at kinds.Text old = do
   s ← text_at
   gives (raw s)

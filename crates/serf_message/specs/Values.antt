@@ -1,8 +1,8 @@
 -- The values that the code keeps, as the values of fields.
 use Rattle.std.specs.Prelude.{List, map, Option}
 use Rattle.std.specs.Option.{option_map}
-use Rattle.serf_message.specs.declared.fields.Value.{Value}
-use Rattle.serf_message.specs.declared.fields.Value.TheVariants.{Huge, Long, Short, Tiny, Signed, Raw, Flag}
+use Rattle.serf_message.specs.declared.field_value.Value.{Value}
+use Rattle.serf_message.specs.declared.field_value.Value.TheVariants.{Huge, Long, Short, Tiny, Signed, Raw, Flag}
 use Rattle.serf_message.specs.Slots.{Slot, Slots}
 use Rattle.serf_message.specs.Slots.Slot.{huge, long, short, tiny, signed, raw, flag}
 

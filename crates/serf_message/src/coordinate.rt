@@ -8,7 +8,8 @@ ghost use Rattle.serf_message.specs.Values.{slots_of};
 ghost use Rattle.serf_message.specs.Writing.{float_text};
 
 use crate::fault::SerfFault;
-use crate::fields::{Values, huge, raw_at, read_all_fields};
+use crate::field_value::huge;
+use crate::fields::{Values, raw_at, read_all_fields};
 use crate::heads::next_float;
 use crate::layout::{COORDINATE, Key};
 use crate::many::{append, next_list_len};

@@ -6,10 +6,8 @@ ghost use Rattle.serf_message.specs.Reading.{IsFault};
 ghost use Rattle.serf_message.specs.Values.{slots_of};
 
 use crate::fault::SerfFault;
-use crate::fields::{
-    Values, flag, huge, into_raw, long, raw_at, read_all_fields, read_fields, read_fields_in,
-    short, signed, tiny,
-};
+use crate::field_value::{flag, huge, into_raw, long, short, signed, tiny};
+use crate::fields::{Values, raw_at, read_all_fields, read_fields, read_fields_in};
 use crate::layout::{ADDRESS, EVENT, JOIN, LEAVE, QUERY, RELAY, RESPONSE};
 use crate::many::list_of_bytes;
 use crate::message::{Join, Leave, Message, Query, QueryResponse, Relay, UserEvent};

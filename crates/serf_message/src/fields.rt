@@ -3,33 +3,21 @@
 ghost use Rattle.std.specs.Prelude.{◌≡◌, ◌<◌, ◌≤◌, ℕ, List, Ok, length, MatchResult, IfSome};
 ghost use Rattle.std.specs.Option.{option_map};
 ghost use Rattle.serf_message.specs.Reading.{IsFault, alone, without_rest, in_map, in_list, fields_at, fields_in, fields_of, pairs_at, pair_at, elements_at, place_of, slot_at, value_at};
-ghost use Rattle.serf_message.specs.Slots.{no_slots, huge_or_zero, long_or_zero, short_or_zero, tiny_or_zero, signed_or_zero, raw_or_empty, raw_in, flag_or_false};
+ghost use Rattle.serf_message.specs.Slots.{no_slots, raw_in};
 ghost use Rattle.serf_message.specs.Values.{slot_of, slots_of};
 ghost use Rattle.serf_message.specs.declared.fields.TheConstants.{SLOTS};
 
 use crate::fault::SerfFault;
+use crate::field_value::{Value, into_raw, next_number_value, raw};
 use crate::form::{Count, Form, form_of};
-use crate::heads::{next_byte, next_count, next_flag, next_float, next_number, next_text};
+use crate::heads::{next_byte, next_count, next_flag, next_text};
 use crate::layout::{Field, Kind};
 use crate::lists::next_field_bytes;
 use crate::passing::{after_values, next_whole};
-use crate::signed::next_signed;
 use std::alloc::Global;
 
 /// The maximum number of fields of a message.
 const SLOTS: usize = 11;
-
-/// The value of a field.
-#[derive(Drop)]
-pub(crate) enum Value {
-    Huge(u64),
-    Long(u32),
-    Short(u16),
-    Tiny(u8),
-    Signed(i64),
-    Raw(Vec<u8>),
-    Flag(bool),
-}
 
 /// The values of the fields, each at the index of its field in the layout. One that was not read is
 /// zero.
@@ -264,30 +252,8 @@ fn next_field(
         (IsFault (value_at kind (option_map slot_of old) bytes.now)) }
 {
     match kind {
-        Kind::Uint64 => {
-            let (number, rest) = next_number(bytes, 0xffff_ffff_ffff_ffff)?;
-            Ok((Value::Huge(number), rest))
-        }
-        Kind::Uint32 => {
-            let (number, rest) = next_number(bytes, 0xffff_ffff)?;
-            Ok((Value::Long(number as u32), rest))
-        }
-        Kind::Uint16 => {
-            let (number, rest) = next_number(bytes, 0xffff)?;
-            Ok((Value::Short(number as u16), rest))
-        }
-        Kind::Uint8 => {
-            let (number, rest) = next_number(bytes, 0xff)?;
-            Ok((Value::Tiny(number as u8), rest))
-        }
-        Kind::Int64 => {
-            let (number, rest) = next_signed(bytes)?;
-            Ok((Value::Signed(number), rest))
-        }
-        Kind::Float => {
-            let (bits, rest) = next_float(bytes)?;
-            Ok((Value::Huge(bits), rest))
-        }
+        Kind::Uint64 | Kind::Uint32 | Kind::Uint16 | Kind::Uint8 | Kind::Int64 | Kind::Float =>
+            next_number_value(bytes, kind),
         Kind::Text => {
             let (text, rest) = next_text(bytes)?;
             Ok((Value::Raw(text.to_vec(alloc)?), rest))
@@ -307,90 +273,10 @@ fn next_field(
     }
 }
 
-/// The number, or 0 if none was read.
-pub(crate) fn huge(value: &Option<Value>) -> u64
-    ensures { result ≡ huge_or_zero (option_map slot_of value.now) }
-{
-    match value {
-        Some(Value::Huge(number)) => *number,
-        _ => 0,
-    }
-}
-
-/// The number, or 0 if none was read.
-pub(crate) fn long(value: &Option<Value>) -> u32
-    ensures { result ≡ long_or_zero (option_map slot_of value.now) }
-{
-    match value {
-        Some(Value::Long(number)) => *number,
-        _ => 0,
-    }
-}
-
-/// The number, or 0 if none was read.
-pub(crate) fn short(value: &Option<Value>) -> u16
-    ensures { result ≡ short_or_zero (option_map slot_of value.now) }
-{
-    match value {
-        Some(Value::Short(number)) => *number,
-        _ => 0,
-    }
-}
-
-/// The number, or 0 if none was read.
-pub(crate) fn tiny(value: &Option<Value>) -> u8
-    ensures { result ≡ tiny_or_zero (option_map slot_of value.now) }
-{
-    match value {
-        Some(Value::Tiny(number)) => *number,
-        _ => 0,
-    }
-}
-
-/// The number, or 0 if none was read.
-pub(crate) fn signed(value: &Option<Value>) -> i64
-    ensures { result ≡ signed_or_zero (option_map slot_of value.now) }
-{
-    match value {
-        Some(Value::Signed(number)) => *number,
-        _ => 0,
-    }
-}
-
 /// The bytes of the field at this index, or none if none were read.
 pub(crate) fn raw_at(values: &Values, place: usize) -> &[u8]
     requires { place < SLOTS }
     ensures { result.now ≡ raw_in (slots_of values.now) place }
 {
     raw(&values[place])
-}
-
-/// The text or bytes, or none if none were read.
-fn raw(value: &Option<Value>) -> &[u8]
-    ensures { result.now ≡ raw_or_empty (option_map slot_of value.now) }
-{
-    match value {
-        Some(Value::Raw(bytes)) => bytes,
-        _ => &[],
-    }
-}
-
-/// The text or bytes, or none if none were read.
-pub(crate) fn into_raw(alloc: Global, value: Option<Value>) -> Vec<u8>
-    ensures { result.items ≡ raw_or_empty (option_map slot_of value) }
-{
-    match value {
-        Some(Value::Raw(bytes)) => bytes,
-        _ => Vec::new(alloc),
-    }
-}
-
-/// The truth value, or false if none was read.
-pub(crate) fn flag(value: &Option<Value>) -> bool
-    ensures { result ≡ flag_or_false (option_map slot_of value.now) }
-{
-    match value {
-        Some(Value::Flag(flag)) => *flag,
-        _ => false,
-    }
 }

@@ -6,7 +6,8 @@ ghost use Rattle.serf_message.specs.Reading.{IsFault};
 ghost use Rattle.serf_message.specs.Values.{slots_of};
 
 use crate::fault::SerfFault;
-use crate::fields::{Values, flag, into_raw, raw_at, read_all_fields};
+use crate::field_value::{flag, into_raw};
+use crate::fields::{Values, raw_at, read_all_fields};
 use crate::heads::body_of;
 use crate::layout::{KEY_REQUEST, KEY_RESPONSE, Key};
 use crate::many::list_of_texts;

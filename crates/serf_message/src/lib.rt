@@ -5,6 +5,7 @@ mod coordinate;
 mod decode;
 mod encode;
 mod fault;
+mod field_value;
 mod fields;
 mod form;
 mod heads;

@@ -7,7 +7,8 @@ ghost use Rattle.serf_message.specs.Slots.{raw_in};
 ghost use Rattle.serf_message.specs.Values.{slots_of};
 
 use crate::fault::SerfFault;
-use crate::fields::{Values, huge, into_raw, raw_at, read_all_fields, read_fields};
+use crate::field_value::{huge, into_raw};
+use crate::fields::{Values, raw_at, read_all_fields, read_fields};
 use crate::heads::{body_of, next_byte, next_number};
 use crate::layout::{GROUP, GROUPED, STATE};
 use crate::many::{append, list_of_texts, next_list_len, next_map_len, next_owned_text};
