@@ -1,0 +1,12 @@
+pub mod Passed
+pub mod Listed
+pub mod Slotting
+pub mod SpelledSteps
+pub mod Again
+pub mod Written
+pub mod Listing
+pub mod Skipped
+pub mod Signs
+pub mod WrittenTags
+pub mod WrittenParts
+pub mod WrittenState

@@ -1,0 +1,23 @@
+use Rattle.std.proofs.Common.{◌≡◌, ◌+◌, ◌-◌, suc, refl, sym, ◌∙◌, arith}
+use Rattle.std.proofs.lemmas.Result.{err_from_is_err_and}
+use Rattle.serf_message.proofs.Slotting.{fault_of, no_pairs, one_pair, bad_pair}
+use Rattle.serf_message.proofs.fields.read_pairs.Goals as goal
+
+pub loop-init : goal.loop-init
+loop-init c =
+    let all : c.args.pairs - 0 ≡ c.args.pairs = omega arith in
+    rw all refl
+
+pub returns-in_err-rest : goal.returns-in_err-rest
+returns-in_err-rest c =
+    let p = err_from_is_err_and c.from_residual.result c.from_residual.ensures.1 in
+    let e : c.args.pairs - c.loop.counter ≡ suc (c.args.pairs - c.loop.counter - 1) = omega arith in
+    rw (p.1, p.2) (fault_of _ _ _ (λ read. sym c.loop.invariant ∙ bad_pair _ _ _ _ _ _ e read) c.in_err-rest.ensures)
+
+pub loop-preserved : goal.loop-preserved
+loop-preserved c =
+    let e : c.args.pairs - c.loop.counter ≡ suc (c.args.pairs - (c.loop.counter + 1)) = omega arith in
+    sym (one_pair _ _ _ _ _ _ _ e c.in_ok-rest.ensures) ∙ c.loop.invariant
+
+pub returns : goal.returns
+returns c = sym c.loop.invariant ∙ no_pairs _ _ _ _ (omega arith)

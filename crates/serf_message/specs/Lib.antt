@@ -1,0 +1,13 @@
+pub mod Fault
+pub mod Forms
+pub mod Keys
+pub mod Slots
+pub mod Values
+pub mod Reading
+pub mod Layouts
+pub mod Messages
+pub mod Writing
+pub mod Tags
+pub mod Coordinates
+pub mod KeyMessages
+pub mod States
