@@ -83,12 +83,12 @@ static void post_to_some(uint32_t worst, bool to_ask, const void *what, size_t l
         if (!to_ask || !is_same(NAME(&turn), NAME(&probed))) post(NULL, at(turn.addr, turn.port), what, len), left--;
 }
 
-static void on_event(uint32_t event) {
+static void on_event(uint32_t event) { /* tells it on; what others say of this member, and it does not, it refutes */
     static size_t turn;
     if (event != SWIMTAB_NO_EVENT) show(heard, EVENTS[event]);
     if (event == SWIMTAB_NO_EVENT || event == SWIMTAB_CONFLICT || heard.state == SWIMTAB_NOTED) return;
-    if (is_same(NAME(&heard), NAME(&me)) && (heard.state != SWIMTAB_ALIVE || heard.inc != me.inc)) { /* it refutes */
-        me.inc = heard.inc + (heard.inc < UINT32_MAX);
+    if (is_same(NAME(&heard), NAME(&me)) && (heard.state != SWIMTAB_ALIVE || heard.inc != me.inc)) {
+        me.inc = heard.inc + (heard.inc < UINT32_MAX); /* if there is a greater one */
         on_event(swimtab_view_take(&view, now, made, swimtab_alive_of(&me, made, LEN).len, &heard).event);
     } else if (event != SWIMTAB_ALSO_SUSPECTED || heard.accusers <= OTHERS) {
         news[turn].of = heard, news[turn].rounds = ROUNDS, turn = (turn + 1) % NEWS;
@@ -111,7 +111,7 @@ static swimtab_written claim_of(const member *m, uint8_t *out, size_t len) { /* 
     if (m->state == SWIMTAB_SUSPECT) return swimtab_suspect_of(NAME(&by), NAME(m), m->inc, out, len);
     return swimtab_dead_of(NAME(&by), NAME(m), m->inc, out, len);
 }
-static void gossip(void) {
+static void gossip(void) { /* claims that are too long for a packet are told with the tables alone */
     uint8_t all[CLAIMS], out[2 * CLAIMS];
     size_t lens[NEWS], count = 0, len = 0;
     for (size_t i = 0; i < NEWS; i++) {
@@ -148,7 +148,7 @@ static bool on_packet(void) {
     return len >= 0;
 }
 
-static void begin(place to, const void *what, size_t len) { /* a connection; if there is nothing to say, a caller's */
+static void begin(place to, const void *what, size_t len) { /* calls a member to say this; without it, takes a call */
     call *c = calls;
     int fd = what ? socket(AF_INET, SOCK_STREAM | SOCK_NONBLOCK, 0) : accept4(tcp, NULL, NULL, SOCK_NONBLOCK);
     while (c < calls + CALLS - 1 && c->fd) c++;
@@ -156,13 +156,13 @@ static void begin(place to, const void *what, size_t len) { /* a connection; if 
     c->fd = fd, c->is_own = what, c->until = now + 10 * PATIENCE, c->got = c->len = c->sent = 0;
     if (what) connect(fd, (struct sockaddr *)&to, sizeof to), post(c, to, what, len);
 }
-static bool serve(call *c) { /* sends or reads some bytes; returns whether there is more to send or to read */
+static bool serve(call *c) { /* sends or reads some bytes; returns whether there are more to send or to read */
     swimtab_progress whole = SWIMTAB_PROGRESS_INIT, progress = SWIMTAB_PROGRESS_INIT;
     bool sends = c->sent < c->len;
     ssize_t more = sends ? send(c->fd, c->out + c->sent, c->len - c->sent, MSG_NOSIGNAL)
                          : recv(c->fd, c->in + c->got, sizeof c->in - c->got, 0);
     if (more <= 0) return false;
-    if (sends) return c->sent += (size_t)more, c->is_own || c->sent < c->len;
+    if (sends) return c->sent += (size_t)more, c->is_own || c->sent < c->len; /* who was called hangs up */
     swimtab_status status = swimtab_unwrap_stream_new(&keys, NULL, 0, c->in, c->got += (size_t)more, &message).status;
     bool is_table = status == SWIMTAB_DONE && !on_probe(c, (place){0}, message.at, message.len);
     if (is_table && (status = swimtab_whole(&whole, message.at, message.len)) == SWIMTAB_DONE) {
@@ -218,17 +218,17 @@ int main(int argc, char **argv) {
     me.vsn = getenv("AGENT_SERF") ? "\1\5\2\2\5\4" : "\1\5\2\0\0\0", me.vsn_len = 6, me.port = ntohs(own.sin_port);
     udp = socket(AF_INET, SOCK_DGRAM, 0), tcp = socket(AF_INET, SOCK_STREAM | SOCK_NONBLOCK, 0);
     if (setsockopt(tcp, SOL_SOCKET, SO_REUSEADDR, &(int){1}, sizeof(int)) || getentropy(&sequence, sizeof sequence) ||
-        bind(udp, (void *)&own, sizeof own) || bind(tcp, (void *)&own, sizeof own) || listen(tcp, CALLS))
-        return perror("agent"), 1;
+        bind(udp, (void *)&own, sizeof own) || bind(tcp, (void *)&own, sizeof own) || listen(tcp, CALLS) ||
+        swimtab_view_open(&view, DEAD)) return perror("agent"), 1;
     setvbuf(stdin, NULL, _IONBF, 0), setvbuf(stdout, NULL, _IOLBF, 0);
-    swimtab_view_open(&view, DEAD), take(made, swimtab_alive_of(&me, made, LEN).len);
+    take(made, swimtab_alive_of(&me, made, LEN).len);
     for (bool goes_on = true; goes_on;) {
         struct pollfd from[3 + CALLS] = {{udp, POLLIN, 0}, {tcp, POLLIN, 0}, {0, POLLIN, 0}};
         for (call *c = calls; c < calls + CALLS; c++)
             from[3 + (c - calls)] = (struct pollfd){c->fd ? c->fd : -1, c->sent < c->len ? POLLOUT : POLLIN, 0};
         poll(from, 3 + CALLS, 20), clock_gettime(CLOCK_MONOTONIC, &time);
         now = (uint64_t)time.tv_sec * 1000000 + (uint64_t)time.tv_nsec / 1000;
-        for (int i = 0; i < 1000 && on_packet(); i++) continue;
+        for (int i = 0; i < 1000 && on_packet(); i++) continue; /* before the timers, also after it stood still */
         if (from[1].revents) begin(own, NULL, 0);
         if (from[2].revents) goes_on = fgets(line, sizeof line, stdin) && on_command(line);
         for (call *c = calls; c < calls + CALLS; c++)

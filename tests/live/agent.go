@@ -25,10 +25,11 @@ import (
 // times are those of memberlist's DefaultLANConfig, twice as short, and scaled gives the others the same. From when it
 // has joined until it leaves, except while it stands still, its list is compared with those of all living members.
 const (
-	second = 500 * time.Millisecond
-	dead   = 30 * second // for how long a death is remembered
-	pause  = 4 * second  // in which each member probes all others, and gossips
-	look   = second / 2  // how often the lists are compared
+	second    = 500 * time.Millisecond
+	suspicion = 4 * second  // for how long a member is suspected, at least
+	dead      = 30 * second // for how long a death is remembered
+	pause     = 4 * second  // in which each member probes all others, and gossips
+	look      = second / 2  // how often the lists are compared
 	// for how long the lists may differ, and how long after a change they may begin to
 	tolerance = 2 * time.Second
 )
@@ -439,6 +440,7 @@ func lives(kind string, port int, path string, forgets bool, keys ...string) {
 	n2, told2, _ := l.begins("n2", 2, key, l.at(1))
 	_, told3, _ := l.begins("n3", 3, key, l.at(1))
 	soon(kind+": a cluster of memberlist", l.all("n1", "n2", "n3"))
+	time.Sleep(pause) // nobody gossips of the others any more
 	l.changes()
 	l.agent = start(path, "127.0.11.9", port, "127.0.11.1", first)
 	soon(kind+": the agent joins it", l.all("agent", "n1", "n2", "n3"))
@@ -446,8 +448,16 @@ func lives(kind string, port int, path string, forgets bool, keys ...string) {
 	go l.watch(done, ended)
 	l.pings()
 
+	_, inc, _ := l.knows(1, "n1")
+	doubt, err := swimtab.SuspectOf("n2", "n1", inc)
+	l.reader.tells(l.at(9), doubt, err)
+	soon(kind+": the agent hears of a refutation", func() bool { return l.agent.of("n1", "suspected", "refuted", "dead") == "suspected, refuted" })
+
+	killed := time.Now()
 	l.kills("n3")
 	soon(kind+": a death", l.all("agent", "n1", "n2"))
+	lived := time.Since(killed)
+	check(fmt.Sprintf("%s: which is declared after %v", kind, lived), lived > suspicion)
 	if forgets {
 		time.Sleep(dead)
 		soon(kind+": all forget the dead", func() bool {
@@ -497,6 +507,10 @@ func lives(kind string, port int, path string, forgets bool, keys ...string) {
 	check(fmt.Sprintf("%s: the lists were compared %d times", kind, l.looks), l.looks > 20)
 	l.agent.does("leave")
 	l.agent.ends(kind)
+	soon(kind+": it has left", func() bool {
+		state, _, _ := l.knows(1, "agent")
+		return state == swimtab.Leave
+	})
 	for _, told := range []struct {
 		by     string
 		events *heard
