@@ -3,7 +3,8 @@ use Rattle.std.proofs.Common.{◌≡◌, ℕ, suc, List, [], ◌∷◌, ◌++◌
 use Rattle.std.proofs.lemmas.List.{map-append}
 use Rattle.swim_pack.specs.Composing.{gives, then_read}
 use Rattle.serf_message.specs.declared.fault.SerfFault.{SerfFault}
-use Rattle.serf_message.specs.Reading.{Reading, many_at, without_rest}
+use Rattle.serf_message.specs.Reading.{Reading, without_rest}
+use Rattle.serf_message.specs.Many.{many_at}
 
 abbrev pub Many : Type 0 → Type 0
 Many A = Result (List A × List ℕ) SerfFault

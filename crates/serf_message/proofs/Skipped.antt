@@ -13,7 +13,8 @@ use Rattle.serf_message.specs.declared.form.Form.TheVariants as forms
 use Rattle.serf_message.specs.Keys.{key_text}
 use Rattle.serf_message.specs.Writing.{Entry, value_text, entry_text, entries_text, bytes_text, list_len_text, list_text, IsShortList}
 use Rattle.serf_message.specs.Forms.{form_of, long_form_of}
-use Rattle.serf_message.specs.Reading.{bytes_at, count_at, inside, outside_at, values_within, values_at, whole_at, Reading, many_at, list_len_of, list_len_at, listed, without_rest, fresh_bytes_at}
+use Rattle.serf_message.specs.Reading.{bytes_at, count_at, inside, outside_at, values_within, values_at, whole_at, Reading, without_rest}
+use Rattle.serf_message.specs.Many.{many_at, list_len_of, list_len_at, listed, fresh_bytes_at}
 use Rattle.serf_message.proofs.Again.{read, split, bytes_again, two_again, short_form, map_form, fixed_again, field_bytes_again}
 use Rattle.serf_message.proofs.Passed.{none_left, one_value}
 

@@ -12,7 +12,8 @@ use Rattle.serf_message.specs.Coordinates.{CoordinateValue, coordinate_of, coord
 use Rattle.serf_message.specs.Forms.{form_of, long_form_of}
 use Rattle.serf_message.specs.KeyMessages.{KeyResponseValue, IsShortKeyResponse, key_request_of, key_request_after, key_request_bytes, key_response_of, key_response_after, key_response_from, key_response_bytes, key_response_entries, texts_text}
 use Rattle.serf_message.specs.Layouts.{coordinate_layout, key_request_layout, key_response_layout}
-use Rattle.serf_message.specs.Reading.{bytes_at, float_at, inside, outside_at, listed, list_len_at, list_len_of, many_at, value_at, number_value_at, fields_at, text_at}
+use Rattle.serf_message.specs.Reading.{bytes_at, float_at, inside, outside_at, value_at, number_value_at, fields_at, text_at}
+use Rattle.serf_message.specs.Many.{listed, list_len_at, list_len_of, many_at}
 use Rattle.serf_message.specs.Slots.{Slot, Slots, no_slots}
 use Rattle.serf_message.specs.Writing.{Spelled, Entry, IsShortList, entries_text, float_text, list_len_text}
 use Rattle.serf_message.proofs.Again.{read, split, entry_step, bytes_again, string_again, array_again, truth_again, text_again}

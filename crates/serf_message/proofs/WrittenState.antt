@@ -8,7 +8,8 @@ use Rattle.swim_pack.specs.Spelling.{raw_text, number_text}
 use Rattle.serf_message.specs.declared.layout.Key.TheVariants as keys
 use Rattle.serf_message.specs.Forms.{form_of, long_form_of}
 use Rattle.serf_message.specs.Layouts.{state_layout, group_layout, grouped_layout}
-use Rattle.serf_message.specs.Reading.{count_at, inside, outside_at, many_at, map_len_at, fields_at, text_at, without_rest}
+use Rattle.serf_message.specs.Reading.{count_at, inside, outside_at, fields_at, text_at, without_rest}
+use Rattle.serf_message.specs.Many.{many_at, map_len_at}
 use Rattle.serf_message.specs.Slots.{Slot, Slots, no_slots}
 use Rattle.serf_message.specs.States.{StatusValue, GroupedValue, GroupValue, StateValue, IsShortGrouped, IsShortGroup, IsTimed, IsPlaceTimed, IsStateInRange, status_at, statuses_in, grouped_at, group_at, place_at, state_from, state_after, state_of, status_text, statuses_text, names_text, grouped_text, grouped_entries, all_grouped_text, group_entries, place_text, places_text, state_entries, state_bytes}
 use Rattle.serf_message.specs.Writing.{Spelled, Entry, entries_text, map_len_text}

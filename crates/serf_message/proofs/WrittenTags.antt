@@ -5,7 +5,7 @@ use Rattle.std.specs.List.{AllByRecursion, flat_map}
 use Rattle.byteorder.specs.Endian.{big_bytes}
 use Rattle.swim_pack.specs.Spelling.{raw_text}
 use Rattle.serf_message.specs.Forms.{form_of, long_form_of}
-use Rattle.serf_message.specs.Reading.{map_len_of, map_len_at, many_at}
+use Rattle.serf_message.specs.Many.{map_len_of, map_len_at, many_at}
 use Rattle.serf_message.specs.Tags.{TagValue, IsShortTag, tag_at, tags_at, tag_text, tags_of, tags_bytes}
 use Rattle.serf_message.specs.Writing.{map_len_text}
 use Rattle.serf_message.proofs.Again.{read, split, map_form, fixed_again, two_again, text_again}

@@ -7,7 +7,8 @@ use Rattle.serf_message.specs.declared.coordinate.Coordinate.{Coordinate}
 use Rattle.serf_message.specs.declared.layout.Key.TheVariants as keys
 use Rattle.serf_message.specs.Layouts.{coordinate_layout}
 use Rattle.serf_message.specs.Messages.{with_fields}
-use Rattle.serf_message.specs.Reading.{and_then, listed, float_at}
+use Rattle.serf_message.specs.Reading.{and_then, float_at}
+use Rattle.serf_message.specs.Many.{listed}
 use Rattle.serf_message.specs.Slots.{Slots, huge_in, raw_in}
 use Rattle.serf_message.specs.Writing.{Spelled, Entry, entries_text, list_len_text, float_text}
 

@@ -7,7 +7,8 @@ use Rattle.serf_message.specs.declared.key_messages.KeyResponse.{KeyResponse}
 use Rattle.serf_message.specs.declared.layout.Key.TheVariants as keys
 use Rattle.serf_message.specs.Layouts.{key_request_layout, key_response_layout}
 use Rattle.serf_message.specs.Messages.{with_fields}
-use Rattle.serf_message.specs.Reading.{and_then, body_of, listed, text_at}
+use Rattle.serf_message.specs.Reading.{and_then, body_of, text_at}
+use Rattle.serf_message.specs.Many.{listed}
 use Rattle.serf_message.specs.Slots.{Slots, raw_in, flag_in}
 use Rattle.serf_message.specs.Writing.{Spelled, Entry, entries_text, list_len_text, IsShortList}
 

@@ -4,6 +4,7 @@ pub mod Keys
 pub mod Slots
 pub mod Values
 pub mod Reading
+pub mod Many
 pub mod Layouts
 pub mod Messages
 pub mod Writing

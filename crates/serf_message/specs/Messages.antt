@@ -11,7 +11,8 @@ use Rattle.serf_message.specs.declared.message.Relay.{Relay}
 use Rattle.serf_message.specs.declared.message.Message.{Message}
 use Rattle.serf_message.specs.declared.message.Message.TheVariants as messages
 use Rattle.serf_message.specs.Layouts.{leave_layout, join_layout, event_layout, query_layout, response_layout, relay_layout, address_layout}
-use Rattle.serf_message.specs.Reading.{Fields, fields_at, fields_in, alone, and_then, listed, fresh_bytes_at}
+use Rattle.serf_message.specs.Reading.{Fields, fields_at, fields_in, alone, and_then}
+use Rattle.serf_message.specs.Many.{listed, fresh_bytes_at}
 use Rattle.serf_message.specs.Slots.{Slots, huge_in, long_in, short_in, tiny_in, signed_in, raw_in, flag_in}
 
 -- Serf's messageLeave

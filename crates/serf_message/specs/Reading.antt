@@ -8,7 +8,7 @@ use Rattle.swim_pack.specs.Composing.{◌>>=◌, gives, refuses, some_or, lift}
 use Rattle.swim_pack.specs.Composing as composing
 use Rattle.swim_pack.specs.Reading.{uint_at}
 use Rattle.serf_message.specs.declared.fault.SerfFault.{SerfFault}
-use Rattle.serf_message.specs.declared.fault.SerfFault.TheVariants.{Ended, NotNumber, NotBool, NotRaw, NotMap, NotList, NotFloat, NotValue, WrongType, Trailing, Memory}
+use Rattle.serf_message.specs.declared.fault.SerfFault.TheVariants.{Ended, NotNumber, NotBool, NotRaw, NotMap, NotFloat, NotValue, WrongType, Trailing, Memory}
 use Rattle.serf_message.specs.Fault.{fault_of_pack}
 use Rattle.serf_message.specs.declared.form.Count.{Count}
 use Rattle.serf_message.specs.declared.form.Count.TheVariants.{Fixed, One, Two, Four}
@@ -363,63 +363,10 @@ abbrev pub and_then : {A B : Type 0} → Result A SerfFault → (A → Result B 
 and_then (Ok x) next = next x
 and_then (Err fault) next = Err fault
 
--- ---- lists
-
--- this many values, one after the other
-unfoldable pub many_at : {A : Type 0} → Reading A → ℕ → Reading (List A)
-many_at reading zero = gives []
-many_at reading (suc n) = do
-  first ← reading
-  others ← many_at reading n
-  gives (first ∷ others)
-
--- the number of values of a list of this form; nil is an empty list
-unfoldable pub list_len_of : Option Form → Reading ℕ
-list_len_of None = refuses NotList
-list_len_of (Some forms.Nil) = gives 0
-list_len_of (Some (forms.Plain size)) = refuses NotList
-list_len_of (Some (forms.Text count)) = refuses NotList
-list_len_of (Some (forms.Bytes count)) = refuses NotList
-list_len_of (Some (forms.List count)) = count_at count
-list_len_of (Some (forms.Map count)) = refuses NotList
-list_len_of (Some (forms.Extension count)) = refuses NotList
-
--- the number of values of a list
-unfoldable pub list_len_at : Reading ℕ
-list_len_at = do
-  first ← byte_at
-  list_len_of (form_of first)
-
--- the number of pairs of a map of this form; nil is an empty map
-unfoldable pub map_len_of : Option Form → Reading ℕ
-map_len_of None = refuses NotMap
-map_len_of (Some forms.Nil) = gives 0
-map_len_of (Some (forms.Plain size)) = refuses NotMap
-map_len_of (Some (forms.Text count)) = refuses NotMap
-map_len_of (Some (forms.Bytes count)) = refuses NotMap
-map_len_of (Some (forms.List count)) = refuses NotMap
-map_len_of (Some (forms.Map count)) = count_at count
-map_len_of (Some (forms.Extension count)) = refuses NotMap
-
--- the number of pairs of a map
-unfoldable pub map_len_at : Reading ℕ
-map_len_at = do
-  first ← byte_at
-  map_len_of (form_of first)
-
 -- what was read, whatever follows it
 abbrev pub without_rest : {A : Type 0} → Result (A × List ℕ) SerfFault → Result A SerfFault
 without_rest (Ok read) = Ok read.0
 without_rest (Err fault) = Err fault
-
--- the list in the bytes of a value; a value that was not read is an empty list
-abbrev pub listed : {A : Type 0} → Reading A → List ℕ → Result (List A) SerfFault
-listed reading [] = Ok []
-listed reading (first ∷ rest) = without_rest ((list_len_at >>= many_at reading) (first ∷ rest))
-
--- texts or bytes, each as the value of a field
-abbrev pub fresh_bytes_at : Reading (List ℕ)
-fresh_bytes_at = field_bytes_at []
 
 -- the fields in the bytes of a value; of a value that was not read all are zero
 unfoldable pub fields_in : Fields → List ℕ → Result Slots SerfFault

@@ -13,7 +13,8 @@ use Rattle.serf_message.specs.declared.state.State.{State}
 use Rattle.serf_message.specs.declared.state.StatusTime.{StatusTime}
 use Rattle.serf_message.specs.Layouts.{state_layout, group_layout, grouped_layout}
 use Rattle.serf_message.specs.Messages.{with_fields}
-use Rattle.serf_message.specs.Reading.{Reading, and_then, body_of, fields_at, number_at, text_at, listed, many_at, map_len_at, without_rest}
+use Rattle.serf_message.specs.Reading.{Reading, and_then, body_of, fields_at, number_at, text_at, without_rest}
+use Rattle.serf_message.specs.Many.{listed, many_at, map_len_at}
 use Rattle.serf_message.specs.Slots.{Slots, huge_in, raw_in}
 use Rattle.serf_message.specs.Writing.{Spelled, Entry, IsShortList, entries_text, list_len_text, map_len_text}
 

@@ -5,7 +5,8 @@ use Rattle.swim_pack.specs.Composing.{◌>>=◌, gives}
 use Rattle.swim_pack.specs.Spelling.{raw_text}
 use Rattle.serf_message.specs.declared.fault.SerfFault.{SerfFault}
 use Rattle.serf_message.specs.declared.tags.Tag.{Tag}
-use Rattle.serf_message.specs.Reading.{Reading, text_at, map_len_at, many_at, alone}
+use Rattle.serf_message.specs.Reading.{Reading, text_at, alone}
+use Rattle.serf_message.specs.Many.{map_len_at, many_at}
 use Rattle.serf_message.specs.Writing.{map_len_text}
 
 -- a tag: its name and its value

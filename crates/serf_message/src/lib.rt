@@ -1,4 +1,24 @@
-//! The messages of Serf that ride inside memberlist, as values, both ways.
+//! The messages of Serf that ride inside memberlist, as values, both ways: read as Serf's handlers
+//! read them, and written as Serf writes them.
+//!
+//! | module | subject |
+//! |---|---|
+//! | `message` | the messages that user messages of memberlist carry, and their fields |
+//! | `decode`, `encode` | one such message from its bytes, and its bytes |
+//! | `state`, `read_state`, `write_state` | the state that push/pulls carry |
+//! | `tags` | the tags that a member's metadata carries |
+//! | `coordinate` | the coordinates that the payloads of acks carry |
+//! | `key_messages` | the messages about keys that queries and their responses carry |
+//! | `fault` | why bytes were refused |
+//! | `form` | what the first byte of a MessagePack value announces |
+//! | `heads`, `signed` | bytes, numbers, lengths and texts at the start of bytes |
+//! | `passing` | values of unknown keys, which are passed over |
+//! | `lists` | bytes written as a list of numbers |
+//! | `many` | the lengths of lists and maps, and lists of bytes and of texts |
+//! | `layout` | the fields of each message, in Serf's order |
+//! | `field_value`, `fields` | the fields of a message, from a map or an array |
+//! | `write`, `pairs` | values and maps as they are written |
+//! | `laws` | what holds for messages, independent of any code |
 #![tactic(auto)]
 
 mod coordinate;

@@ -1,7 +1,8 @@
 //! Lists: their lengths, and lists of bytes.
 
 ghost use Rattle.std.specs.Prelude.{◌≡◌, ◌++◌, ◌∷◌, [], Ok, Err, MatchResult, OnOk, map};
-ghost use Rattle.serf_message.specs.Reading.{IsFault, list_len_of, list_len_at, map_len_of, map_len_at, many_at, listed, fresh_bytes_at, without_rest, text_at};
+ghost use Rattle.serf_message.specs.Reading.{IsFault, without_rest, text_at};
+ghost use Rattle.serf_message.specs.Many.{list_len_of, list_len_at, map_len_of, map_len_at, many_at, listed, fresh_bytes_at};
 
 use crate::fault::SerfFault;
 use crate::form::{Form, form_of};
@@ -10,7 +11,7 @@ use crate::lists::next_field_bytes;
 use std::alloc::{AllocError, Global};
 
 /// The number of values of a list, which follow. Nil is an empty list.
-#[tactic(auto, unfolding(crate::specs::Reading::list_len_at))]
+#[tactic(auto, unfolding(crate::specs::Many::list_len_at))]
 pub(crate) fn next_list_len(bytes: &[u8]) -> Result<(u32, &[u8]), SerfFault>
     ensures { MatchResult result (λ read. list_len_at bytes.now ≡ Ok (read.0, read.1.now))
         (λ fault. list_len_at bytes.now ≡ Err fault) }
@@ -20,7 +21,7 @@ pub(crate) fn next_list_len(bytes: &[u8]) -> Result<(u32, &[u8]), SerfFault>
 }
 
 /// The number of values of a list of this form.
-#[tactic(auto, unfolding(crate::specs::Reading::list_len_of))]
+#[tactic(auto, unfolding(crate::specs::Many::list_len_of))]
 fn list_len_of(bytes: &[u8], form: Option<Form>) -> Result<(u32, &[u8]), SerfFault>
     ensures { MatchResult result (λ read. list_len_of form bytes.now ≡ Ok (read.0, read.1.now))
         (λ fault. list_len_of form bytes.now ≡ Err fault) }
@@ -33,7 +34,7 @@ fn list_len_of(bytes: &[u8], form: Option<Form>) -> Result<(u32, &[u8]), SerfFau
 }
 
 /// The number of pairs of a map, which follow. Nil is an empty map.
-#[tactic(auto, unfolding(crate::specs::Reading::map_len_at))]
+#[tactic(auto, unfolding(crate::specs::Many::map_len_at))]
 pub(crate) fn next_map_len(bytes: &[u8]) -> Result<(u32, &[u8]), SerfFault>
     ensures { MatchResult result (λ read. map_len_at bytes.now ≡ Ok (read.0, read.1.now))
         (λ fault. map_len_at bytes.now ≡ Err fault) }
@@ -43,7 +44,7 @@ pub(crate) fn next_map_len(bytes: &[u8]) -> Result<(u32, &[u8]), SerfFault>
 }
 
 /// The number of pairs of a map of this form.
-#[tactic(auto, unfolding(crate::specs::Reading::map_len_of))]
+#[tactic(auto, unfolding(crate::specs::Many::map_len_of))]
 fn map_len_of(bytes: &[u8], form: Option<Form>) -> Result<(u32, &[u8]), SerfFault>
     ensures { MatchResult result (λ read. map_len_of form bytes.now ≡ Ok (read.0, read.1.now))
         (λ fault. map_len_of form bytes.now ≡ Err fault) }

@@ -2,7 +2,8 @@
 
 ghost use Rattle.std.specs.Prelude.{◌≡◌, ◌<◌, ◌^◌, ◌++◌, ◌∷◌, [], codes, Ok, length, map, MatchResult, IfOk, OnOk};
 ghost use Rattle.std.specs.List.{AllByRecursion, flat_map};
-ghost use Rattle.serf_message.specs.Reading.{IsFault, many_at, alone};
+ghost use Rattle.serf_message.specs.Reading.{IsFault, alone};
+ghost use Rattle.serf_message.specs.Many.{many_at};
 ghost use Rattle.serf_message.specs.Tags.{tags_of, tags_at, tag_at, tag_value, tag_text, tags_bytes, IsShortTag};
 
 use crate::fault::SerfFault;

@@ -1,7 +1,8 @@
 use crate::{
-    Join, KeyRequest, Leave, Message, Query, Relay, SerfFault, State, UserEvent, decode_coordinate,
-    decode_key_request, decode_key_response, decode_message, decode_state, decode_tags,
-    encode_key_request, encode_message, encode_state,
+    Coordinate, Join, KeyRequest, KeyResponse, Leave, Message, Query, Relay, SerfFault, State, Tag,
+    UserEvent, decode_coordinate, decode_key_request, decode_key_response, decode_message,
+    decode_state, decode_tags, encode_coordinate, encode_key_request, encode_key_response,
+    encode_message, encode_state, encode_tags,
 };
 use std::alloc::AllocError;
 use std::test::Fail;
@@ -231,6 +232,56 @@ fn other_parts_are_written(rt: HostRuntime) -> Result<(), Fail> {
         encode_state(alloc, &state)?.as_slice(),
         b"\x02\x86\xaaEventLTime\x00\xa6Events\x90\xa5LTime\x00\xabLeftMembers\x90\xaaQueryLTime\x00\xacStatusLTimes\x80".as_slice()
     );
+    Ok(())
+}
+
+/// Coordinates, tags and key responses as the writer in Go has them.
+#[test]
+fn small_parts_are_written(rt: HostRuntime) -> Result<(), Fail> {
+    let alloc = rt.alloc();
+    let mut vec = Vec::new(alloc);
+    vec.push(0x3fe0_0000_0000_0000)?;
+    vec.push(0xbff0_0000_0000_0000)?;
+    let coordinate = Coordinate {
+        vec,
+        error: 0x3ff8_0000_0000_0000,
+        adjustment: 0,
+        height: 0x3ee4_f8b5_88e3_68f1,
+    };
+    assert_eq!(rt;
+        encode_coordinate(alloc, &coordinate)?.as_slice(),
+        b"\x01\x84\xaaAdjustment\xcb\x00\x00\x00\x00\x00\x00\x00\x00\xa5Error\xcb?\xf8\x00\x00\x00\x00\x00\x00\xa6Height\xcb>\xe4\xf8\xb5\x88\xe3h\xf1\xa3Vec\x92\xcb?\xe0\x00\x00\x00\x00\x00\x00\xcb\xbf\xf0\x00\x00\x00\x00\x00\x00".as_slice()
+    );
+    let mut tags = Vec::new(alloc);
+    tags.push(Tag {
+        name: b"role".to_vec(alloc)?,
+        value: b"web".to_vec(alloc)?,
+    })?;
+    assert_eq!(rt;
+        encode_tags(alloc, &tags)?.as_slice(),
+        b"\xff\x81\xa4role\xa3web".as_slice()
+    );
+    let response = KeyResponse {
+        result: false,
+        message: b"no".to_vec(alloc)?,
+        keys: Vec::new(alloc),
+        primary_key: Vec::new(alloc),
+    };
+    assert_eq!(rt;
+        encode_key_response(alloc, &response)?.as_slice(),
+        b"\x08\x84\xa4Keys\xc0\xa7Message\xa2no\xaaPrimaryKey\xa0\xa6Result\xc2".as_slice()
+    );
+    Ok(())
+}
+
+/// A map with a count in two bytes.
+#[test]
+fn seventeen_tags_are_read(rt: HostRuntime) -> Result<(), Fail> {
+    let tags = decode_tags(
+        rt.alloc(),
+        b"\xff\xde\x00\x11\xa3t14\xa1v\xa3t15\xa1v\xa2t0\xa1v\xa2t1\xa1v\xa2t4\xa1v\xa2t7\xa1v\xa2t9\xa1v\xa3t11\xa1v\xa3t13\xa1v\xa2t3\xa1v\xa2t5\xa1v\xa2t8\xa1v\xa3t12\xa1v\xa2t2\xa1v\xa2t6\xa1v\xa3t10\xa1v\xa3t16\xa1v",
+    )?;
+    assert_eq!(rt; tags.len(), 17);
     Ok(())
 }
 

@@ -1,5 +1,5 @@
 use Rattle.std.proofs.Common.{◌≡◌, ◌-◌}
-use Rattle.serf_message.specs.Reading.{many_at}
+use Rattle.serf_message.specs.Many.{many_at}
 use Rattle.serf_message.specs.Reading.{float_at}
 use Rattle.serf_message.proofs.Listing.{before}
 use Rattle.serf_message.proofs.coordinate.many_floats.Given as goal

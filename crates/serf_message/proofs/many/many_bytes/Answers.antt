@@ -2,7 +2,7 @@ use Rattle.std.proofs.Common.{◌≡◌, ◌+◌, ◌-◌, suc, arith}
 use Rattle.std.proofs.lemmas.Result.{err_from_is_err_and}
 use Rattle.serf_message.proofs.Listing.{one_more, bad_one, all_read, mapped_more}
 use Rattle.serf_message.proofs.Slotting.{fault_of}
-use Rattle.serf_message.specs.Reading.{fresh_bytes_at}
+use Rattle.serf_message.specs.Many.{fresh_bytes_at}
 use Rattle.serf_message.proofs.many.many_bytes.Goals as goal
 
 pub returns-in_err-value : goal.returns-in_err-value

@@ -1,5 +1,5 @@
 use Rattle.std.proofs.Common.{◌≡◌, ◌-◌, map}
-use Rattle.serf_message.specs.Reading.{many_at}
+use Rattle.serf_message.specs.Many.{many_at}
 use Rattle.serf_message.specs.Reading.{text_at}
 use Rattle.serf_message.proofs.Listing.{before}
 use Rattle.serf_message.proofs.many.many_texts.Given as goal

@@ -1,5 +1,5 @@
 use Rattle.std.proofs.Common.{◌≡◌, ◌-◌, map}
-use Rattle.serf_message.specs.Reading.{many_at}
+use Rattle.serf_message.specs.Many.{many_at}
 use Rattle.serf_message.specs.States.{grouped_at, grouped_value}
 use Rattle.serf_message.proofs.Listing.{before}
 use Rattle.serf_message.proofs.read_state.many_grouped.Given as goal

@@ -1,5 +1,5 @@
 use Rattle.std.proofs.Common.{◌≡◌, ◌-◌, map}
-use Rattle.serf_message.specs.Reading.{many_at}
+use Rattle.serf_message.specs.Many.{many_at}
 use Rattle.serf_message.specs.States.{place_at, place_value}
 use Rattle.serf_message.proofs.Listing.{before}
 use Rattle.serf_message.proofs.read_state.many_places.Given as goal

@@ -1,5 +1,5 @@
 use Rattle.std.proofs.Common.{◌≡◌, ◌-◌, map}
-use Rattle.serf_message.specs.Reading.{many_at}
+use Rattle.serf_message.specs.Many.{many_at}
 use Rattle.serf_message.specs.Tags.{tag_at, tag_value}
 use Rattle.serf_message.proofs.Listing.{before}
 use Rattle.serf_message.proofs.tags.many_tags.Given as goal
