@@ -184,6 +184,7 @@ type life struct {
 	reader *member // reads the tables of members of memberlist, and is in nobody's table
 	rings  []*memberlist.Keyring
 	looks  int
+	told   map[string]*heard
 	lock   sync.Mutex
 	living map[string]*memberlist.Memberlist
 	// held while the lists are compared, so that the agent does not come to stand still meanwhile
@@ -202,15 +203,36 @@ func (l *life) changes() {
 
 func (l *life) at(last int) string { return fmt.Sprintf("127.0.11.%d:%d", last, l.port) }
 
-// heard are the events of a member of memberlist.
+// heard are the events of a member of memberlist until it is killed: its timers go on after that, and tell of deaths.
 type heard struct {
 	events
 	life *life
+	over bool
 }
 
-func (h *heard) NotifyJoin(node *memberlist.Node)   { h.life.changes(); h.events.NotifyJoin(node) }
-func (h *heard) NotifyLeave(node *memberlist.Node)  { h.life.changes(); h.events.NotifyLeave(node) }
-func (h *heard) NotifyUpdate(node *memberlist.Node) { h.life.changes(); h.events.NotifyUpdate(node) }
+func (h *heard) tells(tell func(*memberlist.Node), node *memberlist.Node) {
+	h.life.changing.Lock()
+	defer h.life.changing.Unlock()
+	if !h.over {
+		h.life.changed = time.Now()
+		tell(node)
+	}
+}
+
+func (h *heard) NotifyJoin(node *memberlist.Node)   { h.tells(h.events.NotifyJoin, node) }
+func (h *heard) NotifyLeave(node *memberlist.Node)  { h.tells(h.events.NotifyLeave, node) }
+func (h *heard) NotifyUpdate(node *memberlist.Node) { h.tells(h.events.NotifyUpdate, node) }
+
+// soonAre waits for the events about a member.
+func (h *heard) soonAre(what, name, wanted string) {
+	if wanted != "" {
+		wanted = strings.ReplaceAll(wanted, ",", " "+name+",") + " " + name
+	}
+	for end := time.Now().Add(patience); h.of(name) != wanted && time.Now().Before(end); {
+		time.Sleep(20 * time.Millisecond)
+	}
+	h.are(what, wanted, name)
+}
 
 // role is a delegate with metadata.
 type role struct {
@@ -239,13 +261,15 @@ func (l *life) begins(name string, last int, key []byte, join string) (*memberli
 	}
 	l.lock.Lock()
 	defer l.lock.Unlock()
-	l.living[name] = list
+	l.living[name], l.told[name] = list, told
 	return list, told, role
 }
 
 // kills closes the sockets of a member of memberlist.
 func (l *life) kills(name string) {
-	l.changes()
+	l.changing.Lock()
+	l.changed, l.told[name].over = time.Now(), true
+	l.changing.Unlock()
 	l.lock.Lock()
 	list := l.living[name]
 	delete(l.living, name)
@@ -429,7 +453,7 @@ func (l *life) rotates(old, next string) {
 // the member that died comes back when all have forgotten it. With two keys the cluster begins with the first one, and
 // ends with the second one.
 func lives(kind string, port int, path string, forgets bool, keys ...string) {
-	l := &life{kind: kind, port: port, living: make(map[string]*memberlist.Memberlist)}
+	l := &life{kind: kind, port: port, told: make(map[string]*heard), living: make(map[string]*memberlist.Memberlist)}
 	var key []byte
 	first := ""
 	if len(keys) > 0 {
@@ -523,10 +547,7 @@ func lives(kind string, port int, path string, forgets bool, keys ...string) {
 		{"n4", told4, map[string]string{"agent": "join, leave", "n1": "join", "n2": "", "n3": "join", "n4": "join"}},
 	} {
 		for name, wanted := range told.wanted {
-			if wanted != "" {
-				wanted = strings.ReplaceAll(wanted, ",", " "+name+",") + " " + name
-			}
-			soon(fmt.Sprintf("%s: %s hears %q", kind, told.by, wanted), func() bool { return told.events.of(name) == wanted })
+			told.events.soonAre(fmt.Sprintf("%s: what %s hears of %s", kind, told.by, name), name, wanted)
 		}
 	}
 	back := "back"
