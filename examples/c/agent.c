@@ -2,8 +2,7 @@
  * The other addresses are seeds, which it joins, and dials again while it is alone. It prints each event as `NAME EVENT
  * STATE INCARNATION ADDRESS:PORT [BY]`. It reads commands: `list` prints `NAME STATE INCARNATION ADDRESS:PORT` for each
  * member, and a line `.`; `add HEX`, `use HEX`, `remove HEX` are for keys; `leave`, or the end of the input, ends it.
- * Its times are those of memberlist in a local network; -DSECOND=250000 makes them four times as short. If AGENT_SERF
- * is in its environment, its versions are those of Serf's agents. */
+ * Times are memberlist's in a local network; -DSECOND=250000 quarters them. With AGENT_SERF set versions are Serf's. */
 #define _GNU_SOURCE 1
 #include <arpa/inet.h>
 #include <poll.h>
@@ -77,10 +76,11 @@ static void post(call *c, place to, const void *what, size_t len) { /* over a co
     if (w.status == SWIMTAB_DONE && c) c->len = w.len;
     if (w.status == SWIMTAB_DONE && !c) sendto(udp, packet, w.len, 0, (struct sockaddr *)&to, sizeof to);
 }
-static void post_to_some(uint32_t worst, bool to_ask, const void *what, size_t len) { /* they take turns */
-    static member turn;
-    for (size_t left = OTHERS, i = swimtab_view_count(&view); left > 0 && i > 1 && go_on(&turn, worst); i--)
-        if (!to_ask || !is_same(NAME(&turn), NAME(&probed))) post(NULL, at(turn.addr, turn.port), what, len), left--;
+static void post_to_some(uint32_t worst, bool to_ask, const void *what, size_t len) { /* at random, up to OTHERS */
+    static member each;
+    for (size_t left = OTHERS, i = swimtab_view_count(&view); left > 0 && i > 1 && go_on(&each, worst); i--)
+        if ((size_t)rand() % (i - 1) < left && !(to_ask && is_same(NAME(&each), NAME(&probed))))
+            post(NULL, at(each.addr, each.port), what, len), left--;
 }
 
 static void on_event(uint32_t event) { /* tells it on; what others say of this member, and it does not, it refutes */
@@ -220,8 +220,8 @@ int main(int argc, char **argv) {
     if (setsockopt(tcp, SOL_SOCKET, SO_REUSEADDR, &(int){1}, sizeof(int)) || getentropy(&sequence, sizeof sequence) ||
         bind(udp, (void *)&own, sizeof own) || bind(tcp, (void *)&own, sizeof own) || listen(tcp, CALLS) ||
         swimtab_view_open(&view, DEAD)) return perror("agent"), 1;
-    setvbuf(stdin, NULL, _IONBF, 0), setvbuf(stdout, NULL, _IOLBF, 0);
-    take(made, swimtab_alive_of(&me, made, LEN).len);
+    setvbuf(stdin, NULL, _IONBF, 0), setvbuf(stdout, NULL, _IOLBF, 0), srand(sequence);
+    take(made, swimtab_alive_of(&me, made, LEN).len), probed = peer = heard; /* both go round from this member on */
     for (bool goes_on = true; goes_on;) {
         struct pollfd from[3 + CALLS] = {{udp, POLLIN, 0}, {tcp, POLLIN, 0}, {0, POLLIN, 0}};
         for (call *c = calls; c < calls + CALLS; c++)
