@@ -1,6 +1,6 @@
 -- One more leaf is read.
 use Rattle.std.proofs.Common.{◌≡◌, ℕ, ◌+◌, ◌<◌, List, [], ◌∷◌, ◌++◌, map, take, length, Bor, refl, sym, ap, subst, ◌∙◌, append_assoc, append-nil}
-use Rattle.std.proofs.lemmas.List.{map-append, take_more}
+use Rattle.std.proofs.lemmas.List.{map-append}
 use Rattle.memberlist_message.specs.Messages.{MessageValue, message_of}
 use Rattle.swimwatch.specs.Datagrams.{if_read, messages_in, Gives, Reads}
 

@@ -1,5 +1,6 @@
 -- A push/pull stream of which some records were read.
-use Rattle.std.proofs.Common.{◌≡◌, ℕ, ◌-◌, ◌<◌, List, [], ◌∷◌, ◌++◌, length, Some, refl, sym, ap, ◌∙◌, append_assoc, append-nil, arith}
+use Rattle.std.proofs.Common.{◌≡◌, ℕ, ◌-◌, ◌<◌, List, [], ◌∷◌, ◌++◌, length, take, Some, refl, sym, ap, ◌∙◌, append_assoc, append-nil, arith}
+use Rattle.std.proofs.Math.Seq.{take-append_seam}
 use Rattle.swim_claim.specs.declared.claim.Claim.{Claim}
 use Rattle.swim_pack.specs.Composing.{UnlessFailed}
 use Rattle.swim_pack.specs.Composing.Cause.{by_inlet}
@@ -14,7 +15,7 @@ use Rattle.swim_table.specs.Steps.{IsWanted, BeginText}
 use Rattle.swim_table.specs.Steps.{IsWanted as wants}
 use Rattle.swim_table.specs.Streaming.{Streaming}
 use Rattle.swim_table.proofs.Streams.{begun_more, wanted, whole}
-use Rattle.swimwatch.specs.Records.{BeginsWithStream}
+use Rattle.swimwatch.specs.Records.{BeginsWithState, BeginsWithStream}
 
 -- the header and the records of these claims were read, and these bytes are left now
 pub record ReadSome (bytes now : List ℕ) (header : Header) (claims : List Claim) : Type 0 where
@@ -45,6 +46,30 @@ ended bytes mid now header claims count some taken = (
   now,
   header.join,
   whole header claims some.front taken.0 count some.begun taken.1,
+  some.parts ∙ ap (λ (z : List ℕ). some.front ++ z) taken.2 ∙ sym (append_assoc some.front taken.0 now),
+)
+
+-- what was taken behind the records is the user state
+pub ended_with : (bytes mid now : List ℕ) (header : Header) (claims : List Claim) → length claims ≡ header.nodes → ReadSome bytes mid header claims
+    → ConsumesKnownText (Some mid) (Some now) (λ b. length b ≡ header.user_len) → BeginsWithState bytes claims (take header.user_len mid)
+ended_with bytes mid now header claims count some taken = (
+  some.front ++ taken.0,
+  now,
+  header.join,
+  record {
+    header = header;
+    head = some.begun.head;
+    records = some.begun.records;
+    user = taken.0;
+    bytes = ap (λ (z : List ℕ). z ++ taken.0) some.begun.bytes;
+    head_text = some.begun.head_text;
+    flag = refl;
+    nodes = count;
+    record_texts = some.begun.record_texts;
+    user_len = taken.1;
+  },
+  sym (ap (λ (z : List ℕ). take header.user_len z) taken.2
+      ∙ ap (λ (n : ℕ). take n (taken.0 ++ now)) (sym taken.1) ∙ take-append_seam taken.0 now),
   some.parts ∙ ap (λ (z : List ℕ). some.front ++ z) taken.2 ∙ sym (append_assoc some.front taken.0 now),
 )
 

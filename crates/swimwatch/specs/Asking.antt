@@ -1,5 +1,5 @@
 -- The request for a member's table.
-use Rattle.std.specs.Prelude.{◌≡◌, ℕ, Bool, false, List}
+use Rattle.std.specs.Prelude.{◌≡◌, ℕ, false, List}
 use Rattle.memberlist_cipher.specs.Encryption.{encrypted_stream}
 use Rattle.memberlist_cipher.specs.Label.{IsLabelled}
 use Rattle.memberlist_keyring.specs.Sending.{SendsFirst}

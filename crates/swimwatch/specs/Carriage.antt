@@ -1,5 +1,5 @@
 -- What datagrams and connections carry.
-use Rattle.std.specs.Prelude.{◌≡◌, ◌⊎◌, ℕ, List, []}
+use Rattle.std.specs.Prelude.{ℕ, List}
 use Rattle.swim_claim.specs.declared.claim.Claim.{Claim}
 use Rattle.memberlist_transport.specs.declared.in_the_clear.InTheClear.{InTheClear}
 use Rattle.memberlist_transport.specs.Stream.{IsStreamIn}

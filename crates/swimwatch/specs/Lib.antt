@@ -4,6 +4,8 @@ pub mod Chart
 pub mod Datagrams
 pub mod Page
 pub mod Records
+pub mod Serf
+pub mod SerfState
 pub mod Svg
 pub mod Told
 pub mod Versions

@@ -9,6 +9,12 @@ abbrev pub BeginsWithStream : List ℕ → List Claim → Type 0
 BeginsWithStream bytes claims =
     (front rest : List ℕ) × (join : Bool) × StreamText front claims join × (bytes ≡ front ++ rest)
 
+-- the bytes begin with a stream of these claims and this user state
+abbrev pub BeginsWithState : List ℕ → List Claim → List ℕ → Type 0
+BeginsWithState bytes claims user =
+    (front rest : List ℕ) × (join : Bool) × (text : StreamText front claims join)
+    × (text.user ≡ user) × (bytes ≡ front ++ rest)
+
 -- the claims of records, without what is told beside them
 abbrev pub claims_in : List StateRecord → List Claim
 claims_in records = map (λ r. r.claim) records

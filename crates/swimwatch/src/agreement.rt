@@ -6,6 +6,7 @@ use crate::directory::copy_of;
 use crate::json::Object;
 use crate::known::Known;
 use crate::roster::Roster;
+use crate::silence::Silence;
 use crate::texts::name_text;
 use memberlist_view::MemberName;
 use std::alloc::{AllocError, Global};
@@ -175,6 +176,16 @@ pub(crate) fn write_asked(
             write_others(text, &answers, &opinions)?;
         }
     }
+    write_silent(text, asked, is_keyless)
+}
+
+/// Adds a row for each member without an answer.
+pub(crate) fn write_silent(
+    text: &mut String,
+    asked: &[Asked],
+    is_keyless: bool,
+) -> Result<(), AllocError> {
+    let alloc = *text.allocator();
     for told in asked {
         if let Err(silence) = told {
             let words = silence.words(alloc, is_keyless)?;
@@ -203,7 +214,6 @@ pub(crate) fn write_asked_objects(
     asked: &[Asked],
     is_keyless: bool,
 ) -> Result<(), AllocError> {
-    let alloc = *text.allocator();
     for told in asked {
         match told {
             Ok(answer) => {
@@ -211,15 +221,23 @@ pub(crate) fn write_asked_objects(
                     write_object(text, answer, name, known)?;
                 }
             }
-            Err(silence) => {
-                let mut object = Object::new(alloc);
-                object.word("host", &silence.host)?;
-                object.text("no_answer", silence.words(alloc, is_keyless)?)?;
-                object.write(text)?;
-            }
+            Err(silence) => write_silent_object(text, silence, is_keyless)?,
         }
     }
     Ok(())
+}
+
+/// Adds the JSON object for a member without an answer.
+pub(crate) fn write_silent_object(
+    text: &mut String,
+    silence: &Silence,
+    is_keyless: bool,
+) -> Result<(), AllocError> {
+    let alloc = *text.allocator();
+    let mut object = Object::new(alloc);
+    object.word("host", &silence.host)?;
+    object.text("no_answer", silence.words(alloc, is_keyless)?)?;
+    object.write(text)
 }
 
 fn write_object(

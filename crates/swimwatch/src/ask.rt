@@ -9,6 +9,7 @@ use crate::request::request;
 use crate::ring::Ring;
 use crate::roster::Roster;
 use crate::said::{misused, said};
+use crate::serf_state::UserEvents;
 use crate::silence::Silence;
 use memberlist_cipher::CipherFault;
 use memberlist_transport::InTheClear;
@@ -33,6 +34,8 @@ pub(crate) struct Answer {
     pub(crate) stream: Vec<u8>,
     /// What the stream says.
     pub(crate) roster: Roster,
+    /// The user events in Serf's state, if the stream has one.
+    pub(crate) events: UserEvents,
     /// How it was given.
     pub(crate) way: Way,
 }

@@ -112,6 +112,7 @@ pub(crate) fn watch_until(
 fn lacking(verb: Verb) -> &'static str {
     match verb {
         Verb::Why => "nothing was heard about a member of that name, and no file has it",
+        Verb::Distances => "no coordinate of the --target name was heard",
         _ => "nothing was heard about the --member name",
     }
 }

@@ -99,7 +99,7 @@ fn write_side(text: &mut String, known: Option<&Known>) -> Result<(), AllocError
 /// Adds a member's state and address before and after, and what else changed.
 fn write_both(text: &mut String, was: &Known, is: &Known) -> Result<(), AllocError> {
     write_side(text, Some(was))?;
-    if was.kind != is.kind || was.is_elsewhere(is) {
+    if was.state() != is.state() || was.is_elsewhere(is) {
         text.push_str(" ->")?;
         write_side(text, Some(is))?;
     }
@@ -134,7 +134,7 @@ pub(crate) fn write_step(
 
 fn write_both_steps(text: &mut String, was: &Known, is: &Known) -> Result<(), AllocError> {
     let alloc = *text.allocator();
-    if was.kind != is.kind {
+    if was.state() != is.state() {
         write!(text, " {} -> {} {}", was.state(), is.state(), is.inc)?;
     } else if was.inc != is.inc {
         write!(

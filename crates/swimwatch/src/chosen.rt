@@ -32,6 +32,8 @@ pub(crate) enum Verb {
     Why,
     /// When each member first had each piece of news.
     Spread,
+    /// How long the way from each member to each other one takes, as coordinates tell.
+    Distances,
     /// One page with all of it.
     Report,
 }
@@ -52,6 +54,7 @@ impl Verb {
             "health" => Some(Verb::Health),
             "why" => Some(Verb::Why),
             "spread" => Some(Verb::Spread),
+            "distances" => Some(Verb::Distances),
             "report" => Some(Verb::Report),
             _ => None,
         }
@@ -92,6 +95,8 @@ pub(crate) struct Chosen {
     pub(crate) json: bool,
     /// Whether to write a dump.
     pub(crate) dump: bool,
+    /// Whether to show Serf's user events alone.
+    pub(crate) events: bool,
     /// How to ask members.
     pub(crate) asking: Asking,
     /// Whether to ask them again and again.

@@ -94,6 +94,7 @@ fn chosen_of(alloc: Global, verb: Verb, found: &ArgMatches) -> Result<Chosen, Re
         mult,
         json: is_set(found, "json"),
         dump: is_set(found, "dump"),
+        events: is_set(found, "events"),
         asking: asking_of(alloc, found)?,
         following: following_of(alloc, found)?,
         probing: probing_of(alloc, found)?,

@@ -1,5 +1,6 @@
 //! What was read from captures, and what was left out and why.
 
+use crate::unread::Unread;
 use std::alloc::{AllocError, Global};
 use std::net::IpAddr;
 use swim_program::fault_name;
@@ -73,6 +74,12 @@ pub(crate) struct Counts {
     pub(crate) crowded: u64,
     /// Frames of a link type that is not read.
     pub(crate) unknown_links: u64,
+    /// Payloads of acks that are no coordinate.
+    pub(crate) placeless: u64,
+    /// Members whose distances are not shown, since there are too many.
+    pub(crate) apart: u64,
+    /// User messages and states that are not Serf's.
+    pub(crate) users: Unread,
 }
 
 /// Adds a number, up to the greatest one.
@@ -117,6 +124,9 @@ impl Counts {
         add(&mut self.later, other.later);
         add(&mut self.crowded, other.crowded);
         add(&mut self.unknown_links, other.unknown_links);
+        add(&mut self.placeless, other.placeless);
+        add(&mut self.apart, other.apart);
+        self.users.add(&other.users);
         self.mixed = self.mixed.or(other.mixed);
         self.unencrypted_from = self.unencrypted_from.or(other.unencrypted_from);
         self.first_invalid = self.first_invalid.or(other.first_invalid);
@@ -176,11 +186,12 @@ impl Counts {
                 fault_name(code)
             )?;
         }
+        self.users.write(&mut text)?;
         Ok(text)
     }
 
     /// How often each other thing occurred, with its name.
-    fn others(&self, has_keys: bool) -> [(u64, &'static str); 23] {
+    fn others(&self, has_keys: bool) -> [(u64, &'static str); 25] {
         let closed = if has_keys {
             "that no key decrypts"
         } else {
@@ -221,11 +232,17 @@ impl Counts {
                 "claims left out because there was too much news",
             ),
             (self.unknown_links, "of an unknown link type"),
+            (self.placeless, "payloads of acks that are no coordinate"),
+            (
+                self.apart,
+                "members left out because there are too many pairs (--target NAME shows those of \
+                 one)",
+            ),
         ]
     }
 }
 
 /// The noun for this number of things.
-fn noun(number: u64, one: &'static str, several: &'static str) -> &'static str {
+pub(crate) fn noun(number: u64, one: &'static str, several: &'static str) -> &'static str {
     if number == 1 { one } else { several }
 }

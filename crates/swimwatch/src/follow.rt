@@ -8,10 +8,12 @@ use crate::chosen::{Chosen, Following};
 use crate::json::Object;
 use crate::metrics::{Tally, metrics_of, write_anew};
 use crate::moment::write_moment;
+use crate::remembered::write_new_events;
 use crate::ring::Ring;
 use crate::said::said;
 use crate::texts::moment_text;
 use key_files::keyring_of;
+use memberlist_view::MemberName;
 use std::alloc::{AllocError, Global};
 use std::process::ExitCode;
 use std::thread;
@@ -54,7 +56,12 @@ pub(crate) fn follow(
     let alloc = rt.alloc();
     let mut targets = targets_of(alloc, &chosen.inputs)?;
     let mut ring = Ring::new(keyring_of(rt, NAME, &chosen.key_files)?);
-    let mut watch = Watched::of(alloc, &targets, chosen.json, ring.keys().is_empty())?;
+    let shown = Shown {
+        json: chosen.json,
+        events: chosen.events,
+        is_keyless: ring.keys().is_empty(),
+    };
+    let mut watch = Watched::of(alloc, &targets, shown)?;
     let mut status = 0;
     for number in 0..following.count.unwrap_or(u64::MAX) {
         if number > 0 {
@@ -95,6 +102,17 @@ fn now(rt: &HostRuntime) -> Result<u64, Failure> {
     }
 }
 
+/// How what changed is shown.
+#[derive(Clone, Copy)]
+struct Shown {
+    /// Whether as JSON objects.
+    json: bool,
+    /// Whether only events are, of all that changed.
+    events: bool,
+    /// Whether there are no keys.
+    is_keyless: bool,
+}
+
 /// What is known about all members that are followed.
 #[derive(Drop)]
 struct Watched {
@@ -102,19 +120,13 @@ struct Watched {
     tally: Tally,
     /// What is to be printed.
     text: String,
-    json: bool,
-    is_keyless: bool,
+    shown: Shown,
     /// When the last round began.
     begun: Option<Instant>,
 }
 
 impl Watched {
-    fn of(
-        alloc: Global,
-        targets: &[Target],
-        json: bool,
-        is_keyless: bool,
-    ) -> Result<Watched, AllocError> {
+    fn of(alloc: Global, targets: &[Target], shown: Shown) -> Result<Watched, AllocError> {
         let mut followed = Vec::new(alloc);
         for target in targets {
             followed.push(Followed {
@@ -127,8 +139,7 @@ impl Watched {
             followed,
             tally: Tally::new(alloc),
             text: String::new(alloc),
-            json,
-            is_keyless,
+            shown,
             begun: None,
         })
     }
@@ -151,26 +162,21 @@ impl Watched {
                     }
                     let is_new = followed.answer.is_none() || followed.silence.is_some();
                     if is_new {
-                        write_answers(&mut self.text, time, &answer, self.json)?;
+                        write_answers(&mut self.text, time, &answer, self.shown.json)?;
                     }
                     if let Some(last) = &followed.answer {
-                        write_steps(
-                            &mut self.text,
-                            &mut self.tally,
-                            time,
-                            last,
-                            &answer,
-                            self.json,
-                        )?;
+                        let tally = &mut self.tally;
+                        write_news(&mut self.text, tally, time, last, &answer, self.shown)?;
                     }
                     followed.silence = None;
                     followed.answer = Some(answer);
                 }
                 Err(silence) => {
                     let alloc = *self.text.allocator();
-                    let words = silence.words(alloc, self.is_keyless)?;
+                    let words = silence.words(alloc, self.shown.is_keyless)?;
                     if followed.silence.as_deref() != Some(words.as_str()) {
-                        write_silence(&mut self.text, time, &followed.host, &words, self.json)?;
+                        let json = self.shown.json;
+                        write_silence(&mut self.text, time, &followed.host, &words, json)?;
                     }
                     followed.silence = Some(words);
                 }
@@ -231,32 +237,47 @@ fn write_silence(
     write!(text, " {host} no answer ({words})\n")
 }
 
-/// Adds a line for each name that changed from one answer of a member to its next, and counts it.
-fn write_steps(
+/// Adds a line for each name that changed from one answer of a member to its next, if names are
+/// shown, and counts it. Then adds a line for each event that is new.
+fn write_news(
     text: &mut String,
     tally: &mut Tally,
     time: u64,
     before: &Answer,
     after: &Answer,
-    json: bool,
+    shown: Shown,
 ) -> Result<(), AllocError> {
     let alloc = *text.allocator();
     let names = changed(alloc, &before.roster, &after.roster)?;
     for (name, ()) in names.iter() {
-        let was = before.roster.get(name);
-        let is = after.roster.get(name);
-        tally.count(alloc, name, is)?;
-        if json {
-            let mut object = Object::new(alloc);
-            object.text("time", moment_text(alloc, time)?)?;
-            object.word("host", &after.host)?;
-            write_step_object(text, object, name, was, is)?;
-        } else {
-            write_moment(text, time)?;
-            text.push(' ')?;
-            write_step(text, name, was, is)?;
-            write!(text, " (at {})\n", after.host)?;
+        tally.count(alloc, name, after.roster.get(name))?;
+        if !shown.events {
+            write_name_news(text, time, name, before, after, shown.json)?;
         }
     }
-    Ok(())
+    write_new_events(text, time, before, after, shown.json)
+}
+
+/// Adds what changed for a name.
+fn write_name_news(
+    text: &mut String,
+    time: u64,
+    name: &MemberName,
+    before: &Answer,
+    after: &Answer,
+    json: bool,
+) -> Result<(), AllocError> {
+    let alloc = *text.allocator();
+    let was = before.roster.get(name);
+    let is = after.roster.get(name);
+    if json {
+        let mut object = Object::new(alloc);
+        object.text("time", moment_text(alloc, time)?)?;
+        object.word("host", &after.host)?;
+        return write_step_object(text, object, name, was, is);
+    }
+    write_moment(text, time)?;
+    text.push(' ')?;
+    write_step(text, name, was, is)?;
+    write!(text, " (at {})\n", after.host)
 }

@@ -51,6 +51,9 @@ pub(crate) const LABEL: &str = "The label of the cluster, if it has one";
 
 pub(crate) const PULLED_DUMP: &str = "Write the table as one push/pull stream, for swimtab";
 
+pub(crate) const EVENTS: &str =
+    "Show only the user events of Serf, and in a timeline its queries too";
+
 pub(crate) const EVERY: &str =
     "Ask again after this time, as 2s or 500ms, and print what changed, until the program is ended";
 
@@ -62,6 +65,8 @@ pub(crate) const METRICS: &str =
 pub(crate) const PROBER: &str = "Show only the probes of this member";
 
 pub(crate) const TARGET: &str = "Show only probes of this member by others";
+
+pub(crate) const PAIRS_OF: &str = "Show only the pairs of this member with each other one";
 
 pub(crate) const PROBE_TIMEOUT: &str =
     "memberlist's ProbeTimeout, as 500ms [default: as the captures show it]";
@@ -136,6 +141,14 @@ Examples:
   swimwatch spread web-1.pcap web-2.pcap web-3.pcap
   swimwatch spread --member web-5 web-1.pcap";
 
+pub(crate) const DISTANCES: &str = "\
+Serf's members put their coordinates into the acks of pings. From them follow the round trips of all
+pairs, also of those that one capture never sees talk. Coordinates need some minutes to settle.
+
+Examples:
+  swimwatch distances web-1.pcap
+  swimwatch distances --target web-5 web-1.pcap";
+
 pub(crate) const REPORT: &str = "\
 The page has the members, a chart, the episodes, the probes and the timeline. It needs no network.
 Several captures are one view, that of a member which hears all of them.
@@ -151,6 +164,7 @@ Examples:
   swimwatch pull web-1
   swimwatch pull 10.20.1.11 10.20.1.12 10.20.1.13
   swimwatch pull --every 2s web-1 web-2
+  swimwatch pull --events web-1 web-2
   swimwatch pull --key-file keys --dump web-1 > web-1.bin";
 
 pub(crate) const DIFF: &str = "\

@@ -5,6 +5,7 @@ use crate::ask::{Answer, Asked, Round, Target, Way};
 use crate::carriage::NoStream;
 use crate::connection::{Exchange, NoReply, Step};
 use crate::roster::Roster;
+use crate::serf_state::UserEvents;
 use crate::silence::{Cause, Silence};
 use mio::Token;
 use std::alloc::AllocError;
@@ -158,11 +159,12 @@ impl Inquiry {
         let len = received.len();
         let now = round.now()?;
         let cause = match table_in(round, received)? {
-            Ok((stream, roster)) => {
+            Ok((stream, roster, events)) => {
                 self.state = State::Answered(Answer {
                     host: String::from_str(round.alloc(), &self.host)?,
                     stream,
                     roster,
+                    events,
                     way: Way {
                         len,
                         took: now.duration_since(begun),
@@ -194,11 +196,11 @@ fn addresses_of(rt: &HostRuntime, target: &Target) -> io::Result<Vec<SocketAddr>
     Ok(addresses)
 }
 
-/// The stream in what was received, and what it says.
+/// The stream in what was received, what it says about members, and the user events in it.
 fn table_in(
     round: &Round,
     received: Vec<u8>,
-) -> Result<Result<(Vec<u8>, Roster), NoAnswer>, Failure> {
+) -> Result<Result<(Vec<u8>, Roster, UserEvents), NoAnswer>, Failure> {
     let alloc = round.alloc();
     match stream_in(
         alloc,
@@ -207,8 +209,8 @@ fn table_in(
         round.label(),
         received,
     ) {
-        Ok(stream) => match Roster::of_stream(alloc, &stream)? {
-            Some(roster) => Ok(Ok((stream, roster))),
+        Ok(stream) => match Roster::with_events(alloc, &stream)? {
+            Some((roster, events)) => Ok(Ok((stream, roster, events))),
             None => Ok(Err(NoAnswer::NoStream(NoStream::Cut))),
         },
         Err(NoAnswer::NoStream(NoStream::Memory)) => Err(Failure::Memory),

@@ -6,11 +6,12 @@ use crate::endpoint::endpoint;
 use crate::escape::write_escape;
 use crate::listener::Listener;
 use crate::names::{is_mark, write_name};
+use crate::payload::payload_text;
 use crate::places::Places;
 use crate::roster::Roster;
 use crate::sent::Sent;
 use crate::tags::tags_of;
-use crate::texts::{event_words, moment_text, name_text, state_word};
+use crate::texts::{event_words, moment_text, name_text};
 use crate::told::Told;
 use memberlist_view::{Entry, Event, MemberName, State};
 use serde_json::{Map, Value, put};
@@ -185,7 +186,7 @@ impl Object {
     }
 
     /// Adds a member whose value is true.
-    fn flag(&mut self, key: &str) -> Result<(), AllocError> {
+    pub(crate) fn flag(&mut self, key: &str) -> Result<(), AllocError> {
         put(&mut self.members, self.alloc, key, Value::Bool(true))
     }
 
@@ -204,6 +205,15 @@ impl Object {
         self.word("proto", sent.proto.name())
     }
 
+    /// Adds what an event or a query carries: all of it in hexadecimal, and as text if it is text.
+    pub(crate) fn payload(&mut self, payload: &[u8]) -> Result<(), AllocError> {
+        self.text("payload", hex::encode(self.alloc, payload)?)?;
+        match payload_text(payload) {
+            Some(text) => self.word("payload_text", text),
+            None => Ok(()),
+        }
+    }
+
     /// Adds the object as a line. Control characters above ASCII, and marks that hide or turn text,
     /// are escaped too: they are only in texts.
     pub(crate) fn write(self, text: &mut String) -> Result<(), AllocError> {
@@ -219,18 +229,19 @@ impl Object {
     }
 }
 
-/// Adds the object for what a view shows about a name.
+/// Adds the object for what a view shows about a name, which is in this state.
 pub(crate) fn write_member(
     text: &mut String,
     places: &Places,
     name: &MemberName,
     entry: &Entry,
+    state: &str,
     is_overdue: bool,
 ) -> Result<(), AllocError> {
     let alloc = *text.allocator();
     let mut object = Object::new(alloc);
     object.text("name", name_text(alloc, name)?)?;
-    object.word("state", state_word(&entry.state))?;
+    object.word("state", state)?;
     if is_overdue {
         object.flag("overdue")?;
     }

@@ -1,9 +1,11 @@
 //! What somebody says about a member.
 
+ghost use Rattle.std.specs.Prelude.{◌≡◌, ◌≢◌};
+
 use crate::claims::kind_word;
 use crate::json::Object;
 use crate::tags::{is_bare, is_same_meta};
-use crate::texts::{NONE, address_text, meta_text};
+use crate::texts::{LEAVING, NONE, address_text, meta_text};
 use memberlist_view::{Entry, State};
 use std::alloc::{AllocError, Global};
 use swim_claim::{Details, Kind};
@@ -27,13 +29,23 @@ pub(crate) struct Known {
     pub(crate) details: Option<Details>,
     /// What is not known; nothing, if a member reports it.
     pub(crate) unheard: Unheard,
+    /// Whether it is alive and said that it leaves (Serf's leave intents).
+    pub(crate) leaving: bool,
 }
 
 impl Known {
-    /// What a view shows.
-    pub(crate) fn of_entry(alloc: Global, entry: &Entry) -> Result<Known, AllocError> {
+    /// What a view shows of a member that Serf's intents have as leaving, or not.
+    pub(crate) fn of_entry(
+        alloc: Global,
+        entry: &Entry,
+        leaving: bool,
+    ) -> Result<Known, AllocError> {
+        let kind = match kind_of(&entry.state) {
+            Kind::Confirm if leaving => Kind::Leave,
+            kind => kind,
+        };
         Ok(Known {
-            kind: kind_of(&entry.state),
+            kind,
             inc: entry.inc,
             details: match entry.place() {
                 Some(place) => Some(place.try_clone(alloc)?),
@@ -43,6 +55,7 @@ impl Known {
                 state: matches!(entry.state, State::Noted | State::Seen),
                 tags: entry.details.is_none(),
             },
+            leaving: leaving && kind == Kind::Alive,
         })
     }
 
@@ -57,7 +70,18 @@ impl Known {
                 None => record.told,
             },
             unheard: Unheard::default(),
+            leaving: false,
         })
+    }
+
+    /// Notes that Serf has it as left: what memberlist has as its death was then its leave.
+    pub(crate) fn note_left(&mut self)
+        ensures dead { self.old.kind ≡ Kind.Confirm → self.new.kind ≡ Kind.Leave }
+        ensures other { self.old.kind ≢ Kind.Confirm → self.new ≡ self.old }
+    {
+        if self.kind == Kind::Confirm {
+            self.kind = Kind::Leave;
+        }
     }
 
     /// Whether both say the same. Details that one of the two lacks are not compared, nor is the order
@@ -67,14 +91,19 @@ impl Known {
             (Some(own), Some(others)) => is_same_details(own, others),
             _ => true,
         };
-        self.kind == other.kind && self.inc == other.inc && same_details
+        self.has_state_of(other) && same_details
+    }
+
+    /// Whether both have the same state and incarnation.
+    fn has_state_of(&self, other: &Known) -> bool {
+        self.kind == other.kind && self.leaving == other.leaving && self.inc == other.inc
     }
 
     /// Whether the two can be true of one member: what one of them did not hear is not compared.
     pub(crate) fn agrees(&self, other: &Known) -> bool {
         let is_seen = self.unheard.state || other.unheard.state;
         let is_tagless = self.unheard.tags || other.unheard.tags;
-        let same_state = is_seen || (self.kind == other.kind && self.inc == other.inc);
+        let same_state = is_seen || self.has_state_of(other);
         let same_tags = is_tagless
             || (is_same_meta(self.meta(), other.meta()) && self.vsn() == other.vsn());
         same_state && same_tags && !self.is_elsewhere(other)
@@ -99,7 +128,11 @@ impl Known {
 
     /// The word for its state.
     pub(crate) fn state(&self) -> &'static str {
-        kind_word(self.kind)
+        if self.leaving {
+            LEAVING
+        } else {
+            kind_word(self.kind)
+        }
     }
 
     /// The address and port; empty if none were said.

@@ -10,11 +10,14 @@
 //! | `listener`, `directory`, `places` | a listener that hears all of it |
 //! | `views`, `view_name`, `watch`, `change` | listening, and showing what was asked for |
 //! | `members`, `suspicion`, `timeline`, `claims`, `talkers`, `probes`, `health` | what is shown |
+//! | `serf`, `unread` | what Serf's messages say, and what is not Serf's |
+//! | `distances` | how long the way from member to member takes, as coordinates tell |
 //! | `why`, `agent_log`, `spread` | why members were suspected, and how news spread |
 //! | `pull`, `ask`, `inquiry`, `host`, `ring`, `connection`, `request`, `answer` | asking members |
 //! | `silence` | why a member that was asked has no table |
 //! | `roster`, `known` | what somebody knows about members |
 //! | `follow`, `metrics` | asking members again and again |
+//! | `serf_state`, `remembered`, `payload` | Serf's state in an answer, and the user events that members remember |
 //! | `agreement` | what members answered, and whether they agree |
 //! | `diff`, `side`, `changes` | what changed between two captures, dumps or members |
 //! | `chart`, `svg` | what is drawn |
@@ -41,6 +44,7 @@ mod connection;
 mod counts;
 mod diff;
 mod directory;
+mod distances;
 mod endpoint;
 mod escape;
 mod follow;
@@ -59,6 +63,7 @@ mod metrics;
 mod moment;
 mod names;
 mod pages;
+mod payload;
 mod pings;
 mod places;
 mod probes;
@@ -66,12 +71,15 @@ mod progress;
 mod pull;
 mod recent;
 mod records;
+mod remembered;
 mod report;
 mod request;
 mod ring;
 mod roster;
 mod said;
 mod sent;
+mod serf;
+mod serf_state;
 mod side;
 mod silence;
 mod sources;
@@ -84,6 +92,7 @@ mod texts;
 mod timeline;
 mod told;
 mod traffic;
+mod unread;
 mod versions;
 mod view_name;
 mod views;

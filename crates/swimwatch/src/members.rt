@@ -11,9 +11,10 @@ use crate::suspicion::longest;
 use crate::tags::is_bare;
 use crate::texts::{
     address_text, by_text, inc_text, meta_of, meta_text, moment_text, name_text, place_text,
-    state_word,
+    shown_state,
 };
 use memberlist_view::{Entry, MemberName, State, View};
+use serf_view::Intents;
 use std::alloc::{AllocError, Global};
 use swim_claim::Details;
 
@@ -46,34 +47,47 @@ impl Deadline {
     }
 }
 
+/// The members that a listener knows, and what decides how they are shown.
+#[derive(Clone, Copy)]
+pub(crate) struct Cluster<'a> {
+    pub(crate) listener: &'a Listener,
+    /// Where each name was when.
+    pub(crate) places: &'a Places,
+    /// Who leaves, or has left, as Serf's intents say.
+    pub(crate) intents: &'a Intents,
+    pub(crate) deadline: Deadline,
+}
+
+impl Cluster<'_> {
+    /// Whether a member was suspected for too long.
+    fn is_overdue(self, entry: &Entry) -> bool {
+        self.deadline.is_overdue(&self.listener.view, entry)
+    }
+
+    /// The word for a member's state.
+    fn state(self, name: &MemberName, entry: &Entry) -> &'static str {
+        shown_state(&entry.state, self.intents.is_leaving(name.name().bytes()))
+    }
+}
+
 /// Adds the members that a listener knows: a header, and a row for each in ascending order of the
 /// names; and a line for each conflict.
-pub(crate) fn write_members(
-    text: &mut String,
-    listener: &Listener,
-    places: &Places,
-    deadline: Deadline,
-) -> Result<(), AllocError> {
-    write_rows(text, &listener.view, deadline)?;
-    for (name, entry) in listener.view.iter() {
+pub(crate) fn write_members(text: &mut String, cluster: Cluster) -> Result<(), AllocError> {
+    write_rows(text, cluster)?;
+    for (name, entry) in cluster.listener.view.iter() {
         for rival in entry.rivals.details() {
-            write_conflict(text, places, name, entry, rival)?;
+            write_conflict(text, cluster.places, name, entry, rival)?;
         }
     }
     Ok(())
 }
 
 /// Adds the same as JSON objects, one per line.
-pub(crate) fn write_member_objects(
-    text: &mut String,
-    listener: &Listener,
-    places: &Places,
-    deadline: Deadline,
-) -> Result<(), AllocError> {
-    for (name, entry) in listener.view.iter() {
-        if deadline.shows(entry) {
-            let is_overdue = deadline.is_overdue(&listener.view, entry);
-            write_member(text, places, name, entry, is_overdue)?;
+pub(crate) fn write_member_objects(text: &mut String, cluster: Cluster) -> Result<(), AllocError> {
+    for (name, entry) in cluster.listener.view.iter() {
+        if cluster.deadline.shows(entry) {
+            let (state, is_overdue) = (cluster.state(name, entry), cluster.is_overdue(entry));
+            write_member(text, cluster.places, name, entry, state, is_overdue)?;
         }
     }
     Ok(())
@@ -118,15 +132,15 @@ fn write_last(
 }
 
 /// Adds a header, and a row for each name.
-fn write_rows(text: &mut String, view: &View, deadline: Deadline) -> Result<(), AllocError> {
+fn write_rows(text: &mut String, cluster: Cluster) -> Result<(), AllocError> {
     let alloc = *text.allocator();
+    let view = &cluster.listener.view;
     let has_tags = view.iter().any(|(_, entry)| !is_bare(meta_of(entry)));
     let mut rows = Rows::new(alloc);
     rows.push(head(alloc, has_tags)?)?;
     for (name, entry) in view.iter() {
-        if deadline.shows(entry) {
-            let is_overdue = deadline.is_overdue(view, entry);
-            rows.push(row_of(alloc, name, entry, is_overdue, has_tags)?)?;
+        if cluster.deadline.shows(entry) {
+            rows.push(row_of(alloc, cluster, name, entry, has_tags)?)?;
         }
     }
     rows.write(text)
@@ -142,18 +156,18 @@ fn head(alloc: Global, has_tags: bool) -> Result<Vec<String>, AllocError> {
 
 fn row_of(
     alloc: Global,
+    cluster: Cluster,
     name: &MemberName,
     entry: &Entry,
-    is_overdue: bool,
     has_tags: bool,
 ) -> Result<Vec<String>, AllocError> {
     let mut row = Vec::new(alloc);
     row.push(name_text(alloc, name)?)?;
     row.push(place_text(alloc, entry)?)?;
-    let state = if is_overdue {
+    let state = if cluster.is_overdue(entry) {
         "overdue"
     } else {
-        state_word(&entry.state)
+        cluster.state(name, entry)
     };
     row.push(String::from_str(alloc, state)?)?;
     row.push(inc_text(alloc, entry)?)?;

@@ -54,7 +54,7 @@ fn printable_len(bytes: &[u8]) -> usize {
 
 /// Whether a character outside ASCII shows itself: it is no control character, no space, and no mark
 /// that hides or turns text.
-fn is_printable(c: char) -> bool {
+pub(crate) fn is_printable(c: char) -> bool {
     !c.is_control() && !c.is_whitespace() && !is_mark(c)
 }
 

@@ -22,11 +22,13 @@ enum Flag {
     Label,
     Json,
     Dump,
+    Events,
     Every,
     Count,
     Metrics,
     Prober,
     Target,
+    PairsOf,
     ProbeTimeout,
     ProbeInterval,
     AgentLog,
@@ -51,7 +53,7 @@ struct Page {
 }
 
 /// The program's commands.
-const PAGES: [Page; 13] = [
+const PAGES: [Page; 14] = [
     Page {
         name: "members",
         about: "Prints the members as they are at the end of the captures",
@@ -86,6 +88,7 @@ const PAGES: [Page; 13] = [
             Flag::Port,
             Flag::Label,
             Flag::Merge,
+            Flag::Events,
             Flag::Json,
         ],
     },
@@ -212,6 +215,21 @@ const PAGES: [Page; 13] = [
         ],
     },
     Page {
+        name: "distances",
+        about: "Prints how long the way between members takes, as their coordinates tell",
+        example: help::DISTANCES,
+        inputs: Inputs::Captures,
+        flags: &[
+            Flag::PairsOf,
+            Flag::From,
+            Flag::To,
+            Flag::For,
+            Flag::Port,
+            Flag::Label,
+            Flag::Json,
+        ],
+    },
+    Page {
         name: "report",
         about: "Writes one page about all of it, for a browser (HTML)",
         example: help::REPORT,
@@ -239,6 +257,7 @@ const PAGES: [Page; 13] = [
             Flag::Every,
             Flag::Count,
             Flag::Metrics,
+            Flag::Events,
             Flag::Timeout,
             Flag::Label,
             Flag::Json,
@@ -317,11 +336,13 @@ fn flag_argument<'a>(alloc: Global, flag: Flag) -> Arg<'a> {
         Flag::Label => option(alloc, "label", "LABEL", help::LABEL),
         Flag::Json => switch(alloc, "json", help::JSON),
         Flag::Dump => switch(alloc, "dump", help::PULLED_DUMP),
+        Flag::Events => switch(alloc, "events", help::EVENTS),
         Flag::Every => option(alloc, "every", "TIME", help::EVERY),
         Flag::Count => option(alloc, "count", "NUMBER", help::COUNT),
         Flag::Metrics => option(alloc, "metrics", "FILE", help::METRICS),
         Flag::Prober => option(alloc, "prober", "NAME", help::PROBER),
         Flag::Target => option(alloc, "target", "NAME", help::TARGET),
+        Flag::PairsOf => option(alloc, "target", "NAME", help::PAIRS_OF),
         Flag::ProbeTimeout => option(alloc, "probe-timeout", "TIME", help::PROBE_TIMEOUT),
         Flag::ProbeInterval => option(alloc, "probe-interval", "TIME", help::PROBE_INTERVAL),
         Flag::AgentLog => {

@@ -5,10 +5,11 @@ ghost use Rattle.swimwatch.specs.Asking.{IsDumpOf};
 
 use crate::NAME;
 use crate::agreement::{status_of, write_asked, write_asked_objects};
-use crate::ask::{ask_all, targets_of};
+use crate::ask::{Asked, ask_all, targets_of};
 use crate::chosen::Chosen;
 use crate::follow::follow;
 use crate::records::claims_of_stream;
+use crate::remembered::{write_event_objects, write_events};
 use crate::ring::Ring;
 use crate::said::{misused, output_fails};
 use key_files::keyring_of;
@@ -25,16 +26,10 @@ use swim_table::{EncodeFault, Table, encode};
 /// Those of [`ask_all`]. Also if the arguments do not fit together.
 pub(crate) fn pull(rt: &HostRuntime, chosen: &Chosen) -> Result<ExitCode, Failure> {
     let alloc = rt.alloc();
-    if chosen.dump && (chosen.json || chosen.inputs.len() != 1) {
-        return Err(misused(
-            alloc,
-            "--dump needs exactly one member, and cannot be used with --json",
-        ));
+    if let Some(text) = misuse_of_dump(chosen) {
+        return Err(misused(alloc, text));
     }
     if let Some(following) = &chosen.following {
-        if chosen.dump {
-            return Err(misused(alloc, "--dump cannot be used with --every"));
-        }
         return follow(rt, chosen, following);
     }
     let targets = targets_of(alloc, &chosen.inputs)?;
@@ -55,18 +50,45 @@ pub(crate) fn pull(rt: &HostRuntime, chosen: &Chosen) -> Result<ExitCode, Failur
             print_bytes(rt, NAME, &dump_of(alloc, &answer.stream)?)?;
         }
     } else {
-        let mut text = String::new(alloc);
-        if chosen.json {
-            write_asked_objects(&mut text, &asked, is_keyless)?;
-        } else {
-            write_asked(&mut text, &asked, is_keyless)?;
-        }
+        let text = shown(alloc, chosen, &asked, is_keyless)?;
         print_bytes(rt, NAME, text.as_bytes())?;
     }
     for message in &messages {
         let _ = rt.eprintln(message);
     }
     Ok(ExitCode::from(status))
+}
+
+/// Why the other arguments do not fit `--dump`, if it is there and they do not.
+fn misuse_of_dump(chosen: &Chosen) -> Option<&'static str> {
+    if !chosen.dump {
+        None
+    } else if chosen.json || chosen.inputs.len() != 1 {
+        Some("--dump needs exactly one member, and cannot be used with --json")
+    } else if chosen.events {
+        Some("--dump cannot be used with --events")
+    } else if chosen.following.is_some() {
+        Some("--dump cannot be used with --every")
+    } else {
+        None
+    }
+}
+
+/// What is shown of the answers: the members or the events in them, as text or as JSON objects.
+fn shown(
+    alloc: Global,
+    chosen: &Chosen,
+    asked: &[Asked],
+    is_keyless: bool,
+) -> Result<String, AllocError> {
+    let mut text = String::new(alloc);
+    match (chosen.events, chosen.json) {
+        (false, false) => write_asked(&mut text, asked, is_keyless)?,
+        (false, true) => write_asked_objects(&mut text, asked, is_keyless)?,
+        (true, false) => write_events(&mut text, asked, is_keyless)?,
+        (true, true) => write_event_objects(&mut text, asked, is_keyless)?,
+    }
+    Ok(text)
 }
 
 /// The canonical dump of the table of a stream's claims.

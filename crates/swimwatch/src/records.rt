@@ -1,8 +1,8 @@
 //! The records of push/pull streams.
 
-ghost use Rattle.std.specs.Prelude.{◌≡◌, ◌≢◌, List, IfOk, IfErr, IfSome, IfNone};
+ghost use Rattle.std.specs.Prelude.{◌≡◌, ◌≢◌, List, take, IfOk, IfErr, IfSome, IfNone};
 ghost use Rattle.swim_claim.specs.declared.claim.Claim.{Claim};
-ghost use Rattle.swimwatch.specs.Records.{BeginsWithStream, claims_in};
+ghost use Rattle.swimwatch.specs.Records.{BeginsWithState, BeginsWithStream, claims_in};
 
 use std::alloc::{AllocError, Global};
 use swim_claim::Claim;
@@ -13,6 +13,8 @@ use swim_wire::{StateRecord, WireFault, read_header, read_record, skip_user};
 #[derive(Drop)]
 pub(crate) struct Records {
     pub(crate) records: Vec<StateRecord>,
+    /// The user state behind the records.
+    pub(crate) user: Vec<u8>,
     /// Whether the sender joins the cluster with it (memberlist's `Join`).
     pub(crate) join: bool,
 }
@@ -33,7 +35,7 @@ pub(crate) fn claims_of_stream(
         → ¬ BeginsWithStream bytes.now claims)) }
 {
     match records_of_stream(alloc, bytes)? {
-        Some(records) => Ok(Some(claims_in(alloc, records)?)),
+        Some(read) => Ok(Some(claims_in(alloc, read.records)?)),
         None => Ok(None),
     }
 }
@@ -62,17 +64,16 @@ fn claim_of(read: StateRecord) -> Claim
 /// # Errors
 ///
 /// If out of memory for the records.
-pub(crate) fn records_of_stream(
-    alloc: Global,
-    bytes: &[u8],
-) -> Result<Option<Vec<StateRecord>>, AllocError>
-    ensures whole { IfOk result (λ found. IfSome found (λ records.
-        BeginsWithStream bytes.now (claims_in records.items))) }
+pub(crate) fn records_of_stream(alloc: Global, bytes: &[u8]) -> Result<Option<Records>, AllocError>
+    ensures whole { IfOk result (λ found. IfSome found (λ read.
+        BeginsWithStream bytes.now (claims_in read.records.items))) }
+    ensures user { IfOk result (λ found. IfSome found (λ read.
+        BeginsWithState bytes.now (claims_in read.records.items) read.user.items)) }
     ensures none { IfOk result (λ found. IfNone found ((claims : List Claim)
         → ¬ BeginsWithStream bytes.now claims)) }
 {
     match read_records(alloc, bytes) {
-        Ok(records) => Ok(Some(records.records)),
+        Ok(read) => Ok(Some(read)),
         Err(WireFault::Memory) => Err(AllocError),
         Err(_) => Ok(None),
     }
@@ -86,6 +87,8 @@ pub(crate) fn records_of_stream(
 pub(crate) fn read_records(alloc: Global, bytes: &[u8]) -> Result<Records, WireFault>
     ensures whole { IfOk result (λ read.
         BeginsWithStream bytes.now (claims_in read.records.items)) }
+    ensures user { IfOk result (λ read.
+        BeginsWithState bytes.now (claims_in read.records.items) read.user.items) }
     ensures none { IfErr result (λ fault. fault ≢ WireFault.Memory → (claims : List Claim)
         → ¬ BeginsWithStream bytes.now claims) }
 {
@@ -98,9 +101,21 @@ pub(crate) fn read_records(alloc: Global, bytes: &[u8]) -> Result<Records, WireF
             return Err(WireFault::Memory);
         }
     }
+    let user = front_of(alloc, inlet.rest(), header.user_len)?;
     skip_user(&mut inlet, header.user_len)?;
     Ok(Records {
         records,
+        user,
         join: header.join,
     })
+}
+
+/// This many bytes from the front, or all if there are fewer.
+fn front_of(alloc: Global, bytes: &[u8], len: u32) -> Result<Vec<u8>, AllocError>
+    ensures { IfOk result (λ front. front.items ≡ take len bytes.now) }
+{
+    match bytes.get(..len as usize) {
+        Some(front) => front.to_vec(alloc),
+        None => bytes.to_vec(alloc),
+    }
 }

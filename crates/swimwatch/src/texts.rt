@@ -11,6 +11,9 @@ use swim_claim::Details;
 /// What stands for an address, an incarnation or an accuser that was not heard.
 pub(crate) const NONE: &str = "-";
 
+/// The word for a member that is alive and said that it leaves.
+pub(crate) const LEAVING: &str = "leaving";
+
 /// The word for a state.
 pub(crate) fn state_word(state: &State) -> &'static str {
     match state {
@@ -19,6 +22,16 @@ pub(crate) fn state_word(state: &State) -> &'static str {
         State::Suspect { .. } => "suspect",
         State::Dead { .. } => "dead",
         State::Left => "left",
+    }
+}
+
+/// The word for a state that is shown: by Serf's rule a member that has a leave intent is leaving
+/// while it is alive, and has left once it is dead.
+pub(crate) fn shown_state(state: &State, leaving: bool) -> &'static str {
+    match state {
+        State::Alive | State::Seen if leaving => LEAVING,
+        State::Dead { .. } if leaving => state_word(&State::Left),
+        state => state_word(state),
     }
 }
 

@@ -6,6 +6,9 @@ use crate::chosen::{Chosen, Verb};
 use crate::counts::Counts;
 use crate::json::write_roster;
 use crate::names::write_name;
+use crate::serf::lines::write_tally;
+use crate::serf::objects::write_tally_object;
+use crate::serf::queries::{Queries, Tally};
 use crate::traffic::Traffic;
 use crate::view_name::view_name;
 use crate::watch::Watch;
@@ -46,6 +49,8 @@ pub(crate) struct Views<'a> {
     start: Vec<Claim>,
     /// The logs of agents, until a view has them.
     pub(crate) logs: Vec<AgentLog>,
+    /// The queries that any view saw.
+    queries: Queries,
     /// How often each event was printed.
     printed: BTreeMap<String, u64>,
     /// The output that was not printed yet.
@@ -69,6 +74,7 @@ impl<'a> Views<'a> {
             window: None,
             start,
             logs: Vec::new(alloc),
+            queries: Queries::new(alloc),
             printed: BTreeMap::new(alloc),
             out: String::new(alloc),
         }
@@ -95,6 +101,9 @@ impl<'a> Views<'a> {
         if self.window.is_none() {
             let begun = record.time.unwrap_or(0) / 1000;
             self.window = Some(Window::of(&self.chosen.times, begun));
+        }
+        if let Some(nanos) = record.time {
+            self.tell_queries(nanos / 1000, false)?;
         }
         let seat = self.seat(place, word)?;
         let Some(seat) = self.seats.get_mut(seat) else {
@@ -186,6 +195,9 @@ impl<'a> Views<'a> {
     /// Takes over what the views have to print, each event once.
     fn collect(&mut self) -> Result<(), AllocError> {
         for seat in &mut self.seats {
+            for sighting in replace(&mut seat.watch.sightings, Vec::new(self.alloc)) {
+                self.queries.note(sighting)?;
+            }
             self.out.push_str(&seat.watch.out)?;
             seat.watch.out.clear();
             for news in &seat.watch.news {
@@ -200,6 +212,41 @@ impl<'a> Views<'a> {
         Ok(())
     }
 
+    /// Tells what came of the queries whose time is over at this time, or of all that are left.
+    fn tell_queries(&mut self, time: u64, is_end: bool) -> Result<(), AllocError> {
+        let until = match self.window {
+            Some(window) => window.until.unwrap_or(u64::MAX),
+            None => u64::MAX,
+        };
+        let now = time.min(until);
+        for _ in 0..self.queries.len() {
+            let tally = if is_end {
+                self.queries.left(now)
+            } else {
+                self.queries.over(now)
+            };
+            match tally {
+                Some(tally) => self.tell_query(&tally)?,
+                None => break,
+            }
+        }
+        Ok(())
+    }
+
+    /// Tells what came of a query.
+    fn tell_query(&mut self, tally: &Tally) -> Result<(), AllocError> {
+        let mut line = String::new(self.alloc);
+        if self.chosen.json || self.chosen.verb == Verb::Report {
+            write_tally_object(&mut line, tally)?;
+        } else {
+            write_tally(&mut line, tally)?;
+        }
+        match (self.chosen.verb, self.seats.first_mut()) {
+            (Verb::Report, Some(seat)) => seat.watch.report_line(&line),
+            _ => self.out.push_str(&line),
+        }
+    }
+
     /// Shows what is shown only at the end.
     pub(crate) fn finish(&mut self) -> Result<(), AllocError> {
         if self.seats.is_empty() {
@@ -209,6 +256,7 @@ impl<'a> Views<'a> {
             seat.traffic.finish(&mut seat.watch)?;
         }
         self.collect()?;
+        self.tell_queries(self.now(), true)?;
         if self.chosen.verb == Verb::Members && self.seats.len() > 1 {
             return self.finish_members();
         }
@@ -250,6 +298,15 @@ impl<'a> Views<'a> {
         Ok(())
     }
 
+    /// The last moment at which something was captured.
+    fn now(&self) -> u64 {
+        let mut now = 0;
+        for seat in &self.seats {
+            now = seat.watch.now().max(now);
+        }
+        now
+    }
+
     /// What was read and left out, in all views.
     pub(crate) fn counts(&self) -> Counts {
         let mut counts = Counts::default();
@@ -274,7 +331,8 @@ impl<'a> Views<'a> {
                 return Ok(false);
             }
         }
-        Ok(self.chosen.member.is_some())
+        let is_pair = self.chosen.verb == Verb::Distances && self.chosen.probing.target.is_some();
+        Ok(is_pair || self.chosen.member.is_some())
     }
 }
 

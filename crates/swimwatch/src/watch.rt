@@ -1,16 +1,21 @@
 //! Listening to packets and streams.
 //!
-//! `streams` hears connections, `tallies` counts what senders sent, `detecting` follows their probes,
-//! `spreading` their news, `showing` shows what was asked for, and `reporting` shows all of it in one
-//! page.
+//! `datagrams` hears messages, `streams` connections, `serf_messages` what Serf says in both, and
+//! `intents` who leaves; `tallies` counts what senders sent; `detecting` follows their probes,
+//! `spreading` their news, `locating` their coordinates; `showing` shows what was asked for, and
+//! `reporting` all of it in one page.
 
-ghost use Rattle.std.specs.Prelude.{◌≡◌, OnOk, MatchBool};
+ghost use Rattle.std.specs.Prelude.{◌≡◌, OnOk};
 ghost use Rattle.memberlist_view.specs.Told.{view_after};
-ghost use Rattle.swimwatch.specs.Told.{told_text, packet_told, heard_of};
-ghost use Rattle.swimwatch.specs.Views.{is_warning, MaySee, HearsMessage, HearsMessages, HearsDatagram};
+ghost use Rattle.swimwatch.specs.Told.{told_text, heard_of};
+ghost use Rattle.swimwatch.specs.Views.{HearsDatagram};
 
+mod datagrams;
 mod detecting;
+mod intents;
+mod locating;
 mod reporting;
+mod serf_messages;
 mod showing;
 mod spreading;
 mod streams;
@@ -18,37 +23,35 @@ mod tallies;
 
 use crate::agent_log::AgentLog;
 use crate::carriage::{Carriage, carriage_of};
-use crate::change::Change;
 use crate::chart::Chart;
 use crate::chosen::{Chosen, Verb};
 use crate::counts::{Counts, count};
+use crate::distances::Distances;
 use crate::listener::Listener;
-use crate::messages::Messages;
-use crate::pings::{Pings, place_at, sender_of};
+use crate::pings::Pings;
 use crate::places::Places;
 use crate::report::Gathered;
 use crate::sent::Sent;
+use crate::serf::Serf;
+use crate::serf::queries::Sighting;
 use crate::spread::Spread;
 use crate::talkers::{Kind, Talkers};
 use crate::texts::NONE;
 use crate::told::Told;
-use crate::warnings::{Warnings, is_warning};
+use crate::warnings::Warnings;
 use crate::window::Window;
 use detecting::{causes_of, detector_of};
 use memberlist_causes::Causes;
 use memberlist_cipher::split_label;
 use memberlist_keyring::Keyring;
-use memberlist_message::{Message, Ping};
 use memberlist_probes::Detector;
 use memberlist_transport::InTheClear;
 use memberlist_view::{Event, Heard, MemberName, Said};
 use spreading::spread_of;
 use std::alloc::{AllocError, Global};
 use std::collections::BTreeMap;
-use std::net::SocketAddr;
-use swim_claim::{Claim, Details, Name};
+use swim_claim::{Claim, Name};
 use swim_table::Table;
-use swim_wire::Packet;
 
 /// An event to print.
 #[derive(Drop)]
@@ -73,6 +76,14 @@ pub(crate) struct Watch<'a> {
     places: Places,
     verb: Verb,
     json: bool,
+    /// Whether only events and queries of users are shown.
+    events: bool,
+    /// What Serf's messages say.
+    pub(crate) serf: Serf,
+    /// What was seen of queries, until it is taken.
+    pub(crate) sightings: Vec<Sighting>,
+    /// The coordinates of members, if their distances are asked for.
+    distances: Option<Distances>,
     /// The only name to show, if there is one.
     member: Option<Vec<u8>>,
     /// The last moment at which something was captured, in microseconds since the start of 1970.
@@ -130,6 +141,10 @@ impl<'a> Watch<'a> {
             places: Places::new(alloc),
             verb: chosen.verb,
             json: chosen.json || chosen.verb == Verb::Report,
+            events: chosen.events,
+            serf: Serf::new(alloc),
+            sightings: Vec::new(alloc),
+            distances: Distances::if_chosen(alloc, chosen),
             member,
             now: 0,
             mult: chosen.mult,
@@ -161,6 +176,11 @@ impl<'a> Watch<'a> {
         }
     }
 
+    /// The last moment at which something was captured.
+    pub(crate) fn now(&self) -> u64 {
+        self.now
+    }
+
     /// Notes that something was captured at this time.
     fn reach(&mut self, time: u64)
         ensures listener { self.new.listener ≡ self.old.listener }
@@ -180,6 +200,9 @@ impl<'a> Watch<'a> {
     {
         count(&mut self.counts.datagrams);
         self.reach(sent.time);
+        if self.tells_news() {
+            self.serf.note(self.capture, &sent)?;
+        }
         if !self.is_ours(payload) {
             count(&mut self.counts.other_labels);
             return Ok(());
@@ -217,133 +240,6 @@ impl<'a> Watch<'a> {
         }
     }
 
-    /// Hears the messages of a datagram.
-    fn messages(&mut self, sent: Sent, messages: Messages) -> Result<(), AllocError>
-        ensures hears { OnOk result (HearsMessages sent.time messages.read.items
-            messages.read.items self.old.listener.view self.new.listener.view) }
-    {
-        self.counts.unread = self.counts.unread.saturating_add(messages.unread);
-        let read = messages.read;
-        if read
-            .iter()
-            .any(|message| matches!(message, Message::Claim(_)))
-        {
-            count(&mut self.counts.claiming);
-        }
-        for message in &read {
-            self.detect(sent, &read, message)?;
-            self.said(sent, Kind::of_message(message))?;
-            self.message(sent, &read, message)?;
-        }
-        Ok(())
-    }
-
-    /// Hears a message of a datagram with these messages.
-    fn message(&mut self, sent: Sent, all: &[Message], message: &Message) -> Result<(), AllocError>
-        ensures { OnOk result (HearsMessage sent.time all.now message.now self.old.listener.view
-            self.new.listener.view) }
-    {
-        match message {
-            Message::Ping(ping) => self.ping(sent, ping),
-            Message::IndirectPing(ping) => {
-                let (name, addr) = (ping.source_node.as_slice(), ping.source_addr.as_slice());
-                self.see_sender(sent, name, addr, ping.source_port)
-            }
-            Message::Ack(ack) => {
-                match self
-                    .pings
-                    .answered(sent.source, sent.destination, ack.seq_no)
-                {
-                    Some(name) => self.see_at(sent, name, sent.source),
-                    None => Ok(()),
-                }
-            }
-            Message::Claim(packet) => self.claim(sent, all, packet),
-            Message::Nack(_) | Message::User(_) | Message::Error(_) => Ok(()),
-        }
-    }
-
-    /// Hears a claim of a datagram with these messages, unless it is a warning.
-    fn claim(&mut self, sent: Sent, all: &[Message], packet: &Packet) -> Result<(), AllocError>
-        ensures { OnOk result (MatchBool (is_warning all.now packet.now)
-            (self.new.listener.view ≡ self.old.listener.view)
-            (self.new.listener.view ≡ view_after self.old.listener.view
-            (heard_of sent.time (packet_told packet.now)))) }
-    {
-        if is_warning(all, packet) {
-            self.warn(sent, packet)
-        } else {
-            self.hear_packet(sent, packet)
-        }
-    }
-
-    /// Hears what a packet says, and shows it.
-    fn hear_packet(&mut self, sent: Sent, packet: &Packet) -> Result<(), AllocError>
-        ensures { OnOk result (self.new.listener.view ≡ view_after self.old.listener.view
-            (heard_of sent.time (packet_told packet.now))) }
-    {
-        let told = Told::of_packet(self.alloc, packet)?;
-        self.hear(sent, &told)
-    }
-
-    /// Hears a ping: who sends it is alive, and so is who is asked once it answers.
-    fn ping(&mut self, sent: Sent, ping: &Ping) -> Result<(), AllocError>
-        ensures { OnOk result
-            (MaySee sent.time self.old.listener.view self.new.listener.view) }
-    {
-        self.pings.note(sent.source, sent.destination, ping)?;
-        let (name, addr) = (ping.source_node.as_slice(), ping.source_addr.as_slice());
-        self.see_sender(sent, name, addr, ping.source_port)
-    }
-
-    /// Sees the member that sent a message, if the message names it.
-    fn see_sender(
-        &mut self,
-        sent: Sent,
-        name: &[u8],
-        addr: &[u8],
-        port: u16,
-    ) -> Result<(), AllocError>
-        ensures { OnOk result
-            (MaySee sent.time self.old.listener.view self.new.listener.view) }
-    {
-        match sender_of(self.alloc, name, addr, port, sent.source)? {
-            Some((name, place)) => self.see(sent, name, place),
-            None => Ok(()),
-        }
-    }
-
-    /// Sees a member at an endpoint.
-    fn see_at(&mut self, sent: Sent, name: MemberName, end: SocketAddr) -> Result<(), AllocError>
-        ensures { OnOk result
-            (MaySee sent.time self.old.listener.view self.new.listener.view) }
-    {
-        match place_at(self.alloc, end) {
-            Some(place) => self.see(sent, name, place),
-            None => Ok(()),
-        }
-    }
-
-    /// Hears that a packet shows a member at this address and port.
-    fn see(&mut self, sent: Sent, name: MemberName, place: Details) -> Result<(), AllocError>
-        ensures { OnOk result (self.new.listener.view ≡ view_after self.old.listener.view
-            (record { time = sent.time; said = Said.Seen name place })) }
-    {
-        let heard = Heard {
-            time: sent.time,
-            said: Said::Seen { name, place },
-        };
-        let Some(event) = self.take_in(&heard)? else {
-            return Ok(());
-        };
-        let change = Change {
-            name: heard.said.name().name().bytes(),
-            from: &[],
-            event,
-        };
-        self.show_change(&sent, &change)
-    }
-
     /// Begins with the records of a table, as the member that it is from shows them: the deaths in it
     /// are no suspicions. Nobody is named.
     pub(crate) fn begin_with(&mut self, claims: &[Claim]) -> Result<(), AllocError> {
@@ -374,7 +270,11 @@ impl<'a> Watch<'a> {
             ≡ view_after self.old.listener.view heard.now) }
     {
         self.settle(&heard.said)?;
-        self.listener.hear(heard)
+        let event = self.listener.hear(heard)?;
+        if event == Some(Event::Back) {
+            self.serf.intents.returned(heard.said.name().name().bytes());
+        }
+        Ok(event)
     }
 
     /// Hears what a message says, and shows it.

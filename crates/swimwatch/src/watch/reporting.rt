@@ -24,6 +24,14 @@ impl<'a> Watch<'a> {
         Ok(())
     }
 
+    /// Adds the object of an event to the timeline.
+    pub(crate) fn report_line(&mut self, line: &str) -> Result<(), AllocError>
+        ensures listener { self.new.listener ≡ self.old.listener }
+        ensures serf { self.new.serf ≡ self.old.serf }
+    {
+        self.gathered.timeline.push_str(line)
+    }
+
     /// Writes the report. It has all members, also those whose state began before `--from`.
     pub(super) fn write_report(&mut self, deadline: Deadline) -> Result<(), AllocError> {
         self.take_probes(true)?;
@@ -34,7 +42,7 @@ impl<'a> Watch<'a> {
             from: None,
             ..deadline
         };
-        write_member_objects(&mut members, &self.listener, &self.places, deadline)?;
+        write_member_objects(&mut members, self.cluster(deadline))?;
         let report = Report {
             about: self.about()?,
             picture,

@@ -7,7 +7,7 @@ use crate::change::Change;
 use crate::chosen::Verb;
 use crate::claims::write_claim;
 use crate::json::{write_change, write_told, write_warned};
-use crate::members::{Deadline, write_member_objects, write_members};
+use crate::members::{Cluster, Deadline, write_member_objects, write_members};
 use crate::names::write_name;
 use crate::roster::Roster;
 use crate::sent::Sent;
@@ -72,7 +72,7 @@ impl<'a> Watch<'a> {
         ensures { self.new.listener ≡ self.old.listener }
     {
         self.note_ports(change)?;
-        if !self.is_shown(change.name) {
+        if !self.is_shown(change.name) || self.events {
             return Ok(());
         }
         match self.verb {
@@ -126,7 +126,7 @@ impl<'a> Watch<'a> {
         ensures { self.new.listener ≡ self.old.listener }
     {
         let is_first = self.warnings.note(packet)?;
-        if !self.is_shown(packet.claim().name().bytes()) {
+        if !self.is_shown(packet.claim().name().bytes()) || self.events {
             return Ok(());
         }
         match (self.verb, self.json) {
@@ -150,32 +150,37 @@ impl<'a> Watch<'a> {
     }
 
     /// Notes an event to print, or to report.
-    fn tell(&mut self, key: String, line: String) -> Result<(), AllocError>
-        ensures { self.new.listener ≡ self.old.listener }
+    pub(super) fn tell(&mut self, key: String, line: String) -> Result<(), AllocError>
+        ensures listener { self.new.listener ≡ self.old.listener }
+        ensures serf { self.new.serf ≡ self.old.serf }
     {
-        if self.verb == Verb::Report {
-            return self.gathered.timeline.push_str(&line);
-        }
         let nth = match self.came.get(&key) {
             Some(came) => came.saturating_add(1),
             None => 1,
         };
         self.came.insert(key.clone()?, nth)?;
+        if self.verb == Verb::Report {
+            return self.report_line(&line);
+        }
         self.news
             .push(News { key, nth, line })
             .map_err(AllocError::from)
     }
 
     /// Whether to show what is said about the member with this name.
-    fn is_shown(&self, name: &[u8]) -> bool {
+    pub(super) fn is_shown(&self, name: &[u8]) -> bool {
         match &self.member {
             Some(only) => only.as_slice() == name,
             None => true,
         }
     }
 
-    /// Whether nothing was heard about the only member to show.
+    /// Whether nothing was heard about the only member to show, or not its coordinate, if distances
+    /// are asked for.
     pub(crate) fn lacks_member(&self) -> Result<bool, AllocError> {
+        if let (Some(distances), Some(target)) = (&self.distances, &self.target) {
+            return Ok(distances.lacks(target));
+        }
         match &self.member {
             Some(name) => Ok(self.listener.entry_of(name)?.is_none()),
             None => Ok(false),
@@ -190,25 +195,42 @@ impl<'a> Watch<'a> {
             mult: self.mult,
         };
         match (self.verb, self.json) {
-            (Verb::Members, false) => {
-                write_members(&mut self.out, &self.listener, &self.places, deadline)
-            }
-            (Verb::Members, true) => {
-                write_member_objects(&mut self.out, &self.listener, &self.places, deadline)
-            }
+            (Verb::Members, _) => self.show_members(deadline),
             (Verb::Talkers, false) => self.talkers.write(&mut self.out, &self.listener),
             (Verb::Talkers, true) => self.talkers.write_objects(&mut self.out, &self.listener),
             (Verb::Chart, _) => self.chart.write(&mut self.out),
             (Verb::Probes | Verb::Health | Verb::Why, _) => self.show_detector(),
             (Verb::Spread, _) => self.show_spread(),
+            (Verb::Distances, _) => self.show_distances(),
             (Verb::Report, _) => self.write_report(deadline),
             _ => Ok(()),
         }
     }
 
+    /// Shows the members.
+    fn show_members(&mut self, deadline: Deadline) -> Result<(), AllocError> {
+        let mut text = String::new(self.alloc);
+        if self.json {
+            write_member_objects(&mut text, self.cluster(deadline))?;
+        } else {
+            write_members(&mut text, self.cluster(deadline))?;
+        }
+        self.out.push_str(&text)
+    }
+
+    /// What is shown of members.
+    pub(super) fn cluster(&self, deadline: Deadline) -> Cluster {
+        Cluster {
+            listener: &self.listener,
+            places: &self.places,
+            intents: &self.serf.intents,
+            deadline,
+        }
+    }
+
     /// The members, as a listener shows them.
     pub(crate) fn roster(&self) -> Result<Roster, AllocError> {
-        Roster::of_listener(self.alloc, &self.listener)
+        Roster::of_listener(self.alloc, &self.listener, &self.serf.intents)
     }
 
     /// The canonical dump of the table of all claims.

@@ -131,7 +131,7 @@ impl<'a> Watch<'a> {
             let told = Told::of_record(self.alloc, record.claim, joins);
             self.hear(sent, &told)?;
         }
-        Ok(())
+        self.user_state(sent, &records.user)
     }
 }
 

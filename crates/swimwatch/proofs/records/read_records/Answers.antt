@@ -3,7 +3,7 @@ use Rattle.std.proofs.lemmas.List.{map-append}
 use Rattle.std.proofs.lemmas.Result.{err_from_is_err_and}
 use Rattle.swim_wire.specs.declared.state_record.StateRecord.{StateRecord}
 use Rattle.swimwatch.specs.Records.{claims_in}
-use Rattle.swimwatch.proofs.Prefixes.{started, one_more, ended, no_header, no_record, no_user, no_fault, no_rise, told}
+use Rattle.swimwatch.proofs.Prefixes.{started, one_more, ended, ended_with, no_header, no_record, no_user, no_fault, no_rise, told}
 use Rattle.swimwatch.proofs.records.read_records.Goals as goal
 
 pub loop-count-init : goal.loop-count-init
@@ -59,3 +59,10 @@ returns-clause-whole c =
     let all : length (claims_in c.loop-count.records.items) ≡ c.in_ok-header.header.nodes = search rules in
     ended c.args.bytes.now c.loop-count.inlet c.skip_user.new.inlet c.in_ok-header.header (claims_in c.loop-count.records.items) all
     c.loop-count.invariant.some c.in_ok-skip_user.ensures.takes
+
+pub returns-clause-user : goal.returns-clause-user
+returns-clause-user c =
+    let all : length (claims_in c.loop-count.records.items) ≡ c.in_ok-header.header.nodes = search rules in
+    rw (c.in_ok-user.ensures, c.rest.ensures)
+    (ended_with c.args.bytes.now c.loop-count.inlet c.skip_user.new.inlet c.in_ok-header.header (claims_in c.loop-count.records.items) all
+    c.loop-count.invariant.some c.in_ok-skip_user.ensures.takes)

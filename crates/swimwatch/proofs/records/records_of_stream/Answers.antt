@@ -5,4 +5,4 @@ use Rattle.swimwatch.proofs.records.records_of_stream.Goals as goal
 
 pub returns-in-Err : goal.returns-in-Err
 returns-in-Err c =
-    let other : c.in-Err.field-0 ≢ Memory = search rules in record { whole = tt; none = c.in-Err.ensures.none other }
+    let other : c.in-Err.field-0 ≢ Memory = search rules in record { whole = tt; user = tt; none = c.in-Err.ensures.none other }

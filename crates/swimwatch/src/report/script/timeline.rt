@@ -7,7 +7,16 @@ const EVENTS_AT_ONCE = 500;
 /** How many events are shown at most. */
 let eventLimit = EVENTS_AT_ONCE;
 
-/** The addresses of a conflict, or the address and the tags, or who said so. */
+/** What an event or a query is called, when, and what it carries. */
+const newsOf = (event) => [
+  event.user_event ?? event.query, event.payload_text ?? event.payload ?? '', event.ltime,
+].filter((text) => text !== '').join(' ');
+
+/** Who answered a query. */
+const answersOf = (event) => `${counted(event.acks.length, 'ack')}, `
+  + `${counted(event.answers.length, 'answer')}`;
+
+/** The addresses of a conflict, or the address and the tags, or who said so, or what Serf said. */
 function detailsOf(event) {
   switch (event.event) {
     case 'joined': case 'known': case 'seen': case 'back': case 'updated':
@@ -15,6 +24,13 @@ function detailsOf(event) {
     case 'conflict':
       return `${addressOf(event.rival)}, and is at ${addressOf(event)}`;
     case 'warned': return `by ${event.by}`;
+    case 'leaving': case 'forced to leave': case 'stays':
+      return `intent ${event.intent}${event.pruned ? ', pruned' : ''}`
+        + (event.by ? ` by ${event.by}` : '');
+    case 'left': return event.intent === undefined ? '' : `intent ${event.intent}`;
+    case 'event': case 'query':
+      return newsOf(event) + (event.by ? ` by ${event.by}` : '');
+    case 'query ended': case 'query open': return `${newsOf(event)}: ${answersOf(event)}`;
     case 'suspected': case 'also suspected': case 'dead':
       return event.by?.length ? `by ${event.by.join(', ')}` : '';
     default: return '';
@@ -23,8 +39,8 @@ function detailsOf(event) {
 
 /** The texts of an event's row. */
 const textsOf = (event) => [
-  event.time, event.name, event.event, String(event.incarnation ?? '-'), detailsOf(event),
-  `${event.from} to ${event.to}, ${event.proto}`,
+  event.time, event.name ?? '-', event.event, String(event.incarnation ?? '-'), detailsOf(event),
+  event.from === undefined ? '-' : `${event.from} to ${event.to}, ${event.proto}`,
 ];
 
 /** What the filter for text searches, for each event. */
@@ -34,7 +50,7 @@ const searched = events.map((event) => textsOf(event).join(' ').toLowerCase());
 function filtered() {
   const member = byId('filter-member').value;
   const words = byId('filter-text').value.toLowerCase().split(/\s+/);
-  return events.filter((event, index) => (member === '' || event.name === member)
+  return events.filter((event, index) => (member === '' || (event.name ?? '-') === member)
     && words.every((word) => searched[index].includes(word)));
 }
 
@@ -73,7 +89,7 @@ function showTimelineOf(name) {
 }
 
 function showTimeline() {
-  const names = distinct(events.map((event) => event.name)).sort();
+  const names = distinct(events.map((event) => event.name ?? '-')).sort();
   byId('filter-member').append(...names.map((name) => make('option', { value: name }, name)));
   byId('filter-member').addEventListener('change', filterEvents);
   byId('filter-text').addEventListener('input', filterEvents);

@@ -1,4 +1,4 @@
-use Rattle.std.proofs.Common.{◌≡◌, ◌<◌, ◌≤◌, ◌+◌, ◌∷◌, [], ◌++◌, ◌∙◌, List, ℕ, Bor, map, take, length, slice_index_or, sym, subst, arith}
+use Rattle.std.proofs.Common.{◌≡◌, ◌<◌, ◌≤◌, [], ◌∙◌, List, ℕ, Bor, map, take, length, slice_index_or, sym, subst, arith}
 use Rattle.std.proofs.lemmas.List.{take_all, take_more}
 use Rattle.swimwatch.specs.Datagrams.{values, Reads}
 use Rattle.swimwatch.proofs.LeavesRead.{leaf_read, no_part, one_more_part}

@@ -1,4 +1,4 @@
-use Rattle.std.proofs.Common.{◌≡◌, ◌<◌, ◌+◌, ◌∷◌, [], ◌++◌, ◌∙◌, List, ℕ, Bor, map, take, length, slice_index_or, sym, ap, refl, append-nil, append_assoc, arith}
+use Rattle.std.proofs.Common.{◌<◌, ◌++◌, ◌∙◌, List, ℕ, Bor, map, take, length, slice_index_or, sym, ap, refl, append-nil, append_assoc, arith}
 use Rattle.std.proofs.lemmas.List.{take_more}
 use Rattle.memberlist_message.specs.Messages.{MessageValue, message_of}
 use Rattle.swimwatch.specs.Datagrams.{values, if_read, messages_in}

@@ -1,10 +1,7 @@
-use Rattle.std.proofs.Common.{◌≡◌, List, inl, inr, subst, sym, rules}
+use Rattle.std.proofs.Common.{◌≡◌, List, inl, sym, rules}
 use Rattle.std.specs.Prelude.{◌≢◌}
 use Rattle.swim_claim.specs.declared.claim.Claim.{Claim}
-use Rattle.memberlist_view.specs.Told.{ViewValue}
 use Rattle.swimwatch.specs.Carriage.{IsStreamOf}
-use Rattle.swimwatch.specs.Records.{claims_in}
-use Rattle.swimwatch.specs.Views.{HearsRecords}
 use Rattle.swimwatch.specs.declared.carriage.NoStream.TheVariants.{Memory}
 use Rattle.swimwatch.proofs.watch.Watch.take_stream.Goals as goal
 
