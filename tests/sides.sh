@@ -84,6 +84,11 @@ status=$?
 prints 'a capture in a pipe at two times, the later one first' 1 'web-4 left 127.0.9.4:7946 -> alive 127.0.9.4:7946' \
     'web-5 dead 127.0.9.5:7946 -> alive 127.0.9.5:7946'
 
+# web-4 says at 02:02:01.424 that it leaves (Serf), and leaves at 02:02:01.624 (memberlist)
+run diff --at 2026-11-25T02:02:01Z --at 2026-11-25T02:02:01.5Z captures/basic/all.pcap
+: > err
+prints 'a member that is leaving' 1 'web-4 alive 10.20.1.14:7946 -> leaving 10.20.1.14:7946'
+
 # memberlist.go, verifyProtocol: what one speaks, all who are alive have to understand
 for row in '2 2 x,y' '5 1 x,y' '6 2 -' '2 0 -' '2 none -'; do
     # shellcheck disable=SC2086
