@@ -5,7 +5,7 @@ ghost use Rattle.std.specs.List.Sorted.{IsPermutation};
 ghost use Rattle.swim_table.specs.Table.{Entries, name_cmp, IsAscending};
 ghost use Rattle.swim_table.specs.Place.{IsAt, IsGapFor};
 ghost use Rattle.swim_table.specs.Prefix.{IsPrefixOf};
-ghost use Rattle.tiered_vec.specs.Tiers.{items, index_of, room, IsPlace, IsGap};
+ghost use Rattle.tiered_vec.specs.Tiers.{items, index_of, room, IsPlace, IsGap, IsPlaceOf};
 ghost use Rattle.swim_table.specs.Join.{put, put_each};
 
 use crate::entry::Entry;
@@ -38,6 +38,29 @@ pub(crate) fn find_place(entries: &TieredVec<Entry>, name: &[u8]) -> Result<Plac
         }
     }
     search_place(entries, &prefix, name)
+}
+
+/// Where the name is, or where it would go. If the entry at the place `near` has the name, this costs
+/// one comparison.
+pub(crate) fn find_near(
+    entries: &TieredVec<Entry>,
+    near: Place,
+    name: &[u8],
+) -> Result<Place, Place>
+    requires ascending { IsAscending (items entries.now) }
+    requires near { IsPlaceOf entries.now.blocks (index_of entries.now.blocks near) near }
+    ensures range { MatchResult result (IsPlace entries.now.blocks) (IsGap entries.now.blocks) }
+    ensures found { IfOk result (λ p.
+        IsAt (items entries.now) name.now (index_of entries.now.blocks p)) }
+    ensures absent { IfErr result (λ p.
+        IsGapFor (items entries.now) name.now (index_of entries.now.blocks p)) }
+{
+    if let Some(entry) = entries.get_from(near) {
+        if entry.order(&Prefix::new(name), name).is_eq() {
+            return Ok(near);
+        }
+    }
+    find_place(entries, name)
 }
 
 /// Where the name is, or where it would go, by a binary search.

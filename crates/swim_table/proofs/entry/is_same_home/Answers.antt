@@ -4,12 +4,8 @@ use Rattle.std.specs.declared.cmp.Ordering.{Ordering}
 use Rattle.std.specs.declared.cmp.Ordering.TheVariants.{Less, Equal, Greater}
 use Rattle.swim_claim.specs.Details.{details_cmp}
 use Rattle.swim_claim.proofs.DetailsOrder.{details_cmp_exact}
+use Rattle.swim_table.proofs.Lookups.{equal_from}
 use Rattle.swim_table.proofs.entry.is_same_home.Goals as goal
-
-equal_from : (o : Ordering) → is_eq o ≡ true → o ≡ Equal
-equal_from Less e = absurd cc
-equal_from Equal e = refl
-equal_from Greater e = absurd cc
 
 -- the details are the same if they compare as equal
 pub returns-then-home-other : goal.returns-then-home-other
