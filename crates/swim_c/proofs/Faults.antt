@@ -30,7 +30,7 @@ use Rattle.swim_c.specs.Exchanges.{HoldsNoStream, FinishCause, AnswerCause}
 use Rattle.swim_c.specs.Forms.{Wanted, HasTooManyIn}
 use Rattle.swim_c.specs.Taking.{IsNoDatagram, HearingAsks, TakeDone, RefuteDone}
 use Rattle.swim_c.specs.Compound.{LacksPackets, PackingAsks, CompoundDone}
-use Rattle.swim_c.proofs.WholeStreams.{begins}
+use Rattle.swim_c.proofs.WholeStreams.{ReadsNews, begins}
 
 abbrev pub refused : (X : Type 0) → WireFault → Result X WireFault
 refused X fault = Err fault
@@ -106,10 +106,10 @@ stream_unread form bytes inlet rest table fault is none reason failed = elim (me
 ]
 
 -- a stream was read, but there is no reply: it has too many records, or memory was refused
-pub reply_refused : (form : Wanted) (bytes inlet rest : List ℕ) (offered table own : Entries) (join : Bool) (fault : EncodeFault) → inlet ≡ bytes → own ≡ table
-    → exchanging.ReadsOffer (memory inlet) (memory rest) offered join → (fault ≡ encode.TooManyRecords → HasTooManyIn form own)
+pub reply_refused : (form : Wanted) (bytes inlet rest : List ℕ) (known news table own : Entries) (join : Bool) (fault : EncodeFault) → inlet ≡ bytes → own ≡ table
+    → ReadsNews (memory inlet) (memory rest) known news join → (fault ≡ encode.TooManyRecords → HasTooManyIn form own)
     → AnswerCause form bytes table (fault_of_encode fault)
-reply_refused form bytes inlet rest offered table own join encode.TooManyRecords is same read many = (
+reply_refused form bytes inlet rest known news table own join encode.TooManyRecords is same read many = (
   subst (HasTooManyIn form) same (many refl),
   (
     join,
@@ -117,7 +117,7 @@ reply_refused form bytes inlet rest offered table own join encode.TooManyRecords
     (read.0, begins bytes rest read.0 join (subst (λ (b : List ℕ). (text : List ℕ) × StreamText text read.0 join × (b ≡ text ++ rest)) is read.2)),
   ),
 )
-reply_refused form bytes inlet rest offered table own join encode.Memory is same read many = tt
+reply_refused form bytes inlet rest known news table own join encode.Memory is same read many = tt
 
 pub refute_done : (before after : NodeValue) (fault : RefuteFault) → after ≡ before
     → (fault ≡ refute.Exhausted → IsExhausted before) → ((at : ℕ) → fault ≡ refute.Gone at → IsGone before at) → (fault ≡ refute.Memory → IsDueInRange before)

@@ -3,45 +3,47 @@ use Rattle.std.proofs.Common.{◌≡◌, ℕ, ◌-◌, List, ◌++◌, length, B
 use Rattle.swim_claim.specs.declared.claim.Claim.{Claim}
 use Rattle.swim_table.specs.Node.{NodeValue, SameMember}
 use Rattle.swim_table.specs.Table.{Entries, TableOf, IsLegalTable}
-use Rattle.swim_sync.specs.Exchanging as exchanging
+use Rattle.swim_table.specs.News.{IsNewsOf}
 use Rattle.swim_c.specs.Buffers.{Copied}
 use Rattle.swim_c.specs.Exchanges.{BeginsStream, NodeTakesStream, AnswersOffer, FinishDone}
 use Rattle.swim_c.specs.Forms.{Wanted, bytes_in}
 use Rattle.swim_c.proofs.Faults.{memory}
-use Rattle.swim_c.proofs.WholeStreams.{begins, taken_in}
+use Rattle.swim_c.proofs.WholeStreams.{ReadsNews, begins, taken_in}
 
--- an offer was read from the start of bytes in memory
-offer_read : (bytes inlet rest : List ℕ) (offered : Entries) (join : Bool) (used : ℕ) → inlet ≡ bytes → used ≡ length bytes - length rest
-    → exchanging.ReadsOffer (memory inlet) (memory rest) offered join
-    → (claims : List Claim) × TableOf offered claims × BeginsStream bytes claims join used
-offer_read bytes inlet rest offered join used is len read =
-    let whole : exchanging.ReadsOffer (memory bytes) (memory rest) offered join =
-    subst (λ (b : List ℕ). exchanging.ReadsOffer (memory b) (memory rest) offered join) is read in
+-- a stream was read from the start of bytes in memory
+stream_read : (bytes inlet rest : List ℕ) (own news : Entries) (join : Bool) (used : ℕ) → inlet ≡ bytes → used ≡ length bytes - length rest
+    → ReadsNews (memory inlet) (memory rest) own news join
+    → (claims : List Claim) × IsNewsOf own news claims × BeginsStream bytes claims join used
+stream_read bytes inlet rest own news join used is len read =
+    let whole : ReadsNews (memory bytes) (memory rest) own news join = subst (λ (b : List ℕ). ReadsNews (memory b) (memory rest) own news join) is read in
     (whole.0, whole.1, subst (λ (u : ℕ). BeginsStream bytes whole.0 join u) (sym len) (begins bytes rest whole.0 join whole.2))
 
--- an offer was read, and joined in
-pub took : (bytes inlet rest : List ℕ) (offered : Entries) (join : Bool) (used : ℕ) (before after : NodeValue)
-    → inlet ≡ bytes → used ≡ length bytes - length rest → exchanging.ReadsOffer (memory inlet) (memory rest) offered join → IsLegalTable before.table
-    → ((claims others : List Claim) → TableOf before.table claims → TableOf offered others → TableOf after.table (claims ++ others))
+-- a stream was read, and its news joined in
+pub took : (bytes inlet rest : List ℕ) (own news : Entries) (join : Bool) (used : ℕ) (before after : NodeValue)
+    → inlet ≡ bytes → used ≡ length bytes - length rest → own ≡ before.table → ReadsNews (memory inlet) (memory rest) own news join
+    → IsLegalTable before.table → IsLegalTable news
+    → ((claims others : List Claim) → TableOf before.table claims → TableOf news others → TableOf after.table (claims ++ others))
     → SameMember before after → NodeTakesStream bytes join used before after
-took bytes inlet rest offered join used before after is gone read legal all member =
-    let offer = offer_read bytes inlet rest offered join used is gone read in
-    taken_in bytes offered offer.0 join used before after offer.2 offer.1 legal all member
+took bytes inlet rest own news join used before after is gone same read legal known all member =
+    let stream = stream_read bytes inlet rest own news join used is gone read in
+    taken_in bytes own news stream.0 join used before after stream.2 same stream.1 legal known all member
 
 -- a reply was written, and the stream joined in
-pub answered : (form : Wanted) (bytes inlet rest old new dump : List ℕ) (offered : Entries) (join : Bool) (status used len : ℕ) (before after : NodeValue)
-    → inlet ≡ bytes → used ≡ length bytes - length rest → exchanging.ReadsOffer (memory inlet) (memory rest) offered join → IsLegalTable before.table
-    → ((claims others : List Claim) → TableOf before.table claims → TableOf offered others → TableOf after.table (claims ++ others))
+pub answered : (form : Wanted) (bytes inlet rest old new dump : List ℕ) (own news : Entries) (join : Bool) (status used len : ℕ)
+    (before after : NodeValue) → inlet ≡ bytes → used ≡ length bytes - length rest → own ≡ before.table
+    → ReadsNews (memory inlet) (memory rest) own news join → IsLegalTable before.table → IsLegalTable news
+    → ((claims others : List Claim) → TableOf before.table claims → TableOf news others → TableOf after.table (claims ++ others))
     → SameMember before after → status ≡ 0 → dump ≡ bytes_in form before.table join → Copied dump old new status len
     → AnswersOffer form bytes old new status join used len before after
-answered form bytes inlet rest old new dump offered join status used len before after is gone read legal all member done of copied =
-    AnswersOffer.answered done (took bytes inlet rest offered join used before after is gone read legal all member)
+answered form bytes inlet rest old new dump own news join status used len before after is gone same read legal known all member done of copied =
+    AnswersOffer.answered done (took bytes inlet rest own news join used before after is gone same read legal known all member)
     (subst (λ (b : List ℕ). Copied b old new status len) of copied)
 
 -- a reply was read, and joined in
-pub replied : (bytes inlet rest : List ℕ) (offered : Entries) (join : Bool) (used : ℕ) (before after : NodeValue) → inlet ≡ bytes
-    → used ≡ length bytes - length rest → exchanging.ReadsOffer (memory inlet) (memory rest) offered join → IsLegalTable before.table
-    → ((claims others : List Claim) → TableOf before.table claims → TableOf offered others → TableOf after.table (claims ++ others))
+pub replied : (bytes inlet rest : List ℕ) (own news : Entries) (join : Bool) (used : ℕ) (before after : NodeValue) → inlet ≡ bytes
+    → used ≡ length bytes - length rest → own ≡ before.table → ReadsNews (memory inlet) (memory rest) own news join
+    → IsLegalTable before.table → IsLegalTable news
+    → ((claims others : List Claim) → TableOf before.table claims → TableOf news others → TableOf after.table (claims ++ others))
     → SameMember before after → FinishDone bytes 0 join used 0 before after
-replied bytes inlet rest offered join used before after is gone read legal all member =
-    FinishDone.finished refl refl (took bytes inlet rest offered join used before after is gone read legal all member)
+replied bytes inlet rest own news join used before after is gone same read legal known all member =
+    FinishDone.finished refl refl (took bytes inlet rest own news join used before after is gone same read legal known all member)

@@ -13,7 +13,7 @@ use crate::watching::Watched;
 use std::alloc::Global;
 use swim_pack::SliceInlet;
 use swim_sync::{SyncFault, room_for_both};
-use swim_table::{Node, read_stream};
+use swim_table::{Node, read_news};
 
 /// The result of reading a stream.
 #[repr(C)]
@@ -140,7 +140,9 @@ fn try_answer(
     ensures refused { IfErr result (AnswerCause (wanted form user.now) stream.now held.old.node.table) }
 {
     let mut inlet = SliceInlet::new(stream);
-    let (offered, join) = read_stream(alloc, &mut inlet)?;
+    let (offered, join) = read_news(alloc, &mut inlet, held.node.table())?;
+    // opens the invariant: the table is legal
+    let _ = offered.len();
     let reply_len = form.dump_len(held.node.table(), join, user)?;
     let used = stream.len() - inlet.rest().len();
     if reply_len > out.len() {
@@ -190,7 +192,9 @@ fn try_finish(alloc: Global, held: &mut Watched, stream: &[u8]) -> Result<Exchan
     ensures refused { IfErr result (FinishCause stream.now) }
 {
     let mut inlet = SliceInlet::new(stream);
-    let (replied, join) = read_stream(alloc, &mut inlet)?;
+    let (replied, join) = read_news(alloc, &mut inlet, held.node.table())?;
+    // opens the invariant: the table is legal
+    let _ = replied.len();
     let news = held.join(alloc, replied)?;
     Ok(Exchanged {
         status: DONE,

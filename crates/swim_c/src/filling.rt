@@ -17,7 +17,7 @@ use crate::watching::Watched;
 use std::alloc::{AllocError, Global};
 use swim_pack::SliceInlet;
 use swim_sync::{SyncFault, room_for_both};
-use swim_table::{EncodeFault, Node, Table, list, read_stream};
+use swim_table::{EncodeFault, Node, Table, list, read_news};
 
 /// Fills the buffer with the table's dump in the form with this number, with this user state. Returns
 /// a status.
@@ -129,7 +129,9 @@ fn try_answer_new(
     ensures refused { IfErr result (AnswerCause (wanted form user.now) stream.now held.old.node.table) }
 {
     let mut inlet = SliceInlet::new(stream);
-    let (offered, join) = read_stream(alloc, &mut inlet)?;
+    let (offered, join) = read_news(alloc, &mut inlet, held.node.table())?;
+    // opens the invariant: the table is legal
+    let _ = offered.len();
     let reply = form.dump(alloc, held.node.table(), join, user)?;
     let used = stream.len() - inlet.rest().len();
     let len = reply.len();

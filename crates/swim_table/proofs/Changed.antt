@@ -9,7 +9,8 @@ use Rattle.swim_table.specs.Join.{joined, Join, standing_of}
 use Rattle.swim_table.specs.Covering.{IsCovered}
 use Rattle.swim_table.specs.News.{AreChanges, HasAlso}
 use Rattle.swim_table.proofs.Lookups.{IsAscending-head, IsAscending-tail, get_below, get_cases, get_here, joined_both, joined-none, same_table}
-use Rattle.swim_table.proofs.Tables.{get-append, standing_of_top, TableOf-one, TableOf-table_of}
+use Rattle.swim_table.proofs.Covering.{covered_nil}
+use Rattle.swim_table.proofs.Tables.{get-append, standing_of_top, TableOf-Join, TableOf-one, TableOf-table_of}
 
 some_case : (o : Option Standing) (P Q : Type 0) → IsSome o → Q → MatchOption o P (λ _. Q)
 some_case None P Q is q = absurd cc
@@ -39,6 +40,16 @@ covered_is_unchanged table other h g = (
       (λ name. get-Join table other h g name ∙ covered name),
   λ same name. sym (get-Join table other h g name) ∙ ap (λ t. get t name) same,
 )
+
+-- a table of no claims changes nothing
+pub join_of_none : (table other : Entries) → TableOf table (Reduced table) → other ≡ [] → Join table other ≡ table
+join_of_none table other h none =
+    subst (λ t. Join table t ≡ table) (sym none) ((covered_is_unchanged table [] h (TableOf-table_of [])).0 (covered_nil table))
+
+pub took_none : (table other : Entries) (claims others : List Claim) → TableOf table (Reduced table) → other ≡ [] → TableOf table claims
+    → TableOf other others → TableOf table (claims ++ others)
+took_none table other claims others h none of also =
+    subst (λ t. TableOf t (claims ++ others)) (join_of_none table other h none) (TableOf-Join table other claims others of also)
 
 pub told_by_covering : (table other : Entries) → TableOf table (Reduced table) → TableOf other (Reduced other)
     → (covered : Bool) → IsTrue covered ↔ IsCovered other table → MatchBool (not covered) (Join table other ≢ table) (Join table other ≡ table)

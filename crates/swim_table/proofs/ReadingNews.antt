@@ -19,7 +19,7 @@ use Rattle.swim_table.specs.Steps.{BeginText, IsWanted, IsWanted as wants, Reaso
 use Rattle.swim_table.specs.Streaming.{Streaming}
 use Rattle.swim_table.specs.Standing.{Standing}
 use Rattle.swim_table.specs.Table.{Entries, get, IsAscending, Reduced, Same, TableOf}
-use Rattle.swim_table.specs.Join.{Join, combined, joined, put, standing_of, table_of}
+use Rattle.swim_table.specs.Join.{Join, combined, joined, put, standing_of}
 use Rattle.swim_table.specs.News.{IsKnown, IsNewsOf, TakesNews, TakesNews as takes}
 use Rattle.swim_table.proofs.Changed.{get-Join}
 use Rattle.swim_table.proofs.Lookups.{IsAscending-put, get-put, get_cases, get_here, joined_both, joined-none, same_table}
@@ -229,16 +229,16 @@ not_wanted reader mid P f lacks = known mid.coming lacks
 
 module _ (old mid : Source) (header : Header) (left : ℕ) (table news : Entries) (some : ReadNews old mid header left table news) where
   abbrev reader : Streaming
-  reader = record { header = header; left = left; table = table_of some.claims }
+  reader = record { header = header; left = left; table = Join table news }
 
-  -- the same part, with the table of the claims that were read
-  as_some : ReadSome old mid reader
-  as_some = record { claims = some.claims; table = TableOf-table_of some.claims; counted = some.counted; taken = some.taken }
+  -- the same part, as if its claims were taken into the table
+  as_some : ReadSome old mid table reader
+  as_some = record { claims = some.claims; table = some.are_news.joins; counted = some.counted; taken = some.taken }
 
   pub no_record : (fault : WireFault) → 0 < left → UnlessFailed (wire_cause fault) (NoTextAtFront mid (λ b. (c : Claim) × StateText b c))
       → UnlessFailed (wire_cause fault) (NoTextAtFront old IsStream)
   no_record fault more =
-      UnlessFailed-weaker (wire_cause fault) (λ lacks. none_wanted old mid reader as_some (not_wanted reader mid (λ b. (c : Claim) × StateText b c) from lacks))
+      UnlessFailed-weaker (wire_cause fault) (λ lacks. none_wanted old mid table reader as_some (not_wanted reader mid (λ b. (c : Claim) × StateText b c) from lacks))
     where
       from : (b : List ℕ) → IsWanted reader b → (c : Claim) × StateText b c
       from b (wants.record_of c some text) = (c, text)
@@ -247,7 +247,7 @@ module _ (old mid : Source) (header : Header) (left : ℕ) (table news : Entries
   pub no_user : (fault : WireFault) → left ≡ 0 → UnlessFailed (wire_cause fault) (NoTextAtFront mid (λ b. length b ≡ header.user_len))
       → UnlessFailed (wire_cause fault) (NoTextAtFront old IsStream)
   no_user fault over =
-      UnlessFailed-weaker (wire_cause fault) (λ lacks. none_wanted old mid reader as_some (not_wanted reader mid (λ b. length b ≡ header.user_len) from lacks))
+      UnlessFailed-weaker (wire_cause fault) (λ lacks. none_wanted old mid table reader as_some (not_wanted reader mid (λ b. length b ≡ header.user_len) from lacks))
     where
       from : (b : List ℕ) → IsWanted reader b → length b ≡ header.user_len
       from b (wants.record_of c more text) = absurd (omega (arith, more, over))
@@ -255,7 +255,7 @@ module _ (old mid : Source) (header : Header) (left : ℕ) (table news : Entries
 
   pub record_reason : (fault : WireFault) (new : Source) → 0 < left → ReasonForStart (ReasonForState fault) mid
       → ReadsAs {E = WireFault} {X = Claim} {V = Claim} wire_cause same state_at mid new (Err fault) → IfSome old.coming (ReasonForStream fault)
-  record_reason fault new more why exact = step_reason fault old mid reader as_some (known mid.coming new.coming why exact.answer)
+  record_reason fault new more why exact = step_reason fault old mid table reader as_some (known mid.coming new.coming why exact.answer)
     where
       known : (o n : Option (List ℕ)) → IfSome o (ReasonForState fault) → Answers {E = WireFault} {X = Claim} {V = Claim} wire_cause same state_at o n (Err fault)
           → IfSome o (ReasonForStep reader fault)
@@ -264,8 +264,8 @@ module _ (old mid : Source) (header : Header) (left : ℕ) (table news : Entries
       known (Some bytes) (Some rest) w a = why_step.record_of more (w, a)
 
   pub memory_reason : (new : Source) (c : Claim) → left ≢ 0 → ConsumesText mid new (λ b. StateText b c) → IfSome old.coming (ReasonForStream Memory)
-  memory_reason new c more text = step_reason Memory old mid reader as_some (record_asks reader reader mid new c refl more text)
+  memory_reason new c more text = step_reason Memory old mid table reader as_some (record_asks reader reader mid new c refl more text)
 
   pub state_reason : (fault : WireFault) → left ≡ 0 → (fault ≡ Ended) ⊎ (fault ≡ Fault)
       → UnlessFailed (wire_cause fault) (NoTextAtFront mid (λ b. length b ≡ header.user_len)) → IfSome old.coming (ReasonForStream fault)
-  state_reason fault over which lacks = step_reason fault old mid reader as_some (user_reason reader reader fault mid refl over which lacks)
+  state_reason fault over which lacks = step_reason fault old mid table reader as_some (user_reason reader reader fault mid refl over which lacks)

@@ -22,8 +22,7 @@ use Rattle.swim_table.specs.declared.stream_reader.Step.TheVariants.{More, End}
 use Rattle.swim_table.specs.Steps.{Steps, IsWanted, BeginText, ReasonForStep, ReasonForStream}
 use Rattle.swim_table.specs.Steps.{Steps as steps, IsWanted as wants, ReasonForStep as why_step, ReasonForStream as why_stream}
 use Rattle.swim_table.specs.Streaming.{Streaming}
-use Rattle.swim_table.specs.Table.{Entries, TableOf}
-use Rattle.swim_table.proofs.Tables.{TableOf-table_of}
+use Rattle.swim_table.specs.Table.{Entries, TableOf, TakesIn}
 
 -- ---- records one after another
 
@@ -83,19 +82,19 @@ wanted reader claims all join begun now text rest b counted t e =
 
 -- ---- reads one after another
 
--- What was taken since the stream began: its header, and the records of some claims, of which this
--- is the table.
-pub record ReadSome (old new : Source) (reader : Streaming) : Type 0 where
+-- What was taken since the stream began: its header, and the records of some claims, which the
+-- table took in.
+pub record ReadSome (old new : Source) (before : Entries) (reader : Streaming) : Type 0 where
   pub claims : List Claim
-  pub table : TableOf reader.table claims
+  pub table : TakesIn before reader.table claims
   pub counted : length claims + reader.left ≡ reader.header.nodes
   pub taken : ConsumesText old new (λ b. BeginText b reader.header claims)
 
-pub started : (old new : Source) (reader : Streaming) → ConsumesText old new (λ b. HeaderText b reader.header) →
-    (reader.left ≡ reader.header.nodes) × (reader.table ≡ []) → ReadSome old new reader
-started old new reader taken fresh = record {
+pub started : (old new : Source) (before : Entries) (reader : Streaming) → ConsumesText old new (λ b. HeaderText b reader.header) →
+    (reader.left ≡ reader.header.nodes) × (reader.table ≡ before) → ReadSome old new before reader
+started old new before reader taken fresh = record {
   claims = [];
-  table = subst (λ (t : Entries). TableOf t []) (sym fresh.1) (TableOf-table_of []);
+  table = λ taken of. subst (TableOf reader.table) (sym (append-nil taken)) (subst (λ (t : Entries). TableOf t taken) (sym fresh.1) of);
   counted = omega (arith, fresh.0);
   taken =
       ConsumesText-mono old.coming new.coming _ _ (λ b text. record { head = b; records = []; bytes = sym (append-nil b); head_text = text; record_texts = none }) taken;
@@ -112,27 +111,28 @@ begun_more header claims c x y begun text = record {
   record_texts = StateTexts-push begun.records y claims c begun.record_texts text;
 }
 
-stepped_to : (old mid new : Source) (reader next : Streaming) (c : Claim) → ReadSome old mid reader
+stepped_to : (old mid new : Source) (before : Entries) (reader next : Streaming) (c : Claim) → ReadSome old mid before reader
     → reader.left ≡ next.left + 1 → ConsumesText mid new (λ b. StateText b c)
-    → ((claims : List Claim) → TableOf reader.table claims → TableOf next.table (claims ++ c ∷ [])) → next.header ≡ reader.header → ReadSome old new next
-stepped_to old mid new reader next c some left taken table header =
+    → ((claims : List Claim) → TableOf reader.table claims → TableOf next.table (claims ++ c ∷ [])) → next.header ≡ reader.header → ReadSome old new before next
+stepped_to old mid new before reader next c some left taken table header =
     let count = length-append some.claims (c ∷ []) in
     let nodes : next.header.nodes ≡ reader.header.nodes = ap (λ (h : Header). h.nodes) header in
-    let before = some.counted in
+    let sum = some.counted in
     record {
       claims = some.claims ++ c ∷ [];
-      table = table some.claims some.table;
-      counted = omega (arith, count, nodes, before, left);
+      table = λ all of. subst (TableOf next.table) (append_assoc all some.claims (c ∷ [])) (table (all ++ some.claims) (some.table all of));
+      counted = omega (arith, count, nodes, sum, left);
       taken =
           subst (λ (h : Header). ConsumesText old new (λ b. BeginText b h (some.claims ++ c ∷ []))) (sym header)
           (ConsumesText-both old.coming mid.coming new.coming _ _ _ (begun_more reader.header some.claims c) some.taken taken);
     }
 
-pub stepped : (old mid new : Source) (reader next : Streaming) → ReadSome old mid reader → Steps reader mid new (More next) → ReadSome old new next
-stepped old mid new reader next some (steps.record_of c to is left taken table all header) =
+pub stepped : (old mid new : Source) (before : Entries) (reader next : Streaming) → ReadSome old mid before reader
+    → Steps reader mid new (More next) → ReadSome old new before next
+stepped old mid new before reader next some (steps.record_of c to is left taken table all header) =
     let same : to ≡ next = cc in
-    subst (ReadSome old new) same (stepped_to old mid new reader to c some left taken all header)
-stepped old mid new reader next some (steps.user_state is left taken) = absurd cc
+    subst (ReadSome old new before) same (stepped_to old mid new before reader to c some left taken all header)
+stepped old mid new before reader next some (steps.user_state is left taken) = absurd cc
 
 -- the user state was read
 pub whole : (header : Header) (claims : List Claim) (x y : List ℕ) → length claims ≡ header.nodes → BeginText x header claims
@@ -150,16 +150,16 @@ whole header claims x y count begun long = record {
   user_len = long;
 }
 
-pub ended : (old mid new : Source) (reader : Streaming) (table : Entries) (join : Bool) → ReadSome old mid reader → Steps reader mid new (End table join)
-    → (claims : List Claim) × TableOf table claims × ConsumesText old new (λ b. StreamText b claims join)
-ended old mid new reader table join some (steps.record_of c to is left taken of all header) = absurd cc
-ended old mid new reader table join some (steps.user_state is left taken) =
+pub ended : (old mid new : Source) (before : Entries) (reader : Streaming) (table : Entries) (join : Bool) → ReadSome old mid before reader
+    → Steps reader mid new (End table join) → (claims : List Claim) × TakesIn before table claims × ConsumesText old new (λ b. StreamText b claims join)
+ended old mid new before reader table join some (steps.record_of c to is left taken of all header) = absurd cc
+ended old mid new before reader table join some (steps.user_state is left taken) =
     let the_table : reader.table ≡ table = cc in
     let the_flag : reader.header.join ≡ join = cc in
-    let before = some.counted in
-    let count : length some.claims ≡ reader.header.nodes = omega (arith, before, left) in (
+    let sum = some.counted in
+    let count : length some.claims ≡ reader.header.nodes = omega (arith, sum, left) in (
       some.claims,
-      subst (λ (t : Entries). TableOf t some.claims) the_table some.table,
+      λ all of. subst (λ (t : Entries). TableOf t (all ++ some.claims)) the_table (some.table all of),
       subst (λ (j : Bool). ConsumesText old new (λ b. StreamText b some.claims j)) the_flag
           (ConsumesText-both old.coming mid.coming new.coming _ _ _ (λ x y. whole reader.header some.claims x y count) some.taken taken),
     )
@@ -169,8 +169,8 @@ ended old mid new reader table join some (steps.user_state is left taken) =
 abbrev IsStream : List ℕ → Type 0
 IsStream b = (claims : List Claim) × (join : Bool) × StreamText b claims join
 
-pub none_wanted : (old mid : Source) (reader : Streaming) → ReadSome old mid reader → NoTextAtFront mid (IsWanted reader) → NoTextAtFront old IsStream
-none_wanted old mid reader some lacks = known old.coming mid.coming some.taken lacks
+pub none_wanted : (old mid : Source) (before : Entries) (reader : Streaming) → ReadSome old mid before reader → NoTextAtFront mid (IsWanted reader) → NoTextAtFront old IsStream
+none_wanted old mid before reader some lacks = known old.coming mid.coming some.taken lacks
   where
     known : (old mid : Option (List ℕ)) → ConsumesKnownText old mid (λ b. BeginText b reader.header some.claims) → IfSome mid
         (λ bytes. (text rest : List ℕ) → IsWanted reader text → bytes ≡ text ++ rest → ⊥)
@@ -181,9 +181,9 @@ none_wanted old mid reader some lacks = known old.coming mid.coming some.taken l
         let w = wanted reader some.claims is.0 is.1 taken.0 now text rest taken.1 some.counted is.2 (sym taken.2 ∙ parts) in
         lacks w.0 w.1 w.2 w.3
 
-pub step_reason : (fault : WireFault) (old mid : Source) (reader : Streaming) → ReadSome old mid reader → IfSome mid.coming
+pub step_reason : (fault : WireFault) (old mid : Source) (before : Entries) (reader : Streaming) → ReadSome old mid before reader → IfSome mid.coming
     (ReasonForStep reader fault) → IfSome old.coming (ReasonForStream fault)
-step_reason fault old mid reader some says = known old.coming mid.coming some.taken says
+step_reason fault old mid before reader some says = known old.coming mid.coming some.taken says
   where
     because : (bytes front now : List ℕ) → BeginText front reader.header some.claims → bytes ≡ front ++ now
         → ReasonForStep reader fault now → ReasonForStream fault bytes

@@ -1,5 +1,5 @@
 -- A stream with nothing after it, and a canonical dump that is read back.
-use Rattle.std.proofs.Common.{◌≡◌, ◌≢◌, inl, inr, ℕ, ◌≤◌, Bool, List, [], ◌++◌, length, refl, sym, ap, subst, ◌∙◌, append-nil}
+use Rattle.std.proofs.Common.{◌≡◌, ◌≢◌, inl, inr, ℕ, Result, Ok, Err, IfOk, IfErr, ◌≤◌, Bool, List, [], ◌++◌, length, refl, sym, ap, subst, ◌∙◌, append-nil}
 use Rattle.std.proofs.lemmas.List.{append_cancel_left}
 use Rattle.swim_claim.specs.declared.claim.Claim.{Claim}
 use Rattle.swim_pack.specs.Composing.{UnlessFailed}
@@ -12,7 +12,8 @@ use Rattle.swim_wire.specs.Limits.{max_nodes}
 use Rattle.swim_table.specs.Dump.{dump_bytes}
 use Rattle.swim_table.specs.Steps.{ReasonForStream, ReasonForDump}
 use Rattle.swim_table.specs.Steps.ReasonForStream.{header, record_of, user_state}
-use Rattle.swim_table.specs.Table.{Entries, Reduced, TableOf, IsLegalTable}
+use Rattle.swim_table.specs.Table.{Entries, Reduced, TableOf, TakesIn, IsLegalTable}
+use Rattle.swim_table.proofs.Tables.{TableOf-table_of}
 use Rattle.swim_table.proofs.Dumps.{dump_is_stream, dump_read_back}
 
 -- the bytes do not begin with a stream
@@ -69,3 +70,26 @@ pub no_dump : (fault : WireFault) (bytes : List ℕ) → (fault ≡ Fault → �
 no_dump Trailing bytes no_fault why = absurd (not_trailing bytes why)
 no_dump Fault bytes no_fault why = absurd (no_fault refl)
 no_dump fault bytes no_fault why = why
+
+-- ---- reads into a table of no claims
+
+-- what a table of no claims took in is all that it has
+pub read_alone : (r : Result (Entries × Bool) WireFault) (P : List Claim → Bool → Type 0)
+    → IfOk r (λ read. (claims : List Claim) × TakesIn [] read.0 claims × P claims read.1)
+    → IfOk r (λ read. (claims : List Claim) × TableOf read.0 claims × P claims read.1)
+read_alone (Ok read) P h = (h.0, h.1 [] (TableOf-table_of []), h.2)
+read_alone (Err fault) P h = tt
+
+only_memory : (fault : WireFault) → ¬ (fault ≢ Memory) → fault ≡ Memory
+only_memory Memory h = refl
+only_memory error h = absurd (h (λ e. absurd cc))
+
+pub dump_back : (r : Result (Entries × Bool) WireFault) (bytes : List ℕ) (table : Entries) (join : Bool) → IsLegalTable table
+    → length (Reduced table) ≤ max_nodes → bytes ≡ dump_bytes table join
+    → IfOk r (λ read. (claims : List Claim) × TakesIn [] read.0 claims × StreamText bytes claims read.1)
+    → IfErr r (λ fault. fault ≢ Memory → (claims : List Claim) (join : Bool) → ¬ StreamText bytes claims join)
+    → IfOk r (λ read. (read.0 ≡ table) × (read.1 ≡ join)) × IfErr r (λ fault. fault ≡ Memory)
+dump_back (Ok read) bytes table join legal few is h refuses =
+    (read_back bytes table read.0 join read.1 h.0 legal few is (h.1 [] (TableOf-table_of [])) h.2, tt)
+dump_back (Err fault) bytes table join legal few is h refuses =
+    (tt, only_memory fault (λ other. refuses other (Reduced table) join (dumped bytes table join legal few is)))

@@ -2,7 +2,7 @@
 use Rattle.std.specs.Prelude.{◌≡◌, ◌≢◌, ◌↔◌, ◌⊎◌, ◌++◌, ◌∷◌, [], ℕ, List, Some, MatchOption, IsSome}
 use Rattle.swim_claim.specs.Claim.{name_of}
 use Rattle.swim_claim.specs.declared.claim.Claim.{Claim}
-use Rattle.swim_table.specs.Table.{Entries, get, TableOf}
+use Rattle.swim_table.specs.Table.{Entries, get, TableOf, TakesIn}
 use Rattle.swim_table.specs.Join.{Join, joined, standing_of}
 
 -- the names of this table are those whose entry changed
@@ -18,8 +18,7 @@ HasAlso also before after = (name : List ℕ)
 -- to join the news in is to take in these claims, and the names of the news are those whose entry
 -- this changes
 pub record IsNewsOf (table news : Entries) (claims : List Claim) : Type 0 where
-  pub joins : (taken : List Claim) → TableOf table taken
-      → TableOf (Join table news) (taken ++ claims)
+  pub joins : TakesIn table (Join table news) claims
   pub changes : AreChanges table (Join table news) news
 
 -- the claim adds nothing to the table

@@ -1,5 +1,5 @@
 -- The claims of files, one file after another.
-use Rattle.std.proofs.Common.{◌≡◌, ◌≢◌, ℕ, ◌<◌, ◌≤◌, ◌⊎◌, inl, inr, Bool, List, [], ◌∷◌, ◌++◌, length, map, take, drop, get_or, refl, sym, ap, subst, ◌∙◌, append_assoc, append-nil, zero, suc, ◌+◌, arith}
+use Rattle.std.proofs.Common.{◌≡◌, ◌≢◌, Result, Ok, Err, IfOk, ℕ, ◌<◌, ◌≤◌, ◌⊎◌, inl, inr, Bool, List, [], ◌∷◌, ◌++◌, length, map, take, drop, get_or, refl, sym, ap, subst, ◌∙◌, append_assoc, append-nil, zero, suc, ◌+◌, arith}
 use Rattle.std.specs.Prelude.{None}
 use Rattle.std.proofs.Math.ListN.{get_or-map}
 use Rattle.std.proofs.lemmas.List.{length-map, length-take-le, take_all}
@@ -13,6 +13,8 @@ use Rattle.swim_program.specs.declared.report.What.TheVariants.{Memory, Refused}
 use Rattle.swim_program.specs.declared.report.Place.TheVariants.{File}
 use Rattle.swim_program.specs.declared.report.Report.{Report}
 use Rattle.swim_table.specs.Steps.{ReasonForDump}
+use Rattle.swim_table.specs.Table.{Entries, TableOf, TakesIn}
+use Rattle.swim_table.proofs.Tables.{TableOf-table_of}
 use Rattle.swimtab.specs.Files.{FileClaims, FilesClaims, IsNoDump, AreShortFiles, AreRefused}
 use Rattle.swimtab.specs.Files.AreRefused.{too_long, no_stream, memory}
 use Rattle.swim_program.specs.Report.{what_of}
@@ -48,6 +50,13 @@ refused_for file fault what is none why = elim (is_memory fault) [
   | inl e ↦ inl (is ∙ ap what_of e)
   | inr seen ↦ inr (record { fault = fault; none = λ claims h. none seen claims h.0 h.1; why = why; told = is })
 ]
+
+-- what a table of no claims took in is all that it has
+pub read_alone : (r : Result Entries Report) (file : List ℕ)
+    → IfOk r (λ table. (claims : List Claim) × FileClaims file claims × TakesIn [] table claims)
+    → IfOk r (λ table. (claims : List Claim) × FileClaims file claims × TableOf table claims)
+read_alone (Ok table) file h = (h.0, h.1, h.2 [] (TableOf-table_of []))
+read_alone (Err report) file h = tt
 
 -- one more file
 pub FilesClaims-push : (files : List (List ℕ)) (file : List ℕ) (claims own : List Claim) → FilesClaims files claims

@@ -6,13 +6,13 @@ ghost use Rattle.swim_program.specs.Limits.{max_input_len};
 ghost use Rattle.swim_table.specs.Covering.{IsRelation};
 ghost use Rattle.swim_table.specs.Dump.{dump_bytes};
 ghost use Rattle.swim_table.specs.Listing.{listing};
-ghost use Rattle.swim_table.specs.Table.{Entries, TableOf};
+ghost use Rattle.swim_table.specs.Table.{Entries, TableOf, TakesIn};
 ghost use Rattle.swimtab.specs.Files.{bytes_of, FileClaims, FilesClaims, IsNoDump, AreShortFiles, AreRefused, HaveTooMany, relation_text};
 ghost use Rattle.swim_program.specs.Report.{IsAmong};
 
 use std::alloc::{AllocError, Global};
 use swim_program::{MAX_INPUT_LEN, Place, Report, What};
-use swim_table::{EncodeFault, Relation, Table, encode, list, read_dump, relation};
+use swim_table::{EncodeFault, Relation, Table, encode, list, read_dump_into, relation};
 
 /// The listing of the table of all claims in the files, each of which is a dump: one push/pull
 /// stream.
@@ -103,11 +103,7 @@ fn joined(alloc: Global, files: &[Vec<u8>]) -> Result<Table, Report>
     check_lengths(files)?;
     let mut table = Table::new(alloc);
     for (place, file) in files.iter().enumerate() {
-        let other = table_of_file(alloc, file, place)?;
-        match table.join(other) {
-            Ok(()) => {}
-            Err(_) => return Err(What::Memory.at(Place::File(place))),
-        }
+        table = with_file(alloc, table, file, place)?;
     }
     Ok(table)
 }
@@ -144,7 +140,18 @@ pub(crate) fn table_of_file(alloc: Global, file: &[u8], place: usize) -> Result<
         ⊎ IsNoDump file.now report.what) }
     ensures place { IfErr result (λ report. report.place ≡ Place.File place) }
 {
-    match read_dump(alloc, file) {
+    with_file(alloc, Table::new(alloc), file, place)
+}
+
+/// The table, with the claims in one file taken in.
+fn with_file(alloc: Global, table: Table, file: &[u8], place: usize) -> Result<Table, Report>
+    ensures reads { IfOk result (λ read. (claims : List Claim) × FileClaims file.now claims
+        × TakesIn table read claims) }
+    ensures refuses { IfErr result (λ report. (report.what ≡ What.Memory)
+        ⊎ IsNoDump file.now report.what) }
+    ensures place { IfErr result (λ report. report.place ≡ Place.File place) }
+{
+    match read_dump_into(alloc, file, table) {
         Ok((table, _)) => Ok(table),
         Err(fault) => Err(What::from(fault).at(Place::File(place))),
     }

@@ -20,7 +20,7 @@ returns-in_err-offered-clause-refused c =
     let p = err_from_is_err_and c.from_residual.result c.from_residual.ensures.1 in
     let why = c.in_err-offered.ensures in
     rw (p.1, p.2)
-    (stream_unread (wanted c.args.form c.args.user.now) c.args.stream.now c.new-inlet.result c.read_stream.new.inlet c.args.held.now.node.table c.in_err-offered.field-0.0
+    (stream_unread (wanted c.args.form c.args.user.now) c.args.stream.now c.new-inlet.result c.read_news.new.inlet c.args.held.now.node.table c.in_err-offered.field-0.0
     c.new-inlet.ensures why.lacks why.reason (λ e. why.fault (ap Err e)))
 
 pub returns-in_err-reply_len-clause-refused : goal.returns-in_err-reply_len-clause-refused
@@ -28,16 +28,17 @@ returns-in_err-reply_len-clause-refused c =
     let p = err_from_is_err_and c.from_residual-in_err-reply_len.result c.from_residual-in_err-reply_len.ensures.1 in
     let why = c.in_err-reply_len.ensures in
     rw (p.1, p.2)
-    (reply_refused (wanted c.args.form c.args.user.now) c.args.stream.now c.new-inlet.result c.read_stream.new.inlet c.in_ok-offered.offered c.args.held.now.node.table
-    c.table.result.now c.in_ok-offered.join c.in_err-reply_len.field-0.0
-    c.new-inlet.ensures c.table.ensures.table c.in_ok-offered.ensures.takes (λ e. why.too_many.0 refl))
+    (reply_refused (wanted c.args.form c.args.user.now) c.args.stream.now c.new-inlet.result c.read_news.new.inlet c.table.result.now c.in_ok-offered.offered
+    c.args.held.now.node.table c.table-2.result.now c.in_ok-offered.join c.in_err-reply_len.field-0.0
+    c.new-inlet.ensures c.table-2.ensures.table c.in_ok-offered.ensures.takes (λ e. why.too_many.0 refl))
 
 pub returns-clause-answers : goal.returns-clause-answers
 returns-clause-answers c =
     let join = c.in_ok-offered.join in let d = λ (t : Entries). bytes_in (wanted c.args.form c.args.user.now) t join in
-    answered (wanted c.args.form c.args.user.now) c.args.stream.now c.new-inlet.result c.read_stream.new.inlet c.args.out.now c.dump_front.new.out
-    (d c.args.held.now.node.table) c.in_ok-offered.offered join 0 _ c.in_ok-reply_len.reply_len c.args.held.now.node c.join_in-news.new.self.node
-    c.new-inlet.ensures (search rules) c.in_ok-offered.ensures.takes c.table.ensures.legal c.join_in-news.ensures.joined
+    answered (wanted c.args.form c.args.user.now) c.args.stream.now c.new-inlet.result c.read_news.new.inlet c.args.out.now c.dump_front.new.out
+    (d c.args.held.now.node.table) c.table.result.now c.in_ok-offered.offered join 0 _ c.in_ok-reply_len.reply_len c.args.held.now.node
+    c.join_in-news.new.self.node c.new-inlet.ensures (search rules) c.table.ensures.table c.in_ok-offered.ensures.takes c.table.ensures.legal
+    c.len.ensures.legal c.join_in-news.ensures.joined
     c.join_in-news.ensures.member refl refl
-    (copied c.table.result.now c.args.held.now.node.table c.table-3.result.now c.in_ok-reply_len.reply_len c.args.out.now c.dump_front.new.out d
-    c.table.ensures.table c.table-3.ensures.table c.in_ok-reply_len.ensures.len c.if-reply_len-out.false c.dump_front.ensures)
+    (copied c.table-2.result.now c.args.held.now.node.table c.table-4.result.now c.in_ok-reply_len.reply_len c.args.out.now c.dump_front.new.out d
+    c.table-2.ensures.table c.table-4.ensures.table c.in_ok-reply_len.ensures.len c.if-reply_len-out.false c.dump_front.ensures)

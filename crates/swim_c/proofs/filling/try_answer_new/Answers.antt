@@ -10,7 +10,7 @@ returns-in_err-offered-clause-refused c =
     let p = err_from_is_err_and c.from_residual.result c.from_residual.ensures.1 in
     let why = c.in_err-offered.ensures in
     rw (p.1, p.2)
-    (stream_unread (wanted c.args.form c.args.user.now) c.args.stream.now c.new-inlet.result c.read_stream.new.inlet c.args.held.now.node.table c.in_err-offered.field-0.0
+    (stream_unread (wanted c.args.form c.args.user.now) c.args.stream.now c.new-inlet.result c.read_news.new.inlet c.args.held.now.node.table c.in_err-offered.field-0.0
     c.new-inlet.ensures why.lacks why.reason (λ e. why.fault (ap Err e)))
 
 pub returns-in_err-reply-clause-refused : goal.returns-in_err-reply-clause-refused
@@ -18,11 +18,12 @@ returns-in_err-reply-clause-refused c =
     let p = err_from_is_err_and c.from_residual-in_err-reply.result c.from_residual-in_err-reply.ensures.1 in
     let why = c.in_err-reply.ensures in
     rw (p.1, p.2)
-    (reply_refused (wanted c.args.form c.args.user.now) c.args.stream.now c.new-inlet.result c.read_stream.new.inlet c.in_ok-offered.offered c.args.held.now.node.table
-    c.table.result.now c.in_ok-offered.join c.in_err-reply.field-0.0
-    c.new-inlet.ensures c.table.ensures.table c.in_ok-offered.ensures.takes (λ e. why.too_many.0 (ap Err e)))
+    (reply_refused (wanted c.args.form c.args.user.now) c.args.stream.now c.new-inlet.result c.read_news.new.inlet c.table.result.now c.in_ok-offered.offered
+    c.args.held.now.node.table c.table-2.result.now c.in_ok-offered.join c.in_err-reply.field-0.0
+    c.new-inlet.ensures c.table-2.ensures.table c.in_ok-offered.ensures.takes (λ e. why.too_many.0 (ap Err e)))
 
 pub returns-clause-takes : goal.returns-clause-takes
 returns-clause-takes c =
-    took c.args.stream.now c.new-inlet.result c.read_stream.new.inlet c.in_ok-offered.offered c.in_ok-offered.join _ c.args.held.now.node c.join_in-news.new.self.node
-    c.new-inlet.ensures (search rules) c.in_ok-offered.ensures.takes c.table.ensures.legal c.join_in-news.ensures.joined c.join_in-news.ensures.member
+    took c.args.stream.now c.new-inlet.result c.read_news.new.inlet c.table.result.now c.in_ok-offered.offered c.in_ok-offered.join _
+    c.args.held.now.node c.join_in-news.new.self.node c.new-inlet.ensures (search rules) c.table.ensures.table c.in_ok-offered.ensures.takes
+    c.table.ensures.legal c.len.ensures.legal c.join_in-news.ensures.joined c.join_in-news.ensures.member

@@ -1,8 +1,5 @@
-use Rattle.std.proofs.Common.{ap, ◌∙◌}
-use Rattle.swimtab.proofs.FileByFile.{refused_for}
+use Rattle.swimtab.proofs.FileByFile.{read_alone}
 use Rattle.swimtab.proofs.dumps.table_of_file.Goals as goal
 
-pub returns-in-Err-clause-refuses : goal.returns-in-Err-clause-refuses
-returns-in-Err-clause-refuses c =
-    let what = ap (λ r. r.what) c.at.ensures ∙ c.from.ensures in
-    refused_for c.args.file.now c.in-Err.fault c.at.result.what what c.in-Err.ensures.refuses c.in-Err.ensures.reason
+pub returns-clause-reads : goal.returns-clause-reads
+returns-clause-reads c = read_alone c.with_file.result c.args.file.now (rw c.new.ensures at c.with_file.ensures.reads)
