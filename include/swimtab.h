@@ -691,8 +691,9 @@ swimtab_written swimtab_seal_stream(const swimtab_keyring *keyring, const void *
 /* How many members the node knows of, itself included; 0 if the handle is empty. */
 size_t swimtab_count(const swimtab_node *node);
 
-/* Copies what the node knows about the member at index `i`, from 0, in the byte order of the names. It
- * takes no memory. If `member` is NULL, nothing is copied, and only the status is returned.
+/* Copies what the node knows about the member at index `i`, from 0, in the byte order of the names. Its
+ * time grows with the index: swimtab_after walks over all members with a search for each. It takes no
+ * memory. If `member` is NULL, nothing is copied, and only the status is returned.
  *
  * SWIMTAB_DONE; SWIMTAB_NO_MEMBER: `i` is the count or above; SWIMTAB_NO_NODE. With the last two `member`
  * is unchanged. */

@@ -88,10 +88,10 @@ func (n *Node) Find(name string) (Member, error) {
 func (n *Node) Members() []Member {
 	n.lock.Lock()
 	defer n.lock.Unlock()
-	members := make([]Member, n.counted())
-	for i := range members {
-		C.swimtab_member(&n.handle, C.size_t(i), &n.member)
-		members[i] = n.seen(n.name())
+	members := make([]Member, 0, n.counted())
+	n.member.name_len = 0
+	for done(C.swimtab_after(&n.handle, unsafe.Pointer(&n.member.name[0]), C.size_t(n.member.name_len), &n.member)) == nil {
+		members = append(members, n.seen(n.name()))
 	}
 	return members
 }
