@@ -16,11 +16,13 @@ use Rattle.swim_wire.specs.Reading.{wire_cause}
 use Rattle.swim_wire.specs.Streams.{StateTexts}
 use Rattle.swim_wire.specs.Texts.{HeaderText, StateText}
 use Rattle.swim_table.proofs.Streams.{ReadSome, begun_more, none_wanted, step_reason, whole}
-use Rattle.swim_table.proofs.Tables.{TableOf-table_of}
+use Rattle.swim_table.proofs.Changed.{join_of_none}
+use Rattle.swim_table.proofs.Tables.{Join-comm, TableOf-Join, TableOf-Reduced, TableOf-table_of}
 use Rattle.swim_table.proofs.WholeStreams.{HasNone}
 use Rattle.swim_table.specs.Join.{table_of}
 use Rattle.swim_table.specs.Steps.{BeginText, IsWanted, ReasonForBegin, ReasonForRecord, ReasonForStep, ReasonForStream}
 use Rattle.swim_table.specs.Streaming.{Streaming}
+use Rattle.swim_table.specs.Table.{TakesIn, TableOf}
 use Rattle.swim_c.specs.declared.progress.Progress.{Progress}
 use Rattle.swim_c.specs.Exchanges.{HoldsNoStream}
 use Rattle.swim_c.specs.Progressing.{progress, HasBegun, IsProgressIn, StopsAt, TakesRecord, WholeDone}
@@ -28,10 +30,18 @@ use Rattle.swim_c.proofs.Faults.{memory, lacks}
 
 -- ---- what is read, and what is not
 
+-- a table of no claims took in those that the table of them has
+took : (claims : List Claim) → TakesIn [] (table_of claims) claims
+took claims taken of =
+    let is = TableOf-table_of claims in
+    subst (λ t. TableOf t (taken ++ claims))
+    (Join-comm [] (table_of claims) ∙ join_of_none (table_of claims) [] (TableOf-Reduced (table_of claims) claims is) refl)
+    (TableOf-Join [] (table_of claims) taken claims of is)
+
 -- what progress says was read is what reading step by step reads
 read_some : (bytes front rest : List ℕ) (header : Header) (claims : List Claim) (left : ℕ) → BeginText front header claims → bytes ≡ front ++ rest
-    → length claims + left ≡ header.nodes → ReadSome (memory bytes) (memory rest) (record { header = header; left = left; table = table_of claims })
-read_some bytes front rest header claims left begun parts sum = record { claims = claims; table = TableOf-table_of claims; counted = sum; taken = (front, begun, parts) }
+    → length claims + left ≡ header.nodes → ReadSome (memory bytes) (memory rest) [] (record { header = header; left = left; table = table_of claims })
+read_some bytes front rest header claims left begun parts sum = record { claims = claims; table = took claims; counted = sum; taken = (front, begun, parts) }
 
 unread : (bytes front rest : List ℕ) (p : Progress) (user : ℕ) → bytes ≡ front ++ rest → p ≡ progress (length front) p.left user true → drop p.at bytes ≡ rest
 unread bytes front rest p user parts is =
@@ -122,9 +132,9 @@ record_missing bytes p error no_memory failed none why begun_it more (IsProgress
     let some = read_some bytes front rest header claims p.left begun parts sum in
     none_there bytes error no_memory failed
     (UnlessFailed-weaker (wire_cause error) (λ (n : NoTextAtFront (memory (drop p.at bytes)) (λ b. (c : Claim) × StateText b c)).
-    none_wanted (memory bytes) (memory rest) reader some
+    none_wanted (memory bytes) (memory rest) [] reader some
     (not_next header p.left claims rest more (subst (λ (b : List ℕ). NoTextAtFront (memory b) (λ b. (c : Claim) × StateText b c)) here n))) none)
-    (step_reason error (memory bytes) (memory rest) reader some (ReasonForStep.record_of more (subst (λ (b : List ℕ). ReasonForRecord error b) here why)))
+    (step_reason error (memory bytes) (memory rest) [] reader some (ReasonForStep.record_of more (subst (λ (b : List ℕ). ReasonForRecord error b) here why)))
 
 not_enough : (header : Header) (claims : List Claim) (rest : List ℕ) → length rest < header.user_len
     → NoTextAtFront (memory rest) (IsWanted (record { header = header; left = 0; table = table_of claims }))
@@ -143,8 +153,8 @@ user_missing bytes p short begun_it over (IsProgressIn.some front rest header cl
     let some = read_some bytes front rest header claims 0 begun parts (omega (arith, sum, over)) in
     let reader : Streaming = record { header = header; left = 0; table = table_of claims } in
     none_there bytes wire.Ended (λ e. cc) (λ e. cc)
-    (none_wanted (memory bytes) (memory rest) reader some (not_enough header claims rest few))
-    (step_reason wire.Ended (memory bytes) (memory rest) reader some (ReasonForStep.user_state refl (inl (refl, few))))
+    (none_wanted (memory bytes) (memory rest) [] reader some (not_enough header claims rest few))
+    (step_reason wire.Ended (memory bytes) (memory rest) [] reader some (ReasonForStep.user_state refl (inl (refl, few))))
 
 -- ---- a whole stream
 
