@@ -15,7 +15,7 @@ use Rattle.swim_table.specs.Dump.{dump_bytes}
 use Rattle.swim_table.specs.Join.{Join, Below}
 use Rattle.swim_table.specs.Table.{Entries, Reduced, TableOf, IsLegalTable, kept, beside_home}
 use Rattle.swim_table.proofs.Showing.{TableOf-sent}
-use Rattle.swim_table.proofs.Tables.{TableOf-table_of, TableOf-unique, TableOf-Reduced, TableOf-Join, Join-comm}
+use Rattle.swim_table.proofs.Tables.{TableOf-table_of, TableOf-unique, TableOf-Reduced, TableOf-Join, Join-comm, Join-itself}
 use Rattle.swim_sync.specs.Exchanging.{TakesStream, HasTooMany, IsPrepareRefused, IsAnswerRefused}
 use Rattle.swim_sync.specs.Fault.{fault_of_push}
 use Rattle.swim_sync.specs.declared.fault.SyncFault.{SyncFault}
@@ -71,6 +71,14 @@ equal_are_join first second both =
       TableOf-unique first (Join first second) all all both.1 (TableOf-table_of all) (λ c. (λ m. m, λ m. m)),
       TableOf-unique second (Join second first) other other both.0 (TableOf-table_of other) (λ c. (λ m. m, λ m. m)) ∙ Join-comm second first,
     )
+
+-- one table that is joined to itself is as it was
+pub alike_take : (first second : Entries) → first ≡ second → (claims others : List Claim) → TableOf first claims → TableOf second others
+    → TableOf first (claims ++ others) × TableOf second (claims ++ others)
+alike_take first second same claims others h g =
+    let itself = Join-itself first (TableOf-Reduced first claims h) in
+    let joined : Join first second ≡ first = subst (λ t. Join first t ≡ first) same itself in
+    both_take first second first second (sym joined, sym same ∙ sym joined) claims others h g
 
 -- an entry keeps at most two records
 few_beside : (top : Claim) → length (beside_home top) ≤ 1

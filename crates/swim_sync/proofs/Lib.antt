@@ -1,3 +1,4 @@
+pub mod Pairs
 pub mod Clusters
 pub mod Completed
 pub mod Exchanging

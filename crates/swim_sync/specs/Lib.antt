@@ -1,3 +1,4 @@
+pub mod Alike
 pub mod Cluster
 pub mod Exchanging
 pub mod Fault

@@ -1,12 +1,14 @@
 //! A cluster of nodes, and the events that happen in it.
 
 ghost use Rattle.std.specs.Option.{option_copied};
-ghost use Rattle.std.specs.Prelude.{◌≡◌, ◌<◌, ◌∷◌, [], length, slice_get, OnOk, OnErr, IfErr};
+ghost use Rattle.std.specs.Prelude.{◌≡◌, ◌<◌, ◌∷◌, [], length, slice_get, IsTrue, OnOk, OnErr, IfErr};
 ghost use Rattle.swim_sync.specs.declared.event.Event.TheVariants as event;
 ghost use Rattle.swim_sync.specs.Cluster.{BothExchange, DumpsTooMany, Ran, Stopped, StopsBy};
+ghost use Rattle.swim_sync.specs.Alike.{HaveOneTable};
 ghost use Rattle.swim_sync.specs.OverMemory.{Hinders};
 ghost use Rattle.swim_sync.specs.Paths.{AreTwoNodes};
 
+use crate::alike::Alike;
 use crate::event::{Claims, Event};
 use crate::over_memory::{answered, exchanged, offered};
 use crate::stop::{Stop, Why};
@@ -20,6 +22,8 @@ use swim_table::{Node, RefuteFault};
 pub struct Cluster {
     alloc: Global,
     nodes: Vec<Node>,
+    // which of the nodes are known to have one table
+    alike: Alike,
 }
 
 impl Model for Cluster {
@@ -28,7 +32,11 @@ impl Model for Cluster {
 
     ghost Value = { List NodeValue };
 
+    ghost use Rattle.swim_sync.specs.Alike.{AreAlike};
+
     ghost view = { λ c. c.nodes.items };
+
+    ghost invariant = { λ c. AreAlike c.nodes.items c.alike };
 }
 
 impl Cluster {
@@ -37,7 +45,11 @@ impl Cluster {
     pub fn new(alloc: Global, nodes: Vec<Node>) -> Cluster
         ensures { result ≡ nodes.items }
     {
-        Cluster { alloc, nodes }
+        Cluster {
+            alloc,
+            nodes,
+            alike: Alike::new(alloc),
+        }
     }
 
     /// The number of nodes.
@@ -102,6 +114,7 @@ impl Cluster {
             return Err(Why::NoSuchNode);
         }
         let claim = claim.try_clone(self.alloc)?;
+        self.alike.forget(k);
         match self.nodes[k].take(claim) {
             Ok(_) => Ok(()),
             Err(_) => Err(Why::Memory),
@@ -117,6 +130,7 @@ impl Cluster {
             return Err(Why::NoSuchNode);
         }
         let claims = claims.copies(self.alloc)?;
+        self.alike.forget(k);
         self.nodes[k].take_all(claims)?;
         Ok(())
     }
@@ -129,6 +143,7 @@ impl Cluster {
         if k >= self.len() {
             return Err(Why::NoSuchNode);
         }
+        self.alike.forget(k);
         if self.nodes[k].refute() == Err(RefuteFault::Memory) {
             return Err(Why::Memory);
         }
@@ -142,7 +157,10 @@ impl Cluster {
     {
         self.check_two(first, second)?;
         let (low, high) = (first.min(second), first.max(second));
-        exchange_nodes(self.alloc, &mut self.nodes, low, high)
+        let alike = self.alike.are(low, high);
+        exchange_nodes(self.alloc, &mut self.nodes, low, high, alike)?;
+        self.alike.pair(self.nodes.len(), low, high);
+        Ok(())
     }
 
     fn half(&mut self, first: usize, second: usize) -> Result<(), Why>
@@ -152,6 +170,7 @@ impl Cluster {
     {
         self.check_two(first, second)?;
         let offer = offered(self.alloc, self.nodes[first].table())?;
+        self.alike.forget(second);
         answered(self.alloc, offer.bytes(), self.nodes[second].table_mut())
     }
 
@@ -171,14 +190,22 @@ impl Cluster {
     }
 }
 
-/// Exchanges the tables of two nodes.
-fn exchange_nodes(alloc: Global, nodes: &mut [Node], low: usize, high: usize) -> Result<(), Why>
+/// Exchanges the tables of two nodes, which may be known to be alike.
+fn exchange_nodes(
+    alloc: Global,
+    nodes: &mut [Node],
+    low: usize,
+    high: usize,
+    alike: bool,
+) -> Result<(), Why>
     requires order { low < high }
     requires nodes { high < length nodes.old }
+    requires alike { IsTrue alike → HaveOneTable nodes.old low high }
     ensures exchanges { OnOk result (BothExchange nodes.old nodes.new low high) }
+    ensures same { OnOk result (HaveOneTable nodes.new low high) }
     ensures unchanged { OnErr result (nodes.new ≡ nodes.old) }
     ensures refused { IfErr result (Hinders (DumpsTooMany nodes.old (event.Exchange low high))) }
 {
     let (front, back) = nodes.split_at_mut(high);
-    exchanged(alloc, front[low].table_mut(), back[0].table_mut())
+    exchanged(alloc, front[low].table_mut(), back[0].table_mut(), alike)
 }

@@ -6,11 +6,13 @@
 //! | `over_memory` | the same over memory, where no inlet or outlet fails |
 //! | `event` | events in a cluster |
 //! | `cluster` | the nodes of a cluster, and runs of events |
+//! | `alike` | which nodes are known to have one table |
 //! | `level` | exchanges after which all nodes of a cluster have one table |
 //! | `fault`, `stop` | why an exchange was refused, why a run stopped |
 //! | `laws` | what holds for exchanges and runs, independent of any code |
 #![tactic(auto)]
 
+mod alike;
 mod cluster;
 mod event;
 mod fault;

@@ -1,6 +1,6 @@
 //! Exchanges over memory, where no inlet or outlet fails.
 
-ghost use Rattle.std.specs.Prelude.{◌≡◌, ◌⊎◌, ◌++◌, List, IfOk, IfErr, OnOk, OnErr};
+ghost use Rattle.std.specs.Prelude.{◌≡◌, ◌⊎◌, ◌++◌, List, IsTrue, IfOk, IfErr, OnOk, OnErr};
 ghost use Rattle.swim_claim.specs.declared.claim.Claim.{Claim};
 ghost use Rattle.swim_table.specs.Table.{Entries, TableOf};
 ghost use Rattle.swim_sync.specs.Exchanging.{HasTooMany};
@@ -48,18 +48,28 @@ pub(crate) fn answered(alloc: Global, offer: &[u8], table: &mut Table) -> Result
     }
 }
 
-/// Exchanges two tables. If they are already equal, this costs one comparison. If refused, both are
-/// unchanged.
-pub(crate) fn exchanged(alloc: Global, first: &mut Table, second: &mut Table) -> Result<(), Why>
+/// Exchanges two tables. If they are already equal, this costs one comparison, and nothing if they
+/// are known to be alike. If refused, both are unchanged.
+pub(crate) fn exchanged(
+    alloc: Global,
+    first: &mut Table,
+    second: &mut Table,
+    alike: bool,
+) -> Result<(), Why>
+    requires { IsTrue alike → first.old ≡ second.old }
     ensures all { OnOk result ((claims others : List Claim) → TableOf first.old claims
         → TableOf second.old others
         → TableOf first.new (claims ++ others) × TableOf second.new (claims ++ others)) }
+    ensures same { OnOk result (first.new ≡ second.new) }
     ensures few { OnOk result (¬ (HasTooMany first.old ⊎ HasTooMany second.old)) }
     ensures unchanged { OnErr result ((first.new ≡ first.old) × (second.new ≡ second.old)) }
     ensures refused { IfErr result (Hinders (HasTooMany first.old ⊎ HasTooMany second.old)) }
 {
     if has_too_many(first) || has_too_many(second) {
         return Err(Why::TooManyRecords);
+    }
+    if alike {
+        return Ok(());
     }
     match relation(first, second) {
         Relation::Equal => Ok(()),

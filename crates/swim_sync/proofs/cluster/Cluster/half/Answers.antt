@@ -9,6 +9,7 @@ use Rattle.swim_sync.specs.Exchanging.{HasTooMany}
 use Rattle.swim_sync.specs.OverMemory.{IsOffer, Hinders}
 use Rattle.swim_sync.specs.Paths.{AreTwoNodes}
 use Rattle.swim_sync.proofs.Clusters.{ok_both, node_at, few_enough, ran_half, stops_half}
+use Rattle.swim_sync.proofs.Pairs.{alike_but}
 use Rattle.swim_sync.proofs.cluster.Cluster.half.Goals as goal
 
 pub returns-clause-ok : goal.returns-clause-ok
@@ -44,3 +45,7 @@ returns-clause-refused c =
     (stops_half c.self.inside.nodes.items c.args.first c.args.second c.args.second c.index_mut.result.now two at_second (inr refl) why
     (subst (λ (t : Entries). Hinders (HasTooMany t) why) c.table_mut.ensures.table hinders)))
     c.answered.ensures.refused
+
+pub invariant_of-self : goal.invariant_of-self
+invariant_of-self c =
+    alike_but c.self.inside.nodes.items c.self.inside.alike c.forget.new.self c.args.second (with_table c.index_mut.result.now c.answered.new.table) c.self.invariant c.forget.ensures

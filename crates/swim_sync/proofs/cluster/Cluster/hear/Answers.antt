@@ -6,6 +6,7 @@ use Rattle.swim_table.specs.Table.{TableOf}
 use Rattle.swim_sync.specs.declared.event.Event.TheVariants.{Hear}
 use Rattle.swim_sync.specs.Cluster.{Ran}
 use Rattle.swim_sync.proofs.Clusters.{done, not_done, refused, not_refused, node_at, ran_hear, unchanged_node}
+use Rattle.swim_sync.proofs.Pairs.{alike_but}
 use Rattle.swim_sync.proofs.cluster.Cluster.hear.Goals as goal
 use Rattle.swim_sync.proofs.cluster.Cluster.hear.Goals.{in-Ok, in-Err}
 
@@ -35,3 +36,7 @@ returns-clause-unchanged c = elim c.match-take.branch [
       (unchanged_node c.self.inside.nodes.items c.args.k c.index_mut.result.now c.take.new.self (at c) w.in-Err.ensures.member w.in-Err.ensures.err
       ∙ c.self.view_is)
 ]
+
+pub invariant_of-self : goal.invariant_of-self
+invariant_of-self c =
+    alike_but c.self.inside.nodes.items c.self.inside.alike c.forget.new.self c.args.k c.take.new.self c.self.invariant c.forget.ensures

@@ -5,6 +5,7 @@ use Rattle.swim_table.specs.Table.{TableOf}
 use Rattle.swim_sync.specs.declared.event.Event.TheVariants.{HearAll}
 use Rattle.swim_sync.specs.Cluster.{Ran}
 use Rattle.swim_sync.proofs.Clusters.{always_refused, node_at, ran_hear_all, unchanged_node}
+use Rattle.swim_sync.proofs.Pairs.{alike_but}
 use Rattle.swim_sync.proofs.cluster.Cluster.hear_all.Goals as goal
 
 pub returns-in_err-take_all-clause-unchanged : goal.returns-in_err-take_all-clause-unchanged
@@ -30,3 +31,11 @@ returns-clause-ok c =
     (ran_hear_all c.self.inside.nodes.items c.args.k c.index_mut.result.now c.take_all.new.self c.args.claims.now at c.in_ok-take_all.ensures.member
     (λ claims h. subst (λ (all : List Claim). TableOf c.take_all.new.self.table (claims ++ all)) c.in_ok-claims.ensures
     (c.in_ok-take_all.ensures.all claims h)))
+
+pub invariant_of-self : goal.invariant_of-self
+invariant_of-self c =
+    alike_but c.self.inside.nodes.items c.self.inside.alike c.forget.new.self c.args.k c.take_all.new.self c.self.invariant c.forget.ensures
+
+pub invariant_of-self-2 : goal.invariant_of-self-2
+invariant_of-self-2 c =
+    alike_but c.self.inside.nodes.items c.self.inside.alike c.forget.new.self c.args.k c.take_all.new.self c.self.invariant c.forget.ensures
