@@ -49,6 +49,7 @@ mod dumps;
 mod forgetting;
 mod many;
 mod memberlist_dumps;
+mod news;
 mod node;
 mod pieces;
 mod plain;

@@ -15,7 +15,7 @@ pub(super) const SUSPECTED: &[u8] =
 
 pub(super) const SUSPECTED_LISTING: &str = "a suspect 5 4/7f000001/7947//\n";
 
-const ALIVE_LISTING: &str = "a alive 0 0/7f000001/7946//\n";
+pub(super) const ALIVE_LISTING: &str = "a alive 0 0/7f000001/7946//\n";
 
 /// An Alive of `a` at incarnation 0, at 127.0.0.1 and port 7946.
 pub(super) const ALIVE: &[u8] =
