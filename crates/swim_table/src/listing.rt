@@ -32,18 +32,17 @@ pub fn list(alloc: Global, table: &Table) -> Result<Vec<u8>, AllocError>
     ensures { IfOk result (λ text. text.items ≡ listing table.now) }
 {
     let mut text = Vec::new(alloc);
-    let mut name = String::new(alloc);
     for entry in table.entries() {
-        write_line(&mut text, &mut name, entry)?;
+        write_line(&mut text, entry)?;
     }
     Ok(text)
 }
 
-/// Adds the line of one entry. The string is reused memory for the escaped name.
-fn write_line(text: &mut Vec<u8>, name: &mut String, entry: &Entry) -> Result<(), AllocError>
+/// Adds the line of one entry.
+fn write_line(text: &mut Vec<u8>, entry: &Entry) -> Result<(), AllocError>
     ensures { OnOk result (text.new.items ≡ text.old.items ++ line entry.now) }
 {
-    write_name(text, name, entry.name())?;
+    write_name(text, entry.name())?;
     text.push(b' ')?;
     text.extend_from_slice(state(entry.kind()).as_bytes())?;
     text.push(b' ')?;
@@ -55,13 +54,14 @@ fn write_line(text: &mut Vec<u8>, name: &mut String, entry: &Entry) -> Result<()
 }
 
 /// Adds a name, escaped.
-fn write_name(text: &mut Vec<u8>, escaped: &mut String, name: &Name) -> Result<(), AllocError>
+fn write_name(text: &mut Vec<u8>, name: &Name) -> Result<(), AllocError>
     ensures { OnOk result
         (text.new.items ≡ text.old.items ++ percent.percent_encode ESCAPED name.now) }
 {
-    escaped.clear();
-    percent_encode(name.bytes(), ESCAPED).append_to(escaped)?;
-    text.extend_from_slice(escaped.as_bytes())
+    for part in percent_encode(name.bytes(), ESCAPED) {
+        text.extend_from_slice(part.as_bytes())?;
+    }
+    Ok(())
 }
 
 /// The word for a kind of claim.
