@@ -78,7 +78,7 @@ pub read_alone : (r : Result (Entries × Bool) WireFault) (P : List Claim → Bo
     → IfOk r (λ read. (claims : List Claim) × TakesIn [] read.0 claims × P claims read.1)
     → IfOk r (λ read. (claims : List Claim) × TableOf read.0 claims × P claims read.1)
 read_alone (Ok read) P h = (h.0, h.1 [] (TableOf-table_of []), h.2)
-read_alone (Err fault) P h = tt
+read_alone (Err _) P h = tt
 
 only_memory : (fault : WireFault) → ¬ (fault ≢ Memory) → fault ≡ Memory
 only_memory Memory h = refl

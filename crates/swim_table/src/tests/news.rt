@@ -17,7 +17,12 @@ const ROWS: &[(&[u8], &[u8], &str, &str)] = &[
     (ALIVE, ALIVE, "", ALIVE_LISTING),
     (SUSPECTED, ALIVE, "", SUSPECTED_LISTING),
     (ALIVE, SUSPECTED, SUSPECTED_LISTING, SUSPECTED_LISTING),
-    (ALIVE, SUSPECT, "b suspect 1 -\n", "a alive 0 0/7f000001/7946//\nb suspect 1 -\n"),
+    (
+        ALIVE,
+        SUSPECT,
+        "b suspect 1 -\n",
+        "a alive 0 0/7f000001/7946//\nb suspect 1 -\n",
+    ),
     // the Alive is a newer home below the same top, and the Suspect says nothing new
     (
         b"\x06\x81\xa5Nodes\x01\x83\xa4Name\xa1a\xabIncarnation\x05\xa5State\x01",

@@ -1,7 +1,5 @@
-use Rattle.std.proofs.Common.{◌≡◌, true, Some, sym, ◌∙◌, refl}
-use Rattle.std.specs.Ordering.{is_eq}
-use Rattle.std.specs.declared.cmp.Ordering.{Ordering}
-use Rattle.std.specs.declared.cmp.Ordering.TheVariants.{Less, Equal, Greater}
+use Rattle.std.proofs.Common.{◌≡◌, Some, sym, ◌∙◌}
+use Rattle.std.specs.declared.cmp.Ordering.TheVariants.{Equal}
 use Rattle.swim_claim.specs.Details.{details_cmp}
 use Rattle.swim_claim.proofs.DetailsOrder.{details_cmp_exact}
 use Rattle.swim_table.proofs.Lookups.{equal_from}

@@ -1,8 +1,7 @@
-use Rattle.std.proofs.Common.{◌≡◌, ◌∙◌, sym, subst, Some, rules}
+use Rattle.std.proofs.Common.{◌∙◌, sym, subst, Some}
 use Rattle.swim_claim.specs.Claim.{name_of}
 use Rattle.tiered_vec.specs.Tiers.{items, index_of}
 use Rattle.swim_table.specs.Place.{IsAt, IsGapFor}
-use Rattle.swim_table.specs.Table.{get}
 use Rattle.swim_table.proofs.Place.{get_at, get_in_gap}
 use Rattle.swim_table.proofs.ReadingNews.{told_known, unknown}
 use Rattle.swim_table.proofs.news_reader.look_up.Goals as goal

@@ -1,7 +1,7 @@
 use Rattle.std.proofs.Common.{◌-◌, sym, subst, arith}
 use Rattle.std.proofs.lemmas.Result.{err_from_is_err_and}
 use Rattle.swim_pack.proofs.Ends.{Advances-trans}
-use Rattle.tiered_vec.specs.Tiers.{index_of, IsPlaceOf}
+use Rattle.tiered_vec.specs.Tiers.{IsPlaceOf}
 use Rattle.swim_table.specs.News.{TakesNews}
 use Rattle.swim_table.specs.Table.{Reduced, TableOf}
 use Rattle.swim_table.proofs.ReadingNews.{begun_news, read_more, read_all, no_record, no_user, record_reason, memory_reason, state_reason}

@@ -1,4 +1,3 @@
-use Rattle.std.proofs.Common.{◌≡◌}
 use Rattle.swim_pack.specs.Ends.{Advances}
 use Rattle.swim_table.proofs.ReadingNews.{ReadNews}
 use Rattle.swim_table.proofs.news_reader.read_news.Given as goal

@@ -1,9 +1,8 @@
-use Rattle.std.proofs.Common.{◌≡◌, ◌≢◌, ◌∙◌, [], inr, Err, sym, ap, append-nil, eqb-true, rules}
+use Rattle.std.proofs.Common.{◌≡◌, ◌≢◌, ◌∙◌, [], inr, Err, sym, ap, eqb-true, rules}
 use Rattle.std.proofs.lemmas.List.{nil_from_length}
 use Rattle.std.proofs.lemmas.Result.{err_from_is_err_and}
 use Rattle.swim_wire.specs.Streams.{StreamText}
-use Rattle.swim_table.specs.Table.{Reduced}
-use Rattle.swim_table.proofs.WholeStreams.{refused_whole, refused_front, trailing_whole, all_taken, dumped, read_back, no_dump}
+use Rattle.swim_table.proofs.WholeStreams.{refused_whole, refused_front, trailing_whole, all_taken, no_dump}
 use Rattle.swim_table.proofs.stream_reader.read_dump_into.Goals as goal
 
 pub returns-in_err-read-clause-refuses : goal.returns-in_err-read-clause-refuses

@@ -1,5 +1,5 @@
-use Rattle.std.proofs.Common.{◌∙◌, ◌≡◌, ℕ, List, set, sym, ap, subst}
-use Rattle.swim_sync.specs.Alike.{IsPair, PairsOnly}
+use Rattle.std.proofs.Common.{◌∙◌, ℕ, List, set, sym, ap, subst}
+use Rattle.swim_sync.specs.Alike.{PairsOnly}
 use Rattle.swim_sync.proofs.Pairs.{reached, reached_below, paired, unpaired}
 use Rattle.swim_sync.proofs.alike.Alike.pair.Goals as goal
 

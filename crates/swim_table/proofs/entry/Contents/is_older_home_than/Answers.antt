@@ -1,5 +1,4 @@
-use Rattle.std.proofs.Common.{◌≡◌, Some, sym, ap}
-use Rattle.swim_table.specs.Entry.{home_claim, home_of}
+use Rattle.swim_table.specs.Entry.{home_claim}
 use Rattle.swim_table.proofs.entry.Contents.is_older_home_than.Goals as goal
 
 pub returns-in-Alive-Some : goal.returns-in-Alive-Some

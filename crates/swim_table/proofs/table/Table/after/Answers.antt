@@ -1,4 +1,4 @@
-use Rattle.std.proofs.Common.{sym, ◌∙◌, ap, slice_get}
+use Rattle.std.proofs.Common.{◌∙◌, ap, slice_get}
 use Rattle.swim_table.specs.Table.{after}
 use Rattle.swim_table.proofs.After.{after_gap, after_at}
 use Rattle.tiered_vec.specs.Tiers.{items}
