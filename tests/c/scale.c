@@ -1,6 +1,9 @@
-/* What tests/scale measures of the library: ./scale SHAPE SIZE does the work of a shape at this size. valgrind counts
- * what is done in `measured` alone. Names are counted, in random order unless the shape says otherwise. */
+/* What tests/scale and tests/speed/run measure of the library: ./scale SHAPE SIZE does the work of a shape at this size,
+ * and prints the nanoseconds of processor time that it took. valgrind counts what is done in `measured` alone. Names
+ * are counted, in random order unless the shape says otherwise. */
 #include "views.h"
+
+#include <time.h>
 
 static size_t size;
 static size_t *order;
@@ -161,9 +164,12 @@ static void readmit_each(void) {
     }
 }
 
-static void finish_once(void) {
+static void finish(void) {
     WANT(swimtab_finish(&other, stream, stream_len).status == SWIMTAB_DONE);
-    WANT(swimtab_finish(&other, stream, stream_len).status == SWIMTAB_DONE);
+}
+
+static void finish_again(void) {
+    WANT(swimtab_finish(&node, stream, stream_len).status == SWIMTAB_DONE);
 }
 
 static void finish_each(void) {
@@ -229,6 +235,7 @@ static const struct {
     void (*before)(void), (*work)(void);
 } shapes[] = {
     {"take", nothing, take_all},
+    {"known", full_table, take_all},
     {"noted", watched_table, take_all},
     {"next_change", noted_table, next_change},
     {"member", full_table, each_member},
@@ -236,7 +243,8 @@ static const struct {
     {"find", full_table, each_found},
     {"forget", noted_table, forget_each},
     {"readmit", left_and_back, readmit_each},
-    {"finish", full_table_and_its_dump, finish_once},
+    {"finish", full_table_and_its_dump, finish},
+    {"again", full_table_and_its_dump, finish_again},
     {"finishes", full_table_and_a_small_dump, finish_each},
     {"relate", two_tables, relate},
     {"written", full_table, write_all},
@@ -255,6 +263,12 @@ void measured(void (*work)(void)) {
     work();
 }
 
+static double processor_time(void) {
+    struct timespec time;
+    clock_gettime(CLOCK_PROCESS_CPUTIME_ID, &time);
+    return (double)time.tv_sec * 1e9 + (double)time.tv_nsec;
+}
+
 int main(int argc, char **argv) {
     if (argc != 3) return 2;
     size = strtoul(argv[2], NULL, 10);
@@ -262,7 +276,9 @@ int main(int argc, char **argv) {
     for (size_t i = 0; i < sizeof shapes / sizeof *shapes; i++) {
         if (strcmp(shapes[i].name, argv[1]) != 0) continue;
         shapes[i].before();
+        const double since = processor_time();
         measured(shapes[i].work);
+        printf("%.0f\n", processor_time() - since);
         swimtab_view_close(&view);
         swimtab_close(&node);
         swimtab_close(&other);
