@@ -150,7 +150,7 @@ def suspicions(n):
 
 def suspicions_in_one(n):
     """One packet with many suspicions, in compound messages of compound messages."""
-    said = [suspect(i, i + 1) for i in range(n)]
+    said = [suspect(0, 1)] * n
     gossip("all.pcap", [compressed(compound([compound(said[at:at + 250]) for at in range(0, n, 250)]))])
 
 def rivals(n):
@@ -205,7 +205,19 @@ def pairs(n):
     pcap("all.pcap", probed(n, lambda i: 1, lambda i: (i, i + 1), True, 100))
 
 def targets(n):
-    pcap("all.pcap", probed(n, lambda i: i, lambda i: (0, i + 1), False, 100))
+    """One member pings many, and none answers."""
+    sent = probed(n, lambda i: i, lambda i: (0, i + 1), False, 100)
+    pcap("all.pcap", sent + [(60 * SECOND, datagram(0, 1, ping(n, 1, 0)))])
+
+def probers(n):
+    """Many members ping one, and it does not answer."""
+    sent = probed(n, lambda i: 1, lambda i: (i + 1, 0), False, 100)
+    pcap("all.pcap", sent + [(60 * SECOND, datagram(1, 0, ping(2, 0, 1)))])
+
+def lost_pairs(n):
+    """Many members ping their neighbours, and none answers."""
+    sent = probed(n, lambda i: 1, lambda i: (i, i + 1), False, 100)
+    pcap("all.pcap", sent + [(60 * SECOND, datagram(0, 1, ping(2, 1, 0)))])
 
 def failed_pings(n):
     """Every fifth probe fails, and the target is suspected and refutes."""

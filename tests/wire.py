@@ -19,7 +19,9 @@ def packed(value):
     if isinstance(value, float):
         return b"\xcb" + struct.pack(">d", value)
     if isinstance(value, bytes):
-        return (bytes([0xa0 + len(value)]) if len(value) < 32 else b"\xda" + struct.pack(">H", len(value))) + value
+        if len(value) < 32:
+            return bytes([0xa0 + len(value)]) + value
+        return (b"\xda" + struct.pack(">H", len(value)) if len(value) < 65536 else b"\xdb" + struct.pack(">I", len(value))) + value
     short, long = (0x90, b"\xdc") if isinstance(value, list) else (0x80, b"\xde")
     head = bytes([short + len(value)]) if len(value) < 16 else long + struct.pack(">H", len(value))
     if isinstance(value, list):
