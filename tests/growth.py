@@ -25,9 +25,6 @@ def descending_names(n):
 def known_names(n):
     lines(alive(i % 50, 1 + i // 50) for i in range(n))
 
-def suspects(n):
-    lines(suspect(i, i + 1) for i in shuffled(range(n)))
-
 def compounds(n):
     lines(map(compound, zip(*[iter(map(alive, shuffled(range(50 * n))))] * 50)))
 
@@ -57,9 +54,6 @@ def same_dumps(n):
     write("a.bin", stream([record(i) for i in order]))
     write("b.bin", stream([record(i) for i in order[::-1]]))
 
-def one_name_dump(n):
-    write("a.bin", stream([record(1, at=i) for i in shuffled(range(n))]))
-
 def small_dumps(n):
     for i in shuffled(range(n)):
         write("%06d.bin" % i, stream([record(i)]))
@@ -76,9 +70,6 @@ def equal_exchanges(n):
 
 def pairs_of_nodes(n):
     script(n, ["exchange %d %d" % (i, i + 1) for i in range(0, n - 1, 2)])
-
-def heard_by_many(n):
-    script(n, hear(0, map(alive, shuffled(range(n)))))
 
 def refutations(n):
     script(2, [line for i in range(n) for line in (*hear(0, [suspect(0, 1, i + 1)]), "refute 0")])
@@ -209,11 +200,6 @@ def targets(n):
     sent = probed(n, lambda i: i, lambda i: (0, i + 1), False, 100)
     pcap("all.pcap", sent + [(60 * SECOND, datagram(0, 1, ping(n, 1, 0)))])
 
-def probers(n):
-    """Many members ping one, and it does not answer."""
-    sent = probed(n, lambda i: 1, lambda i: (i + 1, 0), False, 100)
-    pcap("all.pcap", sent + [(60 * SECOND, datagram(1, 0, ping(2, 0, 1)))])
-
 def lost_pairs(n):
     """Many members ping their neighbours, and none answers."""
     sent = probed(n, lambda i: 1, lambda i: (i, i + 1), False, 100)
@@ -264,10 +250,6 @@ def reversed_segments(n):
 def enumerate_places(data, length):
     return ((at, data[at:at + length]) for at in range(0, len(data), length))
 
-def shuffled_segments(n):
-    whole = stream([record(i) for i in range(n)])
-    in_flow(shuffled(enumerate_places(whole, len(whole) // n + 1)))
-
 def gap(n):
     """Every second segment is missing."""
     whole = stream([record(i) for i in range(2 * n)])
@@ -299,12 +281,6 @@ def syns(n):
 def user_events(n):
     gossip("all.pcap", [serf(3, CC=False, LTime=i, Name=name(i), Payload=b"v1") for i in shuffled(range(n))])
 
-def same_events(n):
-    gossip("all.pcap", [serf(3, CC=False, LTime=i % 20, Name=b"deploy", Payload=b"v1") for i in range(n)])
-
-def events_of_a_time(n):
-    gossip("all.pcap", [serf(3, CC=False, LTime=1, Name=name(i), Payload=b"v1") for i in shuffled(range(n))])
-
 def intents(n):
     gossip("all.pcap", [each for i in shuffled(range(n)) for each in (alive(i), serf(0, LTime=i, Node=name(i), Prune=False),
                                                                       dead(i, i))])
@@ -325,8 +301,7 @@ def serf_state(n):
     events = [dict(Events=[dict(Name=name(i), Payload=b"v1")], LTime=i) for i in range(n)]
     state = message(2, EventLTime=n, Events=events, LTime=n, LeftMembers=[name(i) for i in shuffled(range(n // 2))],
                     QueryLTime=1, StatusLTimes={name(i): i for i in shuffled(range(n))})
-    whole = stream([record(i, 2) for i in range(n // 2)], state)
-    again = stream([record(i, 2) for i in range(n // 2)], state.replace(b"v1", b"v2"))
+    whole, again = [stream([record(0)], each) for each in (state, state.replace(b"v1", b"v2"))]
     pcap("all.pcap", timed(connection(40000, whole) + connection(40001, again)))
 
 def coordinates(n):

@@ -7,7 +7,7 @@ mod table;
 mod timeline;
 mod view;
 
-use std::io::{Read, Write};
+use std::io::Write;
 use std::process::exit;
 
 fn refused(place: &str, fault: &str) -> ! {
@@ -64,7 +64,7 @@ fn packets(input: &mut [u8]) -> Result<Vec<u8>, (usize, pack::Fault)> {
             }
         }
     }
-    let mut table = table::Few::default();
+    let mut table = table::Gathered::default();
     for (line, number) in lines.into_iter().zip(1..).filter(|(line, _)| !line.is_empty()) {
         pack::datagram(line, |claim| table.take(&claim)).map_err(|fault| (number, fault))?;
     }
@@ -81,10 +81,7 @@ fn main() {
             if verb == "list" { table::listing(&table) } else { table::dump(&table) }
         }
         "packets" => {
-            let mut input = Vec::new();
-            if let Err(fault) = std::io::stdin().read_to_end(&mut input) {
-                refused("input", &fault.to_string());
-            }
+            let mut input = read("/dev/stdin");
             packets(&mut input).unwrap_or_else(|(line, fault)| refused(&format!("line {line}"), fault))
         }
         "timeline" => {

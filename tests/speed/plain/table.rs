@@ -76,6 +76,31 @@ pub fn front(name: &[u8]) -> u128 {
 /// Names with their entries, in ascending order.
 pub type Sorted<'a> = Vec<(&'a [u8], Entry<'a>)>;
 
+/// A table of claims of which many share a name: entries in the order of their coming, and where each name's is.
+#[derive(Default)]
+pub struct Gathered<'a> {
+    places: FxMap<&'a [u8], u32>,
+    entries: Sorted<'a>,
+}
+
+impl<'a> Gathered<'a> {
+    pub fn take(&mut self, claim: &Claim<'a>) {
+        let next = self.entries.len() as u32;
+        let place = *self.places.entry(claim.name).or_insert(next);
+        match self.entries.get_mut(place as usize) {
+            Some((_, entry)) => entry.join(&Entry::of(claim)),
+            None => self.entries.push((claim.name, Entry::of(claim))),
+        }
+    }
+
+    pub fn sorted(self) -> Sorted<'a> {
+        let mut order: Vec<(u128, u32)> = self.entries.iter().zip(0..).map(|((name, _), at)| (front(name), at)).collect();
+        let name_at = |at: u32| self.entries[at as usize].0;
+        order.sort_unstable_by(|(a, i), (b, j)| a.cmp(b).then_with(|| name_at(*i).cmp(name_at(*j))));
+        order.into_iter().map(|(_, at)| self.entries[at as usize]).collect()
+    }
+}
+
 /// The table of many claims of which few share a name.
 pub fn table_of<'a>(claims: &[Claim<'a>]) -> Sorted<'a> {
     let mut order: Vec<(u128, u32)> = claims.iter().zip(0..).map(|(claim, at)| (front(claim.name), at)).collect();
@@ -89,23 +114,6 @@ pub fn table_of<'a>(claims: &[Claim<'a>]) -> Sorted<'a> {
         }
     }
     sorted
-}
-
-/// The table of many claims of which many share a name.
-#[derive(Default)]
-pub struct Few<'a>(FxMap<&'a [u8], Entry<'a>>);
-
-impl<'a> Few<'a> {
-    pub fn take(&mut self, claim: &Claim<'a>) {
-        let new = Entry::of(claim);
-        self.0.entry(claim.name).and_modify(|entry| entry.join(&new)).or_insert(new);
-    }
-
-    pub fn sorted(&self) -> Sorted<'a> {
-        let mut order: Vec<(u128, &[u8])> = self.0.keys().map(|name| (front(name), *name)).collect();
-        order.sort_unstable();
-        order.into_iter().map(|(_, name)| (name, self.0[name])).collect()
-    }
 }
 
 // ---- texts
