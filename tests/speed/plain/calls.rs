@@ -2,6 +2,7 @@
 
 use crate::pack::{Details, Fault, Kind, datagram, packet, stream, write_number, write_raw};
 use crate::table::{Entry, Sorted, dump, front, listing, table_of};
+use std::cmp::Ordering;
 use std::collections::BTreeMap;
 
 /// A name. Those of at most sixteen bytes take no memory elsewhere.
@@ -16,6 +17,12 @@ impl Key {
     fn of(name: &[u8]) -> Key {
         let tail = name.get(16..).unwrap_or_default();
         Key { front: front(name), len: name.len().min(17) as u16, tail: tail.into() }
+    }
+
+    /// How it compares with a name that has this front.
+    fn order(&self, front: u128, name: &[u8]) -> Ordering {
+        let tail = || self.tail.as_ref().cmp(name.get(16..).unwrap_or_default());
+        self.front.cmp(&front).then_with(|| self.len.cmp(&(name.len().min(17) as u16))).then_with(tail)
     }
 }
 
@@ -94,30 +101,36 @@ impl Table {
         Ok(claims.iter().fold(false, |news, claim| self.put(claim.name, &Entry::of(claim)) || news))
     }
 
-    /// Joins a push/pull stream: one with many of the names by a walk over both.
+    /// Joins a push/pull stream, whose names mostly ascend.
     fn finish(&mut self, bytes: &[u8]) -> Result<bool, Fault> {
         let mut claims = Vec::new();
         stream(bytes, |claim| claims.push(claim))?;
-        let sorted = table_of(&claims);
-        if self.0.is_empty() {
-            self.0 = sorted.iter().map(|(name, entry)| (Key::of(name), Kept::of(entry))).collect();
-            return Ok(!sorted.is_empty());
+        if claims.is_sorted_by(|a, b| a.name < b.name) {
+            Ok(self.join(claims.iter().map(|claim| (claim.name, Entry::of(claim)))))
+        } else {
+            Ok(self.join(table_of(&claims).into_iter()))
         }
-        if sorted.len() < self.0.len() / 8 {
-            return Ok(sorted.iter().fold(false, |news, (name, entry)| self.put(name, entry) || news));
-        }
-        Ok(self.walk(&sorted))
     }
 
-    fn walk(&mut self, sorted: &Sorted) -> bool {
-        let (mut news, mut new) = (false, Vec::new());
+    /// Joins entries in ascending order of the names: many by a walk over both.
+    fn join<'b>(&mut self, sorted: impl ExactSizeIterator<Item = (&'b [u8], Entry<'b>)>) -> bool {
+        let mut news = false;
+        if self.0.is_empty() {
+            self.0 = sorted.map(|(name, entry)| (Key::of(name), Kept::of(&entry))).collect();
+            return !self.0.is_empty();
+        }
+        if sorted.len() < self.0.len() / 8 {
+            sorted.for_each(|(name, entry)| news |= self.put(name, &entry));
+            return news;
+        }
+        let mut new = Vec::new();
         let mut kept = self.0.iter_mut().peekable();
         for (name, entry) in sorted {
-            let key = Key::of(name);
-            while kept.next_if(|(old, _)| **old < key).is_some() {}
-            match kept.next_if(|(old, _)| **old == key) {
-                Some((_, kept)) => news |= kept.join(entry),
-                None => new.push((key, Kept::of(entry))),
+            let front = front(name);
+            while kept.next_if(|(old, _)| old.order(front, name).is_lt()).is_some() {}
+            match kept.next_if(|(old, _)| old.order(front, name).is_eq()) {
+                Some((_, kept)) => news |= kept.join(&entry),
+                None => new.push((Key::of(name), Kept::of(&entry))),
             }
         }
         news |= !new.is_empty();
