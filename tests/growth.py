@@ -77,8 +77,8 @@ def refutations(n):
 # ---- shapes: what is sent, and keys
 
 KEY = "AAECAwQFBgcICQoLDA0ODxAREhMUFRYXGBkaGxwdHh8="
-SEALED = bytes.fromhex("016e6f6e63652d6e756d6265723920ab3d76e6704b1981b2c4e261f17ba5fc3f130ff8cd1d66bc9156e844b4b8bc30546c50"
-                       "9b67376ac0f3e39120cd22726524f5faf2fb12e1daac6fa1317d508d4045")
+SEALED = bytes.fromhex("016e6f6e63652d6e756d6265723920ab3d76e6704b1981b2c4e261f17ba5fc3f130ff8cd1d66bc9156e844b4b8bc"
+                       "30546c509b67376ac0f3e39120cd22726524f5faf2fb12e1daac6fa1317d508d4045")
 
 def wrapped(n):
     lines(checked(each if at % 2 else compressed(each)) for at, each in enumerate(map(alive, range(n))))
@@ -282,8 +282,9 @@ def user_events(n):
     gossip("all.pcap", [serf(3, CC=False, LTime=i, Name=name(i), Payload=b"v1") for i in shuffled(range(n))])
 
 def intents(n):
-    gossip("all.pcap", [each for i in shuffled(range(n)) for each in (alive(i), serf(0, LTime=i, Node=name(i), Prune=False),
-                                                                      dead(i, i))])
+    """Members that join, say that they leave, and leave."""
+    gossip("all.pcap", [each for i in shuffled(range(n)) for each in (
+        alive(i), serf(0, LTime=i, Node=name(i), Prune=False), dead(i, i))])
 
 def query(time, number):
     return serf(4, Addr=address(1), Filters=[], Flags=0, ID=number, LTime=time, Name=b"uptime", Payload=b"",

@@ -21,12 +21,15 @@ def packed(value):
     if isinstance(value, bytes):
         if len(value) < 32:
             return bytes([0xa0 + len(value)]) + value
-        return (b"\xda" + struct.pack(">H", len(value)) if len(value) < 65536 else b"\xdb" + struct.pack(">I", len(value))) + value
+        if len(value) < 65536:
+            return b"\xda" + struct.pack(">H", len(value)) + value
+        return b"\xdb" + struct.pack(">I", len(value)) + value
     short, long = (0x90, b"\xdc") if isinstance(value, list) else (0x80, b"\xde")
     head = bytes([short + len(value)]) if len(value) < 16 else long + struct.pack(">H", len(value))
     if isinstance(value, list):
         return head + b"".join(map(packed, value))
-    return head + b"".join(packed(key if isinstance(key, bytes) else key.encode()) + packed(value[key]) for key in value)
+    pairs = [(key if isinstance(key, bytes) else key.encode(), value[key]) for key in value]
+    return head + b"".join(packed(each) for pair in pairs for each in pair)
 
 def message(kind, **fields):
     return bytes([kind]) + packed(fields)

@@ -1,6 +1,6 @@
-/* What tests/scale and tests/speed/run measure of the library: ./scale SHAPE SIZE does the work of a shape at this size,
- * and prints the nanoseconds of processor time that it took. valgrind counts what is done in `measured` alone. Names
- * are counted, in random order unless the shape says otherwise. */
+/* What tests/scale and tests/speed/run measure of the library: ./scale SHAPE SIZE does the work of a shape at this
+ * size, and prints the nanoseconds of processor time that it took. valgrind counts what is done in `measured` alone.
+ * Names are counted, in random order unless the shape says otherwise. */
 #include "views.h"
 
 #include <time.h>

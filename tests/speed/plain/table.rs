@@ -94,7 +94,8 @@ impl<'a> Gathered<'a> {
     }
 
     pub fn sorted(self) -> Sorted<'a> {
-        let mut order: Vec<(u128, u32)> = self.entries.iter().zip(0..).map(|((name, _), at)| (front(name), at)).collect();
+        let fronts = self.entries.iter().map(|(name, _)| front(name));
+        let mut order: Vec<(u128, u32)> = fronts.zip(0..).collect();
         let name_at = |at: u32| self.entries[at as usize].0;
         order.sort_unstable_by(|(a, i), (b, j)| a.cmp(b).then_with(|| name_at(*i).cmp(name_at(*j))));
         order.into_iter().map(|(_, at)| self.entries[at as usize]).collect()
@@ -103,7 +104,7 @@ impl<'a> Gathered<'a> {
 
 /// The table of many claims of which few share a name.
 pub fn table_of<'a>(claims: &[Claim<'a>]) -> Sorted<'a> {
-    let mut order: Vec<(u128, u32)> = claims.iter().zip(0..).map(|(claim, at)| (front(claim.name), at)).collect();
+    let mut order: Vec<(u128, u32)> = claims.iter().map(|claim| front(claim.name)).zip(0..).collect();
     order.sort_by(|(a, i), (b, j)| a.cmp(b).then_with(|| claims[*i as usize].name.cmp(claims[*j as usize].name)));
     let mut sorted: Sorted = Vec::with_capacity(claims.len());
     for (_, at) in order {
