@@ -4,11 +4,11 @@ import struct, sys
 def udp(port, payload):
     return struct.pack(">HHHH", port, 7946, 8 + len(payload), 0) + payload
 
-def tcp(port, seq, flags, payload=b""):
-    return struct.pack(">HHIIBBHHH", port, 7946, seq, 0, 0x50, flags, 0xffff, 0, 0) + payload
+def tcp(port, seq, flags, payload=b"", to=7946):
+    return struct.pack(">HHIIBBHHH", port, to, seq, 0, 0x50, flags, 0xffff, 0, 0) + payload
 
-def packet(source, protocol, rest):
-    addresses = bytes(map(int, source.split("."))) + bytes([127, 0, 0, 1])
+def packet(source, protocol, rest, target="127.0.0.1"):
+    addresses = bytes(map(int, (source + "." + target).split(".")))
     return struct.pack(">BBHHHBBH", 0x45, 0, 20 + len(rest), 0, 0, 64, protocol, 0) + addresses + rest
 
 def pcap(name, packets):
