@@ -1,5 +1,5 @@
 -- What is copied of a member that a view shows, and how it is found.
-use Rattle.std.specs.Prelude.{◌≡◌, ◌-◌, ◌<◌, ◌≤◌, ◌⊎◌, ℕ, List, [], ◌∷◌, ◌++◌, length, take, min, replicate, slice_get, Option, Some, None, Bool}
+use Rattle.std.specs.Prelude.{◌≡◌, ◌-◌, ◌<◌, ◌≤◌, ◌⊎◌, ℕ, List, [], ◌∷◌, length, take, min, replicate, slice_get, Option, Some, None, Bool}
 use Rattle.std.specs.List.{flat_map}
 use Rattle.swim_claim.specs.declared.claim.Claim.{Claim}
 use Rattle.swim_claim.specs.declared.claim.Claim.TheVariants as claim

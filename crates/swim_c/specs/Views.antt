@@ -2,7 +2,7 @@
 use base.Fml.{Fml}
 use base.Stored.{Coded}
 use denote.RawPtr.{Ptr}
-use Rattle.std.specs.Prelude.{◌≡◌, ℕ, Bool, true, false, List, [], Option, Some, None, Ok, Err, MatchOption, IfSome}
+use Rattle.std.specs.Prelude.{◌≡◌, ℕ, Bool, false, List, [], Option, Some, None, Ok, Err, MatchOption, IfSome}
 use Rattle.std.specs.Coded.{coded_option}
 use Rattle.swim_claim.specs.declared.claim.Claim.{Claim}
 use Rattle.swim_wire.specs.declared.fault.WireFault.{WireFault}

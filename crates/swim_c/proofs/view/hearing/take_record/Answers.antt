@@ -1,6 +1,6 @@
 use Rattle.std.proofs.Common.{◌≡◌, ◌∙◌, ap, refl, subst, rules}
 use Rattle.memberlist_view.specs.declared.heard.Said.{Said}
-use Rattle.swim_c.specs.Views.{HearDone, IsUnheard, RecordTold, heard_in_record}
+use Rattle.swim_c.specs.Views.{HearDone, RecordTold, heard_in_record}
 use Rattle.swim_c.specs.declared.view.hearing.Told.{Told}
 use Rattle.swim_c.proofs.ViewCalls.{heard_then, read_none, read_some}
 use Rattle.swim_c.proofs.view.hearing.take_record.Goals as goal
