@@ -29,11 +29,43 @@ each_mixed s fits =
     let byte = λ (i j k l : ℕ). small_mix (get_or s i 0) (get_or s j 0) (get_or s k 0) (get_or s l 0) (fits i) (fits j) (fits k) (fits l) in
     record {
       size = refl;
-      fits =
-          (byte 0 5 10 15, (byte 5 10 15 0, (byte 10 15 0 5, (byte 15 0 5 10,
-          (byte 4 9 14 3, (byte 9 14 3 4, (byte 14 3 4 9, (byte 3 4 9 14,
-          (byte 8 13 2 7, (byte 13 2 7 8, (byte 2 7 8 13, (byte 7 8 13 2,
-          (byte 12 1 6 11, (byte 1 6 11 12, (byte 6 11 12 1, (byte 11 12 1 6, tt))))))))))))))));
+      fits = (
+        byte 0 5 10 15,
+        (
+          byte 5 10 15 0,
+          (
+            byte 10 15 0 5,
+            (
+              byte 15 0 5 10,
+              (
+                byte 4 9 14 3,
+                (
+                  byte 9 14 3 4,
+                  (
+                    byte 14 3 4 9,
+                    (
+                      byte 3 4 9 14,
+                      (
+                        byte 8 13 2 7,
+                        (
+                          byte 13 2 7 8,
+                          (
+                            byte 2 7 8 13,
+                            (
+                              byte 7 8 13 2,
+                              (byte 12 1 6 11, (byte 1 6 11 12, (byte 6 11 12 1, (byte 11 12 1 6, tt)))),
+                            ),
+                          ),
+                        ),
+                      ),
+                    ),
+                  ),
+                ),
+              ),
+            ),
+          ),
+        ),
+      );
     }
 
 mixed_state : (s : List ℕ) → IsState s → IsState (mix_columns (scrambled s))

@@ -3,6 +3,8 @@ use Rattle.std.proofs.Common.{◌≡◌, ℕ, zero, suc, ◌+◌, ◌*◌, ◌^�
 use Rattle.std.specs.Int.Bits.{xor_assoc}
 use Rattle.std.proofs.lemmas.Bool.{eqb-true, ltb-true}
 use Rattle.std.proofs.lemmas.Nat.{xor_comm, xor_of_8}
+use Rattle.std.proofs.lemmas.List.{length-map}
+use Rattle.std.proofs.lemmas.Simd.{map-map, zip2_splat}
 use lib.Lanes.{zip2, pick_l, Each1}
 use Rattle.memberlist_cipher.specs.Field.{carryless, modulo, product, inverse_up_to, inverse, affine_bit, affine, sub}
 use Rattle.memberlist_cipher.specs.Block.{plus_bytes, mix, mix_columns, shift_rows, scrambled}
@@ -161,3 +163,20 @@ each_scrambles s fits =
 
 pub scrambled_is : (s : List ℕ) → IsState s → map plain (moved (map tower s) ROWS) ≡ plus_bytes (scrambled s) (replicate 16 0x63)
 scrambled_is s state = subst Scrambles (sym (sixteen s state.size)) (each_scrambles s (λ i. lane_fits s i state.fits))
+
+-- ---- the S-box alone
+
+agree_sub : every (λ a. eqb (bit_xor (plain (tower a)) 0x63) (sub a)) 256 ≡ true
+unfolding plain looked_up first_place second_place sum quotient tower sub affine affine_bit inverse inverse_up_to product carryless modulo
+agree_sub = refl
+
+same_map : (f g : ℕ → ℕ) (v : List ℕ) → every (λ a. eqb (f a) (g a)) 256 ≡ true → Each1 (Fits w8) v → map f v ≡ map g v
+same_map f g [] e fits = refl
+same_map f g (x ∷ v) e fits = cons (eqb-true _ _ (every_at (λ a. eqb (f a) (g a)) 256 x e fits.0.fits)) (same_map f g v e fits.1)
+
+pub sub_is : (v : List ℕ) → length v ≡ 16 → Each1 (Fits w8) v → zip2 bit_xor (map plain (map tower v)) (replicate 16 0x63) ≡ map sub v
+sub_is v size fits =
+    ap (λ (l : List ℕ). zip2 bit_xor l (replicate 16 0x63)) (map-map plain tower v)
+    ∙ zip2_splat bit_xor (map (λ a. plain (tower a)) v) 16 0x63 (length-map v (λ a. plain (tower a)) ∙ size)
+    ∙ map-map (λ b. bit_xor b 0x63) (λ a. plain (tower a)) v
+    ∙ same_map (λ a. bit_xor (plain (tower a)) 0x63) sub v agree_sub fits

@@ -3,7 +3,7 @@
 //! | module | subject |
 //! |---|---|
 //! | `fault` | why bytes are refused |
-//! | `field` | bytes as polynomials, and the S-box |
+//! | `field` | bytes as polynomials |
 //! | `tower` | the S-box on sixteen bytes at once |
 //! | `block` | AES on one block, and on four |
 //! | `appending` | appending to a vector that has room |

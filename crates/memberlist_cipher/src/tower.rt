@@ -6,6 +6,7 @@
 
 ghost use Rattle.std.specs.Prelude.{◌≡◌, map, slice_index, IsTrue};
 ghost use Rattle.std.specs.Simd.Lanes.{Each1};
+ghost use Rattle.memberlist_cipher.specs.Field.{sub};
 ghost use Rattle.memberlist_cipher.specs.Tower.{is_place, tower, first_place, second_place, plain, once, twice};
 
 use std::simd::prelude::*;
@@ -109,4 +110,12 @@ pub(crate) fn once_and_twice(bytes: u8x16) -> (u8x16, u8x16)
         look_up(ONCE_FIRST, first) ^ look_up(ONCE_SECOND, second),
         look_up(TWICE_FIRST, first) ^ look_up(TWICE_SECOND, second),
     )
+}
+
+/// The S-box values of bytes.
+#[inline(always)]
+pub(crate) fn sub_bytes(bytes: u8x16) -> u8x16
+    ensures { result ≡ map sub bytes }
+{
+    substituted(to_tower(bytes)) ^ u8x16::splat(0x63)
 }
