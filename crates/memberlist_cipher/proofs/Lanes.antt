@@ -1,10 +1,10 @@
 -- Look-ups in tables of sixteen entries, lane by lane.
 use Rattle.std.proofs.Common.{◌≡◌, ℕ, zero, suc, ◌+◌, ◌-◌, ◌*◌, ◌/◌, ◌^◌, ◌<◌, ◌≤◌, Bool, true, false, cond, ◌&&◌, ◌||◌, T, leb, ltb, w8, Fits, List, [], ◌∷◌, map, length, get_or, replicate, bit_and, bit_xor, refl, sym, ap, ap₂, ◌∙◌, inl, inr, subst, arith, eq-zero-or-pos}
 use Rattle.std.proofs.lemmas.Bool.{leb-true}
-use Rattle.std.proofs.lemmas.List.{get_or_past}
-use Rattle.std.proofs.lemmas.Simd.{swz_l, SwzOk, SwzOk-from_Each1, Each1-weaker, zip2_of_maps, zip2_splat, map-map}
+use Rattle.std.proofs.lemmas.List.{get_or_past, length-map}
+use Rattle.std.proofs.lemmas.Simd.{swz_l, SwzOk, SwzOk-from_Each1, Each1-weaker, zip2_of_maps, zip2_splat, map-map, length-chunk, get_or-chunk}
 use Rattle.std.specs.Bool.{IsTrue}
-use lib.Lanes.{zip2, Each1}
+use lib.Lanes.{zip2, Each1, chunk}
 use Rattle.memberlist_cipher.specs.Tower.{is_place, sum, quotient, first_place, second_place}
 use Rattle.memberlist_cipher.specs.declared.tower.TheConstants.{INVERSES}
 use Rattle.memberlist_cipher.proofs.Tables.{both}
@@ -87,3 +87,15 @@ first_places = refl
 pub second_places : every (λ b. is_place (second_place b)) 256 ≡ true
 unfolding is_place second_place quotient sum
 second_places = refl
+
+pub map_bytes : (f g : ℕ → ℕ) (v : List ℕ) → ((b : ℕ) → b < 256 → f b ≡ g b) → Each1 (Fits w8) v → map f v ≡ map g v
+map_bytes f g [] same fits = refl
+map_bytes f g (x ∷ v) same fits = ap₂ (λ (y : ℕ) (ys : List ℕ). y ∷ ys) (same x fits.0.fits) (map_bytes f g v same fits.1)
+
+-- entries of a table that stands in a list from i on
+pub entries_from : (xs : List ℕ) (i : ℕ) (g : ℕ → ℕ) (v js : List ℕ) → Block v → js ≡ map g v → ((b : ℕ) → b < 256 → g b < 16) → i + 16 ≤ length xs
+    → swz_l w8 16 (chunk i 16 xs) 0 js ≡ map (λ b. get_or xs (i + g b) 0) v
+entries_from xs i g v js block is small room =
+    let size : length js ≡ 16 = ap length is ∙ length-map v g ∙ block.0 in
+    composed (chunk i 16 xs) g v (looked_up_is (chunk i 16 xs) js 0 (length-chunk i 16 xs room) (omega arith)) is
+    ∙ map_bytes (λ b. get_or (chunk i 16 xs) (g b) 0) (λ b. get_or xs (i + g b) 0) v (λ b hb. get_or-chunk i 16 xs (g b) 0 (small b hb)) block.1

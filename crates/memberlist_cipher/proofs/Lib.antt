@@ -16,3 +16,7 @@ pub mod Encrypting
 pub mod Lanes
 pub mod Rounds
 pub mod Keys
+pub mod Polys
+pub mod Folding
+pub mod Planes
+pub mod Pushing

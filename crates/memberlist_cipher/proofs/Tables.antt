@@ -1,11 +1,8 @@
--- The tables of powers and of reductions agree with their definitions.
+-- The table of powers agrees with its definition.
 use Rattle.std.proofs.Common.{◌≡◌, ℕ, zero, suc, ◌+◌, ◌<◌, Bool, true, false, ◌&&◌, eqb, List, [], ◌∷◌, length, get_or, refl, ap, ◌∙◌, arith}
 use Rattle.std.proofs.lemmas.Bool.{eqb-true}
 use Rattle.memberlist_cipher.specs.Field.{carryless, modulo, product, x_to}
-use Rattle.memberlist_cipher.specs.Gcm.{times_x}
-use Rattle.memberlist_cipher.specs.Products.{shifted}
 use Rattle.memberlist_cipher.specs.declared.field.TheConstants.{POWERS}
-use Rattle.memberlist_cipher.specs.declared.ghash.TheConstants.{REDUCE}
 
 agree : (ℕ → ℕ) → ℕ → List ℕ → Bool
 agree f i [] = true
@@ -28,10 +25,3 @@ all_powers = refl
 
 pub POWERS_at : (k : ℕ) → k < 15 → get_or POWERS k 0 ≡ x_to k
 POWERS_at k below = agree_at x_to 0 POWERS k all_powers below ∙ ap x_to (omega arith)
-
-all_reductions : agree (shifted 4) 0 REDUCE ≡ true
-unfolding agree shifted times_x
-all_reductions = refl
-
-pub REDUCE_at : (k : ℕ) → k < 16 → get_or REDUCE k 0 ≡ shifted 4 k
-REDUCE_at k below = agree_at (shifted 4) 0 REDUCE k all_reductions below ∙ ap (shifted 4) (omega arith)
