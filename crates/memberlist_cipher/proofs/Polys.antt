@@ -1,11 +1,11 @@
 -- Bytes as polynomials.
-use Rattle.std.proofs.Common.{◌≡◌, ℕ, zero, suc, ◌+◌, ◌-◌, ◌*◌, ◌/◌, ◌%◌, ◌^◌, ◌<◌, ◌≤◌, w8, Fits, List, [], ◌∷◌, ◌++◌, map, length, get_or, take, bit_xor, refl, sym, ap, ap₂, ◌∙◌, subst, arith}
+use Rattle.std.proofs.Common.{◌≡◌, ℕ, zero, suc, ◌+◌, ◌-◌, ◌*◌, ◌/◌, ◌%◌, ◌^◌, ◌<◌, ◌≤◌, w8, Fits, List, [], ◌∷◌, ◌++◌, map, length, get_or, take, get_or-take, bit_xor, refl, sym, ap, ap₂, ◌∙◌, subst, arith}
 use Rattle.std.specs.Int.{w128, from_be_bytes, to_be_bytes}
 use Rattle.std.specs.Int.Bits.{xor_assoc, xor_zero_l, xor_zero_r}
 use Rattle.std.proofs.Math.Nat.{mul_assoc, mul_comm, add-mul, mul-le-mul_right, mul-lt-mul_of_pos_right}
 use Rattle.std.proofs.lemmas.Nat.{xor_block, xor_comm, mod-pow-add, pow_pos, pow-add}
 use lib.Lanes.{zip2, Each1}
-use Rattle.memberlist_cipher.proofs.Sixteen.{sixteen}
+use Rattle.memberlist_cipher.proofs.Sixteen.{each, sixteen, cons}
 use Rattle.memberlist_cipher.specs.Products.{shifted, poly}
 use Rattle.memberlist_cipher.proofs.Products.{across, shifted_sum, shifted_add, whole, nothing}
 
@@ -133,3 +133,14 @@ pub poly_block : (bs : List ℕ) → length bs ≡ 16 → Each1 (Fits w8) bs →
 poly_block bs size fits =
     let one : number bs * 2 ^ 0 ≡ number bs = omega arith in
     poly_number bs 0 (omega arith) fits ∙ one ∙ number_block bs size
+
+-- a block is read from no more than the first sixteen bytes
+pub first_block : (bs : List ℕ) → from_be_bytes w128 (take 16 bs) ≡ from_be_bytes w128 bs
+first_block bs =
+    let at = λ (k : ℕ) (low : k < 16). get_or-take 16 bs k 0 low in
+    let same : each (take 16 bs) ≡ each bs =
+    cons (at 0 (omega arith)) (cons (at 1 (omega arith)) (cons (at 2 (omega arith)) (cons (at 3 (omega arith))
+    (cons (at 4 (omega arith)) (cons (at 5 (omega arith)) (cons (at 6 (omega arith)) (cons (at 7 (omega arith))
+    (cons (at 8 (omega arith)) (cons (at 9 (omega arith)) (cons (at 10 (omega arith)) (cons (at 11 (omega arith))
+    (cons (at 12 (omega arith)) (cons (at 13 (omega arith)) (cons (at 14 (omega arith)) (cons (at 15 (omega arith)) refl))))))))))))))) in
+    ap (from_be_bytes w128) same

@@ -168,6 +168,17 @@ fn at(bytes: &[u8], i: usize) -> u8
 fn block(bytes: &[u8]) -> u128
     ensures { result ≡ block bytes.now }
 {
+    if bytes.len() < 16 {
+        padded(bytes)
+    } else {
+        u128::from_be_bytes(u8x16::from_slice(bytes).to_array())
+    }
+}
+
+/// The first 16 bytes as a block, with zeros for those past the end.
+fn padded(bytes: &[u8]) -> u128
+    ensures { result ≡ block bytes.now }
+{
     u128::from_be_bytes([
         at(bytes, 0),
         at(bytes, 1),
