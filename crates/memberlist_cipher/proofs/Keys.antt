@@ -1,5 +1,5 @@
 -- Rounds with their keys: from one state to the next.
-use Rattle.std.proofs.Common.{◌≡◌, ℕ, zero, suc, ◌+◌, ◌-◌, ◌*◌, ◌^◌, ◌<◌, ◌≤◌, w8, Fits, List, [], ◌∷◌, map, length, get_or, take, drop, replicate, bit_xor, refl, sym, ap, ap₂, ◌∙◌, subst, arith}
+use Rattle.std.proofs.Common.{◌≡◌, ℕ, zero, suc, ◌+◌, ◌-◌, ◌*◌, ◌<◌, ◌≤◌, w8, Fits, List, [], ◌∷◌, map, length, get_or, take, drop, replicate, bit_xor, refl, sym, ap, ap₂, ◌∙◌, subst, arith}
 use Rattle.std.specs.Int.Bits.{xor_zero_r}
 use Rattle.std.proofs.lemmas.Nat.{xor_of_8}
 use Rattle.std.proofs.lemmas.Simd.{length-chunk, chunk-fits}
@@ -9,7 +9,7 @@ use Rattle.memberlist_cipher.specs.Block.{plus_bytes, mix, mix_columns, shift_ro
 use Rattle.memberlist_cipher.specs.Tower.{tower}
 use Rattle.memberlist_cipher.specs.States.{IsState, IsAfter, HasKey}
 use Rattle.memberlist_cipher.proofs.Sixteen.{each, sixteen, cons}
-use Rattle.memberlist_cipher.proofs.Rounds.{Small, small, across, lane_fits, tower_sum, plus_is}
+use Rattle.memberlist_cipher.proofs.Rounds.{small, across, lane_fits, tower_sum, plus_is}
 
 -- ---- bytes
 

@@ -20,3 +20,4 @@ pub mod Polys
 pub mod Folding
 pub mod Planes
 pub mod Pushing
+pub mod Tags

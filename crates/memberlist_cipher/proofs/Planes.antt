@@ -1,6 +1,6 @@
 -- The product of two blocks by planes: the sum over the bytes of one block of sums over planes is
 -- the sum over planes of sums over bytes.
-use Rattle.std.proofs.Common.{◌≡◌, ℕ, zero, suc, ◌+◌, ◌-◌, ◌*◌, ◌/◌, ◌%◌, ◌^◌, ◌<◌, ◌≤◌, ◌==◌, if◌then◌else◌, Bool, true, false, List, [], ◌∷◌, ◌++◌, map, length, get_or, w8, Fits, bit_xor, refl, sym, ap, ap₂, ◌∙◌, arith}
+use Rattle.std.proofs.Common.{◌≡◌, ℕ, zero, suc, ◌+◌, ◌-◌, ◌*◌, ◌/◌, ◌%◌, ◌^◌, ◌<◌, ◌==◌, if◌then◌else◌, Bool, true, false, List, [], ◌∷◌, map, length, get_or, w8, Fits, bit_xor, refl, sym, ap, ap₂, ◌∙◌, arith}
 use Rattle.std.specs.Int.{bit_at, w128, from_be_bytes, to_be_bytes}
 use Rattle.std.specs.Int.Bits.{xor_zero_l}
 use Rattle.std.specs.List.{range_with_len}
@@ -9,7 +9,7 @@ use Rattle.std.proofs.Math.Seq.{get_or-append_right}
 use Rattle.std.proofs.lemmas.List.{get_or_append_left, length-append}
 use Rattle.std.proofs.lemmas.List.FromFn.{length-map-range_with_len, get_or-map-range_with_len}
 use Rattle.std.proofs.lemmas.Nat.{xor_lt, xor_shr, xor_mod, div-mul-add}
-use lib.Lanes.{zip2, Each1}
+use lib.Lanes.{Each1}
 use Rattle.memberlist_cipher.specs.Gcm.{times_x, steps, block_product}
 use Rattle.memberlist_cipher.specs.Products.{shifted, poly, plane_byte, planes_of, planes_block, all_planes, entry, planes_sum}
 use Rattle.memberlist_cipher.proofs.Sixteen.{cons}

@@ -1,8 +1,8 @@
 -- Bytes as polynomials.
-use Rattle.std.proofs.Common.{◌≡◌, ℕ, zero, suc, ◌+◌, ◌-◌, ◌*◌, ◌/◌, ◌%◌, ◌^◌, ◌<◌, ◌≤◌, w8, Fits, List, [], ◌∷◌, ◌++◌, map, length, get_or, take, get_or-take, bit_xor, refl, sym, ap, ap₂, ◌∙◌, subst, arith}
-use Rattle.std.specs.Int.{w128, from_be_bytes, to_be_bytes}
+use Rattle.std.proofs.Common.{◌≡◌, ℕ, zero, suc, ◌+◌, ◌*◌, ◌/◌, ◌%◌, ◌^◌, ◌<◌, ◌≤◌, w8, Fits, List, [], ◌∷◌, ◌++◌, length, get_or, take, get_or-take, bit_xor, refl, sym, ap, ap₂, ◌∙◌, arith}
+use Rattle.std.specs.Int.{w128, from_be_bytes}
 use Rattle.std.specs.Int.Bits.{xor_assoc, xor_zero_l, xor_zero_r}
-use Rattle.std.proofs.Math.Nat.{mul_assoc, mul_comm, add-mul, mul-le-mul_right, mul-lt-mul_of_pos_right}
+use Rattle.std.proofs.Math.Nat.{mul_assoc, add-mul, mul-le-mul_right, mul-lt-mul_of_pos_right}
 use Rattle.std.proofs.lemmas.Nat.{xor_block, xor_comm, mod-pow-add, pow_pos, pow-add}
 use lib.Lanes.{zip2, Each1}
 use Rattle.memberlist_cipher.proofs.Sixteen.{each, sixteen, cons}

@@ -1,9 +1,9 @@
 -- Products, some bits at a time.
-use Rattle.std.proofs.Common.{◌≡◌, ℕ, zero, suc, ◌+◌, ◌-◌, ◌*◌, ◌/◌, ◌%◌, ◌^◌, ◌<◌, ◌≤◌, ◌==◌, if◌then◌else◌, Bool, true, false, bit_xor, List, [], ◌∷◌, length, get_or, refl, sym, ap, ap₂, ◌∙◌, arith}
+use Rattle.std.proofs.Common.{◌≡◌, ℕ, zero, suc, ◌+◌, ◌*◌, ◌/◌, ◌%◌, ◌^◌, ◌<◌, ◌≤◌, ◌==◌, if◌then◌else◌, Bool, true, false, bit_xor, refl, sym, ap, ap₂, ◌∙◌, arith}
 use Rattle.std.specs.Int.{bit_at}
-use Rattle.std.specs.Int.Bits.{xor_assoc, xor_zero_l, xor_zero_r}
+use Rattle.std.specs.Int.Bits.{xor_assoc, xor_zero_r}
 use Rattle.std.proofs.Math.Nat.{pow-suc, mul_assoc, mul_comm}
-use Rattle.std.proofs.lemmas.Nat.{shr-shr, shr_split, xor_block, xor_comm, xor_shr}
+use Rattle.std.proofs.lemmas.Nat.{shr-shr, shr_split, xor_comm, xor_shr}
 use Rattle.std.proofs.lemmas.Nat.Bits.{bit_at_cat_low, bit_at_lowest, bit_at_xor}
 use Rattle.memberlist_cipher.specs.Gcm.{times_x, steps}
 use Rattle.memberlist_cipher.specs.Products.{shifted}

@@ -1,5 +1,5 @@
 -- A round on a state in the tower's basis.
-use Rattle.std.proofs.Common.{◌≡◌, ℕ, zero, suc, ◌+◌, ◌*◌, ◌^◌, ◌<◌, Bool, true, false, ◌&&◌, eqb, nat_lt, w8, Fits, List, [], ◌∷◌, ◌++◌, map, length, get_or, replicate, bit_xor, refl, sym, ap, ap₂, ◌∙◌, subst, arith}
+use Rattle.std.proofs.Common.{◌≡◌, ℕ, zero, suc, ◌^◌, ◌<◌, true, ◌&&◌, eqb, nat_lt, w8, Fits, List, [], ◌∷◌, ◌++◌, map, length, get_or, replicate, bit_xor, refl, sym, ap, ap₂, ◌∙◌, subst, arith}
 use Rattle.std.specs.Int.Bits.{xor_assoc}
 use Rattle.std.proofs.lemmas.Bool.{eqb-true, ltb-true}
 use Rattle.std.proofs.lemmas.Nat.{xor_comm, xor_of_8}
@@ -9,7 +9,7 @@ use lib.Lanes.{zip2, pick_l, Each1}
 use Rattle.memberlist_cipher.specs.Field.{carryless, modulo, product, inverse_up_to, inverse, affine_bit, affine, sub}
 use Rattle.memberlist_cipher.specs.Block.{plus_bytes, mix, mix_columns, shift_rows, scrambled}
 use Rattle.memberlist_cipher.specs.Tower.{tower, sum, quotient, first_place, second_place, looked_up, plain, once, twice}
-use Rattle.memberlist_cipher.specs.States.{IsState, IsAfter, HasKey}
+use Rattle.memberlist_cipher.specs.States.{IsState}
 use Rattle.memberlist_cipher.specs.declared.block.TheConstants.{ROWS}
 use Rattle.memberlist_cipher.proofs.Tables.{both}
 use Rattle.memberlist_cipher.proofs.Sixteen.{each, sixteen, cons}

@@ -1,4 +1,4 @@
-use Rattle.std.proofs.Common.{List, ℕ, subst, sym}
+use Rattle.std.proofs.Common.{subst, sym}
 use Rattle.memberlist_cipher.specs.States.{IsState, IsAfter}
 use Rattle.memberlist_cipher.proofs.Keys.{begun_is}
 use Rattle.memberlist_cipher.proofs.block.begun.Goals as goal

@@ -1,4 +1,4 @@
-use Rattle.std.proofs.Common.{◌≡◌, ℕ, ◌+◌, ◌*◌, ◌%◌, length, get_or, refl, ap, ◌∙◌, arith, bit_xor, bit_and}
+use Rattle.std.proofs.Common.{ℕ, ◌+◌, ◌*◌, length, get_or, refl, ap, ◌∙◌, arith, bit_xor}
 use Rattle.std.proofs.lemmas.List.{length-map}
 use Rattle.std.proofs.lemmas.Nat.{and_le_r, and_mask}
 use Rattle.std.proofs.lemmas.Simd.{zip2_of_maps}

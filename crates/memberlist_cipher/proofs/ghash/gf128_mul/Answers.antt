@@ -1,4 +1,4 @@
-use Rattle.std.proofs.Common.{◌≡◌, ℕ, ◌<◌, ◌^◌, List, length, ap, ap₂, ◌∙◌, subst, arith}
+use Rattle.std.proofs.Common.{ℕ, ◌<◌, ◌^◌, List, length, ap, ap₂, ◌∙◌, subst, arith}
 use Rattle.memberlist_cipher.specs.Products.{planes_block, all_planes, planes_sum}
 use Rattle.memberlist_cipher.proofs.Planes.{product_is, length-all_planes}
 use Rattle.memberlist_cipher.proofs.ghash.gf128_mul.Goals as goal

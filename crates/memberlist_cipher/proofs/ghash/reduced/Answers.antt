@@ -1,4 +1,4 @@
-use Rattle.std.proofs.Common.{◌≡◌, ◌<◌, ◌^◌, arith}
+use Rattle.std.proofs.Common.{◌<◌, ◌^◌, arith}
 use Rattle.memberlist_cipher.proofs.Folding.{reduced_is}
 use Rattle.memberlist_cipher.proofs.ghash.reduced.Goals as goal
 

@@ -1,7 +1,7 @@
-use Rattle.std.proofs.Common.{◌≡◌, ℕ, ◌-◌, ◌++◌, List, map, length, replicate, bit_xor, refl, sym, ap, ap₂, ◌∙◌, arith}
+use Rattle.std.proofs.Common.{◌≡◌, ℕ, ◌-◌, length, bit_xor, sym, ap, ap₂, ◌∙◌, arith}
 use Rattle.std.proofs.lemmas.List.{length-map}
 use Rattle.std.proofs.lemmas.Simd.{get_or-replicate}
-use Rattle.memberlist_cipher.specs.Products.{shifted, poly, entry, planes_sum}
+use Rattle.memberlist_cipher.specs.Products.{shifted, poly, entry}
 use Rattle.memberlist_cipher.proofs.Pushing.{step_is, begin_is, sum_first, sum_next, zeros_pushed}
 use Rattle.memberlist_cipher.proofs.ghash.unreduced.Goals as goal
 

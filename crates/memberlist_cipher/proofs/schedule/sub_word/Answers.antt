@@ -1,4 +1,4 @@
-use Rattle.std.proofs.Common.{◌≡◌, ℕ, List, length, map, get_or, refl, sym, ap, ◌∙◌, arith}
+use Rattle.std.proofs.Common.{◌≡◌, length, map, sym, ap, ◌∙◌, arith}
 use Rattle.memberlist_cipher.specs.Field.{sub}
 use Rattle.memberlist_cipher.proofs.Sixteen.{four, each4}
 use Rattle.memberlist_cipher.proofs.schedule.sub_word.Goals as goal

@@ -1,4 +1,4 @@
-use Rattle.std.proofs.Common.{◌≡◌, map, refl, get_or, bit_xor}
+use Rattle.std.proofs.Common.{refl, bit_xor}
 use Rattle.std.proofs.lemmas.Simd.{zip2_of_maps}
 use Rattle.memberlist_cipher.specs.Tower.{is_place, sum, quotient, first_place, second_place}
 use Rattle.memberlist_cipher.specs.declared.tower.TheConstants.{INVERSES, QUOTIENTS}

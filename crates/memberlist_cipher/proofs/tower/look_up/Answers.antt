@@ -1,5 +1,4 @@
-use Rattle.std.proofs.Common.{length, arith, w8}
-use Rattle.std.proofs.lemmas.Simd.{SwzOk-from_Each1}
+use Rattle.std.proofs.Common.{arith}
 use Rattle.memberlist_cipher.proofs.Lanes.{looked_up_is, swizzles}
 use Rattle.memberlist_cipher.proofs.tower.look_up.Goals as goal
 

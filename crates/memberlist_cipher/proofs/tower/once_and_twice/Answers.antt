@@ -1,4 +1,4 @@
-use Rattle.std.proofs.Common.{refl, get_or, bit_xor}
+use Rattle.std.proofs.Common.{get_or, bit_xor}
 use Rattle.std.proofs.lemmas.Simd.{zip2_of_maps}
 use Rattle.memberlist_cipher.specs.Tower.{first_place, second_place, looked_up, once, twice}
 use Rattle.memberlist_cipher.specs.declared.tower.TheConstants.{ONCE_FIRST, ONCE_SECOND, TWICE_FIRST, TWICE_SECOND}

@@ -1,6 +1,6 @@
-use Rattle.std.proofs.Common.{refl, get_or, bit_xor}
+use Rattle.std.proofs.Common.{get_or, bit_xor}
 use Rattle.std.proofs.lemmas.Simd.{zip2_of_maps}
-use Rattle.memberlist_cipher.specs.Tower.{is_place, sum, quotient, first_place, second_place, looked_up, plain}
+use Rattle.memberlist_cipher.specs.Tower.{first_place, second_place, looked_up, plain}
 use Rattle.memberlist_cipher.specs.declared.tower.TheConstants.{PLAIN_FIRST, PLAIN_SECOND}
 use Rattle.memberlist_cipher.proofs.Lanes.{places, composed, first_places, second_places}
 use Rattle.memberlist_cipher.proofs.tower.substituted.Goals as goal

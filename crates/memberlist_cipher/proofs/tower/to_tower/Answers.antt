@@ -1,4 +1,4 @@
-use Rattle.std.proofs.Common.{◌/◌, refl, get_or, bit_and, bit_xor}
+use Rattle.std.proofs.Common.{refl, get_or, bit_xor}
 use Rattle.std.proofs.lemmas.Simd.{zip2_of_maps}
 use Rattle.memberlist_cipher.specs.Tower.{is_place, tower}
 use Rattle.memberlist_cipher.specs.declared.tower.TheConstants.{LOW, HIGH}

@@ -1,4 +1,4 @@
-use Rattle.std.proofs.Common.{◌≡◌, ℕ, List, ◌++◌, ◌<◌, ◌^◌, sym, ap, ◌∙◌, subst, arith}
+use Rattle.std.proofs.Common.{ℕ, List, ◌++◌, ◌<◌, ◌^◌, sym, ap, ◌∙◌, subst, arith}
 use Rattle.memberlist_cipher.specs.Products.{planes_of, planes_block, all_planes}
 use Rattle.memberlist_cipher.proofs.Planes.{planes_block_is}
 use Rattle.memberlist_cipher.proofs.ghash.GhashKey.new.Goals as goal
