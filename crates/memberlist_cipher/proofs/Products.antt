@@ -41,6 +41,15 @@ times_x_is v = either (v % 2 == 1) where
   either true = refl
   either false = sym (xor_zero_r (v / 2))
 
+fallen_is : (b : ℕ) → b < 2 → b * (0xe1 * 2 ^ 120) ≡ fallen b
+unfolding fallen
+fallen_is zero small = refl
+fallen_is (suc zero) small = refl
+fallen_is (suc (suc b)) small = absurd (omega arith)
+
+pub times_x_by_bit : (v : ℕ) → bit_xor (v / 2) (v % 2 * (0xe1 * 2 ^ 120)) ≡ times_x v
+times_x_by_bit v = ap (bit_xor (v / 2)) (fallen_is (v % 2) (omega arith)) ∙ sym (times_x_is v)
+
 fallen_sum : (i j : ℕ) → i < 2 → j < 2 → fallen ((i + j) % 2) ≡ bit_xor (fallen i) (fallen j)
 unfolding fallen
 fallen_sum zero zero hi hj = refl

@@ -18,11 +18,7 @@ const PUSHED: [usize; 16] = [
 fn times_x(v: u128) -> u128
     ensures { result ≡ times_x v }
 {
-    if v % 2 == 1 {
-        (v / 2) ^ (0xe1 << 120)
-    } else {
-        v / 2
-    }
+    (v / 2) ^ (v % 2 * (0xe1 << 120))
 }
 
 /// z, plus v if x has a bit at this place.
