@@ -1,7 +1,7 @@
 //! The product and the hash of blocks, SP 800-38D, 6.3 and 6.4.
 
 ghost use Rattle.std.specs.Prelude.{◌≡◌, ℕ, ◌+◌, ◌*◌, ◌<◌, ◌≤◌, ◌^◌, ◌==◌, ◌++◌, if◌then◌else◌, bit_xor, length, map, replicate, slice_index, take, drop, vec_len, vec_capacity, IfOk};
-ghost use Rattle.std.specs.Int.{bit_at};
+ghost use Rattle.std.specs.Int.{bit_at, w128, to_be_bytes};
 ghost use Rattle.memberlist_cipher.specs.Gcm.{times_x, steps, block_product, block, hash};
 ghost use Rattle.memberlist_cipher.specs.Products.{shifted, poly, planes_of, planes_block, all_planes, entry, planes_sum};
 
@@ -119,6 +119,16 @@ fn entries(planes: &[u8], plane: usize, block: u8x16) -> u8x16
     lower.swizzle_dyn(block >> u8x16::splat(4)) ^ higher.swizzle_dyn(block & u8x16::splat(15))
 }
 
+/// The bytes of a block, the highest first: reversed, since a number is in a register lowest first.
+#[inline(always)]
+fn bytes_of(x: u128) -> u8x16
+    ensures { result ≡ to_be_bytes w128 x }
+{
+    let low = (x % (1 << 64)) as u64;
+    let high = (x >> 64) as u64;
+    u64x2::from_array([low, high]).to_le_bytes().reverse()
+}
+
 /// The product of two blocks before it is reduced: the part below x to the power of 128, and the
 /// part from there on.
 fn unreduced(planes: &[u8], block: u8x16) -> (u8x16, u8x16)
@@ -149,7 +159,7 @@ fn reduced(below: u8x16, above: u8x16) -> u128
 pub(crate) fn gf128_mul(x: u128, ghash_key: &GhashKey) -> u128
     ensures { result ≡ block_product x ghash_key.now }
 {
-    let (below, above) = unreduced(&ghash_key.planes, u8x16::from_array(x.to_be_bytes()));
+    let (below, above) = unreduced(&ghash_key.planes, bytes_of(x));
     reduced(below, above)
 }
 
