@@ -1,8 +1,8 @@
 -- One step of a product, and of a hash.
-use Rattle.std.proofs.Common.{◌≡◌, ℕ, zero, suc, ◌+◌, ◌-◌, ◌/◌, ◌%◌, ◌^◌, ◌<◌, ◌≤◌, [], ◌∷◌, ◌++◌, get_or, add-one, ◌==◌, if◌then◌else◌, bit_xor, List, length, take, drop, ap, ap₂, arith, length-drop}
+use Rattle.std.proofs.Common.{◌≡◌, ℕ, zero, suc, ◌+◌, ◌-◌, ◌/◌, ◌%◌, ◌^◌, ◌<◌, ◌≤◌, [], ◌∷◌, ◌++◌, get_or, add-one, ◌==◌, if◌then◌else◌, bit_xor, List, length, take, drop, sym, ap, ap₂, ◌∙◌, arith, append_assoc, length-drop}
 use Rattle.std.specs.Int.{bit_at}
 use Rattle.std.proofs.Math.Seq.{drop-cons}
-use Rattle.std.proofs.lemmas.List.{drop_all}
+use Rattle.std.proofs.lemmas.List.{drop_all, take_all, drop-drop, append-nil}
 use Rattle.memberlist_cipher.specs.Block.{plus_bytes}
 use Rattle.memberlist_cipher.specs.Gcm.{times_x, steps, block_product, block, blocks, hashed, hash, counter_block, counted, counted_all}
 
@@ -46,3 +46,63 @@ unfolding counted_all counted blocks
 counted_end f nonce c bytes none =
     let e : (length bytes + 15) / 16 ≡ 0 = omega arith in
     ap (λ n. counted n f nonce c bytes) e
+
+-- ---- four blocks
+
+four_joined : (p q r s t : List ℕ) → (p ++ (q ++ (r ++ (s ++ [])))) ++ t ≡ p ++ (q ++ (r ++ (s ++ t)))
+four_joined p q r s t =
+    append_assoc p (q ++ (r ++ (s ++ []))) t
+    ∙ ap (λ (x : List ℕ). p ++ x) (append_assoc q (r ++ (s ++ [])) t
+    ∙ ap (λ (x : List ℕ). q ++ x) (append_assoc r (s ++ []) t ∙ ap (λ (x : List ℕ). r ++ x) (append_assoc s [] t)))
+
+thrice_dropped : (bytes : List ℕ) → drop 16 (drop 16 (drop 16 bytes)) ≡ drop 48 bytes
+thrice_dropped bytes = ap (drop 16) (drop-drop 16 16 bytes) ∙ drop-drop 16 32 bytes
+
+pub counted_four : (f : List ℕ → List ℕ) (nonce : List ℕ) (c : ℕ) (bytes : List ℕ) → 64 ≤ length bytes
+    → counted_all f nonce c bytes ≡ counted 4 f nonce c bytes ++ counted_all f nonce ((c + 4) % 2 ^ 32) (drop 64 bytes)
+unfolding counted
+counted_four f nonce c bytes some =
+    let b1 = drop 16 bytes in
+    let b2 = drop 16 b1 in
+    let b3 = drop 16 b2 in
+    let s1 : length b1 ≡ length bytes - 16 = length-drop 16 bytes in
+    let s2 : length b2 ≡ length b1 - 16 = length-drop 16 b1 in
+    let s3 : length b3 ≡ length b2 - 16 = length-drop 16 b2 in
+    let c1 = (c + 1) % 2 ^ 32 in
+    let c2 = (c1 + 1) % 2 ^ 32 in
+    let c3 = (c2 + 1) % 2 ^ 32 in
+    let part = λ (n : ℕ) (bs : List ℕ). plus_bytes (take 16 bs) (f (counter_block nonce n)) in
+    let last : (c3 + 1) % 2 ^ 32 ≡ (c + 4) % 2 ^ 32 = omega arith in
+    let back : drop 16 b3 ≡ drop 64 bytes = ap (drop 16) (thrice_dropped bytes) ∙ drop-drop 16 48 bytes in
+    counted_step f nonce c bytes (omega arith)
+    ∙ ap (λ (x : List ℕ). part c bytes ++ x) (counted_step f nonce c1 b1 (omega arith)
+    ∙ ap (λ (x : List ℕ). part c1 b1 ++ x) (counted_step f nonce c2 b2 (omega arith)
+    ∙ ap (λ (x : List ℕ). part c2 b2 ++ x) (counted_step f nonce c3 b3 (omega arith)
+    ∙ ap₂ (λ (n : ℕ) (bs : List ℕ). part c3 b3 ++ counted_all f nonce n bs) last back)))
+    ∙ sym (four_joined (part c bytes) (part c1 b1) (part c2 b2) (part c3 b3) (counted_all f nonce ((c + 4) % 2 ^ 32) (drop 64 bytes)))
+
+pub tail_is : (k : ℕ) (bytes : List ℕ) → take (length bytes - k) (drop k bytes) ≡ drop k bytes
+tail_is k bytes = take_all (length bytes - k) (drop k bytes) (omega (arith, length-drop k bytes))
+
+-- the same four blocks, each by its place
+pub four_parts : (f : List ℕ → List ℕ) (nonce : List ℕ) (c : ℕ) (bytes old p q r s : List ℕ)
+    → p ≡ plus_bytes (take 16 bytes) (f (counter_block nonce c))
+    → q ≡ plus_bytes (take 16 (drop 16 bytes)) (f (counter_block nonce ((c + 1) % 2 ^ 32)))
+    → r ≡ plus_bytes (take 16 (drop 32 bytes)) (f (counter_block nonce ((c + 2) % 2 ^ 32)))
+    → s ≡ plus_bytes (take 16 (drop 48 bytes)) (f (counter_block nonce ((c + 3) % 2 ^ 32)))
+    → (((old ++ p) ++ q) ++ r) ++ s ≡ old ++ counted 4 f nonce c bytes
+unfolding counted
+four_parts f nonce c bytes old p q r s ep eq er es =
+    let c1 = (c + 1) % 2 ^ 32 in
+    let c2 = (c1 + 1) % 2 ^ 32 in
+    let c3 = (c2 + 1) % 2 ^ 32 in
+    let part = λ (n : ℕ) (bs : List ℕ). plus_bytes (take 16 bs) (f (counter_block nonce n)) in
+    let third : (c + 2) % 2 ^ 32 ≡ c2 = omega arith in
+    let fourth : (c + 3) % 2 ^ 32 ≡ c3 = omega arith in
+    let b2 : drop 32 bytes ≡ drop 16 (drop 16 bytes) = sym (drop-drop 16 16 bytes) in
+    let b3 : drop 48 bytes ≡ drop 16 (drop 16 (drop 16 bytes)) = sym (thrice_dropped bytes) in
+    append_assoc ((old ++ p) ++ q) r s
+    ∙ append_assoc (old ++ p) q (r ++ s)
+    ∙ append_assoc old p (q ++ (r ++ s))
+    ∙ ap (λ (x : List ℕ). old ++ x) (ap₂ (λ (x y : List ℕ). x ++ y) ep (ap₂ (λ (x y : List ℕ). x ++ y) eq (ap₂ (λ (x y : List ℕ). x ++ y) (er ∙ ap₂ part third b2)
+    (es ∙ ap₂ part fourth b3 ∙ sym (append-nil (part c3 (drop 16 (drop 16 (drop 16 bytes)))))))))

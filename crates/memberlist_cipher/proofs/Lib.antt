@@ -10,7 +10,14 @@ pub mod Refusing
 pub mod Causes
 pub mod Once
 pub mod Streams
-pub mod Mixing
 pub mod Prepared
 pub mod Labels
 pub mod Encrypting
+pub mod Lanes
+pub mod Rounds
+pub mod Keys
+pub mod Polys
+pub mod Folding
+pub mod Planes
+pub mod Pushing
+pub mod Tags

@@ -1,11 +1,12 @@
--- Products with four bits at a time, the lowest of a block first.
-use Rattle.std.proofs.Common.{◌≡◌, ℕ, zero, suc, ◌+◌, ◌-◌, ◌*◌, ◌/◌, ◌%◌, ◌^◌, ◌<◌, ◌≤◌, ◌==◌, if◌then◌else◌, Bool, true, false, bit_xor, List, [], ◌∷◌, length, get_or, refl, sym, ap, ap₂, ◌∙◌, arith}
+-- Products, some bits at a time.
+use Rattle.std.proofs.Common.{◌≡◌, ℕ, zero, suc, ◌+◌, ◌*◌, ◌/◌, ◌%◌, ◌^◌, ◌<◌, ◌≤◌, ◌==◌, if◌then◌else◌, Bool, true, false, bit_xor, refl, sym, ap, ap₂, ◌∙◌, arith}
 use Rattle.std.specs.Int.{bit_at}
-use Rattle.std.specs.Int.Bits.{xor_assoc, xor_zero_l, xor_zero_r}
-use Rattle.std.proofs.lemmas.Nat.{shr-shr, shr_split, xor_block, xor_comm, xor_shr}
+use Rattle.std.specs.Int.Bits.{xor_assoc, xor_zero_r}
+use Rattle.std.proofs.Math.Nat.{pow-suc, mul_assoc, mul_comm}
+use Rattle.std.proofs.lemmas.Nat.{shr-shr, shr_split, xor_comm, xor_shr}
 use Rattle.std.proofs.lemmas.Nat.Bits.{bit_at_cat_low, bit_at_lowest, bit_at_xor}
 use Rattle.memberlist_cipher.specs.Gcm.{times_x, steps}
-use Rattle.memberlist_cipher.specs.Products.{shifted, row}
+use Rattle.memberlist_cipher.specs.Products.{shifted}
 
 -- ---- bits
 
@@ -21,7 +22,7 @@ picked : (b : Bool) (z w v : ℕ) → (if b then bit_xor (bit_xor z w) v else bi
 picked true z w v = xor_assoc z w v
 picked false z w v = refl
 
-across : (p q r s : ℕ) → bit_xor (bit_xor p q) (bit_xor r s) ≡ bit_xor (bit_xor p r) (bit_xor q s)
+pub across : (p q r s : ℕ) → bit_xor (bit_xor p q) (bit_xor r s) ≡ bit_xor (bit_xor p r) (bit_xor q s)
 across p q r s =
     xor_assoc p q (bit_xor r s)
     ∙ ap (bit_xor p) (sym (xor_assoc q r s) ∙ ap (λ (y : ℕ). bit_xor y s) (xor_comm q r) ∙ xor_assoc r q s)
@@ -30,15 +31,24 @@ across p q r s =
 -- ---- a sum, times x
 
 -- what a shifted-out bit adds
-fallen : ℕ → ℕ
+unfoldable pub fallen : ℕ → ℕ
 fallen b = if b == 1 then 0xe1 * 2 ^ 120 else 0
 
-times_x_is : (v : ℕ) → times_x v ≡ bit_xor (v / 2) (fallen (v % 2))
+pub times_x_is : (v : ℕ) → times_x v ≡ bit_xor (v / 2) (fallen (v % 2))
 unfolding times_x fallen
 times_x_is v = either (v % 2 == 1) where
   either : (b : Bool) → (if b then bit_xor (v / 2) (0xe1 * 2 ^ 120) else v / 2) ≡ bit_xor (v / 2) (if b then 0xe1 * 2 ^ 120 else 0)
   either true = refl
   either false = sym (xor_zero_r (v / 2))
+
+fallen_is : (b : ℕ) → b < 2 → b * (0xe1 * 2 ^ 120) ≡ fallen b
+unfolding fallen
+fallen_is zero small = refl
+fallen_is (suc zero) small = refl
+fallen_is (suc (suc b)) small = absurd (omega arith)
+
+pub times_x_by_bit : (v : ℕ) → bit_xor (v / 2) (v % 2 * (0xe1 * 2 ^ 120)) ≡ times_x v
+times_x_by_bit v = ap (bit_xor (v / 2)) (fallen_is (v % 2) (omega arith)) ∙ sym (times_x_is v)
 
 fallen_sum : (i j : ℕ) → i < 2 → j < 2 → fallen ((i + j) % 2) ≡ bit_xor (fallen i) (fallen j)
 unfolding fallen
@@ -55,49 +65,43 @@ lowest a b =
     ∙ bit_at_xor a b 0
     ∙ ap₂ (λ (p q : ℕ). (p + q) % 2) (bit_at_lowest a) (bit_at_lowest b)
 
-times_x_sum : (a b : ℕ) → times_x (bit_xor a b) ≡ bit_xor (times_x a) (times_x b)
+pub times_x_sum : (a b : ℕ) → times_x (bit_xor a b) ≡ bit_xor (times_x a) (times_x b)
 times_x_sum a b =
     times_x_is (bit_xor a b)
     ∙ ap₂ bit_xor (xor_shr a b 1) (ap fallen (lowest a b) ∙ fallen_sum (a % 2) (b % 2) (omega arith) (omega arith))
     ∙ across (a / 2) (b / 2) (fallen (a % 2)) (fallen (b % 2))
     ∙ sym (ap₂ bit_xor (times_x_is a) (times_x_is b))
 
-shifted_sum : (n a b : ℕ) → shifted n (bit_xor a b) ≡ bit_xor (shifted n a) (shifted n b)
+pub shifted_sum : (n a b : ℕ) → shifted n (bit_xor a b) ≡ bit_xor (shifted n a) (shifted n b)
 unfolding shifted
 shifted_sum zero a b = refl
 shifted_sum (suc n) a b = ap (shifted n) (times_x_sum a b) ∙ shifted_sum n (times_x a) (times_x b)
 
-times_x_even : (m v : ℕ) → v ≡ 2 * m → times_x v ≡ m
+pub times_x_even : (m v : ℕ) → v ≡ 2 * m → times_x v ≡ m
 unfolding fallen
 times_x_even m v e =
     let half : v / 2 ≡ m = omega arith in
     let none : v % 2 ≡ 0 = omega arith in
     times_x_is v ∙ ap₂ bit_xor half (ap fallen none) ∙ xor_zero_r m
 
-shifted_whole : (q : ℕ) → shifted 4 (q * 2 ^ 4) ≡ q
+-- what is shifted out at the right is 0
+pub whole : (k q : ℕ) → shifted k (q * 2 ^ k) ≡ q
 unfolding shifted
-shifted_whole q =
-    let a = times_x_even (8 * q) (q * 2 ^ 4) (omega arith) in
-    let b = times_x_even (4 * q) (8 * q) (omega arith) in
-    let c = times_x_even (2 * q) (4 * q) (omega arith) in
-    let d = times_x_even q (2 * q) refl in
-    ap (λ (v : ℕ). times_x (times_x (times_x v))) a ∙ ap (λ (v : ℕ). times_x (times_x v)) b ∙ ap times_x c ∙ d
+whole zero q = omega arith
+whole (suc k) q =
+    let twice : q * 2 ^ suc k ≡ 2 * (q * 2 ^ k) = ap (λ (p : ℕ). q * p) (pow-suc 2 k) ∙ sym (mul_assoc q (2 ^ k) 2) ∙ mul_comm (q * 2 ^ k) 2 in
+    ap (shifted k) (times_x_even (q * 2 ^ k) (q * 2 ^ suc k) twice) ∙ whole k q
 
--- the four bits at the right are shifted out
-pub shifted_is : (z : ℕ) → bit_xor (z / 2 ^ 4) (shifted 4 (z % 2 ^ 4)) ≡ shifted 4 z
-shifted_is z =
-    let q = z / 2 ^ 4 in
-    let r = z % 2 ^ 4 in
-    let parts : z ≡ q * 2 ^ 4 + r = omega arith in
-    let sum : bit_xor (q * 2 ^ 4 + 0) (0 * 2 ^ 4 + r) ≡ bit_xor q 0 * 2 ^ 4 + bit_xor 0 r = xor_block 4 q 0 0 r (omega arith) (omega arith) in
-    let high : q * 2 ^ 4 ≡ q * 2 ^ 4 + 0 = omega arith in
-    let low : r ≡ 0 * 2 ^ 4 + r = omega arith in
-    let plain : bit_xor (q * 2 ^ 4) r ≡ q * 2 ^ 4 + r = ap₂ bit_xor high low ∙ sum ∙ ap₂ (λ (a b : ℕ). a * 2 ^ 4 + b) (xor_zero_r q) (xor_zero_l r) in
-    sym (ap (shifted 4) (parts ∙ sym plain) ∙ shifted_sum 4 (q * 2 ^ 4) r ∙ ap (λ (y : ℕ). bit_xor y (shifted 4 r)) (shifted_whole q))
+pub shifted_add : (n m v : ℕ) → shifted (n + m) v ≡ shifted m (shifted n v)
+unfolding shifted
+shifted_add zero m v = let e : 0 + m ≡ m = omega arith in ap (λ (k : ℕ). shifted k v) e
+shifted_add (suc n) m v =
+    let e : suc n + m ≡ suc (n + m) = omega arith in
+    ap (λ (k : ℕ). shifted k v) e ∙ shifted_add n m (times_x v)
 
 -- ---- steps
 
-steps_sum : (n x z w v : ℕ) → steps n x (bit_xor z w) v ≡ bit_xor z (steps n x w v)
+pub steps_sum : (n x z w v : ℕ) → steps n x (bit_xor z w) v ≡ bit_xor z (steps n x w v)
 unfolding steps
 steps_sum zero x z w v = refl
 steps_sum (suc n) x z w v =
@@ -105,7 +109,7 @@ steps_sum (suc n) x z w v =
     ∙ steps_sum n x z (if bit_at x n == 1 then bit_xor w v else w) (times_x v)
 
 -- the steps of the n bits from the m-th on, and then those of the m bits below
-steps_split : (n m x z v : ℕ) → steps (n + m) x z v ≡ steps m x (steps n (x / 2 ^ m) z v) (shifted n v)
+pub steps_split : (n m x z v : ℕ) → steps (n + m) x z v ≡ steps m x (steps n (x / 2 ^ m) z v) (shifted n v)
 unfolding steps shifted
 steps_split zero m x z v =
     let e : 0 + m ≡ m = omega arith in
@@ -116,7 +120,7 @@ steps_split (suc n) m x z v =
     ∙ steps_split n m x (if bit_at x (n + m) == 1 then bit_xor z v else z) (times_x v)
     ∙ ap (λ (b : ℕ). steps m x (steps n (x / 2 ^ m) (if b == 1 then bit_xor z v else z) (times_x v)) (shifted n (times_x v))) (sym (bit_above x m n))
 
-steps_low : (n k y w v : ℕ) → n ≤ k → steps n (y % 2 ^ k) w v ≡ steps n y w v
+pub steps_low : (n k y w v : ℕ) → n ≤ k → steps n (y % 2 ^ k) w v ≡ steps n y w v
 unfolding steps
 steps_low zero k y w v few = refl
 steps_low (suc n) k y w v few =
@@ -134,73 +138,32 @@ steps_times_x (suc n) x z v =
     ap (λ (y : ℕ). steps n x y (times_x (times_x v))) (times_x_picked (bit_at x n == 1) z v)
     ∙ steps_times_x n x (if bit_at x n == 1 then bit_xor z v else z) (times_x v)
 
-steps_shifted : (k n x z v : ℕ) → steps n x (shifted k z) (shifted k v) ≡ shifted k (steps n x z v)
+pub steps_shifted : (k n x z v : ℕ) → steps n x (shifted k z) (shifted k v) ≡ shifted k (steps n x z v)
 unfolding shifted
 steps_shifted zero n x z v = refl
 steps_shifted (suc k) n x z v = steps_shifted k n x (times_x z) (times_x v) ∙ ap (shifted k) (steps_times_x n x z v)
 
-nothing : shifted 4 0 ≡ 0
-unfolding shifted times_x
-nothing = refl
+nothing_once : times_x 0 ≡ 0
+unfolding times_x
+nothing_once = refl
 
--- four more bits, above those that were consumed
-pub four_more : (m x v : ℕ) → steps (m + 4) x 0 v ≡ bit_xor (shifted 4 (steps m x 0 v)) (steps 4 (x / 2 ^ m % 16) 0 v)
-four_more m x v =
-    let e : m + 4 ≡ 4 + m = omega arith in
-    let d = steps 4 (x / 2 ^ m) 0 v in
-    ap (λ (k : ℕ). steps k x 0 v) e
-    ∙ steps_split 4 m x 0 v
-    ∙ ap (λ (y : ℕ). steps m x y (shifted 4 v)) (sym (xor_zero_r d))
-    ∙ steps_sum m x d 0 (shifted 4 v)
-    ∙ ap (λ (y : ℕ). bit_xor d (steps m x y (shifted 4 v))) (sym nothing)
-    ∙ ap (bit_xor d) (steps_shifted 4 m x 0 v)
-    ∙ xor_comm d (shifted 4 (steps m x 0 v))
-    ∙ ap (bit_xor (shifted 4 (steps m x 0 v))) (sym (steps_low 4 4 (x / 2 ^ m) 0 v (omega arith)))
+pub nothing : (k : ℕ) → shifted k 0 ≡ 0
+unfolding shifted
+nothing zero = refl
+nothing (suc k) = ap (shifted k) nothing_once ∙ nothing k
+
+-- n bits above m others
+pub more : (n m x v : ℕ) → steps (n + m) x 0 v ≡ bit_xor (steps n (x / 2 ^ m) 0 v) (shifted n (steps m (x % 2 ^ m) 0 v))
+more n m x v =
+    let d = steps n (x / 2 ^ m) 0 v in
+    steps_split n m x 0 v
+    ∙ ap (λ (y : ℕ). steps m x y (shifted n v)) (sym (xor_zero_r d))
+    ∙ steps_sum m x d 0 (shifted n v)
+    ∙ ap (λ (y : ℕ). bit_xor d (steps m x y (shifted n v))) (sym (nothing n))
+    ∙ ap (bit_xor d) (steps_shifted n m x 0 v ∙ ap (shifted n) (sym (steps_low m m x 0 v (omega arith))))
 
 pub four_steps : (d v b c e p q r s : ℕ) → b ≡ times_x v → c ≡ times_x b → e ≡ times_x c → p ≡ (if bit_at d 3 == 1 then bit_xor 0 v else 0)
     → q ≡ (if bit_at d 2 == 1 then bit_xor p b else p) → r ≡ (if bit_at d 1 == 1 then bit_xor q c else q)
     → s ≡ (if bit_at d 0 == 1 then bit_xor r e else r) → s ≡ steps 4 d 0 v
 unfolding steps
 four_steps d v b c e p q r s hb hc he hp hq hr hs = rw (hs, hr, hq, hp, he, hc, hb) refl
-
--- ---- the row
-
-pub row_cons : (n digit v : ℕ) → 0 < n → row n digit v ≡ steps 4 digit 0 v ∷ row (n - 1) (digit + 1) v
-unfolding row
-row_cons zero digit v some = absurd (omega arith)
-row_cons (suc n) digit v some =
-    let e : n ≡ suc n - 1 = omega arith in
-    let f : suc digit ≡ digit + 1 = omega arith in
-    ap (λ (k : ℕ). steps 4 digit 0 v ∷ row k (suc digit) v) e ∙ ap (λ (k : ℕ). steps 4 digit 0 v ∷ row (suc n - 1) k v) f
-
-pub row_end : (n digit v : ℕ) → n ≡ 0 → row n digit v ≡ []
-unfolding row
-row_end n digit v none = ap (λ (k : ℕ). row k digit v) none
-
-pub length-row : (n digit v : ℕ) → length (row n digit v) ≡ n
-unfolding row
-length-row zero digit v = refl
-length-row (suc n) digit v = omega (arith, length-row n (suc digit) v)
-
-row_from : (n i d v : ℕ) → d < n → get_or (row n i v) d 0 ≡ steps 4 (i + d) 0 v
-unfolding row
-row_from zero i d v within = absurd (omega arith)
-row_from (suc n) i zero v within =
-    let e : i ≡ i + 0 = omega arith in
-    ap (λ (k : ℕ). steps 4 k 0 v) e
-row_from (suc n) i (suc d) v within =
-    let e : suc i + d ≡ i + suc d = omega arith in
-    row_from n (suc i) d v (omega arith) ∙ ap (λ (k : ℕ). steps 4 k 0 v) e
-
-pub row_at : (d v : ℕ) → d < 16 → get_or (row 16 0 v) d 0 ≡ steps 4 d 0 v
-row_at d v within =
-    let e : 0 + d ≡ d = omega arith in
-    row_from 16 0 d v within ∙ ap (λ (k : ℕ). steps 4 k 0 v) e
-
--- four bits with only the highest set mean 1
-one : (v : ℕ) → steps 4 8 0 v ≡ v
-unfolding steps
-one v = xor_zero_l v
-
-pub row_one : (items : List ℕ) (v : ℕ) → items ≡ row 16 0 v → get_or items 8 0 ≡ v
-row_one items v e = ap (λ (l : List ℕ). get_or l 8 0) e ∙ row_at 8 v (omega arith) ∙ one v

@@ -1,11 +1,8 @@
--- The tables of the S-box, of powers and of reductions agree with their definitions.
+-- The table of powers agrees with its definition.
 use Rattle.std.proofs.Common.{◌≡◌, ℕ, zero, suc, ◌+◌, ◌<◌, Bool, true, false, ◌&&◌, eqb, List, [], ◌∷◌, length, get_or, refl, ap, ◌∙◌, arith}
 use Rattle.std.proofs.lemmas.Bool.{eqb-true}
-use Rattle.memberlist_cipher.specs.Field.{carryless, modulo, product, inverse_up_to, inverse, affine_bit, affine, sub, x_to}
-use Rattle.memberlist_cipher.specs.Gcm.{times_x}
-use Rattle.memberlist_cipher.specs.Products.{shifted}
-use Rattle.memberlist_cipher.specs.declared.field.TheConstants.{SBOX, POWERS}
-use Rattle.memberlist_cipher.specs.declared.ghash.TheConstants.{REDUCE}
+use Rattle.memberlist_cipher.specs.Field.{carryless, modulo, product, x_to}
+use Rattle.memberlist_cipher.specs.declared.field.TheConstants.{POWERS}
 
 agree : (ℕ → ℕ) → ℕ → List ℕ → Bool
 agree f i [] = true
@@ -28,17 +25,3 @@ all_powers = refl
 
 pub POWERS_at : (k : ℕ) → k < 15 → get_or POWERS k 0 ≡ x_to k
 POWERS_at k below = agree_at x_to 0 POWERS k all_powers below ∙ ap x_to (omega arith)
-
-all_subs : agree sub 0 SBOX ≡ true
-unfolding agree sub affine affine_bit inverse inverse_up_to product carryless modulo
-all_subs = refl
-
-pub SBOX_at : (k : ℕ) → k < 256 → get_or SBOX k 0 ≡ sub k
-SBOX_at k below = agree_at sub 0 SBOX k all_subs below ∙ ap sub (omega arith)
-
-all_reductions : agree (shifted 4) 0 REDUCE ≡ true
-unfolding agree shifted times_x
-all_reductions = refl
-
-pub REDUCE_at : (k : ℕ) → k < 16 → get_or REDUCE k 0 ≡ shifted 4 k
-REDUCE_at k below = agree_at (shifted 4) 0 REDUCE k all_reductions below ∙ ap (shifted 4) (omega arith)

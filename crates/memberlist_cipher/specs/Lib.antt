@@ -7,3 +7,5 @@ pub mod Label
 pub mod Prepared
 pub mod Fault
 pub mod Refusal
+pub mod Tower
+pub mod States

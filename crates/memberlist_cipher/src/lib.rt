@@ -3,9 +3,9 @@
 //! | module | subject |
 //! |---|---|
 //! | `fault` | why bytes are refused |
-//! | `field` | bytes as polynomials, and the S-box |
-//! | `columns` | columns of a state, through the S-box and mixed |
-//! | `block` | AES on one block |
+//! | `field` | bytes as polynomials |
+//! | `tower` | the S-box on sixteen bytes at once |
+//! | `block` | AES on one block, and on four |
 //! | `appending` | appending to a vector that has room |
 //! | `schedule` | the key schedule |
 //! | `ghash` | the product and the hash of blocks |
@@ -23,7 +23,6 @@
 
 mod appending;
 mod block;
-mod columns;
 mod ctr;
 mod decryption;
 mod encrypt;
@@ -38,6 +37,7 @@ mod pkcs7;
 mod schedule;
 mod stream;
 mod tag;
+mod tower;
 
 pub use decryption::decrypt;
 pub use fault::CipherFault;

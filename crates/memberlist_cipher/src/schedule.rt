@@ -1,12 +1,25 @@
 //! The key schedule, FIPS-197, 5.2.
 
-ghost use Rattle.std.specs.Prelude.{◌≡◌, ◌+◌, ◌*◌, ◌/◌, ◌%◌, ◌<◌, ◌≤◌, ◌⊎◌, length, replicate, vec_capacity, IfOk};
+ghost use Rattle.std.specs.Prelude.{◌≡◌, ◌+◌, ◌*◌, ◌/◌, ◌%◌, ◌<◌, ◌≤◌, ◌⊎◌, length, map, replicate, vec_capacity, IfOk};
+ghost use Rattle.memberlist_cipher.specs.Field.{sub};
 ghost use Rattle.memberlist_cipher.specs.Block.{word, added, next_word, schedule};
 ghost use Rattle.memberlist_cipher.specs.Encryption.{IsKey};
 
 use crate::appending::append;
-use crate::field::{sub, x_to};
+use crate::field::x_to;
+use crate::tower::sub_bytes;
 use std::alloc::{AllocError, Global};
+use std::simd::prelude::*;
+
+/// The S-box values of a word.
+fn sub_word(word: [u8; 4]) -> [u8; 4]
+    ensures { result ≡ map sub word }
+{
+    let [a, b, c, d] = word;
+    let bytes = u8x16::from_array([a, b, c, d, 0, 0, 0, 0, 0, 0, 0, 0, 0, 0, 0, 0]);
+    let values = sub_bytes(bytes).to_array();
+    [values[0], values[1], values[2], values[3]]
+}
 
 /// What is added to the word one key length before.
 fn added(key_words: usize, i: usize, t: [u8; 4]) -> [u8; 4]
@@ -18,13 +31,10 @@ fn added(key_words: usize, i: usize, t: [u8; 4]) -> [u8; 4]
     let place = i % key_words;
     if place == 0 {
         let power = x_to(i / key_words - 1);
-        [sub(t[1]) ^ power, sub(t[2]), sub(t[3]), sub(t[0])]
+        let values = sub_word(t);
+        [values[1] ^ power, values[2], values[3], values[0]]
     } else if place == 4 {
-        if key_words > 6 {
-            [sub(t[0]), sub(t[1]), sub(t[2]), sub(t[3])]
-        } else {
-            t
-        }
+        if key_words > 6 { sub_word(t) } else { t }
     } else {
         t
     }

@@ -7,6 +7,7 @@ ghost use Rattle.memberlist_cipher.specs.Gcm.{hash_key, tag};
 use crate::block::{cipher, plus_key};
 use crate::ctr::counter_block;
 use crate::ghash::{GhashKey, gf128_mul, hash};
+use std::simd::prelude::*;
 
 /// The tag of a ciphertext and associated bytes; the hash multiplies by `h`.
 pub(crate) fn tag(
@@ -32,9 +33,12 @@ pub(crate) fn tag(
     plus_key(s.to_be_bytes(), &mask)
 }
 
-/// Whether the bytes are equal.
+/// Whether two tags are equal, by steps that depend on no byte of them.
 pub(crate) fn is_same(a: &[u8], b: &[u8]) -> bool
+    requires first { length a.now ≡ 16 }
+    requires second { length b.now ≡ 16 }
     ensures { MatchBool result (a.now ≡ b.now) (a.now ≢ b.now) }
 {
-    a == b
+    let differing = u8x16::from_slice(a).simd_ne(u8x16::from_slice(b));
+    differing.to_bitmask() == 0
 }

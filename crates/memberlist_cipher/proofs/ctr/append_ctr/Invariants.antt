@@ -13,3 +13,14 @@ invariant-loop-rest l =
 
 abbrev pub decreases-loop-rest : goal.decreases-loop-rest
 decreases-loop-rest l = length l.rest
+
+abbrev pub invariant-loop-rest-2 : goal.invariant-loop-rest-2
+invariant-loop-rest-2 l =
+    let f = cipher l.words l.count in record {
+      bytes : l.to.items ++ counted_all f l.nonce l.counter l.rest ≡ l.fn.to.items ++ ctr f l.nonce l.bytes;
+      len : vec_len l.to + length l.rest ≡ vec_len l.fn.to + length l.bytes;
+      capacity : vec_capacity l.to ≡ vec_capacity l.fn.to;
+    }
+
+abbrev pub decreases-loop-rest-2 : goal.decreases-loop-rest-2
+decreases-loop-rest-2 l = length l.rest
