@@ -7,3 +7,4 @@ pub mod Known
 pub mod Staying
 pub mod Since
 pub mod Forgetting
+mod Words

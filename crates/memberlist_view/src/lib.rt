@@ -31,4 +31,4 @@ pub use event::Event;
 pub use heard::{Heard, Said};
 pub use member_name::MemberName;
 pub use rivals::Rivals;
-pub use view::View;
+pub use view::{Changed, View};

@@ -6,10 +6,14 @@ ghost use Rattle.std.specs.Cmp.{partial_equiv_from_equiv, partial_order_from_agr
 ghost use Rattle.std.specs.Cmp.Lexicographic.{slice_cmp};
 ghost use Rattle.std.proofs.lemmas.Cmp.{eq_by_cmp_equiv, nat_list_cmp_total};
 
+use byteorder::{BigEndian, ByteOrder};
 use std::alloc::{AllocError, Global};
 use std::cmp::Ordering;
 use std::marker::Model;
 use swim_claim::Name;
+
+/// How many bytes are compared as one number.
+const WORD: usize = 8;
 
 /// The name of a member, as a key of a view.
 ///
@@ -87,6 +91,22 @@ impl Ord for MemberName {
     ghost matches_eq = { λ _ _. refl };
 
     fn cmp(&self, other: &MemberName) -> Ordering {
-        self.name.bytes().cmp(other.name.bytes())
+        order(self.name.bytes(), other.name.bytes())
     }
+}
+
+/// How the bytes of two names compare, eight at a time as numbers, since names often begin alike.
+fn order(one: &[u8], other: &[u8]) -> Ordering
+    ensures { result ≡ slice_cmp nat_cmp one.now other.now }
+{
+    let (mut one, mut other) = (one, other);
+    while WORD <= one.len() && WORD <= other.len() {
+        let (word, another) = (BigEndian::read_u64(one), BigEndian::read_u64(other));
+        if word != another {
+            return word.cmp(&another);
+        }
+        one = &one[WORD..];
+        other = &other[WORD..];
+    }
+    one.cmp(other)
 }
