@@ -20,6 +20,7 @@ mod event;
 mod heard;
 pub mod laws;
 mod member_name;
+mod prefix;
 mod rivals;
 #[cfg(test)]
 mod tests;

@@ -6,6 +6,7 @@ ghost use Rattle.std.specs.Cmp.{partial_equiv_from_equiv, partial_order_from_agr
 ghost use Rattle.std.specs.Cmp.Lexicographic.{slice_cmp};
 ghost use Rattle.std.proofs.lemmas.Cmp.{eq_by_cmp_equiv, nat_list_cmp_total};
 
+use crate::prefix::Prefix;
 use byteorder::{BigEndian, ByteOrder};
 use std::alloc::{AllocError, Global};
 use std::cmp::Ordering;
@@ -21,14 +22,19 @@ const WORD: usize = 8;
 #[derive(Drop, Debug)]
 pub struct MemberName {
     name: Name,
+    // compared before the name itself
+    prefix: Prefix,
 }
 
 impl Model for MemberName {
     ghost use Rattle.std.specs.Prelude.{ℕ, List};
+    ghost use Rattle.memberlist_view.specs.Prefix.{IsPrefixOf};
 
     ghost Value = { List ℕ };
 
     ghost view = { λ m. m.name };
+
+    ghost invariant = { λ m. IsPrefixOf m.prefix m.name };
 }
 
 impl MemberName {
@@ -36,7 +42,8 @@ impl MemberName {
     pub fn new(name: Name) -> MemberName
         ensures { result ≡ name }
     {
-        MemberName { name }
+        let prefix = Prefix::new(name.bytes());
+        MemberName { name, prefix }
     }
 
     /// The name, 1 to 1,024 bytes.
@@ -52,6 +59,7 @@ impl MemberName {
     {
         Ok(MemberName {
             name: self.name.try_clone(alloc)?,
+            prefix: self.prefix,
         })
     }
 }
@@ -91,7 +99,11 @@ impl Ord for MemberName {
     ghost matches_eq = { λ _ _. refl };
 
     fn cmp(&self, other: &MemberName) -> Ordering {
-        order(self.name.bytes(), other.name.bytes())
+        match self.prefix.order(&other.prefix) {
+            Ordering::Less => Ordering::Less,
+            Ordering::Equal => order(self.name.bytes(), other.name.bytes()),
+            Ordering::Greater => Ordering::Greater,
+        }
     }
 }
 
