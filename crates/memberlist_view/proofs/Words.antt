@@ -39,8 +39,10 @@ by_words (suc n) (x ∷ xs) (y ∷ ys) small small' long long' =
   where
     front : big_from 1 n (x ∷ xs) ≡ big_from 0 n xs
     front = big_from-cons 0 n x xs
+
     front' : big_from 1 n (y ∷ ys) ≡ big_from 0 n ys
     front' = big_from-cons 0 n y ys
+
     by_answer : slice_cmp nat_cmp xs ys ≡ ordering_then (nat_cmp (big_from 0 n xs) (big_from 0 n ys)) (slice_cmp nat_cmp (drop n xs) (drop n ys))
         → (o : Ordering) → nat_cmp x y ≡ o → MatchOrdering o (x < y) (x ≡ y) (y < x)
         → slice_cmp nat_cmp (x ∷ xs) (y ∷ ys) ≡ ordering_then (nat_cmp (big_from 0 (suc n) (x ∷ xs)) (big_from 0 (suc n) (y ∷ ys)))
