@@ -11,6 +11,10 @@ use swim_pack::{Inlet, PullFault};
 /// The most captured bytes of a record.
 pub(crate) const MAX_CAPTURED_LEN: u32 = 262_144;
 
+/// The most bytes that are read at once. The buffer of them is filled with zeros at each call, so it
+/// is small.
+const PIECE: usize = 512;
+
 /// Fills the buffer with the next bytes of a record.
 pub(crate) fn fill<I: Inlet>(inlet: &mut I, part: &mut [u8]) -> Result<(), Stop>
     ensures { ReadsAs stop_cause (λ _. part.new) (next_part (length part.old))
@@ -44,8 +48,8 @@ pub(crate) fn fill_header<I: Inlet>(inlet: &mut I, header: &mut [u8]) -> Result<
     fill(inlet, rest)
 }
 
-/// Replaces the contents of `bytes` with that many captured bytes, in pieces of at most 4,096
-/// bytes: memory is allocated only for bytes that were read.
+/// Replaces the contents of `bytes` with that many captured bytes, in pieces of at most 512 bytes:
+/// memory is allocated only for bytes that were read.
 pub(crate) fn read_part<I: Inlet>(
     inlet: &mut I,
     bytes: &mut Vec<u8>,
@@ -55,7 +59,7 @@ pub(crate) fn read_part<I: Inlet>(
         (I.seen inlet.old) (I.seen inlet.new) result }
 {
     bytes.clear();
-    let mut piece = [0; 4096];
+    let mut piece = [0; PIECE];
     let mut left = len;
     while left > 0 {
         let size = left.min(piece.len());
@@ -82,12 +86,12 @@ pub(crate) fn read_captured<I: Inlet>(
     read_part(inlet, bytes, length as usize)
 }
 
-/// Skips `len` bytes, in pieces of at most 4,096 bytes. It takes no memory.
+/// Skips `len` bytes, in pieces of at most 512 bytes. It takes no memory.
 pub(crate) fn skip<I: Inlet>(inlet: &mut I, len: usize) -> Result<(), Stop>
     ensures { ReadsAs stop_cause (λ _. tt) (skipped len)
         (I.seen inlet.old) (I.seen inlet.new) result }
 {
-    let mut piece = [0; 4096];
+    let mut piece = [0; PIECE];
     let mut left = len;
     while left > 0 {
         let size = left.min(piece.len());

@@ -1,16 +1,16 @@
 //! One message from its bytes.
 
-ghost use Rattle.std.specs.Prelude.{◌≡◌, ◌≢◌, Ok, MatchResult};
+ghost use Rattle.std.specs.Prelude.{◌≡◌, ◌≢◌, Ok, MatchResult, IfOk};
 ghost use Rattle.memberlist_message.specs.Claims.{raw_in, long_in};
 ghost use Rattle.memberlist_message.specs.Messages.{message_of, message_after, claim_after, claimless_after, alive_after, suspect_after, dead_after, ping_after, indirect_ping_after, ack_after, nack_after, error_after, message_value, ping_value, indirect_ping_value, ack_value, ping_of, indirect_ping_of, ack_of};
 ghost use Rattle.memberlist_message.specs.Reading.{IsFault};
 ghost use Rattle.memberlist_message.specs.Values.{slots_of};
 
 use crate::claims::{packet_of_alive, packet_of_dead, packet_of_suspect};
-use crate::fields::{Values, flag, into_raw, long, read_fields, short};
+use crate::fields::{Values, flag, long, raw, read_fields, short};
 use crate::layout::{ACCUSATION, ACK, ALIVE, ERROR, INDIRECT_PING, NACK, PING};
 use crate::message::{Ack, ErrorResponse, IndirectPing, Message, Nack, Ping};
-use std::alloc::Global;
+use std::alloc::{AllocError, Global};
 use swim_wire::{ALIVE_MESSAGE, DEAD_MESSAGE, Packet, SUSPECT_MESSAGE, WireFault};
 
 /// The first byte of a ping, as in memberlist's `net.go`.
@@ -123,7 +123,7 @@ fn decode_ping(alloc: Global, body: &[u8]) -> Result<Message, WireFault>
         (IsFault (ping_after body.now)) }
 {
     let values = read_fields(alloc, body, &PING)?;
-    Ok(Message::Ping(ping_of(alloc, values)))
+    Ok(Message::Ping(ping_of(alloc, &values)?))
 }
 
 #[tactic(auto, unfolding(crate::specs::Messages::indirect_ping_after))]
@@ -132,7 +132,7 @@ fn decode_indirect_ping(alloc: Global, body: &[u8]) -> Result<Message, WireFault
         (IsFault (indirect_ping_after body.now)) }
 {
     let values = read_fields(alloc, body, &INDIRECT_PING)?;
-    Ok(Message::IndirectPing(indirect_ping_of(alloc, values)))
+    Ok(Message::IndirectPing(indirect_ping_of(alloc, &values)?))
 }
 
 #[tactic(auto, unfolding(crate::specs::Messages::ack_after))]
@@ -141,7 +141,7 @@ fn decode_ack(alloc: Global, body: &[u8]) -> Result<Message, WireFault>
         (IsFault (ack_after body.now)) }
 {
     let values = read_fields(alloc, body, &ACK)?;
-    Ok(Message::Ack(ack_of(alloc, values)))
+    Ok(Message::Ack(ack_of(alloc, &values)?))
 }
 
 #[tactic(auto, unfolding(crate::specs::Messages::nack_after))]
@@ -159,24 +159,24 @@ fn decode_error(alloc: Global, body: &[u8]) -> Result<Message, WireFault>
         (IsFault (error_after body.now)) }
 {
     let values = read_fields(alloc, body, &ERROR)?;
-    Ok(Message::Error(error_of(alloc, values)))
+    Ok(Message::Error(error_of(alloc, &values)?))
 }
 
-fn ping_of(alloc: Global, values: Values) -> Ping
-    ensures { ping_value result ≡ ping_of (slots_of values) }
+fn ping_of(alloc: Global, values: &Values) -> Result<Ping, AllocError>
+    ensures { IfOk result (λ made. ping_value made ≡ ping_of (slots_of values.now)) }
 {
     let [seq_no, node, source_addr, source_port, source_node, ..] = values;
-    Ping {
-        seq_no: long(&seq_no),
-        node: into_raw(alloc, node),
-        source_addr: into_raw(alloc, source_addr),
-        source_port: short(&source_port),
-        source_node: into_raw(alloc, source_node),
-    }
+    Ok(Ping {
+        seq_no: long(seq_no),
+        node: raw(node).to_vec(alloc)?,
+        source_addr: raw(source_addr).to_vec(alloc)?,
+        source_port: short(source_port),
+        source_node: raw(source_node).to_vec(alloc)?,
+    })
 }
 
-fn indirect_ping_of(alloc: Global, values: Values) -> IndirectPing
-    ensures { indirect_ping_value result ≡ indirect_ping_of (slots_of values) }
+fn indirect_ping_of(alloc: Global, values: &Values) -> Result<IndirectPing, AllocError>
+    ensures { IfOk result (λ made. indirect_ping_value made ≡ indirect_ping_of (slots_of values.now)) }
 {
     let [
         seq_no,
@@ -188,26 +188,26 @@ fn indirect_ping_of(alloc: Global, values: Values) -> IndirectPing
         source_port,
         source_node,
     ] = values;
-    IndirectPing {
-        seq_no: long(&seq_no),
-        target: into_raw(alloc, target),
-        port: short(&port),
-        node: into_raw(alloc, node),
-        nack: flag(&nack),
-        source_addr: into_raw(alloc, source_addr),
-        source_port: short(&source_port),
-        source_node: into_raw(alloc, source_node),
-    }
+    Ok(IndirectPing {
+        seq_no: long(seq_no),
+        target: raw(target).to_vec(alloc)?,
+        port: short(port),
+        node: raw(node).to_vec(alloc)?,
+        nack: flag(nack),
+        source_addr: raw(source_addr).to_vec(alloc)?,
+        source_port: short(source_port),
+        source_node: raw(source_node).to_vec(alloc)?,
+    })
 }
 
-fn ack_of(alloc: Global, values: Values) -> Ack
-    ensures { ack_value result ≡ ack_of (slots_of values) }
+fn ack_of(alloc: Global, values: &Values) -> Result<Ack, AllocError>
+    ensures { IfOk result (λ made. ack_value made ≡ ack_of (slots_of values.now)) }
 {
     let [seq_no, payload, ..] = values;
-    Ack {
-        seq_no: long(&seq_no),
-        payload: into_raw(alloc, payload),
-    }
+    Ok(Ack {
+        seq_no: long(seq_no),
+        payload: raw(payload).to_vec(alloc)?,
+    })
 }
 
 fn nack_of(values: &Values) -> Nack
@@ -219,11 +219,11 @@ fn nack_of(values: &Values) -> Nack
     }
 }
 
-fn error_of(alloc: Global, values: Values) -> ErrorResponse
-    ensures { result.error.items ≡ raw_in (slots_of values) 0 }
+fn error_of(alloc: Global, values: &Values) -> Result<ErrorResponse, AllocError>
+    ensures { IfOk result (λ made. made.error.items ≡ raw_in (slots_of values.now) 0) }
 {
     let [error, ..] = values;
-    ErrorResponse {
-        error: into_raw(alloc, error),
-    }
+    Ok(ErrorResponse {
+        error: raw(error).to_vec(alloc)?,
+    })
 }

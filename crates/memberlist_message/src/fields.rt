@@ -1,10 +1,10 @@
 //! The fields of a message, from a map or an array.
 
-ghost use Rattle.std.specs.Prelude.{◌≡◌, ◌<◌, ◌≤◌, ℕ, List, Ok, length, MatchResult, IfSome};
+ghost use Rattle.std.specs.Prelude.{◌≡◌, ◌<◌, ◌≤◌, ℕ, List, Ok, length, MatchResult, OnOk, IfSome};
 ghost use Rattle.std.specs.Option.{option_map};
 ghost use Rattle.memberlist_message.specs.Reading.{IsFault, without_rest, in_map, in_list, fields_at, fields_of, pairs_at, pair_at, elements_at, place_of, slot_at, value_at};
 ghost use Rattle.memberlist_message.specs.Slots.{long_or_zero, short_or_zero, raw_or_empty, flag_or_false};
-ghost use Rattle.memberlist_message.specs.Values.{slot_of, slots_of};
+ghost use Rattle.memberlist_message.specs.Values.{bytes_in, slot_of, slots_of};
 ghost use Rattle.memberlist_message.specs.declared.fields.TheConstants.{SLOTS};
 
 use crate::form::{Count, Form, form_of};
@@ -12,6 +12,7 @@ use crate::heads::{next_byte, next_count, next_flag, next_number, next_text};
 use crate::layout::{Field, Kind};
 use crate::lists::next_field_bytes;
 use crate::passing::after_values;
+use crate::raw::Raw;
 use std::alloc::Global;
 use swim_wire::WireFault;
 
@@ -20,26 +21,26 @@ const SLOTS: usize = 8;
 
 /// The value of a field.
 #[derive(Drop)]
-pub(crate) enum Value {
+pub(crate) enum Value<'a> {
     Long(u32),
     Short(u16),
-    Raw(Vec<u8>),
+    Raw(Raw<'a>),
     Flag(bool),
 }
 
 /// The values of the fields, each at the index of its field in the layout. One that was not read is
 /// zero.
-pub(crate) type Values = [Option<Value>; SLOTS];
+pub(crate) type Values<'a> = [Option<Value<'a>>; SLOTS];
 
 /// Reads the fields of a message from the value at the start of the bytes: a map of them by their
 /// names, an array of them in memberlist's order, or nil, which leaves all zero (go-msgpack's
 /// `kStruct`). What is behind the value is left.
 #[tactic(auto, unfolding(crate::specs::Reading::fields_at))]
-pub(crate) fn read_fields(
+pub(crate) fn read_fields<'a>(
     alloc: Global,
-    bytes: &[u8],
+    bytes: &'a [u8],
     layout: &[Field],
-) -> Result<Values, WireFault>
+) -> Result<Values<'a>, WireFault>
     requires { length layout.now ≤ SLOTS }
     ensures { MatchResult result (λ values.
         without_rest (fields_at layout.now bytes.now) ≡ Ok (slots_of values))
@@ -51,12 +52,12 @@ pub(crate) fn read_fields(
 
 /// The fields of a message after the first byte of a value of this form.
 #[tactic(auto, unfolding(crate::specs::Reading::fields_of))]
-fn fields_of(
+fn fields_of<'a>(
     alloc: Global,
-    bytes: &[u8],
+    bytes: &'a [u8],
     form: Option<Form>,
     layout: &[Field],
-) -> Result<Values, WireFault>
+) -> Result<Values<'a>, WireFault>
     requires { length layout.now ≤ SLOTS }
     ensures { MatchResult result (λ values.
         without_rest (fields_of layout.now form bytes.now) ≡ Ok (slots_of values))
@@ -72,12 +73,12 @@ fn fields_of(
 
 /// The fields in a map, from its count on.
 #[tactic(auto, unfolding(crate::specs::Reading::in_map))]
-fn fields_in_map(
+fn fields_in_map<'a>(
     alloc: Global,
-    bytes: &[u8],
+    bytes: &'a [u8],
     count: Count,
     layout: &[Field],
-) -> Result<Values, WireFault>
+) -> Result<Values<'a>, WireFault>
     requires { length layout.now ≤ SLOTS }
     ensures { MatchResult result (λ values.
         without_rest (in_map layout.now count bytes.now) ≡ Ok (slots_of values))
@@ -91,12 +92,12 @@ fn fields_in_map(
 
 /// The fields in an array, from its count on.
 #[tactic(auto, unfolding(crate::specs::Reading::in_list))]
-fn fields_in_list(
+fn fields_in_list<'a>(
     alloc: Global,
-    bytes: &[u8],
+    bytes: &'a [u8],
     count: Count,
     layout: &[Field],
-) -> Result<Values, WireFault>
+) -> Result<Values<'a>, WireFault>
     requires { length layout.now ≤ SLOTS }
     ensures { MatchResult result (λ values.
         without_rest (in_list layout.now count bytes.now) ≡ Ok (slots_of values))
@@ -114,9 +115,10 @@ fn read_pairs<'a>(
     bytes: &'a [u8],
     pairs: u32,
     layout: &[Field],
-    values: &mut Values,
+    values: &mut Values<'a>,
 ) -> Result<&'a [u8], WireFault>
-    requires { length layout.now ≤ SLOTS }
+    requires fits { length layout.now ≤ SLOTS }
+    requires long { length values.old ≡ SLOTS }
     ensures { MatchResult result (λ rest. pairs_at layout.now pairs (slots_of values.old) bytes.now
         ≡ Ok (slots_of values.new, rest.now))
         (IsFault (pairs_at layout.now pairs (slots_of values.old) bytes.now)) }
@@ -133,12 +135,14 @@ fn read_pair<'a>(
     alloc: Global,
     bytes: &'a [u8],
     layout: &[Field],
-    values: &mut Values,
+    values: &mut Values<'a>,
 ) -> Result<&'a [u8], WireFault>
-    requires { length layout.now ≤ SLOTS }
-    ensures { MatchResult result (λ rest. pair_at layout.now (slots_of values.old) bytes.now
+    requires fits { length layout.now ≤ SLOTS }
+    requires long { length values.old ≡ SLOTS }
+    ensures exact { MatchResult result (λ rest. pair_at layout.now (slots_of values.old) bytes.now
         ≡ Ok (slots_of values.new, rest.now))
         (IsFault (pair_at layout.now (slots_of values.old) bytes.now)) }
+    ensures kept { OnOk result (length values.new ≡ length values.old) }
 {
     let (key, rest) = next_text(bytes)?;
     match place_of(layout, key) {
@@ -154,9 +158,10 @@ fn read_elements<'a>(
     bytes: &'a [u8],
     elements: u32,
     layout: &[Field],
-    values: &mut Values,
+    values: &mut Values<'a>,
 ) -> Result<&'a [u8], WireFault>
-    requires { length layout.now ≤ SLOTS }
+    requires fits { length layout.now ≤ SLOTS }
+    requires long { length values.old ≡ SLOTS }
     ensures { MatchResult result (λ rest.
         elements_at layout.now 0 elements (slots_of values.old) bytes.now
         ≡ Ok (slots_of values.new, rest.now))
@@ -188,13 +193,15 @@ fn read_slot<'a>(
     alloc: Global,
     bytes: &'a [u8],
     kind: Kind,
-    values: &mut Values,
+    values: &mut Values<'a>,
     place: usize,
 ) -> Result<&'a [u8], WireFault>
-    requires { place < SLOTS }
-    ensures { MatchResult result (λ rest. slot_at kind (slots_of values.old) place bytes.now
+    requires fits { place < SLOTS }
+    requires long { length values.old ≡ SLOTS }
+    ensures exact { MatchResult result (λ rest. slot_at kind (slots_of values.old) place bytes.now
         ≡ Ok (slots_of values.new, rest.now))
         (IsFault (slot_at kind (slots_of values.old) place bytes.now)) }
+    ensures kept { OnOk result (length values.new ≡ length values.old) }
 {
     let old = values[place].take();
     let (value, rest) = next_field(alloc, bytes, kind, old)?;
@@ -204,15 +211,15 @@ fn read_slot<'a>(
 
 /// The value of a field of this kind over its earlier one, and the bytes after it.
 #[tactic(auto, unfolding(crate::specs::Reading::value_at))]
-fn next_field(
+fn next_field<'a>(
     alloc: Global,
-    bytes: &[u8],
+    bytes: &'a [u8],
     kind: Kind,
-    old: Option<Value>,
-) -> Result<(Value, &[u8]), WireFault>
-    ensures { MatchResult result (λ read. value_at kind (option_map slot_of old) bytes.now
+    old: Option<Value<'a>>,
+) -> Result<(Value<'a>, &'a [u8]), WireFault>
+    ensures { MatchResult result (λ read. value_at kind (option_map slot_of old.entry) bytes.now
         ≡ Ok (slot_of read.0, read.1.now))
-        (IsFault (value_at kind (option_map slot_of old) bytes.now)) }
+        (IsFault (value_at kind (option_map slot_of old.entry) bytes.now)) }
 {
     match kind {
         Kind::Uint32 => {
@@ -225,10 +232,10 @@ fn next_field(
         }
         Kind::Text => {
             let (text, rest) = next_text(bytes)?;
-            Ok((Value::Raw(text.to_vec(alloc)?), rest))
+            Ok((Value::Raw(Raw::Part(text)), rest))
         }
         Kind::Bytes => {
-            let (raw, rest) = next_field_bytes(alloc, bytes, into_raw(alloc, old))?;
+            let (raw, rest) = next_field_bytes(alloc, bytes, earlier(old))?;
             Ok((Value::Raw(raw), rest))
         }
         Kind::Flag => {
@@ -259,22 +266,22 @@ pub(crate) fn short(value: &Option<Value>) -> u16
 }
 
 /// The text or bytes, or none if none were read.
-pub(crate) fn raw(value: &Option<Value>) -> &[u8]
+pub(crate) fn raw<'a>(value: &'a Option<Value>) -> &'a [u8]
     ensures { result.now ≡ raw_or_empty (option_map slot_of value.now) }
 {
     match value {
-        Some(Value::Raw(bytes)) => bytes,
+        Some(Value::Raw(bytes)) => bytes.bytes(),
         _ => &[],
     }
 }
 
-/// The text or bytes, or none if none were read.
-pub(crate) fn into_raw(alloc: Global, value: Option<Value>) -> Vec<u8>
-    ensures { result.items ≡ raw_or_empty (option_map slot_of value) }
+/// The text or bytes that were read earlier, or none.
+fn earlier<'a>(value: Option<Value<'a>>) -> Raw<'a>
+    ensures { bytes_in result ≡ raw_or_empty (option_map slot_of value.entry) }
 {
     match value {
         Some(Value::Raw(bytes)) => bytes,
-        _ => Vec::new(alloc),
+        _ => Raw::Part(&[]),
     }
 }
 

@@ -17,6 +17,7 @@
 //! | `lists` | bytes written as a list of numbers |
 //! | `layout` | the fields of each message, in memberlist's order |
 //! | `fields` | the fields of a message, from a map or an array |
+//! | `raw` | the text or bytes of a field |
 //! | `claims` | the packets of messages that make claims |
 //! | `pairs` | maps as they are written |
 //! | `laws` | what holds for messages, independent of any code |
@@ -36,6 +37,7 @@ mod message;
 mod pairs;
 mod parts;
 mod passing;
+mod raw;
 #[cfg(test)]
 mod tests;
 

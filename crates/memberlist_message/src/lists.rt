@@ -2,9 +2,11 @@
 
 ghost use Rattle.std.specs.Prelude.{◌≡◌, ◌+◌, ◌≤◌, ◌++◌, ◌∷◌, Ok, length, take, drop, MatchResult, OnOk};
 ghost use Rattle.memberlist_message.specs.Reading.{field_bytes_at, bytes_of, raw_over, numbers_over, IsFault};
+ghost use Rattle.memberlist_message.specs.Values.{bytes_in};
 
 use crate::form::{Count, Form, form_of};
 use crate::heads::{next_byte, next_bytes, next_count, next_number};
+use crate::raw::Raw;
 use std::alloc::{AllocError, Global};
 use swim_wire::WireFault;
 
@@ -12,14 +14,14 @@ use swim_wire::WireFault;
 /// which leave the earlier ones if they are empty; nil, which empties the field; a list of numbers
 /// of at most 255, or a map of twice as many, over the first of the earlier bytes.
 #[tactic(auto, unfolding(crate::specs::Reading::field_bytes_at))]
-pub(crate) fn next_field_bytes(
+pub(crate) fn next_field_bytes<'a>(
     alloc: Global,
-    bytes: &[u8],
-    old: Vec<u8>,
-) -> Result<(Vec<u8>, &[u8]), WireFault>
+    bytes: &'a [u8],
+    old: Raw<'a>,
+) -> Result<(Raw<'a>, &'a [u8]), WireFault>
     ensures { MatchResult result
-        (λ read. field_bytes_at old.items bytes.now ≡ Ok (read.0.items, read.1.now))
-        (IsFault (field_bytes_at old.items bytes.now)) }
+        (λ read. field_bytes_at (bytes_in old.entry) bytes.now ≡ Ok (bytes_in read.0, read.1.now))
+        (IsFault (field_bytes_at (bytes_in old.entry) bytes.now)) }
 {
     let (first, rest) = next_byte(bytes)?;
     bytes_of(alloc, rest, form_of(first), old)
@@ -27,26 +29,26 @@ pub(crate) fn next_field_bytes(
 
 /// The bytes of a field after the first byte of a value of this form.
 #[tactic(auto, unfolding(crate::specs::Reading::bytes_of))]
-fn bytes_of(
+fn bytes_of<'a>(
     alloc: Global,
-    bytes: &[u8],
+    bytes: &'a [u8],
     form: Option<Form>,
-    old: Vec<u8>,
-) -> Result<(Vec<u8>, &[u8]), WireFault>
+    old: Raw<'a>,
+) -> Result<(Raw<'a>, &'a [u8]), WireFault>
     ensures { MatchResult result
-        (λ read. bytes_of old.items form bytes.now ≡ Ok (read.0.items, read.1.now))
-        (IsFault (bytes_of old.items form bytes.now)) }
+        (λ read. bytes_of (bytes_in old.entry) form bytes.now ≡ Ok (bytes_in read.0, read.1.now))
+        (IsFault (bytes_of (bytes_in old.entry) form bytes.now)) }
 {
     match form {
-        Some(Form::Nil) => Ok((Vec::new(alloc), bytes)),
-        Some(Form::Text(count) | Form::Bytes(count)) => raw_over(alloc, bytes, count, old),
+        Some(Form::Nil) => Ok((Raw::Part(&[]), bytes)),
+        Some(Form::Text(count) | Form::Bytes(count)) => raw_over(bytes, count, old),
         Some(Form::List(count)) => {
             let (numbers, rest) = next_count(bytes, count)?;
-            numbers_over(rest, u64::from(numbers), old)
+            made_over(alloc, rest, u64::from(numbers), old)
         }
         Some(Form::Map(count)) => {
             let (pairs, rest) = next_count(bytes, count)?;
-            numbers_over(rest, 2 * u64::from(pairs), old)
+            made_over(alloc, rest, 2 * u64::from(pairs), old)
         }
         Some(Form::Plain(_) | Form::Extension(_)) | None => Err(WireFault::NotRaw),
     }
@@ -54,22 +56,37 @@ fn bytes_of(
 
 /// Text or bytes, or the earlier ones if they are empty.
 #[tactic(auto, unfolding(crate::specs::Reading::raw_over))]
-fn raw_over(
-    alloc: Global,
-    bytes: &[u8],
+fn raw_over<'a>(
+    bytes: &'a [u8],
     count: Count,
-    old: Vec<u8>,
-) -> Result<(Vec<u8>, &[u8]), WireFault>
+    old: Raw<'a>,
+) -> Result<(Raw<'a>, &'a [u8]), WireFault>
     ensures { MatchResult result
-        (λ read. raw_over old.items count bytes.now ≡ Ok (read.0.items, read.1.now))
-        (IsFault (raw_over old.items count bytes.now)) }
+        (λ read. raw_over (bytes_in old.entry) count bytes.now ≡ Ok (bytes_in read.0, read.1.now))
+        (IsFault (raw_over (bytes_in old.entry) count bytes.now)) }
 {
     let (len, rest) = next_count(bytes, count)?;
     if len == 0 {
         return Ok((old, rest));
     }
     let (text, rest) = next_bytes(rest, len as usize)?;
-    Ok((text.to_vec(alloc)?, rest))
+    Ok((Raw::Part(text), rest))
+}
+
+/// The bytes of the next `count` numbers, over the first of the earlier ones.
+fn made_over<'a>(
+    alloc: Global,
+    bytes: &'a [u8],
+    count: u64,
+    old: Raw<'a>,
+) -> Result<(Raw<'a>, &'a [u8]), WireFault>
+    ensures { MatchResult result
+        (λ read. numbers_over (bytes_in old.entry) count bytes.now ≡ Ok (bytes_in read.0, read.1.now))
+        (IsFault (numbers_over (bytes_in old.entry) count bytes.now)) }
+{
+    let old = old.into_vec(alloc)?;
+    let (made, rest) = numbers_over(bytes, count, old)?;
+    Ok((Raw::Made(made), rest))
 }
 
 /// The bytes with the next `count` numbers written over the first of them.

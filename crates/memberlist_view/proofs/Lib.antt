@@ -7,3 +7,5 @@ pub mod Known
 pub mod Staying
 pub mod Since
 pub mod Forgetting
+mod Fronts
+mod Words

@@ -5,3 +5,4 @@ pub mod Rules
 pub mod Shown
 pub mod Sources
 pub mod Told
+pub mod Prefix

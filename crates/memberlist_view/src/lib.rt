@@ -20,6 +20,7 @@ mod event;
 mod heard;
 pub mod laws;
 mod member_name;
+mod prefix;
 mod rivals;
 #[cfg(test)]
 mod tests;
@@ -31,4 +32,4 @@ pub use event::Event;
 pub use heard::{Heard, Said};
 pub use member_name::MemberName;
 pub use rivals::Rivals;
-pub use view::View;
+pub use view::{Changed, View};

@@ -6,10 +6,15 @@ ghost use Rattle.std.specs.Cmp.{partial_equiv_from_equiv, partial_order_from_agr
 ghost use Rattle.std.specs.Cmp.Lexicographic.{slice_cmp};
 ghost use Rattle.std.proofs.lemmas.Cmp.{eq_by_cmp_equiv, nat_list_cmp_total};
 
+use crate::prefix::Prefix;
+use byteorder::{BigEndian, ByteOrder};
 use std::alloc::{AllocError, Global};
 use std::cmp::Ordering;
 use std::marker::Model;
 use swim_claim::Name;
+
+/// How many bytes are compared as one number.
+const WORD: usize = 8;
 
 /// The name of a member, as a key of a view.
 ///
@@ -17,14 +22,19 @@ use swim_claim::Name;
 #[derive(Drop, Debug)]
 pub struct MemberName {
     name: Name,
+    // compared before the name itself
+    prefix: Prefix,
 }
 
 impl Model for MemberName {
     ghost use Rattle.std.specs.Prelude.{ℕ, List};
+    ghost use Rattle.memberlist_view.specs.Prefix.{IsPrefixOf};
 
     ghost Value = { List ℕ };
 
     ghost view = { λ m. m.name };
+
+    ghost invariant = { λ m. IsPrefixOf m.prefix m.name };
 }
 
 impl MemberName {
@@ -32,7 +42,8 @@ impl MemberName {
     pub fn new(name: Name) -> MemberName
         ensures { result ≡ name }
     {
-        MemberName { name }
+        let prefix = Prefix::new(name.bytes());
+        MemberName { name, prefix }
     }
 
     /// The name, 1 to 1,024 bytes.
@@ -48,6 +59,7 @@ impl MemberName {
     {
         Ok(MemberName {
             name: self.name.try_clone(alloc)?,
+            prefix: self.prefix,
         })
     }
 }
@@ -87,6 +99,26 @@ impl Ord for MemberName {
     ghost matches_eq = { λ _ _. refl };
 
     fn cmp(&self, other: &MemberName) -> Ordering {
-        self.name.bytes().cmp(other.name.bytes())
+        match self.prefix.order(&other.prefix) {
+            Ordering::Less => Ordering::Less,
+            Ordering::Equal => order(self.name.bytes(), other.name.bytes()),
+            Ordering::Greater => Ordering::Greater,
+        }
     }
+}
+
+/// How the bytes of two names compare, eight at a time as numbers, since names often begin alike.
+fn order(one: &[u8], other: &[u8]) -> Ordering
+    ensures { result ≡ slice_cmp nat_cmp one.now other.now }
+{
+    let (mut one, mut other) = (one, other);
+    while WORD <= one.len() && WORD <= other.len() {
+        let (word, another) = (BigEndian::read_u64(one), BigEndian::read_u64(other));
+        if word != another {
+            return word.cmp(&another);
+        }
+        one = &one[WORD..];
+        other = &other[WORD..];
+    }
+    one.cmp(other)
 }

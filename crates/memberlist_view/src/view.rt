@@ -1,9 +1,10 @@
 //! The view of all names.
 
-ghost use Rattle.std.specs.Prelude.{◌≡◌, ◌↔◌, ◌+◌, ◌<◌, ◌^◌, ◌++◌, ◌∷◌, [], not, List, length, slice_get, IsSome, IfOk, OnOk, OnErr, IsTrue};
+ghost use Rattle.std.specs.Prelude.{◌≡◌, ◌↔◌, ◌+◌, ◌<◌, ◌^◌, ◌++◌, ◌∷◌, [], not, List, length, slice_get, IsSome, IfSome, IfOk, OnOk, OnErr, IsTrue};
 ghost use Rattle.std.specs.BTreeMap.{insert_entry};
 ghost use Rattle.std.specs.Option.{option_copied, option_map};
 ghost use Rattle.memberlist_view.specs.declared.heard.Heard.{Heard};
+ghost use Rattle.memberlist_view.specs.Heard.{about};
 ghost use Rattle.memberlist_view.specs.Member.{about_others, entries_above, heeded, is_dropped, is_known, member_event_of, member_view_after, view_without_dropped};
 ghost use Rattle.memberlist_view.specs.Rules.{name_cmp};
 ghost use Rattle.memberlist_view.specs.Told.{entry_of, change_of, event_of, view_after, IsViewOf};
@@ -17,6 +18,15 @@ use std::alloc::{AllocError, Global};
 use std::collections::{BTreeMap, btree_map};
 use std::marker::Model;
 use std::ops::Bound;
+
+/// What changed in a view.
+#[derive(Drop, Debug)]
+pub struct Changed {
+    /// What changed.
+    pub event: Event,
+    /// What the view showed for the name before.
+    pub before: Option<Entry>,
+}
 
 /// What a member of a cluster that heard these messages at these times would show, by memberlist's
 /// `state.go`, if it only listens and says nothing.
@@ -66,6 +76,29 @@ impl View {
         ensures err { OnErr result (self.new ≡ self.old) }
         ensures asks { OnErr result (IsSome (event_of self.old heard.now)) }
     {
+        match self.hear_over(heard) {
+            Ok(changed) => Ok(event_in(changed)),
+            Err(error) => Err(error),
+        }
+    }
+
+    /// The same as [`View::hear`], and what the view showed for the name before.
+    ///
+    /// # Errors
+    ///
+    /// Those of [`View::hear`].
+    pub fn hear_over(&mut self, heard: &Heard) -> Result<Option<Changed>, AllocError>
+        ensures event { IfOk result (λ changed.
+            option_map (λ c. c.event) changed ≡ event_of self.old heard.now) }
+        ensures before { IfOk result (λ changed. IfSome changed (λ c.
+            c.before ≡ entry_of self.old (about heard.now.said))) }
+        ensures step { OnOk result (self.new ≡ view_after self.old heard.now) }
+        ensures view { OnOk result ((past : List Heard) → IsViewOf self.old past
+            → IsViewOf self.new (past ++ heard.now ∷ [])) }
+
+        ensures err { OnErr result (self.new ≡ self.old) }
+        ensures asks { OnErr result (IsSome (event_of self.old heard.now)) }
+    {
         self.take(heard)
     }
 
@@ -102,8 +135,11 @@ impl View {
         }
     }
 
-    fn take(&mut self, heard: &Heard) -> Result<Option<Event>, AllocError>
-        ensures event { IfOk result (λ event. event ≡ event_of self.old heard.now) }
+    fn take(&mut self, heard: &Heard) -> Result<Option<Changed>, AllocError>
+        ensures event { IfOk result (λ changed.
+            option_map (λ c. c.event) changed ≡ event_of self.old heard.now) }
+        ensures before { IfOk result (λ changed. IfSome changed (λ c.
+            c.before ≡ entry_of self.old (about heard.now.said))) }
         ensures step { OnOk result (self.new ≡ view_after self.old heard.now) }
         ensures err { OnErr result (self.new ≡ self.old) }
         ensures asks { OnErr result (IsSome (change_of self.old heard.now)) }
@@ -114,19 +150,20 @@ impl View {
             return Ok(None);
         };
         let name = name.try_clone(self.alloc)?;
-        self.put(name, entry)?;
-        Ok(Some(event))
+        let before = self.put(name, entry)?;
+        Ok(Some(Changed { event, before }))
     }
 
-    /// Shows this entry for the name.
-    fn put(&mut self, name: MemberName, entry: Entry) -> Result<(), AllocError>
+    /// Shows this entry for the name, and returns the one that was shown before.
+    fn put(&mut self, name: MemberName, entry: Entry) -> Result<Option<Entry>, AllocError>
+        ensures old { IfOk result (λ before. before ≡ entry_of self.old name) }
         ensures ok { OnOk result (self.new ≡ record self.old {
           entries = insert_entry name_cmp self.old.entries name entry;
         }) }
         ensures err { OnErr result (self.new ≡ self.old) }
     {
         match self.entries.insert(name, entry) {
-            Ok(_) => Ok(()),
+            Ok(before) => Ok(before),
             Err(_) => Err(AllocError),
         }
     }
@@ -198,5 +235,15 @@ impl View {
         ensures { IsTrue result ↔ (self.now.entries ≡ []) }
     {
         self.entries.is_empty()
+    }
+}
+
+/// The event of a change.
+fn event_in(changed: Option<Changed>) -> Option<Event>
+    ensures { result ≡ option_map (λ c. c.event) changed }
+{
+    match changed {
+        Some(changed) => Some(changed.event),
+        None => None,
     }
 }

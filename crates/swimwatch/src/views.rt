@@ -201,11 +201,15 @@ impl<'a> Views<'a> {
             self.out.push_str(&seat.watch.out)?;
             seat.watch.out.clear();
             for news in &seat.watch.news {
-                let printed = self.printed.get(&news.key).copied().unwrap_or(0);
-                if printed < news.nth {
-                    self.out.push_str(&news.line)?;
+                if let Some(printed) = self.printed.get_mut(&news.key) {
+                    if news.nth <= *printed {
+                        continue;
+                    }
+                    *printed = news.nth;
+                } else {
                     self.printed.insert(news.key.clone()?, news.nth)?;
                 }
+                self.out.push_str(&news.line)?;
             }
             seat.watch.news.clear();
         }

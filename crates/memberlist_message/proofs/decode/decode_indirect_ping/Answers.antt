@@ -1,4 +1,4 @@
-use Rattle.std.proofs.Common.{Ok, Result, ap}
+use Rattle.std.proofs.Common.{Ok, Result, ap, refl}
 use Rattle.std.proofs.lemmas.Result.{err_from_is_err_and}
 use Rattle.swim_wire.specs.declared.fault.WireFault.{WireFault}
 use Rattle.memberlist_message.specs.Claims.{and_then}
@@ -14,3 +14,7 @@ returns-in_err-values c =
     rw (p.1, p.2)
     (fault_of _ _ _ (λ e. ap (λ (r : Result Slots WireFault). and_then r (λ slots. Ok (MessageValue.indirect_ping (indirect_ping_of slots)))) e)
     c.in_err-values.ensures)
+
+pub returns : goal.returns
+unfolding indirect_ping_after
+returns c = rw c.in_ok-values.ensures (rw c.in_ok-indirect_ping_of.ensures refl)

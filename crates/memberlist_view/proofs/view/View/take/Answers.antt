@@ -6,7 +6,7 @@ use Rattle.memberlist_view.specs.declared.heard.Heard.{Heard}
 use Rattle.memberlist_view.specs.Heard.{about}
 use Rattle.memberlist_view.specs.Rules.{Change, name_cmp, change}
 use Rattle.memberlist_view.specs.Shown.{told}
-use Rattle.memberlist_view.specs.Told.{Entries, ViewValue, entry_at, entries_with, change_of, view_after}
+use Rattle.memberlist_view.specs.Told.{Entries, ViewValue, entry_at, entry_of, entries_with, change_of, view_after}
 use Rattle.memberlist_view.proofs.view.View.take.Goals as goal
 
 -- a change of what is found by the name
@@ -39,12 +39,16 @@ returns-in_err-name-clause-asks c =
     on_err c.from_residual-in_err-name.result _
     (subst IsSome (changed c.args.self.now c.args.heard.now c.self.inside.wait c.self.inside.entries.entries c.name-name.result.now _ (Some (c.in-Some.entry, c.in-Some.event)) (sym c.self.view_is) c.name-name.ensures c.get.ensures.value (sym c.in-Some.is ∙ c.in_ok-entry.ensures.ok)) refl)
 
-pub returns-in_err-put-clause-asks : goal.returns-in_err-put-clause-asks
-returns-in_err-put-clause-asks c =
-    on_err c.from_residual-in_err-put.result _
+pub returns-in_err-before-clause-asks : goal.returns-in_err-before-clause-asks
+returns-in_err-before-clause-asks c =
+    on_err c.from_residual-in_err-before.result _
     (subst IsSome (changed c.args.self.now c.args.heard.now c.self.inside.wait c.self.inside.entries.entries c.name-name.result.now _ (Some (c.in-Some.entry, c.in-Some.event)) (sym c.self.view_is) c.name-name.ensures c.get.ensures.value (sym c.in-Some.is ∙ c.in_ok-entry.ensures.ok)) refl)
 
 pub returns-clause-step : goal.returns-clause-step
 returns-clause-step c =
     after c.args.self.now c.put.new.self c.args.heard.now c.in_ok-name.name c.in-Some.entry c.in-Some.event (c.in_ok-name.ensures ∙ c.name-name.ensures)
-    (changed c.args.self.now c.args.heard.now c.self.inside.wait c.self.inside.entries.entries c.name-name.result.now _ _ (sym c.self.view_is) c.name-name.ensures c.get.ensures.value (sym c.in-Some.is ∙ c.in_ok-entry.ensures.ok)) c.in_ok-put.ensures.ok
+    (changed c.args.self.now c.args.heard.now c.self.inside.wait c.self.inside.entries.entries c.name-name.result.now _ _ (sym c.self.view_is) c.name-name.ensures c.get.ensures.value (sym c.in-Some.is ∙ c.in_ok-entry.ensures.ok)) c.in_ok-before.ensures.ok
+
+pub returns-clause-before : goal.returns-clause-before
+returns-clause-before c =
+    c.in_ok-before.ensures.old ∙ ap (entry_of c.args.self.now) (c.in_ok-name.ensures ∙ c.name-name.ensures)

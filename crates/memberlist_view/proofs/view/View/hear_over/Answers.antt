@@ -4,7 +4,7 @@ use Rattle.memberlist_view.specs.Rules.{Change}
 use Rattle.memberlist_view.specs.Shown.{told}
 use Rattle.memberlist_view.specs.Told.{IsViewOf, change_of}
 use Rattle.memberlist_view.proofs.Viewing.{IsViewOf-after}
-use Rattle.memberlist_view.proofs.view.View.hear.Goals as goal
+use Rattle.memberlist_view.proofs.view.View.hear_over.Goals as goal
 
 pub returns-clause-view : goal.returns-clause-view
 returns-clause-view c =
