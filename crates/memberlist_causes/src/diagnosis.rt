@@ -4,7 +4,7 @@
 use crate::evidence::Evidence;
 use crate::facts::Facts;
 use crate::groups::{cut_off_together, partition};
-use crate::members::add;
+use crate::members::order;
 use crate::numbers::began_anew;
 use crate::rules::told;
 use crate::scene::Scene;
@@ -12,6 +12,7 @@ use crate::subject::{Subject, span_of};
 use crate::trouble::{Of, Trouble};
 use crate::{Case, Cause, Member};
 use std::alloc::AllocError;
+use std::collections::{BTreeMap, BTreeSet};
 
 /// How many members are told of one scene at most (own).
 const MOST: usize = 3;
@@ -20,6 +21,16 @@ const MOST: usize = 3;
 const ANEW_BEFORE: u64 = 12_000_000;
 
 const ANEW_AFTER: u64 = 8_000_000;
+
+/// How much the failed probes tell of a member that they touch: what counts most comes first.
+#[derive(Clone, Copy, PartialEq, Eq, PartialOrd, Ord)]
+struct Rank {
+    touched: u64,
+    others: u64,
+    /// The more probes of it were answered, the less this is.
+    unanswered: u64,
+    probed: u64,
+}
 
 /// What explains the probes without an answer that were sent between these times.
 pub(crate) fn diagnose(facts: &Facts, begin: u64, last: u64) -> Result<Vec<Trouble>, AllocError> {
@@ -95,20 +106,63 @@ fn touching<'a>(
 /// answered fewer, then the one that was probed more.
 fn most_touched(scene: &Scene, cases: &[&Case]) -> Result<Option<Member>, AllocError> {
     let mut best = None;
-    for (member, touched) in &scene.touched(cases)? {
-        let others = others_of(scene, cases, *member)?;
-        let answered = probes_of(&scene.good, *member);
-        let probed = probes_of(cases, *member);
-        let rank = (*touched, others.len(), u64::MAX - answered, probed);
+    for (member, rank) in &ranks(scene, cases)? {
         let is_better = match best {
-            Some((other, _)) => other < rank,
+            Some((other, _)) => other < *rank,
             None => true,
         };
         if is_better {
-            best = Some((rank, *member));
+            best = Some((*rank, *member));
         }
     }
     Ok(best.map(|(_, member)| member))
+}
+
+/// The rank of each member that one of the probes touches.
+fn ranks(scene: &Scene, cases: &[&Case]) -> Result<BTreeMap<Member, Rank>, AllocError> {
+    let mut ranks = BTreeMap::new(scene.facts.alloc);
+    for (member, touched) in &scene.touched(cases)? {
+        ranks.insert(
+            *member,
+            Rank {
+                touched: *touched,
+                others: 0,
+                unanswered: u64::MAX,
+                probed: 0,
+            },
+        )?;
+    }
+    for (member, _) in &pairs(scene, cases)? {
+        if let Some(rank) = ranks.get_mut(member) {
+            rank.others = rank.others.saturating_add(1);
+        }
+    }
+    for case in &scene.good {
+        if let Some(rank) = ranks.get_mut(&case.target) {
+            rank.unanswered = rank.unanswered.saturating_sub(1);
+        }
+    }
+    for case in cases {
+        if let Some(rank) = ranks.get_mut(&case.target) {
+            rank.probed = rank.probed.saturating_add(1);
+        }
+    }
+    Ok(ranks)
+}
+
+/// Each member that one of the probes touches, with each other end of these.
+fn pairs(scene: &Scene, cases: &[&Case]) -> Result<Vec<(Member, Member)>, AllocError> {
+    let mut pairs = Vec::new(scene.facts.alloc);
+    for case in cases {
+        for member in [case.prober, case.target] {
+            if case.touches(member) {
+                pairs.push((member, case.other(member)))?;
+            }
+        }
+    }
+    pairs.sort_unstable();
+    pairs.dedup();
+    Ok(pairs)
 }
 
 /// The other ends of the probes that touch the member.
@@ -116,15 +170,11 @@ fn others_of(scene: &Scene, cases: &[&Case], member: Member) -> Result<Vec<Membe
     let mut others = Vec::new(scene.facts.alloc);
     for case in cases {
         if case.touches(member) {
-            add(&mut others, case.other(member))?;
+            others.push(case.other(member))?;
         }
     }
+    order(&mut others);
     Ok(others)
-}
-
-/// How many of these probes are of the member.
-fn probes_of(cases: &[&Case], member: Member) -> u64 {
-    cases.iter().filter(|case| case.target == member).count() as u64
 }
 
 /// What is told of the member by those of the probes that touch it.
@@ -144,7 +194,8 @@ fn trouble_of<'a>(
     if others.len() == 1 && cause.is_of_ways() {
         cause = Cause::LossBetween;
         let mut pair = others;
-        add(&mut pair, member)?;
+        pair.push(member)?;
+        order(&mut pair);
         of = Of::Several(pair);
     }
     let mut trouble = Trouble::new(alloc, (first, scene.end), of, cause, &mine)?;
@@ -159,8 +210,12 @@ fn look_for_restart(facts: &Facts, trouble: &mut Trouble) -> Result<(), AllocErr
     }
     let from = trouble.begin.saturating_sub(ANEW_BEFORE);
     let to = trouble.until.saturating_add(ANEW_AFTER);
+    let mut seen = BTreeSet::new(facts.alloc);
     for (prober, target) in &trouble.legs {
         for member in [*prober, *target] {
+            if !seen.insert(member)? {
+                continue;
+            }
             if let Some(numbers) = began_anew(facts, member, from, to) {
                 trouble.cause = Cause::Restarted;
                 trouble.of = Of::One(member);

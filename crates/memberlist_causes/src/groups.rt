@@ -1,12 +1,13 @@
 //! Several members in trouble at once.
 
-use crate::members::add;
+use crate::members::{has, order};
 use crate::scene::Scene;
 use crate::trouble::{Of, Trouble};
 use crate::{Case, Cause, Evidence, Member, Tried};
 use memberlist_probes::{Explanation, Outcome};
 use std::alloc::{AllocError, Global};
 use std::collections::BTreeMap;
+use std::mem;
 
 /// How long after the first failed probe answered ones tell who hears whom (own), in microseconds.
 const AFTER: u64 = 1_000_000;
@@ -14,78 +15,130 @@ const AFTER: u64 = 1_000_000;
 /// How long before the last one (own).
 const BEFORE: u64 = 500_000;
 
+/// Members that answered probes join, in no order.
+#[derive(Drop)]
+struct Group {
+    /// By what groups are in order.
+    label: u32,
+    members: Vec<Member>,
+}
+
 /// The members in groups: answered probes join those of one group.
 #[derive(Drop)]
 struct Groups {
-    /// The number of the group of each member.
-    labels: BTreeMap<Member, u32>,
+    alloc: Global,
+    /// The index of the group of each member.
+    places: BTreeMap<Member, usize>,
+    /// Those that are joined to others have no members any more.
+    all: Vec<Group>,
 }
 
 impl Groups {
     /// Each member that one of the probes touches, in a group of its own.
     fn apart(alloc: Global, scene: &Scene) -> Result<Groups, AllocError> {
-        let mut labels = BTreeMap::new(alloc);
+        let mut groups = Groups {
+            alloc,
+            places: BTreeMap::new(alloc),
+            all: Vec::new(alloc),
+        };
         for case in scene.bad.iter().chain(scene.good.iter()) {
-            for member in [case.prober, case.target] {
-                let label = u32::try_from(labels.len()).unwrap_or(u32::MAX);
-                if !labels.contains_key(&member) {
-                    labels.insert(member, label)?;
-                }
-            }
+            groups.add(case.prober)?;
+            groups.add(case.target)?;
         }
-        Ok(Groups { labels })
+        Ok(groups)
     }
 
-    /// Joins the groups of two members.
-    fn join(&mut self, one: Member, other: Member) {
-        let (Some(kept), Some(lost)) = (self.label(one), self.label(other)) else {
-            return;
+    /// Adds a member in a group of its own, unless it is in one.
+    fn add(&mut self, member: Member) -> Result<(), AllocError> {
+        if self.places.contains_key(&member) {
+            return Ok(());
+        }
+        let place = self.all.len();
+        let label = u32::try_from(place).unwrap_or(u32::MAX);
+        let mut members = Vec::new(self.alloc);
+        members.push(member)?;
+        self.all.push(Group { label, members })?;
+        self.places.insert(member, place)?;
+        Ok(())
+    }
+
+    /// Joins the groups of two members. The label of the first one's group stays.
+    fn join(&mut self, one: Member, other: Member) -> Result<(), AllocError> {
+        let (Some(kept), Some(lost)) = (self.place(one), self.place(other)) else {
+            return Ok(());
         };
         if kept == lost {
-            return;
+            return Ok(());
         }
-        for label in self.labels.values_mut() {
-            if *label == lost {
-                *label = kept;
+        let label = self
+            .all
+            .get(kept)
+            .map(|group| group.label)
+            .unwrap_or(u32::MAX);
+        // The members of the smaller group move, so that each moves few times.
+        let (from, to) = if self.size(kept) < self.size(lost) {
+            (kept, lost)
+        } else {
+            (lost, kept)
+        };
+        self.pour(from, to)?;
+        if let Some(group) = self.all.get_mut(to) {
+            group.label = label;
+        }
+        Ok(())
+    }
+
+    /// Moves the members of one group into another.
+    fn pour(&mut self, from: usize, to: usize) -> Result<(), AllocError> {
+        let Some(group) = self.all.get_mut(from) else {
+            return Ok(());
+        };
+        let members = mem::replace(&mut group.members, Vec::new(self.alloc));
+        for member in &members {
+            self.places.insert(*member, to)?;
+            if let Some(group) = self.all.get_mut(to) {
+                group.members.push(*member)?;
             }
         }
+        Ok(())
     }
 
     /// Joins the prober and those that it asked and that said what came of it.
-    fn join_helpers(&mut self, case: &Case) {
+    fn join_helpers(&mut self, case: &Case) -> Result<(), AllocError> {
         for asked in &case.asked {
             if asked.has_nacked || asked.has_reached {
-                self.join(case.prober, asked.member);
+                self.join(case.prober, asked.member)?;
             }
         }
+        Ok(())
     }
 
-    fn label(&self, member: Member) -> Option<u32> {
-        self.labels.get(&member).copied()
+    fn place(&self, member: Member) -> Option<usize> {
+        self.places.get(&member).copied()
+    }
+
+    /// How many members are in a group.
+    fn size(&self, place: usize) -> usize {
+        match self.all.get(place) {
+            Some(group) => group.members.len(),
+            None => 0,
+        }
     }
 
     /// Whether a probe goes from one group to another.
     fn is_crossed(&self, case: &Case) -> bool {
-        self.label(case.prober) != self.label(case.target)
+        self.place(case.prober) != self.place(case.target)
     }
 
-    /// The groups of two members and more.
-    fn large(&self, alloc: Global) -> Result<Vec<Vec<Member>>, AllocError> {
-        let mut groups: BTreeMap<u32, Vec<Member>> = BTreeMap::new(alloc);
-        for (member, label) in &self.labels {
-            if let Some(group) = groups.get_mut(label) {
-                group.push(*member)?;
-                continue;
-            }
-            let mut group = Vec::new(alloc);
-            group.push(*member)?;
-            groups.insert(*label, group)?;
-        }
-        let mut large = Vec::new(alloc);
-        for _ in 0..groups.len() {
-            match groups.pop_first() {
-                Some((_, group)) if group.len() >= 2 => large.push(group)?,
-                _ => {}
+    /// The groups of two members and more, by their labels.
+    fn large(mut self) -> Result<Vec<Vec<Member>>, AllocError> {
+        self.all.sort_unstable_by_key(|group| group.label);
+        let mut large = Vec::new(self.alloc);
+        for group in self.all {
+            let mut members = group.members;
+            if members.len() >= 2 {
+                members.sort_unstable();
+                large.push(members)?;
             }
         }
         Ok(large)
@@ -101,18 +154,18 @@ pub(crate) fn partition(scene: &Scene) -> Result<Option<Trouble>, AllocError> {
     let to = scene.last.saturating_sub(BEFORE);
     for case in &scene.good {
         if from <= case.time && case.time <= to {
-            groups.join(case.prober, case.target);
+            groups.join(case.prober, case.target)?;
         }
     }
     for case in &scene.bad {
-        groups.join_helpers(case);
+        groups.join_helpers(case)?;
     }
     let failed = scene.bad.len() as u64;
     let counts = scene.touched(&scene.bad)?;
     let is_of_one = counts.values().any(|count| failed.saturating_mul(9)
         <= count.saturating_mul(10));
-    let large = groups.large(alloc)?;
     let is_crossing = scene.bad.iter().all(|case| groups.is_crossed(case));
+    let large = groups.large()?;
     if large.len() < 2 || is_of_one || !is_crossing {
         return Ok(None);
     }
@@ -133,7 +186,7 @@ pub(crate) fn cut_off_together(scene: &Scene) -> Result<Option<Trouble>, AllocEr
     let silent = silent_targets(scene, from)?;
     let mut of_them = Vec::new(alloc);
     for case in &scene.bad {
-        if silent.contains(&case.target) {
+        if has(&silent, case.target) {
             of_them.push(*case)?;
         }
     }
@@ -144,16 +197,18 @@ pub(crate) fn cut_off_together(scene: &Scene) -> Result<Option<Trouble>, AllocEr
     let mut by = Vec::new(alloc);
     for case in &of_them {
         if case.is_seen {
-            add(&mut by, case.prober)?;
+            by.push(case.prober)?;
         }
     }
+    order(&mut by);
     let mut heard = Vec::new(alloc);
     for case in &scene.good {
         let is_between = from < case.time && case.time < scene.last;
-        if is_between && !silent.contains(&case.target) && by.contains(&case.prober) {
-            add(&mut heard, case.target)?;
+        if is_between && !has(&silent, case.target) && has(&by, case.prober) {
+            heard.push(case.target)?;
         }
     }
+    order(&mut heard);
     if heard.is_empty() && !only_point_hears(scene, from) {
         return Ok(None);
     }
@@ -172,13 +227,17 @@ pub(crate) fn cut_off_together(scene: &Scene) -> Result<Option<Trouble>, AllocEr
 /// The members whose probes failed, of which nothing was heard, and at which nothing was captured.
 fn silent_targets(scene: &Scene, from: u64) -> Result<Vec<Member>, AllocError> {
     let facts = scene.facts;
-    let mut silent = Vec::new(facts.alloc);
+    let mut failed = Vec::new(facts.alloc);
     for case in &scene.bad {
-        let member = case.target;
-        let is_failed = case.outcome == Outcome::Failed;
-        let is_heard = facts.is_heard(member, from, scene.last);
-        if is_failed && !facts.is_captured(member) && !is_heard {
-            add(&mut silent, member)?;
+        if case.outcome == Outcome::Failed {
+            failed.push(case.target)?;
+        }
+    }
+    order(&mut failed);
+    let mut silent = Vec::new(facts.alloc);
+    for member in failed {
+        if !facts.is_captured(member) && !facts.is_heard(member, from, scene.last) {
+            silent.push(member)?;
         }
     }
     Ok(silent)

@@ -8,18 +8,15 @@ use std::net::{IpAddr, SocketAddr};
 #[derive(Clone, Copy, Debug, PartialEq, Eq, PartialOrd, Ord)]
 pub struct Member(u32);
 
-/// Adds a member to some in their order, unless it is among them.
-///
-/// # Errors
-///
-/// `AllocError` if out of memory.
-pub(crate) fn add(members: &mut Vec<Member>, member: Member) -> Result<(), AllocError> {
-    if members.contains(&member) {
-        return Ok(());
-    }
-    let later = members.iter().position(|other| member < *other);
-    let place = later.unwrap_or(members.len());
-    members.insert(place, member).map_err(AllocError::from)
+/// Puts members into their order, each once.
+pub(crate) fn order(members: &mut Vec<Member>) {
+    members.sort_unstable();
+    members.dedup();
+}
+
+/// Whether a member is among some that are in their order.
+pub(crate) fn has(members: &[Member], member: Member) -> bool {
+    members.binary_search(&member).is_ok()
 }
 
 /// The most members (own). Others are left out.

@@ -1,7 +1,7 @@
 //! Which cause is told of a member: a list of rules, of which the first that holds decides.
 
 use crate::evidence::{Evidence, Numbers};
-use crate::members::add;
+use crate::members::order;
 use crate::subject::Subject;
 use crate::ways::ways;
 use crate::{Case, Cause, Member, Way};
@@ -59,8 +59,9 @@ fn counts(subject: &Subject, evidence: &mut Vec<Evidence>) -> Result<(), AllocEr
     if to > 0 {
         let mut by = Vec::new(alloc);
         for case in &subject.to {
-            add(&mut by, case.prober)?;
+            by.push(case.prober)?;
         }
+        order(&mut by);
         evidence.push(Evidence::ProbesOfIt {
             failed: to,
             all: to.saturating_add(subject.good_to.len() as u64),
@@ -85,9 +86,10 @@ fn unseen(subject: &Subject, evidence: &mut Vec<Evidence>, is_own: bool) -> Resu
     for case in &subject.unseen {
         if (case.prober == subject.member) == is_own {
             probes = probes.saturating_add(1);
-            add(&mut with, case.other(subject.member))?;
+            with.push(case.other(subject.member))?;
         }
     }
+    order(&mut with);
     if probes > 0 {
         evidence.push(Evidence::Unseen {
             is_own,
@@ -151,9 +153,10 @@ fn answers(subject: &Subject, evidence: &mut Vec<Evidence>) -> Result<(), AllocE
         let mut to = Vec::new(alloc);
         for case in &subject.to {
             if case.is_later_than(timeout) {
-                add(&mut to, case.prober)?;
+                to.push(case.prober)?;
             }
         }
+        order(&mut to);
         evidence.push(Evidence::LateFromIt {
             answers: subject.late_from.len(),
             by,

@@ -3,7 +3,7 @@
 use crate::facts::Facts;
 use crate::{Case, Member};
 use std::alloc::AllocError;
-use std::collections::BTreeMap;
+use std::collections::{BTreeMap, BTreeSet};
 
 /// How long before the first failed probe answered ones count (own), in microseconds.
 const BEFORE: u64 = 500_000;
@@ -49,23 +49,28 @@ impl<'a> Scene<'a> {
             good: Vec::new(facts.alloc),
             left: Vec::new(facts.alloc),
         };
+        let mut left = BTreeSet::new(facts.alloc);
         for leave in &facts.episodes.leaves {
             let is_timely = begin.saturating_sub(LEFT_BEFORE) <= leave.time && leave.time <= end;
-            if is_timely && !scene.left.contains(&leave.of) {
+            if is_timely && left.insert(leave.of)? {
                 scene.left.push(leave.of)?;
             }
         }
         for case in &facts.cases {
-            scene.take(case)?;
+            scene.take(case, &left)?;
         }
         Ok(scene)
     }
 
-    /// Takes a probe in, if it belongs to it.
-    fn take(&mut self, case: &'a Case) -> Result<(), AllocError> {
+    /// Takes a probe in, if it belongs to it. `left` has the members that left.
+    fn take(&mut self, case: &'a Case, left: &BTreeSet<Member>) -> Result<(), AllocError> {
         let time = case.time;
         if case.is_bad() && self.begin <= time && time <= self.last {
-            if self.left.iter().any(|member| case.touches(*member)) {
+            let ends = [case.prober, case.target];
+            if ends
+                .iter()
+                .any(|end| case.touches(*end) && left.contains(end))
+            {
                 self.leaving.push(case)?;
             } else {
                 self.bad.push(case)?;

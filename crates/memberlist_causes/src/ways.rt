@@ -1,7 +1,7 @@
 //! Which way between a member and others is in trouble.
 
 use crate::evidence::Evidence;
-use crate::members::add;
+use crate::members::{has, order};
 use crate::subject::Subject;
 use crate::{Case, Cause, Member, Way};
 use memberlist_probes::Explanation;
@@ -96,20 +96,23 @@ fn hit_and_not(subject: &Subject, evidence: &mut Vec<Evidence>) -> Result<bool, 
     let member = subject.member;
     let mut hit = Vec::new(alloc);
     for case in subject.to.iter().chain(subject.from.iter()) {
-        add(&mut hit, case.other(member))?;
+        hit.push(case.other(member))?;
     }
+    order(&mut hit);
     let mut answered = Vec::new(alloc);
     for case in subject.good_to.iter().chain(subject.good_from.iter()) {
-        add(&mut answered, case.other(member))?;
+        answered.push(case.other(member))?;
     }
+    order(&mut answered);
     let through = helpers(subject)?;
     let only_hit = without(subject, &hit, &answered)?;
     let mut not = without(subject, &answered, &hit)?;
     for helper in &through {
-        if !hit.contains(helper) {
-            add(&mut not, *helper)?;
+        if !has(&hit, *helper) {
+            not.push(*helper)?;
         }
     }
+    order(&mut not);
     let is_some = !only_hit.is_empty() && !not.is_empty() && subject.failed() >= 4;
     if is_some {
         evidence.push(Evidence::Hit { hit: only_hit, not })?;
@@ -134,14 +137,15 @@ fn helpers(subject: &Subject) -> Result<Vec<Member>, AllocError> {
     for case in &subject.to {
         for asked in &case.asked {
             if asked.has_reached {
-                add(&mut through, asked.member)?;
+                through.push(asked.member)?;
             }
         }
     }
+    order(&mut through);
     Ok(through)
 }
 
-/// The members of one list that are not in another.
+/// The members of one list that are not in another. Both are in their order.
 fn without(
     subject: &Subject,
     members: &[Member],
@@ -149,7 +153,7 @@ fn without(
 ) -> Result<Vec<Member>, AllocError> {
     let mut left = Vec::new(subject.facts.alloc);
     for member in members {
-        if !others.contains(member) {
+        if !has(others, *member) {
             left.push(*member)?;
         }
     }
