@@ -17,7 +17,7 @@ pub record ToldText : Type 0 where
 
 abbrev pub told_text : Told → ToldText
 told_text t =
-    record { claim = t.claim; from = t.from.items; is_record = t.is_record; joins = t.joins }
+    record { claim = t.claim.now; from = t.from.now; is_record = t.is_record; joins = t.joins }
 
 -- what a packet says
 abbrev pub packet_told : PacketValue → ToldText

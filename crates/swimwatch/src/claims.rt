@@ -43,7 +43,7 @@ pub(crate) fn write_claim(
 
 /// Adds who says so, or the address and the tags of an Alive.
 fn write_cause(text: &mut String, told: &Told) -> Result<(), AllocError> {
-    match &told.claim {
+    match told.claim {
         Claim::Alive { details, .. } => write_place_and_meta(text, details),
         Claim::Leave { .. } => Ok(()),
         Claim::Suspect { .. } | Claim::Confirm { .. } => {
@@ -51,7 +51,7 @@ fn write_cause(text: &mut String, told: &Told) -> Result<(), AllocError> {
                 return Ok(());
             }
             text.push_str(" by ")?;
-            write_name(text, &told.from)
+            write_name(text, told.from)
         }
     }
 }

@@ -1,7 +1,7 @@
 //! Which member is at an address.
 
 use crate::endpoint::endpoint;
-use memberlist_view::{MemberName, View};
+use memberlist_view::{Entry, MemberName, View};
 use std::alloc::{AllocError, Global};
 use std::collections::BTreeMap;
 use std::net::{IpAddr, SocketAddr};
@@ -74,7 +74,12 @@ impl Directory {
 
 /// The endpoint of a member in a view.
 pub(crate) fn place_of(view: &View, name: &MemberName) -> Option<SocketAddr> {
-    let place = view.get(name)?.place()?;
+    place_in(view.get(name)?)
+}
+
+/// The endpoint of the member that an entry is about.
+pub(crate) fn place_in(entry: &Entry) -> Option<SocketAddr> {
+    let place = entry.place()?;
     endpoint(place.addr(), place.port())
 }
 

@@ -305,7 +305,7 @@ pub(crate) fn write_told(
     object.word("state", kind_word(told.claim.kind()))?;
     object.number("incarnation", u64::from(told.claim.inc()))?;
     if !told.from.is_empty() {
-        object.escaped("by", &told.from)?;
+        object.escaped("by", told.from)?;
     }
     if let Some(details) = told.claim.details() {
         object.details(details)?;

@@ -4,9 +4,9 @@ ghost use Rattle.std.specs.Prelude.{◌≡◌, IfOk, OnOk, OnErr};
 ghost use Rattle.memberlist_view.specs.declared.heard.Heard.{Heard};
 ghost use Rattle.memberlist_view.specs.Told.{event_of, view_after};
 
-use crate::directory::{Directory, place_of};
+use crate::directory::{Directory, place_in, place_of};
 use crate::texts::name_text;
-use memberlist_view::{Entry, Event, Heard, MemberName, View};
+use memberlist_view::{Changed, Entry, Event, Heard, MemberName, View};
 use std::alloc::{AllocError, Global};
 use std::net::SocketAddr;
 use swim_claim::Name;
@@ -39,13 +39,15 @@ impl Listener {
         ensures event { IfOk result (λ event. event ≡ event_of self.old.view heard.now) }
         ensures view { OnOk result (self.new.view ≡ view_after self.old.view heard.now) }
     {
-        let name = heard.said.name();
-        let before = place_of(&self.view, name);
-        let event = self.view.hear(heard)?;
-        if event.is_some() {
-            self.note_place(name, before)?;
-        }
-        Ok(event)
+        let Some(Changed { event, before }) = self.view.hear_over(heard)? else {
+            return Ok(None);
+        };
+        let before = match &before {
+            Some(entry) => place_in(entry),
+            None => None,
+        };
+        self.note_place(heard.said.name(), before)?;
+        Ok(Some(event))
     }
 
     /// Notes where a member is now. `before` is where it was.

@@ -22,7 +22,8 @@ pub(crate) fn write_readable(
     let mut rest = bytes;
     for _ in 0..bytes.len() {
         let len = printable_len(rest);
-        let Some((shown, behind)) = rest.split_at_checked(len.max(1)) else {
+        let size = len.max(ascii_len(rest)).max(1);
+        let Some((shown, behind)) = rest.split_at_checked(size) else {
             break;
         };
         if len > 0 {
@@ -33,6 +34,11 @@ pub(crate) fn write_readable(
         rest = behind;
     }
     Ok(())
+}
+
+/// How many ASCII characters there are at the start.
+fn ascii_len(bytes: &[u8]) -> usize {
+    bytes.iter().take_while(|byte| byte.is_ascii()).count()
 }
 
 /// How many bytes the character at the start has, if it is not ASCII and is printable; otherwise 0.

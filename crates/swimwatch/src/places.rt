@@ -13,19 +13,26 @@ const MAX_PLACES: usize = 65_536;
 #[derive(Drop)]
 pub(crate) struct Places {
     alloc: Global,
+    /// Whether anything is noted.
+    is_asked: bool,
     heard: BTreeMap<(Vec<u8>, SocketAddr), u64>,
 }
 
 impl Places {
-    pub(crate) fn new(alloc: Global) -> Places {
+    /// Notes addresses if they are shown.
+    pub(crate) fn new(alloc: Global, is_asked: bool) -> Places {
         Places {
             alloc,
+            is_asked,
             heard: BTreeMap::new(alloc),
         }
     }
 
     /// Notes the address of an Alive.
     pub(crate) fn note(&mut self, claim: &Claim, time: u64) -> Result<(), AllocError> {
+        if !self.is_asked {
+            return Ok(());
+        }
         let Claim::Alive { name, details, .. } = claim else {
             return Ok(());
         };

@@ -80,6 +80,24 @@ struct Source<'a> {
     is_done: bool,
 }
 
+impl<'a> Source<'a> {
+    /// Opens the capture.
+    // apart, since a function that has a buffer of a capture pays for it at each call
+    #[inline(never)]
+    fn open(&mut self, limit: Limit<'a>) -> Result<(), Failure> {
+        let input = open(limit, &self.word)?;
+        self.reading = Reading::begin(limit, &self.word, input)?;
+        Ok(())
+    }
+
+    /// Closes the capture at its end.
+    #[inline(never)]
+    fn close(&mut self) {
+        self.reading = None;
+        self.is_done = true;
+    }
+}
+
 /// Whose turn it is: the capture with this index, whose next record was captured at this time. A
 /// record without a time comes first. If two have the same time, the first capture comes first.
 #[derive(Clone, Copy, PartialEq, Eq, PartialOrd, Ord)]
@@ -164,14 +182,10 @@ impl<'a> Sources<'a> {
         let Some(Reverse(turn)) = self.turns.peek() else {
             return Ok(());
         };
-        let Some(source) = self.all.get_mut(turn.place) else {
-            return Ok(());
-        };
-        if source.reading.is_none() {
-            let input = open(self.limit, &source.word)?;
-            source.reading = Reading::begin(self.limit, &source.word, input)?;
+        match self.all.get_mut(turn.place) {
+            Some(source) if source.reading.is_none() => source.open(self.limit),
+            _ => Ok(()),
         }
-        Ok(())
     }
 
     /// The index of the capture with the earliest record, if there is one left.
@@ -225,8 +239,7 @@ impl<'a> Sources<'a> {
                 return Ok(Some(time_of(reading)));
             }
         }
-        source.reading = None;
-        source.is_done = true;
+        source.close();
         Ok(None)
     }
 }

@@ -205,7 +205,7 @@ impl Spread {
     /// The number of the piece of news that a message tells. None if it tells none, or there are
     /// too many.
     fn piece_of(&mut self, told: &Told, time: u64) -> Result<Option<usize>, AllocError> {
-        let claim = &told.claim;
+        let claim = told.claim;
         let (name, kind) = (claim.name().bytes(), claim.kind());
         let topic = (name.to_vec(self.alloc)?, claim.inc(), kind_word(kind));
         if let Some(number) = self.topics.get(&topic) {
@@ -306,9 +306,9 @@ impl Spread {
 
 /// Who is named as the one who says so: a member itself that is alive or leaves, or the accuser,
 /// which is empty if nobody is named.
-fn speaker(told: &Told) -> &[u8] {
+fn speaker<'a>(told: &Told<'a>) -> &'a [u8] {
     match told.claim.kind() {
         Kind::Alive | Kind::Leave => told.claim.name().bytes(),
-        Kind::Suspect | Kind::Confirm => &told.from,
+        Kind::Suspect | Kind::Confirm => told.from,
     }
 }

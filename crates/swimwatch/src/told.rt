@@ -10,10 +10,10 @@ use swim_wire::Packet;
 
 /// A claim, who made it, and in which kind of message it came.
 #[derive(Drop)]
-pub(crate) struct Told {
-    pub(crate) claim: Claim,
+pub(crate) struct Told<'a> {
+    pub(crate) claim: &'a Claim,
     /// Who says so; empty if nobody is named.
-    pub(crate) from: Vec<u8>,
+    pub(crate) from: &'a [u8],
     /// Whether it came in a record of a push/pull stream, rather than a packet.
     pub(crate) is_record: bool,
     /// Whether a new name joins by it: a packet's always does, a record only if it is the sender's
@@ -21,29 +21,28 @@ pub(crate) struct Told {
     pub(crate) joins: bool,
 }
 
-impl Told {
+impl<'a> Told<'a> {
     ghost use Rattle.swimwatch.specs.Told.{told_text, packet_told, record_told, heard_of};
 
     /// What a packet says.
-    pub(crate) fn of_packet(alloc: Global, packet: &Packet) -> Result<Told, AllocError>
-        ensures { IfOk result (λ told. told_text told ≡ packet_told packet.now) }
+    pub(crate) fn of_packet(packet: &'a Packet) -> Told<'a>
+        ensures { told_text result ≡ packet_told packet.now }
     {
-        let from = packet.from_name().to_vec(alloc)?;
-        Ok(Told {
-            claim: packet.claim().try_clone(alloc)?,
-            from,
+        Told {
+            claim: packet.claim(),
+            from: packet.from_name(),
             is_record: false,
             joins: true,
-        })
+        }
     }
 
     /// What a record of a stream says.
-    pub(crate) fn of_record(alloc: Global, claim: Claim, joins: bool) -> Told
-        ensures { told_text result ≡ record_told claim joins }
+    pub(crate) fn of_record(claim: &'a Claim, joins: bool) -> Told<'a>
+        ensures { told_text result ≡ record_told claim.now joins }
     {
         Told {
             claim,
-            from: Vec::new(alloc),
+            from: &[],
             is_record: true,
             joins,
         }
@@ -60,7 +59,7 @@ impl Told {
                 said: Said::of_record(claim, self.joins),
             });
         }
-        let said = Said::of_packet(alloc, claim, &self.from)?;
+        let said = Said::of_packet(alloc, claim, self.from)?;
         Ok(Heard { time, said })
     }
 }

@@ -138,7 +138,7 @@ impl<'a> Watch<'a> {
             listener: Listener::new(alloc, chosen.wait, name),
             pings: Pings::new(alloc),
             warnings: Warnings::new(alloc),
-            places: Places::new(alloc),
+            places: Places::new(alloc, shows_places(chosen.verb)),
             verb: chosen.verb,
             json: chosen.json || chosen.verb == Verb::Report,
             events: chosen.events,
@@ -284,9 +284,14 @@ impl<'a> Watch<'a> {
     {
         let heard = told.heard(self.alloc, sent.time)?;
         let event = self.take_in(&heard)?;
-        self.places.note(&told.claim, sent.time)?;
+        self.places.note(told.claim, sent.time)?;
         self.show(&sent, told, event)
     }
+}
+
+/// Whether a command shows when an address of a member was last heard.
+fn shows_places(verb: Verb) -> bool {
+    matches!(verb, Verb::Members | Verb::Report)
 }
 
 /// A copy of a name, if there is one.

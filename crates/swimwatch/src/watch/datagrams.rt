@@ -86,7 +86,7 @@ impl<'a> Watch<'a> {
         ensures { OnOk result (self.new.listener.view ≡ view_after self.old.listener.view
             (heard_of sent.time (packet_told packet.now))) }
     {
-        let told = Told::of_packet(self.alloc, packet)?;
+        let told = Told::of_packet(packet);
         self.hear(sent, &told)
     }
 

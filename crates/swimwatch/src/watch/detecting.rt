@@ -281,7 +281,7 @@ impl<'a> Watch<'a> {
                 time: sent.time,
                 name,
                 inc: told.claim.inc(),
-                by: &told.from,
+                by: told.from,
                 kind,
             })?;
         }

@@ -39,7 +39,7 @@ impl<'a> Watch<'a> {
             }
             (Verb::Dump, _) if self.is_shown(name) => self.take_claim(told),
             (_, Some(event)) => {
-                let from = told.from.as_slice();
+                let from = told.from;
                 self.show_change(sent, &Change { name, from, event })
             }
             _ => Ok(()),
@@ -131,8 +131,7 @@ impl<'a> Watch<'a> {
         }
         match (self.verb, self.json) {
             (Verb::Claims, _) => {
-                let told = Told::of_packet(self.alloc, packet)?;
-                self.show_claim(&sent, &told)
+                self.show_claim(&sent, &Told::of_packet(packet))
             }
             (Verb::Timeline | Verb::Report, is_json) if is_first && self.is_timely(sent.time) => {
                 let mut line = String::new(self.alloc);
@@ -154,17 +153,26 @@ impl<'a> Watch<'a> {
         ensures listener { self.new.listener ≡ self.old.listener }
         ensures serf { self.new.serf ≡ self.old.serf }
     {
-        let nth = match self.came.get(&key) {
-            Some(came) => came.saturating_add(1),
-            None => 1,
-        };
-        self.came.insert(key.clone()?, nth)?;
+        let nth = self.nth(&key)?;
         if self.verb == Verb::Report {
             return self.report_line(&line);
         }
         self.news
             .push(News { key, nth, line })
             .map_err(AllocError::from)
+    }
+
+    /// How often this event came, with this time.
+    fn nth(&mut self, key: &String) -> Result<u64, AllocError>
+        ensures listener { self.new.listener ≡ self.old.listener }
+        ensures serf { self.new.serf ≡ self.old.serf }
+    {
+        if let Some(came) = self.came.get_mut(key) {
+            *came = came.saturating_add(1);
+            return Ok(*came);
+        }
+        self.came.insert(key.clone()?, 1)?;
+        Ok(1)
     }
 
     /// Whether to show what is said about the member with this name.

@@ -128,7 +128,7 @@ impl<'a> Watch<'a> {
         };
         for record in records.records {
             let joins = join.has(&record.claim);
-            let told = Told::of_record(self.alloc, record.claim, joins);
+            let told = Told::of_record(&record.claim, joins);
             self.hear(sent, &told)?;
         }
         self.user_state(sent, &records.user)

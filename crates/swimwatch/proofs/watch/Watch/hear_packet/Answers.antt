@@ -7,5 +7,5 @@ use Rattle.swimwatch.proofs.watch.Watch.hear_packet.Goals as goal
 pub returns : goal.returns
 returns c =
     on_ok_weaker c.hear.result
-    (λ is. is ∙ ap (λ (t : ToldText). view_after c.args.self.now.listener.view (heard_of c.args.sent.time t)) c.in_ok-told.ensures)
+    (λ is. is ∙ ap (λ (t : ToldText). view_after c.args.self.now.listener.view (heard_of c.args.sent.time t)) c.of_packet-told.ensures)
     c.hear.ensures.view
