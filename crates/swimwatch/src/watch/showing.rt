@@ -130,9 +130,7 @@ impl<'a> Watch<'a> {
             return Ok(());
         }
         match (self.verb, self.json) {
-            (Verb::Claims, _) => {
-                self.show_claim(&sent, &Told::of_packet(packet))
-            }
+            (Verb::Claims, _) => { self.show_claim(&sent, &Told::of_packet(packet)) }
             (Verb::Timeline | Verb::Report, is_json) if is_first && self.is_timely(sent.time) => {
                 let mut line = String::new(self.alloc);
                 if is_json {
