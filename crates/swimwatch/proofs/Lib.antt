@@ -1,4 +1,3 @@
 pub mod Prefixes
 pub mod Hearing
 pub mod LeavesRead
-pub mod Warned

@@ -22,15 +22,6 @@ abbrev pub is_nil : List ℕ → Bool
 is_nil [] = true
 is_nil (b ∷ bs) = false
 
-abbrev pub is_ping : Message → Bool
-is_ping (message.Ping ping) = true
-is_ping (message.IndirectPing ping) = false
-is_ping (message.Ack ack) = false
-is_ping (message.Nack nack) = false
-is_ping (message.User bytes) = false
-is_ping (message.Error response) = false
-is_ping (message.Claim packet) = false
-
 -- whether a message is a ping that names this suspect, from this accuser, or from nobody who is
 -- named
 abbrev pub warns : List ℕ → List ℕ → Message → Bool

@@ -10,7 +10,7 @@ use crate::serf::lines::write_tally;
 use crate::serf::objects::write_tally_object;
 use crate::serf::queries::{Queries, Tally};
 use crate::traffic::Traffic;
-use crate::view_name::ViewNames;
+use crate::view_name::view_name;
 use crate::watch::Watch;
 use crate::window::Window;
 use capture::Record;
@@ -41,7 +41,6 @@ pub(crate) struct Views<'a> {
     keys: &'a Keyring,
     chosen: &'a Chosen,
     seats: Vec<Seat<'a>>,
-    names: ViewNames<'a>,
     /// The index of the view of each capture whose records came.
     seat_of: BTreeMap<usize, usize>,
     /// The time that is shown, once a record came.
@@ -71,7 +70,6 @@ impl<'a> Views<'a> {
             keys,
             chosen,
             seats: Vec::new(alloc),
-            names: ViewNames::new(alloc, &chosen.inputs),
             seat_of: BTreeMap::new(alloc),
             window: None,
             start,
@@ -107,13 +105,13 @@ impl<'a> Views<'a> {
         if let Some(nanos) = record.time {
             self.tell_queries(nanos / 1000, false)?;
         }
-        let index = self.seat(place, word)?;
-        let Some(seat) = self.seats.get_mut(index) else {
+        let seat = self.seat(place, word)?;
+        let Some(seat) = self.seats.get_mut(seat) else {
             return Ok(());
         };
         seat.watch.capture = place;
         seat.traffic.record(&mut seat.watch, record, bytes)?;
-        self.collect_from(index)
+        self.collect()
     }
 
     /// Whether listening is over, so that this record and those after it are left out.
@@ -150,11 +148,8 @@ impl<'a> Views<'a> {
         let mut best = None;
         let mut most = 0;
         for (index, seat) in self.seats.iter().enumerate() {
-            if seat.open != 0 {
-                continue;
-            }
             let alike = common(&seat.word, word);
-            if best.is_none() || most < alike {
+            if seat.open == 0 && (best.is_none() || most < alike) {
                 best = Some(index);
                 most = alike;
             }
@@ -167,7 +162,7 @@ impl<'a> Views<'a> {
             None
         } else {
             let mut name = String::new(self.alloc);
-            write_name(&mut name, self.names.name(word)?.as_bytes())?;
+            write_name(&mut name, view_name(&self.chosen.inputs, word).as_bytes())?;
             Some(name)
         };
         let index = self.seats.len();
@@ -197,36 +192,27 @@ impl<'a> Views<'a> {
         }
     }
 
-    /// Takes over what all views have to print.
+    /// Takes over what the views have to print, each event once.
     fn collect(&mut self) -> Result<(), AllocError> {
-        for index in 0..self.seats.len() {
-            self.collect_from(index)?;
-        }
-        Ok(())
-    }
-
-    /// Takes over what the view at this index has to print, each event once.
-    fn collect_from(&mut self, index: usize) -> Result<(), AllocError> {
-        let Some(seat) = self.seats.get_mut(index) else {
-            return Ok(());
-        };
-        for sighting in replace(&mut seat.watch.sightings, Vec::new(self.alloc)) {
-            self.queries.note(sighting)?;
-        }
-        self.out.push_str(&seat.watch.out)?;
-        seat.watch.out.clear();
-        for news in &seat.watch.news {
-            if let Some(printed) = self.printed.get_mut(&news.key) {
-                if news.nth <= *printed {
-                    continue;
-                }
-                *printed = news.nth;
-            } else {
-                self.printed.insert(news.key.clone()?, news.nth)?;
+        for seat in &mut self.seats {
+            for sighting in replace(&mut seat.watch.sightings, Vec::new(self.alloc)) {
+                self.queries.note(sighting)?;
             }
-            self.out.push_str(&news.line)?;
+            self.out.push_str(&seat.watch.out)?;
+            seat.watch.out.clear();
+            for news in &seat.watch.news {
+                if let Some(printed) = self.printed.get_mut(&news.key) {
+                    if news.nth <= *printed {
+                        continue;
+                    }
+                    *printed = news.nth;
+                } else {
+                    self.printed.insert(news.key.clone()?, news.nth)?;
+                }
+                self.out.push_str(&news.line)?;
+            }
+            seat.watch.news.clear();
         }
-        seat.watch.news.clear();
         Ok(())
     }
 

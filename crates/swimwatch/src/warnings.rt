@@ -1,8 +1,8 @@
 //! Suspicions that come with a ping to the suspect.
 
-ghost use Rattle.std.specs.Prelude.{◌≡◌, IfOk, map};
-ghost use Rattle.std.specs.List.{filter, list_any};
-ghost use Rattle.swimwatch.specs.Views.{is_ping, warns, is_warning};
+ghost use Rattle.std.specs.Prelude.{◌≡◌};
+ghost use Rattle.std.specs.List.{list_any};
+ghost use Rattle.swimwatch.specs.Views.{warns, is_warning};
 
 use memberlist_message::Message;
 use std::alloc::{AllocError, Global};
@@ -14,47 +14,25 @@ use swim_wire::Packet;
 /// again.
 const MAX_KNOWN: usize = 65_536;
 
-/// The pings among the messages of a datagram. Only they tell which suspicions in it are warnings,
-/// and most datagrams have one at most.
-pub(crate) fn pings_in<'a>(
-    alloc: Global,
-    messages: &'a [Message],
-) -> Result<Vec<&'a Message>, AllocError>
-    ensures { IfOk result (λ pings. map (λ p. p.now) pings.items ≡ filter is_ping messages.now) }
-{
-    let mut pings = Vec::new(alloc);
-    for message in messages {
-        if is_ping(message) {
-            pings.push(message)?;
-        }
-    }
-    Ok(pings)
-}
-
-fn is_ping(message: &Message) -> bool
-    ensures { result ≡ is_ping message.now }
-{
-    matches!(message, Message::Ping(_))
-}
-
-/// Whether a suspicion in a datagram with these pings only warns the suspect: with each ping of a
-/// member that it suspects, memberlist sends its suspicion, so that the member can refute it
-/// (state.go, `probeNode`). It says nothing to others, and the ping may be answered.
-pub(crate) fn is_warning(pings: &[&Message], packet: &Packet) -> bool
-    ensures { result ≡ is_warning (map (λ p. p.now) pings.now) packet.now }
+/// Whether a suspicion only warns the suspect: with each ping of a member that it suspects,
+/// memberlist sends its suspicion, so that the member can refute it (state.go, `probeNode`). It says
+/// nothing to others, and the ping may be answered.
+pub(crate) fn is_warning(messages: &[Message], packet: &Packet) -> bool
+    ensures { result ≡ is_warning messages.now packet.now }
 {
     let Claim::Suspect { name, .. } = packet.claim() else {
         return false;
     };
-    is_warned(pings, name.bytes(), packet.from_name())
+    is_warned(messages, name.bytes(), packet.from_name())
 }
 
-/// Whether one of the pings is to the suspect from the accuser.
-fn is_warned(pings: &[&Message], suspect: &[u8], accuser: &[u8]) -> bool
-    ensures { result ≡ list_any (λ m. warns suspect.now accuser.now m)
-        (map (λ p. p.now) pings.now) }
+/// Whether one of the messages is a ping to the suspect from the accuser.
+fn is_warned(messages: &[Message], suspect: &[u8], accuser: &[u8]) -> bool
+    ensures { result ≡ list_any (λ m. warns suspect.now accuser.now m) messages.now }
 {
-    pings.iter().any(|ping| warns(suspect, accuser, ping))
+    messages
+        .iter()
+        .any(|message| warns(suspect, accuser, message))
 }
 
 /// Whether a message is a ping to the suspect that comes from the accuser, as far as it says.

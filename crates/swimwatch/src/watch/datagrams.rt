@@ -1,6 +1,6 @@
 //! Hearing the messages of datagrams.
 
-ghost use Rattle.std.specs.Prelude.{◌≡◌, OnOk, MatchBool, map};
+ghost use Rattle.std.specs.Prelude.{◌≡◌, OnOk, MatchBool};
 ghost use Rattle.memberlist_view.specs.Told.{view_after};
 ghost use Rattle.swimwatch.specs.Told.{packet_told, heard_of};
 ghost use Rattle.swimwatch.specs.Views.{is_warning, MaySee, HearsMessage, HearsMessages};
@@ -13,7 +13,7 @@ use crate::pings::{place_at, sender_of};
 use crate::sent::Sent;
 use crate::talkers::Kind;
 use crate::told::Told;
-use crate::warnings::{is_warning, pings_in};
+use crate::warnings::is_warning;
 use memberlist_message::{Ack, Message, Ping};
 use memberlist_view::{Heard, MemberName, Said};
 use std::alloc::AllocError;
@@ -35,24 +35,18 @@ impl<'a> Watch<'a> {
         {
             count(&mut self.counts.claiming);
         }
-        let pings = pings_in(self.alloc, &read)?;
         for message in &read {
-            self.detect(sent, &pings, message)?;
+            self.detect(sent, &read, message)?;
             self.said(sent, Kind::of_message(message))?;
-            self.message(sent, &pings, message)?;
+            self.message(sent, &read, message)?;
         }
         Ok(())
     }
 
-    /// Hears a message of a datagram with these pings.
-    fn message(
-        &mut self,
-        sent: Sent,
-        pings: &[&Message],
-        message: &Message,
-    ) -> Result<(), AllocError>
-        ensures { OnOk result (HearsMessage sent.time (map (λ p. p.now) pings.now) message.now
-            self.old.listener.view self.new.listener.view) }
+    /// Hears a message of a datagram with these messages.
+    fn message(&mut self, sent: Sent, all: &[Message], message: &Message) -> Result<(), AllocError>
+        ensures { OnOk result (HearsMessage sent.time all.now message.now self.old.listener.view
+            self.new.listener.view) }
     {
         match message {
             Message::Ping(ping) => self.ping(sent, ping),
@@ -61,20 +55,20 @@ impl<'a> Watch<'a> {
                 self.see_sender(sent, name, addr, ping.source_port)
             }
             Message::Ack(ack) => self.ack(sent, ack),
-            Message::Claim(packet) => self.claim(sent, pings, packet),
+            Message::Claim(packet) => self.claim(sent, all, packet),
             Message::User(body) => self.user(sent, body),
             Message::Nack(_) | Message::Error(_) => Ok(()),
         }
     }
 
-    /// Hears a claim of a datagram with these pings, unless it is a warning.
-    fn claim(&mut self, sent: Sent, pings: &[&Message], packet: &Packet) -> Result<(), AllocError>
-        ensures { OnOk result (MatchBool (is_warning (map (λ p. p.now) pings.now) packet.now)
+    /// Hears a claim of a datagram with these messages, unless it is a warning.
+    fn claim(&mut self, sent: Sent, all: &[Message], packet: &Packet) -> Result<(), AllocError>
+        ensures { OnOk result (MatchBool (is_warning all.now packet.now)
             (self.new.listener.view ≡ self.old.listener.view)
             (self.new.listener.view ≡ view_after self.old.listener.view
             (heard_of sent.time (packet_told packet.now)))) }
     {
-        if is_warning(pings, packet) {
+        if is_warning(all, packet) {
             self.warn(sent, packet)
         } else {
             self.hear_packet(sent, packet)

@@ -193,11 +193,11 @@ impl<'a> Watch<'a> {
         Ok(())
     }
 
-    /// Takes in a message of a datagram with these pings, for what it tells of a probe.
+    /// Takes in a message of a datagram with these messages, for what it tells of a probe.
     pub(super) fn detect(
         &mut self,
         sent: Sent,
-        pings: &[&Message],
+        all: &[Message],
         message: &Message,
     ) -> Result<(), AllocError>
         ensures { self.new.listener ≡ self.old.listener }
@@ -217,7 +217,7 @@ impl<'a> Watch<'a> {
             log.claim(self.alloc, sent.time, claiming)?;
         }
         match claiming.claim() {
-            Claim::Suspect { name, inc } if !is_warning(pings, claiming) => {
+            Claim::Suspect { name, inc } if !is_warning(all, claiming) => {
                 let accusation = Accusation {
                     accuser: claiming.from_name(),
                     suspect: name.bytes(),

@@ -1,11 +1,9 @@
-use Rattle.std.specs.List.{filter}
-use Rattle.std.proofs.Common.{map, ◌≡◌, ◌<◌, ◌+◌, ◌∷◌, [], ◌++◌, List, take, length, arith, rules, subst, sym, ap, ◌∙◌}
+use Rattle.std.proofs.Common.{◌≡◌, ◌<◌, ◌+◌, ◌∷◌, [], ◌++◌, List, take, length, arith, rules, subst, sym, ap, ◌∙◌}
 use Rattle.std.proofs.lemmas.List.{take_more}
 use Rattle.memberlist_message.specs.declared.message.Message.{Message}
 use Rattle.memberlist_view.specs.Told.{ViewValue}
-use Rattle.swimwatch.specs.Views.{is_ping, HearsMessage, HearsMessages}
+use Rattle.swimwatch.specs.Views.{HearsMessage, HearsMessages}
 use Rattle.swimwatch.proofs.Hearing.{message_heard}
-use Rattle.swimwatch.proofs.Warned.{heard_by_pings}
 use Rattle.swimwatch.proofs.watch.Watch.messages.Goals as goal
 
 pub loop-message-preserved : goal.loop-message-preserved
@@ -20,7 +18,7 @@ loop-message-preserved c =
     let within : i < length items = omega arith in
     let more : take (i + 1) items ≡ take i items ++ m ∷ [] =
     take_more items i m within ∙ ap (λ (x : Message). take i items ++ x ∷ []) (sym c.message-item.is) in
-    let whole : map (λ p. p.now) c.deref-in-loop-message-2.result.now ≡ filter is_ping items = search rules in
+    let whole : c.deref-in-loop-message-2.result.now ≡ items = search rules in
     let same : c.said.new.self.listener.view ≡ mid = search rules in
     let last : HearsMessage time items m mid new =
     subst (λ (v : ViewValue). HearsMessage time items m v new) same
