@@ -127,5 +127,6 @@ END {
     out(".SH SEE ALSO\n.BR swimtab (3)")
     page = folder "/swimtab.3"
     printf ".SH CALLS\n%s", listed_groups > page
-    out(".SH SEE ALSO\n.BR swimtab (1),\n.BR swimunwrap (1)")
+    out(".SH SEE ALSO\n.BR swimtab (1),\n.BR swimunwrap (1),\n.BR swimwatch (1)")
+    out(".PP\n.I share/doc/swimtab/EMBEDDING.md\nis the guide.")
 }

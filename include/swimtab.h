@@ -11,8 +11,8 @@
  * A node is what one member of a cluster knows: who it is, and a table of all members that it has
  * heard of. The library has no sockets, timers, threads or failure detector. The program passes in
  * the bytes that it received, and sends the bytes that a call writes. docs/EMBEDDING.md is the guide;
- * docs/PROTOCOL.md has the rules, the bytes, the limits and the faults. It is for C99 and later, and for
- * C++98 and later.
+ * docs/messages.md has the rules, the bytes and the limits, and docs/faults.md the faults. It is for C99
+ * and later, and for C++98 and later.
  *
  * What every call guarantees
  *
@@ -122,7 +122,7 @@ typedef struct swimtab_details {
 /* The length of a nonce in bytes. */
 #define SWIMTAB_NONCE_LEN 12
 
-/* The status of a call: 0, the number of a fault in docs/PROTOCOL.md, or, from 64 on, a status of the
+/* The status of a call: 0, the number of a fault in docs/faults.md, or, from 64 on, a status of the
  * library itself. */
 typedef enum swimtab_status {
     SWIMTAB_DONE = 0,
@@ -851,7 +851,7 @@ swimtab_status swimtab_view_offer(const swimtab_view *view, bool join, const voi
 
 /* --------------------- statuses: the names and the meaning of statuses */
 
-/* The name of a status, as in docs/PROTOCOL.md: "Done" for 0, and "Unknown" for a number that is not in
+/* The name of a status, as in docs/faults.md: "Done" for 0, and "Unknown" for a number that is not in
  * it. The text is static. */
 const char *swimtab_fault_name(uint32_t status);
 

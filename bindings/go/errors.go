@@ -8,7 +8,7 @@ import (
 	"strings"
 )
 
-// Error says why a call was refused, by a number of docs/PROTOCOL.md. A refused call has changed nothing. Compare
+// Error says why a call was refused, by a number of docs/faults.md. A refused call has changed nothing. Compare
 // errors with errors.Is(err, swimtab.ErrEnded).
 type Error uint32
 
@@ -67,7 +67,7 @@ const (
 	ErrBadSize         Error = C.SWIMTAB_BAD_SIZE         // the linked library is older than the header
 )
 
-// Name returns the name of the fault in docs/PROTOCOL.md: "Ended".
+// Name returns the name of the fault in docs/faults.md: "Ended".
 func (e Error) Name() string {
 	return C.GoString(C.swimtab_fault_name(C.uint32_t(e)))
 }

@@ -1,7 +1,7 @@
 // Package swimtab is the membership table of a SWIM cluster, over memberlist's messages: a thin wrapper around
 // libswimtab. A Node has no sockets or timers: the program passes in the packets and streams that it received, and
 // sends those that a call writes. A View is what a member of memberlist shows, by memberlist's own rules. The
-// repository's docs/EMBEDDING.md is the guide; docs/PROTOCOL.md has the rules.
+// repository's docs/EMBEDDING.md is the guide; docs/messages.md has the rules.
 package swimtab
 
 // #include <swimtab.h>

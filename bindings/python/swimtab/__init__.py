@@ -2,7 +2,7 @@
 
 A Node has no sockets or timers: the program passes in the packets and streams that it received,
 and sends those that a call returns. A View is what a member of memberlist shows, by memberlist's
-own rules. The repository's docs/EMBEDDING.md is the guide; docs/PROTOCOL.md has the rules.
+own rules. The repository's docs/EMBEDDING.md is the guide; docs/messages.md has the rules.
 """
 
 from . import errors

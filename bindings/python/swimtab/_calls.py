@@ -94,7 +94,7 @@ for _name, (_result, _arguments) in _CALLS.items():
 
 
 def fault_name(status: int) -> str:
-    """The name of a status in docs/PROTOCOL.md."""
+    """The name of a status in docs/faults.md."""
     return str(lib.swimtab_fault_name(uint(status, 32)).decode())
 
 

@@ -1,6 +1,6 @@
 """The errors of refused calls: a class for each status of swimtab.h, by its name there.
 
-A refused call has changed nothing. docs/PROTOCOL.md has the faults, by the same numbers.
+A refused call has changed nothing. docs/faults.md has the faults, by the same numbers.
 """
 
 from typing import Any, Dict, Type

@@ -8,7 +8,7 @@ pub type Result<T> = std::result::Result<T, Error>;
 
 macro_rules! errors {
     ($($number:literal $name:ident $text:literal)*) => {
-        /// Why a call was refused: the faults of `docs/PROTOCOL.md`, by their names in `swimtab.h`. This
+        /// Why a call was refused: the faults of `docs/faults.md`, by their names in `swimtab.h`. This
         /// crate never causes `NodeThere`, `TooSmall`, `BadForm` and `BadSize`.
         #[derive(Clone, Copy, Debug, PartialEq, Eq, Hash)]
         #[non_exhaustive]
@@ -28,7 +28,7 @@ macro_rules! errors {
                 }
             }
 
-            /// The fault's number in `docs/PROTOCOL.md`, or 0 for [`NoRandom`](Error::NoRandom), which is not
+            /// The fault's number in `docs/faults.md`, or 0 for [`NoRandom`](Error::NoRandom), which is not
             /// the library's.
             ///
             /// ```

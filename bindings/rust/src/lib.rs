@@ -4,7 +4,7 @@
 //! packets and streams that it received, and sends those that a call writes. A [`View`] is what a member of
 //! memberlist shows, by memberlist's own rules. A [`Keyring`] reads packets and streams as a real cluster wraps
 //! them, and wraps those to send. A [`Probe`] is a ping or its answer. The repository's `docs/EMBEDDING.md` is
-//! the guide; `docs/PROTOCOL.md` has the rules and the faults.
+//! the guide; `docs/messages.md` has the rules, and `docs/faults.md` the faults.
 //!
 //! Make no call in a signal handler, or in the child after a fork of a process with threads.
 

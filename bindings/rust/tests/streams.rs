@@ -1,4 +1,4 @@
-//! Push/pull streams. The expected bytes are those of docs/PROTOCOL.md.
+//! Push/pull streams. The expected bytes are those of docs/messages.md.
 
 mod common;
 
