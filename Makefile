@@ -11,12 +11,15 @@
 #                   those of all crates
 #   make bench      measures what a record costs, by size and by order of the names; takes some minutes
 #   make install    copies what make built to PREFIX: the programs to bin, their man pages to
-#                   share/man/man1, the library to LIBDIR, its header to include, its man pages to
-#                   share/man/man3, and the file for pkg-config to LIBDIR/pkgconfig; it builds everything
-#                   first if nothing is built yet, so after make, root needs no kit for it
+#                   share/man/man1, their completions to the folders of bash, zsh and fish in share, the
+#                   library to LIBDIR, its header to include, its man pages to share/man/man3, the file for
+#                   pkg-config to LIBDIR/pkgconfig, and the documents and examples to share/doc/swimtab; it
+#                   builds everything first if nothing is built yet, so after make, root needs no kit for it
 #   make install-library
 #                   does the same for only the library
 #   make uninstall  removes what make install copies
+#   make dist       packs what make built: an archive and Debian's packages in build/dist; it builds only
+#                   what is missing, so after make, it needs no kit
 #   make programs   builds only the programs
 #   make library    builds only the library
 #   make clean      removes everything that was built
@@ -36,7 +39,7 @@ cmake_files := swimtab-config.cmake swimtab-config-version.cmake
 call_groups := $(shell sed -n 's/^\/\* -* \([a-z]*\): .*/\1/p' include/swimtab.h)
 VERSION := $(shell sed -n 's/^.define SWIMTAB_VERSION "\(.*\)"/\1/p' include/swimtab.h)
 
-.PHONY: all programs library run test wrong-bodies bench install install-programs install-library uninstall \
+.PHONY: all programs library run test wrong-bodies bench install install-programs install-library uninstall dist \
 	clean help kit
 
 programs := swimtab swimunwrap swimwatch
@@ -97,6 +100,13 @@ bench: build/swimbench
 prefix = $(if $(filter /%,$(PREFIX)),$(PREFIX),$(CURDIR)/$(PREFIX))
 root = $(DESTDIR)$(prefix)
 libdir = $(DESTDIR)$(LIBDIR)
+doc = $(root)/share/doc/swimtab
+bash = $(root)/share/bash-completion/completions
+zsh = $(root)/share/zsh/site-functions
+fish = $(root)/share/fish/vendor_completions.d
+documents := $(wildcard docs/*.md)
+examples := $(wildcard examples/*.*)
+c_examples := $(wildcard examples/c/*)
 
 install:
 	@ls build/swimtab build/libswimtab.a 2> /dev/null | grep -q . || $(MAKE) all
@@ -108,6 +118,14 @@ install-programs:
 	@mkdir -p '$(root)/bin' '$(root)/share/man/man1'
 	install -m 755 $(programs:%=build/%) '$(root)/bin'
 	install -m 644 $(programs:%=docs/%.1) '$(root)/share/man/man1'
+	@mkdir -p '$(bash)' '$(zsh)' '$(fish)' '$(doc)/examples/c'
+	@for program in $(programs); do \
+		install -m 644 completions/$$program.bash '$(bash)'/$$program || exit 1; done
+	install -m 644 $(programs:%=completions/_%) '$(zsh)'
+	install -m 644 $(programs:%=completions/%.fish) '$(fish)'
+	install -m 644 $(documents) '$(doc)'
+	install -m 644 $(examples) '$(doc)/examples'
+	install -m 644 $(c_examples) '$(doc)/examples/c'
 
 install-library:
 	@test -f build/libswimtab.a || $(MAKE) library
@@ -120,8 +138,8 @@ install-library:
 		install -m 755 build/libswimtab.so '$(libdir)/$(SONAME)' && \
 		ln -sf $(SONAME) '$(libdir)/libswimtab.so' && \
 		echo 'if the loader does not find $(SONAME) in $(LIBDIR), run ldconfig once as root, or set LD_LIBRARY_PATH'; fi
-	@mkdir -p '$(root)/share/doc/swimtab' '$(libdir)/cmake/swimtab'
-	install -m 644 docs/EMBEDDING.md docs/PROTOCOL.md '$(root)/share/doc/swimtab'
+	@mkdir -p '$(doc)' '$(libdir)/cmake/swimtab'
+	install -m 644 $(documents) '$(doc)'
 	@for file in $(cmake_files); do \
 		sed -e 's|@prefix@|$(prefix)|g' -e 's|@libdir@|$(LIBDIR)|g' -e 's|@version@|$(VERSION)|g' \
 			library/cmake/$$file.in > '$(libdir)/cmake/swimtab/'$$file || exit 1; done
@@ -134,8 +152,14 @@ uninstall:
 	rm -f $(programs:%='$(root)/bin/%') $(programs:%='$(root)/share/man/man1/%.1') \
 		$(patsubst %,'$(root)/share/man/man3/%.3',swimtab $(call_groups:%=swimtab-%) $(sort $(calls))) '$(root)/include/swimtab.h' \
 		'$(libdir)/libswimtab.a' '$(libdir)/libswimtab.so' '$(libdir)/$(SONAME)' '$(libdir)/pkgconfig/swimtab.pc' \
-		$(cmake_files:%='$(libdir)/cmake/swimtab/%') '$(root)/share/doc/swimtab/EMBEDDING.md' \
-		'$(root)/share/doc/swimtab/PROTOCOL.md'
+		$(cmake_files:%='$(libdir)/cmake/swimtab/%') $(programs:%='$(bash)/%') $(programs:%='$(zsh)/_%') \
+		$(programs:%='$(fish)/%.fish') $(documents:docs/%='$(doc)/%') $(examples:%='$(doc)/%') \
+		$(c_examples:%='$(doc)/%')
+	@for folder in '$(doc)/examples/c' '$(doc)/examples' '$(doc)' '$(libdir)/cmake/swimtab'; do \
+		rmdir "$$folder" 2> /dev/null || :; done
+
+dist:
+	@MAKE='$(MAKE)' packaging/dist
 
 help:
 	@sed -n 's/^#   //p' Makefile
