@@ -1,3 +1,4 @@
-pub mod Prefixes
 pub mod Hearing
 pub mod LeavesRead
+pub mod Pings
+pub mod Prefixes

@@ -1,5 +1,6 @@
 -- A push/pull stream of which some records were read.
-use Rattle.std.proofs.Common.{◌≡◌, ℕ, ◌-◌, ◌<◌, List, [], ◌∷◌, ◌++◌, length, take, Some, refl, sym, ap, ◌∙◌, append_assoc, append-nil, arith}
+use Rattle.std.proofs.Common.{◌≡◌, ℕ, ◌-◌, ◌<◌, List, [], ◌∷◌, ◌++◌, length, take, Some, refl, sym, ap, ◌∙◌}
+use Rattle.std.proofs.Common.{append_assoc, append-nil, arith}
 use Rattle.std.proofs.Math.Seq.{take-append_seam}
 use Rattle.swim_claim.specs.declared.claim.Claim.{Claim}
 use Rattle.swim_pack.specs.Composing.{UnlessFailed}
@@ -23,7 +24,8 @@ pub record ReadSome (bytes now : List ℕ) (header : Header) (claims : List Clai
   pub begun : BeginText front header claims
   pub parts : bytes ≡ front ++ now
 
-pub started : (bytes now : List ℕ) (header : Header) → ConsumesKnownText (Some bytes) (Some now) (λ b. HeaderText b header) → ReadSome bytes now header []
+pub started : (bytes now : List ℕ) (header : Header)
+    → ConsumesKnownText (Some bytes) (Some now) (λ b. HeaderText b header) → ReadSome bytes now header []
 started bytes now header taken = record {
   front = taken.0;
   begun =
@@ -39,7 +41,8 @@ one_more bytes mid now header claims c some taken = record {
   parts = some.parts ∙ ap (λ (z : List ℕ). some.front ++ z) taken.2 ∙ sym (append_assoc some.front taken.0 now);
 }
 
-pub ended : (bytes mid now : List ℕ) (header : Header) (claims : List Claim) → length claims ≡ header.nodes → ReadSome bytes mid header claims
+pub ended : (bytes mid now : List ℕ) (header : Header) (claims : List Claim) → length claims ≡ header.nodes
+    → ReadSome bytes mid header claims
     → ConsumesKnownText (Some mid) (Some now) (λ b. length b ≡ header.user_len) → BeginsWithStream bytes claims
 ended bytes mid now header claims count some taken = (
   some.front ++ taken.0,
@@ -50,7 +53,8 @@ ended bytes mid now header claims count some taken = (
 )
 
 -- what was taken behind the records is the user state
-pub ended_with : (bytes mid now : List ℕ) (header : Header) (claims : List Claim) → length claims ≡ header.nodes → ReadSome bytes mid header claims
+pub ended_with : (bytes mid now : List ℕ) (header : Header) (claims : List Claim)
+    → length claims ≡ header.nodes → ReadSome bytes mid header claims
     → ConsumesKnownText (Some mid) (Some now) (λ b. length b ≡ header.user_len) → BeginsWithState bytes claims (take header.user_len mid)
 ended_with bytes mid now header claims count some taken = (
   some.front ++ taken.0,
@@ -98,7 +102,8 @@ no_header bytes lacks claims (front, rest, join, text, parts) =
     lacks text.head (text.records ++ (text.user ++ rest)) (text.header, text.head_text)
     (parts ∙ ap (λ (z : List ℕ). z ++ rest) text.bytes ∙ in_parts text.head text.records text.user rest)
 
-pub no_record : (bytes now : List ℕ) (header : Header) (claims : List Claim) → ReadSome bytes now header claims → length claims < header.nodes
+pub no_record : (bytes now : List ℕ) (header : Header) (claims : List Claim)
+    → ReadSome bytes now header claims → length claims < header.nodes
     → ((text rest : List ℕ) → ((c : Claim) × StateText text c) → now ≡ text ++ rest → ⊥)
     → (all : List Claim) → ¬ BeginsWithStream bytes all
 no_record bytes now header claims some fewer lacks all (front, rest, join, text, parts) =

@@ -7,8 +7,8 @@ use Rattle.memberlist_message.specs.Messages.{MessageValue, message_of, message_
 use Rattle.memberlist_transport.specs.declared.in_the_clear.InTheClear.{InTheClear}
 use Rattle.memberlist_transport.specs.Unwrapped.{IsInside}
 use Rattle.memberlist_wrap.specs.Wrapping.{Unwraps}
-use Rattle.swimwatch.specs.declared.carriage.Carriage.{Carriage}
-use Rattle.swimwatch.specs.declared.carriage.Carriage.TheVariants.{Read}
+use Rattle.swimwatch.specs.declared.heard.carriage.Carriage.{Carriage}
+use Rattle.swimwatch.specs.declared.heard.carriage.Carriage.TheVariants.{Read}
 
 -- these messages, as data
 abbrev pub values : List Message → List MessageValue

@@ -3,6 +3,7 @@ pub mod Carriage
 pub mod Chart
 pub mod Datagrams
 pub mod Page
+pub mod Pinged
 pub mod Records
 pub mod Serf
 pub mod SerfState

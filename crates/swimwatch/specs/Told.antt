@@ -5,7 +5,7 @@ use Rattle.swim_wire.specs.Packet.{PacketValue}
 use Rattle.memberlist_view.specs.declared.heard.Heard.{Heard}
 use Rattle.memberlist_view.specs.declared.heard.Said.{Said}
 use Rattle.memberlist_view.specs.Heard.{accuser_of, said_in_packet, said_in_record}
-use Rattle.swimwatch.specs.declared.told.Told.{Told}
+use Rattle.swimwatch.specs.declared.heard.told.Told.{Told}
 
 -- a claim, the bytes that name who makes it, whether it is in a record of a stream, and whether a
 -- new name joins by it

@@ -1,11 +1,12 @@
 -- Which streams members merge, by the versions in their records.
-use Rattle.std.specs.Prelude.{ℕ, Bool, true, false, nat_lt, nat_le, ◌&&◌, if◌then◌else◌, List, [], length, Option, Some, None, slice_index_or}
+use Rattle.std.specs.Prelude.{ℕ, Bool, true, false, nat_lt, nat_le, ◌&&◌, if◌then◌else◌, List, [], length, Option, Some}
+use Rattle.std.specs.Prelude.{None, slice_index_or}
 use Rattle.std.specs.List.{fold, list_all}
 use Rattle.swim_claim.specs.Claim.{details_of}
 use Rattle.swim_claim.specs.Details.{DetailsValue}
 use Rattle.swim_wire.specs.declared.state_record.StateRecord.{StateRecord}
-use Rattle.swimwatch.specs.declared.versions.Range.{Range}
-use Rattle.swimwatch.specs.declared.versions.Shared.{Shared}
+use Rattle.swimwatch.specs.declared.heard.versions.Range.{Range}
+use Rattle.swimwatch.specs.declared.heard.versions.Shared.{Shared}
 
 -- the versions in details, if there are some
 abbrev pub vsn_in : Option DetailsValue → List ℕ

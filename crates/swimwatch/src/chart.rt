@@ -8,6 +8,7 @@
 //! | `page` | what surrounds the rows |
 //! | `drawing` | the rows |
 //! | `style` | colours, patterns and shapes |
+//! | `svg` | text in a picture |
 
 pub(crate) mod axis;
 mod drawing;
@@ -15,10 +16,12 @@ mod page;
 mod row;
 pub(crate) mod span;
 mod style;
+pub(crate) mod svg;
 
-use crate::change::Change;
-use crate::listener::Listener;
-use crate::sent::Sent;
+use crate::heard::sent::Sent;
+use crate::view::change::Change;
+use crate::view::directory::copy_of;
+use crate::view::listener::Listener;
 use drawing::{label_width, write_row};
 use memberlist_view::MemberName;
 use page::Page;
@@ -26,7 +29,6 @@ use row::Row;
 use span::Span;
 use std::alloc::{AllocError, Global};
 use std::collections::BTreeMap;
-use swim_claim::Name;
 
 /// What happened to each member, to be drawn.
 #[derive(Drop)]
@@ -65,19 +67,15 @@ impl Chart {
         sent: &Sent,
         change: &Change,
     ) -> Result<(), AllocError> {
-        let Some(entry) = listener.entry_of(change.name)? else {
+        let Some(entry) = listener.view.get(change.member) else {
             return Ok(());
         };
-        let Ok(name) = Name::copied(self.alloc, change.name)? else {
-            return Ok(());
-        };
-        let name = MemberName::new(name);
-        if let Some(row) = self.rows.get_mut(&name) {
+        if let Some(row) = self.rows.get_mut(change.member) {
             return row.take(sent.time, change, entry);
         }
         let mut row = Row::new(self.alloc);
         row.take(sent.time, change, entry)?;
-        self.rows.insert(name, row)?;
+        self.rows.insert(copy_of(self.alloc, change.member)?, row)?;
         Ok(())
     }
 

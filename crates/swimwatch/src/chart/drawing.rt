@@ -3,9 +3,9 @@
 use crate::chart::page::Page;
 use crate::chart::row::{Bar, Mark, Row};
 use crate::chart::style::shape;
-use crate::names::write_name;
-use crate::svg::escaped;
-use crate::texts::{event_words, name_text};
+use crate::chart::svg::escaped;
+use crate::text::names::write_name;
+use crate::text::texts::{event_words, name_text};
 use memberlist_view::MemberName;
 use std::alloc::{AllocError, Global};
 

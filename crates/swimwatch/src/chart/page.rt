@@ -3,8 +3,8 @@
 use crate::chart::axis::Ticks;
 use crate::chart::span::{Span, WIDTH};
 use crate::chart::style::{MARKS, STATES, STYLE, shape};
-use crate::moment::{write_as, write_moment};
-use crate::texts::event_words;
+use crate::text::moment::{write_as, write_moment};
+use crate::text::texts::event_words;
 use std::alloc::AllocError;
 
 /// Where the first row begins, in pixels from the top.

@@ -1,8 +1,8 @@
 //! What is drawn for a member.
 
-use crate::change::Change;
-use crate::names::write_name;
-use crate::texts::{place_text, state_word, write_rival};
+use crate::text::names::write_name;
+use crate::text::texts::{place_text, state_word, write_rival};
+use crate::view::change::Change;
 use memberlist_view::{Entry, Event};
 use std::alloc::{AllocError, Global};
 

@@ -1,0 +1,317 @@
+//! Reading several captures together, in the order of their records' times.
+
+use crate::NAME;
+use crate::input::limit::Limit;
+use crate::input::origin::{Counted, Input};
+use crate::text::said::said;
+use capture::{CaptureFault, CaptureReader, Link, Record};
+use std::alloc::Global;
+use std::cmp::Reverse;
+use std::collections::BinaryHeap;
+use swim_pack::FromRead;
+use swim_program::Failure;
+
+/// A capture that is being read.
+#[derive(Drop)]
+struct Reading<'a> {
+    inlet: Counted<FromRead<Input<'a>>>,
+    reader: CaptureReader,
+    /// The next record.
+    record: Record,
+    /// Its bytes.
+    bytes: Vec<u8>,
+}
+
+impl<'a> Reading<'a> {
+    /// Starts to read the capture that the word names. None if it has no records.
+    fn begin(
+        limit: Limit<'a>,
+        word: &str,
+        input: Input<'a>,
+    ) -> Result<Option<Reading<'a>>, Failure> {
+        let alloc = limit.rt.alloc();
+        let mut inlet = Counted::new(FromRead::new(input));
+        let mut reader = match CaptureReader::begin(alloc, &mut inlet) {
+            Ok(reader) => reader,
+            Err(CaptureFault::Cut) if limit.is_over() => return Ok(None),
+            Err(CaptureFault::Cut) => return Err(cut_header(alloc, word)),
+            Err(fault) => return Err(refused(alloc, word, 0, fault)),
+        };
+        let mut bytes = Vec::new(alloc);
+        let Some(record) = next_record(limit, word, &mut reader, &mut inlet, &mut bytes)? else {
+            return Ok(None);
+        };
+        if Link::from_number(record.link).is_none() {
+            return Err(unknown_link(alloc, word, record.link));
+        }
+        Ok(Some(Reading {
+            inlet,
+            reader,
+            record,
+            bytes,
+        }))
+    }
+
+    /// Reads the next record, and returns whether there is one.
+    fn read_on(&mut self, limit: Limit, word: &str) -> Result<bool, Failure> {
+        match next_record(
+            limit,
+            word,
+            &mut self.reader,
+            &mut self.inlet,
+            &mut self.bytes,
+        )? {
+            Some(record) => {
+                self.record = record;
+                Ok(true)
+            }
+            None => Ok(false),
+        }
+    }
+}
+
+/// A capture with records left. A file is open only from its first record's turn to its end, since a
+/// process may have some thousand files open at once. What cannot be opened again stays open.
+#[derive(Drop)]
+struct Source<'a> {
+    word: String,
+    reading: Option<Reading<'a>>,
+    /// Whether it has no records left.
+    is_done: bool,
+}
+
+impl<'a> Source<'a> {
+    /// Opens the capture.
+    // apart, since a function that has a buffer of a capture pays for it at each call
+    #[inline(never)]
+    fn open(&mut self, limit: Limit<'a>) -> Result<(), Failure> {
+        let input = open(limit, &self.word)?;
+        self.reading = Reading::begin(limit, &self.word, input)?;
+        Ok(())
+    }
+
+    /// Closes the capture at its end.
+    #[inline(never)]
+    fn close(&mut self) {
+        self.reading = None;
+        self.is_done = true;
+    }
+}
+
+/// Whose turn it is: the capture with this index, whose next record was captured at this time. A
+/// record without a time comes first. If two have the same time, the first capture comes first.
+#[derive(Clone, Copy, PartialEq, Eq, PartialOrd, Ord)]
+struct Turn {
+    time: u64,
+    place: usize,
+}
+
+/// The captures that are read together. Each that is open has one record in memory.
+#[derive(Drop)]
+pub(crate) struct Sources<'a> {
+    limit: Limit<'a>,
+    all: Vec<Source<'a>>,
+    turns: BinaryHeap<Reverse<Turn>>,
+    /// Whether more may still come in one of them: it is no file.
+    pub(crate) is_live: bool,
+}
+
+impl<'a> Sources<'a> {
+    fn new(limit: Limit<'a>) -> Sources<'a> {
+        Sources {
+            limit,
+            all: Vec::new(limit.rt.alloc()),
+            turns: BinaryHeap::new(limit.rt.alloc()),
+            is_live: false,
+        }
+    }
+
+    /// Starts to read the captures that these words name.
+    pub(crate) fn begin(limit: Limit<'a>, words: &[String]) -> Result<Sources<'a>, Failure> {
+        let mut sources = Sources::new(limit);
+        for word in words {
+            let input = open(limit, word)?;
+            let can_open_again = input.can_open_again();
+            sources.add(word, input, can_open_again)?;
+        }
+        sources.open_first()?;
+        Ok(sources)
+    }
+
+    /// Starts to read one capture, which is open.
+    pub(crate) fn of(
+        limit: Limit<'a>,
+        word: &str,
+        input: Input<'a>,
+    ) -> Result<Sources<'a>, Failure> {
+        let mut sources = Sources::new(limit);
+        sources.add(word, input, false)?;
+        Ok(sources)
+    }
+
+    /// Adds a capture, if it has records. It is closed until its turn if it can be opened again.
+    fn add(&mut self, word: &str, input: Input<'a>, can_open_again: bool) -> Result<(), Failure> {
+        let Some(reading) = Reading::begin(self.limit, word, input)? else {
+            return Ok(());
+        };
+        let time = time_of(&reading);
+        let place = self.all.len();
+        self.is_live |= !can_open_again;
+        let reading = if can_open_again { None } else { Some(reading) };
+        let word = String::from_str(self.limit.rt.alloc(), word)?;
+        if self
+            .all
+            .push(Source {
+                word,
+                reading,
+                is_done: false,
+            })
+            .is_err()
+        {
+            return Err(Failure::Memory);
+        }
+        self.wait(time, place)
+    }
+
+    /// The capture at this index waits for its turn.
+    fn wait(&mut self, time: u64, place: usize) -> Result<(), Failure> {
+        match self.turns.push(Reverse(Turn { time, place })) {
+            Ok(()) => Ok(()),
+            Err(_) => Err(Failure::Memory),
+        }
+    }
+
+    /// Opens the capture whose turn it is, if it is not open.
+    fn open_first(&mut self) -> Result<(), Failure> {
+        let Some(Reverse(turn)) = self.turns.peek() else {
+            return Ok(());
+        };
+        match self.all.get_mut(turn.place) {
+            Some(source) if source.reading.is_none() => source.open(self.limit),
+            _ => Ok(()),
+        }
+    }
+
+    /// The index of the capture with the earliest record, if there is one left.
+    pub(crate) fn place(&self) -> Option<usize> {
+        let Reverse(turn) = self.turns.peek()?;
+        Some(turn.place)
+    }
+
+    /// The word that names the capture at this index.
+    pub(crate) fn word(&self, place: usize) -> &str {
+        match self.all.get(place) {
+            Some(source) => &source.word,
+            None => "",
+        }
+    }
+
+    /// Whether the capture at this index has no records left.
+    pub(crate) fn is_done(&self, place: usize) -> bool {
+        match self.all.get(place) {
+            Some(source) => source.is_done,
+            None => true,
+        }
+    }
+
+    /// The earliest record and its bytes, if there is one left.
+    pub(crate) fn record(&self) -> Option<(Record, &[u8])> {
+        let Reverse(turn) = self.turns.peek()?;
+        let reading = self.all.get(turn.place)?.reading.as_ref()?;
+        Some((reading.record, &reading.bytes))
+    }
+
+    /// Moves on to the record after the earliest one.
+    pub(crate) fn read_on(&mut self) -> Result<(), Failure> {
+        let Some(Reverse(turn)) = self.turns.pop() else {
+            return Ok(());
+        };
+        if let Some(time) = self.next_time(turn.place)? {
+            self.wait(time, turn.place)?;
+        }
+        self.open_first()
+    }
+
+    /// Reads the next record of the capture at this index, and returns its time. At its end it is
+    /// closed.
+    fn next_time(&mut self, place: usize) -> Result<Option<u64>, Failure> {
+        let Some(source) = self.all.get_mut(place) else {
+            return Ok(None);
+        };
+        if let Some(reading) = &mut source.reading {
+            if reading.read_on(self.limit, &source.word)? {
+                return Ok(Some(time_of(reading)));
+            }
+        }
+        source.close();
+        Ok(None)
+    }
+}
+
+/// When the next record was captured.
+fn time_of(reading: &Reading) -> u64 {
+    reading.record.time.unwrap_or(0)
+}
+
+/// Opens what the word names.
+fn open<'a>(limit: Limit<'a>, word: &str) -> Result<Input<'a>, Failure> {
+    match Input::open(limit, word) {
+        Ok(input) => Ok(input),
+        Err(error) => Err(Failure::device(limit.rt.alloc(), NAME, word, &error)),
+    }
+}
+
+/// The next record, if there is one. A capture that ends in the middle of a record ends after the
+/// record before it, and a note is printed unless listening is over.
+fn next_record(
+    limit: Limit,
+    word: &str,
+    reader: &mut CaptureReader,
+    inlet: &mut Counted<FromRead<Input>>,
+    bytes: &mut Vec<u8>,
+) -> Result<Option<Record>, Failure> {
+    let start = inlet.count();
+    match reader.next(inlet, bytes) {
+        Ok(record) => Ok(record),
+        Err(CaptureFault::Cut) if limit.is_over() => Ok(None),
+        Err(CaptureFault::Cut) => {
+            let _ = eprintln!(limit.rt;
+                "{NAME}: {word}: byte {start}: the capture ends in the middle of this record, \
+                 which is left out"
+            );
+            Ok(None)
+        }
+        Err(fault) => Err(refused(limit.rt.alloc(), word, start, fault)),
+    }
+}
+
+/// The failure of a capture that is refused at the record beginning at this byte.
+fn refused(alloc: Global, word: &str, start: u64, fault: CaptureFault) -> Failure {
+    match fault {
+        CaptureFault::Memory => Failure::Memory,
+        CaptureFault::Device => said(format!(in alloc; "{NAME}: {word}: device fault"), 4),
+        _ => said(
+            format!(in alloc; "{NAME}: {word}: byte {start}: {fault}"),
+            3,
+        ),
+    }
+}
+
+/// The failure of a capture that ends before its first record could begin.
+fn cut_header(alloc: Global, word: &str) -> Failure {
+    said(
+        format!(in alloc; "{NAME}: {word}: byte 0: the header is cut short"),
+        3,
+    )
+}
+
+/// The failure of a capture whose frames come from a link type that is not read.
+fn unknown_link(alloc: Global, word: &str, link: u32) -> Failure {
+    said(
+        format!(in alloc;
+            "{NAME}: {word}: link type {link} is not supported; \
+             Ethernet, Linux cooked, raw IP and loopback are"
+        ),
+        3,
+    )
+}

@@ -1,0 +1,316 @@
+//! Listening to packets and streams.
+//!
+//! `datagrams` hears messages, `streams` connections, `serf_messages` what Serf says in both, and
+//! `intents` who leaves; `tallies` counts what senders sent; `detecting` follows their probes,
+//! `spreading` their news, `locating` their coordinates; `showing` shows what was asked for, and
+//! `reporting` all of it in one page.
+
+ghost use Rattle.std.specs.Prelude.{◌≡◌, OnOk};
+ghost use Rattle.memberlist_view.specs.Told.{view_after};
+ghost use Rattle.swimwatch.specs.Told.{told_text, heard_of};
+ghost use Rattle.swimwatch.specs.Views.{HearsDatagram};
+
+mod datagrams;
+mod detecting;
+mod intents;
+mod locating;
+mod reporting;
+mod serf_messages;
+mod showing;
+mod spreading;
+mod streams;
+mod tallies;
+
+use crate::arguments::chosen::{Chosen, Verb};
+use crate::chart::Chart;
+use crate::heard::carriage::{Carriage, carriage_of};
+use crate::heard::counts::{Counts, count};
+use crate::heard::pings::Pings;
+use crate::heard::sent::Sent;
+use crate::heard::serf::Serf;
+use crate::heard::serf::queries::Sighting;
+use crate::heard::told::Told;
+use crate::heard::warnings::Warnings;
+use crate::shown::agent_log::AgentLog;
+use crate::shown::distances::Distances;
+use crate::shown::report::Gathered;
+use crate::shown::spread::Spread;
+use crate::shown::talkers::{Kind, Talkers};
+use crate::text::moment::Clock;
+use crate::text::texts::NONE;
+use crate::text::window::Window;
+use crate::view::listener::Listener;
+use crate::view::places::Places;
+use detecting::{causes_of, detector_of};
+use memberlist_causes::Causes;
+use memberlist_cipher::split_label;
+use memberlist_keyring::Keyring;
+use memberlist_probes::Detector;
+use memberlist_transport::InTheClear;
+use memberlist_view::{Event, Heard, MemberName, Said};
+use spreading::spread_of;
+use std::alloc::{AllocError, Global};
+use std::collections::BTreeMap;
+use swim_claim::{Claim, Name};
+use swim_table::Table;
+
+/// An event to print.
+#[derive(Drop)]
+pub(crate) struct News {
+    /// None if no other view has it.
+    pub(crate) occurrence: Option<Occurrence>,
+    pub(crate) line: String,
+}
+
+/// Which event it is among those of several views.
+#[derive(Drop)]
+pub(crate) struct Occurrence {
+    /// What makes it another event than others: its kind, the member, the incarnation, and who said
+    /// so.
+    pub(crate) key: String,
+    /// How often this event came in the view so far.
+    pub(crate) nth: u64,
+}
+
+/// Listens to what members sent, and shows what was asked for.
+#[derive(Drop)]
+pub(crate) struct Watch<'a> {
+    alloc: Global,
+    keys: &'a Keyring,
+    clear: InTheClear,
+    listener: Listener,
+    pings: Pings,
+    warnings: Warnings,
+    places: Places,
+    verb: Verb,
+    json: bool,
+    /// Whether only events and queries of users are shown.
+    events: bool,
+    /// What Serf's messages say.
+    pub(crate) serf: Serf,
+    /// What was seen of queries, until it is taken.
+    pub(crate) sightings: Vec<Sighting>,
+    /// The coordinates of members, if their distances are asked for.
+    distances: Option<Distances>,
+    /// The only name to show, if there is one.
+    member: Option<Vec<u8>>,
+    /// The last moment at which something was captured, in microseconds since the start of 1970.
+    now: u64,
+    /// memberlist's `SuspicionMult`.
+    mult: u64,
+    /// The time that is shown.
+    window: Window,
+    /// The label of the only cluster to hear; empty if all are heard.
+    label: Vec<u8>,
+    talkers: Talkers,
+    chart: Chart,
+    /// What a report needs before the end.
+    gathered: Gathered,
+    table: Table,
+    pub(crate) counts: Counts,
+    /// What the failure detectors did, if that is asked for.
+    detector: Option<Detector>,
+    /// Why members were suspected, if that is asked for.
+    causes: Option<Causes>,
+    /// The logs of agents, which are held against the captures.
+    pub(crate) logs: Vec<AgentLog>,
+    /// How news spread, if that is asked for.
+    spread: Option<Spread>,
+    /// The number of the capture whose record is taken in.
+    pub(crate) capture: usize,
+    /// Whose probes are shown, and of whom.
+    pub(crate) prober: Option<Vec<u8>>,
+    pub(crate) target: Option<Vec<u8>>,
+    /// How often each event came.
+    came: BTreeMap<String, u64>,
+    /// The events that were not printed yet.
+    pub(crate) news: Vec<News>,
+    /// The other output that was not printed yet.
+    pub(crate) out: String,
+    clock: Clock,
+}
+
+impl<'a> Watch<'a> {
+    /// A view with this name, which lines show if there is one.
+    pub(crate) fn new(
+        alloc: Global,
+        keys: &'a Keyring,
+        chosen: &Chosen,
+        window: Window,
+        name: Option<String>,
+    ) -> Result<Watch<'a>, AllocError> {
+        let member = copied(alloc, &chosen.member)?;
+        Ok(Watch {
+            alloc,
+            keys,
+            clear: chosen.asking.clear,
+            listener: Listener::new(alloc, chosen.wait, name),
+            pings: Pings::new(alloc),
+            warnings: Warnings::new(alloc),
+            places: Places::new(alloc, chosen.verb.shows_places()),
+            verb: chosen.verb,
+            json: chosen.json || chosen.verb.gathers(),
+            events: chosen.events,
+            serf: Serf::new(alloc),
+            sightings: Vec::new(alloc),
+            distances: Distances::if_chosen(alloc, chosen),
+            member,
+            now: 0,
+            mult: chosen.mult,
+            window,
+            label: chosen.asking.label.to_vec(alloc)?,
+            talkers: Talkers::new(alloc, chosen.verb == Verb::Talkers),
+            chart: Chart::new(alloc),
+            gathered: Gathered::new(alloc, chosen)?,
+            table: Table::new(alloc),
+            counts: Counts::default(),
+            detector: detector_of(alloc, chosen, &window),
+            causes: causes_of(alloc, chosen),
+            logs: Vec::new(alloc),
+            spread: spread_of(alloc, chosen),
+            capture: 0,
+            prober: copied(alloc, &chosen.probing.prober)?,
+            target: copied(alloc, &chosen.probing.target)?,
+            came: BTreeMap::new(alloc),
+            news: Vec::new(alloc),
+            out: String::new(alloc),
+            clock: Clock::new(alloc),
+        })
+    }
+
+    /// The name of the view, or an empty one.
+    pub(crate) fn name(&self) -> Result<String, AllocError> {
+        match &self.listener.name {
+            Some(name) => name.clone(),
+            None => Ok(String::new(self.alloc)),
+        }
+    }
+
+    /// The last moment at which something was captured.
+    pub(crate) fn now(&self) -> u64 {
+        self.now
+    }
+
+    /// Notes that something was captured at this time.
+    fn reach(&mut self, time: u64)
+        ensures listener { self.new.listener ≡ self.old.listener }
+        ensures keys { self.new.keys ≡ self.old.keys }
+        ensures clear { self.new.clear ≡ self.old.clear }
+    {
+        self.now = time.max(self.now);
+        if self.window.shows(time) {
+            self.chart.reach(time);
+        }
+    }
+
+    /// Takes in what a datagram carried.
+    pub(crate) fn datagram(&mut self, sent: Sent, payload: &[u8]) -> Result<(), AllocError>
+        ensures hears { OnOk result (HearsDatagram self.old.clear self.old.keys.now payload.now
+            sent.time self.old.listener.view self.new.listener.view) }
+    {
+        count(&mut self.counts.datagrams);
+        self.reach(sent.time);
+        if self.verb.tells_news() {
+            self.serf.note(self.capture, &sent)?;
+        }
+        if !self.is_ours(payload) {
+            count(&mut self.counts.other_labels);
+            return Ok(());
+        }
+        match carriage_of(self.alloc, self.keys, self.clear, payload)? {
+            Carriage::Read(messages) => {
+                self.count_bytes(sent, payload.len())?;
+                self.messages(sent, messages)
+            }
+            Carriage::Closed => {
+                count(&mut self.counts.closed);
+                self.count_bytes(sent, payload.len())?;
+                self.said(sent, Kind::Unread)
+            }
+            Carriage::Unencrypted => {
+                self.counts.refuse(sent.source.ip());
+                self.count_bytes(sent, payload.len())?;
+                self.said(sent, Kind::Unread)
+            }
+            Carriage::Foreign => {
+                count(&mut self.counts.foreign);
+                Ok(())
+            }
+        }
+    }
+
+    /// Whether a datagram is of the cluster with the label, if one was given.
+    fn is_ours(&self, payload: &[u8]) -> bool {
+        if self.label.is_empty() {
+            return true;
+        }
+        match split_label(payload) {
+            Ok((label, _)) => label == self.label.as_slice(),
+            Err(_) => false,
+        }
+    }
+
+    /// Begins with the records of a table, as the member that it is from shows them: the deaths in it
+    /// are no suspicions. Nobody is named.
+    pub(crate) fn begin_with(&mut self, claims: &[Claim]) -> Result<(), AllocError> {
+        for claim in claims {
+            let said = match claim {
+                Claim::Confirm { name, inc } => Said::Dead {
+                    name: MemberName::new(name.try_clone(self.alloc)?),
+                    inc: *inc,
+                    from: Some(nobody(self.alloc)?),
+                },
+                _ => Said::of_record(claim.try_clone(self.alloc)?, false),
+            };
+            let time = self.window.begun;
+            self.listener.hear(&Heard { time, said })?;
+        }
+        Ok(())
+    }
+
+    /// Whether what was captured at this time is shown.
+    fn is_timely(&self, time: u64) -> bool {
+        self.window.shows(time)
+    }
+
+    /// Hears what was said, and returns what changed. What a member sent from an end that it leaves
+    /// stays its own.
+    fn take_in(&mut self, heard: &Heard) -> Result<Option<Event>, AllocError>
+        ensures view { OnOk result (self.new.listener.view
+            ≡ view_after self.old.listener.view heard.now) }
+    {
+        self.settle(&heard.said)?;
+        let event = self.listener.hear(heard)?;
+        if event == Some(Event::Back) {
+            self.serf.intents.returned(heard.said.name().name().bytes());
+        }
+        Ok(event)
+    }
+
+    /// Hears what a message says, and shows it.
+    fn hear(&mut self, sent: Sent, told: &Told) -> Result<(), AllocError>
+        ensures view { OnOk result (self.new.listener.view
+            ≡ view_after self.old.listener.view (heard_of sent.time (told_text told.now))) }
+    {
+        let heard = told.heard(self.alloc, sent.time)?;
+        let event = self.take_in(&heard)?;
+        self.places.note(told.claim, sent.time)?;
+        self.show(&sent, told, heard.said.name(), event)
+    }
+}
+
+/// A copy of a name, if there is one.
+fn copied(alloc: Global, name: &Option<Vec<u8>>) -> Result<Option<Vec<u8>>, AllocError> {
+    match name {
+        Some(name) => Ok(Some(name.to_vec(alloc)?)),
+        None => Ok(None),
+    }
+}
+
+/// The name that stands for nobody.
+fn nobody(alloc: Global) -> Result<MemberName, AllocError> {
+    match Name::copied(alloc, NONE.as_bytes())? {
+        Ok(name) => Ok(MemberName::new(name)),
+        Err(_) => Err(AllocError),
+    }
+}

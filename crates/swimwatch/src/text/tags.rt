@@ -1,0 +1,150 @@
+//! The tags of Serf and Consul in metadata.
+
+use crate::text::names::write_readable;
+use percent_encoding::{AsciiSet, CONTROLS, ascii_set};
+use std::alloc::{AllocError, Global};
+use std::cmp::Ordering;
+use swim_pack::{SliceInlet, raw_at_hand, read_map_len};
+
+/// The first byte of metadata that contains tags, as in Serf's `encodeTags`.
+const TAGS: u8 = 0xff;
+
+/// The most bytes of a member's metadata, and so of a key or a value.
+const MAX_META_LEN: usize = 512;
+
+/// What a line escapes in a key or a value: what it escapes in a name, and the separators of keys,
+/// values and tags.
+const ESCAPED: AsciiSet = ascii_set!(CONTROLS.add(b' ').add(b'%').add(b'=').add(b','));
+
+/// A tag of a member: a key and its value.
+#[derive(Clone, Copy)]
+pub(crate) struct Tag<'a> {
+    pub(crate) key: &'a [u8],
+    pub(crate) value: &'a [u8],
+}
+
+impl Tag<'_> {
+    /// Adds the tag, escaped, such as `role=web`.
+    pub(crate) fn write(&self, text: &mut String) -> Result<(), AllocError> {
+        write_readable(text, self.key, ESCAPED)?;
+        text.push('=')?;
+        self.write_value(text)
+    }
+
+    /// Adds its value, escaped.
+    pub(crate) fn write_value(&self, text: &mut String) -> Result<(), AllocError> {
+        write_readable(text, self.value, ESCAPED)
+    }
+}
+
+/// The tag at the start of the bytes, and the bytes after it.
+fn tag_at_hand(bytes: &[u8]) -> Option<(Tag, &[u8])> {
+    let (key, rest) = raw_at_hand(bytes, MAX_META_LEN)?;
+    let (value, rest) = raw_at_hand(rest, MAX_META_LEN)?;
+    Some((Tag { key, value }, rest))
+}
+
+/// How many tags there are in metadata, `ff` and one MessagePack map of texts, and their bytes. None
+/// if the metadata is something else.
+fn body_of(meta: &[u8]) -> Option<(u32, &[u8])> {
+    let Some((&TAGS, body)) = meta.split_first() else {
+        return None;
+    };
+    let mut inlet = SliceInlet::new(body);
+    let count = read_map_len(&mut inlet, MAX_META_LEN as u32).ok()?;
+    let start = body.len().saturating_sub(inlet.rest().len());
+    Some((count, &body[start..]))
+}
+
+/// The tags in metadata, in the order of their keys: Go writes a map in another order each time.
+/// None if the metadata is something else.
+pub(crate) fn tags_of(alloc: Global, meta: &[u8]) -> Result<Option<Vec<Tag>>, AllocError> {
+    let Some((count, bytes)) = body_of(meta) else {
+        return Ok(None);
+    };
+    match tags_in(alloc, bytes, count)? {
+        Some(mut tags) => {
+            tags.sort_by(|one: &Tag, other: &Tag| -> Ordering { one.key.cmp(other.key) })?;
+            Ok(Some(tags))
+        }
+        None => Ok(None),
+    }
+}
+
+/// This many tags, which make up all the bytes.
+fn tags_in(alloc: Global, bytes: &[u8], count: u32) -> Result<Option<Vec<Tag>>, AllocError> {
+    let mut tags = Vec::new(alloc);
+    let mut bytes = bytes;
+    for _ in 0..count {
+        let Some((tag, rest)) = tag_at_hand(bytes) else {
+            return Ok(None);
+        };
+        tags.push(tag)?;
+        bytes = rest;
+    }
+    if !bytes.is_empty() {
+        return Ok(None);
+    }
+    Ok(Some(tags))
+}
+
+/// Whether two members' metadata is the same, whatever the order of its tags.
+pub(crate) fn is_same_meta(one: &[u8], other: &[u8]) -> bool {
+    one == other || (one.len() == other.len() && has_tags_of(one, other) && has_tags_of(other, one))
+}
+
+/// Whether each tag in the second metadata is in the first.
+fn has_tags_of(one: &[u8], other: &[u8]) -> bool {
+    let (Some((count, own)), Some((others, bytes))) = (body_of(one), body_of(other)) else {
+        return false;
+    };
+    let mut bytes = bytes;
+    for _ in 0..others {
+        let Some((tag, rest)) = tag_at_hand(bytes) else {
+            return false;
+        };
+        if value_at(own, count, tag.key) != Some(tag.value) {
+            return false;
+        }
+        bytes = rest;
+    }
+    true
+}
+
+/// The value of a key among this many tags.
+fn value_at<'a>(bytes: &'a [u8], count: u32, key: &[u8]) -> Option<&'a [u8]> {
+    let mut bytes = bytes;
+    for _ in 0..count {
+        let (tag, rest) = tag_at_hand(bytes)?;
+        if tag.key == key {
+            return Some(tag.value);
+        }
+        bytes = rest;
+    }
+    None
+}
+
+/// Whether there is no metadata, or no tag in it.
+pub(crate) fn is_bare(meta: &[u8]) -> bool {
+    matches!(meta, [] | [TAGS, 0x80])
+}
+
+/// Adds metadata in readable form: tags as `dc=east,role=web`, and anything else as bytes in
+/// hexadecimal.
+pub(crate) fn write_meta(text: &mut String, meta: &[u8]) -> Result<(), AllocError> {
+    let alloc = *text.allocator();
+    match tags_of(alloc, meta)? {
+        Some(tags) => write_tags(text, &tags),
+        None => text.push_str(&hex::encode(alloc, meta)?),
+    }
+}
+
+fn write_tags(text: &mut String, tags: &[Tag]) -> Result<(), AllocError> {
+    let mut between = "";
+    for tag in tags {
+        text.push_str(between)?;
+        tag.write(text)?;
+        between = ",";
+    }
+    Ok(())
+}
