@@ -6,11 +6,8 @@ ghost use Rattle.swim_program.specs.Limits.{max_input_len};
 
 use memberlist_keyring::{Secret, overwrite};
 use std::alloc::Global;
-use std::io::{self, ErrorKind, Read};
-use swim_program::MAX_INPUT_LEN;
-
-/// How many interrupted reads of one file are retried.
-const RETRIES: u32 = 1000;
+use std::io::{self, Read};
+use swim_program::{MAX_INPUT_LEN, read_piece};
 
 /// How many bytes are requested at once. A key file is seldom longer.
 const PIECE: usize = 4096;
@@ -50,15 +47,9 @@ fn read_by<R: Read>(alloc: Global, reader: &mut R, piece: &mut [u8]) -> io::Resu
     let mut interruptions = 0;
     while text.as_bytes().len() <= MAX_INPUT_LEN {
         let wanted = (MAX_INPUT_LEN + 1 - text.as_bytes().len()).min(PIECE);
-        match reader.read(&mut piece[..wanted]) {
-            Ok(0) => return Ok(text),
-            Ok(count) => text.extend(&piece[..count])?,
-            Err(error) => {
-                if !matches!(error.kind(), ErrorKind::Interrupted) || interruptions == RETRIES {
-                    return Err(error);
-                }
-                interruptions += 1;
-            }
+        match read_piece(reader, &mut piece[..wanted], &mut interruptions)? {
+            0 => return Ok(text),
+            count => text.extend(&piece[..count])?,
         }
     }
     Ok(text)

@@ -1,5 +1,6 @@
 -- Packets that are read one after another.
-use Rattle.std.proofs.Common.{◌≡◌, ◌≢◌, ℕ, suc, ◌+◌, ◌<◌, List, [], ◌∷◌, ◌++◌, ◌≤◌, length, take, drop, get_or, Err, refl, sym, ap, subst, ◌∙◌, append-nil}
+use Rattle.std.proofs.Common.{◌≡◌, ◌≢◌, ℕ, suc, ◌+◌, ◌<◌, List, [], ◌∷◌, ◌++◌, ◌≤◌, length, take, drop, get_or, Err}
+use Rattle.std.proofs.Common.{refl, sym, ap, subst, ◌∙◌, append-nil}
 use Rattle.std.proofs.lemmas.List.{append_assoc, take_all, take_more, take-append-drop}
 use Rattle.std.proofs.Math.Seq.{split_at}
 use Rattle.swim_wire.specs.declared.fault.WireFault.{WireFault}
@@ -19,12 +20,17 @@ pub record ReadTo (lens bytes : List ℕ) (i : ℕ) (packets : List PacketValue)
   pub parts : bytes ≡ front ++ rest
 
 -- one more packet after the others
-PacketTexts-push : (lens front text : List ℕ) (packets : List PacketValue) (p : PacketValue) → PacketTexts lens front packets → PacketText text p
+PacketTexts-push : (lens front text : List ℕ) (packets : List PacketValue) (p : PacketValue)
+    → PacketTexts lens front packets → PacketText text p
     → PacketTexts (lens ++ length text ∷ []) (front ++ text) (packets ++ p ∷ [])
-PacketTexts-push _ _ text _ p none is = subst (λ (b : List ℕ). PacketTexts (length text ∷ []) b (p ∷ [])) (append-nil text) (one text [] [] p [] is none)
+PacketTexts-push _ _ text _ p none is = subst
+    (λ (b : List ℕ). PacketTexts (length text ∷ []) b (p ∷ [])) (append-nil text)
+    (one text [] [] p [] is none)
 PacketTexts-push _ _ text _ p (one first rest lens q packets is_first texts) is =
-    subst (λ (b : List ℕ). PacketTexts (length first ∷ lens ++ length text ∷ []) b (q ∷ packets ++ p ∷ [])) (sym (append_assoc first rest text))
-    (one first (rest ++ text) (lens ++ length text ∷ []) q (packets ++ p ∷ []) is_first (PacketTexts-push lens rest text packets p texts is))
+    subst (λ (b : List ℕ). PacketTexts (length first ∷ lens ++ length text ∷ []) b (q ∷ packets ++ p ∷ []))
+    (sym (append_assoc first rest text))
+    (one first (rest ++ text) (lens ++ length text ∷ []) q (packets ++ p ∷ []) is_first
+    (PacketTexts-push lens rest text packets p texts is))
 
 -- the next packet is read
 pub ReadTo-more : (lens bytes : List ℕ) (i len d : ℕ) (packets : List PacketValue) (rest text behind : List ℕ)
@@ -32,7 +38,8 @@ pub ReadTo-more : (lens bytes : List ℕ) (i len d : ℕ) (packets : List Packet
     → ReadTo lens bytes i packets rest → rest ≡ text ++ behind → length text ≡ len → PacketText text p
     → ReadTo lens bytes (i + 1) (packets ++ p ∷ []) behind
 ReadTo-more lens bytes i len d packets rest text behind p in_range is read parts size packet =
-    let grown : take i lens ++ length text ∷ [] ≡ take (i + 1) lens = ap (λ (n : ℕ). take i lens ++ n ∷ []) (size ∙ is) ∙ sym (take_more lens i d in_range) in
+    let grown : take i lens ++ length text ∷ [] ≡ take (i + 1) lens = ap
+    (λ (n : ℕ). take i lens ++ n ∷ []) (size ∙ is) ∙ sym (take_more lens i d in_range) in
     record {
       front = read.front ++ text;
       texts =
@@ -50,7 +57,8 @@ around lens i len d n in_range is size =
 pub cut_off : (lens bytes : List ℕ) (i len d : ℕ) (packets : List PacketValue) (rest : List ℕ) → i < length lens → len ≡ get_or lens i d
     → ReadTo lens bytes i packets rest → length rest < len → LacksPackets lens bytes Ended
 cut_off lens bytes i len d packets rest in_range is read short =
-    LacksPackets.cut read.front rest (take i lens) (drop (suc i) lens) len packets read.texts (around lens i len d len in_range is refl) read.parts short refl
+    LacksPackets.cut read.front rest (take i lens) (drop (suc i) lens) len packets read.texts
+    (around lens i len d len in_range is refl) read.parts short refl
 
 -- the next one is not a packet
 pub no_packet : (lens bytes : List ℕ) (i len d : ℕ) (packets : List PacketValue) (rest text behind : List ℕ)
@@ -58,29 +66,35 @@ pub no_packet : (lens bytes : List ℕ) (i len d : ℕ) (packets : List PacketVa
     → ReadTo lens bytes i packets rest → rest ≡ text ++ behind → length text ≡ len
     → whole_packet text ≡ Err fault → ReasonForWhole fault text → fault ≢ Fault → LacksPackets lens bytes fault
 no_packet lens bytes i len d packets rest text behind error in_range is read parts size stops reason no_end =
-    LacksPackets.wrong read.front text behind (take i lens) (drop (suc i) lens) packets read.texts (around lens i len d (length text) in_range is size)
+    LacksPackets.wrong read.front text behind (take i lens) (drop (suc i) lens) packets read.texts
+    (around lens i len d (length text) in_range is size)
     (read.parts ∙ ap (λ (r : List ℕ). read.front ++ r) parts) stops reason no_end
 
 -- the next one takes memory
-pub next_asks : (lens bytes : List ℕ) (i len d : ℕ) (packets : List PacketValue) (rest text behind : List ℕ) → i < length lens → len ≡ get_or lens i d
+pub next_asks : (lens bytes : List ℕ) (i len d : ℕ) (packets : List PacketValue) (rest text behind : List ℕ)
+    → i < length lens → len ≡ get_or lens i d
     → ReadTo lens bytes i packets rest → rest ≡ text ++ behind → length text ≡ len → PacketAsks text → PackingAsks lens bytes
 next_asks lens bytes i len d packets rest text behind in_range is read parts size asks =
-    PackingAsks.next read.front text behind (take i lens) (drop (suc i) lens) packets read.texts (around lens i len d (length text) in_range is size)
+    PackingAsks.next read.front text behind (take i lens) (drop (suc i) lens) packets read.texts
+    (around lens i len d (length text) in_range is size)
     (read.parts ∙ ap (λ (r : List ℕ). read.front ++ r) parts) asks
 
 -- all packets are read
-all_texts : (lens bytes : List ℕ) (i : ℕ) (packets : List PacketValue) (rest : List ℕ) → length lens ≤ i → (read : ReadTo lens bytes i packets rest)
+all_texts : (lens bytes : List ℕ) (i : ℕ) (packets : List PacketValue) (rest : List ℕ) → length lens ≤ i
+    → (read : ReadTo lens bytes i packets rest)
     → PacketTexts lens read.front packets
 all_texts lens bytes i packets rest done read = subst (λ (ls : List ℕ). PacketTexts ls read.front packets) (take_all i lens done) read.texts
 
-pub all_read : (lens bytes : List ℕ) (i : ℕ) (packets : List PacketValue) (rest : List ℕ) → length lens ≤ i → ReadTo lens bytes i packets rest → rest ≡ []
+pub all_read : (lens bytes : List ℕ) (i : ℕ) (packets : List PacketValue) (rest : List ℕ) → length lens ≤ i
+    → ReadTo lens bytes i packets rest → rest ≡ []
     → PacketTexts lens bytes packets
 all_read lens bytes i packets rest done read empty =
     let whole : bytes ≡ read.front = read.parts ∙ ap (λ (r : List ℕ). read.front ++ r) empty ∙ append-nil read.front in
     subst (λ (b : List ℕ). PacketTexts lens b packets) (sym whole) (all_texts lens bytes i packets rest done read)
 
 -- bytes are left after all packets
-pub left_over : (lens bytes : List ℕ) (i : ℕ) (packets : List PacketValue) (rest : List ℕ) → length lens ≤ i → ReadTo lens bytes i packets rest → rest ≢ []
+pub left_over : (lens bytes : List ℕ) (i : ℕ) (packets : List PacketValue) (rest : List ℕ) → length lens ≤ i
+    → ReadTo lens bytes i packets rest → rest ≢ []
     → LacksPackets lens bytes Trailing
 left_over lens bytes i packets rest done read some =
     LacksPackets.trailing read.front rest packets (all_texts lens bytes i packets rest done read) read.parts some refl

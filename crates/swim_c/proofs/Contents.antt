@@ -40,16 +40,20 @@ use Rattle.swim_c.specs.contracts.keyring.KeyringHandle as keyring_handle
 use Rattle.swim_c.specs.contracts.kept_handle.KeptHandle as kept_handle
 use Rattle.swim_c.specs.contracts.view.handle.ViewHandle as view_handle
 use Rattle.swim_c.proofs.Drops.{passed, passed_laws, goes}
-use Rattle.swim_c.proofs.Handles.{Content, Handle}
+use Rattle.swim_c.proofs.Handles.Shape.{Content, Handle}
 
 abbrev pub node_drops : Dict
 node_drops = impl ("swim_c::swim_c++watching++Watched+Destruct::drop" ∷ []) tnil dnil
 
-pub node_goes : {M : Type 1} (𝓤 : Ura M) (𝓛 : Logic 𝓤) (𝓜 : Model 𝓤 𝓛.H) (𝓡 : Running 𝓤 𝓛.H 𝓜) → Wired 𝓡.env node_drop.code → Met 𝓛 𝓜 𝓡 𝓡.env (passed node.the_row) node_drops
+pub node_goes : {M : Type 1} (𝓤 : Ura M) (𝓛 : Logic 𝓤) (𝓜 : Model 𝓤 𝓛.H) (𝓡 : Running 𝓤 𝓛.H 𝓜)
+    → Wired 𝓡.env node_drop.code → Met 𝓛 𝓜 𝓡 𝓡.env (passed node.the_row) node_drops
 unfolding tables_of
 node_goes {M} 𝓤 𝓛 𝓜 𝓡 wired =
-    goes node.the_row (passed_laws node.the_row node_laws.the_row_laws refl) node_drops _ _ _ node_kinds.ps refl node_reads.requires node_reads.ensures node_reads.Asked node_reads.Learnt node_reads.known (λ κs a. tt)
-    (record { M = M; 𝓤 = 𝓤; 𝓛 = 𝓛; 𝓜 = 𝓜; 𝓡 = 𝓡 }) node_drop.name (node_drop.as_method 𝓡.env wired (method node_drops 0 no_args) refl) (node_met 𝓤 𝓛 𝓜 𝓡 wired)
+    goes node.the_row (passed_laws node.the_row node_laws.the_row_laws refl) node_drops _ _ _ node_kinds.ps
+    refl node_reads.requires node_reads.ensures node_reads.Asked node_reads.Learnt node_reads.known
+    (λ κs a. tt)
+    (record { M = M; 𝓤 = 𝓤; 𝓛 = 𝓛; 𝓜 = 𝓜; 𝓡 = 𝓡 }) node_drop.name
+    (node_drop.as_method 𝓡.env wired (method node_drops 0 no_args) refl) (node_met 𝓤 𝓛 𝓜 𝓡 wired)
 
 abbrev pub a_node : Content
 a_node = record {
@@ -78,11 +82,15 @@ of_node = record {
 abbrev pub keys_drops : Dict
 keys_drops = impl ("swim_c::swim_c++cluster_keys++ClusterKeys+Destruct::drop" ∷ []) tnil dnil
 
-pub keys_goes : {M : Type 1} (𝓤 : Ura M) (𝓛 : Logic 𝓤) (𝓜 : Model 𝓤 𝓛.H) (𝓡 : Running 𝓤 𝓛.H 𝓜) → Wired 𝓡.env keys_drop.code → Met 𝓛 𝓜 𝓡 𝓡.env (passed keys.the_row) keys_drops
+pub keys_goes : {M : Type 1} (𝓤 : Ura M) (𝓛 : Logic 𝓤) (𝓜 : Model 𝓤 𝓛.H) (𝓡 : Running 𝓤 𝓛.H 𝓜)
+    → Wired 𝓡.env keys_drop.code → Met 𝓛 𝓜 𝓡 𝓡.env (passed keys.the_row) keys_drops
 unfolding tables_of
 keys_goes {M} 𝓤 𝓛 𝓜 𝓡 wired =
-    goes keys.the_row (passed_laws keys.the_row keys_laws.the_row_laws refl) keys_drops _ _ _ keys_kinds.ps refl keys_reads.requires keys_reads.ensures keys_reads.Asked keys_reads.Learnt keys_reads.known (λ κs a. tt)
-    (record { M = M; 𝓤 = 𝓤; 𝓛 = 𝓛; 𝓜 = 𝓜; 𝓡 = 𝓡 }) keys_drop.name (keys_drop.as_method 𝓡.env wired (method keys_drops 0 no_args) refl) (keys_met 𝓤 𝓛 𝓜 𝓡 wired)
+    goes keys.the_row (passed_laws keys.the_row keys_laws.the_row_laws refl) keys_drops _ _ _ keys_kinds.ps
+    refl keys_reads.requires keys_reads.ensures keys_reads.Asked keys_reads.Learnt keys_reads.known
+    (λ κs a. tt)
+    (record { M = M; 𝓤 = 𝓤; 𝓛 = 𝓛; 𝓜 = 𝓜; 𝓡 = 𝓡 }) keys_drop.name
+    (keys_drop.as_method 𝓡.env wired (method keys_drops 0 no_args) refl) (keys_met 𝓤 𝓛 𝓜 𝓡 wired)
 
 abbrev pub some_keys : Content
 some_keys = record {
@@ -111,11 +119,15 @@ of_keys = record {
 abbrev pub kept_drops : Dict
 kept_drops = impl ("swim_c::swim_c++kept++Kept+Destruct::drop" ∷ []) tnil dnil
 
-pub kept_goes : {M : Type 1} (𝓤 : Ura M) (𝓛 : Logic 𝓤) (𝓜 : Model 𝓤 𝓛.H) (𝓡 : Running 𝓤 𝓛.H 𝓜) → Wired 𝓡.env kept_drop.code → Met 𝓛 𝓜 𝓡 𝓡.env (passed kept.the_row) kept_drops
+pub kept_goes : {M : Type 1} (𝓤 : Ura M) (𝓛 : Logic 𝓤) (𝓜 : Model 𝓤 𝓛.H) (𝓡 : Running 𝓤 𝓛.H 𝓜)
+    → Wired 𝓡.env kept_drop.code → Met 𝓛 𝓜 𝓡 𝓡.env (passed kept.the_row) kept_drops
 unfolding tables_of
 kept_goes {M} 𝓤 𝓛 𝓜 𝓡 wired =
-    goes kept.the_row (passed_laws kept.the_row kept_laws.the_row_laws refl) kept_drops _ _ _ kept_kinds.ps refl kept_reads.requires kept_reads.ensures kept_reads.Asked kept_reads.Learnt kept_reads.known (λ κs a. tt)
-    (record { M = M; 𝓤 = 𝓤; 𝓛 = 𝓛; 𝓜 = 𝓜; 𝓡 = 𝓡 }) kept_drop.name (kept_drop.as_method 𝓡.env wired (method kept_drops 0 no_args) refl) (kept_met 𝓤 𝓛 𝓜 𝓡 wired)
+    goes kept.the_row (passed_laws kept.the_row kept_laws.the_row_laws refl) kept_drops _ _ _ kept_kinds.ps
+    refl kept_reads.requires kept_reads.ensures kept_reads.Asked kept_reads.Learnt kept_reads.known
+    (λ κs a. tt)
+    (record { M = M; 𝓤 = 𝓤; 𝓛 = 𝓛; 𝓜 = 𝓜; 𝓡 = 𝓡 }) kept_drop.name
+    (kept_drop.as_method 𝓡.env wired (method kept_drops 0 no_args) refl) (kept_met 𝓤 𝓛 𝓜 𝓡 wired)
 
 abbrev pub a_kept : Content
 a_kept = record {
@@ -144,11 +156,15 @@ of_kept = record {
 abbrev pub view_drops : Dict
 view_drops = impl ("swim_c::swim_c++view++held++HeldView+Destruct::drop" ∷ []) tnil dnil
 
-pub view_goes : {M : Type 1} (𝓤 : Ura M) (𝓛 : Logic 𝓤) (𝓜 : Model 𝓤 𝓛.H) (𝓡 : Running 𝓤 𝓛.H 𝓜) → Wired 𝓡.env view_drop.code → Met 𝓛 𝓜 𝓡 𝓡.env (passed view.the_row) view_drops
+pub view_goes : {M : Type 1} (𝓤 : Ura M) (𝓛 : Logic 𝓤) (𝓜 : Model 𝓤 𝓛.H) (𝓡 : Running 𝓤 𝓛.H 𝓜)
+    → Wired 𝓡.env view_drop.code → Met 𝓛 𝓜 𝓡 𝓡.env (passed view.the_row) view_drops
 unfolding tables_of
 view_goes {M} 𝓤 𝓛 𝓜 𝓡 wired =
-    goes view.the_row (passed_laws view.the_row view_laws.the_row_laws refl) view_drops _ _ _ view_kinds.ps refl view_reads.requires view_reads.ensures view_reads.Asked view_reads.Learnt view_reads.known (λ κs a. tt)
-    (record { M = M; 𝓤 = 𝓤; 𝓛 = 𝓛; 𝓜 = 𝓜; 𝓡 = 𝓡 }) view_drop.name (view_drop.as_method 𝓡.env wired (method view_drops 0 no_args) refl) (view_met 𝓤 𝓛 𝓜 𝓡 wired)
+    goes view.the_row (passed_laws view.the_row view_laws.the_row_laws refl) view_drops _ _ _ view_kinds.ps
+    refl view_reads.requires view_reads.ensures view_reads.Asked view_reads.Learnt view_reads.known
+    (λ κs a. tt)
+    (record { M = M; 𝓤 = 𝓤; 𝓛 = 𝓛; 𝓜 = 𝓜; 𝓡 = 𝓡 }) view_drop.name
+    (view_drop.as_method 𝓡.env wired (method view_drops 0 no_args) refl) (view_met 𝓤 𝓛 𝓜 𝓡 wired)
 
 abbrev pub a_view : Content
 a_view = record {

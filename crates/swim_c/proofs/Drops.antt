@@ -52,13 +52,15 @@ heap_row_laws = passed_laws heap.the_row heap_laws.the_row_laws refl
 abbrev pub heap_drops : Dict
 heap_drops = impl ("swim_c::Destruct++none::drop" ∷ []) (tcons (bare (layout heap.the_row)) tnil) dnil
 
-pub heap_goes : {M : Type 1} (𝓤 : Ura M) (𝓛 : Logic 𝓤) (𝓜 : Model 𝓤 𝓛.H) (𝓡 : Running 𝓤 𝓛.H 𝓜) → Wired 𝓡.env none.code → Met 𝓛 𝓜 𝓡 𝓡.env heap_row heap_drops
+pub heap_goes : {M : Type 1} (𝓤 : Ura M) (𝓛 : Logic 𝓤) (𝓜 : Model 𝓤 𝓛.H) (𝓡 : Running 𝓤 𝓛.H 𝓜)
+    → Wired 𝓡.env none.code → Met 𝓛 𝓜 𝓡 𝓡.env heap_row heap_drops
 unfolding none.code
 heap_goes {M} 𝓤 𝓛 𝓜 𝓡 wired = glues "swim_c::Destruct++none::drop" 𝓡.env wired heap_row heap_row_laws M 𝓤 𝓛 𝓜 𝓡
 
 -- A type's own `drop` is what code calls to drop it. The kinds, and what is known of the `drop`, are
 -- those of its generated modules.
-module _ (X : RattleType) (L : Laws (passed X)) (drops : Dict) (one : One X) (mute : Mute (X.exit yes)) (lf : (M : Type 1) (𝓤 : Ura M) (𝓛 : Logic 𝓤) → Lawful 𝓛 X) where
+module _ (X : RattleType) (L : Laws (passed X)) (drops : Dict) (one : One X) (mute : Mute (X.exit yes))
+    (lf : (M : Type 1) (𝓤 : Ura M) (𝓛 : Logic 𝓤) → Lawful 𝓛 X) where
   abbrev ps : List (ParamKind 0)
   ps = p_owned X one yes mute lf ∷ []
 
@@ -68,12 +70,21 @@ module _ (X : RattleType) (L : Laws (passed X)) (drops : Dict) (one : One X) (mu
   abbrev En : Ended
   En = ended_of 0 ps r_unit
 
-  pub goes : (kinds : List (ParamKind 0)) → ps ≡ kinds → (req : (κs : Lfts 0) → ArgsD Sg κs → Unit {0} → (w : World) → Pr w) (ens : (κs : Lfts 0) → ArgsD Sg κs → Unit {0} → ResD Sg κs → AtExit En κs → (w : World) → Pr w)
-      (Asked : In 0 ps) (Learnt : Out 0 ps r_unit) → KnownAs 0 ps r_unit (Unit {0}) req ens Asked Learnt → ((κs : Lfts 0) (a : ArgsD Sg κs) → Asked κs a)
-      → (w : World) (s : Callee) → w.𝓡.env s ≼⁺ w.𝓡.env (method drops 0 no_args) → Holds 0 ps r_unit (Unit {0}) req ens w (w.𝓡.run (w.𝓡.env s)) → Met w.𝓛 w.𝓜 w.𝓡 w.𝓡.env (passed X) drops
+  pub goes : (kinds : List (ParamKind 0)) → ps ≡ kinds
+      → (req : (κs : Lfts 0) → ArgsD Sg κs → Unit {0} → (w : World) → Pr w) (ens : (κs : Lfts 0)
+      → ArgsD Sg κs → Unit {0} → ResD Sg κs → AtExit En κs → (w : World) → Pr w)
+      (Asked : In 0 ps) (Learnt : Out 0 ps r_unit) → KnownAs 0 ps r_unit (Unit {0}) req ens Asked Learnt
+      → ((κs : Lfts 0) (a : ArgsD Sg κs) → Asked κs a)
+      → (w : World) (s : Callee) → w.𝓡.env s ≼⁺ w.𝓡.env (method drops 0 no_args)
+      → Holds 0 ps r_unit (Unit {0}) req ens w (w.𝓡.run (w.𝓡.env s))
+      → Met w.𝓛 w.𝓜 w.𝓡 w.𝓡.env (passed X) drops
   goes kinds same req ens Asked Learnt known asks w s le met =
       let k = method drops 0 no_args in
-      glue_by (passed X) L w drops w.𝓡.env (λ κs a. Lasts En tt a) (λ κs a. lasts En tt a) (λ κs a x ws. Fit En (stays ps) tt a ws × Learnt tt a x (at_exit En tt a ws)) (λ κs a. κs.0 ⊑ X.lives) 0 tt (λ κs a h. h)
-      (via_longer w.𝓛 (Over w.𝓛 w.𝓜 w.𝓡 w.𝓡.env) 1 (glue_ps (passed X) L) r_unit (λ κs a. Lasts En tt a) (λ κs a. lasts En tt a) (λ κs a x ws. Fit En (stays ps) tt a ws × Learnt tt a x (at_exit En tt a ws))
+      glue_by (passed X) L w drops w.𝓡.env (λ κs a. Lasts En tt a) (λ κs a. lasts En tt a)
+      (λ κs a x ws. Fit En (stays ps) tt a ws × Learnt tt a x (at_exit En tt a ws))
+      (λ κs a. κs.0 ⊑ X.lives) 0 tt (λ κs a h. h)
+      (via_longer w.𝓛 (Over w.𝓛 w.𝓜 w.𝓡 w.𝓡.env) 1 (glue_ps (passed X) L) r_unit (λ κs a. Lasts En tt a)
+      (λ κs a. lasts En tt a) (λ κs a x ws. Fit En (stays ps) tt a ws
+      × Learnt tt a x (at_exit En tt a ws))
       (λ κs a. κs.0 ⊑ X.lives) k 0 tt (λ κs. tt) (λ κs a. Asked tt a) (λ κs a p. (tt, asks tt a))
       (λ κs bd within a vss qs. method_Known 0 ps r_unit req ens Asked Learnt known w s k le met ((tt, qs, tt, a, vss), tt)))

@@ -1,5 +1,6 @@
 -- What the status of a refused call says.
-use Rattle.std.proofs.Common.{◌≡◌, ◌≢◌, inl, inr, ◌∙◌, ap, sym, subst, ℕ, ◌-◌, List, ◌++◌, Bool, length, ◌≤◌, false, refl, Some, Result, Err, arith}
+use Rattle.std.proofs.Common.{◌≡◌, ◌≢◌, inl, inr, ◌∙◌, ap, sym, subst, ℕ, ◌-◌, List, ◌++◌, Bool, length, ◌≤◌, false}
+use Rattle.std.proofs.Common.{refl, Some, Result, Err, arith}
 use Rattle.swim_claim.specs.declared.claim.Claim.{Claim}
 use Rattle.swim_pack.specs.Composing.{UnlessFailed}
 use Rattle.swim_pack.specs.Ends.{Source, NoTextAtFront, CountsFault}
@@ -40,27 +41,34 @@ abbrev pub memory : List ℕ → Source
 memory bytes = record { coming = Some bytes; faults = 0 }
 
 -- bytes in memory that do not begin with a stream
-pub lacks : (bytes rest : List ℕ) (fault : WireFault) → exchanging.LacksStream (memory bytes) (memory rest) fault → HoldsNoStream bytes fault
+pub lacks : (bytes rest : List ℕ) (fault : WireFault)
+    → exchanging.LacksStream (memory bytes) (memory rest) fault → HoldsNoStream bytes fault
 lacks bytes rest fault why =
     let no_end : fault ≢ wire.Fault = λ e. let rises = why.failed e in omega (arith, rises) in record {
       no_memory = why.no_memory;
       no_end = no_end;
-      lacks = λ text rest claims join stream parts. why.no_memory (refused_front fault bytes text rest claims join why.lacks no_end stream parts);
+      lacks = λ text rest claims join stream parts. why.no_memory
+          (refused_front fault bytes text rest claims join why.lacks no_end stream parts);
       reason = why.reason;
     }
 
 -- if memory was refused, the datagram requested some
-pub explained_memory : {X : Type 0} (bytes : List ℕ) (fault : WireFault) → refused X fault ≡ refused X wire.Memory → ReasonForDatagram fault bytes
+pub explained_memory : {X : Type 0} (bytes : List ℕ) (fault : WireFault)
+    → refused X fault ≡ refused X wire.Memory → ReasonForDatagram fault bytes
     → DatagramAsks bytes
 explained_memory bytes fault e why = let is : fault ≡ wire.Memory = cc in subst (λ (f : WireFault). ReasonForDatagram f bytes) is why
 
 -- the same for a packet
-pub packet_memory : {X : Type 0} (text : List ℕ) (fault : WireFault) → refused X fault ≡ refused X wire.Memory → ReasonForWhole fault text → PacketAsks text
+pub packet_memory : {X : Type 0} (text : List ℕ) (fault : WireFault)
+    → refused X fault ≡ refused X wire.Memory → ReasonForWhole fault text → PacketAsks text
 packet_memory text fault e why = let is : fault ≡ wire.Memory = cc in subst (λ (f : WireFault). ReasonForWhole f text) is why
 
 -- a datagram was refused, because memory was, or because it is invalid
-pub take_done : {X : Type 0} (bytes : List ℕ) (status : ℕ) (before after : NodeValue) (fault : WireFault) → status ≡ wire_number fault → after ≡ before
-    → (fault ≢ wire.Memory → IsNoDatagram bytes fault) → (refused X fault ≡ refused X wire.Memory → HearingAsks bytes) → TakeDone bytes status before after
+pub take_done : {X : Type 0} (bytes : List ℕ) (status : ℕ) (before after : NodeValue) (fault : WireFault)
+    → status ≡ wire_number fault → after ≡ before
+    → (fault ≢ wire.Memory → IsNoDatagram bytes fault)
+    → (refused X fault ≡ refused X wire.Memory → HearingAsks bytes)
+    → TakeDone bytes status before after
 take_done {X} bytes status before after fault is same why memory = elim (memory_or fault) [
   | inl wants ↦ TakeDone.memory (is ∙ ap wire_number wants) (memory (ap (refused X) wants)) same
   | inr other ↦ TakeDone.refused fault is other (why other) same
@@ -100,13 +108,20 @@ pub stream_unread : (form : Wanted) (bytes inlet rest : List ℕ) (table : Entri
 stream_unread form bytes inlet rest table fault is none reason failed = elim (memory_or fault) [
   | inl wants ↦ subst (λ (f : WireFault). AnswerCause form bytes table (fault_of_wire f)) (sym wants) tt
   | inr other ↦
-      let why : exchanging.LacksStream (memory inlet) (memory rest) fault = record { no_memory = other; lacks = none; reason = reason; failed = failed } in
+      let why : exchanging.LacksStream (memory inlet)
+      (memory rest) fault = record {
+        no_memory = other;
+        lacks = none;
+        reason = reason;
+        failed = failed;
+      } in
       subst (λ (f : SyncFault). AnswerCause form bytes table f) (sym (is_wire fault other))
       (subst (λ (b : List ℕ). HoldsNoStream b fault) is (lacks inlet rest fault why))
 ]
 
 -- a stream was read, but there is no reply: it has too many records, or memory was refused
-pub reply_refused : (form : Wanted) (bytes inlet rest : List ℕ) (known news table own : Entries) (join : Bool) (fault : EncodeFault) → inlet ≡ bytes → own ≡ table
+pub reply_refused : (form : Wanted) (bytes inlet rest : List ℕ) (known news table own : Entries)
+    (join : Bool) (fault : EncodeFault) → inlet ≡ bytes → own ≡ table
     → ReadsNews (memory inlet) (memory rest) known news join → (fault ≡ encode.TooManyRecords → HasTooManyIn form own)
     → AnswerCause form bytes table (fault_of_encode fault)
 reply_refused form bytes inlet rest known news table own join encode.TooManyRecords is same read many = (
@@ -114,13 +129,20 @@ reply_refused form bytes inlet rest known news table own join encode.TooManyReco
   (
     join,
     length bytes - length rest,
-    (read.0, begins bytes rest read.0 join (subst (λ (b : List ℕ). (text : List ℕ) × StreamText text read.0 join × (b ≡ text ++ rest)) is read.2)),
+    (
+      read.0,
+      begins bytes rest read.0 join
+          (subst (λ (b : List ℕ). (text : List ℕ) × StreamText text read.0 join
+          × (b ≡ text ++ rest)) is read.2),
+    ),
   ),
 )
 reply_refused form bytes inlet rest known news table own join encode.Memory is same read many = tt
 
 pub refute_done : (before after : NodeValue) (fault : RefuteFault) → after ≡ before
-    → (fault ≡ refute.Exhausted → IsExhausted before) → ((at : ℕ) → fault ≡ refute.Gone at → IsGone before at) → (fault ≡ refute.Memory → IsDueInRange before)
+    → (fault ≡ refute.Exhausted → IsExhausted before)
+    → ((at : ℕ) → fault ≡ refute.Gone at → IsGone before at)
+    → (fault ≡ refute.Memory → IsDueInRange before)
     → RefuteDone (refute_number fault) false 0 before after
 refute_done before after refute.Exhausted same exhausted gone memory = RefuteDone.exhausted refl refl refl (exhausted refl) same
 refute_done before after (refute.Gone at) same exhausted gone memory = RefuteDone.gone at refl refl refl (gone at refl) same

@@ -1,11 +1,10 @@
 -- The halves of an exchange over bytes in memory.
-use Rattle.std.proofs.Common.{◌≡◌, ℕ, ◌-◌, List, ◌++◌, length, Bool, refl, sym, subst}
+use Rattle.std.proofs.Common.{◌≡◌, ℕ, ◌-◌, List, ◌++◌, length, Bool, refl, sym, ap, ◌∙◌, subst}
 use Rattle.swim_claim.specs.declared.claim.Claim.{Claim}
 use Rattle.swim_table.specs.Node.{NodeValue, SameMember}
 use Rattle.swim_table.specs.Table.{Entries, TableOf, IsLegalTable}
 use Rattle.swim_table.specs.News.{IsNewsOf}
-use Rattle.swim_c.specs.Buffers.{Copied}
-use Rattle.swim_c.specs.Exchanges.{BeginsStream, NodeTakesStream, AnswersOffer, FinishDone}
+use Rattle.swim_c.specs.Exchanges.{BeginsStream, NodeTakesStream, Replied, FinishDone}
 use Rattle.swim_c.specs.Forms.{Wanted, bytes_in}
 use Rattle.swim_c.proofs.Faults.{memory}
 use Rattle.swim_c.proofs.WholeStreams.{ReadsNews, begins, taken_in}
@@ -15,7 +14,8 @@ stream_read : (bytes inlet rest : List ℕ) (own news : Entries) (join : Bool) (
     → ReadsNews (memory inlet) (memory rest) own news join
     → (claims : List Claim) × IsNewsOf own news claims × BeginsStream bytes claims join used
 stream_read bytes inlet rest own news join used is len read =
-    let whole : ReadsNews (memory bytes) (memory rest) own news join = subst (λ (b : List ℕ). ReadsNews (memory b) (memory rest) own news join) is read in
+    let whole : ReadsNews (memory bytes) (memory rest) own news join = subst
+    (λ (b : List ℕ). ReadsNews (memory b) (memory rest) own news join) is read in
     (whole.0, whole.1, subst (λ (u : ℕ). BeginsStream bytes whole.0 join u) (sym len) (begins bytes rest whole.0 join whole.2))
 
 -- a stream was read, and its news joined in
@@ -29,15 +29,15 @@ took bytes inlet rest own news join used before after is gone same read legal kn
     taken_in bytes own news stream.0 join used before after stream.2 same stream.1 legal known all member
 
 -- a reply was written, and the stream joined in
-pub answered : (form : Wanted) (bytes inlet rest old new dump : List ℕ) (own news : Entries) (join : Bool) (status used len : ℕ)
-    (before after : NodeValue) → inlet ≡ bytes → used ≡ length bytes - length rest → own ≡ before.table
+pub answered : (form : Wanted) (bytes inlet rest : List ℕ) (own news : Entries) (Wrote : List ℕ → Type 0) (LacksRoom : ℕ → Type 0)
+    (join : Bool) (used len : ℕ) (before after : NodeValue) → inlet ≡ bytes → used ≡ length bytes - length rest → own ≡ before.table
     → ReadsNews (memory inlet) (memory rest) own news join → IsLegalTable before.table → IsLegalTable news
     → ((claims others : List Claim) → TableOf before.table claims → TableOf news others → TableOf after.table (claims ++ others))
-    → SameMember before after → status ≡ 0 → dump ≡ bytes_in form before.table join → Copied dump old new status len
-    → AnswersOffer form bytes old new status join used len before after
-answered form bytes inlet rest old new dump own news join status used len before after is gone same read legal known all member done of copied =
-    AnswersOffer.answered done (took bytes inlet rest own news join used before after is gone same read legal known all member)
-    (subst (λ (b : List ℕ). Copied b old new status len) of copied)
+    → SameMember before after → len ≡ length (bytes_in form own join) → Wrote (bytes_in form own join)
+    → Replied form bytes Wrote LacksRoom 0 join used len before after
+answered form bytes inlet rest own news Wrote LacksRoom join used len before after is gone same read legal known all member long wrote =
+    Replied.replied refl (took bytes inlet rest own news join used before after is gone same read legal known all member)
+    (long ∙ ap (λ t. length (bytes_in form t join)) same) (subst (λ t. Wrote (bytes_in form t join)) same wrote)
 
 -- a reply was read, and joined in
 pub replied : (bytes inlet rest : List ℕ) (own news : Entries) (join : Bool) (used : ℕ) (before after : NodeValue) → inlet ≡ bytes

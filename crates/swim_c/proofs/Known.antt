@@ -12,7 +12,8 @@ use Rattle.swim_c.specs.Taking.{TakesClaims}
 use Rattle.swim_c.specs.Watching.{IsNoted, LetsGo, NotesChanges}
 
 -- what was known stays known
-stays_known : (before after : Entries) (claims : List Claim) → TableOf before (Reduced before) → TakesClaims claims before after → (name : List ℕ)
+stays_known : (before after : Entries) (claims : List Claim) → TableOf before (Reduced before)
+    → TakesClaims claims before after → (name : List ℕ)
     → IsSome (get before name) → IsSome (get after name)
 stays_known before after claims own took name known = by_answer (get before name) (own.each name) known
   where
@@ -27,7 +28,8 @@ is_known None None stays differs = absurd (differs refl)
 is_known None (Some t) stays differs = refl
 is_known (Some s) o' stays differs = stays refl
 
-pub taken : (old new : Option Entries) (before after : Entries) (claims : List Claim) → TableOf before (Reduced before) → TakesClaims claims before after
+pub taken : (old new : Option Entries) (before after : Entries) (claims : List Claim)
+    → TableOf before (Reduced before) → TakesClaims claims before after
     → NotesChanges old new before after → ((name : List ℕ) → IsNoted old name → IsSome (get before name))
     → (name : List ℕ) → IsNoted new name → IsSome (get after name)
 taken None None before after claims own took notes knew name noted = absurd noted

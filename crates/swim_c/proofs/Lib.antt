@@ -9,6 +9,7 @@ pub mod Known
 pub mod NodeCalls
 pub mod Noting
 pub mod Pieces
+pub mod Reported
 pub mod OwnPackets
 pub mod Unsealing
 pub mod Unwrappings

@@ -1,5 +1,7 @@
 -- Noting the names that change.
-use Rattle.std.proofs.Common.{◌≡◌, ◌≢◌, ◌↔◌, ◌⊎◌, ◌∙◌, ℕ, Bool, true, false, not, IsTrue, Option, Some, None, IsSome, List, [], ◌∷◌, ◌++◌, MatchOption, MatchBool, Result, Ok, Err, IfOk, IfSome, OnOk, slice_get, refl, sym, ap, subst, inl, inr, arith}
+use Rattle.std.proofs.Common.{◌≡◌, ◌≢◌, ◌↔◌, ◌⊎◌, ◌∙◌, ℕ, Bool, true, false, not, IsTrue, Option, Some, None, IsSome}
+use Rattle.std.proofs.Common.{List, [], ◌∷◌, ◌++◌, MatchOption, MatchBool, Result, Ok, Err, IfOk, IfSome, OnOk}
+use Rattle.std.proofs.Common.{slice_get, refl, sym, ap, subst, inl, inr, arith}
 use Rattle.std.proofs.lemmas.List.Elements.{Contains-append_right}
 use mathlib.Core.Bool.{false≢true}
 use Rattle.swim_claim.specs.declared.claim.Claim.{Claim}
@@ -32,7 +34,8 @@ some_joined (Some s) (Some t) = (λ some. inl refl, λ some. refl)
 pub joined_names : (old new : Entries) (also : Names) → IsLegalTable old → IsLegalTable also.names → new ≡ Join old also.names
     → AddsNames (Some old) (Some new) (Some also)
 joined_names old new also h g is name =
-    let gets : get new name ≡ joined (get old name) (get also.names name) = ap (λ t. get t name) is ∙ get-Join old also.names h.own g.own name in
+    let gets : get new name ≡ joined (get old name) (get also.names name) = ap
+    (λ t. get t name) is ∙ get-Join old also.names h.own g.own name in
     let both = some_joined (get old name) (get also.names name) in
     (λ some. both.0 (subst IsSome gets some), λ some. subst IsSome (sym gets) (both.1 some))
 
@@ -45,7 +48,8 @@ found None P h not = absurd (not h)
 found (Some s) P h not = refl
 
 -- if the names are those that changed, then the change is noted
-pub noted : (old new : Option Entries) (before after : Entries) (named : Option Names) → IfSome named (λ also. AreChanges before after also.names)
+pub noted : (old new : Option Entries) (before after : Entries) (named : Option Names)
+    → IfSome named (λ also. AreChanges before after also.names)
     → AddsNames old new named → NotesChanges old new before after
 noted None None before after named changes adds = tt
 noted None (Some new) before after named changes adds = adds
@@ -57,11 +61,13 @@ noted (Some old) (Some new) before after (Some also) changes adds = λ name. (
 )
 
 -- what a join changed is noted with the names that it changed
-pub noted_with : (old new before after other names : Entries) → IsLegalTable old → IsLegalTable names → new ≡ Join old names → after ≡ Join before other
+pub noted_with : (old new before after other names : Entries) → IsLegalTable old → IsLegalTable names
+    → new ≡ Join old names → after ≡ Join before other
     → AreChanges before (Join before other) names → NotesChanges (Some old) (Some new) before after
 noted_with old new before after other names h g is joined changes =
     let also : Names = record { names = names; room = 0 } in
-    noted (Some old) (Some new) before after (Some also) (subst (λ t. AreChanges before t names) (sym joined) changes) (joined_names old new also h g is)
+    noted (Some old) (Some new) before after (Some also)
+    (subst (λ t. AreChanges before t names) (sym joined) changes) (joined_names old new also h g is)
 
 -- nothing was to be noted
 pub unchanged : (changes : Option Entries) (table : Entries) → NotesChanges changes changes table table
@@ -76,12 +82,14 @@ pub tells : (news : Bool) (before after names : Entries) → IsAscending before 
     → MatchBool news (names ≢ []) (names ≡ []) → TellsChange news before after
 tells true before after [] up up' changes some = absurd (some refl)
 tells true before after (e ∷ names) up up' changes some = λ same.
-    changed (get (e ∷ names) (name_of e.top)) _ _ (changes (name_of e.top)) (subst IsSome (sym (get_here e names (name_of e.top) refl)) refl)
+    changed (get (e ∷ names) (name_of e.top)) _ _ (changes (name_of e.top))
+    (subst IsSome (sym (get_here e names (name_of e.top) refl)) refl)
     (ap (λ t. get t (name_of e.top)) same)
 tells false before after names up up' changes none =
     same_table after before up' up
     (λ name. let none_of : MatchOption (get [] name) (get after name ≡ get before name) (λ _. get after name ≢ get before name) =
-    subst (λ t. MatchOption (get t name) (get after name ≡ get before name) (λ _. get after name ≢ get before name)) none (changes name) in none_of)
+    subst (λ t. MatchOption (get t name) (get after name ≡ get before name)
+    (λ _. get after name ≢ get before name)) none (changes name) in none_of)
 
 -- a table that was joined in was taken in
 pub taken : (before after other : Entries) (claims : List Claim) → IsLegalTable before → TableOf other claims
@@ -93,7 +101,8 @@ taken before after other claims legal of all = record {
 }
 
 -- the claims that a table of none takes in are its claims
-pub from_none : (other : Entries) (claims : List Claim) → ((taken : List Claim) → TableOf [] taken → TableOf other (taken ++ claims)) → TableOf other claims
+pub from_none : (other : Entries) (claims : List Claim)
+    → ((taken : List Claim) → TableOf [] taken → TableOf other (taken ++ claims)) → TableOf other claims
 from_none other claims all = all [] (TableOf-table_of [])
 
 -- what the join changed was noted, and whether anything changed
@@ -119,7 +128,8 @@ named_tells empty before other names h changes is =
 
 -- ---- a refutation
 
-standing : (table : Entries) (claims : List Claim) (name : List ℕ) (s : Standing) → TableOf table claims → get table name ≡ Some s → IsStandingOf claims name s
+standing : (table : Entries) (claims : List Claim) (name : List ℕ) (s : Standing) → TableOf table claims
+    → get table name ≡ Some s → IsStandingOf claims name s
 standing table claims name s h is = subst (EntryOf claims name) is (h.each name)
 
 -- a refutation changes the entry of the member
@@ -143,7 +153,8 @@ others_same : (before after : NodeValue) (inc : ℕ) → IsLegalTable before.tab
     → name ≢ before.name → get after.table name ≡ get before.table name
 others_same before after inc legal by name other =
     let alive = Alive before.name inc before.details in
-    get-append after.table before.table (standing_of alive ∷ []) (Reduced before.table) (alive ∷ []) by.taken.kept legal.own (TableOf-one alive) name
+    get-append after.table before.table (standing_of alive ∷ []) (Reduced before.table)
+    (alive ∷ []) by.taken.kept legal.own (TableOf-one alive) name
     ∙ joined_both refl (get_later (standing_of alive) [] name other) ∙ joined-none (get before.table name)
 
 -- so only its name has to be noted
@@ -157,7 +168,8 @@ own_noted (Some old) (Some new) before after inc None legal by own adds = absurd
 own_noted (Some old) (Some new) before after inc (Some also) legal by own adds = λ name. (
   λ some. elim ((adds name).0 some) [
     | inl had ↦ inl had
-    | inr named ↦ inr (subst (λ n. get after.table n ≢ get before.table n) (sym ((own name).0 named)) (own_changes before after inc legal by))
+    | inr named ↦ inr (subst (λ n. get after.table n ≢ get before.table n) (sym ((own name).0 named))
+        (own_changes before after inc legal by))
   ],
   λ some. (adds name).1 (elim some [
     | inl had ↦ inl had
@@ -181,9 +193,11 @@ only_one_name names c own h is name =
 
 -- ---- the names that are returned
 
-pub next_is : (table old : Entries) (e : Standing) (name : List ℕ) → slice_get old 0 ≡ Some e → name ≡ name_of e.top → next_entry table (Some old) ≡ get table name
+pub next_is : (table old : Entries) (e : Standing) (name : List ℕ) → slice_get old 0 ≡ Some e
+    → name ≡ name_of e.top → next_entry table (Some old) ≡ get table name
 next_is table [] e name is named = absurd cc
-next_is table (f ∷ rest) e name is named = let same : f ≡ e = cc (is) in ap (λ s. get table (name_of s.top)) same ∙ ap (get table) (sym named)
+next_is table (f ∷ rest) e name is named = let same : f ≡ e = cc (is)
+    in ap (λ s. get table (name_of s.top)) same ∙ ap (get table) (sym named)
 
 pub next_none : (table old : Entries) → slice_get old 0 ≡ None → next_entry table (Some old) ≡ None
 next_none table [] is = refl
@@ -208,7 +222,10 @@ lets_go (f ∷ rest) new e gone h is named left = record { done = λ zero. each;
         let none = forgotten new (Reduced (f ∷ rest)) gone left in
         let nowhere : get new name ≡ None = ap (get new) (here.0 ∙ sym first) ∙ none in
         absurd (cc (some, nowhere))
-    to name some (inr later) = (subst IsSome (stays name (λ same. later.0 (same ∙ first))) some, λ same. (let is : name ≡ name_of f.top = cc (same) in later.0 is))
+    to name some (inr later) = (
+      subst IsSome (stays name (λ same. later.0 (same ∙ first))) some,
+      λ same. (let is : name ≡ name_of f.top = cc (same) in later.0 is),
+    )
 
     each : (name : List ℕ) → IsNoted (Some new) name ↔ (IsNoted (Some (f ∷ rest)) name × (first_noted (Some (f ∷ rest)) ≢ Some name))
     each name = (
@@ -226,7 +243,8 @@ left_out old new gone h left other = (
 )
   where
     is_none : other ≡ gone → IsSome (get new other) → ⊥
-    is_none same some = let nowhere : get new other ≡ None = ap (get new) same ∙ forgotten new (Reduced old) gone left in absurd (cc (some, nowhere))
+    is_none same some = let nowhere : get new other ≡ None = ap (get new) same
+        ∙ forgotten new (Reduced old) gone left in absurd (cc (some, nowhere))
 
 -- ---- what a call reports about it
 
@@ -234,9 +252,11 @@ left_out old new gone h left other = (
 pub refused_news : (status : ℕ) (before after : Watched) → after ≡ before → TellsNews status false before.node after.node
 refused_news status before after same = record { done = λ zero. ap (λ h. h.node.table) same; refused = λ other. refl }
 
-pub refused_noted : (status : ℕ) (before after : Watched) → after ≡ before → Noted before.changes after.changes status before.node after.node
+pub refused_noted : (status : ℕ) (before after : Watched) → after ≡ before
+    → Noted before.changes after.changes status before.node after.node
 refused_noted status before after same = record {
-  done = λ zero. subst (λ h. NotesChanges before.changes h.changes before.node.table h.node.table) (sym same) (unchanged before.changes before.node.table);
+  done = λ zero. subst (λ h. NotesChanges before.changes h.changes before.node.table h.node.table) (sym same)
+      (unchanged before.changes before.node.table);
   refused = λ other. ap (λ h. h.changes) same;
 }
 
@@ -249,7 +269,8 @@ all_named (Ok (Some also)) names own is h = subst (λ (t : Entries). (name : Lis
 all_named (Err error) names own is h = tt
 
 -- a table that was joined in was taken in, unless memory was refused
-pub taken_on_ok : {A E : Type 0} (r : Result A E) (before after other : Entries) (claims : List Claim) → IsLegalTable before → TableOf other claims
+pub taken_on_ok : {A E : Type 0} (r : Result A E) (before after other : Entries) (claims : List Claim)
+    → IsLegalTable before → TableOf other claims
     → OnOk r ((claims others : List Claim) → TableOf before claims → TableOf other others → TableOf after (claims ++ others))
     → OnOk r (TakesClaims claims before after)
 taken_on_ok (Ok news) before after other claims legal of all = taken before after other claims legal of all
@@ -260,9 +281,12 @@ due true P Q is h = h
 due false P Q is h = absurd cc
 
 -- a refutation that was due was made
-pub refuted_noted : (old new : Option Entries) (before after : NodeValue) (answer : Option ℕ) (named : Option Names) → IsLegalTable before.table
+pub refuted_noted : (old new : Option Entries) (before after : NodeValue) (answer : Option ℕ)
+    (named : Option Names) → IsLegalTable before.table
     → IsDueInRange before → IfSome answer (IsRefutedBy before after) → (answer ≡ None → IsAtRest before)
     → IfSome named (λ also. (name : List ℕ) → IsSome (get also.names name) ↔ (name ≡ before.name)) → AddsNames old new named
     → NotesChanges old new before.table after.table
 refuted_noted old new before after None named legal is_due by rests own adds = absurd ((rests refl).kept.0 is_due.1.kept.0)
-refuted_noted old new before after (Some inc) named legal is_due by rests own adds = own_noted old new before after inc named legal by own adds
+refuted_noted old new before after
+    (Some inc) named legal is_due by rests own adds = own_noted old new before after inc named legal by
+    own adds

@@ -14,7 +14,8 @@ TakesIn table new said = (claims : List Claim) → TableOf table claims → Tabl
 pub taken_as : (table new : Entries) (said other : List Claim) → said ≡ other → TakesIn table new said → TakesIn table new other
 taken_as table new said other is takes = subst (TakesIn table new) is takes
 
-pub taken_both : (table one two : Entries) (c d : Claim) → TakesIn table one (c ∷ []) → TakesIn one two (d ∷ []) → TakesIn table two (c ∷ d ∷ [])
+pub taken_both : (table one two : Entries) (c d : Claim) → TakesIn table one (c ∷ [])
+    → TakesIn one two (d ∷ []) → TakesIn table two (c ∷ d ∷ [])
 taken_both table one two c d first second = λ claims h.
     subst (TableOf two) (append_assoc claims (c ∷ []) (d ∷ [])) (second (claims ++ c ∷ []) (first claims h))
 

@@ -1,5 +1,6 @@
 -- Streams that come in pieces: how far one is read, and why it is not whole.
-use Rattle.std.proofs.Common.{◌≡◌, ◌≢◌, ◌∙◌, ℕ, ◌+◌, ◌-◌, ◌<◌, ◌≤◌, true, false, List, [], ◌∷◌, ◌++◌, length, take, drop, inl, inr, refl, sym, ap, subst, append-nil, append_assoc, arith}
+use Rattle.std.proofs.Common.{◌≡◌, ◌≢◌, ◌∙◌, ℕ, ◌+◌, ◌-◌, ◌<◌, ◌≤◌, true, false, List, [], ◌∷◌, ◌++◌, length, take}
+use Rattle.std.proofs.Common.{drop, inl, inr, refl, sym, ap, subst, append-nil, append_assoc, arith}
 use Rattle.std.proofs.Math.Seq.{drop-append_seam}
 use Rattle.std.proofs.lemmas.List.{length-append, length-take-le, take-append-drop}
 use Rattle.swim_claim.specs.declared.claim.Claim.{Claim}
@@ -39,40 +40,63 @@ took claims taken of =
     (TableOf-Join [] (table_of claims) taken claims of is)
 
 -- what progress says was read is what reading step by step reads
-read_some : (bytes front rest : List ℕ) (header : Header) (claims : List Claim) (left : ℕ) → BeginText front header claims → bytes ≡ front ++ rest
-    → length claims + left ≡ header.nodes → ReadSome (memory bytes) (memory rest) [] (record { header = header; left = left; table = table_of claims })
-read_some bytes front rest header claims left begun parts sum = record { claims = claims; table = took claims; counted = sum; taken = (front, begun, parts) }
+read_some : (bytes front rest : List ℕ) (header : Header) (claims : List Claim) (left : ℕ)
+    → BeginText front header claims → bytes ≡ front ++ rest
+    → length claims + left ≡ header.nodes
+    → ReadSome (memory bytes) (memory rest) []
+    (record { header = header; left = left; table = table_of claims })
+read_some bytes front rest header claims left begun parts sum = record {
+  claims = claims;
+  table = took claims;
+  counted = sum;
+  taken = (front, begun, parts);
+}
 
-unread : (bytes front rest : List ℕ) (p : Progress) (user : ℕ) → bytes ≡ front ++ rest → p ≡ progress (length front) p.left user true → drop p.at bytes ≡ rest
+unread : (bytes front rest : List ℕ) (p : Progress) (user : ℕ) → bytes ≡ front ++ rest
+    → p ≡ progress (length front) p.left user true → drop p.at bytes ≡ rest
 unread bytes front rest p user parts is =
     ap (λ (q : Progress). drop q.at bytes) is ∙ ap (λ (b : List ℕ). drop (length front) b) parts ∙ drop-append_seam front rest
 
 has_one : (p : Progress) (at left user : ℕ) → p ≡ progress at left user true → p.has_header ≡ false → ⊥
-has_one p at left user is fresh = let begun_it : p.has_header ≡ true = ap (λ (q : Progress). q.has_header) is in let both : true ≡ false = sym begun_it ∙ fresh in cc
+has_one p at left user is fresh = let begun_it : p.has_header ≡ true = ap (λ (q : Progress). q.has_header) is
+    in let both : true ≡ false = sym begun_it ∙ fresh in cc
 
 has_none : (p : Progress) → p ≡ progress 0 0 0 false → p.has_header ≡ true → ⊥
-has_none p is begun_it = let fresh : p.has_header ≡ false = ap (λ (q : Progress). q.has_header) is in let both : true ≡ false = sym begun_it ∙ fresh in cc
+has_none p is begun_it = let fresh : p.has_header ≡ false = ap (λ (q : Progress). q.has_header) is
+    in let both : true ≡ false = sym begun_it ∙ fresh in cc
 
 -- the offset after what was read
 place : (bytes front rest : List ℕ) → bytes ≡ front ++ rest → length bytes - length rest ≡ length front
-place bytes front rest parts = let sum : length bytes ≡ length front + length rest = ap length parts ∙ length-append front rest in omega (arith, sum)
+place bytes front rest parts = let sum : length bytes ≡ length front + length rest = ap length parts
+    ∙ length-append front rest in omega (arith, sum)
 
 -- the header is read
-pub header_read : (bytes rest : List ℕ) (old new : Progress) (h : Header) → old.has_header ≡ false → ConsumesText (memory (drop old.at bytes)) (memory rest) (λ b. HeaderText b h)
+pub header_read : (bytes rest : List ℕ) (old new : Progress) (h : Header) → old.has_header ≡ false
+    → ConsumesText (memory (drop old.at bytes)) (memory rest) (λ b. HeaderText b h)
     → new ≡ progress (length bytes - length rest) h.nodes h.user_len true → IsProgressIn bytes old → IsProgressIn bytes new
 header_read bytes rest old new h fresh taken is (IsProgressIn.none was) =
     let parts : bytes ≡ taken.0 ++ rest = sym (ap (λ (q : Progress). drop q.at bytes) was) ∙ taken.2 in
     let left : new.left ≡ h.nodes = ap (λ (q : Progress). q.left) is in
-    IsProgressIn.some taken.0 rest h [] (record { head = taken.0; records = []; bytes = sym (append-nil taken.0); head_text = taken.1; record_texts = StateTexts.none })
+    IsProgressIn.some taken.0 rest h []
+    (record {
+      head = taken.0;
+      records = [];
+      bytes = sym (append-nil taken.0);
+      head_text = taken.1;
+      record_texts = StateTexts.none;
+    })
     parts (omega (arith, left)) (is ∙ (λ i. progress (place bytes taken.0 rest parts i) (sym left i) h.user_len true))
-header_read bytes rest old new h fresh taken is (IsProgressIn.some front more header claims begun parts sum was) = absurd (has_one old _ _ _ was fresh)
+header_read bytes rest old new h fresh taken is
+    (IsProgressIn.some front more header claims begun parts sum was) = absurd
+    (has_one old _ _ _ was fresh)
 
 pub header_begun : (bytes rest : List ℕ) (old new : Progress) (h : Header) → old.has_header ≡ false
     → ConsumesText (memory (drop old.at bytes)) (memory rest) (λ b. HeaderText b h)
     → new ≡ progress (length bytes - length rest) h.nodes h.user_len true → HasBegun bytes old new
 header_begun bytes rest old new h fresh taken is = HasBegun.now taken.0 rest h fresh taken.1 taken.2 is
 
-pub record_taken : (bytes rest : List ℕ) (old new : Progress) (c : Claim) → 0 < old.left → ConsumesText (memory (drop old.at bytes)) (memory rest) (λ b. StateText b c)
+pub record_taken : (bytes rest : List ℕ) (old new : Progress) (c : Claim) → 0 < old.left
+    → ConsumesText (memory (drop old.at bytes)) (memory rest) (λ b. StateText b c)
     → new ≡ progress (length bytes - length rest) (old.left - 1) old.user_len true → TakesRecord bytes old new c
 record_taken bytes rest old new c some taken is = (taken.0, rest, taken.1, some, taken.2, is)
 
@@ -83,7 +107,8 @@ pub record_read : (bytes rest : List ℕ) (old new : Progress) (c : Claim) → o
 record_read bytes rest old new c begun_it left taken is (IsProgressIn.none was) = absurd (has_none old was begun_it)
 record_read bytes rest old new c begun_it left taken is (IsProgressIn.some front more header claims begun parts sum was) =
     let behind : more ≡ taken.0 ++ rest = sym (unread bytes front more old header.user_len parts was) ∙ taken.2 in
-    let parts' : bytes ≡ (front ++ taken.0) ++ rest = parts ∙ ap (λ (m : List ℕ). front ++ m) behind ∙ sym (append_assoc front taken.0 rest) in
+    let parts' : bytes ≡ (front ++ taken.0) ++ rest = parts ∙ ap
+    (λ (m : List ℕ). front ++ m) behind ∙ sym (append_assoc front taken.0 rest) in
     let count = length-append claims (c ∷ []) in
     let user : old.user_len ≡ header.user_len = ap (λ (q : Progress). q.user_len) was in
     IsProgressIn.some (front ++ taken.0) rest header (claims ++ c ∷ []) (begun_more header claims c front taken.0 begun taken.1) parts'
@@ -92,7 +117,8 @@ record_read bytes rest old new c begun_it left taken is (IsProgressIn.some front
 -- ---- why there is no stream
 
 -- no stream is there, and this is why
-none_there : (bytes : List ℕ) (fault : WireFault) → fault ≢ wire.Memory → (wire_cause fault ≡ by_inlet → CountsFault 0 0) → UnlessFailed (wire_cause fault) (HasNone bytes)
+none_there : (bytes : List ℕ) (fault : WireFault) → fault ≢ wire.Memory
+    → (wire_cause fault ≡ by_inlet → CountsFault 0 0) → UnlessFailed (wire_cause fault) (HasNone bytes)
     → ReasonForStream fault bytes → HoldsNoStream bytes fault
 none_there bytes fault no_memory failed none why =
     lacks bytes [] fault (record { no_memory = no_memory; lacks = none; reason = why; failed = λ e. failed (ap wire_cause e) })
@@ -106,8 +132,10 @@ no_stream bytes none text rest is parts =
     none s.head (s.records ++ (s.user ++ rest)) (s.header, s.head_text)
     (parts ∙ ap (λ (t : List ℕ). t ++ rest) s.bytes ∙ in_parts s.head s.records s.user rest)
 
-pub header_missing : (bytes : List ℕ) (p : Progress) (fault : WireFault) → fault ≢ wire.Memory → (wire_cause fault ≡ by_inlet → CountsFault 0 0)
-    → UnlessFailed (wire_cause fault) (NoTextAtFront (memory (drop p.at bytes)) (λ b. (h : Header) × HeaderText b h)) → ReasonForBegin fault (drop p.at bytes)
+pub header_missing : (bytes : List ℕ) (p : Progress) (fault : WireFault) → fault ≢ wire.Memory
+    → (wire_cause fault ≡ by_inlet → CountsFault 0 0)
+    → UnlessFailed (wire_cause fault) (NoTextAtFront (memory (drop p.at bytes))
+    (λ b. (h : Header) × HeaderText b h)) → ReasonForBegin fault (drop p.at bytes)
     → p.has_header ≡ false → IsProgressIn bytes p → HoldsNoStream bytes fault
 header_missing bytes p error no_memory failed none why fresh (IsProgressIn.none is) =
     let all : drop p.at bytes ≡ bytes = ap (λ (q : Progress). drop q.at bytes) is in
@@ -115,15 +143,19 @@ header_missing bytes p error no_memory failed none why fresh (IsProgressIn.none 
     (UnlessFailed-weaker (wire_cause error) (λ (n : NoTextAtFront (memory (drop p.at bytes)) (λ b. (h : Header) × HeaderText b h)).
     no_stream bytes (subst (λ (b : List ℕ). NoTextAtFront (memory b) (λ b. (h : Header) × HeaderText b h)) all n)) none)
     (ReasonForStream.header (subst (λ (b : List ℕ). ReasonForBegin error b) all why))
-header_missing bytes p error no_memory failed none why fresh (IsProgressIn.some front more header claims begun parts sum is) = absurd (has_one p _ _ _ is fresh)
+header_missing bytes p error no_memory failed none why fresh
+    (IsProgressIn.some front more header claims begun parts sum is) = absurd (has_one p _ _ _ is fresh)
 
-not_next : (header : Header) (left : ℕ) (claims : List Claim) (rest : List ℕ) → 0 < left → NoTextAtFront (memory rest) (λ b. (c : Claim) × StateText b c)
+not_next : (header : Header) (left : ℕ) (claims : List Claim) (rest : List ℕ) → 0 < left
+    → NoTextAtFront (memory rest) (λ b. (c : Claim) × StateText b c)
     → NoTextAtFront (memory rest) (IsWanted (record { header = header; left = left; table = table_of claims }))
 not_next header left claims rest some none text more (IsWanted.record_of c lt is) parts = none text more (c, is) parts
 not_next header left claims rest some none text more (IsWanted.user_state over long) parts = absurd (omega (arith, some, over))
 
-pub record_missing : (bytes : List ℕ) (p : Progress) (fault : WireFault) → fault ≢ wire.Memory → (wire_cause fault ≡ by_inlet → CountsFault 0 0)
-    → UnlessFailed (wire_cause fault) (NoTextAtFront (memory (drop p.at bytes)) (λ b. (c : Claim) × StateText b c)) → ReasonForRecord fault (drop p.at bytes)
+pub record_missing : (bytes : List ℕ) (p : Progress) (fault : WireFault) → fault ≢ wire.Memory
+    → (wire_cause fault ≡ by_inlet → CountsFault 0 0)
+    → UnlessFailed (wire_cause fault) (NoTextAtFront (memory (drop p.at bytes))
+    (λ b. (c : Claim) × StateText b c)) → ReasonForRecord fault (drop p.at bytes)
     → p.has_header ≡ true → 0 < p.left → IsProgressIn bytes p → HoldsNoStream bytes fault
 record_missing bytes p error no_memory failed none why begun_it more (IsProgressIn.none is) = absurd (has_none p is begun_it)
 record_missing bytes p error no_memory failed none why begun_it more (IsProgressIn.some front rest header claims begun parts sum is) =
@@ -133,16 +165,21 @@ record_missing bytes p error no_memory failed none why begun_it more (IsProgress
     none_there bytes error no_memory failed
     (UnlessFailed-weaker (wire_cause error) (λ (n : NoTextAtFront (memory (drop p.at bytes)) (λ b. (c : Claim) × StateText b c)).
     none_wanted (memory bytes) (memory rest) [] reader some
-    (not_next header p.left claims rest more (subst (λ (b : List ℕ). NoTextAtFront (memory b) (λ b. (c : Claim) × StateText b c)) here n))) none)
-    (step_reason error (memory bytes) (memory rest) [] reader some (ReasonForStep.record_of more (subst (λ (b : List ℕ). ReasonForRecord error b) here why)))
+    (not_next header p.left claims rest more
+    (subst (λ (b : List ℕ). NoTextAtFront (memory b) (λ b. (c : Claim) × StateText b c)) here n)))
+    none)
+    (step_reason error (memory bytes) (memory rest) [] reader some
+    (ReasonForStep.record_of more (subst (λ (b : List ℕ). ReasonForRecord error b) here why)))
 
 not_enough : (header : Header) (claims : List Claim) (rest : List ℕ) → length rest < header.user_len
     → NoTextAtFront (memory rest) (IsWanted (record { header = header; left = 0; table = table_of claims }))
 not_enough header claims rest short text more (IsWanted.record_of c lt is) parts = absurd (omega (arith, lt))
 not_enough header claims rest short text more (IsWanted.user_state over long) parts =
-    let sum : length rest ≡ length text + length more = ap length parts ∙ length-append text more in absurd (omega (arith, sum, long, short))
+    let sum : length rest ≡ length text + length more = ap length parts ∙ length-append text more
+    in absurd (omega (arith, sum, long, short))
 
-pub user_missing : (bytes : List ℕ) (p : Progress) → length (drop p.at bytes) < p.user_len → p.has_header ≡ true → p.left ≡ 0 → IsProgressIn bytes p
+pub user_missing : (bytes : List ℕ) (p : Progress) → length (drop p.at bytes) < p.user_len
+    → p.has_header ≡ true → p.left ≡ 0 → IsProgressIn bytes p
     → HoldsNoStream bytes wire.Ended
 user_missing bytes p short begun_it over (IsProgressIn.none is) = absurd (has_none p is begun_it)
 user_missing bytes p short begun_it over (IsProgressIn.some front rest header claims begun parts sum is) =
@@ -158,7 +195,8 @@ user_missing bytes p short begun_it over (IsProgressIn.some front rest header cl
 
 -- ---- a whole stream
 
-pub whole_there : (bytes : List ℕ) (p : Progress) → p.user_len ≤ length (drop p.at bytes) → p.has_header ≡ true → p.left ≡ 0 → IsProgressIn bytes p
+pub whole_there : (bytes : List ℕ) (p : Progress) → p.user_len ≤ length (drop p.at bytes)
+    → p.has_header ≡ true → p.left ≡ 0 → IsProgressIn bytes p
     → WholeDone bytes p 0
 whole_there bytes p enough begun_it over (IsProgressIn.none is) = absurd (has_none p is begun_it)
 whole_there bytes p enough begun_it over (IsProgressIn.some front rest header claims begun parts sum is) =
@@ -166,7 +204,8 @@ whole_there bytes p enough begun_it over (IsProgressIn.some front rest header cl
     let user : p.user_len ≡ header.user_len = ap (λ (q : Progress). q.user_len) is in
     let at : p.at ≡ length front = ap (λ (q : Progress). q.at) is in
     let size = ap length here in
-    let long : length (take header.user_len rest) ≡ header.user_len = length-take-le header.user_len rest (omega (arith, enough, user, size)) in
+    let long : length (take header.user_len rest) ≡ header.user_len = length-take-le header.user_len rest
+    (omega (arith, enough, user, size)) in
     let sizes = length-append front (take header.user_len rest) in
     WholeDone.whole header.join refl over (
       claims,
@@ -182,7 +221,8 @@ whole_there bytes p enough begun_it over (IsProgressIn.some front rest header cl
 
 -- ---- what a call returns
 
-pub stopped : (bytes : List ℕ) (p : Progress) (fault : WireFault) (status : ℕ) → status ≡ wire_number fault → (fault ≢ wire.Memory → HoldsNoStream bytes fault)
+pub stopped : (bytes : List ℕ) (p : Progress) (fault : WireFault) (status : ℕ) → status ≡ wire_number fault
+    → (fault ≢ wire.Memory → HoldsNoStream bytes fault)
     → StopsAt p fault bytes → WholeDone bytes p status
 stopped bytes p fault status is none why = elim (memory_or fault) [
   | inl wants ↦ WholeDone.memory (is ∙ ap wire_number wants) (subst (λ (f : WireFault). StopsAt p f bytes) wants why)

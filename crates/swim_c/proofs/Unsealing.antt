@@ -1,5 +1,6 @@
 -- What was encrypted is unwrapped again.
-use Rattle.std.proofs.Common.{◌≡◌, ◌≢◌, ℕ, ◌+◌, ◌≤◌, List, [], ◌∷◌, ◌++◌, length, length-append, get_or, inl, inr, refl, sym, ap, ◌∙◌, subst, arith}
+use Rattle.std.proofs.Common.{◌≡◌, ◌≢◌, ℕ, ◌+◌, ◌≤◌, List, [], ◌∷◌, ◌++◌, length, length-append, get_or, inl, inr, refl}
+use Rattle.std.proofs.Common.{sym, ap, ◌∙◌, subst, arith}
 use Rattle.std.specs.Int.{w32, to_be_bytes}
 use Rattle.memberlist_cipher.specs.Encryption.{encrypted, encrypted_stream, head}
 use Rattle.memberlist_cipher.specs.Label.{IsLabelled}
@@ -20,7 +21,8 @@ bare_from : (bytes rest : List ℕ) (first : ℕ) → bytes ≡ first ∷ rest �
 bare_from bytes rest first is other w more begins = other w (ap (λ (b : List ℕ). get_or b 0 0) (sym is ∙ begins))
 
 -- what has a label is wrapped in the label, or in nothing
-label_wraps : (limit : ℕ) (bytes name rest : List ℕ) → IsLabelled bytes name rest → IsBare rest → length bytes ≤ limit → Unwraps limit bytes rest
+label_wraps : (limit : ℕ) (bytes name rest : List ℕ) → IsLabelled bytes name rest → IsBare rest
+    → length bytes ≤ limit → Unwraps limit bytes rest
 label_wraps limit bytes name rest (inl none) bare few = record {
   wrappers = [];
   few = omega arith;
@@ -38,13 +40,16 @@ label_wraps limit bytes name rest (inr some) bare few = record {
 
 -- ---- packets
 
-pub packet_again : (policy : InTheClear) (keys : List (List ℕ)) (nonce label message packet inner : List ℕ) → IsSealedPacket keys nonce label message packet
+pub packet_again : (policy : InTheClear) (keys : List (List ℕ)) (nonce label message packet inner : List ℕ)
+    → IsSealedPacket keys nonce label message packet
     → Unwraps max_message_len message inner → IsInside policy keys packet inner
 packet_again policy keys nonce label message packet inner s wraps = IsInside.opened message s.opens wraps
 
-pub no_other : (policy : InTheClear) (keys : List (List ℕ)) (nonce label message packet inner : List ℕ) → IsSealedPacket keys nonce label message packet
+pub no_other : (policy : InTheClear) (keys : List (List ℕ)) (nonce label message packet inner : List ℕ)
+    → IsSealedPacket keys nonce label message packet
     → IsInside policy keys packet inner → Unwraps max_message_len message inner
-no_other policy keys nonce label message packet inner s (IsInside.clear read closed wraps) = absurd (closed message (opens_packet keys packet message s.opens))
+no_other policy keys nonce label message packet inner s (IsInside.clear read closed wraps) = absurd
+    (closed message (opens_packet keys packet message s.opens))
 no_other policy keys nonce label message packet inner s (IsInside.opened other opens wraps) =
     subst (λ (m : List ℕ). Unwraps max_message_len m inner) (one_opened keys packet other message opens s.opens) wraps
 
@@ -63,17 +68,21 @@ not_ten compression e = omega (arith, e)
 not_ten checksum e = omega (arith, e)
 not_ten labelling e = omega (arith, e)
 
-is_sealed : (keys : List (List ℕ)) (nonce label message bytes : List ℕ) → IsSealedStream keys nonce label message bytes → IsSealed max_stream_len bytes
+is_sealed : (keys : List (List ℕ)) (nonce label message bytes : List ℕ)
+    → IsSealedStream keys nonce label message bytes → IsSealed max_stream_len bytes
 is_sealed keys nonce label message bytes s =
     let key = s.sends.key in let made = encrypted_stream key nonce label message in let begins = begins_stream key nonce label message in (
       made,
-      label_wraps max_stream_len bytes label made s.sends.labelled (bare_from made (stream_rest key nonce label message) 10 begins not_ten) s.within,
+      label_wraps max_stream_len bytes label made s.sends.labelled
+          (bare_from made (stream_rest key nonce label message) 10 begins not_ten) s.within,
       (stream_rest key nonce label message, begins),
     )
 
-pub stream_again : (policy : InTheClear) (keys : List (List ℕ)) (nonce label message bytes inner : List ℕ) → IsSealedStream keys nonce label message bytes
+pub stream_again : (policy : InTheClear) (keys : List (List ℕ)) (nonce label message bytes inner : List ℕ)
+    → IsSealedStream keys nonce label message bytes
     → Unwraps max_stream_len message inner → IsInsideStream max_stream_len policy keys bytes inner
-stream_again policy keys nonce label message bytes inner s wraps = IsInsideStream.opened message (is_sealed keys nonce label message bytes s) s.opens wraps
+stream_again policy keys nonce label message bytes inner s wraps = IsInsideStream.opened message
+    (is_sealed keys nonce label message bytes s) s.opens wraps
 
 -- ---- streams after their label, and replies, which have none before them
 
@@ -82,7 +91,8 @@ read_behind : (label own bytes rest : List ℕ) → IsLabelled bytes label rest 
 read_behind label own bytes rest (inl none) same = inr (λ begins. none.2 begins.0 begins.1, inl (same none.0, refl, none.2))
 read_behind label own bytes rest (inr some) same = inl ((length label ∷ label ++ rest, some.1), refl)
 
-pub behind_again : (policy : InTheClear) (keys : List (List ℕ)) (nonce label own message bytes stream : List ℕ) → IsSealedStream keys nonce label message bytes
+pub behind_again : (policy : InTheClear) (keys : List (List ℕ))
+    (nonce label own message bytes stream : List ℕ) → IsSealedStream keys nonce label message bytes
     → Unwraps max_stream_len message stream → (label ≡ [] → own ≡ []) → IsInsideReply max_stream_len policy keys own bytes stream
 behind_again policy keys nonce label own message bytes stream s clear same =
     (bytes, read_behind label own bytes _ s.sends.labelled same, stream_again policy keys nonce label message bytes stream s clear)
@@ -106,8 +116,13 @@ sealed_behind keys nonce label message bytes s = record {
   within = s.within s.opens.0 s.opens.1;
 }
 
-pub reply_again : (policy : InTheClear) (keys : List (List ℕ)) (nonce label message bytes stream : List ℕ) → IsSealedReply keys nonce label message bytes
+pub reply_again : (policy : InTheClear) (keys : List (List ℕ)) (nonce label message bytes stream : List ℕ)
+    → IsSealedReply keys nonce label message bytes
     → Unwraps max_stream_len message stream → IsInsideReply max_stream_len policy keys label bytes stream
 reply_again policy keys nonce label message bytes stream s clear =
-    let bare = (is_bare bytes _ s.sends.labelled).1 in
-    (s.opens.0, inr (λ begins. bare begins.0 begins.1, s.opens.1), stream_again policy keys nonce label message s.opens.0 stream (sealed_behind keys nonce label message bytes s) clear)
+    let bare = (is_bare bytes _ s.sends.labelled).1 in (
+      s.opens.0,
+      inr (λ begins. bare begins.0 begins.1, s.opens.1),
+      stream_again policy keys nonce label message s.opens.0 stream
+          (sealed_behind keys nonce label message bytes s) clear,
+    )

@@ -10,9 +10,11 @@ use Rattle.swim_c.specs.Views.{HearDone, Hears, OnSameView, OnView}
 pub on_view : (old new : Option HeldView) (Without : Type 0) (Does : ViewValue → ViewValue → Type 0) (before after : HeldView)
     → old ≡ Some before → new ≡ Some after → Does before.view after.view → OnView old new Without Does
 on_view old new Without Does before after was is does =
-    subst (λ (o : Option HeldView). OnView o new Without Does) (sym was) (subst (λ (n : Option HeldView). OnView (Some before) n Without Does) (sym is) does)
+    subst (λ (o : Option HeldView). OnView o new Without Does) (sym was)
+    (subst (λ (n : Option HeldView). OnView (Some before) n Without Does) (sym is) does)
 
-pub on_same_view : (old new : Option HeldView) (Without : Type 0) (Tells : ViewValue → Type 0) (held : HeldView) → old ≡ Some held → new ≡ Some held
+pub on_same_view : (old new : Option HeldView) (Without : Type 0) (Tells : ViewValue
+    → Type 0) (held : HeldView) → old ≡ Some held → new ≡ Some held
     → Tells held.view → OnSameView old new Without Tells
 on_same_view old new Without Tells held was is told = record {
   same = is ∙ sym was;

@@ -12,7 +12,8 @@ use Rattle.swim_table.proofs.Tables.{TableOf-table_of, TableOf-unique}
 use Rattle.swim_c.specs.Exchanges.{BeginsStream, NodeTakesStream}
 
 -- what was removed from the start is the stream
-pub begins : (bytes rest : List ℕ) (claims : List Claim) (join : Bool) → (text : List ℕ) × StreamText text claims join × (bytes ≡ text ++ rest)
+pub begins : (bytes rest : List ℕ) (claims : List Claim) (join : Bool)
+    → (text : List ℕ) × StreamText text claims join × (bytes ≡ text ++ rest)
     → BeginsStream bytes claims join (length bytes - length rest)
 begins bytes rest claims join gone =
     let whole : length bytes ≡ length gone.0 + length rest = ap length gone.2 ∙ length-append gone.0 rest in

@@ -1,6 +1,13 @@
 -- Bytes that are written to a buffer of the caller.
 use Rattle.std.specs.Prelude.{◌≡◌, ℕ, ◌<◌, ◌≤◌, List, ◌++◌, length, drop}
+use Rattle.swim_c.specs.declared.exchanging.Given.{Given}
 use Rattle.swim_c.specs.Statuses as statuses
+
+-- the bytes were written to the start of the same memory, which has room for them
+abbrev pub IsAtFront : List ℕ → Given → Given → Type 0
+IsAtFront bytes old new = (new.out.ghost_name ≡ old.out.ghost_name)
+    × (length bytes ≤ length old.out.now)
+    × (new.out.now ≡ bytes ++ drop (length bytes) old.out.now)
 
 -- The bytes are at the start of the buffer (status 0), or they do not fit and the buffer is
 -- unchanged (66). The length is theirs.

@@ -79,6 +79,19 @@ pub data FinishDone (stream : List ℕ) (status : ℕ) (join : Bool) (used len :
       → IsUntold join used len
       → after ≡ before → FinishDone stream status join used len before after
 
+-- A stream was read. Either it was taken in, and the dump of before was written in the form (0), or
+-- there is no room for the dump and nothing changed (66). `Wrote` and `LacksRoom` are what this
+-- means for the destination of the dump.
+pub data Replied (form : Wanted) (stream : List ℕ) (Wrote : List ℕ → Type 0)
+    (LacksRoom : ℕ → Type 0) (status : ℕ) (join : Bool) (used len : ℕ)
+    (before after : NodeValue) : Type 0 where
+  replied : status ≡ 0 → NodeTakesStream stream join used before after
+      → len ≡ length (bytes_in form before.table join) → Wrote (bytes_in form before.table join)
+      → Replied form stream Wrote LacksRoom status join used len before after
+  no_room : status ≡ statuses.too_small → ReadsStream stream join used
+      → len ≡ length (bytes_in form before.table join) → LacksRoom len → after ≡ before
+      → Replied form stream Wrote LacksRoom status join used len before after
+
 -- A stream was read. Either the dump of before was written in the form and the stream taken in (0),
 -- or the dump does not fit and nothing changed (66).
 pub data AnswersOffer (form : Wanted) (stream old new : List ℕ) (status : ℕ) (join : Bool)

@@ -1,5 +1,6 @@
 -- The messages of packets and streams, unwrapped.
-use Rattle.std.specs.Prelude.{◌≡◌, ◌≢◌, ℕ, ◌<◌, ◌==◌, ◌||◌, Bool, List, [], ◌∷◌, length, nat_lt, Result, Ok, Err, MatchResult, if◌then◌else◌}
+use Rattle.std.specs.Prelude.{◌≡◌, ◌≢◌, ℕ, ◌<◌, ◌==◌, ◌||◌, Bool, List, [], ◌∷◌, length, nat_lt, Result, Ok, Err}
+use Rattle.std.specs.Prelude.{MatchResult, if◌then◌else◌}
 use Rattle.memberlist_transport.specs.declared.fault.PacketFault.{PacketFault}
 use Rattle.memberlist_transport.specs.declared.fault.PacketFault.TheVariants as packet_fault
 use Rattle.memberlist_transport.specs.declared.fault.StreamFault.{StreamFault}

@@ -11,7 +11,8 @@ use Rattle.swim_wire.specs.Packet.{PacketValue}
 use Rattle.memberlist_message.specs.Messages.{MessageValue, message_of}
 use Rattle.memberlist_message.specs.Messages.MessageValue.{claim}
 use Rattle.memberlist_view.specs.declared.event.Event.{Event}
-use Rattle.memberlist_view.specs.declared.event.Event.TheVariants.{Joined, Known, Seen, Back, Updated, Renewed, Refuted, Suspected, AlsoSuspected, Dead, Left, Conflict}
+use Rattle.memberlist_view.specs.declared.event.Event.TheVariants.{Joined, Known, Seen, Back, Updated, Renewed, Refuted}
+use Rattle.memberlist_view.specs.declared.event.Event.TheVariants.{Suspected, AlsoSuspected, Dead, Left, Conflict}
 use Rattle.memberlist_view.specs.declared.heard.Heard.{Heard}
 use Rattle.memberlist_view.specs.Heard.{about, accuser_of, said_in_packet, said_in_record}
 use Rattle.memberlist_view.specs.Member.{member_event_of, member_view_after}

@@ -1,5 +1,6 @@
 -- What changes in a node's table, and the names that are noted for it.
-use Rattle.std.specs.Prelude.{◌≡◌, ◌≢◌, ◌↔◌, ◌⊎◌, ◌+◌, ◌≤◌, ℕ, Bool, false, List, [], ◌∷◌, Option, Some, None, IsSome, MatchBool, length, if◌then◌else◌}
+use Rattle.std.specs.Prelude.{◌≡◌, ◌≢◌, ◌↔◌, ◌⊎◌, ◌+◌, ◌≤◌, ℕ, Bool, false, List, [], ◌∷◌, Option, Some, None, IsSome}
+use Rattle.std.specs.Prelude.{MatchBool, length, if◌then◌else◌}
 use Rattle.std.specs.Option.{option_and_then}
 use Rattle.swim_claim.specs.Claim.{name_of}
 use Rattle.swim_table.specs.Node.{NodeValue}

@@ -1,19 +1,21 @@
 //! The two halves of an exchange, over the caller's memory.
 
-ghost use Rattle.std.specs.Prelude.{◌≡◌, false, IfOk, IfErr, OnErr};
-ghost use Rattle.swim_c.specs.Buffers.{WrittenOr};
-ghost use Rattle.swim_c.specs.Exchanges.{AnswersOffer, LacksDump, AnswerCause, FinishCause, FinishDone, AnswerDone, OfferedInForm, AnsweredInForm};
+ghost use Rattle.std.specs.Prelude.{◌≡◌, ◌≤◌, false, length, IfOk, IfErr, OnErr, MatchResult};
+ghost use Rattle.swim_sync.specs.Fault.{sync_number};
+ghost use Rattle.swim_c.specs.Buffers.{IsAtFront, WrittenOr};
+ghost use Rattle.swim_c.specs.Exchanges.{LacksDump, FinishCause, FinishDone, OfferedInForm, AnsweredInForm};
 ghost use Rattle.swim_c.specs.Forms.{Allows, bytes_in, wanted};
 ghost use Rattle.swim_c.specs.Watching.{Noted, TellsNews};
 
+use crate::answering::{Destination, answer};
 use crate::copy::Written;
 use crate::form::Form;
 use crate::status::{DONE, TOO_SMALL};
 use crate::watching::Watched;
 use std::alloc::Global;
 use swim_pack::SliceInlet;
-use swim_sync::{SyncFault, room_for_both};
-use swim_table::{Node, read_news};
+use swim_sync::SyncFault;
+use swim_table::{EncodeFault, Node, Table, read_news};
 
 /// The result of reading a stream.
 #[repr(C)]
@@ -41,6 +43,17 @@ impl Exchanged {
             news: false,
             used: 0,
             len: 0,
+        }
+    }
+
+    /// What a call reports: what was exchanged, or the status of the fault.
+    pub fn reported(outcome: Result<Exchanged, SyncFault>) -> Exchanged
+        ensures { MatchResult outcome (λ made. result ≡ made) (λ fault. result
+            ≡ record { status = sync_number fault; join = false; news = false; used = 0; len = 0 }) }
+    {
+        match outcome {
+            Ok(exchanged) => exchanged,
+            Err(fault) => Exchanged::refused(fault.number()),
         }
     }
 }
@@ -76,7 +89,65 @@ fn offer_out(node: &Node, join: bool, form: Form, user: &[u8], out: &mut [u8]) -
     Written { status: DONE, len }
 }
 
-/// Answers a stream in the form with this number, with this user state.
+/// The caller's memory. Writing to it takes none.
+#[derive(Drop)]
+pub struct Given<'a> {
+    pub out: &'a mut [u8],
+}
+
+impl<'a> Given<'a> {
+    /// This memory.
+    pub fn new(out: &'a mut [u8]) -> Given<'a>
+        ensures same_reference { result.out.ghost_name ≡ out.entry.ghost_name }
+        ensures same { result.out.now ≡ out.old }
+    {
+        Given { out }
+    }
+}
+
+impl<'a> Destination for Given<'a> {
+    type Prepared = usize;
+
+    ghost is_dump = { λ len bytes. len ≡ length bytes };
+
+    ghost room_for = { λ len to. len ≤ length to.out.now };
+
+    ghost wrote = { IsAtFront };
+
+    fn prepare(
+        &self,
+        _alloc: Global,
+        table: &Table,
+        join: bool,
+        form: Form,
+        user: &[u8],
+    ) -> Result<usize, EncodeFault> {
+        form.dump_len(table, join, user)
+    }
+
+    fn len_of(&self, dump: &usize) -> usize {
+        *dump
+    }
+
+    fn has_room(&self, len: usize) -> bool {
+        len <= self.out.len()
+    }
+
+    fn write(
+        &mut self,
+        _alloc: Global,
+        table: &Table,
+        join: bool,
+        form: Form,
+        user: &[u8],
+        dump: usize,
+    ) {
+        form.dump_front(table, join, user, dump, self.out);
+    }
+}
+
+/// Answers a stream in the form with this number, with this user state: writes the reply to the
+/// caller's memory.
 pub fn answer_in_form(
     alloc: Global,
     held: &mut Watched,
@@ -92,79 +163,12 @@ pub fn answer_in_form(
         result.status held.old.node held.new.node }
 {
     match Form::of(form, user) {
-        Ok(form) => answer_stream(alloc, held, stream, form, user, out),
+        Ok(form) => {
+            let mut to = Given::new(out);
+            Exchanged::reported(answer(alloc, held, stream, form, user, &mut to))
+        }
         Err(status) => Exchanged::refused(status),
     }
-}
-
-/// Reads a stream, writes the node's dump in this form, as the table was before, to the buffer, and
-/// takes the stream in. If the buffer is too small, nothing is taken in, and the length that the
-/// dump needs is returned. The dump takes no memory.
-fn answer_stream(
-    alloc: Global,
-    held: &mut Watched,
-    stream: &[u8],
-    form: Form,
-    user: &[u8],
-    out: &mut [u8],
-) -> Exchanged
-    requires { Allows form user.now }
-    ensures answers { AnswerDone (wanted form user.now) stream.now out.old out.new
-        result.status result.join result.used result.len held.old.node held.new.node }
-    ensures news { TellsNews result.status result.news held.old.node held.new.node }
-    ensures noted { Noted held.old.changes held.new.changes
-        result.status held.old.node held.new.node }
-{
-    match try_answer(alloc, held, stream, form, user, out) {
-        Ok(exchanged) => exchanged,
-        Err(fault) => Exchanged::refused(fault.number()),
-    }
-}
-
-fn try_answer(
-    alloc: Global,
-    held: &mut Watched,
-    stream: &[u8],
-    form: Form,
-    user: &[u8],
-    out: &mut [u8],
-) -> Result<Exchanged, SyncFault>
-    requires { Allows form user.now }
-    ensures answers { IfOk result (λ made. AnswersOffer (wanted form user.now) stream.now
-        out.old out.new made.status made.join made.used made.len held.old.node held.new.node) }
-    ensures news { IfOk result (λ made.
-        TellsNews made.status made.news held.old.node held.new.node) }
-    ensures noted { IfOk result (λ made. Noted held.old.changes held.new.changes
-        made.status held.old.node held.new.node) }
-    ensures unchanged { OnErr result ((held.new ≡ held.old) × (out.new ≡ out.old)) }
-    ensures refused { IfErr result (AnswerCause (wanted form user.now) stream.now held.old.node.table) }
-{
-    let mut inlet = SliceInlet::new(stream);
-    let (offered, join) = read_news(alloc, &mut inlet, held.node.table())?;
-    // opens the invariant: the table is legal
-    let _ = offered.len();
-    let reply_len = form.dump_len(held.node.table(), join, user)?;
-    let used = stream.len() - inlet.rest().len();
-    if reply_len > out.len() {
-        return Ok(Exchanged {
-            status: TOO_SMALL,
-            join,
-            news: false,
-            used,
-            len: reply_len,
-        });
-    }
-    let news = held.news(alloc, &offered)?;
-    let room = room_for_both(alloc, held.node.table(), &offered)?;
-    form.dump_front(held.node.table(), join, user, reply_len, out);
-    let news = held.join_in(room, offered, news);
-    Ok(Exchanged {
-        status: DONE,
-        join,
-        news,
-        used,
-        len: reply_len,
-    })
 }
 
 /// Reads a stream and takes it in.
@@ -175,10 +179,7 @@ pub fn finish_stream(alloc: Global, held: &mut Watched, stream: &[u8]) -> Exchan
     ensures noted { Noted held.old.changes held.new.changes
         result.status held.old.node held.new.node }
 {
-    match try_finish(alloc, held, stream) {
-        Ok(exchanged) => exchanged,
-        Err(fault) => Exchanged::refused(fault.number()),
-    }
+    Exchanged::reported(try_finish(alloc, held, stream))
 }
 
 fn try_finish(alloc: Global, held: &mut Watched, stream: &[u8]) -> Result<Exchanged, SyncFault>

@@ -25,6 +25,7 @@
 //! | `query` | what a node reports: its listing, members and relations |
 //! | `member` | a member as a table has it, in the caller's memory |
 //! | `form` | the two forms of a dump |
+//! | `answering` | answering a stream, wherever the reply goes |
 //! | `exchanging` | the two halves of an exchange, over the caller's memory |
 //! | `filling` | filling buffers of the library |
 //! | `progress` | a stream that comes in pieces, and how far it has been read |
@@ -37,6 +38,7 @@
 //! | `laws` | facts about the definitions, independent of any code |
 #![tactic(auto)]
 
+mod answering;
 mod buffer;
 mod cluster_keys;
 mod compound;

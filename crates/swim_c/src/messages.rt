@@ -18,14 +18,14 @@ use std::alloc::{AllocError, Global};
 /// A member that is named in a ping: its name, its address and its port, each of which may be empty
 /// or 0.
 #[derive(Clone, Copy)]
-pub struct Place<'a> {
+pub struct Peer<'a> {
     pub name: &'a [u8],
     pub addr: &'a [u8],
     pub port: u16,
 }
 
 /// Writes a ping with this number, to the member of this name, from this one.
-pub fn ping_out(alloc: Global, seq: u32, node: &[u8], source: Place, out: &mut [u8]) -> Written
+pub fn ping_out(alloc: Global, seq: u32, node: &[u8], source: Peer, out: &mut [u8]) -> Written
     ensures { WrittenOr (ping_bytes (record {
       seq_no = seq;
       node = node.now;
@@ -44,7 +44,7 @@ pub fn ping_out(alloc: Global, seq: u32, node: &[u8], source: Place, out: &mut [
     }
 }
 
-fn ping(alloc: Global, seq: u32, node: &[u8], source: Place) -> Result<Vec<u8>, AllocError>
+fn ping(alloc: Global, seq: u32, node: &[u8], source: Peer) -> Result<Vec<u8>, AllocError>
     requires node { length node.now < 2 ^ 16 }
     requires addr { length source.addr.now < 2 ^ 16 }
     requires source { length source.name.now < 2 ^ 16 }
@@ -70,9 +70,9 @@ fn ping(alloc: Global, seq: u32, node: &[u8], source: Place) -> Result<Vec<u8>, 
 pub fn indirect_out(
     alloc: Global,
     seq: u32,
-    target: Place,
+    target: Peer,
     nack: bool,
-    source: Place,
+    source: Peer,
     out: &mut [u8],
 ) -> Written
     ensures { WrittenOr (indirect_ping_bytes (record {
@@ -100,9 +100,9 @@ pub fn indirect_out(
 fn indirect(
     alloc: Global,
     seq: u32,
-    target: Place,
+    target: Peer,
     nack: bool,
-    source: Place,
+    source: Peer,
 ) -> Result<Vec<u8>, AllocError>
     requires target { length target.addr.now < 2 ^ 16 }
     requires node { length target.name.now < 2 ^ 16 }

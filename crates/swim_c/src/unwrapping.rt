@@ -2,7 +2,8 @@
 
 ghost use Rattle.std.specs.Prelude.{◌≡◌, ◌≢◌, ◌<◌, ℕ, List, length, IfOk, IfErr};
 ghost use Rattle.memberlist_transport.specs.Unwrapped.{IsInsideReply};
-ghost use Rattle.swim_c.specs.Unwrapping.{kind_in, max_stream_len, GivesMessage, GivesNewMessage, Lacks, LacksNew, PacketUnwrapped, StreamUnwrapped};
+ghost use Rattle.swim_c.specs.Unwrapping.{kind_in, max_stream_len, GivesMessage, GivesNewMessage, Lacks, LacksNew};
+ghost use Rattle.swim_c.specs.Unwrapping.{PacketUnwrapped, StreamUnwrapped};
 
 use crate::buffer::Buffer;
 use crate::cluster_keys::ClusterKeys;

@@ -37,7 +37,8 @@ abbrev pub IsIn : List Text → Text → Type 0
 IsIn [] n = ⊥
 IsIn (x ∷ xs) n = (n ≡ x) ⊎ IsIn xs n
 
-found_in : {S : Type 0} (test : S → Bool) (name : S → Text) (n : Text) (xs : List S) → option_map name (find test xs) ≡ Some n → IsIn (map name xs) n
+found_in : {S : Type 0} (test : S → Bool) (name : S → Text) (n : Text) (xs : List S)
+    → option_map name (find test xs) ≡ Some n → IsIn (map name xs) n
 found_in test name n [] e = absurd cc
 found_in test name n (x ∷ xs) e = by_test (found_in test name n xs) (test x) refl
   where
@@ -50,7 +51,8 @@ pub names_agree : {Z : Type 0} (o : Option (Box SubCommand Z)) → option_map (�
 names_agree None = refl
 names_agree (Some b) = refl
 
-name_kept : (o : Option Shape) (words : List Text) → option_map (λ p. p.0) (option_map (λ s. rows_at s words) o) ≡ option_map (λ s. s.name) o
+name_kept : (o : Option Shape) (words : List Text)
+    → option_map (λ p. p.0) (option_map (λ s. rows_at s words) o) ≡ option_map (λ s. s.name) o
 name_kept None words = refl
 name_kept (Some s) words = refl
 
@@ -59,4 +61,6 @@ pub is_command : (a : App) (n : Text) (stop : Option (Text × List Text)) → op
     → IsIn (map (λ (s : Shape). s.name) a.subs) n
 is_command a n None e = absurd cc
 is_command a n (Some p) e =
-    found_in (λ s. answers_to p.0 (label_of s)) (λ (s : Shape). s.name) n a.subs (sym (name_kept (find (λ s. answers_to p.0 (label_of s)) a.subs) p.1) ∙ e)
+    found_in (λ s. answers_to p.0 (label_of s))
+    (λ (s : Shape). s.name) n a.subs (sym
+    (name_kept (find (λ s. answers_to p.0 (label_of s)) a.subs) p.1) ∙ e)

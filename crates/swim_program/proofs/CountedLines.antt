@@ -1,5 +1,6 @@
 -- Lines by their index, counted as they are read.
-use Rattle.std.proofs.Common.{◌≡◌, ℕ, zero, suc, ◌+◌, ◌<◌, ◌∙◌, List, [], ◌∷◌, Option, Some, length, map, take, drop, get_or, Bor, refl, ap, ap₂, arith}
+use Rattle.std.proofs.Common.{◌≡◌, ℕ, zero, suc, ◌+◌, ◌<◌, ◌∙◌, List, [], ◌∷◌, Option, Some, length, map, take, drop}
+use Rattle.std.proofs.Common.{get_or, Bor, refl, ap, ap₂, arith}
 use Rattle.std.proofs.lemmas.Iterator.{YieldsList}
 use Rattle.std.proofs.lemmas.Iterator.Consumers.{YieldsList-from_enumerate, YieldsList-from_first, YieldsList-so_far, YieldsList-turn}
 use Rattle.std.specs.Iterator.{Yields, YieldsFirstRef}
@@ -43,4 +44,5 @@ counted_lines (x ∷ xs) n (line ∷ lines) e =
 pub lines_counted : {s : Enumerate (List (List ℕ))} (input : List ℕ) → enumerate_source s ≡ input_lines input → enumerate_count s ≡ 0
     → YieldsList {B = ℕ × List ℕ} (enumerate_steps (YieldsFirstRef {S = List (List ℕ)} (λ rest. rest)))
     (λ p. (p.0, p.1.now)) s (enumerate_from 0 (input_lines input))
-lines_counted input source count = YieldsList-from_enumerate (YieldsList-from_first (λ x. x.now) (λ rest. rest) (input_lines input) source) count
+lines_counted input source count = YieldsList-from_enumerate
+    (YieldsList-from_first (λ x. x.now) (λ rest. rest) (input_lines input) source) count

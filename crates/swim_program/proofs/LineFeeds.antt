@@ -1,5 +1,6 @@
 -- The lines of bytes, found by a search for the first line feed.
-use Rattle.std.proofs.Common.{◌≡◌, ℕ, suc, ◌+◌, ◌<◌, ◌≤◌, false, List, [], ◌∷◌, Some, None, length, take, drop, get_or, get_or-take, sym, ap, ◌∙◌, arith, add-one, length-take-le}
+use Rattle.std.proofs.Common.{◌≡◌, ℕ, suc, ◌+◌, ◌<◌, ◌≤◌, false, List, [], ◌∷◌, Some, None, length, take, drop, get_or}
+use Rattle.std.proofs.Common.{get_or-take, sym, ap, ◌∙◌, arith, add-one, length-take-le}
 use Rattle.std.specs.List.{All}
 use Rattle.std.proofs.lemmas.Bool.{false_from_ne_true}
 use Rattle.std.proofs.lemmas.List.{get_or_default}
@@ -20,7 +21,8 @@ first_line input end found =
     let before : All (λ b. is_byte 10 b ≡ false) (take end input) =
     λ k d within.
     let low : k < end = omega (arith, within, length-take-le end input (omega (arith, found.0.high))) in
-    ap (is_byte 10) (get_or-take end input k d low) ∙ no_feed input k d (omega (arith, low, found.0.high)) (found.0.before k (omega arith) low) in
+    ap (is_byte 10) (get_or-take end input k d low)
+    ∙ no_feed input k d (omega (arith, low, found.0.high)) (found.0.before k (omega arith) low) in
     ap input_lines (split_at input end 0 found.0.high)
     ∙ slice_split_at (is_byte 10) (take end input) _ (drop (suc end) input) before found.1
     ∙ ap (λ n. take end input ∷ input_lines (drop n input)) (sym (add-one end))

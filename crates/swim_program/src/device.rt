@@ -1,9 +1,10 @@
 //! Input and files up to their bound, and output.
 
-ghost use Rattle.std.specs.Prelude.{◌≤◌, length, IfOk, IfErr, IsOkUnless, OnOk, OnErr};
-ghost use Rattle.std.specs.Io.KnownBytes.{Appends, Consumes, IsAtEnd};
+ghost use Rattle.std.specs.Prelude.{◌≡◌, ◌<◌, ◌≤◌, max, length, take, Ok, IfOk, IfErr, IsOkUnless, OnOk, OnErr};
+ghost use Rattle.std.specs.Io.KnownBytes.{Appends, Consumes, IsAtEnd, Keeps};
+ghost use Rattle.std.specs.IoError.{error_kind};
 ghost use Rattle.swim_pack.specs.Ends.{AppendsFront};
-ghost use Rattle.swim_program.specs.Limits.{max_input_len};
+ghost use Rattle.swim_program.specs.Limits.{max_input_len, max_retries};
 ghost use Rattle.swim_program.specs.Report.{IsAmong};
 
 use crate::report::{Place, Report, What};
@@ -20,6 +21,44 @@ const RETRIES: u32 = 1000;
 
 /// How many bytes are requested at once.
 const PIECE: usize = 65536;
+
+/// One read, retried while it is interrupted. `interruptions` counts those of one input, of which
+/// 1,000 are retried. The bytes are in the piece and nowhere else.
+///
+/// # Errors
+///
+/// Those of the reader, which then keeps its bytes. An interruption is one from the 1,001st on.
+pub fn read_piece<R: Read>(
+    reader: &mut R,
+    piece: &mut [u8],
+    interruptions: &mut u32,
+) -> io::Result<usize>
+    // If the reader's bytes are known, those that were read are the next ones, and none only at the
+    // end.
+    ensures within { IfOk result (λ count. count ≤ length piece.new) }
+    ensures reads { IfOk result (λ count.
+        Consumes (R.remaining reader.old) (R.remaining reader.new) (take count piece.new)) }
+    ensures end { result ≡ Ok 0 → 0 < length piece.old → IsAtEnd (R.remaining reader.new) }
+    ensures keeps { OnErr result (Keeps (R.remaining reader.old) (R.remaining reader.new)) }
+
+    // An interruption is an error only once as many were retried.
+    ensures retried { IfErr result (λ error. error_kind error ≡ ErrorKind.Interrupted
+        → max_retries ≤ interruptions.new) }
+    ensures counted { interruptions.old ≤ interruptions.new }
+    ensures few { interruptions.new ≤ max interruptions.old max_retries }
+{
+    loop {
+        match reader.read(piece) {
+            Ok(count) => return Ok(count),
+            Err(error) => {
+                if !matches!(error.kind(), ErrorKind::Interrupted) || *interruptions >= RETRIES {
+                    return Err(error);
+                }
+                *interruptions += 1;
+            }
+        }
+    }
+}
 
 /// Reads to the end, but at most one byte past the bound, so that the length identifies a longer
 /// input.
@@ -42,15 +81,9 @@ pub fn read_bytes<R: Read>(alloc: Global, reader: &mut R) -> io::Result<Vec<u8>>
     let mut interruptions = 0;
     while bytes.len() <= MAX_INPUT_LEN {
         let wanted = (MAX_INPUT_LEN + 1 - bytes.len()).min(PIECE);
-        match reader.read(&mut piece[..wanted]) {
-            Ok(0) => return Ok(bytes),
-            Ok(count) => bytes.extend_from_slice(&piece[..count])?,
-            Err(error) => {
-                if !matches!(error.kind(), ErrorKind::Interrupted) || interruptions == RETRIES {
-                    return Err(error);
-                }
-                interruptions += 1;
-            }
+        match read_piece(reader, &mut piece[..wanted], &mut interruptions)? {
+            0 => return Ok(bytes),
+            count => bytes.extend_from_slice(&piece[..count])?,
         }
     }
     Ok(bytes)

@@ -26,7 +26,8 @@ mod words;
 
 pub use cause::{file_bytes, input_bytes, print_bytes};
 pub use device::{
-    MAX_INPUT_LEN, open_file, read_bytes, read_file, read_input, read_to_bound, write_out,
+    MAX_INPUT_LEN, open_file, read_bytes, read_file, read_input, read_piece, read_to_bound,
+    write_out,
 };
 pub use failure::Failure;
 pub use lines::{Lines, lines_of, without_return};

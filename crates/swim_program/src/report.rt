@@ -194,7 +194,7 @@ pub fn status(report: &Report) -> u8
     }
 }
 
-/// The name of a fault by its number, as docs/PROTOCOL.md lists them. Faults that no program reports
+/// The name of a fault by its number, as docs/faults.md lists them. Faults that no program reports
 /// are included, so that the list is complete.
 pub fn fault_name(number: u32) -> &'static str {
     match number {

@@ -1,18 +1,13 @@
 -- The words of one line of a script, and what they say.
-use Rattle.std.proofs.Common.{None, ◌≡◌, ◌≢◌, ℕ, ◌<◌, ◌⊎◌, inl, inr, Bool, true, false, List, [], ◌∷◌, Ok, length, map, drop, get_or, codes, Bor, refl, sym, ap, subst, ◌∙◌, arith}
+use Rattle.std.proofs.Common.{◌≡◌, ◌≢◌, ℕ, ◌<◌, ◌⊎◌, inl, inr, Bool, true, false, List, [], ◌∷◌, Ok, length, map}
+use Rattle.std.proofs.Common.{drop, get_or, codes, Bor, refl, sym, ap, subst, ◌∙◌, arith}
 use Rattle.std.proofs.lemmas.Bool.{false≢true}
 use Rattle.std.proofs.lemmas.Slice.Eq.{bytes_eq-Decides}
 use Rattle.std.specs.Str.{bytes_eq}
 use Rattle.hex.specs.Hex.{decode_of}
-use Rattle.hex.specs.declared.error.FromHexError.{FromHexError}
-use Rattle.hex.specs.declared.error.FromHexError.TheVariants as hex
-use Rattle.swim_claim.specs.declared.fault.ClaimFault.{ClaimFault}
-use Rattle.swim_claim.specs.declared.fault.ClaimFault.TheVariants as claim
-use Rattle.swim_claim.specs.Fault.{claim_number}
 use Rattle.swim_wire.specs.declared.fault.WireFault.{WireFault}
 use Rattle.swim_wire.specs.declared.fault.WireFault.TheVariants as wire
-use Rattle.swim_program.specs.declared.report.What.TheVariants.{Refused}
-use Rattle.swim_program.specs.Report.{what_of, what_of_hex}
+use Rattle.swim_program.specs.Report.{what_of}
 use Rattle.swim_script.specs.Refusals.{IsOfReading}
 use Rattle.swim_sync.specs.declared.event.Event.{Event}
 use Rattle.swim_sync.specs.declared.event.Event.TheVariants.{Exchange, Half, Refute}
@@ -20,7 +15,8 @@ use Rattle.swim_wire.specs.Packet.{PacketValue}
 use Rattle.swim_wire.specs.Texts.{DatagramText}
 use Rattle.swim_script.specs.declared.keyword.Keyword.{Keyword}
 use Rattle.swim_script.specs.declared.keyword.Keyword.TheVariants as key
-use Rattle.swim_script.specs.Script.{Start, Decimal, HexBytes, NodeNumber, NodeFields, NodeWords, HearsBytes, EventWords, LevelWords}
+use Rattle.swim_script.specs.Script.{Start, Decimal, HexBytes, NodeNumber, SaysNode, NodeFields, NodeWords}
+use Rattle.swim_script.specs.Script.{HearsBytes, EventWords, LevelWords}
 use Rattle.swim_script.specs.Script.HearsBytes.{packet, compound}
 use Rattle.swim_script.specs.Script.EventWords.{hear, exchange, half, refute}
 use Rattle.swim_script.specs.ScriptReading.{OneNumber, SpellsNothing, TwoNumbers, word_of}
@@ -50,29 +46,14 @@ six_words (a ∷ b ∷ e ∷ f ∷ g ∷ h ∷ []) d l = refl
 six_words (a ∷ b ∷ e ∷ f ∷ g ∷ h ∷ i ∷ more) d l = absurd (omega (arith, l))
 
 -- what the six words after `node` say
-pub node_told : (fields : List (Bor (List ℕ))) (d : Bor (List ℕ)) (start : Start) → length fields ≡ 6 → NodeWords (codes "node" ∷ map (λ w. w.now) fields) start
-    → NodeFields (get_or fields 0 d).now (get_or fields 1 d).now (get_or fields 2 d).now
-    (get_or fields 3 d).now (get_or fields 4 d).now (get_or fields 5 d).now start
-node_told fields d start l own =
+pub node_told : (fields : List (List ℕ)) (name addr port meta vsn inc : List ℕ) (start : Start)
+    → fields ≡ name ∷ addr ∷ port ∷ meta ∷ vsn ∷ inc ∷ [] → NodeWords (codes "node" ∷ fields) start
+    → NodeFields name addr port meta vsn inc start
+node_told fields name addr port meta vsn inc start words own =
     let P : List (List ℕ) → Type 0 =
-    λ line. NodeFields (get_or line 1 []) (get_or line 2 []) (get_or line 3 []) (get_or line 4 []) (get_or line 5 []) (get_or line 6 []) start in
-    subst P (sym own.6 ∙ ap (λ t. codes "node" ∷ t) (six_words fields d l)) own.7
-
--- and if they say it, the line is that of the node
-pub node_tells : (fields : List (Bor (List ℕ))) (d : Bor (List ℕ)) (start : Start) → length fields ≡ 6
-    → NodeFields (get_or fields 0 d).now (get_or fields 1 d).now (get_or fields 2 d).now
-    (get_or fields 3 d).now (get_or fields 4 d).now (get_or fields 5 d).now start
-    → NodeWords (codes "node" ∷ map (λ w. w.now) fields) start
-node_tells fields d start l own = (
-  (get_or fields 0 d).now,
-  (get_or fields 1 d).now,
-  (get_or fields 2 d).now,
-  (get_or fields 3 d).now,
-  (get_or fields 4 d).now,
-  (get_or fields 5 d).now,
-  ap (λ t. codes "node" ∷ t) (six_words fields d l),
-  own,
-)
+    λ line. NodeFields (get_or line 1 []) (get_or line 2 []) (get_or line 3 []) (get_or line 4 [])
+    (get_or line 5 []) (get_or line 6 []) start in
+    subst P (sym own.6 ∙ ap (λ t. codes "node" ∷ t) words) own.7
 
 -- ---- numbers and bytes have one value
 
@@ -96,20 +77,16 @@ not_heard k bytes none event (compound body packets b t e) = none packets t
 -- ---- a node
 
 -- its details have the parts that were read
-pub details_told : (name addr port meta vsn inc : List ℕ) (start : Start) (a : List ℕ) (p : ℕ) (m v : List ℕ) → NodeFields name addr port meta vsn inc start
-    → HexBytes addr a → Decimal 65535 port p → HexBytes meta m → HexBytes vsn v → start.details ≡ record { addr = a; port = p; meta = m; vsn = v }
+pub details_told : (name addr port meta vsn inc : List ℕ) (start : Start) (a : List ℕ) (p : ℕ) (m v : List ℕ)
+    → SaysNode name addr port meta vsn inc start
+    → HexBytes addr a → Decimal 65535 port p → HexBytes meta m → HexBytes vsn v
+    → start.details ≡ record { addr = a; port = p; meta = m; vsn = v }
 details_told name addr port meta vsn inc start a p m v own one two three four =
-    let e = one_bytes addr start.details.addr a own.addr one in
-    let f = one_decimal 65535 port start.details.port p own.port two in
-    let g = one_bytes meta start.details.meta m own.meta three in
-    let h = one_bytes vsn start.details.vsn v own.vsn four in
-    let with_addr : start.details ≡ record { addr = a; port = start.details.port; meta = start.details.meta; vsn = start.details.vsn } =
-    ap (λ x. record { addr = x; port = start.details.port; meta = start.details.meta; vsn = start.details.vsn }) e in
-    let with_port : start.details ≡ record { addr = a; port = p; meta = start.details.meta; vsn = start.details.vsn } =
-    with_addr ∙ ap (λ x. record { addr = a; port = x; meta = start.details.meta; vsn = start.details.vsn }) f in
-    let with_meta : start.details ≡ record { addr = a; port = p; meta = m; vsn = start.details.vsn } =
-    with_port ∙ ap (λ x. record { addr = a; port = p; meta = x; vsn = start.details.vsn }) g in
-    with_meta ∙ ap (λ x. record { addr = a; port = p; meta = m; vsn = x }) h
+    let same_addr : start.details.addr ≡ a = one_bytes addr start.details.addr a own.addr one in
+    let same_port : start.details.port ≡ p = one_decimal 65535 port start.details.port p own.port two in
+    let same_meta : start.details.meta ≡ m = one_bytes meta start.details.meta m own.meta three in
+    let same_vsn : start.details.vsn ≡ v = one_bytes vsn start.details.vsn v own.vsn four in
+    rw (← same_addr, ← same_port, ← same_meta, ← same_vsn)
 
 -- ---- an event
 
@@ -152,37 +129,48 @@ heard_by_words fields event (hear node datagram k bytes e n h b) =
       hex = h;
       hears = b;
     }
-heard_by_words fields event (exchange first second j k e m n is) = absurd (other_line (codes "hear") (codes "exchange") fields (first ∷ second ∷ []) refl e)
-heard_by_words fields event (half first second j k e m n is) = absurd (other_line (codes "hear") (codes "half") fields (first ∷ second ∷ []) refl e)
+heard_by_words fields event (exchange first second j k e m n is) = absurd
+    (other_line (codes "hear") (codes "exchange") fields (first ∷ second ∷ []) refl e)
+heard_by_words fields event (half first second j k e m n is) = absurd
+    (other_line (codes "hear") (codes "half") fields (first ∷ second ∷ []) refl e)
 heard_by_words fields event (refute node k e n is) = absurd (other_line (codes "hear") (codes "refute") fields (node ∷ []) refl e)
 
-pub exchanged_by_words : (fields : List (List ℕ)) (event : Event) → EventWords (codes "exchange" ∷ fields) event → (j k : ℕ) × TwoNumbers fields j k
+pub exchanged_by_words : (fields : List (List ℕ)) (event : Event)
+    → EventWords (codes "exchange" ∷ fields) event → (j k : ℕ) × TwoNumbers fields j k
 exchanged_by_words fields event (hear node datagram k bytes e n h b) =
     absurd (other_line (codes "exchange") (codes "hear") fields (node ∷ datagram ∷ []) refl e)
 exchanged_by_words fields event (exchange first second j k e m n is) =
     (j, k, (first, second, later_words (codes "exchange") (codes "exchange") fields (first ∷ second ∷ []) e, m, n))
-exchanged_by_words fields event (half first second j k e m n is) = absurd (other_line (codes "exchange") (codes "half") fields (first ∷ second ∷ []) refl e)
+exchanged_by_words fields event (half first second j k e m n is) = absurd
+    (other_line (codes "exchange") (codes "half") fields (first ∷ second ∷ []) refl e)
 exchanged_by_words fields event (refute node k e n is) = absurd (other_line (codes "exchange") (codes "refute") fields (node ∷ []) refl e)
 
 pub half_by_words : (fields : List (List ℕ)) (event : Event) → EventWords (codes "half" ∷ fields) event → (j k : ℕ) × TwoNumbers fields j k
-half_by_words fields event (hear node datagram k bytes e n h b) = absurd (other_line (codes "half") (codes "hear") fields (node ∷ datagram ∷ []) refl e)
-half_by_words fields event (exchange first second j k e m n is) = absurd (other_line (codes "half") (codes "exchange") fields (first ∷ second ∷ []) refl e)
+half_by_words fields event (hear node datagram k bytes e n h b) = absurd
+    (other_line (codes "half") (codes "hear") fields (node ∷ datagram ∷ []) refl e)
+half_by_words fields event (exchange first second j k e m n is) = absurd
+    (other_line (codes "half") (codes "exchange") fields (first ∷ second ∷ []) refl e)
 half_by_words fields event (half first second j k e m n is) =
     (j, k, (first, second, later_words (codes "half") (codes "half") fields (first ∷ second ∷ []) e, m, n))
 half_by_words fields event (refute node k e n is) = absurd (other_line (codes "half") (codes "refute") fields (node ∷ []) refl e)
 
 pub refuted_by_words : (fields : List (List ℕ)) (event : Event) → EventWords (codes "refute" ∷ fields) event → (k : ℕ) × OneNumber fields k
-refuted_by_words fields event (hear node datagram k bytes e n h b) = absurd (other_line (codes "refute") (codes "hear") fields (node ∷ datagram ∷ []) refl e)
-refuted_by_words fields event (exchange first second j k e m n is) = absurd (other_line (codes "refute") (codes "exchange") fields (first ∷ second ∷ []) refl e)
-refuted_by_words fields event (half first second j k e m n is) = absurd (other_line (codes "refute") (codes "half") fields (first ∷ second ∷ []) refl e)
+refuted_by_words fields event (hear node datagram k bytes e n h b) = absurd
+    (other_line (codes "refute") (codes "hear") fields (node ∷ datagram ∷ []) refl e)
+refuted_by_words fields event (exchange first second j k e m n is) = absurd
+    (other_line (codes "refute") (codes "exchange") fields (first ∷ second ∷ []) refl e)
+refuted_by_words fields event (half first second j k e m n is) = absurd
+    (other_line (codes "refute") (codes "half") fields (first ∷ second ∷ []) refl e)
 refuted_by_words fields event (refute node k e n is) = (k, (node, later_words (codes "refute") (codes "refute") fields (node ∷ []) e, n))
 
 -- the first word of an event is one of four
 pub event_first : (word : List ℕ) (fields : List (List ℕ)) (event : Event) → EventWords (word ∷ fields) event
     → (word ≡ codes "hear") ⊎ ((word ≡ codes "exchange") ⊎ ((word ≡ codes "half") ⊎ (word ≡ codes "refute")))
 event_first word fields event (hear node datagram k bytes e n h b) = inl (first_word word (codes "hear") fields (node ∷ datagram ∷ []) e)
-event_first word fields event (exchange first second j k e m n is) = inr (inl (first_word word (codes "exchange") fields (first ∷ second ∷ []) e))
-event_first word fields event (half first second j k e m n is) = inr (inr (inl (first_word word (codes "half") fields (first ∷ second ∷ []) e)))
+event_first word fields event (exchange first second j k e m n is) = inr
+    (inl (first_word word (codes "exchange") fields (first ∷ second ∷ []) e))
+event_first word fields event (half first second j k e m n is) = inr
+    (inr (inl (first_word word (codes "half") fields (first ∷ second ∷ []) e)))
 event_first word fields event (refute node k e n is) = inr (inr (inr (first_word word (codes "refute") fields (node ∷ []) e)))
 
 -- what the words say is heard
@@ -224,10 +212,12 @@ pub refute_told : (fields : List (List ℕ)) (k : ℕ) → OneNumber fields k �
 refute_told fields k own = refute own.0 k (ap (λ t. codes "refute" ∷ t) own.1) own.2 refl
 
 -- and if there are no such numbers, there is no event
-pub no_exchange : (fields : List (List ℕ)) → ((j k : ℕ) → ¬ TwoNumbers fields j k) → (event : Event) → ¬ EventWords (codes "exchange" ∷ fields) event
+pub no_exchange : (fields : List (List ℕ)) → ((j k : ℕ) → ¬ TwoNumbers fields j k) → (event : Event)
+    → ¬ EventWords (codes "exchange" ∷ fields) event
 no_exchange fields none event own = let told = exchanged_by_words fields event own in none told.0 told.1 told.2
 
-pub no_half : (fields : List (List ℕ)) → ((j k : ℕ) → ¬ TwoNumbers fields j k) → (event : Event) → ¬ EventWords (codes "half" ∷ fields) event
+pub no_half : (fields : List (List ℕ)) → ((j k : ℕ) → ¬ TwoNumbers fields j k) → (event : Event)
+    → ¬ EventWords (codes "half" ∷ fields) event
 no_half fields none event own = let told = half_by_words fields event own in none told.0 told.1 told.2
 
 pub no_refute : (fields : List (List ℕ)) → ((k : ℕ) → ¬ OneNumber fields k) → (event : Event) → ¬ EventWords (codes "refute" ∷ fields) event
@@ -311,15 +301,18 @@ level_first words own = ap first_of own
 
 -- a line of a node is not `level`
 pub node_no_level : (words : List (List ℕ)) (start : Start) → NodeWords words start → ¬ LevelWords words
-node_no_level words start own level = differ (codes "node") (codes "level") refl (sym (node_first words start own) ∙ level_first words level)
+node_no_level words start own level = differ (codes "node") (codes "level") refl
+    (sym (node_first words start own) ∙ level_first words level)
 
 -- a line whose first word differs from both is neither that of a node nor `level`
-neither : (words : List (List ℕ)) (word : List ℕ) → first_of words ≡ word → bytes_eq word (codes "node") ≡ false → bytes_eq word (codes "level") ≡ false
+neither : (words : List (List ℕ)) (word : List ℕ) → first_of words ≡ word
+    → bytes_eq word (codes "node") ≡ false → bytes_eq word (codes "level") ≡ false
     → (first_of words ≢ codes "node") × (first_of words ≢ codes "level")
 neither words word is node level = (λ e. differ word (codes "node") node (sym is ∙ e), λ e. differ word (codes "level") level (sym is ∙ e))
 
 -- and so is a line of an event
-pub event_first_other : (words : List (List ℕ)) (event : Event) → EventWords words event → (first_of words ≢ codes "node") × (first_of words ≢ codes "level")
+pub event_first_other : (words : List (List ℕ)) (event : Event) → EventWords words event
+    → (first_of words ≢ codes "node") × (first_of words ≢ codes "level")
 event_first_other words event (hear node datagram k bytes e n h b) = neither words (codes "hear") (ap first_of e) refl refl
 event_first_other words event (exchange first second j k e m n is) = neither words (codes "exchange") (ap first_of e) refl refl
 event_first_other words event (half first second j k e m n is) = neither words (codes "half") (ap first_of e) refl refl
@@ -349,18 +342,3 @@ wire_of_reading (wire.BadState found) other = refl
 wire_of_reading wire.TooManyNodes other = refl
 wire_of_reading wire.UserTooLong other = refl
 wire_of_reading wire.Trailing other = refl
-
--- nor is that of a name or of details
-pub claim_of_reading : (fault : ClaimFault) → IsOfReading (Refused (claim_number fault) None)
-claim_of_reading claim.NameEmpty = refl
-claim_of_reading claim.NameTooLong = refl
-claim_of_reading claim.BadAddress = refl
-claim_of_reading claim.MetaTooLong = refl
-claim_of_reading claim.BadVersions = refl
-
--- nor is that of a text that is not hexadecimal
-pub hex_of_reading : (error : FromHexError) → IsOfReading (what_of_hex error)
-hex_of_reading hex.OddLength = refl
-hex_of_reading hex.InvalidStringLength = refl
-hex_of_reading (hex.InvalidHexCharacter byte index) = refl
-hex_of_reading hex.OutOfMemory = tt

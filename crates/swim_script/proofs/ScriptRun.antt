@@ -1,5 +1,7 @@
 -- What was read from a script, line by line.
-use Rattle.std.proofs.Common.{◌≡◌, ◌≢◌, ℕ, zero, suc, ◌+◌, ◌<◌, ◌≤◌, Bool, true, false, List, [], ◌∷◌, ◌++◌, Option, Some, None, is_some, length, map, take, drop, get_or, Bor, refl, sym, ap, ap₂, subst, ◌∙◌, append_assoc, append-nil, eqb-true, ne_eqb, arith}
+use Rattle.std.proofs.Common.{◌≡◌, ◌≢◌, ℕ, zero, suc, ◌+◌, ◌<◌, ◌≤◌, Bool, true, false, List, [], ◌∷◌, ◌++◌, Option}
+use Rattle.std.proofs.Common.{Some, None, is_some, length, map, take, drop, get_or, Bor, refl, sym, ap, ap₂, subst, ◌∙◌}
+use Rattle.std.proofs.Common.{append_assoc, append-nil, eqb-true, ne_eqb, arith}
 use Rattle.std.proofs.lemmas.List.Splits.{length-slice_split}
 use Rattle.std.proofs.lemmas.Slice.Zip.{AllZip-long, all_zipped_more}
 use Rattle.std.proofs.lemmas.List.Sums.{count_by-le-length}
@@ -13,7 +15,8 @@ use Rattle.swim_sync.specs.Levels.{level_list}
 use Rattle.swim_table.specs.Node.{NodeValue}
 use Rattle.swim_script.specs.declared.script.Plan.{Plan}
 use Rattle.swim_script.specs.declared.script_line.Line.TheVariants as line
-use Rattle.swim_script.specs.Script.{Start, IsStarted, AreStarted, LevelWords, NodeLine, NodeLines, EventLine, EventLines, LastLine, ScriptOf, Script, not_empty, script_lines, words}
+use Rattle.swim_script.specs.Script.{Start, IsStarted, AreStarted, LevelWords, NodeLine, NodeLines, EventLine}
+use Rattle.swim_script.specs.Script.{EventLines, LastLine, ScriptOf, Script, not_empty, script_lines, words}
 use Rattle.swim_script.specs.Refusals.{RefusesLine, IsFirstWrongLine}
 use Rattle.swim_program.specs.Lines.{input_lines}
 use Rattle.swim_program.specs.declared.report.What.{What}
@@ -40,10 +43,12 @@ pub record WasRead (lines : List (List ℕ)) (starts : List Start) (plan : Plan)
   pub each : EventLines event_lines plan.events.items
   pub ends : EndsWith last plan.level
   pub count : length plan.lines.items ≡ length plan.events.items
-  pub follows : (rest : List (List ℕ)) → Follows true false (lines ++ rest) → Follows (length plan.events.items == 0) (is_some plan.level) rest
+  pub follows : (rest : List (List ℕ)) → Follows true false (lines ++ rest)
+      → Follows (length plan.events.items == 0) (is_some plan.level) rest
 
 -- nothing was read yet
-pub nothing_read : (plan : Plan) → plan.nodes.items ≡ [] → plan.events.items ≡ [] → plan.lines.items ≡ [] → plan.level ≡ None → WasRead [] [] plan
+pub nothing_read : (plan : Plan) → plan.nodes.items ≡ [] → plan.events.items ≡ [] → plan.lines.items ≡ []
+    → plan.level ≡ None → WasRead [] [] plan
 nothing_read plan nodes events lines level = record {
   node_lines = [];
   event_lines = [];
@@ -54,7 +59,8 @@ nothing_read plan nodes events lines level = record {
   each = subst (EventLines []) (sym events) tt;
   ends = subst (EndsWith []) (sym level) refl;
   count = ap length lines ∙ sym (ap length events);
-  follows = λ rest f. subst (λ e. Follows (length e == 0) (is_some plan.level) rest) (sym events) (subst (λ o. Follows true (is_some o) rest) (sym level) f);
+  follows = λ rest f. subst (λ e. Follows (length e == 0) (is_some plan.level) rest) (sym events)
+      (subst (λ o. Follows true (is_some o) rest) (sym level) f);
 }
 
 not_empty_append : (lines others : List (List ℕ)) → not_empty (lines ++ others) ≡ not_empty lines ++ not_empty others
@@ -135,14 +141,16 @@ read_event_line lines text starts number old new event was unended spelled added
           ∙ sym (append-nil (was.node_lines ++ (was.event_lines ++ text ∷ [])));
       started = subst (λ n. AreStarted n starts) (sym added.0) was.started;
       nodes = was.nodes;
-      each = subst (EventLines (was.event_lines ++ text ∷ [])) (sym added.1) (all_zipped_more EventLine was.event_lines old.events.items text event was.each spelled);
+      each = subst (EventLines (was.event_lines ++ text ∷ [])) (sym added.1)
+          (all_zipped_more EventLine was.event_lines old.events.items text event was.each spelled);
       ends = subst (EndsWith []) (sym level) refl;
       count =
           ap length added.3 ∙ length-append old.lines.items (number ∷ []) ∙ ap (λ n. n + 1) was.count
           ∙ sym (ap length added.1 ∙ length-append old.events.items (event ∷ []));
       follows = λ rest f.
           let next =
-          after_event (length old.events.items == 0) (is_some old.level) text rest event spelled (was.follows (text ∷ rest) (after_one lines text rest f)) in
+          after_event (length old.events.items == 0) (is_some old.level) text rest event spelled
+          (was.follows (text ∷ rest) (after_one lines text rest f)) in
           let here : (length new.events.items == 0) ≡ false = ap (λ e. length e == 0) added.1 ∙ pushed_some old.events.items event in
           subst (λ b. Follows b (is_some new.level) rest) (sym here) (subst (λ o. Follows false (is_some o) rest) (sym level) next);
     }
@@ -153,8 +161,10 @@ ended_any nodes ended [] f = tt
 ended_any nodes ended (line ∷ rest) f = let bad : true ≡ false = f.0 in absurd cc
 
 -- `level` was read
-pub read_level_line : (lines : List (List ℕ)) (text : List ℕ) (starts : List Start) (number : ℕ) (old new : Plan) → WasRead lines starts old → old.level ≡ None
-    → SpellsLine (length old.events.items == 0) (words text) line.Level → Adds number old line.Level new → WasRead (lines ++ text ∷ []) starts new
+pub read_level_line : (lines : List (List ℕ)) (text : List ℕ) (starts : List Start) (number : ℕ)
+    (old new : Plan) → WasRead lines starts old → old.level ≡ None
+    → SpellsLine (length old.events.items == 0) (words text) line.Level → Adds number old line.Level new
+    → WasRead (lines ++ text ∷ []) starts new
 read_level_line lines text starts number old new was unended spelled added =
     let no_last : was.last ≡ [] = subst (EndsWith was.last) unended was.ends in
     let all : lines ≡ was.node_lines ++ was.event_lines =
@@ -171,7 +181,8 @@ read_level_line lines text starts number old new was unended spelled added =
       count = ap length added.3 ∙ was.count ∙ sym (ap length added.1);
       follows = λ rest f.
           let next =
-          after_level (length old.events.items == 0) (is_some old.level) text rest spelled (was.follows (text ∷ rest) (after_one lines text rest f)) in
+          after_level (length old.events.items == 0) (is_some old.level) text rest spelled
+          (was.follows (text ∷ rest) (after_one lines text rest f)) in
           ended_any (length new.events.items == 0) (is_some new.level) rest next;
     }
 
@@ -180,7 +191,8 @@ read_level_line lines text starts number old new was unended spelled added =
 started_length : (nodes : List NodeValue) (starts : List Start) → AreStarted nodes starts → length nodes ≡ length starts
 started_length nodes starts each = sym (AllZip-long IsStarted nodes starts each)
 
-spelled_whole : (lines node_lines event_lines last : List (List ℕ)) (starts : List Start) (events : List Event) (level : Option ℕ) (count : ℕ)
+spelled_whole : (lines node_lines event_lines last : List (List ℕ)) (starts : List Start)
+    (events : List Event) (level : Option ℕ) (count : ℕ)
     → script_lines lines ≡ node_lines ++ event_lines ++ last → NodeLines node_lines starts → EventLines event_lines events
     → EndsWith last level → count ≡ length starts
     → ScriptOf lines starts (plan_events events count level)
@@ -218,7 +230,8 @@ was_read_whole lines starts plan was =
 
 -- its events before the levelling, and the line of that, are those that were read
 whole_parts : (lines node_lines event_lines last : List (List ℕ)) (starts : List Start) (events : List Event) (level : Option ℕ) (count : ℕ)
-    (parts : script_lines lines ≡ node_lines ++ event_lines ++ last) (nodes : NodeLines node_lines starts) (each : EventLines event_lines events)
+    (parts : script_lines lines ≡ node_lines ++ event_lines ++ last) (nodes : NodeLines node_lines starts)
+    (each : EventLines event_lines events)
     (ends : EndsWith last level) (same : count ≡ length starts)
     → let all : ScriptOf lines starts (plan_events events count level) =
     spelled_whole lines node_lines event_lines last starts events level count parts nodes each ends same in
@@ -240,13 +253,15 @@ ended last None ends = (λ some none. some ends, λ none. refl)
 ended last (Some number) ends = (λ some none. absurd cc, λ none. let bad : ends.0 ∷ [] ≡ [] = sym ends.1 ∙ none in absurd cc)
 
 -- what is reported about the next line is reported about it as a line of the script
-refuses_line : (lines : List (List ℕ)) (starts : List Start) (plan : Plan) (was : WasRead (script_lines lines) starts plan) (line text : List ℕ) (what : What)
+refuses_line : (lines : List (List ℕ)) (starts : List Start) (plan : Plan)
+    (was : WasRead (script_lines lines) starts plan) (line text : List ℕ) (what : What)
     → text ≡ strip_carriage_return line → RefusesNext plan text what
     → RefusesLine (was_read_whole lines starts plan was).told (was_read_whole lines starts plan was).last (strip_carriage_return line) what
 refuses_line lines starts plan was line text what strips told =
     let parts = read_parts lines starts plan was in
     let ends = ended was.last plan.level was.ends in
-    subst (λ (events : List Event). RefusesLine events (was_read_whole lines starts plan was).last (strip_carriage_return line) what) (sym parts.0)
+    subst (λ (events : List Event). RefusesLine events (was_read_whole lines starts plan was).last
+    (strip_carriage_return line) what) (sym parts.0)
     (subst (λ (last : List (List ℕ)). RefusesLine plan.events.items last (strip_carriage_return line) what) (sym parts.1)
     (subst (λ (t : List ℕ). RefusesLine plan.events.items was.last t what) strips
     (record { ended = λ some. told.0 (ends.0 some); open_still = λ none. told.1 (ends.1 none) })))
@@ -277,7 +292,8 @@ number_of_line xs lines index line here =
     let place : index ≡ 0 + length xs = ap (λ p. p.0) (here.1 ∙ get_or-enumerate_from 0 lines (length xs) (index, line) inside) in
     omega (arith, place, length-map xs (λ p. p.1.now))
 
-parts_at : (lines : List (List ℕ)) (n : ℕ) (line : List ℕ) → n < length lines → line ≡ get_or lines n line → lines ≡ take n lines ++ line ∷ drop (suc n) lines
+parts_at : (lines : List (List ℕ)) (n : ℕ) (line : List ℕ) → n < length lines → line ≡ get_or lines n line
+    → lines ≡ take n lines ++ line ∷ drop (suc n) lines
 parts_at [] n line l e = absurd (omega (arith, l))
 parts_at (first ∷ lines) zero line l e = ap (λ w. w ∷ lines) (sym e)
 parts_at (first ∷ lines) (suc n) line l e = ap (λ w. first ∷ w) (parts_at lines n line (omega (arith, l)) e)
@@ -296,8 +312,10 @@ script_parts before line text after strips some =
     ∙ ap (λ l. script_lines before ++ l) (not_empty_first text (map strip_carriage_return after) some)
 
 -- the line that is out of place is the first with which the input is not a script
-pub first_wrong_line : (input : List ℕ) (before : List (List ℕ)) (line text : List ℕ) (starts : List Start) (plan : Plan) (at : Place) (what : What)
-    → before ≡ take (length before) (input_lines input) → length before < length (input_lines input) → line ≡ get_or (input_lines input) (length before) line
+pub first_wrong_line : (input : List ℕ) (before : List (List ℕ)) (line text : List ℕ) (starts : List Start)
+    (plan : Plan) (at : Place) (what : What)
+    → before ≡ take (length before) (input_lines input) → length before < length (input_lines input)
+    → line ≡ get_or (input_lines input) (length before) line
     → text ≡ strip_carriage_return line → WasRead (script_lines before) starts plan → IsOutOfPlace text plan
     → RefusesNext plan text what → at ≡ place.Line (length before + 1) → IsFirstWrongLine input at what
 first_wrong_line input before line text starts plan at what first within here strips was wrong told named =
@@ -321,7 +339,8 @@ first_wrong_line input before line text starts plan at what first within here st
 -- an input with such a line is not a script
 pub wrong_line_no_script : (input : List ℕ) (at : Place) (what : What) → IsFirstWrongLine input at what → (starts : List Start)
     (events : List Event) → ¬ Script input starts events
-wrong_line_no_script input at what own starts events script = own.wrong own.after starts events (subst (λ l. ScriptOf l starts events) own.parts script)
+wrong_line_no_script input at what own starts events script = own.wrong own.after starts events
+    (subst (λ l. ScriptOf l starts events) own.parts script)
 
 -- the lines that are not empty, with one more line
 pub one_more_line : (read : List (List ℕ)) (line text : List ℕ) → text ≡ strip_carriage_return line → script_lines

@@ -68,8 +68,8 @@ IsStarted node start = (node.name ≡ start.name) × (node.details ≡ start.det
 abbrev pub AreStarted : List NodeValue → List Start → Type 0
 AreStarted nodes starts = AllZip IsStarted nodes starts
 
--- The words after `node` say who the node is.
-pub record NodeFields (name_word addr_word port_word meta_word vsn_word inc_word : List ℕ)
+-- The words after `node` say this; the name and the details may be invalid.
+pub record SaysNode (name_word addr_word port_word meta_word vsn_word inc_word : List ℕ)
     (start : Start) : Type 0 where
   pub name : start.name ≡ percent_decode name_word
   pub addr : HexBytes addr_word start.details.addr
@@ -77,6 +77,11 @@ pub record NodeFields (name_word addr_word port_word meta_word vsn_word inc_word
   pub meta : HexBytes meta_word start.details.meta
   pub vsn : HexBytes vsn_word start.details.vsn
   pub inc : Decimal 4294967295 inc_word start.inc
+
+-- The words after `node` say who the node is.
+pub record NodeFields (name_word addr_word port_word meta_word vsn_word inc_word : List ℕ)
+    (start : Start) : Type 0 where
+  pub says : SaysNode name_word addr_word port_word meta_word vsn_word inc_word start
   pub legal_name : IsLegalName start.name
   pub legal_details : IsLegalDetails start.details
 

@@ -1,5 +1,6 @@
 -- What a reader of scripts knows about the words of one line, and about the lines so far.
 use Rattle.std.specs.Prelude.{◌≡◌, ◌≢◌, ℕ, zero, suc, ◌<◌, Bool, true, ◌⊎◌, Option, Some, None, List, [], ◌∷◌, ◌++◌, length, codes, ◌==◌}
+use Rattle.swim_claim.specs.Name.{IsLegalName}
 use Rattle.swim_sync.specs.declared.event.Event.{Event}
 use Rattle.swim_sync.specs.Levels.{level_list}
 use Rattle.swim_script.specs.declared.keyword.Keyword.{Keyword}
@@ -10,8 +11,8 @@ use Rattle.swim_script.specs.declared.script.Plan.{Plan}
 use Rattle.swim_program.specs.declared.report.Place.TheVariants as place
 use Rattle.swim_program.specs.declared.report.What.{What}
 use Rattle.swim_program.specs.declared.report.What.TheVariants.{Refused}
-use Rattle.swim_script.specs.Refusals.{RefusesWords}
-use Rattle.swim_script.specs.Script.{Start, IsStarted, NodeWords, EventWords, LevelWords, NodeNumber, ComesWith, words}
+use Rattle.swim_script.specs.Refusals.{NoName, NoDetails, RefusesWords}
+use Rattle.swim_script.specs.Script.{SaysNode, Start, IsStarted, NodeWords, EventWords, LevelWords, NodeNumber, ComesWith, words}
 
 -- the first word of a line of this kind
 abbrev pub word_of : Keyword → List ℕ
@@ -30,6 +31,17 @@ TwoNumbers fields j k = (first second : List ℕ) × (fields ≡ first ∷ secon
 -- the word is the number of one node
 abbrev pub OneNumber : List (List ℕ) → ℕ → Type 0
 OneNumber fields k = (word : List ℕ) × (fields ≡ word ∷ []) × NodeNumber word k
+
+-- there are six words after `node`, and they say this
+abbrev pub SpellsNode : List (List ℕ) → Start → Type 0
+SpellsNode fields start = (name addr port meta vsn inc : List ℕ)
+    × (fields ≡ name ∷ addr ∷ port ∷ meta ∷ vsn ∷ inc ∷ [])
+    × SaysNode name addr port meta vsn inc start
+
+-- the name is invalid, or else the details are
+abbrev pub RefusesStart : Start → What → Type 0
+RefusesStart start what = NoName start.name what
+    ⊎ (IsLegalName start.name × NoDetails start.details what)
 
 -- what the words of a line say; `nodes` says whether lines of nodes may still come
 abbrev pub SpellsLine : Bool → List (List ℕ) → Line → Type 0

@@ -1,15 +1,18 @@
 //! A line of a script: a node, an event, or the levelling of all nodes.
 
 ghost use Rattle.std.specs.Prelude.{◌≡◌, ◌≢◌, ◌∷◌, ℕ, List, map, codes, IfOk, IfErr};
+ghost use Rattle.swim_claim.specs.Details.{IsLegalDetails};
+ghost use Rattle.swim_claim.specs.Name.{IsLegalName};
 ghost use Rattle.swim_sync.specs.declared.event.Event.{Event};
 ghost use Rattle.swim_program.specs.Report.{TellsDatagram};
-ghost use Rattle.swim_script.specs.Refusals.{IsOfReading, RefusesNode, RefusesHear, RefusesEvent, RefusesWords};
+ghost use Rattle.swim_script.specs.Refusals.{IsOfReading, NoNumber, RefusesNode, RefusesHear, RefusesEvent, RefusesWords};
 ghost use Rattle.swim_script.specs.Script.{Start, IsStarted, NodeWords, EventWords, HearsBytes, NodeNumber, words};
-ghost use Rattle.swim_script.specs.ScriptReading.{OneNumber, SpellsLine, SpellsNothing, TwoNumbers, word_of};
+ghost use Rattle.swim_script.specs.ScriptReading.{OneNumber, RefusesStart, SpellsLine, SpellsNode, SpellsNothing, TwoNumbers, word_of};
 
 use crate::keyword::Keyword;
 use crate::script_word::{bytes_of, name_of, number_of, split_words};
 use std::alloc::Global;
+use std::marker::Model;
 use swim_claim::{Details, Name};
 use swim_program::What;
 use swim_sync::{Claims, Event};
@@ -67,6 +70,80 @@ pub(crate) fn read_line(alloc: Global, line: &[u8], nodes_may_come: bool) -> Res
     }
 }
 
+/// What the words after `node` say. The name and the details may be invalid.
+#[derive(Drop)]
+struct NodeParts {
+    name: Vec<u8>,
+    addr: Vec<u8>,
+    port: u16,
+    meta: Vec<u8>,
+    vsn: Vec<u8>,
+    inc: u32,
+}
+
+impl Model for NodeParts {
+    ghost use Rattle.swim_script.specs.Script.{Start};
+
+    ghost Value = { Start };
+
+    ghost view = { λ parts. record {
+      name = parts.name.items;
+      details = record {
+        addr = parts.addr.items;
+        port = parts.port;
+        meta = parts.meta.items;
+        vsn = parts.vsn.items;
+      };
+      inc = parts.inc;
+    } };
+}
+
+impl NodeParts {
+    /// Reads the words after `node`, from left to right.
+    fn read(alloc: Global, fields: &[&[u8]]) -> Result<NodeParts, What>
+        ensures reads { IfOk result (SpellsNode (map (λ word. word.now) fields.now)) }
+        ensures tells { IfErr result (λ what. what ≢ What.Memory
+            → RefusesNode (map (λ word. word.now) fields.now) what) }
+    {
+        let [name, addr, port, meta, vsn, inc] = fields else {
+            return Err(What::bad_script());
+        };
+        let name = name_of(alloc, name)?;
+        let addr = bytes_of(alloc, addr)?;
+        let port = number_of(port, MAX_PORT)? as u16;
+        let meta = bytes_of(alloc, meta)?;
+        let vsn = bytes_of(alloc, vsn)?;
+        let inc = number_of(inc, MAX_INC)? as u32;
+        Ok(NodeParts {
+            name,
+            addr,
+            port,
+            meta,
+            vsn,
+            inc,
+        })
+    }
+
+    /// The node with these parts, if its name and then its details are valid.
+    fn into_node(self, alloc: Global) -> Result<Node, What>
+        ensures reads { IfOk result (λ node. IsLegalName self.name × IsLegalDetails self.details
+            × IsStarted node self) }
+        ensures tells { IfErr result (λ what. what ≢ What.Memory → RefusesStart self what) }
+    {
+        let NodeParts {
+            name,
+            addr,
+            port,
+            meta,
+            vsn,
+            inc,
+        } = self;
+        let name = Name::new(name)?;
+        let details = Details::new(addr, port, meta, vsn)?;
+        Ok(Node::new(alloc, name, details, inc)?)
+    }
+}
+
 /// The node that the words after `node` describe.
 fn read_node(alloc: Global, fields: &[&[u8]]) -> Result<Node, What>
     ensures reads { IfOk result (λ node. (start : Start)
@@ -78,18 +155,7 @@ fn read_node(alloc: Global, fields: &[&[u8]]) -> Result<Node, What>
         → RefusesNode (map (λ word. word.now) fields.now) what) }
     ensures kind { IfErr result IsOfReading }
 {
-    let [name, addr, port, meta, vsn, inc] = fields else {
-        return Err(What::bad_script());
-    };
-    let name = name_of(alloc, name)?;
-    let addr = bytes_of(alloc, addr)?;
-    let port = number_of(port, MAX_PORT)? as u16;
-    let meta = bytes_of(alloc, meta)?;
-    let vsn = bytes_of(alloc, vsn)?;
-    let inc = number_of(inc, MAX_INC)? as u32;
-    let name = Name::new(name)?;
-    let details = Details::new(addr, port, meta, vsn)?;
-    Ok(Node::new(alloc, name, details, inc)?)
+    NodeParts::read(alloc, fields)?.into_node(alloc)
 }
 
 /// The event that the words after the first one describe.
@@ -181,8 +247,7 @@ fn one_number(fields: &[&[u8]]) -> Result<usize, What>
 /// The number of a node. The node need not exist.
 fn node_number(word: &[u8]) -> Result<usize, What>
     ensures reads { IfOk result (NodeNumber word.now) }
-    ensures refuses { IfErr result (λ what. (k : ℕ) → ¬ NodeNumber word.now k) }
-    ensures fault { IfErr result (λ what. what ≡ What.Refused 31 None) }
+    ensures tells { IfErr result (NoNumber 18446744073709551615 word.now) }
 {
     Ok(number_of(word, MAX_NODE)? as usize)
 }

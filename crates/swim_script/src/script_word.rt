@@ -2,6 +2,7 @@
 
 ghost use Rattle.std.specs.Prelude.{◌≡◌, ◌≢◌, ◌<◌, ℕ, List, length, map, IfOk, IfErr};
 ghost use Rattle.percent_encoding.specs.Percent.{percent_decode};
+ghost use Rattle.swim_script.specs.Refusals.{NoBytes, NoNumber};
 ghost use Rattle.swim_script.specs.Script.{Decimal, HexBytes, words};
 
 use percent_encoding::percent_decode;
@@ -41,8 +42,7 @@ pub(crate) fn split_words(alloc: Global, line: &[u8]) -> Result<Vec<&[u8]>, What
 /// `BadScript` if the word is not such a number.
 pub(crate) fn number_of(word: &[u8], most: u64) -> Result<u64, What>
     ensures reads { IfOk result (Decimal most word.now) }
-    ensures refuses { IfErr result (λ what. (n : ℕ) → ¬ Decimal most word.now n) }
-    ensures fault { IfErr result (λ what. what ≡ What.Refused 31 None) }
+    ensures tells { IfErr result (NoNumber most word.now) }
 {
     // parse also accepts a plus, and a text of any length
     if word.len() > MAX_DIGITS || word.first() == Some(&b'+') {
@@ -64,9 +64,7 @@ pub(crate) fn number_of(word: &[u8], most: u64) -> Result<u64, What>
 /// `BadHex` if the word is neither.
 pub(crate) fn bytes_of(alloc: Global, word: &[u8]) -> Result<Vec<u8>, What>
     ensures reads { IfOk result (λ bytes. HexBytes word.now bytes.items) }
-    ensures refuses { IfErr result (λ what. what ≢ What.Memory
-        → (bytes : List ℕ) → ¬ HexBytes word.now bytes) }
-    ensures fault { IfErr result (λ what. what ≢ What.Memory → what ≡ What.Refused 30 None) }
+    ensures tells { IfErr result (λ what. what ≢ What.Memory → NoBytes word.now what) }
 {
     match word {
         b"-" => Ok(Vec::new(alloc)),

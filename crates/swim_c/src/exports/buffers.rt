@@ -89,7 +89,7 @@ pub extern "C" fn swimtab_raw_answer_new(
     exchanged
 }
 
-/// Makes the buffer keep the listing of the node's table (docs/PROTOCOL.md). Frees what the buffer
+/// Makes the buffer keep the listing of the node's table (docs/messages.md). Frees what the buffer
 /// kept before. The node does not change.
 ///
 /// # Statuses

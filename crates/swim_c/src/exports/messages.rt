@@ -7,7 +7,7 @@ ghost use Rattle.swim_c.specs.Messages.{IsTooLong, IsUnsent, ReadDone};
 ghost use Rattle.swim_c.specs.Parts.{PartDone};
 
 use crate::copy::Written;
-use crate::messages::{Place, ack_out, indirect_out, nack_out, ping_out, read, user_out};
+use crate::messages::{Peer, ack_out, indirect_out, nack_out, ping_out, read, user_out};
 use crate::parts::{Part, part_at};
 use crate::probe::Probe;
 use std::alloc::Global;
@@ -42,7 +42,7 @@ pub extern "C" fn swimtab_raw_ping_of(
     })) out.old out.new result.status result.len
         (IsUnsent node.now [] source.now source_addr.now) }
 {
-    let source = Place {
+    let source = Peer {
         name: source,
         addr: source_addr,
         port: source_port,
@@ -83,12 +83,12 @@ pub extern "C" fn swimtab_raw_indirect_of(
     })) out.old out.new result.status result.len
         (IsUnsent node.now addr.now source.now source_addr.now) }
 {
-    let target = Place {
+    let target = Peer {
         name: node,
         addr,
         port,
     };
-    let source = Place {
+    let source = Peer {
         name: source,
         addr: source_addr,
         port: source_port,

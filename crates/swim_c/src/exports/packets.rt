@@ -32,7 +32,7 @@ use std::alloc::Global;
 /// If the status is not 0, the node is unchanged.
 ///
 /// - 64 if the handle has no node.
-/// - 1 to 22 if the bytes are neither: the fault at which reading stops (docs/PROTOCOL.md).
+/// - 1 to 22 if the bytes are neither: the fault at which reading stops (docs/faults.md).
 /// - 10 if out of memory, never before the length of a text or bytes is read.
 #[unsafe(no_mangle)]
 pub extern "C" fn swimtab_raw_take(alloc: Global, node: &mut Handle, bytes: &[u8]) -> Taken

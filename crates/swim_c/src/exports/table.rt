@@ -140,7 +140,7 @@ pub extern "C" fn swimtab_raw_left_out(alloc: Global, node: &mut Handle) -> usiz
     }
 }
 
-/// Writes the listing of the node's table to the buffer (docs/PROTOCOL.md).
+/// Writes the listing of the node's table to the buffer (docs/messages.md).
 ///
 /// # Statuses
 ///

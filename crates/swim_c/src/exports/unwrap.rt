@@ -22,7 +22,7 @@ use std::alloc::Global;
 /// If the status is not 0, the buffer is unchanged.
 ///
 /// - 16 if it begins like no message, and 1 if it is empty.
-/// - 40 to 48 if the wrappers are invalid (docs/PROTOCOL.md).
+/// - 40 to 48 if the wrappers are invalid (docs/faults.md).
 /// - 54 if there are keys, and none decrypts it.
 /// - 59 if it is in the clear, there are keys, and what is in the clear is not accepted.
 /// - 66 if the buffer is too small. The kind and the length are then told.
@@ -90,7 +90,7 @@ pub extern "C" fn swimtab_raw_unwrap_new(
 /// - 1 if the bytes end too soon, or there are none: with more of them there may be a message.
 /// - 16 if it begins like no message; without keys, also if it is encrypted.
 /// - 41 to 48 if the wrappers are invalid, and 51 to 57 if it is encrypted and no key decrypts it:
-///   the fault of the last key (docs/PROTOCOL.md).
+///   the fault of the last key (docs/faults.md).
 /// - 59 if it is in the clear, there are keys, and what is in the clear is not accepted.
 /// - 51 if the label has more than 255 bytes.
 /// - 66 if the buffer is too small. The kind and the length are then told.

@@ -34,7 +34,8 @@ loop-len-preserved c =
     let grown : c.loop-len.packets.items ++ c.in_ok-packet.packet ∷ [] ≡ c.push.new.self.items = search rules in
     subst (λ (ps : List PacketValue). ReadTo c.args.lens.now c.args.bytes.now (c.loop-len.len-index + 1) ps c.in-Some.behind.now) grown
     (ReadTo-more c.args.lens.now c.args.bytes.now c.loop-len.len-index _ _
-    c.loop-len.packets.items c.loop-len.rest.now c.in-Some.text.now c.in-Some.behind.now c.in_ok-packet.packet c.loop-len-test.true refl c.loop-len.invariant
+    c.loop-len.packets.items c.loop-len.rest.now c.in-Some.text.now c.in-Some.behind.now
+    c.in_ok-packet.packet c.loop-len-test.true refl c.loop-len.invariant
     (in_parts _ _ _ _ parts.1 parts.2) parts.3 c.in_ok-packet.ensures.reads)
 
 pub returns-else-is_empty-clause-refused : goal.returns-else-is_empty-clause-refused

@@ -1,16 +1,11 @@
-use Rattle.std.proofs.Common.{ap, refl}
-use Rattle.swim_c.specs.Exchanges.{FinishDone}
-use Rattle.swim_c.specs.declared.watching.Watched.{Watched}
-use Rattle.swim_c.proofs.Noting.{refused_news, refused_noted}
+use Rattle.swim_c.proofs.Reported.{reported_finish, reported_news, reported_noted}
 use Rattle.swim_c.proofs.exchanging.finish_stream.Goals as goal
 
-pub returns-in-Err : goal.returns-in-Err
-returns-in-Err c =
-    let kept = c.in-Err.ensures.unchanged in
-    rw (c.refused.ensures, c.number.ensures) (record {
-      finishes =
-          FinishDone.refused c.in-Err.fault c.in-Err.ensures.refused refl (record { no_join = refl; no_used = refl; no_len = refl })
-          (ap (λ (h : Watched). h.node) kept);
-      news = refused_news _ c.args.held.now c.try_finish.new.held kept;
-      noted = refused_noted _ c.args.held.now c.try_finish.new.held kept;
-    })
+pub returns : goal.returns
+returns c =
+    let finish = c.try_finish.ensures in let outcome = c.try_finish.result in let report = c.reported.result in
+    let before = c.args.held.now in let after = c.try_finish.new.held in record {
+      finishes = reported_finish c.args.stream.now outcome report before after c.reported.ensures finish.finishes finish.unchanged finish.refused;
+      news = reported_news outcome report before after c.reported.ensures finish.news finish.unchanged;
+      noted = reported_noted outcome report before after c.reported.ensures finish.noted finish.unchanged;
+    }

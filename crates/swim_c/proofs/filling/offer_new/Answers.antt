@@ -8,7 +8,8 @@ pub returns-in-Ok-kept_dump : goal.returns-in-Ok-kept_dump
 returns-in-Ok-kept_dump c =
     let w = wanted c.in-Ok.form c.args.user.now in
     OfferedNew.in_form w c.in-Ok.ensures.ok
-    (filled (bytes_in w c.args.table.now c.args.join) c.in-Ok-kept_dump.kept.value.bytes c.args.buffer.now c.fill.new.self _ c.in-Ok-kept_dump.ensures.bytes c.fill.ensures)
+    (filled (bytes_in w c.args.table.now c.args.join) c.in-Ok-kept_dump.kept.value.bytes c.args.buffer.now
+    c.fill.new.self _ c.in-Ok-kept_dump.ensures.bytes c.fill.ensures)
 
 pub returns-in-Err-kept_dump : goal.returns-in-Err-kept_dump
 returns-in-Err-kept_dump c =

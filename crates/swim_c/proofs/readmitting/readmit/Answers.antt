@@ -8,7 +8,8 @@ pub returns-in-Ok-None-clause-readmits : goal.returns-in-Ok-None-clause-readmits
 returns-in-Ok-None-clause-readmits c =
     let is : get c.args.held.now.node.table c.args.name.now ≡ Some c.in-Some.entry.now = search rules in
     let none : ¬ IsBack c.in-Some.entry.now =
-    subst (λ a. MatchOption a (¬ IsBack c.in-Some.entry.now) (IsItsAlive c.in-Some.entry.now)) c.in-Ok-None.field-0-is c.in-Ok-None.ensures.alive in
+    subst (λ a. MatchOption a (¬ IsBack c.in-Some.entry.now)
+    (IsItsAlive c.in-Some.entry.now)) c.in-Ok-None.field-0-is c.in-Ok-None.ensures.alive in
     ReadmitDone.not_back c.in-Some.entry.now refl is none refl
 
 pub returns-in-Err-clause-readmits : goal.returns-in-Err-clause-readmits

@@ -11,4 +11,5 @@ returns-in-Ok-Some c =
     (of_some c.in-Ok-Some.field-0 sealed _ (search rules) made.sends)
     (of_some c.in-Ok-Some.field-0 sealed _ (search rules) made.opens)
     (of_some c.in-Ok-Some.field-0 sealed _ (search rules) made.within)
-    (subst (λ (b : List ℕ). Copied b c.args.out.now c.copy_out.new.out c.copy_out.result.status c.copy_out.result.len) c.deref.ensures.value c.copy_out.ensures)
+    (subst (λ (b : List ℕ). Copied b c.args.out.now c.copy_out.new.out c.copy_out.result.status
+    c.copy_out.result.len) c.deref.ensures.value c.copy_out.ensures)

@@ -9,5 +9,13 @@ returns-in-Ok c =
 
 pub returns-in-Err : goal.returns-in-Err
 returns-in-Err c =
-    packet_refused c.args.keys.now (GivesNewMessage c.args.buffer.now c.args.buffer.now c.refused.result.status c.refused.result.kind) (LacksNew c.args.buffer.now c.args.buffer.now c.refused.result.status c.refused.result.kind) c.args.packet.now c.in-Err.fault
-    (lacked_new _ c.args.buffer.now c.refused.result (c.refused.ensures ∙ ap (λ (n : ℕ). record { status = n; kind = 0; len = 0 }) c.packet_status.ensures)) c.in-Err.ensures.refuses
+    packet_refused c.args.keys.now (GivesNewMessage c.args.buffer.now c.args.buffer.now
+    c.refused.result.status c.refused.result.kind)
+    (LacksNew c.args.buffer.now c.args.buffer.now c.refused.result.status c.refused.result.kind)
+    c.args.packet.now c.in-Err.fault
+    (lacked_new _ c.args.buffer.now c.refused.result
+    (c.refused.ensures ∙ ap (λ (n : ℕ). record {
+      status = n;
+      kind = 0;
+      len = 0;
+    }) c.packet_status.ensures)) c.in-Err.ensures.refuses

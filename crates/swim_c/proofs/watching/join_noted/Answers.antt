@@ -8,7 +8,8 @@ use Rattle.swim_c.proofs.watching.join_noted.Goals as goal
 
 pub returns-clause-joined : goal.returns-clause-joined
 returns-clause-joined c =
-    subst (λ (t : Entries). (claims others : List Claim) → TableOf t claims → TableOf c.args.other others → TableOf c.join_noting.new.self (claims ++ others))
+    subst (λ (t : Entries). (claims others : List Claim) → TableOf t claims → TableOf c.args.other others
+    → TableOf c.join_noting.new.self (claims ++ others))
     c.table_mut.ensures.table c.in_ok-join_noting.ensures.all
 
 pub returns-clause-news : goal.returns-clause-news

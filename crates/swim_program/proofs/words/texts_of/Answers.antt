@@ -13,4 +13,6 @@ returns-in-Some c =
 
 pub returns-in-None : goal.returns-in-None
 returns-in-None c =
-    ap (map string_bytes) c.new.ensures.items ∙ ap (λ o. unwrap_or o []) (c.in-None.ensures ∙ raw_values-rows (found_of c.args.found.now) c.args.id.now)
+    ap (map string_bytes) c.new.ensures.items ∙ ap
+    (λ o. unwrap_or o []) (c.in-None.ensures
+    ∙ raw_values-rows (found_of c.args.found.now) c.args.id.now)

@@ -13,7 +13,8 @@ use Rattle.swim_script.proofs.script.read_script.Goals as goal
 
 pub loop-index-init : goal.loop-index-init
 loop-index-init c =
-    let were = none_read c.new-plan.result c.new-plan.ensures.nodes c.new-plan.ensures.events c.new-plan.ensures.lines c.new-plan.ensures.level in
+    let were = none_read c.new-plan.result c.new-plan.ensures.nodes c.new-plan.ensures.events
+    c.new-plan.ensures.lines c.new-plan.ensures.level in
     (grind serving, search rules, were)
 
 pub returns-in-Err-clause-line : goal.returns-in-Err-clause-line
@@ -34,7 +35,8 @@ returns-in-Err-clause-line c = λ seen within.
     let line : c.in-Some.line.now ≡ get_or lines n c.in-Some.line.now =
     ap (λ p. p.1) (here.1 ∙ get_or-enumerate_from 0 lines n (c.in-Some.index, c.in-Some.line.now) inside) in
     let wrong = c.in-Err.ensures.refuses (λ e. seen (ap (λ r. r.what) c.at-in-Err.ensures ∙ e)) in
-    let counted : c.in-Some.index + 1 ≡ length before + 1 = number_of_line c.loop-index.yielded lines c.in-Some.index c.in-Some.line.now (here.0, here.1) in
+    let counted : c.in-Some.index + 1 ≡ length before + 1 = number_of_line c.loop-index.yielded lines
+    c.in-Some.index c.in-Some.line.now (here.0, here.1) in
     first_wrong_line c.args.input.now before c.in-Some.line.now c.without_return.result.now c.loop-index.invariant.2.starts
     c.loop-index.plan c.at-in-Err.result.place c.at-in-Err.result.what
     (first ∙ ap (λ k. take k lines) (sym number))
@@ -64,7 +66,8 @@ loop-index-preserved c =
     c.without_return.ensures counted c.loop-index.invariant.2 c.in_default.ensures.takes in (
       search rules,
       search rules,
-      subst (λ l. WereRead l c.take_line.new.self) (sym (map_push (λ p. p.1.now) c.loop-index.yielded (c.in-Some.index, c.in-Some.line))) were,
+      subst (λ l. WereRead l c.take_line.new.self)
+          (sym (map_push (λ p. p.1.now) c.loop-index.yielded (c.in-Some.index, c.in-Some.line))) were,
     )
 
 pub returns-clause-reads : goal.returns-clause-reads

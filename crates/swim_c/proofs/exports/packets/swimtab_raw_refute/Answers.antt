@@ -14,4 +14,5 @@ pub returns-clause-noted : goal.returns-clause-noted
 returns-clause-noted c =
     on_noted c.args.node.now.node c.put.new.self.node c.args.node.now.changes c.put.new.self.changes
     c.deref_mut.result.now.changes c.refute-refuted.new.held.changes c.refute-refuted.result.status
-    c.deref_mut.result.now.node c.refute-refuted.new.held.node (search rules) (search rules) (search rules) (search rules) c.refute-refuted.ensures.noted
+    c.deref_mut.result.now.node c.refute-refuted.new.held.node (search rules) (search rules) (search rules)
+    (search rules) c.refute-refuted.ensures.noted

@@ -20,4 +20,5 @@ pub returns-clause-noted : goal.returns-clause-noted
 returns-clause-noted c =
     on_noted c.args.node.now.node c.put.new.self.node c.args.node.now.changes c.put.new.self.changes
     c.deref_mut.result.now.changes c.hear-heard.new.held.changes c.hear-heard.result.status
-    c.deref_mut.result.now.node c.hear-heard.new.held.node (search rules) (search rules) (search rules) (search rules) c.hear-heard.ensures.noted
+    c.deref_mut.result.now.node c.hear-heard.new.held.node (search rules) (search rules) (search rules)
+    (search rules) c.hear-heard.ensures.noted

@@ -6,10 +6,13 @@ use Rattle.swim_c.proofs.exports.seal.swimtab_raw_seal.Goals as goal
 pub returns-in_default-clause-seals : goal.returns-in_default-clause-seals
 returns-in_default-clause-seals c =
     without_keys
-    (λ keys. PacketSealed keys.keyring c.args.nonce.now c.args.label.now c.args.message.now c.args.out.now c.seal_out.new.out c.seal_out.result.status c.seal_out.result.len)
+    (λ keys. PacketSealed keys.keyring c.args.nonce.now c.args.label.now c.args.message.now c.args.out.now
+    c.seal_out.new.out c.seal_out.result.status c.seal_out.result.len)
     c.args.keyring.now.keys c.none-none.result c.in_default.ensures.taken c.none-none.ensures c.seal_out.ensures
 
 pub returns-clause-seals : goal.returns-clause-seals
 returns-clause-seals c =
-    with_keys (λ keys. PacketSealed keys.keyring c.args.nonce.now c.args.label.now c.args.message.now c.args.out.now c.seal_out-written.new.out c.seal_out-written.result.status c.seal_out-written.result.len)
+    with_keys (λ keys. PacketSealed keys.keyring c.args.nonce.now c.args.label.now c.args.message.now
+    c.args.out.now c.seal_out-written.new.out c.seal_out-written.result.status
+    c.seal_out-written.result.len)
     c.args.keyring.now.keys c.deref.result.now (search rules) c.seal_out-written.ensures

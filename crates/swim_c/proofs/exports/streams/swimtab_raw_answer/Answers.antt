@@ -10,13 +10,15 @@ returns-clause-answers c =
     on_node c.args.node.now.node c.put.new.self.node
     ((r ≡ record { status = 64; join = false; news = false; used = 0; len = 0 }) × (out ≡ c.args.out.now))
     (AnsweredInForm c.args.form c.args.user.now c.args.stream.now c.args.out.now out r.status r.join r.used r.len)
-    c.deref_mut.result.now.node c.answer_in_form-exchanged.new.held.node (search rules) (search rules) c.answer_in_form-exchanged.ensures.answers
+    c.deref_mut.result.now.node c.answer_in_form-exchanged.new.held.node (search rules)
+    (search rules) c.answer_in_form-exchanged.ensures.answers
 
 pub returns-clause-news : goal.returns-clause-news
 returns-clause-news c =
     let r = c.answer_in_form-exchanged.result in
     on_node c.args.node.now.node c.put.new.self.node (r.news ≡ false) (TellsNews r.status r.news)
-    c.deref_mut.result.now.node c.answer_in_form-exchanged.new.held.node (search rules) (search rules) c.answer_in_form-exchanged.ensures.news
+    c.deref_mut.result.now.node c.answer_in_form-exchanged.new.held.node (search rules)
+    (search rules) c.answer_in_form-exchanged.ensures.news
 
 pub returns-clause-noted : goal.returns-clause-noted
 returns-clause-noted c =

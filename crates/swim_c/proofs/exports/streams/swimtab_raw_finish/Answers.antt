@@ -10,7 +10,8 @@ returns-clause-finishes c =
     on_node c.args.node.now.node c.put.new.self.node
     (r ≡ record { status = 64; join = false; news = false; used = 0; len = 0 })
     (FinishDone c.args.stream.now r.status r.join r.used r.len)
-    c.deref_mut.result.now.node c.finish_stream-exchanged.new.held.node (search rules) (search rules) c.finish_stream-exchanged.ensures.finishes
+    c.deref_mut.result.now.node c.finish_stream-exchanged.new.held.node (search rules)
+    (search rules) c.finish_stream-exchanged.ensures.finishes
 
 pub returns-clause-news : goal.returns-clause-news
 returns-clause-news c =

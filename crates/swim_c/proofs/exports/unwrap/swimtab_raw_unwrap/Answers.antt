@@ -15,6 +15,8 @@ pub returns-clause-unwraps : goal.returns-clause-unwraps
 returns-clause-unwraps c =
     with_keys
     (λ keys. PacketUnwrapped keys c.args.packet.now
-    (GivesMessage c.args.out.now c.unwrap_out-unwrapped.new.out c.unwrap_out-unwrapped.result.status c.unwrap_out-unwrapped.result.kind c.unwrap_out-unwrapped.result.len)
-    (Lacks c.args.out.now c.unwrap_out-unwrapped.new.out c.unwrap_out-unwrapped.result.status c.unwrap_out-unwrapped.result.kind c.unwrap_out-unwrapped.result.len))
+    (GivesMessage c.args.out.now c.unwrap_out-unwrapped.new.out c.unwrap_out-unwrapped.result.status
+    c.unwrap_out-unwrapped.result.kind c.unwrap_out-unwrapped.result.len)
+    (Lacks c.args.out.now c.unwrap_out-unwrapped.new.out c.unwrap_out-unwrapped.result.status
+    c.unwrap_out-unwrapped.result.kind c.unwrap_out-unwrapped.result.len))
     c.args.keyring.now.keys c.deref.result.now (search rules) c.unwrap_out-unwrapped.ensures

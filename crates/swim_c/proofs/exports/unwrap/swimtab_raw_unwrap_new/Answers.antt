@@ -15,6 +15,7 @@ pub returns-clause-unwraps : goal.returns-clause-unwraps
 returns-clause-unwraps c =
     with_keys
     (λ keys. PacketUnwrapped keys c.args.packet.now
-    (GivesNewMessage c.args.buffer.now c.unwrap_new-unwrapped.new.buffer c.unwrap_new-unwrapped.result.status c.unwrap_new-unwrapped.result.kind)
+    (GivesNewMessage c.args.buffer.now c.unwrap_new-unwrapped.new.buffer c.unwrap_new-unwrapped.result.status
+    c.unwrap_new-unwrapped.result.kind)
     (LacksNew c.args.buffer.now c.unwrap_new-unwrapped.new.buffer c.unwrap_new-unwrapped.result.status c.unwrap_new-unwrapped.result.kind))
     c.args.keyring.now.keys c.deref.result.now (search rules) c.unwrap_new-unwrapped.ensures

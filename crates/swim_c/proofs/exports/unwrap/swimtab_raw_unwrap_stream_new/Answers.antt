@@ -15,6 +15,8 @@ pub returns-clause-unwraps : goal.returns-clause-unwraps
 returns-clause-unwraps c =
     with_keys
     (λ keys. StreamUnwrapped keys c.args.label.now c.args.stream.now
-    (GivesNewMessage c.args.buffer.now c.unwrap_stream_new-unwrapped.new.buffer c.unwrap_stream_new-unwrapped.result.status c.unwrap_stream_new-unwrapped.result.kind)
-    (LacksNew c.args.buffer.now c.unwrap_stream_new-unwrapped.new.buffer c.unwrap_stream_new-unwrapped.result.status c.unwrap_stream_new-unwrapped.result.kind))
+    (GivesNewMessage c.args.buffer.now c.unwrap_stream_new-unwrapped.new.buffer
+    c.unwrap_stream_new-unwrapped.result.status c.unwrap_stream_new-unwrapped.result.kind)
+    (LacksNew c.args.buffer.now c.unwrap_stream_new-unwrapped.new.buffer
+    c.unwrap_stream_new-unwrapped.result.status c.unwrap_stream_new-unwrapped.result.kind))
     c.args.keyring.now.keys c.deref.result.now (search rules) c.unwrap_stream_new-unwrapped.ensures

@@ -3,4 +3,5 @@ use Rattle.swim_c.proofs.ViewCalls.{on_same_view}
 use Rattle.swim_c.proofs.exports.views.swimtab_raw_view_offer.Goals as goal
 
 pub returns : goal.returns
-returns c = on_same_view c.args.view.now.view c.put.new.self.view _ _ c.deref.result.now (search rules) (search rules) c.offer-status.ensures
+returns c = on_same_view c.args.view.now.view c.put.new.self.view _ _ c.deref.result.now (search rules)
+    (search rules) c.offer-status.ensures

@@ -12,7 +12,7 @@ use Rattle.swim_c.specs.contracts.watching.Watched as watched
 use Rattle.swim_table.proofs.node.Node.TheSendSync.{the_send as node_send}
 use Rattle.swim_table.proofs.table.Table.TheSendSync.{the_send as table_send}
 use Rattle.swim_c.specs.Handle.{handle_owns}
-use Rattle.swim_c.proofs.Handles.{holds_keyless}
+use Rattle.swim_c.proofs.Handles.Send.{holds_keyless}
 use Rattle.swim_c.specs.contracts.handle.Handle.{the_row, the_type}
 
 watched_send : IsSend watched.the_row

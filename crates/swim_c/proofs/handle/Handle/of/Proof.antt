@@ -3,7 +3,7 @@ use Rattle.std.proofs.Common.{true, Some, refl}
 use base.Logic.{emp}
 use contract.Monad.{fact_i}
 use Rattle.swim_c.proofs.Contents.{a_node, of_node}
-use Rattle.swim_c.proofs.Handles.{of_meets}
+use Rattle.swim_c.proofs.Handles.Of.{of_meets}
 use Rattle.swim_c.specs.contracts.handle.Handle.of as f
 use Rattle.swim_c.proofs.handle.Handle.of.Statement.{statement}
 use Rattle.swim_c.proofs.handle.Handle.of.Code as code
@@ -12,4 +12,5 @@ pub of_spec : {M : Type 1} → statement M
 unfolding code.code
 of_spec 𝓤 𝓛 𝓜 𝓡 wired =
     of_meets a_node 𝓤 𝓛 𝓜 𝓡 of_node (f.clauses 𝓛 𝓜.mem 𝓡.returns) f.Key.name (code.unfolded 𝓤 𝓛.H 𝓜 𝓡 wired) wired.2
-    (λ d p. record { at = p; held = true; node = Some d.value.node; changes = d.value.changes }) (λ d p vs. refl) (λ d p g. fact_i 𝓤 _ (emp 𝓤) (refl, refl))
+    (λ d p. record { at = p; held = true; node = Some d.value.node; changes = d.value.changes })
+    (λ d p vs. refl) (λ d p g. fact_i 𝓤 _ (emp 𝓤) (refl, refl))

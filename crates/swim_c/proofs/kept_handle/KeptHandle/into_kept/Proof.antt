@@ -3,7 +3,7 @@ use Rattle.std.proofs.Common.{inl, refl}
 use base.Logic.{emp}
 use contract.Monad.{fact_i}
 use Rattle.swim_c.proofs.Contents.{a_kept, of_kept}
-use Rattle.swim_c.proofs.Handles.{into_meets}
+use Rattle.swim_c.proofs.Handles.Taken.{into_meets}
 use Rattle.swim_c.specs.contracts.kept_handle.KeptHandle.into_kept as f
 use Rattle.swim_c.proofs.kept_handle.KeptHandle.into_kept.Statement.{statement}
 use Rattle.swim_c.proofs.kept_handle.KeptHandle.into_kept.Code as code

@@ -3,7 +3,7 @@ use Rattle.std.proofs.Common.{true, Some, refl}
 use base.Logic.{emp}
 use contract.Monad.{fact_i}
 use Rattle.swim_c.proofs.Contents.{a_kept, of_kept}
-use Rattle.swim_c.proofs.Handles.{of_meets}
+use Rattle.swim_c.proofs.Handles.Of.{of_meets}
 use Rattle.swim_c.specs.contracts.kept_handle.KeptHandle.of as f
 use Rattle.swim_c.proofs.kept_handle.KeptHandle.of.Statement.{statement}
 use Rattle.swim_c.proofs.kept_handle.KeptHandle.of.Code as code

@@ -3,7 +3,7 @@ use Rattle.std.proofs.Common.{inl, refl}
 use base.Logic.{emp}
 use contract.Monad.{fact_i}
 use Rattle.swim_c.proofs.Contents.{some_keys, of_keys}
-use Rattle.swim_c.proofs.Handles.{into_meets}
+use Rattle.swim_c.proofs.Handles.Taken.{into_meets}
 use Rattle.swim_c.specs.contracts.keyring.KeyringHandle.into_keys as f
 use Rattle.swim_c.proofs.keyring.KeyringHandle.into_keys.Statement.{statement}
 use Rattle.swim_c.proofs.keyring.KeyringHandle.into_keys.Code as code

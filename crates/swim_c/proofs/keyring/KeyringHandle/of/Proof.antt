@@ -3,7 +3,7 @@ use Rattle.std.proofs.Common.{true, Some, refl}
 use base.Logic.{emp}
 use contract.Monad.{fact_i}
 use Rattle.swim_c.proofs.Contents.{some_keys, of_keys}
-use Rattle.swim_c.proofs.Handles.{of_meets}
+use Rattle.swim_c.proofs.Handles.Of.{of_meets}
 use Rattle.swim_c.specs.contracts.keyring.KeyringHandle.of as f
 use Rattle.swim_c.proofs.keyring.KeyringHandle.of.Statement.{statement}
 use Rattle.swim_c.proofs.keyring.KeyringHandle.of.Code as code

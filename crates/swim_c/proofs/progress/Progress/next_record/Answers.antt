@@ -9,4 +9,5 @@ pub returns-in-Ok-clause-progress : goal.returns-in-Ok-clause-progress
 returns-in-Ok-clause-progress c = λ at. c.in-Ok.ensures.progress (c.in_ok-begin.ensures.progress at)
 
 pub returns-in-Err-clause-progress : goal.returns-in-Err-clause-progress
-returns-in-Err-clause-progress c = λ at. subst (IsProgressIn c.args.bytes.now) (sym c.in-Err.ensures.unchanged) (c.in_ok-begin.ensures.progress at)
+returns-in-Err-clause-progress c = λ at. subst (IsProgressIn c.args.bytes.now)
+    (sym c.in-Err.ensures.unchanged) (c.in_ok-begin.ensures.progress at)

@@ -23,7 +23,8 @@ loop-self-preserved c = record {
 
 pub returns-in_err-read_record-clause-progress : goal.returns-in_err-read_record-clause-progress
 returns-in_err-read_record-clause-progress c = λ at.
-    subst (λ (p : Progress). IsProgressIn c.args.bytes.now p) (sym c.in_err-read_record.ensures.unchanged) (c.loop-self.invariant.progress at)
+    subst (λ (p : Progress). IsProgressIn c.args.bytes.now p) (sym c.in_err-read_record.ensures.unchanged)
+    (c.loop-self.invariant.progress at)
 
 pub returns-in_err-read_record-clause-lacks : goal.returns-in_err-read_record-clause-lacks
 returns-in_err-read_record-clause-lacks c =
@@ -39,4 +40,5 @@ returns-clause-lacks c =
     then_err c.check_user_state.result c.check_user_state.ensures.lacks (λ e lacks at no_memory. lacks (c.loop-self.invariant.progress at))
 
 pub returns-in_err-begin-clause-progress : goal.returns-in_err-begin-clause-progress
-returns-in_err-begin-clause-progress c = λ at. subst (λ (p : Progress). IsProgressIn c.args.bytes.now p) (sym c.in_err-begin.ensures.unchanged) at
+returns-in_err-begin-clause-progress c = λ at. subst
+    (λ (p : Progress). IsProgressIn c.args.bytes.now p) (sym c.in_err-begin.ensures.unchanged) at

@@ -26,7 +26,8 @@ returns-clause-progress c =
     let header = c.in_ok-header.header in
     let is : c.new-inlet.result ≡ drop c.args.self.now.at c.args.bytes.now = c.new-inlet.ensures ∙ c.unread.ensures.unread in
     header_read c.args.bytes.now c.read_header.new.inlet c.args.self.now _ header c.requires
-    (subst (λ (b : List ℕ). ConsumesText (memory b) (memory c.read_header.new.inlet) (λ t. HeaderText t header)) is c.in_ok-header.ensures.takes)
+    (subst (λ (b : List ℕ). ConsumesText (memory b) (memory c.read_header.new.inlet)
+    (λ t. HeaderText t header)) is c.in_ok-header.ensures.takes)
     (λ i. progress (length c.args.bytes.now - length (c.rest.ensures i)) header.nodes header.user_len true)
 
 pub returns-clause-begun : goal.returns-clause-begun
@@ -34,5 +35,6 @@ returns-clause-begun c =
     let header = c.in_ok-header.header in
     let is : c.new-inlet.result ≡ drop c.args.self.now.at c.args.bytes.now = c.new-inlet.ensures ∙ c.unread.ensures.unread in
     header_begun c.args.bytes.now c.read_header.new.inlet c.args.self.now _ header c.requires
-    (subst (λ (b : List ℕ). ConsumesText (memory b) (memory c.read_header.new.inlet) (λ t. HeaderText t header)) is c.in_ok-header.ensures.takes)
+    (subst (λ (b : List ℕ). ConsumesText (memory b) (memory c.read_header.new.inlet)
+    (λ t. HeaderText t header)) is c.in_ok-header.ensures.takes)
     (λ i. progress (length c.args.bytes.now - length (c.rest.ensures i)) header.nodes header.user_len true)

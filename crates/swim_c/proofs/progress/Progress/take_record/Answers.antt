@@ -26,7 +26,8 @@ returns-clause-progress c =
     let claim = c.in_ok-claim.claim in let old = c.args.self.now in let some = c.requires.left in
     let is : c.new-inlet.result ≡ drop old.at c.args.bytes.now = c.new-inlet.ensures ∙ c.unread.ensures.unread in
     record_read c.args.bytes.now c.read_state.new.inlet old _ claim c.requires.header (omega (arith, some))
-    (subst (λ (b : List ℕ). ConsumesText (memory b) (memory c.read_state.new.inlet) (λ t. StateText t claim)) is c.in_ok-claim.ensures.takes)
+    (subst (λ (b : List ℕ). ConsumesText (memory b) (memory c.read_state.new.inlet)
+    (λ t. StateText t claim)) is c.in_ok-claim.ensures.takes)
     (λ i. progress (length c.args.bytes.now - length (c.rest.ensures i)) (old.left - 1) old.user_len (c.requires.header i))
 
 pub returns-clause-takes : goal.returns-clause-takes
@@ -34,5 +35,6 @@ returns-clause-takes c =
     let claim = c.in_ok-claim.claim in let old = c.args.self.now in
     let is : c.new-inlet.result ≡ drop old.at c.args.bytes.now = c.new-inlet.ensures ∙ c.unread.ensures.unread in
     record_taken c.args.bytes.now c.read_state.new.inlet old _ claim c.requires.left
-    (subst (λ (b : List ℕ). ConsumesText (memory b) (memory c.read_state.new.inlet) (λ t. StateText t claim)) is c.in_ok-claim.ensures.takes)
+    (subst (λ (b : List ℕ). ConsumesText (memory b) (memory c.read_state.new.inlet)
+    (λ t. StateText t claim)) is c.in_ok-claim.ensures.takes)
     (λ i. progress (length c.args.bytes.now - length (c.rest.ensures i)) (old.left - 1) old.user_len (c.requires.header i))

@@ -11,5 +11,6 @@ loop-each-preserved c =
     let steps : c.loop-each.each-iterator ≡ (name, entry) ∷ c.next.new.self = search rules in
     one_more all c.next.new.self (name, entry) c.loop-each.table c.take_entry.new.table
     (subst (λ rest. HasAllBut all rest c.loop-each.table) steps c.loop-each.invariant)
-    (subst (λ (n : List ℕ). TakesIn c.loop-each.table c.take_entry.new.table (claims_of n entry.inc entry.details entry.state)) c.name.ensures
+    (subst (λ (n : List ℕ). TakesIn c.loop-each.table c.take_entry.new.table
+    (claims_of n entry.inc entry.details entry.state)) c.name.ensures
     c.in_ok-take_entry.ensures)

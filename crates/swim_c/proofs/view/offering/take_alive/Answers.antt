@@ -6,5 +6,6 @@ use Rattle.swim_c.proofs.view.offering.take_alive.Goals as goal
 
 pub returns : goal.returns
 returns c =
-    on_ok_weaker c.take.result (taken_as c.args.table.now c.take.new.table _ _ (λ i. Alive (c.in_ok-name.ensures i) c.args.inc (c.in_ok-details.ensures i) ∷ []))
+    on_ok_weaker c.take.result (taken_as c.args.table.now c.take.new.table _ _
+    (λ i. Alive (c.in_ok-name.ensures i) c.args.inc (c.in_ok-details.ensures i) ∷ []))
     c.take.ensures

@@ -8,7 +8,8 @@ use Rattle.swim_c.proofs.view.offering.take_state.Goals as goal
 pub returns-in-Alive : goal.returns-in-Alive
 returns-in-Alive c =
     let said = claims_in_state c.args.name.now c.args.inc c.args.details.now in
-    on_ok_weaker c.take_alive.result (taken_as c.args.table.now c.take_alive.new.table _ (said c.args.state.now) (ap said (sym c.in-Alive.is))) c.take_alive.ensures
+    on_ok_weaker c.take_alive.result (taken_as c.args.table.now c.take_alive.new.table _
+    (said c.args.state.now) (ap said (sym c.in-Alive.is))) c.take_alive.ensures
 
 pub returns-in_ok-try_clone-in-Suspect : goal.returns-in_ok-try_clone-in-Suspect
 returns-in_ok-try_clone-in-Suspect c =

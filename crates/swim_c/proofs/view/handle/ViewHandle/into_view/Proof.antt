@@ -3,7 +3,7 @@ use Rattle.std.proofs.Common.{inl, refl}
 use base.Logic.{emp}
 use contract.Monad.{fact_i}
 use Rattle.swim_c.proofs.Contents.{a_view, of_view}
-use Rattle.swim_c.proofs.Handles.{into_meets}
+use Rattle.swim_c.proofs.Handles.Taken.{into_meets}
 use Rattle.swim_c.specs.contracts.view.handle.ViewHandle.into_view as f
 use Rattle.swim_c.proofs.view.handle.ViewHandle.into_view.Statement.{statement}
 use Rattle.swim_c.proofs.view.handle.ViewHandle.into_view.Code as code

@@ -3,7 +3,7 @@ use Rattle.std.proofs.Common.{true, Some, refl}
 use base.Logic.{emp}
 use contract.Monad.{fact_i}
 use Rattle.swim_c.proofs.Contents.{a_view, of_view}
-use Rattle.swim_c.proofs.Handles.{of_meets}
+use Rattle.swim_c.proofs.Handles.Of.{of_meets}
 use Rattle.swim_c.specs.contracts.view.handle.ViewHandle.of as f
 use Rattle.swim_c.proofs.view.handle.ViewHandle.of.Statement.{statement}
 use Rattle.swim_c.proofs.view.handle.ViewHandle.of.Code as code
