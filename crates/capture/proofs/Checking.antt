@@ -15,7 +15,8 @@ version-right wanted major x at is = let e : eqb major wanted ≡ true = eq-eqb 
 
 pub version-wrong : (wanted major : ℕ) (at : Source) → major ≢ wanted
     → ReadsAs {X = Unit {0}} stop_cause (λ _. tt) (checked_version wanted major) at at (Err (Fault (Version major)))
-version-wrong wanted major at other = let e : eqb major wanted ≡ false = ne_eqb _ _ other in rw e (Reads-refuses (Fault (Version major)) refl)
+version-wrong wanted major at other = let e : eqb major wanted ≡ false = ne_eqb _ _ other
+    in rw e (Reads-refuses (Fault (Version major)) refl)
 
 pub total-right : (again total : ℕ) (x : Unit {0}) (at : Source) → again ≡ total
     → ReadsAs {X = Unit {0}} stop_cause (λ _. tt) (same_total again total) at at (Ok x)

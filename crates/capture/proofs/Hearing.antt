@@ -1,10 +1,11 @@
 -- What a segment does to the flows between its endpoints, by whether one is open.
 use Rattle.std.proofs.Common.{◌≡◌, ℕ, true, false, Option, Some, None, IsSome, IfSome, Result, Ok, Err, OnErr, refl, sym, ◌∙◌, ap}
 use Rattle.std.proofs.Math.Path.{subst}
-use Rattle.capture.specs.declared.taken.Taken.{Taken}
+use Rattle.capture.specs.declared.fate.Fate.{Fate}
 use Rattle.capture.specs.Flows.{FlowText}
 use Rattle.capture.specs.FlowTexts.{OpenText, PairText}
-use Rattle.capture.specs.OpenFlows.{alone, begins, begun, first_of, settled, is_other, confirms, confirms_newer, newer_of, IsAfter, GoesOn, Hears}
+use Rattle.capture.specs.OpenFlows.{alone, begins, begun, first_of, settled, is_other, confirms, confirms_newer}
+use Rattle.capture.specs.OpenFlows.{newer_of, IsAfter, GoesOn, Hears}
 use Rattle.capture.specs.OpenFlows.GoesOn.{aside, replaces, takes}
 use Rattle.capture.specs.OpenFlows.Hears.{began, went_on}
 use Rattle.capture.specs.Packets.{TcpText}
@@ -13,7 +14,7 @@ pub on_err : {T E P Q : Type 0} (r : Result T E) → (P → Q) → OnErr r P →
 on_err (Ok x) f h = tt
 on_err (Err e) f h = f h
 
-module _ (s : TcpText) (what : Taken) (taken : Option Taken) (complete : Option FlowText) (new : Option PairText)
+module _ (s : TcpText) (what : Fate) (taken : Option Fate) (complete : Option FlowText) (new : Option PairText)
     (first : ℕ) (is : first ≡ first_of s) (told : taken ≡ Some what) where
   -- a flow starts
   pub hears_begun : (old mid : Option PairText) (before after : OpenText) → old ≡ None → begins s ≡ true
@@ -37,7 +38,7 @@ module _ (s : TcpText) (what : Taken) (taken : Option Taken) (complete : Option 
   hears_own (Some p) (Some after) replaced some some2 goes left =
       went_on p refl what after (subst (λ n. GoesOn p n s what replaced after) is goes) told left
 
-module _ (p : PairText) (first : ℕ) (s : TcpText) (taken : Taken) where
+module _ (p : PairText) (first : ℕ) (s : TcpText) (taken : Fate) where
   -- a SYN of another flow
   pub goes_aside : (newer : Option OpenText) (new : PairText) → new.older ≡ p.older → new.newer ≡ newer
       → is_other p.older s ≡ true → IsSome newer

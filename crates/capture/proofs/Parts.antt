@@ -1,5 +1,6 @@
 -- Parts of a record that are consumed from an inlet, whole or piece by piece.
-use Rattle.std.proofs.Common.{◌≡◌, ℕ, ◌+◌, ◌<◌, ◌≤◌, true, false, ltb, List, [], ◌∷◌, ◌++◌, length, Option, Some, None, Result, Ok, Err, refl, sym, ap, subst, ◌∙◌, append_assoc, length-append, arith}
+use Rattle.std.proofs.Common.{◌≡◌, ℕ, ◌+◌, ◌<◌, ◌≤◌, true, false, ltb, List, [], ◌∷◌, ◌++◌, length, Option, Some, None}
+use Rattle.std.proofs.Common.{Result, Ok, Err, refl, sym, ap, subst, ◌∙◌, append_assoc, length-append, arith}
 use Rattle.std.proofs.lemmas.Bool.{lt-ltb, le-ltb}
 use Rattle.std.proofs.KnownBytes.{Consumes-trans}
 use Rattle.std.proofs.lemmas.List.{take_at, drop_at}
@@ -46,7 +47,8 @@ Reads-text {E} {X} {V} {cause} {view} {reading} {a} {b} {x} text h gone stay = r
     answers (Some bytes) None gone = absurd gone
     answers (Some bytes) (Some rest) gone = ap reading gone ∙ h.determines rest
 
-    takes : (old new : Option (List ℕ)) → Consumes old new text → ConsumesKnownText old new (ConsumesMinimalPrefix cause view reading (Ok x))
+    takes : (old new : Option (List ℕ)) → Consumes old new text
+        → ConsumesKnownText old new (ConsumesMinimalPrefix cause view reading (Ok x))
     takes None new gone = (text, h)
     takes (Some bytes) None gone = absurd gone
     takes (Some bytes) (Some rest) gone = (text, h, gone)
@@ -54,7 +56,8 @@ Reads-text {E} {X} {V} {cause} {view} {reading} {a} {b} {x} text h gone stay = r
 -- the first byte is there
 pub first-taken : {X : Type 0} {view : X → List ℕ} {a b : Source} {x : X} (got : List ℕ) → length got ≡ 1 → view x ≡ got
     → Consumes a.coming b.coming got → a.faults ≤ b.faults → ReadsAs stop_cause view first_byte a b (Ok x)
-first-taken {X} {view} {a} {b} {x} got one is gone stay = Reads-text got (record { determines = determines got one is; waits = waits }) gone stay
+first-taken {X} {view} {a} {b} {x} got one is gone stay = Reads-text got
+    (record { determines = determines got one is; waits = waits }) gone stay
   where
     determines : (got : List ℕ) → length got ≡ 1 → view x ≡ got → (more : List ℕ) → first_byte (got ++ more) ≡ Ok (view x, more)
     determines [] one is more = absurd (omega arith)
@@ -102,13 +105,19 @@ part-cut {X} {view} {a} {b} m n k got long gone before short over after = record
   faults_stay = omega arith;
 }
   where
-    answers : (x y z : Option (List ℕ)) → Consumes x y got → IsShorter y k → Answers {X = X} stop_cause view (next_part n) x z (Err (Fault Cut))
+    answers : (x y z : Option (List ℕ)) → Consumes x y got → IsShorter y k
+        → Answers {X = X} stop_cause view (next_part n) x z (Err (Fault Cut))
     answers None y z gone short = tt
     answers (Some bytes) None z gone short = absurd gone
-    answers (Some bytes) (Some left) z gone short = next_part-cut n bytes (omega (arith, ap length gone, length-append got left, short, long))
+    answers (Some bytes) (Some left) z gone short = next_part-cut n bytes
+        (omega (arith, ap length gone, length-append got left, short, long))
 
     own : ConsumesMinimalPrefix {X = X} stop_cause view (next_part n) (Err (Fault Cut)) got
-    own = record { determines = λ by more. absurd cc; waits = λ free front more parts some. next_part-front n got front more (omega (arith, long)) parts some }
+    own = record {
+      determines = λ by more. absurd cc;
+      waits = λ free front more parts some. next_part-front n got front more
+          (omega (arith, long)) parts some;
+    }
 
     no_more : (bytes left rest : List ℕ) → bytes ≡ got ++ left → left ≡ over.0 ++ rest → length left < k
         → ConsumesMinimalPrefix {X = X} stop_cause view (next_part n) (Err (Fault Cut)) (got ++ over.0)
@@ -121,13 +130,15 @@ part-cut {X} {view} {a} {b} m n k got long gone before short over after = record
 
 -- the inlet failed at the next piece
 pub part-failed : {X : Type 0} {view : X → List ℕ} {a b : Source} (m : Source) (n : ℕ) (got : List ℕ)
-    → Consumes a.coming m.coming got → a.faults ≤ m.faults → CountsFault m.faults b.faults → ConsumesSome m.coming b.coming → m.faults ≤ b.faults
+    → Consumes a.coming m.coming got → a.faults ≤ m.faults → CountsFault m.faults b.faults
+    → ConsumesSome m.coming b.coming → m.faults ≤ b.faults
     → ReadsAs {X = X} stop_cause view (next_part n) a b (Err (Fault Device))
 part-failed {X} {view} {a} {b} m n got gone before rise over after = record {
   rest = (got ++ over.0, Consumes-trans a.coming m.coming b.coming got over.0 gone over.1);
   answer = answers a.coming b.coming;
   takes =
-      takes-over a.coming m.coming b.coming got over.0 _ (λ known. Unit {0}) gone over.1 (λ bytes left rest gone behind q. no_more (got ++ over.0)) tt
+      takes-over a.coming m.coming b.coming got over.0 _ (λ known. Unit {0}) gone over.1
+      (λ bytes left rest gone behind q. no_more (got ++ over.0)) tt
       (no_more got);
   fault = λ e. omega arith;
   faults_stay = omega arith;
@@ -156,9 +167,14 @@ part-memory {X} {view} {a} {b} n got long gone stay = record {
     answers (Some bytes) z = tt
 
     own : ConsumesMinimalPrefix {X = X} stop_cause view (next_part n) (Err (Fault Memory)) got
-    own = record { determines = λ by more. absurd cc; waits = λ free front more parts some. next_part-front n got front more long parts some }
+    own = record {
+      determines = λ by more. absurd cc;
+      waits = λ free front more parts some. next_part-front n got front more long parts some;
+    }
 
-    takes : (x z : Option (List ℕ)) → Consumes x z got → ConsumesKnownText x z (ConsumesMinimalPrefix {X = X} stop_cause view (next_part n) (Err (Fault Memory)))
+    takes : (x z : Option (List ℕ)) → Consumes x z got
+        → ConsumesKnownText x z (ConsumesMinimalPrefix {X = X} stop_cause view (next_part n)
+        (Err (Fault Memory)))
     takes None z gone = (got, own)
     takes (Some bytes) None gone = absurd gone
     takes (Some bytes) (Some rest) gone =

@@ -1,11 +1,13 @@
 -- Segments that wait in order: what covers a place, where the next one starts, and how another one is put among them.
-use Rattle.std.proofs.Common.{◌≡◌, ℕ, zero, suc, ◌+◌, ◌-◌, ◌<◌, ◌≤◌, ◌⊎◌, inl, inr, Bool, true, false, nat_lt, min, if◌then◌else◌, List, [], ◌∷◌, ◌++◌, length, take, drop, get_or, refl, sym, ◌∙◌, ap, arith}
+use Rattle.std.proofs.Common.{◌≡◌, ℕ, zero, suc, ◌+◌, ◌-◌, ◌<◌, ◌≤◌, ◌⊎◌, inl, inr, Bool, true, false, nat_lt, min}
+use Rattle.std.proofs.Common.{if◌then◌else◌, List, [], ◌∷◌, ◌++◌, length, take, drop, get_or, refl, sym, ◌∙◌, ap, arith}
 use Rattle.std.proofs.Math.Path.{subst}
 use Rattle.std.specs.Prelude.{Option, Some, None, find, fold, filter}
 use Rattle.std.specs.List.{All, AllWithin}
 use Rattle.std.specs.List.Sorted.{IsNonDecreasingBy}
 use Rattle.std.proofs.lemmas.Bool.{lt-ltb, le-ltb}
-use Rattle.std.proofs.lemmas.List.Elements.{All-nil, All-cons, All-head, All-tail, All-get_or, All-from_get_or, All-weaker, All-take, All-drop, All-filter, All-append}
+use Rattle.std.proofs.lemmas.List.Elements.{All-nil, All-cons, All-head, All-tail, All-get_or, All-from_get_or}
+use Rattle.std.proofs.lemmas.List.Elements.{All-weaker, All-take, All-drop, All-filter, All-append}
 use Rattle.capture.specs.Flows.{Placed, placed, end_of, covers, closer, byte_in, byte_at, SaysFrom, InOrder, IsClean, AreCovered}
 use Rattle.capture.proofs.Covering.{which, lt_tells, covers_yes, covers_below, covers_behind, covers_low, covers_high, covers_not}
 use Rattle.capture.proofs.Saying.{said_append, unsaid_append, one_out}
@@ -206,7 +208,8 @@ near_next xs k n stop p up less is low high =
 pub near_last : (xs : List Placed) (k n stop : ℕ) → length xs ≤ n → AllWithin (λ s. s.at < k + 1) xs 0 n
     → stop ≡ fold (closer k) stop xs
 near_last xs k n stop all low =
-    sym (near_none xs k stop (All-from_get_or (λ s. s.at < k + 1) xs nowhere (λ i less. low i nowhere (omega arith) (omega (arith, less, all)))))
+    sym (near_none xs k stop (All-from_get_or (λ s. s.at < k + 1) xs nowhere
+    (λ i less. low i nowhere (omega arith) (omega (arith, less, all)))))
 
 -- a segment among them that covers a place: one is found there
 pub some_found : (j k : ℕ) (xs : List Placed) (p : Placed) → find (covers j) xs ≡ Some p → covers k p ≡ true
@@ -372,7 +375,8 @@ module _ (xs : List Placed) (seg : Placed) (here stop m n : ℕ) (found : List �
             let out : covers k y ≡ false =
             elim side [ inl l ↦ covers_below k y (omega (arith, l, from)) | inr h ↦ covers_behind k y (omega (arith, h, until)) ] in
             All-cons (λ s. covers k s ≡ false) y ys out
-            (outs ys (All-tail (λ s. here ≤ s.at) y ys a) (All-tail (λ s. s.at < stop) y ys b) (All-tail (λ s. s.at < stop → end_of s ≤ stop) y ys c))
+            (outs ys (All-tail (λ s. here ≤ s.at) y ys a) (All-tail (λ s. s.at < stop) y ys b)
+            (All-tail (λ s. s.at < stop → end_of s ≤ stop) y ys c))
 
   -- outside of them nothing changes
   outside : (k : ℕ) → (k < here) ⊎ (stop ≤ k) → byte_at k (take m xs ++ piece ∷ drop n xs) ≡ byte_at k xs
@@ -394,7 +398,8 @@ module _ (xs : List Placed) (seg : Placed) (here stop m n : ℕ) (found : List �
               let said : byte_at (here + (k - here)) (xs ++ seg ∷ []) ≡ Some (get_or found (k - here) 0) = says (k - here) less in
               let on : covers k piece ≡ true = covers_yes k piece from.1 (omega (arith, from.1, less)) in
               let none : find (covers k) (take m xs) ≡ None =
-              none_below k (take m xs) (All-weaker (λ s. end_of s ≤ here) (λ s. end_of s ≤ k) (λ s h. omega (arith, h, from.1)) (take m xs) ends_low) in
+              none_below k (take m xs) (All-weaker (λ s. end_of s ≤ here) (λ s. end_of s ≤ k)
+              (λ s h. omega (arith, h, from.1)) (take m xs) ends_low) in
               let put : byte_at k (take m xs ++ piece ∷ drop n xs) ≡ Some (get_or found (k - here) 0) =
               ap (byte_in k) (find_put k (take m xs) (drop n xs) piece none on) in
               subst (λ j. byte_at j (xs ++ seg ∷ []) ≡ Some (get_or found (k - here) 0)) place said ∙ sym put)

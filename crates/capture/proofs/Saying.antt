@@ -1,12 +1,15 @@
 -- The bytes that segments give at a place, and a flow that gives the same.
-use Rattle.std.proofs.Common.{◌≡◌, ◌≢◌, ℕ, ◌+◌, ◌-◌, ◌^◌, ◌<◌, ◌≤◌, inl, inr, true, false, nat_lt, List, [], ◌∷◌, ◌++◌, length, take, drop, get_or, refl, sym, ◌∙◌, ap, arith, length-append, length-take, length-drop, get_or-take, get_or-drop}
+use Rattle.std.proofs.Common.{◌≡◌, ◌≢◌, ℕ, ◌+◌, ◌-◌, ◌^◌, ◌<◌, ◌≤◌, inl, inr, true, false, nat_lt, List, [], ◌∷◌, ◌++◌}
+use Rattle.std.proofs.Common.{length, take, drop, get_or, refl, sym, ◌∙◌, ap, arith, length-append, length-take}
+use Rattle.std.proofs.Common.{length-drop, get_or-take, get_or-drop}
 use Rattle.std.specs.Prelude.{Option, Some, None, find, fold, filter}
 use Rattle.std.specs.Option.{option_or}
 use Rattle.std.proofs.Math.ListN.{get_or-append}
 use Rattle.std.proofs.lemmas.List.{get_or-append_right, ext_get_or}
 use Rattle.std.proofs.lemmas.List.Folds.{find-append}
 use Rattle.capture.specs.Flows.{Placed, end_of, covers, byte_in, byte_at, closer, SaysFrom, AreCovered, IsNext, FlowText, Says, Assembled}
-use Rattle.capture.proofs.Covering.{which, lt_tells, covers_yes, covers_below, covers_low, covers_high, covers_behind, covers_not, stop_le, stop_above, find_none, find_stays, found_covers, find_filtered}
+use Rattle.capture.proofs.Covering.{which, lt_tells, covers_yes, covers_below, covers_low, covers_high, covers_behind}
+use Rattle.capture.proofs.Covering.{covers_not, stop_le, stop_above, find_none, find_stays, found_covers, find_filtered}
 
 or_some : (k : ℕ) (o p : Option Placed) (b : ℕ) → byte_in k o ≡ Some b → byte_in k (option_or o p) ≡ Some b
 or_some k None p b said = (let wrong : Some b ≡ None = sym said in cc)
@@ -232,7 +235,8 @@ pub says_joined : (segments : List Placed) (f : FlowText) (seg : Placed) (more :
 says_joined segments f seg more kept gap low gap_is next none kept_is says =
     let whole = f.waiting ++ seg ∷ [] in
     let clear : find (covers gap) whole ≡ None = rw gap_is none in
-    let apart = or_gap (find (covers gap) f.waiting) (find (covers gap) (seg ∷ [])) (rw (sym (find-append (covers gap) f.waiting (seg ∷ []))) clear) in
+    let apart = or_gap (find (covers gap) f.waiting) (find (covers gap) (seg ∷ []))
+    (rw (sym (find-append (covers gap) f.waiting (seg ∷ []))) clear) in
     let ended : end_of seg ≤ gap = covers_not gap seg (one_gap gap seg apart.1) (omega (arith, low, gap_is)) in
     record {
       front = λ k less.
@@ -264,7 +268,8 @@ pub joined_tight : (waiting kept : List Placed) (seg : Placed) (gap : ℕ)
     → find (covers gap) (waiting ++ seg ∷ []) ≡ None → kept ≡ filter (λ s. nat_lt gap s.at) waiting
     → byte_at gap kept ≡ None
 joined_tight waiting kept seg gap none kept_is =
-    let apart = or_gap (find (covers gap) waiting) (find (covers gap) (seg ∷ [])) (rw (sym (find-append (covers gap) waiting (seg ∷ []))) none) in
+    let apart = or_gap (find (covers gap) waiting) (find (covers gap) (seg ∷ []))
+    (rw (sym (find-append (covers gap) waiting (seg ∷ []))) none) in
     let same : find (covers gap) (filter (λ s. nat_lt gap s.at) waiting) ≡ find (covers gap) waiting =
     find_filtered gap gap waiting (omega arith) apart.0 in
     rw (kept_is, same, apart.0) refl

@@ -1,11 +1,13 @@
 -- One step of the definitions that iterate over tags and extension headers.
-use Rattle.std.proofs.Common.{◌≡◌, ℕ, zero, suc, ◌-◌, ◌<◌, ◌≤◌, List, [], ◌∷◌, length, drop, take, true, false, nat_lt, refl, sym, arith, length-drop}
+use Rattle.std.proofs.Common.{◌≡◌, ℕ, zero, suc, ◌-◌, ◌<◌, ◌≤◌, List, [], ◌∷◌, length, drop, take, true, false, nat_lt}
+use Rattle.std.proofs.Common.{refl, sym, arith, length-drop}
 use Rattle.std.specs.Prelude.{Some, None, Ok, Err}
 use Rattle.std.proofs.lemmas.Bool.Decides.{nat_tests}
 use Rattle.std.proofs.lemmas.List.{take_rest}
 use Rattle.capture.specs.declared.fault.NotCarried.TheVariants.{Cut, Malformed, Fragment}
 use Rattle.capture.specs.declared.network.Version.{Version}
-use Rattle.capture.specs.Packets.{version_of, is_tag, other_type, behind_type, is_extension, is_ip6_fragment, extension_len, behind_headers, behind_extensions, field, byte}
+use Rattle.capture.specs.Packets.{version_of, is_tag, other_type, behind_type, is_extension, is_ip6_fragment}
+use Rattle.capture.specs.Packets.{extension_len, behind_headers, behind_extensions, field, byte}
 
 -- too short for a type
 pub type_short : (bytes : List ℕ) → length bytes < 2 → behind_type bytes ≡ Err Cut

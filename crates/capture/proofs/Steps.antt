@@ -49,7 +49,9 @@ file-unknown magic n1 n2 n3 n4 n5 =
     rw (e1, e2, e3, e4, e5) (Reads-refuses (Fault NotCapture) refl)
 
 -- a block by its type
-pub block-read : {X : Type 0} {view : X → List ℕ} {a b d : Source} {x : X} (now : SectionText) (kind : ℕ) (bytes : List ℕ) (r : Result Block Stop)
+pub block-read : {X : Type 0} {view : X
+    → List ℕ} {a b d : Source} {x : X} (now : SectionText) (kind : ℕ) (bytes : List ℕ)
+    (r : Result Block Stop)
     → field now.order 0 4 (view x) ≡ kind → ReadsAs stop_cause view (next_header 8) a b (Ok x)
     → ReadsAs stop_cause (block_text bytes) (block_of now kind (field now.order 4 4 (view x)) (take 4 (drop 4 (view x)))) b d r
     → ReadsAs stop_cause (block_text bytes) (block_at now) a d r

@@ -1,5 +1,6 @@
 -- What was written is read back.
-use Rattle.std.proofs.Common.{◌≡◌, ℕ, ◌+◌, ◌-◌, ◌*◌, ◌/◌, ◌%◌, ◌^◌, ◌<◌, ◌==◌, false, nat_lt, List, [], ◌∷◌, ◌++◌, length, take, drop, refl, ◌∙◌, arith, length-append}
+use Rattle.std.proofs.Common.{◌≡◌, ℕ, ◌+◌, ◌-◌, ◌*◌, ◌/◌, ◌%◌, ◌^◌, ◌<◌, ◌==◌, false, nat_lt, List, [], ◌∷◌, ◌++◌}
+use Rattle.std.proofs.Common.{length, take, drop, refl, ◌∙◌, arith, length-append}
 use Rattle.std.specs.Prelude.{Ok}
 use Rattle.std.proofs.Math.Seq.{take-append_seam, take-length, drop-append_seam, drop-append-add}
 use Rattle.std.proofs.lemmas.Bool.{le-ltb}
@@ -54,7 +55,8 @@ pub tcp_back : (source destination seq ack words flags window sum urgent : ℕ) 
 unfolding tcp_of
 tcp_back source destination seq ack words flags window sum urgent options payload small low fits words_is =
     let bytes = tcp_bytes source destination seq ack words flags window sum urgent options payload in
-    let behind = big_bytes 4 ack ++ (words * 16 ∷ flags ∷ []) ++ big_bytes 2 window ++ big_bytes 2 sum ++ big_bytes 2 urgent ++ options ++ payload in
+    let behind = big_bytes 4 ack ++ (words * 16 ∷ flags ∷ []) ++ big_bytes 2 window ++ big_bytes 2 sum
+    ++ big_bytes 2 urgent ++ options ++ payload in
     let from : field 0 2 bytes ≡ source = big_number-reads_back 2 source (big_bytes 2 destination ++ big_bytes 4 seq ++ behind) small in
     let to : field 2 2 bytes ≡ destination = big_number-reads_back 2 destination (big_bytes 4 seq ++ behind) low in
     let number : field 4 4 bytes ≡ seq = big_number-reads_back 4 seq behind fits in
@@ -76,9 +78,12 @@ unfolding ip4_of
 ip4_back service id flags life protocol sum source destination body padding small whole short =
     let bytes = ip4_bytes service id flags life protocol sum source destination body ++ padding in
     let total : field 2 2 bytes ≡ 20 + length body =
-    big_number-reads_back 2 (20 + length body) (big_bytes 2 id ++ big_bytes 2 flags ++ (life ∷ protocol ∷ []) ++ big_bytes 2 sum ++ big_bytes 4 source ++ big_bytes 4 destination ++ body ++ padding) short in
+    big_number-reads_back 2 (20 + length body)
+    (big_bytes 2 id ++ big_bytes 2 flags ++ (life ∷ protocol ∷ []) ++ big_bytes 2 sum
+    ++ big_bytes 4 source ++ big_bytes 4 destination ++ body ++ padding) short in
     let bits : field 6 2 bytes ≡ flags =
-    big_number-reads_back 2 flags ((life ∷ protocol ∷ []) ++ big_bytes 2 sum ++ big_bytes 4 source ++ big_bytes 4 destination ++ body ++ padding) small in
+    big_number-reads_back 2 flags ((life ∷ protocol ∷ []) ++ big_bytes 2 sum ++ big_bytes 4 source
+    ++ big_bytes 4 destination ++ body ++ padding) small in
     let some : ((20 + length body) == 0) ≡ false = grind (arith, nat_tests) in
     let long : nat_lt (length bytes) 20 ≡ false = le-ltb (length bytes) 20 (omega arith) in
     let header : nat_lt (20 + length body) 20 ≡ false = le-ltb (20 + length body) 20 (omega arith) in
@@ -101,7 +106,8 @@ frame_back destination source packet padding =
 -- a datagram in a packet in a frame
 pub datagram_back : DatagramReadBack
 unfolding carried_of plain_of ip_of transport_of
-datagram_back to from service id flags life sum source destination source_port destination_port check payload padding small whole low high short =
+datagram_back to from service id flags life sum source destination source_port destination_port check payload
+    padding small whole low high short =
     let body = udp_bytes source_port destination_port check payload in
     let packet = ip4_bytes service id flags life 17 sum source destination body in
     let long : length body ≡ 8 + length payload = omega arith in
@@ -116,7 +122,8 @@ datagram_back to from service id flags life sum source destination source_port d
 -- a segment in a packet in a frame
 pub segment_back : SegmentReadBack
 unfolding carried_of plain_of ip_of transport_of
-segment_back to from service id bits life check source destination source_port destination_port seq ack words flags window sum urgent options payload padding small whole low high fits words_is short =
+segment_back to from service id bits life check source destination source_port destination_port seq ack words
+    flags window sum urgent options payload padding small whole low high fits words_is short =
     let body = tcp_bytes source_port destination_port seq ack words flags window sum urgent options payload in
     let packet = ip4_bytes service id bits life 6 check source destination body in
     let long : length body ≡ 20 + (length options + length payload) = omega (arith, length-append options payload) in

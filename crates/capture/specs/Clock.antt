@@ -1,5 +1,6 @@
 -- How an interface of a pcapng capture counts time (draft-ietf-opsawg-pcapng, section 4.2).
-use Rattle.std.specs.Prelude.{ℕ, zero, suc, ◌+◌, ◌-◌, ◌*◌, ◌/◌, ◌^◌, ◌==◌, ◌&&◌, min, nat_lt, if◌then◌else◌, List, length, take, drop, slice_index, Option, Some, None}
+use Rattle.std.specs.Prelude.{ℕ, zero, suc, ◌+◌, ◌-◌, ◌*◌, ◌/◌, ◌^◌, ◌==◌, ◌&&◌, min, nat_lt, if◌then◌else◌, List}
+use Rattle.std.specs.Prelude.{length, take, drop, slice_index, Option, Some, None}
 use Rattle.capture.specs.declared.clock.Clock.{Clock}
 use Rattle.capture.specs.declared.order.Order.{Order}
 use Rattle.capture.specs.Taking.{field}

@@ -1,9 +1,10 @@
 -- Flows as clauses see them, and the result of taking a segment.
-use Rattle.std.specs.Prelude.{ℕ, ◌+◌, ◌-◌, ◌%◌, ◌^◌, ◌<◌, ◌⊎◌, ◌==◌, ◌||◌, ◌&&◌, Bool, true, false, nat_le, if◌then◌else◌, length, Option, Some, None}
+use Rattle.std.specs.Prelude.{ℕ, ◌+◌, ◌-◌, ◌%◌, ◌^◌, ◌<◌, ◌⊎◌, ◌==◌, ◌||◌, ◌&&◌, Bool, true, false, nat_le}
+use Rattle.std.specs.Prelude.{if◌then◌else◌, length, Option, Some, None}
 use Rattle.std.specs.Option.{option_or}
 use Rattle.capture.specs.declared.flow.Flow.{Flow}
-use Rattle.capture.specs.declared.taken.Taken.{Taken}
-use Rattle.capture.specs.declared.taken.Taken.TheVariants.{Known, Joined, Waits, Beyond, Crowded}
+use Rattle.capture.specs.declared.fate.Fate.{Fate}
+use Rattle.capture.specs.declared.fate.Fate.TheVariants.{Known, Joined, Waits, Beyond, Crowded}
 use Rattle.capture.specs.Flows.{Placed, FlowText, end_of}
 
 -- what clauses see of a flow
@@ -11,7 +12,7 @@ abbrev pub flow_text : Flow → FlowText
 flow_text f = record { start = f.start; text = f.text.items; waiting = f.waiting.items }
 
 -- whether the segment counts
-abbrev pub counts : Taken → Bool
+abbrev pub counts : Fate → Bool
 counts Known = true
 counts Joined = true
 counts Waits = true

@@ -1,5 +1,6 @@
 -- The bytes that the segments of a flow give, in the order in which they were captured.
-use Rattle.std.specs.Prelude.{◌≡◌, ℕ, ◌+◌, ◌-◌, ◌%◌, ◌^◌, ◌<◌, ◌≤◌, Bool, false, nat_lt, min, if◌then◌else◌, List, length, drop, slice_index, slice_index_or, find, Option, Some, None}
+use Rattle.std.specs.Prelude.{◌≡◌, ℕ, ◌+◌, ◌-◌, ◌%◌, ◌^◌, ◌<◌, ◌≤◌, Bool, false, nat_lt, min, if◌then◌else◌, List}
+use Rattle.std.specs.Prelude.{length, drop, slice_index, slice_index_or, find, Option, Some, None}
 use Rattle.std.specs.List.{All}
 
 -- the bytes of a segment, and the place of the first of them in the flow

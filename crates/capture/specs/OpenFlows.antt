@@ -1,13 +1,14 @@
 -- The open flows, as clauses see them, and what a segment does to them.
-use Rattle.std.specs.Prelude.{◌≡◌, ℕ, ◌+◌, ◌%◌, ◌^◌, ◌≤◌, ◌==◌, ◌||◌, ◌&&◌, Bool, true, false, not, nat_lt, if◌then◌else◌, List, [], ◌∷◌, ◌++◌, length, Option, Some, None}
+use Rattle.std.specs.Prelude.{◌≡◌, ℕ, ◌+◌, ◌%◌, ◌^◌, ◌≤◌, ◌==◌, ◌||◌, ◌&&◌, Bool, true, false, not, nat_lt}
+use Rattle.std.specs.Prelude.{if◌then◌else◌, List, [], ◌∷◌, ◌++◌, length, Option, Some, None}
 use Rattle.std.specs.BTreeMap.{is_at}
 use Rattle.std.specs.Map.{lookup}
 use Rattle.std.specs.Option.{option_map}
 use Rattle.std.specs.declared.cmp.Ordering.{Ordering}
 use Rattle.capture.specs.declared.ends.Ends.{Ends}
 use Rattle.capture.specs.contracts.ends.EndsOrd.TheImpl as ends_ord
-use Rattle.capture.specs.declared.taken.Taken.{Taken}
-use Rattle.capture.specs.declared.taken.Taken.TheVariants.{Beyond, Crowded}
+use Rattle.capture.specs.declared.fate.Fate.{Fate}
+use Rattle.capture.specs.declared.fate.Fate.TheVariants.{Beyond, Crowded}
 use Rattle.capture.specs.Flows.{Placed, FlowText, placed_at, Says}
 use Rattle.capture.specs.FlowTexts.{OpenText, PairText, IsBeyond, counts, end_after, is_over, next_of, is_reset}
 use Rattle.capture.specs.Packets.{TcpText}
@@ -73,7 +74,7 @@ place_in o first s = placed_at o.flow.start first s.payload
 
 -- the flow after it took a segment whose payload starts at a sequence number, with this outcome for
 -- the segment
-pub record IsAfter (old : OpenText) (first : ℕ) (s : TcpText) (taken : Taken) (new : OpenText) :
+pub record IsAfter (old : OpenText) (first : ℕ) (s : TcpText) (taken : Fate) (new : OpenText) :
     Type 0 where
   pub said : counts taken ≡ true → (segments : List Placed) → Says segments old.flow
       → Says (segments ++ place_in old first s ∷ []) new.flow
@@ -87,7 +88,7 @@ pub record IsAfter (old : OpenText) (first : ℕ) (s : TcpText) (taken : Taken) 
 
 -- what a segment does to the flows between its endpoints: how it was taken, and which flow it
 -- replaced
-pub data GoesOn (old : PairText) (first : ℕ) (s : TcpText) (taken : Taken)
+pub data GoesOn (old : PairText) (first : ℕ) (s : TcpText) (taken : Fate)
     (replaced : Option FlowText) (new : PairText) : Type 0 where
   -- a SYN of another flow is set aside
   aside : is_other old.older s ≡ true → new.older ≡ old.older → (after : OpenText)
@@ -108,14 +109,14 @@ abbrev pub settled : PairText → Option FlowText × Option PairText
 settled p = if is_over p.older then (Some p.older.flow, option_map alone p.newer) else (None, Some p)
 
 -- what a segment does to the flows between its endpoints, and the results
-pub data Hears (old : Option PairText) (s : TcpText) (taken : Option Taken)
+pub data Hears (old : Option PairText) (s : TcpText) (taken : Option Fate)
     (replaced complete : Option FlowText) (new : Option PairText) : Type 0 where
   passed_over : old ≡ None → begins s ≡ false → taken ≡ None → replaced ≡ None → complete ≡ None
       → new ≡ None → Hears old s taken replaced complete new
-  began : old ≡ None → begins s ≡ true → (what : Taken) (after : OpenText)
+  began : old ≡ None → begins s ≡ true → (what : Fate) (after : OpenText)
       → IsAfter (begun (first_of s)) (first_of s) s what after → taken ≡ Some what
       → replaced ≡ None → (complete, new) ≡ settled (alone after)
       → Hears old s taken replaced complete new
-  went_on : (p : PairText) → old ≡ Some p → (what : Taken) (after : PairText)
+  went_on : (p : PairText) → old ≡ Some p → (what : Fate) (after : PairText)
       → GoesOn p (first_of s) s what replaced after → taken ≡ Some what
       → (complete, new) ≡ settled after → Hears old s taken replaced complete new

@@ -1,11 +1,12 @@
 -- What the bytes of a captured frame carry. All numbers have their highest byte first.
-use Rattle.std.specs.Prelude.{ℕ, zero, suc, ◌+◌, ◌-◌, ◌*◌, ◌/◌, ◌%◌, ◌==◌, ◌||◌, ◌&&◌, Bool, nat_lt, if◌then◌else◌, List, [], ◌∷◌, length, take, drop, slice_index, Result, Ok, Err, Option, Some, None}
+use Rattle.std.specs.Prelude.{ℕ, zero, suc, ◌+◌, ◌-◌, ◌*◌, ◌/◌, ◌%◌, ◌==◌, ◌||◌, ◌&&◌, Bool, nat_lt, if◌then◌else◌}
+use Rattle.std.specs.Prelude.{List, [], ◌∷◌, length, take, drop, slice_index, Result, Ok, Err, Option, Some, None}
 use Rattle.byteorder.specs.Endian.{big_number, little_number}
 use Rattle.capture.specs.declared.fault.NotCarried.{NotCarried}
 use Rattle.capture.specs.declared.fault.NotCarried.TheVariants.{NotIp, Fragment, Gre, IpInIp, Mpls, OtherProtocol, Cut, Malformed}
 use Rattle.capture.specs.declared.transport.Datagram.{Datagram}
 use Rattle.capture.specs.declared.transport.Segment.{Segment}
-use Rattle.capture.specs.declared.network.Packet.{Packet}
+use Rattle.capture.specs.declared.network.IpPacket.{IpPacket}
 use Rattle.capture.specs.declared.network.Version.{Version}
 use Rattle.capture.specs.declared.network.Version.TheVariants.{Ip4, Ip6, Either}
 use Rattle.capture.specs.declared.content.Transport.{Transport}
@@ -121,7 +122,7 @@ ip4_total bytes = if field 2 2 bytes == 0 then length bytes else field 2 2 bytes
 abbrev pub is_ip4_fragment : List ℕ → Bool
 is_ip4_fragment bytes = nat_lt 0 (field 6 2 bytes % 16384)
 
-abbrev pub ip_text : Packet → IpText
+abbrev pub ip_text : IpPacket → IpText
 ip_text p = record {
   source = p.source.now;
   destination = p.destination.now;

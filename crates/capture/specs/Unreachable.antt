@@ -1,6 +1,7 @@
 -- The packets that a host refused since no process has their port, as ICMP quotes them. All numbers
 -- have their highest byte first.
-use Rattle.std.specs.Prelude.{ℕ, ◌+◌, ◌*◌, ◌/◌, ◌%◌, ◌==◌, ◌||◌, ◌&&◌, Bool, nat_le, if◌then◌else◌, List, length, drop, slice_index, Option, Some, None}
+use Rattle.std.specs.Prelude.{ℕ, ◌+◌, ◌*◌, ◌/◌, ◌%◌, ◌==◌, ◌||◌, ◌&&◌, Bool, nat_le, if◌then◌else◌, List, length, drop}
+use Rattle.std.specs.Prelude.{slice_index, Option, Some, None}
 use Rattle.std.specs.List.{slice_range}
 use Rattle.byteorder.specs.Endian.{big_number}
 use Rattle.capture.specs.declared.unreachable.Unreachable.{Unreachable}

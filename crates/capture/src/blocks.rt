@@ -3,7 +3,8 @@
 ghost use Rattle.std.specs.Prelude.{◌≡◌, length};
 ghost use Rattle.swim_pack.specs.Composing.{ReadsAs, same};
 ghost use Rattle.capture.specs.Blocks.{block_text, section_text};
-ghost use Rattle.capture.specs.Pcapng.{closed, section_at, interface_at, packet_at, timed_head, timed_packet, simple_packet, other_at, block_at};
+ghost use Rattle.capture.specs.Pcapng.{closed, section_at, interface_at, packet_at, timed_head, timed_packet};
+ghost use Rattle.capture.specs.Pcapng.{simple_packet, other_at, block_at};
 ghost use Rattle.capture.specs.Taking.{stop_cause};
 
 use crate::Record;

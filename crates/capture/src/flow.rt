@@ -1,10 +1,11 @@
 //! One direction of a TCP connection, reassembled.
 
-ghost use Rattle.std.specs.Prelude.{◌≡◌, ◌+◌, ◌-◌, ◌<◌, ◌≤◌, ◌^◌, ◌⊎◌, ◌++◌, ◌∷◌, [], List, length, true, false, None, Ok, OnOk, OnErr, IfOk, MatchBool};
+ghost use Rattle.std.specs.Prelude.{◌≡◌, ◌+◌, ◌-◌, ◌<◌, ◌≤◌, ◌^◌, ◌⊎◌, ◌++◌, ◌∷◌, [], List, length, true, false, None};
+ghost use Rattle.std.specs.Prelude.{Ok, OnOk, OnErr, IfOk, MatchBool};
 ghost use Rattle.capture.specs.Flows.{Placed, placed, placed_at, byte_at, InOrder, Assembled, Says};
 ghost use Rattle.std.specs.List.{sum_by};
 
-use crate::Taken;
+use crate::Fate;
 use crate::piece::{Piece, back, before, front, gathered, patched, place, put, total_len};
 use std::alloc::{AllocError, Global};
 
@@ -98,7 +99,7 @@ impl Flow {
     /// # Errors
     ///
     /// `AllocError` if out of memory: the flow is as it was.
-    pub fn take(&mut self, alloc: Global, seq: u32, payload: &[u8]) -> Result<Taken, AllocError>
+    pub fn take(&mut self, alloc: Global, seq: u32, payload: &[u8]) -> Result<Fate, AllocError>
         ensures counts { IfOk result (λ taken. counts taken ≡ true
             → (segments : List Placed) → Says segments (flow_text self.old)
             → Says (segments ++ placed_at (flow_text self.old).start seq payload.now ∷ [])
@@ -107,13 +108,13 @@ impl Flow {
         ensures left_out { IfOk result (λ taken. counts taken ≡ false
             → flow_text self.new ≡ flow_text self.old) }
 
-        ensures beyond { (result ≡ Ok Taken.Beyond)
+        ensures beyond { (result ≡ Ok Fate.Beyond)
             → IsBeyond (flow_text self.old)
             (placed_at (flow_text self.old).start seq payload.now) }
         ensures near { IsBeyond (flow_text self.old)
             (placed_at (flow_text self.old).start seq payload.now)
-            → result ≡ Ok Taken.Beyond }
-        ensures crowded { (result ≡ Ok Taken.Crowded)
+            → result ≡ Ok Fate.Beyond }
+        ensures crowded { (result ≡ Ok Fate.Crowded)
             → 4096 ≤ length (flow_text self.old).waiting }
         ensures few { length (flow_text self.new).waiting ≤ 4096 }
         ensures refused { OnErr result (flow_text self.new ≡ flow_text self.old) }
@@ -121,17 +122,17 @@ impl Flow {
         let (at, bytes) = place(self.start, seq, payload);
         let end = at + bytes.len();
         if bytes.is_empty() {
-            return Ok(Taken::Known);
+            return Ok(Fate::Known);
         }
         if end <= self.text.len() {
-            return Ok(Taken::Known);
+            return Ok(Fate::Known);
         }
         if is_beyond(self.text.len(), end) {
-            return Ok(Taken::Beyond);
+            return Ok(Fate::Beyond);
         }
         if at <= self.text.len() {
             self.join(alloc, at, bytes)?;
-            return Ok(Taken::Joined);
+            return Ok(Fate::Joined);
         }
         self.hold(alloc, at, bytes)
     }
@@ -155,7 +156,7 @@ impl Flow {
 
     /// Holds bytes that start after the gap, up to a piece that waits and reaches further. They
     /// take the place of the pieces between.
-    fn hold(&mut self, alloc: Global, at: usize, bytes: &[u8]) -> Result<Taken, AllocError>
+    fn hold(&mut self, alloc: Global, at: usize, bytes: &[u8]) -> Result<Fate, AllocError>
         requires apart { length self.old.text.items < at }
         requires small { at + length bytes.now ≤ 2 ^ 25 }
         ensures counts { IfOk result (λ taken. counts taken ≡ true
@@ -163,8 +164,8 @@ impl Flow {
             → Says (segments ++ placed at bytes.now ∷ []) (flow_text self.new)) }
         ensures left_out { IfOk result (λ taken. counts taken ≡ false
             → flow_text self.new ≡ flow_text self.old) }
-        ensures crowded { (result ≡ Ok Taken.Crowded) → 4096 ≤ length self.old.waiting.items }
-        ensures near { (result ≡ Ok Taken.Beyond) → ⊥ }
+        ensures crowded { (result ≡ Ok Fate.Crowded) → 4096 ≤ length self.old.waiting.items }
+        ensures near { (result ≡ Ok Fate.Beyond) → ⊥ }
         ensures starts { self.new.start ≡ self.old.start }
         ensures text { self.new.text ≡ self.old.text }
         ensures refused { OnErr result (flow_text self.new ≡ flow_text self.old) }
@@ -172,15 +173,15 @@ impl Flow {
         let here = front(&self.waiting, at);
         let stop = back(&self.waiting, at + bytes.len());
         if stop <= here {
-            return Ok(Taken::Known);
+            return Ok(Fate::Known);
         }
         let from = before(&self.waiting, here);
         let to = before(&self.waiting, stop);
         if MAX_WAITING <= from + (self.waiting.len() - to) {
-            return Ok(Taken::Crowded);
+            return Ok(Fate::Crowded);
         }
         let piece = Piece::of(here, patched(alloc, &self.waiting, at, bytes, here, stop)?);
         put(&mut self.waiting, from, to, piece)?;
-        Ok(Taken::Waits)
+        Ok(Fate::Waits)
     }
 }

@@ -1,6 +1,7 @@
 //! The flows of a capture.
 
-ghost use Rattle.std.specs.Prelude.{◌≡◌, ◌↔◌, ◌+◌, ◌≤◌, ◌∷◌, [], true, false, Some, None, IsSome, IsNone, IfSome, IfNone, IfOk, OnErr, MatchBool};
+ghost use Rattle.std.specs.Prelude.{◌≡◌, ◌↔◌, ◌+◌, ◌≤◌, ◌∷◌, [], true, false, Some, None, IsSome, IsNone, IfSome};
+ghost use Rattle.std.specs.Prelude.{IfNone, IfOk, OnErr, MatchBool};
 ghost use Rattle.std.specs.List.{All};
 ghost use Rattle.std.specs.Map.{keys_of};
 ghost use Rattle.std.specs.Option.{option_map};
@@ -12,7 +13,7 @@ ghost use Rattle.capture.specs.Packets.{tcp_text};
 
 use crate::open::Open;
 use crate::pair::Pair;
-use crate::{Ends, Flow, Segment, Taken};
+use crate::{Ends, Fate, Flow, Segment};
 use std::alloc::{AllocError, Global};
 use std::collections::BTreeMap;
 use std::marker::Model;
@@ -21,7 +22,7 @@ use std::marker::Model;
 #[derive(Drop)]
 pub struct Heard {
     /// What became of it; `None` if it carries no byte of an open flow and starts none.
-    pub taken: Option<Taken>,
+    pub taken: Option<Fate>,
     /// The flow between its endpoints whose place was taken by the one that the segment is of.
     pub replaced: Option<Flow>,
     /// The flow between its endpoints that it completed.
@@ -136,7 +137,7 @@ impl Flows {
         ends: &Ends,
         first: u32,
         segment: &Segment,
-    ) -> Result<(Taken, Option<Flow>), AllocError>
+    ) -> Result<(Fate, Option<Flow>), AllocError>
         requires there { IsSome (flow_at self.old ends.now) }
         requires first { first ≡ first_of (tcp_text segment.now) }
         ensures goes { IfOk result (λ done. IfSome (flow_at self.old ends.now) (λ p.

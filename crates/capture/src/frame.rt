@@ -1,7 +1,9 @@
 //! Frames, and what they carry.
 
 ghost use Rattle.std.specs.Prelude.{◌≡◌, IfOk, IfErr, Ok, Err};
-ghost use Rattle.capture.specs.Packets.{version_of, is_tag, other_type, other_protocol, family_of, behind_type, packet_in, transport_of, transport_text, plain_of, carried_of, carried_text, frame_in, inside};
+ghost use Rattle.capture.specs.Packets.{version_of, is_tag, other_type, other_protocol, family_of, behind_type};
+ghost use Rattle.capture.specs.Packets.{packet_in, transport_of, transport_text, plain_of, carried_of, carried_text};
+ghost use Rattle.capture.specs.Packets.{frame_in, inside};
 
 use crate::network::{Version, read_ip};
 use crate::transport::{read_tcp, read_udp};

@@ -21,7 +21,7 @@
 //! | `tunnel` | frames in tunnels |
 //! | `frame` | frames, and what they carry |
 //! | `laws` | what holds for the definitions |
-//! | `taken` | what became of a segment |
+//! | `fate` | what became of a segment |
 //! | `piece` | segments at their places in a flow |
 //! | `flow` | one direction of a TCP connection, reassembled |
 //! | `ends` | both endpoints of a flow |
@@ -36,6 +36,7 @@ mod checks;
 mod clock;
 mod content;
 mod ends;
+mod fate;
 mod fault;
 mod flow;
 mod flows;
@@ -53,7 +54,6 @@ mod reader;
 mod record;
 mod section;
 mod stop;
-mod taken;
 mod taking;
 mod transport;
 mod tunnel;
@@ -62,6 +62,7 @@ mod unreachable;
 pub use capture_fault::CaptureFault;
 pub use content::{Carried, Transport};
 pub use ends::Ends;
+pub use fate::Fate;
 pub use fault::NotCarried;
 pub use flow::Flow;
 pub use flows::{Flows, Heard};
@@ -69,7 +70,6 @@ pub use frame::carried;
 pub use link::Link;
 pub use reader::CaptureReader;
 pub use record::Record;
-pub use taken::Taken;
 pub use transport::{Datagram, Segment};
 pub use unreachable::Unreachable;
 

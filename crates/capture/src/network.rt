@@ -1,7 +1,8 @@
 //! Packets of IP.
 
 ghost use Rattle.std.specs.Prelude.{◌≡◌, ◌≤◌, length, IfOk, IfErr, Ok, Err};
-ghost use Rattle.capture.specs.Packets.{ip4_of, ip6_of, ip_of, ip_text, ip4_total, is_extension, extension_len, is_ip6_fragment, behind_extensions};
+ghost use Rattle.capture.specs.Packets.{ip4_of, ip6_of, ip_of, ip_text, ip4_total, is_extension, extension_len};
+ghost use Rattle.capture.specs.Packets.{is_ip6_fragment, behind_extensions};
 
 use crate::NotCarried;
 use byteorder::{BigEndian, ByteOrder};
@@ -19,7 +20,7 @@ pub(crate) enum Version {
 
 /// A packet of IP.
 #[derive(Clone, Copy)]
-pub(crate) struct Packet<'a> {
+pub(crate) struct IpPacket<'a> {
     /// The source address, 4 or 16 bytes.
     pub(crate) source: &'a [u8],
     /// The destination address.
@@ -43,7 +44,7 @@ fn total_len(bytes: &[u8]) -> usize
 
 /// The IPv4 packet at the start of the bytes.
 #[tactic(auto, unfolding(crate::specs::Packets::ip4_of))]
-fn read_ip4(bytes: &[u8]) -> Result<Packet, NotCarried>
+fn read_ip4(bytes: &[u8]) -> Result<IpPacket, NotCarried>
     ensures ok { IfOk result (λ p. ip4_of bytes.now ≡ Ok (ip_text p)) }
     ensures err { IfErr result (λ fault. ip4_of bytes.now ≡ Err fault) }
 {
@@ -64,7 +65,7 @@ fn read_ip4(bytes: &[u8]) -> Result<Packet, NotCarried>
     if bytes.len() < total {
         return Err(NotCarried::Cut);
     }
-    Ok(Packet {
+    Ok(IpPacket {
         source: &bytes[12..16],
         destination: &bytes[16..20],
         protocol: bytes[9],
@@ -128,7 +129,7 @@ fn read_extensions(mut next: u8, body: &[u8]) -> Result<(u8, &[u8]), NotCarried>
 
 /// The IPv6 packet at the start of the bytes.
 #[tactic(auto, unfolding(crate::specs::Packets::ip6_of))]
-fn read_ip6(bytes: &[u8]) -> Result<Packet, NotCarried>
+fn read_ip6(bytes: &[u8]) -> Result<IpPacket, NotCarried>
     ensures ok { IfOk result (λ p. ip6_of bytes.now ≡ Ok (ip_text p)) }
     ensures err { IfErr result (λ fault. ip6_of bytes.now ≡ Err fault) }
 {
@@ -140,7 +141,7 @@ fn read_ip6(bytes: &[u8]) -> Result<Packet, NotCarried>
         return Err(NotCarried::Cut);
     }
     let (protocol, body) = read_extensions(bytes[6], &bytes[40..end])?;
-    Ok(Packet {
+    Ok(IpPacket {
         source: &bytes[8..24],
         destination: &bytes[24..40],
         protocol,
@@ -150,7 +151,7 @@ fn read_ip6(bytes: &[u8]) -> Result<Packet, NotCarried>
 
 /// The IP packet at the start of the bytes, whose version the frame gives.
 #[tactic(auto, unfolding(crate::specs::Packets::ip_of))]
-pub(crate) fn read_ip(version: Version, bytes: &[u8]) -> Result<Packet, NotCarried>
+pub(crate) fn read_ip(version: Version, bytes: &[u8]) -> Result<IpPacket, NotCarried>
     ensures ok { IfOk result (λ p. ip_of version bytes.now ≡ Ok (ip_text p)) }
     ensures err { IfErr result (λ fault. ip_of version bytes.now ≡ Err fault) }
 {

@@ -7,7 +7,7 @@ ghost use Rattle.capture.specs.OpenFlows.{begun, IsAfter};
 ghost use Rattle.capture.specs.Packets.{tcp_text};
 
 use crate::piece::place;
-use crate::{Flow, Segment, Taken};
+use crate::{Fate, Flow, Segment};
 use std::alloc::{AllocError, Global};
 use std::marker::Model;
 
@@ -71,7 +71,7 @@ impl Open {
         alloc: Global,
         first: u32,
         segment: &Segment,
-    ) -> Result<Taken, AllocError>
+    ) -> Result<Fate, AllocError>
         ensures counts { IfOk result (λ taken. counts taken ≡ true
             → (segments : List Placed) → Says segments self.old.flow
             → Says (segments
@@ -85,12 +85,12 @@ impl Open {
             (placed_at self.old.flow.start first segment.now.payload.now)) }
         ensures resets { OnOk result (self.new.reset
             ≡ (self.old.reset || is_reset self.old.flow segment.now.rst first)) }
-        ensures beyond { (result ≡ Ok Taken.Beyond) → IsBeyond self.old.flow
+        ensures beyond { (result ≡ Ok Fate.Beyond) → IsBeyond self.old.flow
             (placed_at self.old.flow.start first segment.now.payload.now) }
         ensures near { IsBeyond self.old.flow
             (placed_at self.old.flow.start first segment.now.payload.now)
-            → result ≡ Ok Taken.Beyond }
-        ensures crowded { (result ≡ Ok Taken.Crowded) → 4096 ≤ length self.old.flow.waiting }
+            → result ≡ Ok Fate.Beyond }
+        ensures crowded { (result ≡ Ok Fate.Crowded) → 4096 ≤ length self.old.flow.waiting }
         ensures takes { IfOk result (λ taken.
             IsAfter self.old first (tcp_text segment.now) taken self.new) }
         ensures refused { OnErr result (self.new ≡ self.old) }

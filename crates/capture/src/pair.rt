@@ -7,7 +7,7 @@ ghost use Rattle.capture.specs.OpenFlows.{alone, first_of, newer_of, is_other, c
 ghost use Rattle.capture.specs.Packets.{tcp_text};
 
 use crate::open::Open;
-use crate::{Flow, Segment, Taken};
+use crate::{Fate, Flow, Segment};
 use std::alloc::{AllocError, Global};
 use std::marker::Model;
 use std::mem;
@@ -46,7 +46,7 @@ impl Pair {
         alloc: Global,
         first: u32,
         segment: &Segment,
-    ) -> Result<(Taken, Option<Flow>), AllocError>
+    ) -> Result<(Fate, Option<Flow>), AllocError>
         requires { first ≡ first_of (tcp_text segment.now) }
         ensures goes { IfOk result (λ done. GoesOn self.old first (tcp_text segment.now)
             done.0 (option_map flow_text done.1) self.new) }
@@ -91,7 +91,7 @@ impl Pair {
         alloc: Global,
         first: u32,
         segment: &Segment,
-    ) -> Result<Taken, AllocError>
+    ) -> Result<Fate, AllocError>
         ensures aside { IfOk result (λ taken. IfSome self.new.newer (λ after.
             IsAfter (newer_of self.old.newer first) first (tcp_text segment.now) taken after)) }
         ensures there { OnOk result (IsSome self.new.newer) }
@@ -115,7 +115,7 @@ impl Pair {
         alloc: Global,
         first: u32,
         segment: &Segment,
-    ) -> Result<(Taken, Flow), AllocError>
+    ) -> Result<(Fate, Flow), AllocError>
         requires { IsSome self.old.newer }
         ensures takes { IfOk result (λ done. IfSome self.old.newer (λ n.
             IsAfter n first (tcp_text segment.now) done.0 self.new.older)) }

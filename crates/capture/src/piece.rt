@@ -1,9 +1,11 @@
 //! Segments at their places in a flow.
 
-ghost use Rattle.std.specs.Prelude.{◌≡◌, ◌+◌, ◌-◌, ◌<◌, ◌≤◌, ◌^◌, ◌++◌, ◌∷◌, [], length, take, drop, find, fold, None, IfOk, is_ok, if◌then◌else◌, IfSome, IfNone};
+ghost use Rattle.std.specs.Prelude.{◌≡◌, ◌+◌, ◌-◌, ◌<◌, ◌≤◌, ◌^◌, ◌++◌, ◌∷◌, [], length, take, drop, find, fold, None};
+ghost use Rattle.std.specs.Prelude.{IfOk, is_ok, if◌then◌else◌, IfSome, IfNone};
 ghost use Rattle.std.specs.List.{AllWithin, sum_by};
 ghost use Rattle.std.specs.Option.{option_copied};
-ghost use Rattle.capture.specs.Flows.{Placed, placed, placed_at, end_of, covers, byte_at, closer, InOrder, IsClean, AreCovered, IsNext, SaysFrom};
+ghost use Rattle.capture.specs.Flows.{Placed, placed, placed_at, end_of, covers, byte_at, closer, InOrder, IsClean};
+ghost use Rattle.capture.specs.Flows.{AreCovered, IsNext, SaysFrom};
 
 use std::alloc::{AllocError, Global};
 use std::marker::Model;

@@ -2,7 +2,8 @@
 
 ghost use Rattle.std.specs.Prelude.{◌≡◌, List, ℕ, IfOk, IfErr, OnErr};
 ghost use Rattle.swim_pack.specs.Composing.{ReadsAs, same, lift};
-ghost use Rattle.capture.specs.Captures.{CaptureState, state_of, begin_at, pcap_file, pcapng_file, file_of, behind_block, step_at, step_text, fault_of, fault_cause, NextRecord};
+ghost use Rattle.capture.specs.Captures.{CaptureState, state_of, begin_at, pcap_file, pcapng_file, file_of};
+ghost use Rattle.capture.specs.Captures.{behind_block, step_at, step_text, fault_of, fault_cause, NextRecord};
 ghost use Rattle.capture.specs.Captures.CaptureState.{pcap, pcapng};
 ghost use Rattle.capture.specs.Blocks.{block_text, section_text};
 ghost use Rattle.capture.specs.Taking.{stop_cause};

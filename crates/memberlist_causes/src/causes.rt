@@ -7,7 +7,7 @@ use crate::restarts::Restart;
 use crate::words::{Saying, Word};
 use crate::{Case, Episode, Members, News};
 use memberlist_message::Message;
-use memberlist_probes::{Captures, Packet, Probe, Segment, Sighting, Timing};
+use memberlist_probes::{Captures, Observed, Probe, Segment, Sighting, Timing};
 use std::alloc::{AllocError, Global};
 use std::net::SocketAddr;
 
@@ -72,7 +72,7 @@ impl Causes {
     /// # Errors
     ///
     /// `AllocError` if out of memory.
-    pub fn message(&mut self, packet: Packet, message: &Message) -> Result<(), AllocError> {
+    pub fn message(&mut self, packet: Observed, message: &Message) -> Result<(), AllocError> {
         let members = &mut self.facts.members;
         let time = packet.seen.time;
         let saying = match message {
@@ -128,7 +128,7 @@ impl Causes {
     /// # Errors
     ///
     /// `AllocError` if out of memory.
-    pub fn segment(&mut self, packet: Packet, segment: Segment) -> Result<(), AllocError> {
+    pub fn segment(&mut self, packet: Observed, segment: Segment) -> Result<(), AllocError> {
         let facts = &mut self.facts;
         facts.contacts.segment(&facts.members, packet, segment)
     }

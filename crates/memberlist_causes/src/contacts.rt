@@ -2,7 +2,7 @@
 //! refuse datagrams.
 
 use crate::{Member, Members};
-use memberlist_probes::{Packet, Segment, Sighting};
+use memberlist_probes::{Observed, Segment, Sighting};
 use std::alloc::{AllocError, Global};
 use std::collections::{BTreeMap, VecDeque};
 use std::net::SocketAddr;
@@ -82,7 +82,7 @@ impl Contacts {
     pub(crate) fn segment(
         &mut self,
         members: &Members,
-        packet: Packet,
+        packet: Observed,
         segment: Segment,
     ) -> Result<(), AllocError> {
         self.close(members, packet.seen.time)?;
@@ -97,7 +97,7 @@ impl Contacts {
     }
 
     /// Takes in a SYN of who dials.
-    fn dial(&mut self, way: (SocketAddr, SocketAddr), packet: Packet) -> Result<(), AllocError> {
+    fn dial(&mut self, way: (SocketAddr, SocketAddr), packet: Observed) -> Result<(), AllocError> {
         let seen = packet.seen;
         if let Some(handshake) = self.open.get_mut(&way) {
             if seen.capture == handshake.capture {
@@ -128,7 +128,7 @@ impl Contacts {
         &mut self,
         members: &Members,
         way: (SocketAddr, SocketAddr),
-        packet: Packet,
+        packet: Observed,
         segment: Segment,
     ) -> Result<(), AllocError> {
         let Some(handshake) = self.open.get_mut(&way) else {
@@ -154,7 +154,7 @@ impl Contacts {
         &mut self,
         members: &Members,
         way: (SocketAddr, SocketAddr),
-        packet: Packet,
+        packet: Observed,
         segment: Segment,
     ) -> Result<(), AllocError> {
         let Some(handshake) = self.open.get(&way).copied() else {

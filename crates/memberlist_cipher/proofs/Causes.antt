@@ -1,8 +1,11 @@
 -- A cause of a refusal other than running out of memory leaves no message.
-use Rattle.std.proofs.Common.{IfErr, Result, Ok, Err, ◌≡◌, ◌≢◌, ℕ, ◌+◌, ◌<◌, ◌≤◌, inl, inr, List, [], ◌∷◌, ◌++◌, length, slice_index, refl, sym, ap, subst, ◌∙◌, arith, length-append}
+use Rattle.std.proofs.Common.{IfErr, Result, Ok, Err, ◌≡◌, ◌≢◌, ℕ, ◌+◌, ◌<◌, ◌≤◌, inl, inr, List, [], ◌∷◌, ◌++◌, length}
+use Rattle.std.proofs.Common.{slice_index, refl, sym, ap, subst, ◌∙◌, arith, length-append}
 use Rattle.std.proofs.lemmas.Nat.{from_be_bytes-to_be_bytes_4}
 use Rattle.memberlist_cipher.specs.declared.fault.CipherFault.{CipherFault}
-use Rattle.memberlist_cipher.specs.declared.fault.CipherFault.TheVariants.{BadKey, TooLong, TooShort, WrongVersion, WrongTag, BadPadding, NotEncrypted, Trailing, Memory}
+use Rattle.memberlist_cipher.specs.declared.fault.CipherFault.TheVariants.{BadKey, TooLong, TooShort, WrongVersion}
+use Rattle.memberlist_cipher.specs.declared.fault.CipherFault.TheVariants.{WrongTag, BadPadding, NotEncrypted, Trailing}
+use Rattle.memberlist_cipher.specs.declared.fault.CipherFault.TheVariants.{Memory}
 use Rattle.memberlist_cipher.specs.Block.{aes}
 use Rattle.memberlist_cipher.specs.Gcm.{tag}
 use Rattle.memberlist_cipher.specs.Encryption.{IsKey, IsWithin, Encryption, head, IsStream, StreamEncryption}
@@ -10,8 +13,18 @@ use Rattle.memberlist_cipher.specs.Refusal.{PacketParts, FormCause, PacketCause,
 use Rattle.memberlist_cipher.proofs.Sealing.{good_sizes}
 use Rattle.memberlist_cipher.proofs.Refusing.{length-tag, Made, made, bad_tag, bad_padding}
 
-abbrev pub layout : (bytes : List ℕ) (v : ℕ) (n i m : List ℕ) → v < 2 → length n ≡ 12 → length m ≡ 16 → bytes ≡ v ∷ (n ++ (i ++ m)) → PacketParts bytes
-layout bytes v n i m known a b e = record { version = v; nonce = n; ciphertext = i; tag = m; known = known; nonce_size = a; tag_size = b; text = e }
+abbrev pub layout : (bytes : List ℕ) (v : ℕ) (n i m : List ℕ) → v < 2 → length n ≡ 12 → length m ≡ 16
+    → bytes ≡ v ∷ (n ++ (i ++ m)) → PacketParts bytes
+layout bytes v n i m known a b e = record {
+  version = v;
+  nonce = n;
+  ciphertext = i;
+  tag = m;
+  known = known;
+  nonce_size = a;
+  tag_size = b;
+  text = e;
+}
 
 pub form_cause : (fault : CipherFault) (key aad bytes : List ℕ) → IsKey key → IsWithin aad bytes
     → FormCause fault bytes → PacketCause fault key aad bytes
@@ -59,7 +72,8 @@ no_message WrongTag key aad bytes message other c e =
     bad_tag key aad bytes message (good_sizes key e.good_key) l.version l.nonce l.ciphertext l.tag l.nonce_size l.tag_size l.text c.3 e
 no_message BadPadding key aad bytes message other c e =
     let l = c.2 in
-    bad_padding key aad bytes message (good_sizes key e.good_key) l.version l.nonce l.ciphertext l.tag l.nonce_size l.tag_size l.text c.4 (c.5 message) e
+    bad_padding key aad bytes message (good_sizes key e.good_key) l.version l.nonce l.ciphertext l.tag
+    l.nonce_size l.tag_size l.text c.4 (c.5 message) e
 no_message Memory key aad bytes message other c e = other refl
 no_message NotEncrypted key aad bytes message other c e = c
 no_message Trailing key aad bytes message other c e = c
@@ -74,7 +88,8 @@ unfolding head
 length-head n = refl
 
 stream_size : (bytes ciphertext : List ℕ) → IsStream bytes ciphertext → length bytes ≡ 5 + length ciphertext
-stream_size bytes ciphertext s = ap length s.text ∙ length-append (head (length ciphertext)) ciphertext ∙ omega (arith, length-head (length ciphertext))
+stream_size bytes ciphertext s = ap length s.text ∙ length-append (head (length ciphertext)) ciphertext
+    ∙ omega (arith, length-head (length ciphertext))
 
 stream_first : (bytes ciphertext : List ℕ) → IsStream bytes ciphertext → slice_index bytes 0 ≡ 10
 unfolding head
@@ -111,7 +126,8 @@ one_inner bytes x y a b =
 
 pub encryption_along : (key label x y message : List ℕ) → x ≡ y → Encryption key (head (length x) ++ label) x message
     → Encryption key (head (length y) ++ label) y message
-encryption_along key label x y message e h = let P : List ℕ → Type 0 = λ i. Encryption key (head (length i) ++ label) i message in subst P e h
+encryption_along key label x y message e h = let P : List ℕ
+    → Type 0 = λ i. Encryption key (head (length i) ++ label) i message in subst P e h
 
 pub no_stream_message : (fault : CipherFault) (key label bytes message : List ℕ) → fault ≢ Memory → StreamCause fault key label bytes
     → ¬ StreamEncryption key label bytes message
@@ -123,7 +139,8 @@ no_stream_message fault key label bytes message other (inr h) s =
       | inr c ↦ no_message fault key (head (length h.0) ++ label) h.0 message other c e
     ]
 
-pub lacking_stream : {A : Type 0} (r : Result A CipherFault) (key label bytes : List ℕ) → IfErr r (λ fault. StreamCause fault key label bytes)
+pub lacking_stream : {A : Type 0} (r : Result A CipherFault) (key label bytes : List ℕ)
+    → IfErr r (λ fault. StreamCause fault key label bytes)
     → IfErr r (λ fault. fault ≢ Memory → (message : List ℕ) → ¬ StreamEncryption key label bytes message)
 lacking_stream (Ok x) key label bytes h = h
 lacking_stream (Err fault) key label bytes h = λ other message. no_stream_message fault key label bytes message other h

@@ -1,9 +1,11 @@
 -- What is encrypted is an encryption of the message.
-use Rattle.std.proofs.Common.{◌≡◌, inr, ℕ, ◌+◌, ◌-◌, ◌^◌, ◌<◌, ◌≤◌, List, [], ◌∷◌, ◌++◌, length, drop, refl, sym, ap, ap₂, subst, ◌∙◌, arith, append_assoc}
+use Rattle.std.proofs.Common.{◌≡◌, inr, ℕ, ◌+◌, ◌-◌, ◌^◌, ◌<◌, ◌≤◌, List, [], ◌∷◌, ◌++◌, length, drop, refl, sym, ap}
+use Rattle.std.proofs.Common.{ap₂, subst, ◌∙◌, arith, append_assoc}
 use Rattle.std.proofs.lemmas.List.{length-append, drop_at}
 use Rattle.memberlist_cipher.specs.Block.{cipher, aes}
 use Rattle.memberlist_cipher.specs.Gcm.{ctr, tag}
-use Rattle.memberlist_cipher.specs.Encryption.{IsKey, MayEncrypt, MayEncryptStream, sealed, encrypted, Encryption, head, encrypted_stream, StreamEncryption}
+use Rattle.memberlist_cipher.specs.Encryption.{IsKey, MayEncrypt, MayEncryptStream, sealed, encrypted, Encryption, head}
+use Rattle.memberlist_cipher.specs.Encryption.{encrypted_stream, StreamEncryption}
 use Rattle.memberlist_cipher.proofs.Causes.{length-head}
 use Rattle.memberlist_cipher.proofs.Refusing.{length-tag}
 use Rattle.memberlist_cipher.proofs.Sealing.{good_sizes}

@@ -1,5 +1,6 @@
 -- The part of a product from x ^ 128 on is folded into the part below.
-use Rattle.std.proofs.Common.{◌≡◌, ℕ, zero, suc, ◌+◌, ◌*◌, ◌/◌, ◌%◌, ◌^◌, ◌<◌, ◌==◌, if◌then◌else◌, Bool, true, false, List, ◌++◌, length, get_or, w8, Fits, bit_xor, refl, sym, ap, ap₂, ◌∙◌, arith}
+use Rattle.std.proofs.Common.{◌≡◌, ℕ, zero, suc, ◌+◌, ◌*◌, ◌/◌, ◌%◌, ◌^◌, ◌<◌, ◌==◌, if◌then◌else◌, Bool, true, false}
+use Rattle.std.proofs.Common.{List, ◌++◌, length, get_or, w8, Fits, bit_xor, refl, sym, ap, ap₂, ◌∙◌, arith}
 use Rattle.std.specs.Int.{bit_at, w128, from_be_bytes}
 use Rattle.std.specs.Int.Bits.{xor_assoc, xor_zero_l, xor_zero_r}
 use Rattle.std.proofs.Math.Nat.{pow-suc, mul_comm, mod-eq_of_lt, mod-lt}
@@ -12,7 +13,9 @@ use Rattle.memberlist_cipher.proofs.Polys.{poly_append, poly_block}
 
 -- ---- a sum of factors
 
-picked_both : (b : Bool) (z w v u : ℕ) → (if b then bit_xor (bit_xor z w) (bit_xor v u) else bit_xor z w) ≡ bit_xor (if b then bit_xor z v else z) (if b then bit_xor w u else w)
+picked_both : (b : Bool) (z w v u : ℕ)
+    → (if b then bit_xor (bit_xor z w) (bit_xor v u) else bit_xor z w) ≡ bit_xor
+    (if b then bit_xor z v else z) (if b then bit_xor w u else w)
 picked_both true z w v u = across z w v u
 picked_both false z w v u = refl
 

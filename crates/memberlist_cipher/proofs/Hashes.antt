@@ -1,5 +1,7 @@
 -- One step of a product, and of a hash.
-use Rattle.std.proofs.Common.{◌≡◌, ℕ, zero, suc, ◌+◌, ◌-◌, ◌/◌, ◌%◌, ◌^◌, ◌<◌, ◌≤◌, [], ◌∷◌, ◌++◌, get_or, add-one, ◌==◌, if◌then◌else◌, bit_xor, List, length, take, drop, sym, ap, ap₂, ◌∙◌, arith, append_assoc, length-drop}
+use Rattle.std.proofs.Common.{◌≡◌, ℕ, zero, suc, ◌+◌, ◌-◌, ◌/◌, ◌%◌, ◌^◌, ◌<◌, ◌≤◌, [], ◌∷◌, ◌++◌, get_or, add-one}
+use Rattle.std.proofs.Common.{◌==◌, if◌then◌else◌, bit_xor, List, length, take, drop, sym, ap, ap₂, ◌∙◌, arith}
+use Rattle.std.proofs.Common.{append_assoc, length-drop}
 use Rattle.std.specs.Int.{bit_at}
 use Rattle.std.proofs.Math.Seq.{drop-cons}
 use Rattle.std.proofs.lemmas.List.{drop_all, take_all, drop-drop, append-nil}
@@ -17,7 +19,8 @@ one_more : (bytes : List ℕ) → 0 < length bytes → blocks bytes ≡ suc (blo
 unfolding blocks
 one_more bytes some = omega (arith, length-drop 16 bytes)
 
-pub hash_step : (h y : ℕ) (bytes : List ℕ) → 0 < length bytes → hash h y bytes ≡ hash h (block_product (bit_xor y (block bytes)) h) (drop 16 bytes)
+pub hash_step : (h y : ℕ) (bytes : List ℕ) → 0 < length bytes
+    → hash h y bytes ≡ hash h (block_product (bit_xor y (block bytes)) h) (drop 16 bytes)
 unfolding hash hashed
 hash_step h y bytes some = ap (λ n. hashed n h y bytes) (one_more bytes some)
 
@@ -37,7 +40,8 @@ unfolding plus_bytes
 plus_end i xs ys past = ap (λ zs. plus_bytes zs ys) (drop_all i xs past)
 
 pub counted_step : (f : List ℕ → List ℕ) (nonce : List ℕ) (c : ℕ) (bytes : List ℕ) → 0 < length bytes
-    → counted_all f nonce c bytes ≡ plus_bytes (take 16 bytes) (f (counter_block nonce c)) ++ counted_all f nonce ((c + 1) % 2 ^ 32) (drop 16 bytes)
+    → counted_all f nonce c bytes ≡ plus_bytes (take 16 bytes)
+    (f (counter_block nonce c)) ++ counted_all f nonce ((c + 1) % 2 ^ 32) (drop 16 bytes)
 unfolding counted_all counted
 counted_step f nonce c bytes some = ap (λ n. counted n f nonce c bytes) (one_more bytes some)
 
@@ -104,5 +108,7 @@ four_parts f nonce c bytes old p q r s ep eq er es =
     append_assoc ((old ++ p) ++ q) r s
     ∙ append_assoc (old ++ p) q (r ++ s)
     ∙ append_assoc old p (q ++ (r ++ s))
-    ∙ ap (λ (x : List ℕ). old ++ x) (ap₂ (λ (x y : List ℕ). x ++ y) ep (ap₂ (λ (x y : List ℕ). x ++ y) eq (ap₂ (λ (x y : List ℕ). x ++ y) (er ∙ ap₂ part third b2)
+    ∙ ap (λ (x : List ℕ). old ++ x) (ap₂
+    (λ (x y : List ℕ). x ++ y) ep (ap₂
+    (λ (x y : List ℕ). x ++ y) eq (ap₂ (λ (x y : List ℕ). x ++ y) (er ∙ ap₂ part third b2)
     (es ∙ ap₂ part fourth b3 ∙ sym (append-nil (part c3 (drop 16 (drop 16 (drop 16 bytes)))))))))

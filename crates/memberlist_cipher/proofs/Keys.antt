@@ -1,5 +1,6 @@
 -- Rounds with their keys: from one state to the next.
-use Rattle.std.proofs.Common.{◌≡◌, ℕ, zero, suc, ◌+◌, ◌-◌, ◌*◌, ◌<◌, ◌≤◌, w8, Fits, List, [], ◌∷◌, map, length, get_or, take, drop, replicate, bit_xor, refl, sym, ap, ap₂, ◌∙◌, subst, arith}
+use Rattle.std.proofs.Common.{◌≡◌, ℕ, zero, suc, ◌+◌, ◌-◌, ◌*◌, ◌<◌, ◌≤◌, w8, Fits, List, [], ◌∷◌, map, length, get_or}
+use Rattle.std.proofs.Common.{take, drop, replicate, bit_xor, refl, sym, ap, ap₂, ◌∙◌, subst, arith}
 use Rattle.std.specs.Int.Bits.{xor_zero_r}
 use Rattle.std.proofs.lemmas.Nat.{xor_of_8}
 use Rattle.std.proofs.lemmas.Simd.{length-chunk, chunk-fits}
@@ -69,7 +70,8 @@ each_mixed s fits =
     }
 
 mixed_state : (s : List ℕ) → IsState s → IsState (mix_columns (scrambled s))
-mixed_state s h = subst (λ (t : List ℕ). IsState (mix_columns (scrambled t))) (sym (sixteen s h.size)) (each_mixed s (λ i. lane_fits s i h.fits))
+mixed_state s h = subst (λ (t : List ℕ). IsState (mix_columns (scrambled t))) (sym (sixteen s h.size))
+    (each_mixed s (λ i. lane_fits s i h.fits))
 
 plus_length : (a b : List ℕ) → length a ≡ length b → length (plus_bytes a b) ≡ length a
 unfolding plus_bytes
@@ -106,7 +108,8 @@ tower_cancelled n [] b ha hb fa fb = refl
 tower_cancelled zero (x ∷ a) b ha hb fa fb = absurd (omega arith)
 tower_cancelled (suc n) (x ∷ a) [] ha hb fa fb = absurd (omega arith)
 tower_cancelled (suc n) (x ∷ a) (y ∷ b) ha hb fa fb =
-    cons (sym (tower_sum (bit_xor x 0x63) (bit_xor y 0x63) (xor_of_8 x 0x63 fa.0.fits (omega arith)) (xor_of_8 y 0x63 fb.0.fits (omega arith)))
+    cons (sym (tower_sum (bit_xor x 0x63) (bit_xor y 0x63) (xor_of_8 x 0x63 fa.0.fits (omega arith))
+    (xor_of_8 y 0x63 fb.0.fits (omega arith)))
     ∙ ap tower (twice_added x y))
     (tower_cancelled n a b (omega arith) (omega arith) fa.1 fb.1)
 
@@ -133,8 +136,10 @@ begun_is words block fits room state = record {
   same = ap (map tower) (plus_is block (take 16 words));
 }
 
-pub advanced_is : (words block plain state key mixed : List ℕ) (n : ℕ) → IsAfter words n block state → HasKey words (suc n) plain → key ≡ map tower plain
-    → mixed ≡ map tower (plus_bytes (mix_columns (scrambled (rounds words n block))) (replicate 16 0x63)) → IsAfter words (suc n) block (zip2 bit_xor mixed key)
+pub advanced_is : (words block plain state key mixed : List ℕ) (n : ℕ) → IsAfter words n block state
+    → HasKey words (suc n) plain → key ≡ map tower plain
+    → mixed ≡ map tower (plus_bytes (mix_columns (scrambled (rounds words n block))) (replicate 16 0x63))
+    → IsAfter words (suc n) block (zip2 bit_xor mixed key)
 unfolding rounds
 advanced_is words block plain state key mixed n after has k m =
     let good = mixed_state (rounds words n block) after.good in
@@ -142,7 +147,8 @@ advanced_is words block plain state key mixed n after has k m =
       good = plus_state _ _ good has.good;
       same =
           ap₂ (zip2 bit_xor) m (k ∙ ap (map tower) has.same)
-          ∙ tower_cancelled 16 (mix_columns (scrambled (rounds words n block))) (round_key words (suc n)) good.size has.good.size good.fits has.good.fits;
+          ∙ tower_cancelled 16 (mix_columns (scrambled (rounds words n block)))
+          (round_key words (suc n)) good.size has.good.size good.fits has.good.fits;
     }
 
 scrambled_length : (s : List ℕ) → length (scrambled s) ≡ 16

@@ -1,8 +1,11 @@
 -- Look-ups in tables of sixteen entries, lane by lane.
-use Rattle.std.proofs.Common.{◌≡◌, ℕ, zero, suc, ◌+◌, ◌-◌, ◌*◌, ◌/◌, ◌^◌, ◌<◌, ◌≤◌, Bool, true, false, cond, ◌&&◌, ◌||◌, T, leb, ltb, w8, Fits, List, [], ◌∷◌, map, length, get_or, replicate, bit_and, bit_xor, refl, sym, ap, ap₂, ◌∙◌, inl, inr, subst, arith, eq-zero-or-pos}
+use Rattle.std.proofs.Common.{◌≡◌, ℕ, zero, suc, ◌+◌, ◌-◌, ◌*◌, ◌/◌, ◌^◌, ◌<◌, ◌≤◌, Bool, true, false, cond, ◌&&◌, ◌||◌}
+use Rattle.std.proofs.Common.{T, leb, ltb, w8, Fits, List, [], ◌∷◌, map, length, get_or, replicate, bit_and, bit_xor}
+use Rattle.std.proofs.Common.{refl, sym, ap, ap₂, ◌∙◌, inl, inr, subst, arith, eq-zero-or-pos}
 use Rattle.std.proofs.lemmas.Bool.{leb-true}
 use Rattle.std.proofs.lemmas.List.{get_or_past, length-map}
-use Rattle.std.proofs.lemmas.Simd.{swz_l, SwzOk, SwzOk-from_Each1, Each1-weaker, zip2_of_maps, zip2_splat, map-map, length-chunk, get_or-chunk}
+use Rattle.std.proofs.lemmas.Simd.{swz_l, SwzOk, SwzOk-from_Each1, Each1-weaker, zip2_of_maps, zip2_splat, map-map}
+use Rattle.std.proofs.lemmas.Simd.{length-chunk, get_or-chunk}
 use Rattle.std.specs.Bool.{IsTrue}
 use lib.Lanes.{zip2, Each1, chunk}
 use Rattle.memberlist_cipher.specs.Tower.{is_place, sum, quotient, first_place, second_place}
@@ -33,21 +36,24 @@ places_of_map g (x ∷ xs) fit e = (every_at (λ b. is_place (g b)) 256 x e fit.
 pub places : (g : ℕ → ℕ) (v js : List ℕ) → Each1 (Fits w8) v → js ≡ map g v → every (λ b. is_place (g b)) 256 ≡ true → Places js
 places g v js fit is e = subst Places (sym is) (places_of_map g v fit e)
 
-one_lane : (t : List ℕ) (i j : ℕ) (b : Bool) → leb 128 j ≡ b → length t ≡ 16 → i < 16 → cond b 0 (get_or t (16 * (i / 16) + j) 0) ≡ get_or t j 0
+one_lane : (t : List ℕ) (i j : ℕ) (b : Bool) → leb 128 j ≡ b → length t ≡ 16 → i < 16
+    → cond b 0 (get_or t (16 * (i / 16) + j) 0) ≡ get_or t j 0
 one_lane t i j true e size within = sym (get_or_past t j 0 (omega (arith, leb-true 128 j e)))
 one_lane t i j false e size within = let k : 16 * (i / 16) + j ≡ j = omega arith in ap (λ (n : ℕ). get_or t n 0) k
 
 pub looked_up_is : (t js : List ℕ) (i : ℕ) → length t ≡ 16 → i + length js ≤ 16 → swz_l w8 16 t i js ≡ map (λ j. get_or t j 0) js
 looked_up_is t [] i size within = refl
 looked_up_is t (j ∷ js) i size within =
-    ap₂ (λ (x : ℕ) (xs : List ℕ). x ∷ xs) (one_lane t i j (leb 128 j) refl size (omega arith)) (looked_up_is t js (suc i) size (omega arith))
+    ap₂ (λ (x : ℕ) (xs : List ℕ). x ∷ xs) (one_lane t i j (leb 128 j) refl size (omega arith))
+    (looked_up_is t js (suc i) size (omega arith))
 
 -- ---- vectors that were computed byte by byte
 
 abbrev pub Block : List ℕ → Type 0
 Block v = (length v ≡ 16) × Each1 (Fits w8) v
 
-pub composed : (t : List ℕ) (g : ℕ → ℕ) (v : List ℕ) {js r : List ℕ} → r ≡ map (λ j. get_or t j 0) js → js ≡ map g v → r ≡ map (λ b. get_or t (g b) 0) v
+pub composed : (t : List ℕ) (g : ℕ → ℕ) (v : List ℕ) {js r : List ℕ} → r ≡ map (λ j. get_or t j 0) js
+    → js ≡ map g v → r ≡ map (λ b. get_or t (g b) 0) v
 composed t g v is from = is ∙ ap (map (λ (j : ℕ). get_or t j 0)) from ∙ map-map (λ (j : ℕ). get_or t j 0) g v
 
 abbrev pub high : ℕ → ℕ
@@ -71,7 +77,9 @@ is_place_T j false e = absurd cc
 
 pub swizzles : (js : List ℕ) → length js ≡ 16 → Places js → SwzOk w8 16 16 0 js
 unfolding is_place
-swizzles js size all = SwzOk-from_Each1 w8 16 1 16 0 js refl (omega arith) (Each1-weaker (λ (j : ℕ). IsTrue (is_place j)) (λ (j : ℕ). T (leb 128 j || ltb j 16)) (λ j e. is_place_T j _ e) js all)
+swizzles js size all = SwzOk-from_Each1 w8 16 1 16 0 js refl (omega arith)
+    (Each1-weaker (λ (j : ℕ). IsTrue (is_place j)) (λ (j : ℕ). T (leb 128 j || ltb j 16))
+    (λ j e. is_place_T j _ e) js all)
 
 abbrev pub inverse_of : ℕ → ℕ
 inverse_of place = get_or INVERSES place 0
@@ -93,9 +101,11 @@ map_bytes f g [] same fits = refl
 map_bytes f g (x ∷ v) same fits = ap₂ (λ (y : ℕ) (ys : List ℕ). y ∷ ys) (same x fits.0.fits) (map_bytes f g v same fits.1)
 
 -- entries of a table that stands in a list from i on
-pub entries_from : (xs : List ℕ) (i : ℕ) (g : ℕ → ℕ) (v js : List ℕ) → Block v → js ≡ map g v → ((b : ℕ) → b < 256 → g b < 16) → i + 16 ≤ length xs
+pub entries_from : (xs : List ℕ) (i : ℕ) (g : ℕ → ℕ) (v js : List ℕ) → Block v → js ≡ map g v
+    → ((b : ℕ) → b < 256 → g b < 16) → i + 16 ≤ length xs
     → swz_l w8 16 (chunk i 16 xs) 0 js ≡ map (λ b. get_or xs (i + g b) 0) v
 entries_from xs i g v js block is small room =
     let size : length js ≡ 16 = ap length is ∙ length-map v g ∙ block.0 in
     composed (chunk i 16 xs) g v (looked_up_is (chunk i 16 xs) js 0 (length-chunk i 16 xs room) (omega arith)) is
-    ∙ map_bytes (λ b. get_or (chunk i 16 xs) (g b) 0) (λ b. get_or xs (i + g b) 0) v (λ b hb. get_or-chunk i 16 xs (g b) 0 (small b hb)) block.1
+    ∙ map_bytes (λ b. get_or (chunk i 16 xs) (g b) 0) (λ b. get_or xs (i + g b) 0) v
+    (λ b hb. get_or-chunk i 16 xs (g b) 0 (small b hb)) block.1

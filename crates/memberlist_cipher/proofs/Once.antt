@@ -24,7 +24,8 @@ one_message key aad bytes x y a b =
     let q = made key aad bytes y sizes b in
     let one = cut_once p.version q.version p.nonce q.nonce p.ciphertext q.ciphertext _ _ p.size q.size
     (length-tag (aes key) sizes p.nonce aad p.ciphertext) (length-tag (aes key) sizes q.nonce aad q.ciphertext) (sym p.text ∙ q.text) in
-    let same : ctr (aes key) p.nonce p.ciphertext ≡ ctr (aes key) q.nonce q.ciphertext = ap₂ (λ (m n : List ℕ). ctr (aes key) m n) one.1 one.2 in
+    let same : ctr (aes key) p.nonce p.ciphertext ≡ ctr (aes key) q.nonce q.ciphertext = ap₂
+    (λ (m n : List ℕ). ctr (aes key) m n) one.1 one.2 in
     elim (cases_lt p.version 1) [
       | inl none ↦ pad_once x y (p.is_padded (omega arith) ∙ same ∙ sym (q.is_padded (omega (arith, one.0))))
       | inr some ↦ p.is_plain (omega arith) ∙ same ∙ sym (q.is_plain (omega (arith, one.0)))
@@ -33,4 +34,5 @@ one_message key aad bytes x y a b =
 pub one_stream_message : (key label bytes x y : List ℕ) → StreamEncryption key label bytes x → StreamEncryption key label bytes y → x ≡ y
 one_stream_message key label bytes x y a b =
     let same = one_inner bytes b.ciphertext a.ciphertext b.stream a.stream in
-    one_message key (head (length a.ciphertext) ++ label) a.ciphertext x y a.encryption (encryption_along key label b.ciphertext a.ciphertext y same b.encryption)
+    one_message key (head (length a.ciphertext) ++ label) a.ciphertext x y a.encryption
+    (encryption_along key label b.ciphertext a.ciphertext y same b.encryption)

@@ -1,6 +1,8 @@
 -- The product of two blocks by planes: the sum over the bytes of one block of sums over planes is
 -- the sum over planes of sums over bytes.
-use Rattle.std.proofs.Common.{◌≡◌, ℕ, zero, suc, ◌+◌, ◌-◌, ◌*◌, ◌/◌, ◌%◌, ◌^◌, ◌<◌, ◌==◌, if◌then◌else◌, Bool, true, false, List, [], ◌∷◌, map, length, get_or, w8, Fits, bit_xor, refl, sym, ap, ap₂, ◌∙◌, arith}
+use Rattle.std.proofs.Common.{◌≡◌, ℕ, zero, suc, ◌+◌, ◌-◌, ◌*◌, ◌/◌, ◌%◌, ◌^◌, ◌<◌, ◌==◌, if◌then◌else◌, Bool, true}
+use Rattle.std.proofs.Common.{false, List, [], ◌∷◌, map, length, get_or, w8, Fits, bit_xor, refl, sym, ap, ap₂, ◌∙◌}
+use Rattle.std.proofs.Common.{arith}
 use Rattle.std.specs.Int.{bit_at, w128, from_be_bytes, to_be_bytes}
 use Rattle.std.specs.Int.Bits.{xor_zero_l}
 use Rattle.std.specs.List.{range_with_len}
@@ -14,7 +16,8 @@ use Rattle.memberlist_cipher.specs.Gcm.{times_x, steps, block_product}
 use Rattle.memberlist_cipher.specs.Products.{shifted, poly, plane_byte, planes_of, planes_block, all_planes, entry, planes_sum}
 use Rattle.memberlist_cipher.proofs.Sixteen.{cons}
 use Rattle.memberlist_cipher.proofs.Products.{across, shifted_sum, steps_shifted, nothing, more, times_x_is, fallen}
-use Rattle.memberlist_cipher.proofs.Polys.{number, number_small, poly_number, digits, digits_fit, length-digits, number_digits, number_block}
+use Rattle.memberlist_cipher.proofs.Polys.{number, number_small, poly_number, digits, digits_fit, length-digits}
+use Rattle.memberlist_cipher.proofs.Polys.{number_digits, number_block}
 
 -- ---- the order of summing
 
@@ -81,7 +84,9 @@ product_by_bytes h (b ∷ bs) fits =
 byte_product : (b h : ℕ) → bit_xor (steps 4 (b / 16) 0 h) (steps 4 (b % 16) 0 (shifted 4 h)) ≡ steps 8 b 0 h
 byte_product b h =
     sym (more 4 4 b h
-    ∙ ap (bit_xor (steps 4 (b / 16) 0 h)) (sym (steps_shifted 4 4 (b % 16) 0 h) ∙ ap (λ (y : ℕ). steps 4 (b % 16) y (shifted 4 h)) (nothing 4)))
+    ∙ ap (bit_xor (steps 4 (b / 16) 0 h))
+    (sym (steps_shifted 4 4 (b % 16) 0 h) ∙ ap
+    (λ (y : ℕ). steps 4 (b % 16) y (shifted 4 h)) (nothing 4)))
 
 plane_at : (v k d : ℕ) → k < 16 → d < 16 → get_or (planes_of v) (16 * k + d) 0 ≡ steps 4 d 0 v / 2 ^ (120 - 8 * k) % 256
 unfolding planes_of plane_byte
@@ -98,14 +103,16 @@ length-planes v = length-map-range_with_len (plane_byte v) 0 256
 
 pub length-all_planes : (h : ℕ) → length (all_planes h) ≡ 512
 unfolding all_planes
-length-all_planes h = length-append (planes_of h) (planes_of (shifted 4 h)) ∙ ap₂ (λ (m n : ℕ). m + n) (length-planes h) (length-planes (shifted 4 h))
+length-all_planes h = length-append (planes_of h) (planes_of (shifted 4 h)) ∙ ap₂
+    (λ (m n : ℕ). m + n) (length-planes h) (length-planes (shifted 4 h))
 
 first_plane : (h k d : ℕ) → k < 16 → d < 16 → get_or (all_planes h) (16 * k + d) 0 ≡ steps 4 d 0 h / 2 ^ (120 - 8 * k) % 256
 unfolding all_planes
 first_plane h k d hk hd =
     get_or_append_left (planes_of h) (planes_of (shifted 4 h)) 0 (16 * k + d) (omega (arith, length-planes h)) ∙ plane_at h k d hk hd
 
-second_plane : (h k d : ℕ) → k < 16 → d < 16 → get_or (all_planes h) (256 + 16 * k + d) 0 ≡ steps 4 d 0 (shifted 4 h) / 2 ^ (120 - 8 * k) % 256
+second_plane : (h k d : ℕ) → k < 16 → d < 16
+    → get_or (all_planes h) (256 + 16 * k + d) 0 ≡ steps 4 d 0 (shifted 4 h) / 2 ^ (120 - 8 * k) % 256
 unfolding all_planes
 second_plane h k d hk hd =
     let i : 256 + 16 * k + d - length (planes_of h) ≡ 16 * k + d = omega (arith, length-planes h) in
@@ -168,7 +175,9 @@ rows_are : (h : ℕ) (bs : List ℕ) → h < 2 ^ 128 → Each1 (Fits w8) bs → 
 unfolding rows by_bytes
 rows_are h [] small fits = refl
 rows_are h (b ∷ bs) small fits =
-    ap₂ (λ (p q : ℕ). bit_xor p (shifted 8 q)) (ap poly (entries_are h b fits.0.fits) ∙ poly_digits (steps 8 b 0 h) (steps_small 8 b 0 h (omega arith) small))
+    ap₂ (λ (p q : ℕ). bit_xor p (shifted 8 q))
+    (ap poly (entries_are h b fits.0.fits)
+    ∙ poly_digits (steps 8 b 0 h) (steps_small 8 b 0 h (omega arith) small))
     (rows_are h bs small fits.1)
 
 block_digits : (d : ℕ) → to_be_bytes w128 d ≡ digits 16 d

@@ -1,5 +1,6 @@
 -- Bytes as polynomials.
-use Rattle.std.proofs.Common.{◌≡◌, ℕ, zero, suc, ◌+◌, ◌*◌, ◌/◌, ◌%◌, ◌^◌, ◌<◌, ◌≤◌, w8, Fits, List, [], ◌∷◌, ◌++◌, length, get_or, take, get_or-take, bit_xor, refl, sym, ap, ap₂, ◌∙◌, arith}
+use Rattle.std.proofs.Common.{◌≡◌, ℕ, zero, suc, ◌+◌, ◌*◌, ◌/◌, ◌%◌, ◌^◌, ◌<◌, ◌≤◌, w8, Fits, List, [], ◌∷◌, ◌++◌}
+use Rattle.std.proofs.Common.{length, get_or, take, get_or-take, bit_xor, refl, sym, ap, ap₂, ◌∙◌, arith}
 use Rattle.std.specs.Int.{w128, from_be_bytes}
 use Rattle.std.specs.Int.Bits.{xor_assoc, xor_zero_l, xor_zero_r}
 use Rattle.std.proofs.Math.Nat.{mul_assoc, add-mul, mul-le-mul_right, mul-lt-mul_of_pos_right}
@@ -24,7 +25,8 @@ poly_sum [] [] b e = sym (xor_zero_l (poly b))
 poly_sum [] (y ∷ v) b e = absurd (omega arith)
 poly_sum (x ∷ a) [] b e = absurd (omega arith)
 poly_sum (x ∷ a) (y ∷ v) b e =
-    ap₂ bit_xor (ap (λ (n : ℕ). n * 2 ^ 120) (xor_comm x y) ∙ high_sum y x) (ap (shifted 8) (poly_sum a v b (omega arith)) ∙ shifted_sum 8 (poly v) (poly (a ++ b)))
+    ap₂ bit_xor (ap (λ (n : ℕ). n * 2 ^ 120) (xor_comm x y) ∙ high_sum y x)
+    (ap (shifted 8) (poly_sum a v b (omega arith)) ∙ shifted_sum 8 (poly v) (poly (a ++ b)))
     ∙ across (y * 2 ^ 120) (x * 2 ^ 120) (shifted 8 (poly v)) (shifted 8 (poly (a ++ b)))
 
 pub poly_append : (xs ys : List ℕ) → poly (xs ++ ys) ≡ bit_xor (poly xs) (shifted (8 * length xs) (poly ys))
@@ -43,7 +45,9 @@ unfolding poly
 poly_zero = ap (bit_xor (0 * 2 ^ 120)) (nothing 8) ∙ xor_zero_l 0
 
 pub poly_end : (xs : List ℕ) → poly (xs ++ 0 ∷ []) ≡ poly xs
-poly_end xs = poly_append xs (0 ∷ []) ∙ ap (λ (p : ℕ). bit_xor (poly xs) (shifted (8 * length xs) p)) poly_zero ∙ ap (bit_xor (poly xs)) (nothing (8 * length xs)) ∙ xor_zero_r (poly xs)
+poly_end xs = poly_append xs (0 ∷ []) ∙ ap
+    (λ (p : ℕ). bit_xor (poly xs) (shifted (8 * length xs) p)) poly_zero
+    ∙ ap (bit_xor (poly xs)) (nothing (8 * length xs)) ∙ xor_zero_r (poly xs)
 
 pub poly_push : (xs : List ℕ) → poly (0 ∷ xs) ≡ shifted 8 (poly xs)
 unfolding poly
@@ -85,7 +89,8 @@ poly_number (b ∷ bs) j e fits =
     let power : 2 ^ n * 2 ^ j ≡ 2 ^ 120 = sym (pow-add 2 n j) ∙ ap (λ (k : ℕ). 2 ^ k) all in
     let room : m * 2 ^ j < 2 ^ n * 2 ^ j = mul-lt-mul_of_pos_right (number_small bs fits.1) (pow_pos j) in
     let small : m * 2 ^ j < 2 ^ 120 = omega (arith, room, power) in
-    let rest : shifted 8 (poly bs) ≡ m * 2 ^ j = ap (shifted 8) (poly_number bs (j + 8) (omega arith) fits.1 ∙ moved) ∙ whole 8 (m * 2 ^ j) in
+    let rest : shifted 8 (poly bs) ≡ m * 2 ^ j = ap (shifted 8)
+    (poly_number bs (j + 8) (omega arith) fits.1 ∙ moved) ∙ whole 8 (m * 2 ^ j) in
     ap (bit_xor (b * 2 ^ 120)) rest
     ∙ one_cell b (m * 2 ^ j) small
     ∙ ap (λ (p : ℕ). b * p + m * 2 ^ j) (sym power)
@@ -125,7 +130,8 @@ sixteen_bytes b0 b1 b2 b3 b4 b5 b6 b7 b8 b9 b10 b11 b12 b13 b14 b15 = omega arit
 pub number_block : (bs : List ℕ) → length bs ≡ 16 → number bs ≡ from_be_bytes w128 bs
 number_block bs size =
     ap number (sixteen bs size)
-    ∙ sixteen_bytes (get_or bs 0 0) (get_or bs 1 0) (get_or bs 2 0) (get_or bs 3 0) (get_or bs 4 0) (get_or bs 5 0) (get_or bs 6 0) (get_or bs 7 0)
+    ∙ sixteen_bytes (get_or bs 0 0) (get_or bs 1 0) (get_or bs 2 0) (get_or bs 3 0) (get_or bs 4 0)
+    (get_or bs 5 0) (get_or bs 6 0) (get_or bs 7 0)
     (get_or bs 8 0) (get_or bs 9 0) (get_or bs 10 0) (get_or bs 11 0) (get_or bs 12 0) (get_or bs 13 0) (get_or bs 14 0) (get_or bs 15 0)
     ∙ ap (from_be_bytes w128) (sym (sixteen bs size))
 

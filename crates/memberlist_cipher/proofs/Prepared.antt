@@ -1,5 +1,6 @@
 -- How the parts of a prepared key follow from its bytes.
-use Rattle.std.proofs.Common.{◌≡◌, inl, inr, ℕ, ◌+◌, ◌-◌, ◌*◌, ◌/◌, ◌<◌, ◌≤◌, List, length, take, replicate, subst, sym, ap, ap₂, ◌∙◌, arith}
+use Rattle.std.proofs.Common.{◌≡◌, inl, inr, ℕ, ◌+◌, ◌-◌, ◌*◌, ◌/◌, ◌<◌, ◌≤◌, List, length, take, replicate, subst, sym}
+use Rattle.std.proofs.Common.{ap, ap₂, ◌∙◌, arith}
 use Rattle.std.specs.Int.{w128, from_be_bytes}
 use Rattle.memberlist_cipher.specs.Block.{cipher, schedule, aes}
 use Rattle.memberlist_cipher.specs.Gcm.{hash_key}
@@ -40,7 +41,8 @@ pub record Known (key w : List ℕ) (h : ℕ) : Type 0 where
   pub under : cipher w (length w / 16 - 2) ≡ aes key
   pub block : h ≡ hash_key (cipher w (length w / 16 - 2))
 
-pub known : (key words w : List ℕ) (h : ℕ) → scheduled_key words ≡ key → IsPrepared (scheduled_key words) words h → w ≡ words → Known key w h
+pub known : (key words w : List ℕ) (h : ℕ) → scheduled_key words ≡ key
+    → IsPrepared (scheduled_key words) words h → w ≡ words → Known key w h
 known key words w h view prepared same =
     let p = seen key words h view prepared in
     let is : w ≡ schedule key = same ∙ p.schedule_is in
@@ -58,7 +60,8 @@ known key words w h view prepared same =
     }
 
 -- the schedule begins with the key, and is longer
-pub front_is : (key words w : List ℕ) (n h : ℕ) → scheduled_key words ≡ key → IsPrepared (scheduled_key words) words h → w ≡ words → n ≡ length w
+pub front_is : (key words w : List ℕ) (n h : ℕ) → scheduled_key words ≡ key
+    → IsPrepared (scheduled_key words) words h → w ≡ words → n ≡ length w
     → (take (n / 4 - 28) w ≡ key) × (28 ≤ n / 4)
 unfolding scheduled_key
 front_is key words w n h view prepared same count =

@@ -1,5 +1,6 @@
 -- Products, some bits at a time.
-use Rattle.std.proofs.Common.{◌≡◌, ℕ, zero, suc, ◌+◌, ◌*◌, ◌/◌, ◌%◌, ◌^◌, ◌<◌, ◌≤◌, ◌==◌, if◌then◌else◌, Bool, true, false, bit_xor, refl, sym, ap, ap₂, ◌∙◌, arith}
+use Rattle.std.proofs.Common.{◌≡◌, ℕ, zero, suc, ◌+◌, ◌*◌, ◌/◌, ◌%◌, ◌^◌, ◌<◌, ◌≤◌, ◌==◌, if◌then◌else◌, Bool, true}
+use Rattle.std.proofs.Common.{false, bit_xor, refl, sym, ap, ap₂, ◌∙◌, arith}
 use Rattle.std.specs.Int.{bit_at}
 use Rattle.std.specs.Int.Bits.{xor_assoc, xor_zero_r}
 use Rattle.std.proofs.Math.Nat.{pow-suc, mul_assoc, mul_comm}
@@ -89,7 +90,8 @@ pub whole : (k q : ℕ) → shifted k (q * 2 ^ k) ≡ q
 unfolding shifted
 whole zero q = omega arith
 whole (suc k) q =
-    let twice : q * 2 ^ suc k ≡ 2 * (q * 2 ^ k) = ap (λ (p : ℕ). q * p) (pow-suc 2 k) ∙ sym (mul_assoc q (2 ^ k) 2) ∙ mul_comm (q * 2 ^ k) 2 in
+    let twice : q * 2 ^ suc k ≡ 2 * (q * 2 ^ k) = ap
+    (λ (p : ℕ). q * p) (pow-suc 2 k) ∙ sym (mul_assoc q (2 ^ k) 2) ∙ mul_comm (q * 2 ^ k) 2 in
     ap (shifted k) (times_x_even (q * 2 ^ k) (q * 2 ^ suc k) twice) ∙ whole k q
 
 pub shifted_add : (n m v : ℕ) → shifted (n + m) v ≡ shifted m (shifted n v)
@@ -118,7 +120,8 @@ steps_split (suc n) m x z v =
     let e : suc n + m ≡ suc (n + m) = omega arith in
     ap (λ (k : ℕ). steps k x z v) e
     ∙ steps_split n m x (if bit_at x (n + m) == 1 then bit_xor z v else z) (times_x v)
-    ∙ ap (λ (b : ℕ). steps m x (steps n (x / 2 ^ m) (if b == 1 then bit_xor z v else z) (times_x v)) (shifted n (times_x v))) (sym (bit_above x m n))
+    ∙ ap (λ (b : ℕ). steps m x (steps n (x / 2 ^ m) (if b == 1 then bit_xor z v else z) (times_x v))
+    (shifted n (times_x v))) (sym (bit_above x m n))
 
 pub steps_low : (n k y w v : ℕ) → n ≤ k → steps n (y % 2 ^ k) w v ≡ steps n y w v
 unfolding steps

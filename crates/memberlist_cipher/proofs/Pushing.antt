@@ -1,5 +1,7 @@
 -- One step of a product: both parts times x ^ 8, and one more plane.
-use Rattle.std.proofs.Common.{◌≡◌, ℕ, zero, suc, ◌+◌, ◌-◌, ◌*◌, ◌<◌, ◌≤◌, List, [], ◌∷◌, ◌++◌, map, length, get_or, take, get_or-take, replicate, bit_xor, refl, sym, ap, ap₂, ◌∙◌, subst, arith, append_assoc}
+use Rattle.std.proofs.Common.{◌≡◌, ℕ, zero, suc, ◌+◌, ◌-◌, ◌*◌, ◌<◌, ◌≤◌, List, [], ◌∷◌, ◌++◌, map, length, get_or}
+use Rattle.std.proofs.Common.{take, get_or-take, replicate, bit_xor, refl, sym, ap, ap₂, ◌∙◌, subst, arith}
+use Rattle.std.proofs.Common.{append_assoc}
 use Rattle.std.specs.Int.Bits.{xor_zero_r}
 use lib.Lanes.{zip2, pick_l}
 use Rattle.memberlist_cipher.specs.Gcm.{times_x}
@@ -51,12 +53,15 @@ pub sum_first : (planes bs : List ℕ) → planes_sum planes 1 15 bs ≡ poly (m
 unfolding planes_sum
 sum_first planes bs = ap (bit_xor (poly (map (entry planes 15) bs))) (nothing 8) ∙ xor_zero_r (poly (map (entry planes 15) bs))
 
-sum_suc : (planes bs : List ℕ) (n k : ℕ) → planes_sum planes (suc n) k bs ≡ bit_xor (poly (map (entry planes k) bs)) (shifted 8 (planes_sum planes n (k + 1) bs))
+sum_suc : (planes bs : List ℕ) (n k : ℕ)
+    → planes_sum planes (suc n) k bs ≡ bit_xor (poly (map (entry planes k) bs))
+    (shifted 8 (planes_sum planes n (k + 1) bs))
 unfolding planes_sum
 sum_suc planes bs n k = refl
 
 pub sum_next : (planes bs : List ℕ) (n : ℕ) → n ≤ 15
-    → bit_xor (poly (map (entry planes (15 - n)) bs)) (shifted 8 (planes_sum planes n (16 - n) bs)) ≡ planes_sum planes (n + 1) (16 - (n + 1)) bs
+    → bit_xor (poly (map (entry planes (15 - n)) bs))
+    (shifted 8 (planes_sum planes n (16 - n) bs)) ≡ planes_sum planes (n + 1) (16 - (n + 1)) bs
 sum_next planes bs n few =
     let more : suc n ≡ n + 1 = omega arith in
     let from : 15 - n ≡ 16 - (n + 1) = omega arith in
@@ -65,7 +70,8 @@ sum_next planes bs n few =
     ∙ sym (sum_suc planes bs n (15 - n))
     ∙ ap₂ (λ (m k : ℕ). planes_sum planes m k bs) more from
 
-pub zeros_pushed : (below above : List ℕ) (n : ℕ) → length below ≡ 16 → length above ≡ 16 → 1 ≤ n → ((j : ℕ) → n ≤ j + 1 → j < 16 → get_or above j 0 ≡ 0)
+pub zeros_pushed : (below above : List ℕ) (n : ℕ) → length below ≡ 16 → length above ≡ 16 → 1 ≤ n
+    → ((j : ℕ) → n ≤ j + 1 → j < 16 → get_or above j 0 ≡ 0)
     → (j : ℕ) → n + 1 ≤ j + 1 → j < 16 → get_or (pushed below above) j 0 ≡ 0
 zeros_pushed below above n sb sa some zero_above zero past within = absurd (omega arith)
 zeros_pushed below above n sb sa some zero_above (suc j) past within =

@@ -75,12 +75,15 @@ pub bad_tag : (key aad bytes message : List ℕ) → ((s : List ℕ) → length 
     → length n ≡ 12 → length t ≡ 16 → bytes ≡ v ∷ (n ++ (c ++ t)) → t ≢ tag (aes key) n aad c → ¬ Encryption key aad bytes message
 bad_tag key aad bytes message sizes v n c t hn ht e wrong s =
     let x = made key aad bytes message sizes s in
-    let one = cut_once v x.version n x.nonce c x.ciphertext t _ hn x.size ht (length-tag (aes key) sizes x.nonce aad x.ciphertext) (sym e ∙ x.text) in
+    let one = cut_once v x.version n x.nonce c x.ciphertext t _ hn x.size ht
+    (length-tag (aes key) sizes x.nonce aad x.ciphertext) (sym e ∙ x.text) in
     wrong (one.3 ∙ ap₂ (λ (a b : List ℕ). tag (aes key) a aad b) (sym one.1) (sym one.2))
 
 pub bad_padding : (key aad bytes message : List ℕ) → ((s : List ℕ) → length (aes key s) ≡ 16) → (v : ℕ) (n c t : List ℕ)
-    → length n ≡ 12 → length t ≡ 16 → bytes ≡ v ∷ (n ++ (c ++ t)) → v ≡ 0 → padded message ≢ ctr (aes key) n c → ¬ Encryption key aad bytes message
+    → length n ≡ 12 → length t ≡ 16 → bytes ≡ v ∷ (n ++ (c ++ t)) → v ≡ 0
+    → padded message ≢ ctr (aes key) n c → ¬ Encryption key aad bytes message
 bad_padding key aad bytes message sizes v n c t hn ht e none wrong s =
     let x = made key aad bytes message sizes s in
-    let one = cut_once v x.version n x.nonce c x.ciphertext t _ hn x.size ht (length-tag (aes key) sizes x.nonce aad x.ciphertext) (sym e ∙ x.text) in
+    let one = cut_once v x.version n x.nonce c x.ciphertext t _ hn x.size ht
+    (length-tag (aes key) sizes x.nonce aad x.ciphertext) (sym e ∙ x.text) in
     wrong (x.is_padded (sym one.0 ∙ none) ∙ ap₂ (λ (a b : List ℕ). ctr (aes key) a b) (sym one.1) (sym one.2))

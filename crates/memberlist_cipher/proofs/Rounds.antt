@@ -1,5 +1,6 @@
 -- A round on a state in the tower's basis.
-use Rattle.std.proofs.Common.{◌≡◌, ℕ, zero, suc, ◌^◌, ◌<◌, true, ◌&&◌, eqb, nat_lt, w8, Fits, List, [], ◌∷◌, ◌++◌, map, length, get_or, replicate, bit_xor, refl, sym, ap, ap₂, ◌∙◌, subst, arith}
+use Rattle.std.proofs.Common.{◌≡◌, ℕ, zero, suc, ◌^◌, ◌<◌, true, ◌&&◌, eqb, nat_lt, w8, Fits, List, [], ◌∷◌, ◌++◌, map}
+use Rattle.std.proofs.Common.{length, get_or, replicate, bit_xor, refl, sym, ap, ap₂, ◌∙◌, subst, arith}
 use Rattle.std.specs.Int.Bits.{xor_assoc}
 use Rattle.std.proofs.lemmas.Bool.{eqb-true, ltb-true}
 use Rattle.std.proofs.lemmas.Nat.{xor_comm, xor_of_8}
@@ -29,8 +30,10 @@ agree_twice : every (λ a. eqb (twice (tower a)) (bit_xor (tower (product 2 (sub
 unfolding twice looked_up first_place second_place sum quotient tower sub affine affine_bit inverse inverse_up_to product carryless modulo
 agree_twice = refl
 
-agree_thrice : every (λ a. eqb (bit_xor (once (tower a)) (twice (tower a))) (bit_xor (tower (product 3 (sub a))) (tower (product 3 0x63)))) 256 ≡ true
-unfolding once twice looked_up first_place second_place sum quotient tower sub affine affine_bit inverse inverse_up_to product carryless modulo
+agree_thrice : every (λ a. eqb (bit_xor (once (tower a)) (twice (tower a)))
+    (bit_xor (tower (product 3 (sub a))) (tower (product 3 0x63)))) 256 ≡ true
+unfolding once twice looked_up first_place second_place sum quotient tower sub affine affine_bit inverse
+    inverse_up_to product carryless modulo
 agree_thrice = refl
 
 all_small : every (λ a. nat_lt (sub a) 256 && (nat_lt (product 2 (sub a)) 256 && nat_lt (product 3 (sub a)) 256)) 256 ≡ true
@@ -48,7 +51,8 @@ pub record Small (s : ℕ) : Type 0 where
 
 pub small : (a : ℕ) → a < 256 → Small (sub a)
 small a within =
-    let e = every_at (λ a. nat_lt (sub a) 256 && (nat_lt (product 2 (sub a)) 256 && nat_lt (product 3 (sub a)) 256)) 256 a all_small within in
+    let e = every_at (λ a. nat_lt (sub a) 256
+    && (nat_lt (product 2 (sub a)) 256 && nat_lt (product 3 (sub a)) 256)) 256 a all_small within in
     let more = (both (nat_lt (sub a) 256) _ e).1 in
     record {
       one = ltb-true (sub a) 256 (both (nat_lt (sub a) 256) _ e).0;
@@ -90,8 +94,10 @@ mixed_byte a b c d ha hb hc hd =
     let sb = small b hb in
     let sc = small c hc in
     let sd = small d hd in
-    let p = eqb-true _ _ (every_at (λ a. eqb (twice (tower a)) (bit_xor (tower (product 2 (sub a))) (tower (product 2 0x63)))) 256 a agree_twice ha) in
-    let q = eqb-true _ _ (every_at (λ a. eqb (bit_xor (once (tower a)) (twice (tower a))) (bit_xor (tower (product 3 (sub a))) (tower (product 3 0x63)))) 256 b agree_thrice hb) in
+    let p = eqb-true _ _ (every_at (λ a. eqb (twice (tower a))
+    (bit_xor (tower (product 2 (sub a))) (tower (product 2 0x63)))) 256 a agree_twice ha) in
+    let q = eqb-true _ _ (every_at (λ a. eqb (bit_xor (once (tower a)) (twice (tower a)))
+    (bit_xor (tower (product 3 (sub a))) (tower (product 3 0x63)))) 256 b agree_thrice hb) in
     let r = eqb-true _ _ (every_at (λ a. eqb (once (tower a)) (bit_xor (tower (sub a)) (tower 0x63))) 256 c agree_once hc) in
     let s = eqb-true _ _ (every_at (λ a. eqb (once (tower a)) (bit_xor (tower (sub a)) (tower 0x63))) 256 d agree_once hd) in
     let x = product 2 (sub a) in
@@ -102,7 +108,9 @@ mixed_byte a b c d ha hb hc hd =
     let xyz = xor_of_8 (bit_xor x y) z xy sc.one in
     ap₂ bit_xor (ap₂ bit_xor (ap₂ bit_xor p q ∙ across (tower x) (tower (product 2 0x63)) (tower y) (tower (product 3 0x63))) r
     ∙ across (bit_xor (tower x) (tower y)) (bit_xor (tower (product 2 0x63)) (tower (product 3 0x63))) (tower z) (tower 0x63)) s
-    ∙ across (bit_xor (bit_xor (tower x) (tower y)) (tower z)) (bit_xor (bit_xor (tower (product 2 0x63)) (tower (product 3 0x63))) (tower 0x63)) (tower w) (tower 0x63)
+    ∙ across (bit_xor (bit_xor (tower x) (tower y)) (tower z))
+    (bit_xor (bit_xor (tower (product 2 0x63)) (tower (product 3 0x63))) (tower 0x63)) (tower w)
+    (tower 0x63)
     ∙ ap₂ bit_xor (four_towers x y z w sa.two sb.three sc.one sd.one) constants
     ∙ sym (tower_sum (bit_xor (bit_xor (bit_xor x y) z) w) 0x63 (xor_of_8 (bit_xor (bit_xor x y) z) w xyz sd.one) (omega arith))
 
@@ -137,7 +145,8 @@ Mixes s =
 each_mixes : (s : List ℕ) → ((i : ℕ) → get_or s i 0 < 256) → Mixes (each s)
 unfolding mix_columns scrambled shift_rows plus_bytes
 each_mixes s fits =
-    let byte = λ (i j k l : ℕ). mixed_byte (get_or s i 0) (get_or s j 0) (get_or s k 0) (get_or s l 0) (fits i) (fits j) (fits k) (fits l) in
+    let byte = λ (i j k l : ℕ). mixed_byte (get_or s i 0) (get_or s j 0) (get_or s k 0) (get_or s l 0)
+    (fits i) (fits j) (fits k) (fits l) in
     cons (byte 0 5 10 15) (cons (byte 5 10 15 0) (cons (byte 10 15 0 5) (cons (byte 15 0 5 10)
     (cons (byte 4 9 14 3) (cons (byte 9 14 3 4) (cons (byte 14 3 4 9) (cons (byte 3 4 9 14)
     (cons (byte 8 13 2 7) (cons (byte 13 2 7 8) (cons (byte 2 7 8 13) (cons (byte 7 8 13 2)
@@ -159,7 +168,8 @@ unfolding scrambled shift_rows plus_bytes
 each_scrambles s fits =
     let byte = λ (i : ℕ). plain_byte (get_or s i 0) (fits i) in
     cons (byte 0) (cons (byte 5) (cons (byte 10) (cons (byte 15) (cons (byte 4) (cons (byte 9) (cons (byte 14) (cons (byte 3)
-    (cons (byte 8) (cons (byte 13) (cons (byte 2) (cons (byte 7) (cons (byte 12) (cons (byte 1) (cons (byte 6) (cons (byte 11) refl)))))))))))))))
+    (cons (byte 8) (cons (byte 13) (cons (byte 2)
+    (cons (byte 7) (cons (byte 12) (cons (byte 1) (cons (byte 6) (cons (byte 11) refl)))))))))))))))
 
 pub scrambled_is : (s : List ℕ) → IsState s → map plain (moved (map tower s) ROWS) ≡ plus_bytes (scrambled s) (replicate 16 0x63)
 scrambled_is s state = subst Scrambles (sym (sixteen s state.size)) (each_scrambles s (λ i. lane_fits s i state.fits))

@@ -1,5 +1,7 @@
 -- The words of a key, one by one.
-use Rattle.std.proofs.Common.{◌≡◌, ◌≢◌, ℕ, zero, suc, ◌+◌, ◌-◌, ◌*◌, ◌/◌, ◌%◌, ◌<◌, ◌≤◌, ◌==◌, nat_lt, if◌then◌else◌, Bool, true, false, bit_xor, inl, inr, List, [], ◌∷◌, ◌++◌, length, map, take, refl, sym, ap, ◌∙◌, arith, length-append, append_assoc, append-nil}
+use Rattle.std.proofs.Common.{◌≡◌, ◌≢◌, ℕ, zero, suc, ◌+◌, ◌-◌, ◌*◌, ◌/◌, ◌%◌, ◌<◌, ◌≤◌, ◌==◌, nat_lt, if◌then◌else◌}
+use Rattle.std.proofs.Common.{Bool, true, false, bit_xor, inl, inr, List, [], ◌∷◌, ◌++◌, length, map, take, refl, sym}
+use Rattle.std.proofs.Common.{ap, ◌∙◌, arith, length-append, append_assoc, append-nil}
 use Rattle.std.specs.Int.Bits.{xor_zero_r}
 use Rattle.std.proofs.Math.Seq.{take-append_seam}
 use Rattle.std.proofs.lemmas.Bool.{lt-ltb}
@@ -10,7 +12,8 @@ use Rattle.memberlist_cipher.specs.Encryption.{IsKey}
 use Rattle.memberlist_cipher.specs.Prepared.{scheduled_key}
 use Rattle.memberlist_cipher.proofs.Sixteen.{four}
 
-pub added_first : (nk i a b c d : ℕ) → i % nk ≡ 0 → added nk i (a ∷ b ∷ c ∷ d ∷ []) ≡ bit_xor (sub b) (x_to (i / nk - 1)) ∷ sub c ∷ sub d ∷ sub a ∷ []
+pub added_first : (nk i a b c d : ℕ) → i % nk ≡ 0
+    → added nk i (a ∷ b ∷ c ∷ d ∷ []) ≡ bit_xor (sub b) (x_to (i / nk - 1)) ∷ sub c ∷ sub d ∷ sub a ∷ []
 unfolding added turned plus_bytes
 added_first nk i a b c d e = rw e (simp xor_zero_r)
 
@@ -41,7 +44,8 @@ four_either false x y p q = q
 
 length-added_four : (nk i a b c d : ℕ) → length (added nk i (a ∷ b ∷ c ∷ d ∷ [])) ≡ 4
 unfolding added turned plus_bytes
-length-added_four nk i a b c d = four_either (i % nk == 0) _ _ refl (four_either (i % nk == 4) _ _ (four_either (nat_lt 6 nk) _ _ refl refl) refl)
+length-added_four nk i a b c d = four_either (i % nk == 0) _ _ refl
+    (four_either (i % nk == 4) _ _ (four_either (nat_lt 6 nk) _ _ refl refl) refl)
 
 length-added : (nk i : ℕ) (last : List ℕ) → length last ≡ 4 → length (added nk i last) ≡ 4
 length-added nk i last size = ap (λ (l : List ℕ). length (added nk i l)) (four last size) ∙ length-added_four nk i _ _ _ _
@@ -53,7 +57,8 @@ plus_four a b c d k size = ap (λ (l : List ℕ). length (plus_bytes (a ∷ b �
 
 pub length-next_word : (nk : ℕ) (w : List ℕ) → length (next_word nk w) ≡ 4
 unfolding next_word word
-length-next_word nk w = plus_four _ _ _ _ (added nk (length w / 4) (word w (length w - 4))) (length-added nk (length w / 4) (word w (length w - 4)) refl)
+length-next_word nk w = plus_four _ _ _ _ (added nk (length w / 4) (word w (length w - 4)))
+    (length-added nk (length w / 4) (word w (length w - 4)) refl)
 
 length-expanded : (nk n : ℕ) (w : List ℕ) → length (expanded nk n w) ≡ length w + 4 * n
 unfolding expanded

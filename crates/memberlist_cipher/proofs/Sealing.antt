@@ -2,7 +2,8 @@
 use Rattle.std.proofs.Common.{◌≡◌, ℕ, ◌+◌, ◌-◌, ◌*◌, ◌/◌, ◌%◌, ◌<◌, ◌≤◌, List, ◌++◌, length, get_or, take, drop, sym, ap, ap₂, ◌∙◌, arith}
 use Rattle.std.proofs.Math.ListN.{replicate}
 use Rattle.std.proofs.Math.Seq.{drop-append_seam, get_or-append_right}
-use Rattle.std.proofs.lemmas.List.{get_or-replicate, length-append, length-replicate, length-take-le, take-append-drop, take_all, length-drop}
+use Rattle.std.proofs.lemmas.List.{get_or-replicate, length-append, length-replicate, length-take-le, take-append-drop}
+use Rattle.std.proofs.lemmas.List.{take_all, length-drop}
 use Rattle.memberlist_cipher.specs.Block.{cipher, schedule, aes}
 use Rattle.memberlist_cipher.specs.Gcm.{ctr, tag}
 use Rattle.memberlist_cipher.specs.Encryption.{IsKey, sealed, padded}
@@ -20,7 +21,8 @@ good_sizes key good = aes_sizes key (length-schedule key good)
 pub tag_is : (key w words nonce aad ciphertext t : List ℕ) → w ≡ words → words ≡ schedule key
     → t ≡ tag (cipher w (length key / 4 + 5)) nonce aad ciphertext → t ≡ tag (aes key) nonce aad ciphertext
 unfolding aes
-tag_is key w words nonce aad ciphertext t same is e = e ∙ ap (λ (x : List ℕ). tag (cipher x (length key / 4 + 5)) nonce aad ciphertext) (same ∙ is)
+tag_is key w words nonce aad ciphertext t same is e = e ∙ ap
+    (λ (x : List ℕ). tag (cipher x (length key / 4 + 5)) nonce aad ciphertext) (same ∙ is)
 
 pub ctr_is : (key w words nonce ciphertext t : List ℕ) → w ≡ words → words ≡ schedule key
     → t ≡ ctr (cipher w (length key / 4 + 5)) nonce ciphertext → t ≡ ctr (aes key) nonce ciphertext

@@ -1,7 +1,8 @@
 -- Vectors of the standards, so that a definition with a wrong constant or step does not check.
 use Rattle.std.proofs.Common.{◌≡◌, [], ◌∷◌, replicate, refl}
 use Rattle.memberlist_cipher.specs.Field.{carryless, modulo, product, inverse_up_to, inverse, affine_bit, affine, sub, x_to}
-use Rattle.memberlist_cipher.specs.Block.{plus_bytes, shift_rows, mix, mix_columns, round_key, scrambled, rounds, cipher, word, turned, added, next_word, expanded, schedule, aes}
+use Rattle.memberlist_cipher.specs.Block.{plus_bytes, shift_rows, mix, mix_columns, round_key, scrambled, rounds}
+use Rattle.memberlist_cipher.specs.Block.{cipher, word, turned, added, next_word, expanded, schedule, aes}
 use Rattle.memberlist_cipher.specs.Gcm.{times_x, steps, block_product, block, blocks, hashed, hash, counter_block, lengths, hash_key, tag}
 
 -- FIPS-197, 4.2

@@ -1,5 +1,6 @@
 -- Tags that are compared by all their bytes at once.
-use Rattle.std.proofs.Common.{◌≡◌, ◌≢◌, ℕ, ◌%◌, ◌^◌, Bool, true, false, not, cond, eqb, nat_eq, List, [], ◌∷◌, map, length, take, refl, sym, ap, ap₂, ◌∙◌, subst, arith, eqb-true, eq-eqb}
+use Rattle.std.proofs.Common.{◌≡◌, ◌≢◌, ℕ, ◌%◌, ◌^◌, Bool, true, false, not, cond, eqb, nat_eq, List, [], ◌∷◌, map}
+use Rattle.std.proofs.Common.{length, take, refl, sym, ap, ap₂, ◌∙◌, subst, arith, eqb-true, eq-eqb}
 use Rattle.std.specs.Prelude.{MatchBool}
 use Rattle.std.proofs.lemmas.List.{length-map, take_all}
 use Rattle.std.proofs.lemmas.Simd.{length-zip2, mask_l-mod}
@@ -44,7 +45,8 @@ compared : (xs ys : List ℕ) → length xs ≡ 16 → length ys ≡ 16 → Matc
 compared xs ys sx sy = go (nat_eq (mask xs ys % 2 ^ 64) 0) refl
   where
     bits : mask xs ys % 2 ^ 64 ≡ mask xs ys
-    bits = mask_l-mod (map (top 7) (zip2 differs xs ys)) 64 (omega (arith, length-map (zip2 differs xs ys) (top 7), length-zip2 differs xs ys (sx ∙ sym sy)))
+    bits = mask_l-mod (map (top 7) (zip2 differs xs ys)) 64
+        (omega (arith, length-map (zip2 differs xs ys) (top 7), length-zip2 differs xs ys (sx ∙ sym sy)))
 
     go : (t : Bool) → nat_eq (mask xs ys % 2 ^ 64) 0 ≡ t → MatchBool t (xs ≡ ys) (xs ≢ ys)
     go true e = none_differ xs ys (sx ∙ sym sy) (sym bits ∙ eqb-true (mask xs ys % 2 ^ 64) 0 e)
@@ -54,7 +56,8 @@ compared xs ys sx sy = go (nat_eq (mask xs ys % 2 ^ 64) 0) refl
         apart f none = let t = eq-eqb (mask xs ys % 2 ^ 64) 0 (bits ∙ none) in absurd cc
 
 pub same_is : (a b : List ℕ) → length a ≡ 16 → length b ≡ 16
-    → MatchBool (nat_eq (mask_l (map (top 7) (zip2 (λ x y. cond (not (eqb x y)) 255 0) (take 16 a) (take 16 b))) % 2 ^ 64) 0) (a ≡ b) (a ≢ b)
+    → MatchBool (nat_eq (mask_l (map (top 7)
+    (zip2 (λ x y. cond (not (eqb x y)) 255 0) (take 16 a) (take 16 b))) % 2 ^ 64) 0) (a ≡ b) (a ≢ b)
 unfolding differs
 same_is a b sa sb =
     let whole_a = take_all 16 a (omega arith) in

@@ -1,5 +1,7 @@
 -- Encrypting twice gives the original.
-use Rattle.std.proofs.Common.{◌≡◌, ℕ, zero, suc, ◌+◌, ◌-◌, ◌*◌, ◌/◌, ◌%◌, ◌^◌, ◌≤◌, ◌⊎◌, inl, inr, bit_xor, List, [], ◌∷◌, ◌++◌, length, take, drop, refl, sym, ap, ap₂, ◌∙◌, arith, append-nil, length-append, length-take, length-drop}
+use Rattle.std.proofs.Common.{◌≡◌, ℕ, zero, suc, ◌+◌, ◌-◌, ◌*◌, ◌/◌, ◌%◌, ◌^◌, ◌≤◌, ◌⊎◌, inl, inr, bit_xor, List, []}
+use Rattle.std.proofs.Common.{◌∷◌, ◌++◌, length, take, drop, refl, sym, ap, ap₂, ◌∙◌, arith, append-nil, length-append}
+use Rattle.std.proofs.Common.{length-take, length-drop}
 use Rattle.std.specs.Int.Bits.{xor_assoc, xor_self, xor_zero_r}
 use Rattle.std.proofs.Math.Seq.{take-append_seam, drop-append_seam}
 use Rattle.std.proofs.lemmas.List.{take_all, drop_all, take-append-drop}
@@ -32,7 +34,8 @@ length-cipher words n s long =
     let k = round_key words (suc n) in
     let e : length (drop (16 * suc n) words) ≡ length words - 16 * suc n = length-drop (16 * suc n) words in
     let d : 16 * suc n + 16 - 16 * suc n ≡ 16 = omega arith in
-    let size : length k ≡ 16 = ap (λ m. length (take m (drop (16 * suc n) words))) d ∙ length-take 16 (drop (16 * suc n) words) ∙ omega (arith, e) in
+    let size : length k ≡ 16 = ap (λ m. length (take m (drop (16 * suc n) words))) d
+    ∙ length-take 16 (drop (16 * suc n) words) ∙ omega (arith, e) in
     length-plus (scrambled (rounds words n s)) k (omega (arith, length-scrambled (rounds words n s))) ∙ length-scrambled (rounds words n s)
 
 counted_none : (n : ℕ) (f : List ℕ → List ℕ) (nonce : List ℕ) (c : ℕ) → counted n f nonce c [] ≡ []
@@ -41,7 +44,8 @@ counted_none zero f nonce c = refl
 counted_none (suc n) f nonce c = counted_none n f nonce ((c + 1) % 2 ^ 32)
 
 -- the first block, and what follows it, if it is whole
-apart : (first rest : List ℕ) → (length first ≡ 16) ⊎ ((length first ≤ 16) × (rest ≡ [])) → (take 16 (first ++ rest) ≡ first) × (drop 16 (first ++ rest) ≡ rest)
+apart : (first rest : List ℕ) → (length first ≡ 16) ⊎ ((length first ≤ 16) × (rest ≡ []))
+    → (take 16 (first ++ rest) ≡ first) × (drop 16 (first ++ rest) ≡ rest)
 apart first rest (inl size) = (
   ap (λ n. take n (first ++ rest)) (sym size) ∙ take-append_seam first rest,
   ap (λ n. drop n (first ++ rest)) (sym size) ∙ drop-append_seam first rest,
@@ -99,7 +103,8 @@ enough : (bytes : List ℕ) → length bytes ≤ 16 * blocks bytes
 unfolding blocks
 enough bytes = omega arith
 
-pub length-ctr : (f : List ℕ → List ℕ) → ((s : List ℕ) → length (f s) ≡ 16) → (nonce bytes : List ℕ) → length (ctr f nonce bytes) ≡ length bytes
+pub length-ctr : (f : List ℕ → List ℕ) → ((s : List ℕ) → length (f s) ≡ 16) → (nonce bytes : List ℕ)
+    → length (ctr f nonce bytes) ≡ length bytes
 unfolding ctr counted_all
 length-ctr f sizes nonce bytes = length-counted (blocks bytes) f sizes nonce 2 bytes (enough bytes)
 
@@ -107,7 +112,8 @@ same_blocks : (a b : List ℕ) → length a ≡ length b → blocks a ≡ blocks
 unfolding blocks
 same_blocks a b e = ap (λ n. (n + 15) / 16) e
 
-pub ctr_twice : (f : List ℕ → List ℕ) → ((s : List ℕ) → length (f s) ≡ 16) → (nonce bytes : List ℕ) → ctr f nonce (ctr f nonce bytes) ≡ bytes
+pub ctr_twice : (f : List ℕ → List ℕ) → ((s : List ℕ) → length (f s) ≡ 16) → (nonce bytes : List ℕ)
+    → ctr f nonce (ctr f nonce bytes) ≡ bytes
 unfolding ctr counted_all
 ctr_twice f sizes nonce bytes =
     let once = counted (blocks bytes) f nonce 2 bytes in

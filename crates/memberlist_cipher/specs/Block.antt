@@ -1,5 +1,6 @@
 -- AES, FIPS-197. A state is its 16 bytes, column by column.
-use Rattle.std.specs.Prelude.{ℕ, zero, suc, ◌+◌, ◌-◌, ◌*◌, ◌/◌, ◌%◌, ◌==◌, nat_lt, if◌then◌else◌, bit_xor, List, [], ◌∷◌, ◌++◌, length, map, slice_index, slice_range}
+use Rattle.std.specs.Prelude.{ℕ, zero, suc, ◌+◌, ◌-◌, ◌*◌, ◌/◌, ◌%◌, ◌==◌, nat_lt, if◌then◌else◌, bit_xor, List, []}
+use Rattle.std.specs.Prelude.{◌∷◌, ◌++◌, length, map, slice_index, slice_range}
 use Rattle.memberlist_cipher.specs.Field.{product, sub, x_to}
 
 -- the sum of bytes, as far as both go

@@ -1,7 +1,9 @@
 -- The numbers of faults.
 use Rattle.std.specs.Prelude.{ℕ}
 use Rattle.memberlist_cipher.specs.declared.fault.CipherFault.{CipherFault}
-use Rattle.memberlist_cipher.specs.declared.fault.CipherFault.TheVariants.{BadKey, TooLong, TooShort, WrongVersion, WrongTag, BadPadding, NotEncrypted, Trailing, Memory}
+use Rattle.memberlist_cipher.specs.declared.fault.CipherFault.TheVariants.{BadKey, TooLong, TooShort, WrongVersion}
+use Rattle.memberlist_cipher.specs.declared.fault.CipherFault.TheVariants.{WrongTag, BadPadding, NotEncrypted, Trailing}
+use Rattle.memberlist_cipher.specs.declared.fault.CipherFault.TheVariants.{Memory}
 
 -- the number of a fault in reports
 abbrev pub cipher_number : CipherFault → ℕ

@@ -1,6 +1,7 @@
 -- Galois/Counter mode, SP 800-38D. A block is also the number with its bytes as digits, the highest
 -- first.
-use Rattle.std.specs.Prelude.{ℕ, zero, suc, ◌+◌, ◌*◌, ◌/◌, ◌%◌, ◌^◌, ◌==◌, if◌then◌else◌, bit_xor, List, [], ◌++◌, length, take, drop, replicate}
+use Rattle.std.specs.Prelude.{ℕ, zero, suc, ◌+◌, ◌*◌, ◌/◌, ◌%◌, ◌^◌, ◌==◌, if◌then◌else◌, bit_xor, List, [], ◌++◌}
+use Rattle.std.specs.Prelude.{length, take, drop, replicate}
 use Rattle.std.specs.Int.{bit_at, w32, w128, to_be_bytes, from_be_bytes}
 use Rattle.memberlist_cipher.specs.Block.{plus_bytes}
 

@@ -2,7 +2,9 @@
 use Rattle.std.specs.Prelude.{◌≡◌, ◌≢◌, ℕ, ◌+◌, ◌^◌, ◌<◌, ◌≤◌, ◌⊎◌, List, ◌∷◌, ◌++◌, length, drop, slice_index}
 use Rattle.std.specs.Int.{w32, from_be_bytes}
 use Rattle.memberlist_cipher.specs.declared.fault.CipherFault.{CipherFault}
-use Rattle.memberlist_cipher.specs.declared.fault.CipherFault.TheVariants.{BadKey, TooLong, TooShort, WrongVersion, WrongTag, BadPadding, NotEncrypted, Trailing, Memory}
+use Rattle.memberlist_cipher.specs.declared.fault.CipherFault.TheVariants.{BadKey, TooLong, TooShort, WrongVersion}
+use Rattle.memberlist_cipher.specs.declared.fault.CipherFault.TheVariants.{WrongTag, BadPadding, NotEncrypted, Trailing}
+use Rattle.memberlist_cipher.specs.declared.fault.CipherFault.TheVariants.{Memory}
 use Rattle.memberlist_cipher.specs.Block.{aes}
 use Rattle.memberlist_cipher.specs.Gcm.{ctr, tag}
 use Rattle.memberlist_cipher.specs.Encryption.{IsKey, IsWithin, padded, head, IsStream}

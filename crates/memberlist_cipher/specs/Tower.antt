@@ -1,7 +1,9 @@
 -- The S-box by tables of 16 entries, as the code looks it up. A byte in the tower's basis has two
 -- halves, and so has its inverse there, as two places in tables.
 use Rattle.std.specs.Prelude.{ℕ, ◌/◌, Bool, ◌||◌, nat_lt, nat_le, List, slice_index, bit_and, bit_xor}
-use Rattle.memberlist_cipher.specs.declared.tower.TheConstants.{LOW, HIGH, INVERSES, QUOTIENTS, PLAIN_FIRST, PLAIN_SECOND, ONCE_FIRST, ONCE_SECOND, TWICE_FIRST, TWICE_SECOND}
+use Rattle.memberlist_cipher.specs.declared.tower.TheConstants.{LOW, HIGH, INVERSES, QUOTIENTS, PLAIN_FIRST}
+use Rattle.memberlist_cipher.specs.declared.tower.TheConstants.{PLAIN_SECOND, ONCE_FIRST, ONCE_SECOND, TWICE_FIRST}
+use Rattle.memberlist_cipher.specs.declared.tower.TheConstants.{TWICE_SECOND}
 
 -- a place in a table, or one that stands for infinity
 unfoldable pub is_place : ℕ → Bool

@@ -1,7 +1,8 @@
 //! Encrypts messages, as packets and streams.
 
 ghost use Rattle.std.specs.Prelude.{◌≡◌, ◌+◌, ◌<◌, ◌≤◌, ◌^◌, ◌++◌, length, vec_len, vec_capacity, IfOk, IfErr, OnOk, MatchBool};
-ghost use Rattle.memberlist_cipher.specs.Encryption.{IsKey, MayEncrypt, MayEncryptStream, encrypted, encrypted_stream, head, Encryption, StreamEncryption};
+ghost use Rattle.memberlist_cipher.specs.Encryption.{IsKey, MayEncrypt, MayEncryptStream, encrypted, encrypted_stream};
+ghost use Rattle.memberlist_cipher.specs.Encryption.{head, Encryption, StreamEncryption};
 ghost use Rattle.memberlist_cipher.specs.Refusal.{EncryptCause};
 
 use crate::CipherFault;

@@ -1,6 +1,7 @@
 //! The product and the hash of blocks, SP 800-38D, 6.3 and 6.4.
 
-ghost use Rattle.std.specs.Prelude.{◌≡◌, ℕ, ◌+◌, ◌*◌, ◌<◌, ◌≤◌, ◌^◌, ◌==◌, ◌++◌, if◌then◌else◌, bit_xor, length, map, replicate, slice_index, take, drop, vec_len, vec_capacity, IfOk};
+ghost use Rattle.std.specs.Prelude.{◌≡◌, ℕ, ◌+◌, ◌*◌, ◌<◌, ◌≤◌, ◌^◌, ◌==◌, ◌++◌, if◌then◌else◌, bit_xor, length, map};
+ghost use Rattle.std.specs.Prelude.{replicate, slice_index, take, drop, vec_len, vec_capacity, IfOk};
 ghost use Rattle.std.specs.Int.{bit_at, w128, to_be_bytes};
 ghost use Rattle.memberlist_cipher.specs.Gcm.{times_x, steps, block_product, block, hash};
 ghost use Rattle.memberlist_cipher.specs.Products.{shifted, poly, planes_of, planes_block, all_planes, entry, planes_sum};

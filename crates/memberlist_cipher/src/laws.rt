@@ -2,7 +2,8 @@
 //! nothing.
 
 ghost use Rattle.std.specs.Prelude.{◌≡◌, List, ℕ, length};
-ghost use Rattle.memberlist_cipher.specs.Encryption.{IsKey, MayEncrypt, MayEncryptStream, encrypted, encrypted_stream, HoldsOnly, Encryption, StreamEncryption};
+ghost use Rattle.memberlist_cipher.specs.Encryption.{IsKey, MayEncrypt, MayEncryptStream, encrypted, encrypted_stream};
+ghost use Rattle.memberlist_cipher.specs.Encryption.{HoldsOnly, Encryption, StreamEncryption};
 ghost use Rattle.memberlist_cipher.specs.Label.{IsLabelled, IsLabelText};
 
 /// For one key and the same associated bytes, bytes are the encryption of at most one message.

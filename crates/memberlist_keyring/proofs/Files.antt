@@ -1,8 +1,10 @@
 -- Texts that are not key files.
-use Rattle.std.proofs.Common.{◌≡◌, ◌≢◌, inl, inr, ℕ, zero, suc, ◌+◌, ◌<◌, ◌≤◌, eqb, List, [], ◌∷◌, ◌++◌, length, get_or, take, drop, map, Option, Some, None, MatchBool, IsUtf8, refl, sym, ap, subst, ◌∙◌, arith}
+use Rattle.std.proofs.Common.{◌≡◌, ◌≢◌, inl, inr, ℕ, zero, suc, ◌+◌, ◌<◌, ◌≤◌, eqb, List, [], ◌∷◌, ◌++◌, length, get_or}
+use Rattle.std.proofs.Common.{take, drop, map, Option, Some, None, MatchBool, IsUtf8, refl, sym, ap, subst, ◌∙◌, arith}
 use Rattle.std.specs.List.{All}
 use Rattle.std.proofs.lemmas.Bool.{cases_eq, cases_lt, ne_eqb}
-use Rattle.std.proofs.lemmas.List.{get_or-take, get_or_at, get_or_append_left, drop_more, take-append-drop, length-append, length-take-le, take_all, length-map}
+use Rattle.std.proofs.lemmas.List.{get_or-take, get_or_at, get_or_append_left, drop_more, take-append-drop}
+use Rattle.std.proofs.lemmas.List.{length-append, length-take-le, take_all, length-map}
 use Rattle.std.proofs.Math.ListN.{get_or-map}
 use Rattle.serde_json.specs.Data.{Data, null, boolean, number, string, array, object, Items}
 use Rattle.serde_json.specs.Find.{as_str, as_array}
@@ -10,7 +12,8 @@ use Rattle.serde_json.specs.Read.{read as read_text}
 use Rattle.serde_json.specs.View.{items_of}
 use Rattle.memberlist_keyring.specs.declared.fault.KeyFileFault.{KeyFileFault}
 use Rattle.memberlist_keyring.specs.declared.fault.KeyFileFault.TheVariants.{Line, Item, NotList, Memory}
-use Rattle.memberlist_keyring.specs.KeyFile.{HoldInOrder, LineHolds, ItemHolds, lines_of, IsKeyText, IsWrongText, IsBlank, IsListText, IsKeyFile, ItemsCause, KeyFileCause}
+use Rattle.memberlist_keyring.specs.KeyFile.{HoldInOrder, LineHolds, ItemHolds, lines_of, IsKeyText, IsWrongText}
+use Rattle.memberlist_keyring.specs.KeyFile.{IsBlank, IsListText, IsKeyFile, ItemsCause, KeyFileCause}
 use Rattle.memberlist_keyring.proofs.Holding.{first_wrong, first_wrong_lacks}
 
 -- ---- the first byte that is not blank
@@ -93,7 +96,8 @@ one_list (x ∷ xs) (y ∷ ys) e =
     let rest = one_list xs ys tails in
     cc
 
-text_at : (texts : List (List ℕ)) (i : ℕ) (d : Data) → i < length (map string texts) → (text : List ℕ) × (get_or (map string texts) i d ≡ string text)
+text_at : (texts : List (List ℕ)) (i : ℕ) (d : Data) → i < length (map string texts)
+    → (text : List ℕ) × (get_or (map string texts) i d ≡ string text)
 text_at [] i d within = absurd (omega arith)
 text_at (t ∷ ts) zero d within = (t, refl)
 text_at (t ∷ ts) (suc i) d within = text_at ts i d (omega arith)
@@ -126,7 +130,8 @@ item_lacks d text bytes is same lacks held h =
     let P : List ℕ → Type 0 = λ t. IsKeyText t h.1 in
     lacks h.1 (subst P texts h.3)
 
-pub texts_of : (items : List Data) (keys : List (List ℕ)) → HoldInOrder ItemHolds items keys → (texts : List (List ℕ)) × (items ≡ map string texts)
+pub texts_of : (items : List Data) (keys : List (List ℕ)) → HoldInOrder ItemHolds items keys
+    → (texts : List (List ℕ)) × (items ≡ map string texts)
 texts_of [] keys h = ([], refl)
 texts_of (d ∷ ds) keys h =
     let more = texts_of ds h.1 h.3 in
@@ -142,7 +147,8 @@ same_items xs ys a b =
     one_list xs ys inside
 
 -- a refusal for a reason other than memory leaves no keys
-pub no_key_file : (fault : KeyFileFault) (text : List ℕ) → fault ≢ Memory → KeyFileCause fault text → (keys : List (List ℕ)) → ¬ IsKeyFile text keys
+pub no_key_file : (fault : KeyFileFault) (text : List ℕ) → fault ≢ Memory → KeyFileCause fault text
+    → (keys : List (List ℕ)) → ¬ IsKeyFile text keys
 no_key_file (Line n) text other c keys (inl h) = c.0 h.0
 no_key_file (Line n) text other c keys (inr h) = first_wrong_lacks LineHolds (lines_of text) n c.1 keys h.1
 no_key_file (Item n) text other c keys (inl h) =
@@ -157,7 +163,9 @@ no_key_file NotList text other c keys (inr h) = h.0 c.0
 no_key_file Memory text other c keys h = other refl
 
 -- the first item that is wrong, which is a text
-pub wrong_text : {Y : Type 0} (f : Y → Data) (ys : List Y) (i : ℕ) (y : Y) (keys : List (List ℕ)) (text bytes : List ℕ) → i < length ys → y ≡ get_or ys i y
+pub wrong_text : {Y : Type 0} (f : Y
+    → Data) (ys : List Y) (i : ℕ) (y : Y) (keys : List (List ℕ)) (text bytes : List ℕ) → i < length ys
+    → y ≡ get_or ys i y
     → HoldInOrder ItemHolds (map f (take i ys)) keys → Some text ≡ as_str (f y) → bytes ≡ text
     → ((key : List ℕ) → ¬ IsKeyText bytes key) → IsWrongText (map f ys) (i + 1)
 unfolding first_wrong
@@ -176,6 +184,7 @@ list_cause (Item n) text d items list json is c =
     (list, items, (json.0, json.1 ∙ ap (λ (v : Data). Some v) (array_from_as_array d (items_of items) (sym is))), c)
 list_cause NotList text d items list json is c = (
   list,
-  λ texts j. c texts (same_items items (map string texts) (json.1 ∙ ap (λ (v : Data). Some v) (array_from_as_array d (items_of items) (sym is))) j.1),
+  λ texts j. c texts (same_items items (map string texts)
+      (json.1 ∙ ap (λ (v : Data). Some v) (array_from_as_array d (items_of items) (sym is))) j.1),
 )
 list_cause Memory text d items list json is c = inl list

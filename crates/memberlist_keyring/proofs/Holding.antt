@@ -1,6 +1,7 @@
 -- What holds keys, in order.
 use Rattle.std.proofs.Common.{◌≡◌, ℕ, ◌+◌, ◌<◌, List, [], ◌∷◌, ◌++◌, length, get_or, take, drop, map, refl, sym, ap, subst, ◌∙◌, arith}
-use Rattle.std.proofs.lemmas.List.{append-nil, append_assoc, map-append, length-map, length-take-le, take_more, drop_more, take-append-drop, get_or_default}
+use Rattle.std.proofs.lemmas.List.{append-nil, append_assoc, map-append, length-map, length-take-le, take_more}
+use Rattle.std.proofs.lemmas.List.{drop_more, take-append-drop, get_or_default}
 use Rattle.memberlist_keyring.specs.KeyFile.{HoldInOrder, IsFirstKeyless}
 
 pub HoldInOrder-push : {X : Type 0} (Holds : X → List (List ℕ) → Type 0) (xs : List X) (x : X) (keys held : List (List ℕ))
@@ -51,7 +52,8 @@ lacks_one Holds [] wrong after keys lacks h = lacks h.0 h.2
 lacks_one Holds (x ∷ xs) wrong after keys lacks h = lacks_one Holds xs wrong after h.1 lacks h.3
 
 -- if one holds nothing, all hold nothing
-pub first_wrong_lacks : {X : Type 0} (Holds : X → List (List ℕ) → Type 0) (xs : List X) (number : ℕ) → IsFirstKeyless Holds xs number → (keys : List (List ℕ))
+pub first_wrong_lacks : {X : Type 0} (Holds : X → List (List ℕ) → Type 0) (xs : List X) (number : ℕ)
+    → IsFirstKeyless Holds xs number → (keys : List (List ℕ))
     → ¬ HoldInOrder Holds xs keys
 first_wrong_lacks {X} Holds xs number w keys h =
     let P : List X → Type 0 = λ ys. HoldInOrder Holds ys keys in
@@ -65,13 +67,15 @@ empty (x ∷ xs) e = absurd (omega arith)
 
 pub HoldInOrder-more_at : {X Y : Type 0} (Holds : X → List (List ℕ) → Type 0) (f : Y → X) (ys : List Y) (i : ℕ) (d : Y)
     (keys held : List (List ℕ)) → i < length ys
-    → HoldInOrder Holds (map f (take i ys)) keys → Holds (f (get_or ys i d)) held → HoldInOrder Holds (map f (take (i + 1) ys)) (keys ++ held)
+    → HoldInOrder Holds (map f (take i ys)) keys → Holds (f (get_or ys i d)) held
+    → HoldInOrder Holds (map f (take (i + 1) ys)) (keys ++ held)
 HoldInOrder-more_at Holds f ys i d keys held within h new =
     HoldInOrder-more Holds f ys i (get_or ys i d) keys held within (get_or_default ys i d (get_or ys i d) within) h new
 
 pub first_wrong_at : {X Y : Type 0} (Holds : X → List (List ℕ) → Type 0) (f : Y → X) (ys : List Y) (i : ℕ) (d : Y)
     (keys : List (List ℕ)) (all : List X) → map f ys ≡ all → i < length ys
-    → HoldInOrder Holds (map f (take i ys)) keys → ((held : List (List ℕ)) → ¬ Holds (f (get_or ys i d)) held) → IsFirstKeyless Holds all (i + 1)
+    → HoldInOrder Holds (map f (take i ys)) keys
+    → ((held : List (List ℕ)) → ¬ Holds (f (get_or ys i d)) held) → IsFirstKeyless Holds all (i + 1)
 first_wrong_at {X} Holds f ys i d keys all same within h lacks =
     let P : List X → Type 0 = λ xs. IsFirstKeyless Holds xs (i + 1) in
     subst P same (first_wrong Holds f ys i (get_or ys i d) keys within (get_or_default ys i d (get_or ys i d) within) h lacks)

@@ -1,5 +1,6 @@
 -- The lines of a file, counted as they are read.
-use Rattle.std.proofs.Common.{◌≡◌, inl, inr, ℕ, zero, suc, ◌+◌, ◌<◌, ◌++◌, ◌∙◌, List, [], ◌∷◌, Option, Some, length, map, take, drop, get_or, length-take-le, Bor, refl, sym, ap, ap₂, arith}
+use Rattle.std.proofs.Common.{◌≡◌, inl, inr, ℕ, zero, suc, ◌+◌, ◌<◌, ◌++◌, ◌∙◌, List, [], ◌∷◌, Option, Some, length}
+use Rattle.std.proofs.Common.{map, take, drop, get_or, length-take-le, Bor, refl, sym, ap, ap₂, arith}
 use Rattle.std.proofs.lemmas.Iterator.{YieldsList}
 use Rattle.std.proofs.lemmas.Iterator.Consumers.{YieldsList-so_far, YieldsList-turn}
 use Rattle.std.proofs.lemmas.List.FromFn.{length-enumerate_from, get_or-enumerate_from}
@@ -9,7 +10,8 @@ use Rattle.std.specs.List.{enumerate_from}
 use Rattle.std.specs.Str.Lines.{strip_carriage_return}
 use Rattle.std.proofs.lemmas.List.{length-append}
 use Rattle.memberlist_keyring.specs.declared.fault.KeyFileFault.TheVariants.{Memory}
-use Rattle.memberlist_keyring.specs.KeyFile.{HasKeySize, HoldInOrder, LineHolds, lines_of, IsFirstKeyless, IsKeySized, IsKeyFile, KeyFileCause}
+use Rattle.memberlist_keyring.specs.KeyFile.{HasKeySize, HoldInOrder, LineHolds, lines_of, IsFirstKeyless, IsKeySized}
+use Rattle.memberlist_keyring.specs.KeyFile.{IsKeyFile, KeyFileCause}
 use Rattle.memberlist_keyring.proofs.Keys.{key_size}
 
 -- the lines of the first items of a count

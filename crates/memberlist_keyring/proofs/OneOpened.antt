@@ -21,16 +21,19 @@ same_key Opened (o ∷ b) k a [] l d x y e f g p q =
     absurd (f o (0, omega arith, refl) y (subst (λ z. Opened z y) (sym same) q))
 same_key Opened (o ∷ b) k a (u ∷ c) l d x y e f g p q =
     same_key Opened b k a c l d x y (ap (drop 1) e)
-    (λ other h. f other (suc h.0, (let lt = h.1 in omega arith), h.2)) (λ other h. g other (suc h.0, (let lt = h.1 in omega arith), h.2)) p q
+    (λ other h. f other (suc h.0, (let lt = h.1 in omega arith), h.2))
+    (λ other h. g other (suc h.0, (let lt = h.1 in omega arith), h.2)) p q
 
 one_first : (Opened : List ℕ → List ℕ → Type 0) (keys : List (List ℕ)) (x y : List ℕ) → ((k m n : List ℕ) → Opened k m → Opened k n → m ≡ n)
     → IsFirst Opened keys x → IsFirst Opened keys y → x ≡ y
 one_first Opened keys x y one p q =
-    let same = same_key Opened p.before p.key p.after q.before q.key q.after x y (sym p.parts ∙ q.parts) p.earlier q.earlier p.opened q.opened in
+    let same = same_key Opened p.before p.key p.after q.before q.key q.after x y
+    (sym p.parts ∙ q.parts) p.earlier q.earlier p.opened q.opened in
     one q.key x y (subst (λ z. Opened z x) same p.opened) q.opened
 
 -- if one key decrypts bytes to one message, so do keys in one order
-one_opened_as : (E : List ℕ → List ℕ → List ℕ → List ℕ → Type 0) → ((key label bytes m n : List ℕ) → E key label bytes m → E key label bytes n → m ≡ n)
+one_opened_as : (E : List ℕ → List ℕ → List ℕ → List ℕ → Type 0)
+    → ((key label bytes m n : List ℕ) → E key label bytes m → E key label bytes n → m ≡ n)
     → (keys : List (List ℕ)) (bytes x y : List ℕ) → OpensFirstAs E keys bytes x → OpensFirstAs E keys bytes y → x ≡ y
 one_opened_as E same keys bytes x y p q =
     let one = one_label bytes p.label p.rest q.label q.rest p.labelled q.labelled in

@@ -1,5 +1,6 @@
 -- What a keyring decrypts, by how bytes are split.
-use Rattle.std.proofs.Common.{◌≡◌, ◌≢◌, inl, inr, ℕ, List, [], ◌∷◌, ◌++◌, Result, Ok, Err, IfErr, length, get_or, refl, ap, sym, subst, ◌∙◌, arith}
+use Rattle.std.proofs.Common.{◌≡◌, ◌≢◌, inl, inr, ℕ, List, [], ◌∷◌, ◌++◌, Result, Ok, Err, IfErr, length, get_or, refl}
+use Rattle.std.proofs.Common.{ap, sym, subst, ◌∙◌, arith}
 use Rattle.std.proofs.lemmas.List.{length-append, get_or_at}
 use Rattle.std.specs.List.{Contains}
 use Rattle.memberlist_cipher.specs.declared.fault.CipherFault.{CipherFault}
@@ -24,7 +25,8 @@ Encrypts = List ℕ → List ℕ → List ℕ → List ℕ → Type 0
 abbrev IsBare : Encrypts → Type 0
 IsBare E = (key label bytes message : List ℕ) → E key label bytes message → IsLabelled bytes [] bytes
 
-pub opens_first : (E : Encrypts) → IsBare E → (keys ours : List (List ℕ)) (bytes label rest message : List ℕ) → ours ≡ keys → IsCut bytes label rest
+pub opens_first : (E : Encrypts) → IsBare E → (keys ours : List (List ℕ)) (bytes label rest message : List ℕ)
+    → ours ≡ keys → IsCut bytes label rest
     → IsFirst (λ key m. E key label rest m) ours message → OpensFirstAs E keys bytes message
 opens_first E bare keys ours bytes label rest message same (inl labelled) h =
     let P : List (List ℕ) → Type 0 = λ ks. IsFirst (λ key m. E key label rest m) ks message in
@@ -34,7 +36,8 @@ opens_first E bare keys ours bytes label rest message same (inr whole) h =
     absurd (whole.2 [] bytes (bare h.key label bytes message (subst P whole.1 h.opened)))
 
 -- one of the keys decrypts what the first of them does
-pub first_opens : (E : Encrypts) (keys : List (List ℕ)) (bytes message : List ℕ) → OpensFirstAs E keys bytes message → OpensAs E keys bytes message
+pub first_opens : (E : Encrypts) (keys : List (List ℕ)) (bytes message : List ℕ)
+    → OpensFirstAs E keys bytes message → OpensAs E keys bytes message
 first_opens E keys bytes message o =
     let first = o.first in
     record {
@@ -46,7 +49,8 @@ first_opens E keys bytes message o =
       encryption = first.opened;
     }
 
-pub opens_none : {A : Type 0} (E : Encrypts) (r : Result A CipherFault) (keys ours : List (List ℕ)) (bytes label rest : List ℕ) → ours ≡ keys
+pub opens_none : {A : Type 0} (E : Encrypts) (r : Result A CipherFault) (keys ours : List (List ℕ))
+    (bytes label rest : List ℕ) → ours ≡ keys
     → IsCut bytes label rest
     → IfErr r (λ fault. fault ≢ Memory → (key : List ℕ) → Contains ours key → (message : List ℕ) → ¬ E key label rest message)
     → IfErr r (λ fault. fault ≢ Memory → (message : List ℕ) → ¬ OpensAs E keys bytes message)
@@ -72,4 +76,11 @@ pub asks : {A : Type 0} (Cause : CipherFault → List ℕ → List ℕ → List 
     → r ≡ Err Memory → AsksMemory Cause keys bytes
 asks Cause r keys ours bytes label rest same cut h memory =
     let here = h memory in
-    record { label = label; rest = rest; cut = cut; key = here.0; ours = subst (λ (ks : List (List ℕ)). Contains ks here.0) same here.1; cause = here.2 }
+    record {
+      label = label;
+      rest = rest;
+      cut = cut;
+      key = here.0;
+      ours = subst (λ (ks : List (List ℕ)). Contains ks here.0) same here.1;
+      cause = here.2;
+    }

@@ -27,7 +27,8 @@ opens_first keys key others label bytes text message parts labelled e = record {
   first = IsFirst-head (λ k m. Encryption k label bytes m) keys key others message parts e;
 }
 
-pub opens_stream_first : (keys : List (List ℕ)) (key : List ℕ) (others : List (List ℕ)) (label bytes text message : List ℕ) → keys ≡ key ∷ others
+pub opens_stream_first : (keys : List (List ℕ)) (key : List ℕ) (others : List (List ℕ))
+    (label bytes text message : List ℕ) → keys ≡ key ∷ others
     → IsLabelled text label bytes → StreamEncryption key label bytes message → OpensStreamFirst keys text message
 opens_stream_first keys key others label bytes text message parts labelled e = record {
   label = label;
@@ -37,13 +38,15 @@ opens_stream_first keys key others label bytes text message parts labelled e = r
 }
 
 -- the key that is read is the first of them
-pub first_is : (seen keys : List (List ℕ)) (key : List ℕ) → seen ≡ keys → 0 < length seen → key ≡ get_or seen 0 key → keys ≡ key ∷ drop 1 seen
+pub first_is : (seen keys : List (List ℕ)) (key : List ℕ) → seen ≡ keys → 0 < length seen
+    → key ≡ get_or seen 0 key → keys ≡ key ∷ drop 1 seen
 first_is seen keys key same some read = sym same ∙ drop_more seen 0 key some ∙ ap (λ (k : List ℕ). k ∷ drop 1 seen) (sym read)
 
 -- ---- a reply, without a label before it
 
 -- what is made with the first of the keys, and does not start with a label, is sent bare
-pub sends_bare : (made : List ℕ → List ℕ) (keys : List (List ℕ)) (key : List ℕ) (others : List (List ℕ)) (bytes : List ℕ) → keys ≡ key ∷ others
+pub sends_bare : (made : List ℕ → List ℕ) (keys : List (List ℕ)) (key : List ℕ) (others : List (List ℕ))
+    (bytes : List ℕ) → keys ≡ key ∷ others
     → bytes ≡ made key → ((more : List ℕ) → bytes ≢ 244 ∷ more) → SendsFirst made keys [] bytes
 sends_bare made keys key others bytes parts is bare = record {
   key = key;

@@ -4,7 +4,9 @@ ghost use Rattle.std.specs.Prelude.{◌≡◌, ◌⊎◌, ◌∷◌, ◌++◌, [
 ghost use Rattle.std.specs.Str.Lines.{strip_carriage_return};
 ghost use Rattle.serde_json.specs.Data.{Data};
 ghost use Rattle.serde_json.specs.View.{view};
-ghost use Rattle.memberlist_keyring.specs.KeyFile.{IsKeyText, HasKeySize, LineHolds, lines_of, ItemHolds, HoldInOrder, IsBlank, IsListText, IsKeyFile, IsJsonList, ItemsCause, KeyFileCause};
+ghost use Rattle.memberlist_keyring.specs.KeyFile.{IsKeyText, HasKeySize, LineHolds, lines_of, ItemHolds, HoldInOrder};
+ghost use Rattle.memberlist_keyring.specs.KeyFile.{IsBlank, IsListText, IsKeyFile, IsJsonList, ItemsCause};
+ghost use Rattle.memberlist_keyring.specs.KeyFile.{KeyFileCause};
 
 use crate::key::key_of;
 use crate::{KeyFileFault, Secret};

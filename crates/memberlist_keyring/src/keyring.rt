@@ -11,7 +11,7 @@ ghost use Rattle.memberlist_keyring.specs.Opening.{Opens, OpensStream, OpensFirs
 use crate::KeyFileFault;
 use crate::key_file::keys_of;
 use crate::label::cut_label;
-use crate::trial::{Packet, Stream, try_keys};
+use crate::trial::{OfPacket, OfStream, try_keys};
 use memberlist_cipher::{CipherFault, Key};
 use std::alloc::Global;
 use std::marker::Model;
@@ -118,7 +118,7 @@ impl Keyring {
             → AsksMemory PacketCause self.now bytes.now }
     {
         let (label, rest) = cut_label(bytes);
-        try_keys::<Packet>(alloc, &self.keys, label, rest)
+        try_keys::<OfPacket>(alloc, &self.keys, label, rest)
     }
 
     /// The message of a stream that was encrypted under one of the keys; they are tried in order.
@@ -143,6 +143,6 @@ impl Keyring {
             → AsksMemory StreamCause self.now bytes.now }
     {
         let (label, rest) = cut_label(bytes);
-        try_keys::<Stream>(alloc, &self.keys, label, rest)
+        try_keys::<OfStream>(alloc, &self.keys, label, rest)
     }
 }

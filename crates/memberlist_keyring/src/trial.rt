@@ -29,9 +29,9 @@ pub(crate) trait Encrypted {
         ensures refuses { IfErr result (λ fault. causes fault key.now label.now bytes.now) };
 }
 
-pub(crate) struct Packet;
+pub(crate) struct OfPacket;
 
-impl Encrypted for Packet {
+impl Encrypted for OfPacket {
     ghost encrypts = { Encryption };
 
     ghost causes = { PacketCause };
@@ -46,9 +46,9 @@ impl Encrypted for Packet {
     }
 }
 
-pub(crate) struct Stream;
+pub(crate) struct OfStream;
 
-impl Encrypted for Stream {
+impl Encrypted for OfStream {
     ghost encrypts = { StreamEncryption };
 
     ghost causes = { StreamCause };

@@ -1,5 +1,7 @@
 -- Values that memberlist writes are read back.
-use Rattle.std.proofs.Common.{◌≡◌, ℕ, ◌+◌, ◌-◌, ◌^◌, ◌<◌, ◌≤◌, Bool, true, false, cond, ltb, eqb, List, [], ◌∷◌, ◌++◌, length, get_or, set, Option, Some, None, Result, Ok, refl, sym, ap, ◌∙◌, append_assoc, append-nil, arith, length-append}
+use Rattle.std.proofs.Common.{◌≡◌, ℕ, ◌+◌, ◌-◌, ◌^◌, ◌<◌, ◌≤◌, Bool, true, false, cond, ltb, eqb, List, [], ◌∷◌, ◌++◌}
+use Rattle.std.proofs.Common.{length, get_or, set, Option, Some, None, Result, Ok, refl, sym, ap, ◌∙◌, append_assoc}
+use Rattle.std.proofs.Common.{append-nil, arith, length-append}
 use Rattle.std.proofs.lemmas.Bool.{lt-ltb, le-ltb, ltb-true, eqb-true}
 use Rattle.std.proofs.lemmas.List.{nil_from_length}
 use Rattle.std.proofs.Math.Seq.{take-append_seam, drop-append_seam}
@@ -16,7 +18,9 @@ use Rattle.memberlist_message.specs.declared.form.Count.{Count}
 use Rattle.memberlist_message.specs.declared.form.Count.TheVariants.{Fixed, Two}
 use Rattle.memberlist_message.specs.declared.form.Form.TheVariants as forms
 use Rattle.memberlist_message.specs.Forms.{form_of, long_form_of}
-use Rattle.memberlist_message.specs.Reading.{bytes_at, count_at, number_at, flag_of, flag_at, text_count, text_at, raw_over, bytes_of, field_bytes_at, Fields, value_at, place_of, slot_at, pair_at}
+use Rattle.memberlist_message.specs.Reading.{bytes_at, count_at, number_at, flag_of, flag_at, text_count, text_at}
+use Rattle.memberlist_message.specs.Reading.{raw_over, bytes_of, field_bytes_at, Fields, value_at, place_of, slot_at}
+use Rattle.memberlist_message.specs.Reading.{pair_at}
 use Rattle.memberlist_message.specs.declared.layout.Kind.TheVariants as kinds
 use Rattle.memberlist_message.specs.Slots.{Slot, Slots, slot}
 use Rattle.memberlist_message.specs.Slots.Slot.{long, raw}
@@ -58,7 +62,8 @@ unfolding count_at
 two_again n rest lt =
     let long : length (big_bytes 2 n) ≡ 2 = length-bytes_high_first 2 n in
     let value : big_number 2 (big_bytes 2 n) ≡ n = ap (big_number 2) (sym (append-nil (big_bytes 2 n))) ∙ big_number-reads_back 2 n [] lt in
-    let digits : bytes_at 2 (big_bytes 2 n ++ rest) ≡ read (big_bytes 2 n) rest = ap (λ k. bytes_at k (big_bytes 2 n ++ rest)) (sym long) ∙ bytes_again (big_bytes 2 n) rest in
+    let digits : bytes_at 2 (big_bytes 2 n ++ rest) ≡ read (big_bytes 2 n) rest = ap
+    (λ k. bytes_at k (big_bytes 2 n ++ rest)) (sym long) ∙ bytes_again (big_bytes 2 n) rest in
     rw (digits, value) refl
 
 split : {A : Type 0} (b : Bool) (P : A → Type 0) (x y : A) → (b ≡ true → P x) → (b ≡ false → P y) → P (cond b x y)
@@ -87,7 +92,8 @@ unfolding count_at
 fixed_again n rest = refl
 
 -- bytes over none, after their length
-raw_again : (s rest : List ℕ) (count : Count) (after : List ℕ) → count_at count after ≡ read (length s) (s ++ rest) → raw_over [] count after ≡ read s rest
+raw_again : (s rest : List ℕ) (count : Count) (after : List ℕ)
+    → count_at count after ≡ read (length s) (s ++ rest) → raw_over [] count after ≡ read s rest
 unfolding raw_over
 raw_again s rest count after e =
     rw e (split (eqb (length s) 0) (λ (reading : Reading (List ℕ)). reading (s ++ rest) ≡ read s rest) (gives []) (bytes_at (length s))
@@ -100,22 +106,26 @@ short_bytes s rest lt = rw (short_form (length s) lt) (raw_again s rest (Fixed (
 
 long_bytes : (s rest : List ℕ) → length s < 2 ^ 16 → field_bytes_at [] ((0xda ∷ big_bytes 2 (length s) ++ s) ++ rest) ≡ read s rest
 unfolding field_bytes_at bytes_of form_of long_form_of
-long_bytes s rest lt = rw (append_assoc (big_bytes 2 (length s)) s rest) (raw_again s rest Two (big_bytes 2 (length s) ++ (s ++ rest)) (two_again (length s) (s ++ rest) lt))
+long_bytes s rest lt = rw (append_assoc (big_bytes 2 (length s)) s rest)
+    (raw_again s rest Two (big_bytes 2 (length s) ++ (s ++ rest)) (two_again (length s) (s ++ rest) lt))
 
 pub field_bytes_again : (s rest : List ℕ) → length s < 2 ^ 16 → field_bytes_at [] (raw_text s ++ rest) ≡ read s rest
 unfolding raw_text
 field_bytes_again s rest lt =
-    split (ltb (length s) 32) (λ head. field_bytes_at [] ((head ++ s) ++ rest) ≡ read s rest) ((0xa0 + length s) ∷ []) (0xda ∷ big_bytes 2 (length s))
+    split (ltb (length s) 32) (λ head. field_bytes_at [] ((head ++ s) ++ rest) ≡ read s rest)
+    ((0xa0 + length s) ∷ []) (0xda ∷ big_bytes 2 (length s))
     (λ e. short_bytes s rest (ltb-true _ _ e)) (λ _. long_bytes s rest lt)
 
 -- ---- a field of a map
 
 -- the value of a field is read into its slot
-pub long_again : (old : Option Slot) (v : ℕ) (rest : List ℕ) → v < 2 ^ 32 → value_at kinds.Uint32 old (number_text v ++ rest) ≡ read (long v) rest
+pub long_again : (old : Option Slot) (v : ℕ) (rest : List ℕ) → v < 2 ^ 32
+    → value_at kinds.Uint32 old (number_text v ++ rest) ≡ read (long v) rest
 unfolding value_at
 long_again old v rest lt = rw (number_again 0xffff_ffff v rest (omega arith) (omega arith)) refl
 
-pub string_again : (old : Option Slot) (s rest : List ℕ) → length s < 2 ^ 16 → value_at kinds.Text old (raw_text s ++ rest) ≡ read (raw s) rest
+pub string_again : (old : Option Slot) (s rest : List ℕ) → length s < 2 ^ 16
+    → value_at kinds.Text old (raw_text s ++ rest) ≡ read (raw s) rest
 unfolding value_at
 string_again old s rest lt = rw (text_again s rest lt) refl
 
@@ -125,10 +135,13 @@ array_again s rest lt = rw (field_bytes_again s rest lt) refl
 
 -- a key of the layout and its value
 pub pair_again : (layout : Fields) (slots : Slots) (key value rest : List ℕ) (place : ℕ) (filling : Slot) → length key < 2 ^ 16
-    → place_of layout key ≡ Some place → place < length layout → value_at (get_or layout place no_field).kind (slot slots place) (value ++ rest) ≡ read filling rest
+    → place_of layout key ≡ Some place → place < length layout
+    → value_at (get_or layout place no_field).kind (slot slots place)
+    (value ++ rest) ≡ read filling rest
     → pair_at layout slots ((raw_text key ++ value) ++ rest) ≡ filled (set slots place (Some filling)) rest
 unfolding slot_at
 pair_again layout slots key value rest place filling short found within e =
     ap (pair_at layout slots) (append_assoc (raw_text key) value rest)
-    ∙ known_pair layout slots (raw_text key ++ (value ++ rest)) key (value ++ rest) place no_field (text_again key (value ++ rest) short) found within
+    ∙ known_pair layout slots (raw_text key ++ (value ++ rest)) key (value ++ rest) place no_field
+    (text_again key (value ++ rest) short) found within
     ∙ rw e refl

@@ -30,7 +30,8 @@ begins _ _ _ (opened m ms ls n parts is rest) = inr (record { parts = parts; is 
 pub one_answer : (ms xs ys : List (List ℕ)) (a b : ℕ) → AreLeaves ms xs a → AreLeaves ms ys b → (xs ≡ ys) × (a ≡ b)
 one_answer _ _ ys _ b none h = let i = begins [] ys b h in (sym i.0, sym i.1)
 one_answer _ _ ys _ b (leaf m ms ls n is rest) h = elim (begins (m ∷ ms) ys b h) [
-  | inl other ↦ let same = one_answer ms ls other.later n b rest other.rest in (ap (λ (zs : List (List ℕ)). m ∷ zs) same.0 ∙ sym other.leaves, same.1)
+  | inl other ↦ let same = one_answer ms ls other.later n b rest other.rest
+      in (ap (λ (zs : List (List ℕ)). m ∷ zs) same.0 ∙ sym other.leaves, same.1)
   | inr other ↦ let some = other.is in absurd (cc (is, some))
 ]
 one_answer _ _ ys _ b (opened m ms ls n parts is rest) h = elim (begins (m ∷ ms) ys b h) [
@@ -39,6 +40,10 @@ one_answer _ _ ys _ b (opened m ms ls n parts is rest) h = elim (begins (m ∷ m
       let some = other.is in
       let e : other.parts ≡ parts = cc (is, some) in
       let again = subst (λ (p : PartsValue). AreLeaves (parts_in p.lens p.bytes ++ ms) ys other.more) e other.rest in
-      let same = one_answer (parts_in parts.lens parts.bytes ++ ms) ls ys n other.more rest again in
-      (same.0, ap (λ (k : ℕ). truncated_in parts.lens parts.bytes + k) same.1 ∙ (ap (λ (p : PartsValue). truncated_in p.lens p.bytes + other.more) (sym e) ∙ sym other.truncated))
+      let same = one_answer (parts_in parts.lens parts.bytes ++ ms) ls ys n other.more rest again in (
+        same.0,
+        ap (λ (k : ℕ). truncated_in parts.lens parts.bytes + k) same.1
+            ∙ (ap (λ (p : PartsValue). truncated_in p.lens p.bytes + other.more) (sym e)
+            ∙ sym other.truncated),
+      )
 ]

@@ -5,7 +5,8 @@ use Rattle.memberlist_message.specs.declared.layout.Key.TheVariants as keys
 use Rattle.memberlist_message.specs.Forms.{form_of}
 use Rattle.memberlist_message.specs.Keys.{key_text}
 use Rattle.memberlist_message.specs.Layouts.{ack_layout, nack_layout, error_layout}
-use Rattle.memberlist_message.specs.Messages.{AckValue, MessageValue, message_of, message_after, claimless_after, ack_after, nack_after, error_after}
+use Rattle.memberlist_message.specs.Messages.{AckValue, MessageValue, message_of, message_after, claimless_after}
+use Rattle.memberlist_message.specs.Messages.{ack_after, nack_after, error_after}
 use Rattle.memberlist_message.specs.Reading.{count_at, fields_at, fields_of, in_map}
 use Rattle.memberlist_message.specs.Slots.{no_slots}
 use Rattle.memberlist_message.specs.Slots.Slot.{long, raw}
@@ -21,7 +22,8 @@ pub nack_again : (seq_no : ℕ) → seq_no < 2 ^ 32 → message_of (nack_bytes s
 unfolding message_of message_after claimless_after nack_after fields_at fields_of in_map count_at form_of
 nack_again seq_no lt =
     let key = key_text keys.SeqNo in
-    let first = pair_again nack_layout no_slots key (number_text seq_no) [] 0 (long seq_no) (omega arith) refl (omega arith) (long_again None seq_no [] lt) in
+    let first = pair_again nack_layout no_slots key (number_text seq_no) [] 0 (long seq_no)
+    (omega arith) refl (omega arith) (long_again None seq_no [] lt) in
     let all = one_pair nack_layout 1 0 no_slots _ _ _ refl first ∙ no_pairs nack_layout 0 _ _ refl in
     rw all refl
 
@@ -29,7 +31,8 @@ pub error_again : (text : List ℕ) → length text < 2 ^ 16 → message_of (err
 unfolding message_of message_after claimless_after error_after fields_at fields_of in_map count_at form_of
 error_again text lt =
     let key = key_text keys.Error in
-    let first = pair_again error_layout no_slots key (raw_text text) [] 0 (raw text) (omega arith) refl (omega arith) (string_again None text [] lt) in
+    let first = pair_again error_layout no_slots key (raw_text text) [] 0 (raw text) (omega arith) refl
+    (omega arith) (string_again None text [] lt) in
     let all = one_pair error_layout 1 0 no_slots _ _ _ refl first ∙ no_pairs error_layout 0 _ _ refl in
     rw all refl
 
@@ -37,7 +40,10 @@ pub ack_again : (a : AckValue) → a.seq_no < 2 ^ 32 → length a.payload < 2 ^ 
 unfolding message_of message_after claimless_after ack_after fields_at fields_of in_map count_at form_of
 ack_again a lt short =
     let seq = raw_text (key_text keys.SeqNo) ++ number_text a.seq_no in
-    let first = pair_again ack_layout no_slots (key_text keys.Payload) (raw_text a.payload) (seq ++ []) 1 (raw a.payload) (omega arith) refl (omega arith) (array_again a.payload (seq ++ []) short) in
-    let second = pair_again ack_layout _ (key_text keys.SeqNo) (number_text a.seq_no) [] 0 (long a.seq_no) (omega arith) refl (omega arith) (long_again None a.seq_no [] lt) in
-    let all = one_pair ack_layout 2 1 no_slots _ _ _ refl first ∙ one_pair ack_layout 1 0 _ _ _ _ refl second ∙ no_pairs ack_layout 0 _ _ refl in
+    let first = pair_again ack_layout no_slots (key_text keys.Payload) (raw_text a.payload) (seq ++ []) 1
+    (raw a.payload) (omega arith) refl (omega arith) (array_again a.payload (seq ++ []) short) in
+    let second = pair_again ack_layout _ (key_text keys.SeqNo) (number_text a.seq_no) [] 0 (long a.seq_no)
+    (omega arith) refl (omega arith) (long_again None a.seq_no [] lt) in
+    let all = one_pair ack_layout 2 1 no_slots _ _ _ refl first ∙ one_pair ack_layout 1 0 _ _ _ _ refl second
+    ∙ no_pairs ack_layout 0 _ _ refl in
     rw all refl

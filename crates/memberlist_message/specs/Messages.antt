@@ -9,7 +9,8 @@ use Rattle.memberlist_message.specs.declared.message.Ack.{Ack}
 use Rattle.memberlist_message.specs.declared.message.Message.{Message}
 use Rattle.memberlist_message.specs.declared.message.Message.TheVariants as messages
 use Rattle.memberlist_message.specs.Claims.{alive_of, suspect_of, dead_of, and_then, long_in, short_in, raw_in}
-use Rattle.memberlist_message.specs.Layouts.{ping_layout, indirect_ping_layout, ack_layout, nack_layout, error_layout, accusation_layout, alive_layout}
+use Rattle.memberlist_message.specs.Layouts.{ping_layout, indirect_ping_layout, ack_layout, nack_layout, error_layout}
+use Rattle.memberlist_message.specs.Layouts.{accusation_layout, alive_layout}
 use Rattle.memberlist_message.specs.Reading.{Fields, fields_at, without_rest}
 use Rattle.memberlist_message.specs.Slots.{Slots, slot, flag_or_false}
 

@@ -2,7 +2,11 @@
 
 ghost use Rattle.std.specs.Prelude.{◌≡◌, ◌≢◌, Ok, MatchResult, IfOk};
 ghost use Rattle.memberlist_message.specs.Claims.{raw_in, long_in};
-ghost use Rattle.memberlist_message.specs.Messages.{message_of, message_after, claim_after, claimless_after, alive_after, suspect_after, dead_after, ping_after, indirect_ping_after, ack_after, nack_after, error_after, message_value, ping_value, indirect_ping_value, ack_value, ping_of, indirect_ping_of, ack_of};
+ghost use Rattle.memberlist_message.specs.Messages.{message_of, message_after, claim_after, claimless_after};
+ghost use Rattle.memberlist_message.specs.Messages.{alive_after, suspect_after, dead_after, ping_after};
+ghost use Rattle.memberlist_message.specs.Messages.{indirect_ping_after, ack_after, nack_after, error_after};
+ghost use Rattle.memberlist_message.specs.Messages.{message_value, ping_value, indirect_ping_value, ack_value, ping_of};
+ghost use Rattle.memberlist_message.specs.Messages.{indirect_ping_of, ack_of};
 ghost use Rattle.memberlist_message.specs.Reading.{IsFault};
 ghost use Rattle.memberlist_message.specs.Values.{slots_of};
 

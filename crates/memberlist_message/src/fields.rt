@@ -2,7 +2,9 @@
 
 ghost use Rattle.std.specs.Prelude.{◌≡◌, ◌<◌, ◌≤◌, ℕ, List, Ok, length, MatchResult, OnOk, IfSome};
 ghost use Rattle.std.specs.Option.{option_map};
-ghost use Rattle.memberlist_message.specs.Reading.{IsFault, without_rest, in_map, in_list, fields_at, fields_of, pairs_at, pair_at, elements_at, place_of, slot_at, value_at};
+ghost use Rattle.std.specs.Str.{bytes_eq};
+ghost use Rattle.memberlist_message.specs.Reading.{IsFault, without_rest, in_map, in_list, fields_at, fields_of};
+ghost use Rattle.memberlist_message.specs.Reading.{pairs_at, pair_at, elements_at, place_of, slot_at, value_at};
 ghost use Rattle.memberlist_message.specs.Slots.{long_or_zero, short_or_zero, raw_or_empty, flag_or_false};
 ghost use Rattle.memberlist_message.specs.Values.{bytes_in, slot_of, slots_of};
 ghost use Rattle.memberlist_message.specs.declared.fields.TheConstants.{SLOTS};
@@ -184,7 +186,16 @@ fn place_of(layout: &[Field], key: &[u8]) -> Option<usize>
     ensures place { result ≡ place_of layout.now key.now }
     ensures within { IfSome result (λ place. place < length layout.now) }
 {
-    layout.iter().position(|field| field.key.text() == key)
+    layout
+        .iter()
+        .position(|field| is_text(field.key.text(), key))
+}
+
+/// Whether a key is this text. Most keys differ in their first byte, which is compared first.
+fn is_text(text: &[u8], key: &[u8]) -> bool
+    ensures { result ≡ bytes_eq text.now key.now }
+{
+    text.first() == key.first() && text == key
 }
 
 /// Reads the value of the field at this index, and returns the bytes after it.

@@ -2,7 +2,8 @@
 
 ghost use Rattle.std.specs.Prelude.{◌≡◌, ◌<◌, ◌++◌, ◌∷◌, length, count_by, OnOk};
 ghost use Rattle.std.specs.List.{AllByRecursion, flat_map};
-ghost use Rattle.memberlist_message.specs.Writing.{is_optional, is_zero, is_written, entry_text, entries_text, entry_of, entries_of, spelled, IsShort};
+ghost use Rattle.memberlist_message.specs.Writing.{is_optional, is_zero, is_written, entry_text, entries_text};
+ghost use Rattle.memberlist_message.specs.Writing.{entry_of, entries_of, spelled, IsShort};
 
 use crate::layout::Key;
 use std::alloc::AllocError;

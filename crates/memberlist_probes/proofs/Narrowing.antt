@@ -23,7 +23,9 @@ neither : (host one other : IpAddr) (e : Ends) → (IsEnd one e → ⊥) → (Is
 neither host one other e first second end (inl is) = first (same_end one host e (sym is) end)
 neither host one other e first second end (inr is) = second (same_end other host e (sym is) end)
 
-pub of_either : (packets : List Ends) (one other : IpAddr) (e : Ends) (a b : Bool) → MatchBool a (IsEnd one e) (IsEnd one e → ⊥) → MatchBool b (IsEnd other e) (IsEnd other e → ⊥) → IsPointOf packets (point.Either one other) → IsPointOf (e ∷ packets) (narrowed one other a b)
+pub of_either : (packets : List Ends) (one other : IpAddr) (e : Ends) (a b : Bool)
+    → MatchBool a (IsEnd one e) (IsEnd one e → ⊥) → MatchBool b (IsEnd other e) (IsEnd other e → ⊥)
+    → IsPointOf packets (point.Either one other) → IsPointOf (e ∷ packets) (narrowed one other a b)
 of_either packets one other e true true first second is = λ host.
     (λ each. (is host).0 each.1, λ which. (one_of host one other e first second which, (is host).1 which))
 of_either packets one other e true false first second is = λ host. (
@@ -37,7 +39,9 @@ of_either packets one other e false true first second is = λ host. (
 of_either packets one other e false false first second is = λ host. λ each.
     neither host one other e first second each.0 ((is host).0 each.1)
 
-pub of_host : (packets : List Ends) (one : IpAddr) (e : Ends) (a : Bool) → MatchBool a (IsEnd one e) (IsEnd one e → ⊥) → IsPointOf packets (point.At one) → IsPointOf (e ∷ packets) (kept one a)
+pub of_host : (packets : List Ends) (one : IpAddr) (e : Ends) (a : Bool)
+    → MatchBool a (IsEnd one e) (IsEnd one e → ⊥) → IsPointOf packets (point.At one)
+    → IsPointOf (e ∷ packets) (kept one a)
 of_host packets one e true end is = λ host.
     (λ each. (is host).0 each.1, λ which. (same_end host one e which end, (is host).1 which))
 of_host packets one e false end is = λ host. λ each.

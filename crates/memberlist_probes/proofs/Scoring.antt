@@ -12,13 +12,15 @@ step_monotone Refuted low high le = omega (arith, le)
 pub monotone : (changes : List Change) (low high : ℕ) → low ≤ high → scored low changes ≤ scored high changes
 unfolding scored
 monotone [] low high le = le
-monotone (change ∷ changes) low high le = monotone changes (score_after low change) (score_after high change) (step_monotone change low high le)
+monotone (change ∷ changes) low high le = monotone changes (score_after low change) (score_after high change)
+    (step_monotone change low high le)
 
 worse_within : (score by : ℕ) → worse score by ≤ score + by
 worse_within score by = omega arith
 
 -- as many answers as the greatest score and the points bring both to the same
-pub meet : (changes : List Change) (low high : ℕ) → low ≤ high → high + points changes ≤ answers changes → scored low changes ≡ scored high changes
+pub meet : (changes : List Change) (low high : ℕ) → low ≤ high → high + points changes ≤ answers changes
+    → scored low changes ≡ scored high changes
 unfolding scored points answers
 meet [] low high le enough = omega (arith, le, enough)
 meet (Answered ∷ changes) low zero le enough = let none : low ≡ zero = omega (arith, le) in ap (λ n. scored (n - 1) changes) none

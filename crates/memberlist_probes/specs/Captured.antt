@@ -1,5 +1,6 @@
 -- What captures have of the packets of a probe.
-use Rattle.std.specs.Prelude.{Bool, nat_eq, ◌≡◌, ℕ, ◌+◌, ◌≤◌, Option, Some, None, IfSome, List, All, Contains, slice_get, ◌-◌, MatchBool, MatchOption}
+use Rattle.std.specs.Prelude.{Bool, nat_eq, ◌≡◌, ℕ, ◌+◌, ◌≤◌, Option, Some, None, IfSome, List, All, Contains}
+use Rattle.std.specs.Prelude.{slice_get, ◌-◌, MatchBool, MatchOption}
 use Rattle.std.specs.List.{list_any}
 use Rattle.std.specs.declared.net.ip_addr.IpAddr.{IpAddr}
 use Rattle.memberlist_probes.specs.declared.captures.Capture.{Capture}

@@ -15,7 +15,8 @@ IsSettled world step = IfSome (when step world) (λ time.
 
 -- The captures miss nothing of the ping and its ack, all is over within ten seconds, the clocks of two
 -- captures differ by a second at most, and those at one host not at all.
-pub record AreComplete (captures : List Capture) (pings acks : List Sighting) (prober target : IpAddr) (world : World) (ahead : ℕ → ℕ) (clocks : Clocks) : Type 0 where
+pub record AreComplete (captures : List Capture) (pings acks : List Sighting) (prober target : IpAddr)
+    (world : World) (ahead : ℕ → ℕ) (clocks : Clocks) : Type 0 where
   pub obeys : Obeys world
   pub arrival : IsSettled world ping_arrived
   pub answer : IsSettled world ack_sent

@@ -1,5 +1,6 @@
 -- What may become of a probe: the ping that a prober sends to its target, and the ack.
-use Rattle.std.specs.Prelude.{◌≡◌, ℕ, ◌-◌, ◌/◌, ◌≤◌, nat_eq, nat_lt, nat_le, if◌then◌else◌, Option, Some, None, IsSome, IfSome, List, [], ◌∷◌}
+use Rattle.std.specs.Prelude.{◌≡◌, ℕ, ◌-◌, ◌/◌, ◌≤◌, nat_eq, nat_lt, nat_le, if◌then◌else◌, Option, Some, None, IsSome}
+use Rattle.std.specs.Prelude.{IfSome, List, [], ◌∷◌}
 use Rattle.std.specs.List.{AllByRecursion}
 use Rattle.memberlist_probes.specs.declared.explanation.Explanation.{Explanation}
 use Rattle.memberlist_probes.specs.declared.explanation.Explanation.TheVariants as explanation

@@ -1,6 +1,7 @@
 //! The captures, and when each of them has a packet.
 
-ghost use Rattle.std.specs.Prelude.{◌≡◌, ◌+◌, ◌≤◌, ◌∷◌, [], ◌++◌, if◌then◌else◌, Some, ◌⊎◌, OnOk, OnErr, All, MatchBool, MatchOption, Contains, slice_get};
+ghost use Rattle.std.specs.Prelude.{◌≡◌, ◌+◌, ◌≤◌, ◌∷◌, [], ◌++◌, if◌then◌else◌, Some, ◌⊎◌, OnOk, OnErr, All};
+ghost use Rattle.std.specs.Prelude.{MatchBool, MatchOption, Contains, slice_get};
 ghost use Rattle.memberlist_probes.specs.declared.captures.Sighting.{Sighting};
 ghost use Rattle.memberlist_probes.specs.Captured.{IsAt, IsCovering, Covers, IsSeenAt, WasNotSeen, WasSeen, has_capture};
 ghost use Rattle.memberlist_probes.specs.Points.{host_of};

@@ -7,7 +7,7 @@ use crate::fallbacks::Segment;
 use crate::health::Healths;
 use crate::pairs::Pairs;
 use crate::probe::Probe;
-use crate::probes::{Accusation, FOLLOWED, Packet, Probes};
+use crate::probes::{Accusation, FOLLOWED, Observed, Probes};
 use crate::timing::Timing;
 use memberlist_message::Message;
 use std::alloc::{AllocError, Global};
@@ -52,7 +52,7 @@ impl Detector {
     /// # Errors
     ///
     /// `AllocError` if out of memory.
-    pub fn packet(&mut self, packet: Packet) -> Result<(), AllocError> {
+    pub fn packet(&mut self, packet: Observed) -> Result<(), AllocError> {
         let seen = packet.seen;
         self.now = self.now.max(seen.time);
         self.captures
@@ -79,7 +79,7 @@ impl Detector {
     /// # Errors
     ///
     /// `AllocError` if out of memory.
-    pub fn message(&mut self, packet: Packet, message: &Message) -> Result<(), AllocError> {
+    pub fn message(&mut self, packet: Observed, message: &Message) -> Result<(), AllocError> {
         self.probes.take(&self.captures, packet, message)
     }
 
@@ -88,12 +88,12 @@ impl Detector {
     /// # Errors
     ///
     /// `AllocError` if out of memory.
-    pub fn segment(&mut self, packet: Packet, segment: Segment) -> Result<(), AllocError> {
+    pub fn segment(&mut self, packet: Observed, segment: Segment) -> Result<(), AllocError> {
         self.probes.segment(packet, segment)
     }
 
     /// Takes in that a capture has a refusal of a packet between these ends.
-    pub fn refusal(&mut self, packet: Packet, from: SocketAddr, to: SocketAddr) {
+    pub fn refusal(&mut self, packet: Observed, from: SocketAddr, to: SocketAddr) {
         self.captures.note_refusal(packet.seen.capture);
         self.probes.refuse(packet.seen.time, from, to);
     }

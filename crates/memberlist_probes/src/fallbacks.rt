@@ -3,7 +3,7 @@
 
 use crate::captures::{Sighting, Sightings};
 use crate::probe::Fallback;
-use crate::probes::{Key, Packet, Probes};
+use crate::probes::{Key, Observed, Probes};
 use std::alloc::AllocError;
 use std::net::SocketAddr;
 
@@ -43,7 +43,7 @@ impl Probes {
     /// # Errors
     ///
     /// `AllocError` if out of memory.
-    pub fn segment(&mut self, packet: Packet, segment: Segment) -> Result<(), AllocError> {
+    pub fn segment(&mut self, packet: Observed, segment: Segment) -> Result<(), AllocError> {
         if let Some(dial) = self.dials.get(&(packet.to, packet.from)).copied() {
             self.answer(dial, packet.seen.time, segment);
             return Ok(());
@@ -56,7 +56,7 @@ impl Probes {
     }
 
     /// Takes in the first SYN of a connection.
-    fn dial(&mut self, packet: Packet) -> Result<(), AllocError> {
+    fn dial(&mut self, packet: Observed) -> Result<(), AllocError> {
         let time = packet.seen.time;
         let Some((sent, probe)) = self.dialling(packet.from, packet.to, time) else {
             return Ok(());

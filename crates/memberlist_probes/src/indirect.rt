@@ -2,7 +2,7 @@
 
 use crate::captures::{Captures, Sightings};
 use crate::probe::{Helper, Probe};
-use crate::probes::{Key, Packet, Probes, is_of};
+use crate::probes::{Key, Observed, Probes, is_of};
 use memberlist_message::IndirectPing;
 use std::alloc::{AllocError, Global};
 use std::collections::BTreeMap;
@@ -37,7 +37,7 @@ impl Probes {
     pub(crate) fn indirect_ping(
         &mut self,
         captures: &Captures,
-        packet: Packet,
+        packet: Observed,
         ping: &IndirectPing,
     ) -> Result<(), AllocError> {
         self.ask(captures, packet, ping)?;
@@ -70,7 +70,7 @@ impl Probes {
     fn follow_unseen(
         &mut self,
         key: Key,
-        packet: Packet,
+        packet: Observed,
         ping: &IndirectPing,
     ) -> Result<(), AllocError> {
         let Some(to) = target_of(ping) else {
@@ -103,7 +103,7 @@ impl Probes {
     fn ask(
         &mut self,
         captures: &Captures,
-        packet: Packet,
+        packet: Observed,
         ping: &IndirectPing,
     ) -> Result<(), AllocError> {
         if MAX_ASKED <= self.asked.len() {
@@ -139,7 +139,7 @@ impl Probes {
     pub(crate) fn asked_by(
         &mut self,
         captures: &Captures,
-        packet: Packet,
+        packet: Observed,
         node: &[u8],
     ) -> Result<Option<Key>, AllocError> {
         let key = (packet.from, node.to_vec(self.alloc)?);
@@ -167,7 +167,7 @@ impl Probes {
 }
 
 /// The member that an indirect ping asks.
-fn helper_of(alloc: Global, packet: Packet, ping: &IndirectPing) -> Result<Helper, AllocError> {
+fn helper_of(alloc: Global, packet: Observed, ping: &IndirectPing) -> Result<Helper, AllocError> {
     let mut asked = Sightings::new(alloc);
     asked.note(packet.seen)?;
     Ok(Helper {

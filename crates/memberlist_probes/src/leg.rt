@@ -2,7 +2,9 @@
 
 ghost use Rattle.std.specs.Prelude.{◌≡◌, true, ◌&&◌, ◌/◌, max};
 ghost use Rattle.memberlist_probes.specs.Showing.{Clocks, Shows, IsComplete};
-ghost use Rattle.memberlist_probes.specs.Telling.{elapsed, own_least, own_most, whole_least, whole_most, is_answered, may_pass, may_answer, may_return, may_exceed, may_be_twice, may_be_unrefused, is_refused, may_be};
+ghost use Rattle.memberlist_probes.specs.Telling.{elapsed, own_least, own_most, whole_least, whole_most, is_answered};
+ghost use Rattle.memberlist_probes.specs.Telling.{may_pass, may_answer, may_return, may_exceed, may_be_twice};
+ghost use Rattle.memberlist_probes.specs.Telling.{may_be_unrefused, is_refused, may_be};
 ghost use Rattle.memberlist_probes.specs.Worlds.{World, Obeys, truth};
 
 use crate::Explanation;

@@ -51,5 +51,5 @@ pub use outcome::{Answers, Outcome, Terms};
 pub use pairs::{Left, Names, Outcomes, Pair, Pairs};
 pub use point::Point;
 pub use probe::{Fallback, Helper, Probe};
-pub use probes::{Accusation, Packet, Probes, SAME};
+pub use probes::{Accusation, Observed, Probes, SAME};
 pub use timing::Timing;

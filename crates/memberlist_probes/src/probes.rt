@@ -28,7 +28,7 @@ const MAX_OPEN: usize = 65_536;
 
 /// A packet that a capture has.
 #[derive(Clone, Copy)]
-pub struct Packet {
+pub struct Observed {
     pub seen: Sighting,
     pub from: SocketAddr,
     pub to: SocketAddr,
@@ -95,7 +95,7 @@ impl Probes {
     pub fn take(
         &mut self,
         captures: &Captures,
-        packet: Packet,
+        packet: Observed,
         message: &Message,
     ) -> Result<(), AllocError> {
         match message {
@@ -206,7 +206,12 @@ impl Probes {
     }
 
     /// Takes in a ping: one that another capture has, too, or that of a new probe.
-    fn ping(&mut self, captures: &Captures, packet: Packet, ping: &Ping) -> Result<(), AllocError> {
+    fn ping(
+        &mut self,
+        captures: &Captures,
+        packet: Observed,
+        ping: &Ping,
+    ) -> Result<(), AllocError> {
         let key = (packet.from, ping.seq_no);
         let mut helpers = Vec::new(self.alloc);
         if let Some(probe) = self.open.get_mut(&key) {
@@ -267,7 +272,7 @@ impl Probes {
     }
 
     /// Notes at the prober's last ping of its own when this one followed.
-    fn follow_last(&mut self, packet: Packet, seq_no: u32) -> Result<(), AllocError> {
+    fn follow_last(&mut self, packet: Observed, seq_no: u32) -> Result<(), AllocError> {
         let Some(last) = self.last.insert(packet.from, seq_no)? else {
             return Ok(());
         };
@@ -286,7 +291,7 @@ impl Probes {
     }
 
     /// Takes in an ack: the target's own, or that of a member that was asked.
-    fn ack(&mut self, packet: Packet, seq_no: u32) -> Result<(), AllocError> {
+    fn ack(&mut self, packet: Observed, seq_no: u32) -> Result<(), AllocError> {
         let Some(probe) = self.open.get_mut(&(packet.to, seq_no)) else {
             return Ok(());
         };
@@ -304,7 +309,7 @@ impl Probes {
     }
 
     /// Takes in a nack of a member that was asked.
-    fn nack(&mut self, packet: Packet, seq_no: u32) -> Result<(), AllocError> {
+    fn nack(&mut self, packet: Observed, seq_no: u32) -> Result<(), AllocError> {
         let Some(probe) = self.open.get_mut(&(packet.to, seq_no)) else {
             return Ok(());
         };
@@ -325,7 +330,7 @@ pub(crate) fn is_of(probe: &Probe, name: &[u8]) -> bool {
 }
 
 /// Whether a ping is the one of this probe, in another capture.
-fn is_same(probe: &Probe, packet: Packet, ping: &Ping) -> bool {
+fn is_same(probe: &Probe, packet: Observed, ping: &Ping) -> bool {
     probe.to == packet.to
         && is_of(probe, &ping.node)
         && packet.seen.time.saturating_sub(probe.time()) <= SAME

@@ -13,8 +13,8 @@ fn end(number: u8) -> SocketAddr {
 }
 
 /// A packet that the capture with this number has, between these members, so many milliseconds on.
-fn packet(capture: usize, millis: u64, from: u8, to: u8) -> Packet {
-    Packet {
+fn packet(capture: usize, millis: u64, from: u8, to: u8) -> Observed {
+    Observed {
         seen: Sighting {
             capture,
             time: millis.saturating_mul(1000).saturating_add(1_000_000_000),

@@ -1,5 +1,6 @@
 -- The one message of a packet, in the clear or encrypted under a key.
-use Rattle.std.proofs.Common.{◌≡◌, ◌⊎◌, ◌∙◌, inl, inr, ℕ, List, [], ◌∷◌, Bool, true, false, MatchBool, Result, Ok, Err, IsOk, IfOk, IfErr, refl, ap, sym, subst, get_or, length, length-append, arith}
+use Rattle.std.proofs.Common.{◌≡◌, ◌⊎◌, ◌∙◌, inl, inr, ℕ, List, [], ◌∷◌, Bool, true, false, MatchBool, Result, Ok, Err}
+use Rattle.std.proofs.Common.{IsOk, IfOk, IfErr, refl, ap, sym, subst, get_or, length, length-append, arith}
 use Rattle.std.specs.List.{Contains}
 use Rattle.std.specs.Prelude.{◌≢◌}
 use Rattle.std.proofs.lemmas.List.Elements.{Contains-append_right}
@@ -14,7 +15,8 @@ use Rattle.memberlist_transport.specs.declared.message.Message.TheVariants.{Clai
 use Rattle.memberlist_transport.specs.declared.in_the_clear.InTheClear.{InTheClear}
 use Rattle.memberlist_transport.specs.InTheClear.{AcceptsClear}
 use Rattle.memberlist_transport.specs.Message.{IsMessage, IsNoMessage}
-use Rattle.memberlist_transport.specs.Packet.{HoldsClear, FailsClear, IsUnclear, Holds, Holds as held, Fails, Fails as failing, IsUnclearResult, HoldsOpened, FailsOpened}
+use Rattle.memberlist_transport.specs.Packet.{HoldsClear, FailsClear, IsUnclear, Holds, Holds as held, Fails}
+use Rattle.memberlist_transport.specs.Packet.{Fails as failing, IsUnclearResult, HoldsOpened, FailsOpened}
 
 -- bytes that are a message are not also none
 is_no_other : (bytes : List ℕ) (message : Message) (first : ℕ) → IsMessage bytes message → ¬ IsNoMessage bytes first
@@ -58,7 +60,8 @@ unclear_bytes bytes (Err Memory) fails unclear = absurd unclear
 clear_bytes : (bytes : List ℕ) (fault : PacketFault) → FailsClear bytes fault → ¬ IsUnclearResult (Err fault) → ¬ IsUnclear bytes
 clear_bytes bytes (Wrapped cause) is clear unclear = is.1 unclear.2.0 unclear.2.1
 clear_bytes bytes (NoMessage first) is clear unclear =
-    let begins : first ∷ is.2.0.0 ≡ unclear.0 ∷ unclear.2.2.0.0 = sym is.2.0.1 ∙ same_message bytes is.0 unclear.2.0 is.1 unclear.2.1 ∙ unclear.2.2.0.1 in
+    let begins : first ∷ is.2.0.0 ≡ unclear.0 ∷ unclear.2.2.0.0 = sym is.2.0.1
+    ∙ same_message bytes is.0 unclear.2.0 is.1 unclear.2.1 ∙ unclear.2.2.0.1 in
     let same : first ≡ unclear.0 = ap (λ l. get_or l 0 0) begins in clear (omega (arith, same, unclear.1))
 clear_bytes bytes NoKeyFits is clear unclear = absurd is
 clear_bytes bytes Unencrypted is clear unclear = absurd is
@@ -67,7 +70,9 @@ clear_bytes bytes Memory is clear unclear = absurd is
 -- ---- the result
 
 -- if there is no key, or the bytes are clear
-plainly : (policy : InTheClear) (keys : List (List ℕ)) (bytes : List ℕ) (fault : PacketFault) → (keys ≡ []) ⊎ (¬ IsUnclearResult (Err fault)) → FailsClear bytes fault → Fails policy keys bytes fault
+plainly : (policy : InTheClear) (keys : List (List ℕ)) (bytes : List ℕ) (fault : PacketFault)
+    → (keys ≡ []) ⊎ (¬ IsUnclearResult (Err fault)) → FailsClear bytes fault
+    → Fails policy keys bytes fault
 plainly policy keys bytes fault (inl none) fails = failing.clear fails (λ unclear. none)
 plainly policy keys bytes fault (inr clear) fails = failing.clear fails (λ unclear. absurd (clear_bytes bytes fault fails clear unclear))
 
@@ -77,18 +82,22 @@ pub kept : (policy : InTheClear) (keys : List (List ℕ)) (bytes : List ℕ) (pl
     → IfOk result (λ message. (accepted ≡ true) × (plain ≡ Ok message)) → IfOk result (Holds policy keys bytes)
 kept policy keys bytes plain (Err fault) accepted test holds is = tt
 kept policy keys bytes plain (Ok message) accepted test holds is =
-    held.clear (subst (λ b. MatchBool b (AcceptsClear policy keys) (¬ AcceptsClear policy keys)) is.0 test) (subst (λ p. IfOk p (HoldsClear bytes)) is.1 holds)
+    held.clear (subst (λ b. MatchBool b (AcceptsClear policy keys) (¬ AcceptsClear policy keys)) is.0 test)
+    (subst (λ p. IfOk p (HoldsClear bytes)) is.1 holds)
 
-module _ (policy : InTheClear) (keys : List (List ℕ)) (bytes : List ℕ) (plain : Result Message PacketFault) (clear : (keys ≡ []) ⊎ (¬ IsUnclearResult plain)) where
+module _ (policy : InTheClear) (keys : List (List ℕ)) (bytes : List ℕ) (plain : Result Message PacketFault)
+    (clear : (keys ≡ []) ⊎ (¬ IsUnclearResult plain)) where
   as_failed : (fault : PacketFault) → plain ≡ Err fault → (keys ≡ []) ⊎ (¬ IsUnclearResult (Err fault))
   as_failed fault same = subst (λ p. (keys ≡ []) ⊎ (¬ IsUnclearResult p)) same clear
 
-  in_the_clear : (p : Result Message PacketFault) → p ≡ plain → IsOk p → IfOk plain (HoldsClear bytes) → (message : Message) × HoldsClear bytes message
+  in_the_clear : (p : Result Message PacketFault) → p ≡ plain → IsOk p → IfOk plain (HoldsClear bytes)
+      → (message : Message) × HoldsClear bytes message
   in_the_clear (Ok message) same is holds = (message, subst (λ q. IfOk q (HoldsClear bytes)) (sym same) holds)
   in_the_clear (Err fault) same is holds = absurd (cc (is))
 
   pub refused : (result : Result Message PacketFault) (accepted : Bool)
-      → MatchBool accepted (AcceptsClear policy keys) (¬ AcceptsClear policy keys) → IfOk plain (HoldsClear bytes) → IfErr plain (λ fault. fault ≢ Memory → FailsClear bytes fault)
+      → MatchBool accepted (AcceptsClear policy keys) (¬ AcceptsClear policy keys)
+      → IfOk plain (HoldsClear bytes) → IfErr plain (λ fault. fault ≢ Memory → FailsClear bytes fault)
       → IfErr result (λ fault. (plain ≡ Err fault) ⊎ ((accepted ≡ false) × IsOk plain × (fault ≡ Unencrypted)))
       → IfErr result (λ fault. fault ≢ Memory → Fails policy keys bytes fault)
   refused (Ok message) accepted test holds fails is = tt
@@ -96,13 +105,17 @@ module _ (policy : InTheClear) (keys : List (List ℕ)) (bytes : List ℕ) (plai
       plainly policy keys bytes fault (as_failed fault same) (subst (λ p. IfErr p (λ f. f ≢ Memory → FailsClear bytes f)) same fails seen)
   refused (Err fault) accepted test holds fails (inr other) = λ seen.
       let message = in_the_clear plain refl other.1 holds in
-      failing.unencrypted message.0 message.1 (subst (λ b. MatchBool b (AcceptsClear policy keys) (¬ AcceptsClear policy keys)) other.0 test) other.2
+      failing.unencrypted message.0 message.1
+      (subst (λ b. MatchBool b (AcceptsClear policy keys)
+      (¬ AcceptsClear policy keys)) other.0 test) other.2
 
 -- if a key is tried
-pub opened : (policy : InTheClear) (keys : List (List ℕ)) (bytes : List ℕ) (message : Message) → IsUnclear bytes → HoldsOpened keys bytes message → Holds policy keys bytes message
+pub opened : (policy : InTheClear) (keys : List (List ℕ)) (bytes : List ℕ) (message : Message)
+    → IsUnclear bytes → HoldsOpened keys bytes message → Holds policy keys bytes message
 opened policy keys bytes message unclear holds = held.opened holds.0 unclear holds.1 holds.2
 
-pub closed : (policy : InTheClear) (keys : List (List ℕ)) (bytes : List ℕ) (fault : PacketFault) → IsUnclear bytes → keys ≢ [] → FailsOpened keys bytes fault → Fails policy keys bytes fault
+pub closed : (policy : InTheClear) (keys : List (List ℕ)) (bytes : List ℕ) (fault : PacketFault)
+    → IsUnclear bytes → keys ≢ [] → FailsOpened keys bytes fault → Fails policy keys bytes fault
 closed policy keys bytes fault unclear some fails = elim fails [
   | inl lacks ↦ failing.closed unclear some lacks.0 lacks.1
   | inr inside ↦ failing.opened inside.0 unclear inside.1 inside.2
@@ -133,14 +146,19 @@ opens_packet keys bytes inner p = record {
   encryption = p.first.opened;
 }
 
-pub no_message : (policy : InTheClear) (keys : List (List ℕ)) (bytes : List ℕ) (fault : PacketFault) → Fails policy keys bytes fault → (message : Message) → ¬ Holds policy keys bytes message
+pub no_message : (policy : InTheClear) (keys : List (List ℕ)) (bytes : List ℕ) (fault : PacketFault)
+    → Fails policy keys bytes fault → (message : Message) → ¬ Holds policy keys bytes message
 no_message policy keys bytes fault (failing.clear fails none) message (held.clear accepted holds) = no_clear bytes fault fails message holds
-no_message policy keys bytes fault (failing.clear fails none) message (held.opened inner unclear opens holds) = no_keys keys bytes inner (none unclear) opens
+no_message policy keys bytes fault (failing.clear fails none) message
+    (held.opened inner unclear opens holds) = no_keys keys bytes inner (none unclear) opens
 no_message policy keys bytes fault (failing.unencrypted other holds refuses same) message (held.clear accepted also) = refuses accepted
-no_message policy keys bytes fault (failing.unencrypted other holds refuses same) message (held.opened inner unclear opens also) = no_unclear bytes unclear other holds
-no_message policy keys bytes fault (failing.closed unclear some lacks same) message (held.clear accepted holds) = no_unclear bytes unclear message holds
+no_message policy keys bytes fault (failing.unencrypted other holds refuses same) message
+    (held.opened inner unclear opens also) = no_unclear bytes unclear other holds
+no_message policy keys bytes fault (failing.closed unclear some lacks same) message
+    (held.clear accepted holds) = no_unclear bytes unclear message holds
 no_message policy keys bytes fault (failing.closed unclear some lacks same) message (held.opened inner also opens holds) =
     lacks inner (opens_packet keys bytes inner opens)
-no_message policy keys bytes fault (failing.opened inner unclear opens fails) message (held.clear accepted holds) = no_unclear bytes unclear message holds
+no_message policy keys bytes fault (failing.opened inner unclear opens fails) message
+    (held.clear accepted holds) = no_unclear bytes unclear message holds
 no_message policy keys bytes fault (failing.opened inner unclear opens fails) message (held.opened other also opened holds) =
     no_clear inner fault fails message (subst (λ m. HoldsClear m message) (one_opened keys bytes other inner opened opens) holds)

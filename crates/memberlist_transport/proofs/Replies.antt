@@ -40,7 +40,8 @@ module _ {X : Type 0} (limit : ℕ) (policy : InTheClear) (keys : List (List ℕ
   refuses (Err fault) read none = λ seen stream is.
       none seen stream (subst (λ (w : List ℕ). IsStreamIn limit policy keys w stream) (one_reading label bytes is.0 whole is.1 read) is.2)
 
-  pub reason : (result : Result X StreamFault) → IsReadAs label bytes whole → IfErr result (λ fault. fault ≢ Memory → ReasonFor limit policy keys whole fault)
+  pub reason : (result : Result X StreamFault) → IsReadAs label bytes whole
+      → IfErr result (λ fault. fault ≢ Memory → ReasonFor limit policy keys whole fault)
       → IfErr result (λ fault. fault ≢ Memory → ReasonForReply limit policy keys label bytes fault)
   reason (Ok stream) read why = tt
   reason (Err fault) read why = λ seen. (whole, read, why seen)

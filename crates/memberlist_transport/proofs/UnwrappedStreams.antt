@@ -31,12 +31,14 @@ module _ (limit : ℕ) (policy : InTheClear) (keys : List (List ℕ)) (bytes : L
     read_clear accepted begins = inside.clear accepted (λ sealed. absurd (unsealed begins sealed)) is
 
     -- what is in the clear is not read
-    pub none_clear : ¬ AcceptsClear policy keys → ¬ BeginsAsSealed message → (inner : List ℕ) → ¬ IsInsideStream limit policy keys bytes inner
+    pub none_clear : ¬ AcceptsClear policy keys → ¬ BeginsAsSealed message → (inner : List ℕ)
+        → ¬ IsInsideStream limit policy keys bytes inner
     none_clear refuses begins inner (inside.clear accepted untried wraps) = refuses accepted
     none_clear refuses begins inner (inside.opened plain sealed opens wraps) = unsealed begins sealed
 
     -- what is encrypted, and a key is tried
-    pub none_opened : keys ≢ [] → BeginsAsSealed message → ((plain inner : List ℕ) → OpensStreamFirst keys bytes plain → ¬ Unwraps limit plain inner)
+    pub none_opened : keys ≢ [] → BeginsAsSealed message
+        → ((plain inner : List ℕ) → OpensStreamFirst keys bytes plain → ¬ Unwraps limit plain inner)
         → (inner : List ℕ) → ¬ IsInsideStream limit policy keys bytes inner
     none_opened some begins lacks inner (inside.clear accepted untried wraps) = some (untried (message, is, begins))
     none_opened some begins lacks inner (inside.opened plain sealed opens wraps) = lacks plain inner opens wraps

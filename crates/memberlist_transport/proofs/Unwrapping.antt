@@ -24,13 +24,16 @@ module _ (policy : InTheClear) (keys : List (List ℕ)) (bytes : List ℕ) where
   none_bare none lacks inner (inside.opened plain opens wraps) = no_keys keys bytes plain none opens
 
   -- if a key decrypts it
-  pub none_opened : (plain : List ℕ) → OpensFirst keys bytes plain → ((inner : List ℕ) → ¬ Unwraps 1048576 plain inner) → (inner : List ℕ) → ¬ IsInside policy keys bytes inner
+  pub none_opened : (plain : List ℕ) → OpensFirst keys bytes plain
+      → ((inner : List ℕ) → ¬ Unwraps 1048576 plain inner) → (inner : List ℕ)
+      → ¬ IsInside policy keys bytes inner
   none_opened plain opens lacks inner (inside.clear accepted closed wraps) = closed plain (opens_packet keys bytes plain opens)
   none_opened plain opens lacks inner (inside.opened other also wraps) =
       lacks inner (subst (λ p. Unwraps 1048576 p inner) (one_opened keys bytes other plain also opens) wraps)
 
   -- if none does
-  pub none_closed : ((plain : List ℕ) → ¬ Opens keys bytes plain) → ((inner : List ℕ) → AcceptsClear policy keys → ¬ Unwraps 1048576 bytes inner)
+  pub none_closed : ((plain : List ℕ) → ¬ Opens keys bytes plain)
+      → ((inner : List ℕ) → AcceptsClear policy keys → ¬ Unwraps 1048576 bytes inner)
       → (inner : List ℕ) → ¬ IsInside policy keys bytes inner
   none_closed closed lacks inner (inside.clear accepted also wraps) = lacks inner accepted wraps
   none_closed closed lacks inner (inside.opened plain opens wraps) = closed plain (opens_packet keys bytes plain opens)

@@ -7,7 +7,8 @@ ghost use Rattle.memberlist_keyring.specs.Cutting.{IsRefused};
 ghost use Rattle.memberlist_keyring.specs.Opening.{OpensStream, OpensStreamFirst};
 ghost use Rattle.memberlist_wrap.specs.Wrapping.{Unwraps};
 ghost use Rattle.memberlist_transport.specs.InTheClear.{AcceptsClear};
-ghost use Rattle.memberlist_transport.specs.Stream.{BeginsAsStream, BeginsAsSealed, IsStreamIn, IsClearStream, ReasonFor, ReasonForClear, fault_of_start};
+ghost use Rattle.memberlist_transport.specs.Stream.{BeginsAsStream, BeginsAsSealed, IsStreamIn, IsClearStream};
+ghost use Rattle.memberlist_transport.specs.Stream.{ReasonFor, ReasonForClear, fault_of_start};
 
 use crate::fault::StreamFault;
 use crate::in_the_clear::InTheClear;

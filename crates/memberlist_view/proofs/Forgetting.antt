@@ -1,5 +1,6 @@
 -- A view without the members that it forgets is the view of what was heard about the others.
-use Rattle.std.proofs.Common.{◌≡◌, ◌≢◌, ℕ, Bool, true, false, not, cond, Option, Some, None, List, [], ◌∷◌, if◌then◌else◌, refl, sym, ap, ◌∙◌}
+use Rattle.std.proofs.Common.{◌≡◌, ◌≢◌, ℕ, Bool, true, false, not, cond, Option, Some, None, List, [], ◌∷◌}
+use Rattle.std.proofs.Common.{if◌then◌else◌, refl, sym, ap, ◌∙◌}
 use Rattle.std.specs.List.{filter}
 use Rattle.std.specs.Map.{keys_of}
 use Rattle.std.specs.Ordering.{is_eq}
@@ -77,7 +78,8 @@ gone keep wait name (heard ∷ past) old h = by_test (λ o. gone keep wait name 
     by_test : ((o : Option Entry) → shown_from wait name o (filter (λ h. keep (about h.said)) past) ≡ o)
         → (b : Bool) → keep (about heard.said) ≡ b
         → shown_from wait name old (cond b (heard ∷ filter (λ h. keep (about h.said)) past) (filter (λ h. keep (about h.said)) past)) ≡ old
-    by_test later true e = later (shown_next wait name old heard) ∙ apart wait name old heard (differ keep name (about heard.said) false h e)
+    by_test later true e = later (shown_next wait name old heard)
+        ∙ apart wait name old heard (differ keep name (about heard.said) false h e)
     by_test later false e = later old
 
 -- ---- the view

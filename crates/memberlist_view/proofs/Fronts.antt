@@ -1,5 +1,6 @@
 -- The prefixes of two names, as numbers, are ordered as the names are.
-use Rattle.std.proofs.Common.{◌≡◌, ◌≢◌, ℕ, zero, suc, ◌+◌, ◌*◌, ◌^◌, ◌<◌, ◌≤◌, ◌⊎◌, inl, inr, List, [], ◌∷◌, drop, refl, sym, ap, ◌∙◌, arith, mul-le-mul_right, get_or-drop}
+use Rattle.std.proofs.Common.{◌≡◌, ◌≢◌, ℕ, zero, suc, ◌+◌, ◌*◌, ◌^◌, ◌<◌, ◌≤◌, ◌⊎◌, inl, inr, List, [], ◌∷◌, drop, refl}
+use Rattle.std.proofs.Common.{sym, ap, ◌∙◌, arith, mul-le-mul_right, get_or-drop}
 use Rattle.std.specs.Prelude.{slice_index}
 use Rattle.std.specs.Ordering.{nat_cmp, ordering_then, MatchOrdering}
 use Rattle.std.specs.declared.cmp.Ordering.{Ordering}
@@ -21,7 +22,9 @@ abbrev Bytes : List ℕ → Type 0
 Bytes xs = (k : ℕ) → slice_index xs k < 256
 
 -- equal bytes spell the same number
-pub big_from-same : (i n : ℕ) (xs ys : List ℕ) → ((k : ℕ) → i ≤ k → k < i + n → slice_index xs k ≡ slice_index ys k) → big_from i n xs ≡ big_from i n ys
+pub big_from-same : (i n : ℕ) (xs ys : List ℕ)
+    → ((k : ℕ) → i ≤ k → k < i + n → slice_index xs k ≡ slice_index ys k)
+    → big_from i n xs ≡ big_from i n ys
 big_from-same i zero xs ys same = refl
 big_from-same i (suc n) xs ys same =
     let first = same i (omega arith) (omega arith) in
@@ -58,7 +61,8 @@ rises (suc n) (x ∷ xs) (y ∷ ys) small small' up =
   where
     by_answer : (name_cmp xs ys ≢ Greater → (big_from 0 n xs < big_from 0 n ys) ⊎ ((big_from 0 n xs ≡ big_from 0 n ys)
         × (name_cmp (drop n xs) (drop n ys) ≢ Greater)))
-        → (o : Ordering) → nat_cmp x y ≡ o → MatchOrdering o (x < y) (x ≡ y) (y < x) → (big_from 0 (suc n) (x ∷ xs) < big_from 0 (suc n) (y ∷ ys))
+        → (o : Ordering) → nat_cmp x y ≡ o → MatchOrdering o (x < y) (x ≡ y) (y < x)
+        → (big_from 0 (suc n) (x ∷ xs) < big_from 0 (suc n) (y ∷ ys))
         ⊎ ((big_from 0 (suc n) (x ∷ xs) ≡ big_from 0 (suc n) (y ∷ ys)) × (name_cmp (drop n xs) (drop n ys) ≢ Greater))
     by_answer later Less e below =
         let under : x < y = below in
@@ -89,10 +93,11 @@ not_above p q xs ys h g up = λ below. elim (rises 8 xs ys h.bytes g.bytes up) [
   ]
   | inr alike ↦ elim below [
     | inl over ↦ omega (arith, alike.0, over, h.high, g.high)
-    | inr over ↦ elim (rises 8 (drop 8 xs) (drop 8 ys) (λ k. rw get_or-drop (h.bytes (8 + k))) (λ k. rw get_or-drop (g.bytes (8 + k))) alike.1) [
-      | inl less ↦ omega (arith, less, over.1, h.low, g.low)
-      | inr same ↦ omega (arith, same.0, over.1, h.low, g.low)
-    ]
+    | inr over ↦ elim (rises 8 (drop 8 xs) (drop 8 ys) (λ k. rw get_or-drop (h.bytes (8 + k)))
+        (λ k. rw get_or-drop (g.bytes (8 + k))) alike.1) [
+          | inl less ↦ omega (arith, less, over.1, h.low, g.low)
+          | inr same ↦ omega (arith, same.0, over.1, h.low, g.low)
+        ]
   ]
 ]
 
@@ -115,15 +120,18 @@ ordered p q Greater below xs ys h g differ = sym (turned ys xs Less (below_less 
 pub by_high : (p q : Prefix) (o : Ordering) → o ≡ nat_cmp p.high q.high → MatchOrdering o (IsBelow p q) (Unit {0}) (IsBelow q p)
 by_high p q o is = by_answer o (ranked p.high q.high o is)
   where
-    by_answer : (o : Ordering) → MatchOrdering o (p.high < q.high) (p.high ≡ q.high) (q.high < p.high) → MatchOrdering o (IsBelow p q) (Unit {0}) (IsBelow q p)
+    by_answer : (o : Ordering) → MatchOrdering o (p.high < q.high) (p.high ≡ q.high) (q.high < p.high)
+        → MatchOrdering o (IsBelow p q) (Unit {0}) (IsBelow q p)
     by_answer Less below = inl below
     by_answer Equal same = tt
     by_answer Greater above = inl above
 
-pub by_low : (p q : Prefix) (o : Ordering) → p.high ≡ q.high → o ≡ nat_cmp p.low q.low → MatchOrdering o (IsBelow p q) (Unit {0}) (IsBelow q p)
+pub by_low : (p q : Prefix) (o : Ordering) → p.high ≡ q.high → o ≡ nat_cmp p.low q.low
+    → MatchOrdering o (IsBelow p q) (Unit {0}) (IsBelow q p)
 by_low p q o level is = by_answer o (ranked p.low q.low o is)
   where
-    by_answer : (o : Ordering) → MatchOrdering o (p.low < q.low) (p.low ≡ q.low) (q.low < p.low) → MatchOrdering o (IsBelow p q) (Unit {0}) (IsBelow q p)
+    by_answer : (o : Ordering) → MatchOrdering o (p.low < q.low) (p.low ≡ q.low) (q.low < p.low)
+        → MatchOrdering o (IsBelow p q) (Unit {0}) (IsBelow q p)
     by_answer Less below = inr (level, below)
     by_answer Equal same = tt
     by_answer Greater above = inr (sym level, above)

@@ -11,7 +11,10 @@ use Rattle.memberlist_view.specs.declared.heard.Heard.{Heard}
 use Rattle.memberlist_view.specs.declared.heard.Said.{Said}
 use Rattle.memberlist_view.specs.declared.heard.Said.TheVariants.{Alive, Suspect, Dead, Left, Seen}
 use Rattle.memberlist_view.specs.Heard.{about}
-use Rattle.memberlist_view.specs.Rules.{Change, name_cmp, is_passed_over, is_passed_rival, are_sound_versions, is_same_place, with_versions, is_gone, has_left, is_forgotten, alive_again, alive_at, alive, accused, suspected, ended, ended_in_record, ended_by, blank, lacks_place, seen_in, change_of_entry, change_by, change}
+use Rattle.memberlist_view.specs.Rules.{Change, name_cmp, is_passed_over, is_passed_rival, are_sound_versions}
+use Rattle.memberlist_view.specs.Rules.{is_same_place, with_versions, is_gone, has_left, is_forgotten, alive_again}
+use Rattle.memberlist_view.specs.Rules.{alive_at, alive, accused, suspected, ended, ended_in_record, ended_by, blank}
+use Rattle.memberlist_view.specs.Rules.{lacks_place, seen_in, change_of_entry, change_by, change}
 use Rattle.memberlist_view.specs.Shown.{changed, shown_next}
 use Rattle.memberlist_view.specs.Lasting.{is_same_kind, IsSince, IsSince as since}
 use Rattle.memberlist_view.proofs.Changing.{by_test, first_true}
@@ -71,7 +74,8 @@ module _ (time : ℕ) (entry : Entry) where
   began_as s e here other when = since.began (ap (λ t. is_same_kind t e.state) here ∙ other) when
 
   module _ (inc : ℕ) where
-    again_since : (details : DetailsValue) (joins : Bool) (s : State) → entry.state ≡ s → IfSome (alive_again s time entry inc details joins) Is
+    again_since : (details : DetailsValue) (joins : Bool) (s : State) → entry.state ≡ s
+        → IfSome (alive_again s time entry inc details joins) Is
     again_since details joins state.Noted e = began_as state.Noted _ e refl refl
     again_since details joins state.Seen e = kept_as state.Seen _ e refl refl
     again_since details joins state.Alive e = kept_as state.Alive _ e refl refl
@@ -84,14 +88,18 @@ module _ (time : ℕ) (entry : Entry) where
         (λ _. kept_as entry.state _ refl (same_kind_itself entry.state) refl)
         (λ _. again_since (with_versions entry.details details) joins entry.state refl)
     at_since (Some old) details joins = by_test Is (is_same_place old details) _ _
-        (λ _. by_test Is (nat_le inc entry.inc) None _ (λ _. tt) (λ _. again_since (with_versions entry.details details) joins entry.state refl))
+        (λ _. by_test Is (nat_le inc entry.inc) None _ (λ _. tt)
+        (λ _. again_since (with_versions entry.details details) joins entry.state refl))
         (λ _. by_test Is (has_left entry.state) _ _
         (λ left. began_as entry.state _ refl (left_not_alive entry.state left) refl)
-        (λ _. by_test Is (is_passed_rival entry.rivals details) None _ (λ _. tt) (λ _. kept_as entry.state _ refl (same_kind_itself entry.state) refl)))
+        (λ _. by_test Is (is_passed_rival entry.rivals details) None _ (λ _. tt)
+        (λ _. kept_as entry.state _ refl (same_kind_itself entry.state) refl)))
 
     alive_is_since : (wait : ℕ) (details : DetailsValue) (joins : Bool) → IfSome (alive wait time entry inc details joins) Is
     alive_is_since wait details joins = by_test Is (is_forgotten wait time entry) _ _
-        (λ late. by_test Is (nat_lt 0 inc) _ None (λ _. began_as entry.state _ refl (gone_not_alive entry.state (first_true (is_gone entry.state) _ late)) refl) (λ _. tt))
+        (λ late. by_test Is (nat_lt 0 inc) _ None
+        (λ _. began_as entry.state _ refl (gone_not_alive entry.state
+        (first_true (is_gone entry.state) _ late)) refl) (λ _. tt))
         (λ _. at_since entry.details details joins)
 
     accused_since : (by : List (List ℕ)) (from : Option (List ℕ)) → entry.state ≡ state.Suspect by → IfSome (accused by entry from) Is
@@ -130,7 +138,8 @@ module _ (time : ℕ) (entry : Entry) where
   seen_in_since (state.Dead by) place e = kept_as entry.state _ refl (same_kind_itself entry.state) refl
   seen_in_since state.Left place e = kept_as entry.state _ refl (same_kind_itself entry.state) refl
 
-of_entry_since : (wait time : ℕ) (entry : Entry) (said : Said) → IfSome (change_of_entry wait time entry said) (λ p. IsSince (Some entry) time p.0)
+of_entry_since : (wait time : ℕ) (entry : Entry) (said : Said)
+    → IfSome (change_of_entry wait time entry said) (λ p. IsSince (Some entry) time p.0)
 of_entry_since wait time entry (Alive name inc details joins) =
     by_test (Is time entry) (are_sound_versions details.vsn) _ None (λ _. alive_is_since time entry inc wait details joins) (λ _. tt)
 of_entry_since wait time entry (Suspect name inc from) =
@@ -165,11 +174,13 @@ as_it_was : (time : ℕ) (old : Option Entry) → IfSome old (IsSince old time)
 as_it_was time None = tt
 as_it_was time (Some entry) = since.kept entry refl (same_kind_itself entry.state) refl
 
-changed_since : (time : ℕ) (old : Option Entry) (what : Change) → IfSome what (λ p. IsSince old time p.0) → IfSome (changed old what) (IsSince old time)
+changed_since : (time : ℕ) (old : Option Entry) (what : Change) → IfSome what (λ p. IsSince old time p.0)
+    → IfSome (changed old what) (IsSince old time)
 changed_since time old None h = as_it_was time old
 changed_since time old (Some p) h = h
 
-pub next_since : (wait : ℕ) (name : List ℕ) (old : Option Entry) (heard : Heard) → IfSome (shown_next wait name old heard) (IsSince old heard.time)
+pub next_since : (wait : ℕ) (name : List ℕ) (old : Option Entry) (heard : Heard)
+    → IfSome (shown_next wait name old heard) (IsSince old heard.time)
 next_since wait name old heard = by_bool (is_eq (name_cmp name (about heard.said)))
   where
     by_bool : (b : Bool) → IfSome (if b then changed old (change wait old heard) else old) (IsSince old heard.time)

@@ -1,5 +1,6 @@
 -- Bytes that are compared eight at a time, as numbers.
-use Rattle.std.proofs.Common.{◌≡◌, ◌≢◌, ℕ, zero, suc, ◌+◌, ◌*◌, ◌^◌, ◌<◌, ◌≤◌, List, [], ◌∷◌, drop, length, refl, sym, ap, ◌∙◌, arith, mul-le-mul_right}
+use Rattle.std.proofs.Common.{◌≡◌, ◌≢◌, ℕ, zero, suc, ◌+◌, ◌*◌, ◌^◌, ◌<◌, ◌≤◌, List, [], ◌∷◌, drop, length, refl, sym}
+use Rattle.std.proofs.Common.{ap, ◌∙◌, arith, mul-le-mul_right}
 use Rattle.std.specs.Prelude.{slice_index}
 use Rattle.std.specs.Cmp.{nat_cmp_is}
 use Rattle.std.specs.Cmp.Lexicographic.{slice_cmp}
@@ -35,7 +36,9 @@ by_words zero xs ys small small' long long' = refl
 by_words (suc n) [] ys small small' long long' = absurd (omega (arith, long))
 by_words (suc n) (x ∷ xs) [] small small' long long' = absurd (omega (arith, long'))
 by_words (suc n) (x ∷ xs) (y ∷ ys) small small' long long' =
-    by_answer (by_words n xs ys (λ k. small (suc k)) (λ k. small' (suc k)) (omega (arith, long)) (omega (arith, long'))) (nat_cmp x y) refl (ranked x y (nat_cmp x y) refl)
+    by_answer (by_words n xs ys (λ k. small (suc k))
+    (λ k. small' (suc k)) (omega (arith, long)) (omega (arith, long'))) (nat_cmp x y) refl
+    (ranked x y (nat_cmp x y) refl)
   where
     front : big_from 1 n (x ∷ xs) ≡ big_from 0 n xs
     front = big_from-cons 0 n x xs
@@ -43,37 +46,48 @@ by_words (suc n) (x ∷ xs) (y ∷ ys) small small' long long' =
     front' : big_from 1 n (y ∷ ys) ≡ big_from 0 n ys
     front' = big_from-cons 0 n y ys
 
-    by_answer : slice_cmp nat_cmp xs ys ≡ ordering_then (nat_cmp (big_from 0 n xs) (big_from 0 n ys)) (slice_cmp nat_cmp (drop n xs) (drop n ys))
+    by_answer : slice_cmp nat_cmp xs ys ≡ ordering_then (nat_cmp (big_from 0 n xs) (big_from 0 n ys))
+        (slice_cmp nat_cmp (drop n xs) (drop n ys))
         → (o : Ordering) → nat_cmp x y ≡ o → MatchOrdering o (x < y) (x ≡ y) (y < x)
         → slice_cmp nat_cmp (x ∷ xs) (y ∷ ys) ≡ ordering_then (nat_cmp (big_from 0 (suc n) (x ∷ xs)) (big_from 0 (suc n) (y ∷ ys)))
         (slice_cmp nat_cmp (drop n xs) (drop n ys))
     by_answer later Less e below =
         let fits = big_from-lt 1 n (x ∷ xs) small in
         let more : (x + 1) * 256 ^ n ≤ y * 256 ^ n = mul-le-mul_right (256 ^ n) (omega (arith, below)) in
-        let less : Less ≡ nat_cmp (big_from 0 (suc n) (x ∷ xs)) (big_from 0 (suc n) (y ∷ ys)) = nat_cmp_is (big_from 0 (suc n) (x ∷ xs)) (big_from 0 (suc n) (y ∷ ys)) Less (omega (arith, fits, more)) in
+        let less : Less ≡ nat_cmp (big_from 0 (suc n) (x ∷ xs)) (big_from 0 (suc n) (y ∷ ys)) = nat_cmp_is
+        (big_from 0 (suc n) (x ∷ xs)) (big_from 0 (suc n) (y ∷ ys)) Less (omega (arith, fits, more))
+        in
         rw (e, sym less) refl
     by_answer later Equal e same =
         let level : x ≡ y = same in
         let top : x * 256 ^ n ≡ y * 256 ^ n = ap (λ z. z * 256 ^ n) level in
         let whole : nat_cmp (big_from 0 (suc n) (x ∷ xs)) (big_from 0 (suc n) (y ∷ ys)) ≡ nat_cmp (big_from 0 n xs) (big_from 0 n ys) =
         sym (nat_cmp_is (big_from 0 (suc n) (x ∷ xs)) (big_from 0 (suc n) (y ∷ ys)) (nat_cmp (big_from 0 n xs) (big_from 0 n ys))
-        (raised (big_from 0 n xs) (big_from 0 n ys) (big_from 0 (suc n) (x ∷ xs)) (big_from 0 (suc n) (y ∷ ys)) (omega (arith, front, front', top)))) in
-        ap (λ o. ordering_then o (slice_cmp nat_cmp xs ys)) e ∙ later ∙ ap (λ o. ordering_then o (slice_cmp nat_cmp (drop n xs) (drop n ys))) (sym whole)
+        (raised (big_from 0 n xs) (big_from 0 n ys) (big_from 0 (suc n) (x ∷ xs))
+        (big_from 0 (suc n) (y ∷ ys)) (omega (arith, front, front', top)))) in
+        ap (λ o. ordering_then o (slice_cmp nat_cmp xs ys)) e ∙ later ∙ ap
+        (λ o. ordering_then o (slice_cmp nat_cmp (drop n xs) (drop n ys))) (sym whole)
     by_answer later Greater e above =
         let fits = big_from-lt 1 n (y ∷ ys) small' in
         let more : (y + 1) * 256 ^ n ≤ x * 256 ^ n = mul-le-mul_right (256 ^ n) (omega (arith, above)) in
-        let greater : Greater ≡ nat_cmp (big_from 0 (suc n) (x ∷ xs)) (big_from 0 (suc n) (y ∷ ys)) = nat_cmp_is (big_from 0 (suc n) (x ∷ xs)) (big_from 0 (suc n) (y ∷ ys)) Greater (omega (arith, fits, more)) in
+        let greater : Greater ≡ nat_cmp (big_from 0 (suc n) (x ∷ xs))
+        (big_from 0 (suc n) (y ∷ ys)) = nat_cmp_is (big_from 0 (suc n) (x ∷ xs))
+        (big_from 0 (suc n) (y ∷ ys)) Greater (omega (arith, fits, more)) in
         rw (e, sym greater) refl
 
 -- the first eight bytes as a number
 abbrev pub word : List ℕ → ℕ
 word xs = big_from 0 8 xs
 
-pub if_unequal : (xs ys : List ℕ) → Bytes xs → Bytes ys → 8 ≤ length xs → 8 ≤ length ys → word xs ≢ word ys → slice_cmp nat_cmp xs ys ≡ nat_cmp (word xs) (word ys)
+pub if_unequal : (xs ys : List ℕ) → Bytes xs → Bytes ys → 8 ≤ length xs → 8 ≤ length ys → word xs ≢ word ys
+    → slice_cmp nat_cmp xs ys ≡ nat_cmp (word xs) (word ys)
 if_unequal xs ys small small' long long' differ =
-    by_words 8 xs ys small small' long long' ∙ by_answer (nat_cmp (word xs) (word ys)) (ranked (word xs) (word ys) (nat_cmp (word xs) (word ys)) refl)
+    by_words 8 xs ys small small' long long'
+    ∙ by_answer (nat_cmp (word xs) (word ys))
+    (ranked (word xs) (word ys) (nat_cmp (word xs) (word ys)) refl)
   where
-    by_answer : (o : Ordering) → MatchOrdering o (word xs < word ys) (word xs ≡ word ys) (word ys < word xs) → ordering_then o (slice_cmp nat_cmp (drop 8 xs) (drop 8 ys)) ≡ o
+    by_answer : (o : Ordering) → MatchOrdering o (word xs < word ys) (word xs ≡ word ys) (word ys < word xs)
+        → ordering_then o (slice_cmp nat_cmp (drop 8 xs) (drop 8 ys)) ≡ o
     by_answer Less below = refl
     by_answer Equal same = absurd (differ same)
     by_answer Greater above = refl

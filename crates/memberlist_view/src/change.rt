@@ -2,7 +2,11 @@
 
 ghost use Rattle.std.specs.Prelude.{◌≡◌, ◌∷◌, [], Some, IsSome, IfOk, OnErr};
 ghost use Rattle.std.specs.Option.{option_copied};
-ghost use Rattle.memberlist_view.specs.Rules.{are_sound_versions, with_versions, alive_since, alive_after, alive_elsewhere, first_event, alive_still, alive_again, believed, alive_unplaced, alive_placed, alive, accused, suspect_since, suspected, ended, ended_in_record, ended_by, seen_in, seen_at, change_of_entry, change};
+ghost use Rattle.memberlist_view.specs.Rules.{are_sound_versions, with_versions, alive_since, alive_after};
+ghost use Rattle.memberlist_view.specs.Rules.{alive_elsewhere, first_event, alive_still, alive_again, believed};
+ghost use Rattle.memberlist_view.specs.Rules.{alive_unplaced, alive_placed, alive, accused, suspect_since, suspected};
+ghost use Rattle.memberlist_view.specs.Rules.{ended, ended_in_record, ended_by, seen_in, seen_at, change_of_entry};
+ghost use Rattle.memberlist_view.specs.Rules.{change};
 
 use crate::accusers::Accusers;
 use crate::entry::{Entry, State, name_copy};

@@ -1,11 +1,13 @@
 //! The view of all names.
 
-ghost use Rattle.std.specs.Prelude.{◌≡◌, ◌↔◌, ◌+◌, ◌<◌, ◌^◌, ◌++◌, ◌∷◌, [], not, List, length, slice_get, IsSome, IfSome, IfOk, OnOk, OnErr, IsTrue};
+ghost use Rattle.std.specs.Prelude.{◌≡◌, ◌↔◌, ◌+◌, ◌<◌, ◌^◌, ◌++◌, ◌∷◌, [], not, List, length, slice_get, IsSome};
+ghost use Rattle.std.specs.Prelude.{IfSome, IfOk, OnOk, OnErr, IsTrue};
 ghost use Rattle.std.specs.BTreeMap.{insert_entry};
 ghost use Rattle.std.specs.Option.{option_copied, option_map};
 ghost use Rattle.memberlist_view.specs.declared.heard.Heard.{Heard};
 ghost use Rattle.memberlist_view.specs.Heard.{about};
-ghost use Rattle.memberlist_view.specs.Member.{about_others, entries_above, heeded, is_dropped, is_known, member_event_of, member_view_after, view_without_dropped};
+ghost use Rattle.memberlist_view.specs.Member.{about_others, entries_above, heeded, is_dropped, is_known};
+ghost use Rattle.memberlist_view.specs.Member.{member_event_of, member_view_after, view_without_dropped};
 ghost use Rattle.memberlist_view.specs.Rules.{name_cmp};
 ghost use Rattle.memberlist_view.specs.Told.{entry_of, change_of, event_of, view_after, IsViewOf};
 

@@ -1,5 +1,6 @@
 -- Codes and the bytes that they mean, as they are read.
-use Rattle.std.proofs.Common.{◌≡◌, ℕ, ◌+◌, ◌^◌, ◌<◌, ◌≤◌, List, [], ◌∷◌, ◌++◌, length, refl, sym, ap, subst, ◌∙◌, arith, append_assoc, inl, inr, get_or, drop, cond, ltb, Bool, true, false}
+use Rattle.std.proofs.Common.{◌≡◌, ℕ, ◌+◌, ◌^◌, ◌<◌, ◌≤◌, List, [], ◌∷◌, ◌++◌, length, refl, sym, ap, subst, ◌∙◌, arith}
+use Rattle.std.proofs.Common.{append_assoc, inl, inr, get_or, drop, cond, ltb, Bool, true, false}
 use Rattle.std.proofs.lemmas.List.{append-nil, length-append, at_drop_more, get_or_default, drop_more}
 use Rattle.memberlist_wrap.specs.Bits.{bits, bits_of}
 use Rattle.memberlist_wrap.specs.Lzw.{NextCode, kept_words, width, StandsFor, ReadsCodes, CodesGive}
@@ -8,7 +9,8 @@ use Rattle.memberlist_wrap.proofs.Polynomials.{length-bits}
 
 -- ---- codes after codes
 
-pub Reads-then : (words : List (List ℕ)) (codes all out : List ℕ) (after : List (List ℕ)) (rest codes' out' : List ℕ) (after' : List (List ℕ)) (rest' : List ℕ)
+pub Reads-then : (words : List (List ℕ)) (codes all out : List ℕ) (after : List (List ℕ))
+    (rest codes' out' : List ℕ) (after' : List (List ℕ)) (rest' : List ℕ)
     → ReadsCodes words codes all out after rest → ReadsCodes after codes' rest out' after' rest'
     → ReadsCodes words (codes ++ codes') all (out ++ out') after' rest'
 Reads-then words [] all out after rest codes' out' after' rest' first second =
@@ -17,7 +19,12 @@ Reads-then words [] all out after rest codes' out' after' rest' first second =
     let left = first.2 in
     rw (none, ← same, ← left) second
 Reads-then words (code ∷ codes) all out after rest codes' out' after' rest' first second = elim first.3 [
-  | inl clear ↦ (first.0, first.1, first.2, inl (clear.0, Reads-then [] codes first.0 out after rest codes' out' after' rest' clear.1 second))
+  | inl clear ↦ (
+    first.0,
+    first.1,
+    first.2,
+    inl (clear.0, Reads-then [] codes first.0 out after rest codes' out' after' rest' clear.1 second),
+  )
   | inr adds ↦ (
     first.0,
     first.1,
@@ -118,9 +125,18 @@ read_code bytes words held held' held'' i w code within more e taken =
     next_code words _ held' held'' _ w code (taken_in bytes held held' i (get_or bytes i 0) within refl more) e taken.0 taken.1
 
 -- few bits are left after a code
-pub few_left : (held held' held'' : List ℕ) (b w code : ℕ) → length held < w → held' ≡ held ++ bits 8 b → held' ≡ bits w code ++ held'' → length held'' < 8
+pub few_left : (held held' held'' : List ℕ) (b w code : ℕ) → length held < w → held' ≡ held ++ bits 8 b
+    → held' ≡ bits w code ++ held'' → length held'' < 8
 few_left held held' held'' b w code short more taken =
-    omega (arith, ap length more, ap length taken, length-append held (bits 8 b), length-append (bits w code) held'', length-bits 8 b, length-bits w code)
+    omega (
+      arith,
+      ap length more,
+      ap length taken,
+      length-append held (bits 8 b),
+      length-append (bits w code) held'',
+      length-bits 8 b,
+      length-bits w code,
+    )
 
 pub bits_of_some : (bytes : List ℕ) (i : ℕ) → i < length bytes → 8 ≤ length (bits_of (drop i bytes))
 bits_of_some bytes i within =
@@ -134,4 +150,5 @@ bits_of_some bytes i within =
 -- the held bits are few again
 pub few_again : (held held' held'' : List ℕ) (b w code n : ℕ) → length held < w → held' ≡ held ++ bits 8 b
     → held' ≡ bits w code ++ held'' → length held'' < width n
-few_again held held' held'' b w code n short more taken = omega (arith, few_left held held' held'' b w code short more taken, (width_between n).0)
+few_again held held' held'' b w code n short more taken = omega
+    (arith, few_left held held' held'' b w code short more taken, (width_between n).0)

@@ -1,8 +1,11 @@
 -- Words as parts of the output.
-use Rattle.std.proofs.Common.{◌≡◌, ℕ, zero, suc, ◌+◌, ◌-◌, ◌<◌, ◌≤◌, List, [], ◌∷◌, ◌++◌, length, get_or, take, drop, refl, sym, ap, subst, ◌∙◌, arith, append_assoc, add-one, inl, inr}
+use Rattle.std.proofs.Common.{◌≡◌, ℕ, zero, suc, ◌+◌, ◌-◌, ◌<◌, ◌≤◌, List, [], ◌∷◌, ◌++◌, length, get_or, take, drop}
+use Rattle.std.proofs.Common.{refl, sym, ap, subst, ◌∙◌, arith, append_assoc, add-one, inl, inr}
 use Rattle.std.specs.Bool.{⊤}
 use Rattle.std.specs.List.{concat}
-use Rattle.std.proofs.lemmas.List.{append-nil, take_rest, get_or-take, drop-drop, take-append-drop, drop_at, take_all, length-append, length-drop, length-take, drop-append-le, take-append-le, drop_all, drop_more, get_or_append_left, get_or_push, get_or_read}
+use Rattle.std.proofs.lemmas.List.{append-nil, take_rest, get_or-take, drop-drop, take-append-drop, drop_at, take_all}
+use Rattle.std.proofs.lemmas.List.{length-append, length-drop, length-take, drop-append-le, take-append-le, drop_all}
+use Rattle.std.proofs.lemmas.List.{drop_more, get_or_append_left, get_or_push, get_or_read}
 use Rattle.std.proofs.lemmas.Bool.{cases_lt}
 use Rattle.memberlist_wrap.specs.Lzw.{StandsFor}
 use Rattle.memberlist_wrap.specs.Lzw.StandsFor.{literal, again as repeated}
@@ -24,7 +27,8 @@ pub length-words_at : (output starts : List ℕ) → length (words_at output sta
 length-words_at output [] = refl
 length-words_at output (s ∷ r) = ap suc (length-words_at output r)
 
-pub concat_words_at : (output : List ℕ) (s : ℕ) (r : List ℕ) → AreStarts (length output) (s ∷ r) → concat (words_at output (s ∷ r)) ≡ drop s output
+pub concat_words_at : (output : List ℕ) (s : ℕ) (r : List ℕ) → AreStarts (length output) (s ∷ r)
+    → concat (words_at output (s ∷ r)) ≡ drop s output
 concat_words_at output s [] are = append-nil _ ∙ take_rest output s
 concat_words_at output s (e ∷ r) are =
     let up = are.ascending 0 (omega arith) in
@@ -50,7 +54,8 @@ pub words_at_grown : (output v starts : List ℕ) → AreStarts (length output) 
     → words_at (output ++ v) (starts ++ length output ∷ []) ≡ words_at output starts ++ v ∷ []
 words_at_grown output v [] are =
     same_cons _ _ _ _
-    (ap (take (length (output ++ v) - length output)) (drop_at output v (length output) refl) ∙ take_all _ v (omega (arith, length-append output v)))
+    (ap (take (length (output ++ v) - length output)) (drop_at output v (length output) refl)
+    ∙ take_all _ v (omega (arith, length-append output v)))
     refl
 words_at_grown output v (s ∷ r) are =
     let next = below_next (length output) s r are in
@@ -90,13 +95,22 @@ pub record WordAt (output starts : List ℕ) (place : ℕ) : Type 0 where
   pub after : List (List ℕ)
   pub parts : words_at output starts ≡ before ++ old ∷ after
   pub place_is : length before ≡ place
-  pub old_is : old ≡ take (next_start (length output) (drop (suc place) starts) - get_or starts place 0) (drop (get_or starts place 0) output)
+  pub old_is : old ≡ take (next_start (length output) (drop (suc place) starts) - get_or starts place 0)
+      (drop (get_or starts place 0) output)
   pub after_is : concat after ≡ drop (next_start (length output) (drop (suc place) starts)) output
 
 pub word_at : (output starts : List ℕ) (place : ℕ) → AreStarts (length output) starts → place < length starts → WordAt output starts place
 word_at output [] place are within = absurd (omega arith)
 word_at output (s ∷ []) zero are within =
-    record { before = []; old = _; after = []; parts = refl; place_is = refl; old_is = refl; after_is = sym (drop_all (length output) output (omega arith)) }
+    record {
+      before = [];
+      old = _;
+      after = [];
+      parts = refl;
+      place_is = refl;
+      old_is = refl;
+      after_is = sym (drop_all (length output) output (omega arith));
+    }
 word_at output (s ∷ e ∷ r) zero are within =
     record {
       before = [];
@@ -175,7 +189,8 @@ one_word words code a b full (repeated before old after p q r) (repeated before'
     ∙ sym r'
 
 -- a word that is repeated has one byte more
-longer : (old : List ℕ) (after : List (List ℕ)) (word : List ℕ) → 0 < length old → word ≡ old ++ take 1 (concat after ++ word) → length word ≡ length old + 1
+longer : (old : List ℕ) (after : List (List ℕ)) (word : List ℕ) → 0 < length old
+    → word ≡ old ++ take 1 (concat after ++ word) → length word ≡ length old + 1
 longer old after word full e =
     let z = concat after ++ word in
     omega (arith, ap length e, length-append old (take 1 z), length-take 1 z, length-append (concat after) word)
@@ -201,7 +216,8 @@ next_byte output part to x within full is =
 
 -- the repeated part
 pub Stands-again : (output starts : List ℕ) (place : ℕ) → AreStarts (length output) starts → place < length starts
-    → StandsFor (words_at output starts) (258 + place) (again output (get_or starts place 0) (next_start (length output) (drop (suc place) starts)))
+    → StandsFor (words_at output starts) (258 + place)
+    (again output (get_or starts place 0) (next_start (length output) (drop (suc place) starts)))
 Stands-again output starts place are within =
     let w = word_at output starts place are within in
     let from = get_or starts place 0 in
@@ -230,7 +246,12 @@ AreStarts-longer end more starts are up = record {
 pub length-again : (output : List ℕ) (from to : ℕ) → from < to → to ≤ length output → length (again output from to) ≡ to - from + 1
 length-again output from to some within =
     let part = take (to - from) (drop from output) in
-    omega (arith, length-append part (get_or (output ++ part) to 0 ∷ []), length-take (to - from) (drop from output), length-drop from output)
+    omega (
+      arith,
+      length-append part (get_or (output ++ part) to 0 ∷ []),
+      length-take (to - from) (drop from output),
+      length-drop from output,
+    )
 
 -- the ends of a part, as the code reads them
 pub record ReadEnds (out starts : List ℕ) (place from to : ℕ) : Type 0 where
@@ -278,21 +299,25 @@ words_at_longer (suc n) output v (s ∷ []) are within = absurd (omega arith)
 words_at_longer (suc n) output v (s ∷ e ∷ r) are within =
     let up = are.ascending 0 (omega arith) in
     let last = are.inside 1 (omega arith) in
-    same_cons _ _ _ _ (part_grown output v s e (omega arith) (omega arith)) (words_at_longer n output v (e ∷ r) (AreStarts-tail _ s (e ∷ r) are) (omega arith))
+    same_cons _ _ _ _ (part_grown output v s e (omega arith) (omega arith))
+    (words_at_longer n output v (e ∷ r) (AreStarts-tail _ s (e ∷ r) are) (omega arith))
 
 -- the words that are kept, after one more was output
 pub words_at_kept : (n : ℕ) (output v starts : List ℕ) → AreStarts (length output) starts → length starts ≤ suc n
     → take n (words_at (output ++ v) (take (suc n) (starts ++ length output ∷ []))) ≡ take n (take n (words_at output starts) ++ v ∷ [])
 words_at_kept n output v starts are few = elim (cases_lt (length starts) (suc n)) [
   | inl room ↦
-      ap (λ s. take n (words_at (output ++ v) s)) (take_all (suc n) (starts ++ length output ∷ []) (omega (arith, length-append starts (length output ∷ []))))
+      ap (λ s. take n (words_at (output ++ v) s))
+      (take_all (suc n) (starts ++ length output ∷ [])
+      (omega (arith, length-append starts (length output ∷ []))))
       ∙ ap (take n) (words_at_grown output v starts are)
       ∙ ap (λ x. take n (x ++ v ∷ [])) (sym (take_all n (words_at output starts) (omega (arith, length-words_at output starts))))
   | inr full ↦
       ap (λ s. take n (words_at (output ++ v) s)) (take-append-le (suc n) starts (length output ∷ []) full ∙ take_all (suc n) starts few)
       ∙ words_at_longer n output v starts are (omega arith)
       ∙ sym (
-      take-append-le n (take n (words_at output starts)) (v ∷ []) (omega (arith, length-take n (words_at output starts), length-words_at output starts))
+      take-append-le n (take n (words_at output starts)) (v ∷ [])
+      (omega (arith, length-take n (words_at output starts), length-words_at output starts))
       ∙ take_all n (take n (words_at output starts)) (omega (arith, length-take n (words_at output starts)))
       )
 ]
@@ -324,7 +349,8 @@ take_split (suc m) (w ∷ before) old after within =
     ap (λ l. w ∷ l) (take_split m before old after (omega arith)) ∙ ap (λ k. w ∷ before ++ old ∷ take k after) (sym same)
 
 -- the byte after a word is the first of the next word
-first_kept : (k : ℕ) (after : List (List ℕ)) (word : List ℕ) → AreFull after → 0 < k → take 1 (concat after ++ word) ≡ take 1 (concat (take k after) ++ word)
+first_kept : (k : ℕ) (after : List (List ℕ)) (word : List ℕ) → AreFull after → 0 < k
+    → take 1 (concat after ++ word) ≡ take 1 (concat (take k after) ++ word)
 first_kept zero after word full some = absurd (omega arith)
 first_kept (suc k) [] word full some = refl
 first_kept (suc k) ([] ∷ after) word full some = absurd (omega (arith, full.0))

@@ -10,8 +10,10 @@ abbrev of : List ℕ → List (List ℕ) → DecoderState
 of output words = record { output = output; words = words }
 
 -- what is seen after a word and its place were appended
-pub made_kept : (output starts v output' starts' : List ℕ) (n : ℕ) (now : DecoderState) → n ≡ length output → decoder_state output starts ≡ now → AreKept (length output) starts
-    → output' ≡ output ++ v → starts' ≡ take 3840 (starts ++ n ∷ []) → decoder_state output' starts' ≡ of (now.output ++ v) (kept_words now.words v)
+pub made_kept : (output starts v output' starts' : List ℕ) (n : ℕ) (now : DecoderState) → n ≡ length output
+    → decoder_state output starts ≡ now → AreKept (length output) starts
+    → output' ≡ output ++ v → starts' ≡ take 3840 (starts ++ n ∷ [])
+    → decoder_state output' starts' ≡ of (now.output ++ v) (kept_words now.words v)
 made_kept output starts v output' starts' n now end seen are e f =
     ap (λ o. decoder_state o starts') e
     ∙ ap (λ s. decoder_state (output ++ v) s) (f ∙ ap (λ k. take 3840 (starts ++ k ∷ [])) end)
@@ -25,7 +27,10 @@ pub AreKept-kept : (output v output' starts starts' : List ℕ) (n : ℕ) → n 
 AreKept-kept output v output' starts starts' n end are e some f =
     let places = f ∙ ap (λ k. take 3840 (starts ++ k ∷ [])) end in
     let up : length output < length output' = omega (arith, ap length e, length-append output v) in
-    rw places (AreStarts-kept 3840 (length output) (length output') starts are.0 up, omega (arith, length-take 3840 (starts ++ length output ∷ [])))
+    rw places (
+      AreStarts-kept 3840 (length output) (length output') starts are.0 up,
+      omega (arith, length-take 3840 (starts ++ length output ∷ [])),
+    )
 
 -- they stay if only bytes are output
 pub AreKept-longer : (end more : ℕ) (starts starts' : List ℕ) → AreKept end starts → end ≤ more → starts' ≡ starts → AreKept more starts'
@@ -48,7 +53,8 @@ width_most n many =
     rw (first, second, third) refl
 
 -- a code is as wide after all places as after the words that are kept
-pub width_kept : (output starts : List ℕ) (now : DecoderState) → decoder_state output starts ≡ now → width (length starts) ≡ width (length now.words)
+pub width_kept : (output starts : List ℕ) (now : DecoderState) → decoder_state output starts ≡ now
+    → width (length starts) ≡ width (length now.words)
 width_kept output starts now seen =
     let size : length now.words ≡ length (take 3839 (words_at output starts)) = ap (λ (m : DecoderState). length m.words) (sym seen) in
     let kept_size = length-take 3839 (words_at output starts) in

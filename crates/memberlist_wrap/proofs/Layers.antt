@@ -1,5 +1,6 @@
 -- Wrappers that were removed, and those that are left.
-use Rattle.std.proofs.Common.{◌≡◌, ℕ, ◌+◌, ◌-◌, ◌<◌, ◌≤◌, List, [], ◌∷◌, ◌++◌, length, drop, Err, refl, sym, ap, subst, ◌∙◌, arith, append_assoc, inl, inr}
+use Rattle.std.proofs.Common.{◌≡◌, ℕ, ◌+◌, ◌-◌, ◌<◌, ◌≤◌, List, [], ◌∷◌, ◌++◌, length, drop, Err, refl, sym, ap, subst}
+use Rattle.std.proofs.Common.{◌∙◌, arith, append_assoc, inl, inr}
 use Rattle.std.proofs.lemmas.List.{length-append, drop_at}
 use Rattle.swim_wire.specs.declared.fault.WireFault.{WireFault}
 use Rattle.swim_wire.specs.Compression.{CompressionText, whole_compression}
@@ -29,13 +30,15 @@ pub no_longer : (a b : List ℕ) → EndsWith a b → length b ≤ length a
 no_longer a b p = omega (arith, ap length p.1, length-append p.0 b)
 
 -- what is labelled follows its label
-pub off_label : (bytes rest name inner : List ℕ) → bytes ≡ 244 ∷ rest → IsLabelled bytes name inner → EndsWith bytes inner × WrapText 0 label rest inner
+pub off_label : (bytes rest name inner : List ℕ) → bytes ≡ 244 ∷ rest → IsLabelled bytes name inner
+    → EndsWith bytes inner × WrapText 0 label rest inner
 off_label bytes rest name inner begins (inl none) = absurd (none.2 rest begins)
 off_label bytes rest name inner begins (inr some) = ((244 ∷ length name ∷ name, some.1), (name, (some.0, sym begins ∙ some.1)))
 
 -- ---- one more wrapper around what is left
 
-pub Holds-more : (depth : ℕ) (bytes inner : List ℕ) (w : Wrapper) (rest : List ℕ) (core : Core) → 0 < depth → EndsWith bytes inner → bytes ≡ kind w ∷ rest
+pub Holds-more : (depth : ℕ) (bytes inner : List ℕ) (w : Wrapper) (rest : List ℕ) (core : Core) → 0 < depth
+    → EndsWith bytes inner → bytes ≡ kind w ∷ rest
     → ((limit : ℕ) → WrapText limit w rest inner) → Holds (depth - 1) inner core → Holds depth bytes core
 Holds-more depth bytes inner w rest (cores.Message message) some ends is text holds = (
   EndsWith-then bytes inner message.now ends holds.0,
@@ -59,7 +62,8 @@ ReasonFor-more depth limit fault bytes inner w rest some is text why =
       fails = subst P left why.fails;
     }
 
-pub ReasonFor-here : (depth limit : ℕ) (fault : WrapFault) (bytes : List ℕ) → FailsHere depth limit fault bytes → ReasonForIn depth limit fault bytes
+pub ReasonFor-here : (depth limit : ℕ) (fault : WrapFault) (bytes : List ℕ)
+    → FailsHere depth limit fault bytes → ReasonForIn depth limit fault bytes
 ReasonFor-here depth limit fault bytes fails =
     let P : ℕ → Type 0 = λ d. FailsHere d limit fault bytes in
     let all : depth ≡ depth - 0 = omega arith in record {
@@ -90,24 +94,42 @@ lengths : (a b : List Wrapper) → length (a ++ b) ≡ length a + length b
 lengths [] b = omega arith
 lengths (w ∷ a) b = omega (arith, lengths a b)
 
-pub map_fails : (depth limit left : ℕ) (bytes map : List ℕ) (ws : List Wrapper) → length ws + (left + 1) ≡ depth → Wrapped limit ws bytes (9 ∷ map)
-    → (cause : WireFault) (fault : WrapFault) → whole_compression map ≡ Err cause → fault ≡ fault_of_map cause → ReasonForIn depth limit fault bytes
+pub map_fails : (depth limit left : ℕ) (bytes map : List ℕ) (ws : List Wrapper)
+    → length ws + (left + 1) ≡ depth → Wrapped limit ws bytes (9 ∷ map)
+    → (cause : WireFault) (fault : WrapFault) → whole_compression map ≡ Err cause
+    → fault ≡ fault_of_map cause → ReasonForIn depth limit fault bytes
 map_fails depth limit left bytes map ws count wrapped cause fault no_map is =
-    record { wrappers = ws; inner = 9 ∷ map; few = omega arith; wrapped = wrapped; fails = broken compression map refl (omega arith) (inl (cause, no_map, is)) }
+    record {
+      wrappers = ws;
+      inner = 9 ∷ map;
+      few = omega arith;
+      wrapped = wrapped;
+      fails = broken compression map refl (omega arith) (inl (cause, no_map, is));
+    }
 
-pub packed_unwraps : (depth limit left : ℕ) (bytes map : List ℕ) (ws : List Wrapper) → length ws + (left + 1) ≡ depth → Wrapped limit ws bytes (9 ∷ map)
+pub packed_unwraps : (depth limit left : ℕ) (bytes map : List ℕ) (ws : List Wrapper)
+    → length ws + (left + 1) ≡ depth → Wrapped limit ws bytes (9 ∷ map)
     → (packed message : List ℕ) → CompressionText map packed → PackedUnwraps left limit packed message → UnwrapsIn depth limit bytes message
 packed_unwraps depth limit left bytes map ws count wrapped packed message text p =
     let few = p.unwraps.few in
-    message_unwraps depth limit bytes message (ws ++ compression ∷ p.unwraps.wrappers) (omega (arith, lengths ws (compression ∷ p.unwraps.wrappers)))
+    message_unwraps depth limit bytes message (ws ++ compression ∷ p.unwraps.wrappers)
+    (omega (arith, lengths ws (compression ∷ p.unwraps.wrappers)))
     (Wrapped-then limit ws (compression ∷ p.unwraps.wrappers) bytes (9 ∷ map) message wrapped
     (map, p.inner, refl, record { packed = packed; map = text; lzw = p.lzw; within = p.within }, p.unwraps.wraps.wrapped))
     p.unwraps.wraps.bare p.unwraps.wraps.within
 
-pub packed_fails : (depth limit left : ℕ) (bytes map : List ℕ) (ws : List Wrapper) → length ws + (left + 1) ≡ depth → Wrapped limit ws bytes (9 ∷ map)
-    → (packed : List ℕ) (fault : WrapFault) → CompressionText map packed → PackedFails left limit fault packed → ReasonForIn depth limit fault bytes
+pub packed_fails : (depth limit left : ℕ) (bytes map : List ℕ) (ws : List Wrapper)
+    → length ws + (left + 1) ≡ depth → Wrapped limit ws bytes (9 ∷ map)
+    → (packed : List ℕ) (fault : WrapFault) → CompressionText map packed
+    → PackedFails left limit fault packed → ReasonForIn depth limit fault bytes
 packed_fails depth limit left bytes map ws count wrapped packed fault text (here why) =
-    record { wrappers = ws; inner = 9 ∷ map; few = omega arith; wrapped = wrapped; fails = broken compression map refl (omega arith) (inr (packed, text, why)) }
+    record {
+      wrappers = ws;
+      inner = 9 ∷ map;
+      few = omega arith;
+      wrapped = wrapped;
+      fails = broken compression map refl (omega arith) (inr (packed, text, why));
+    }
 packed_fails depth limit left bytes map ws count wrapped packed fault text (inside inner lzw within why) =
     let few = why.few in
     let size = lengths ws (compression ∷ why.wrappers) in

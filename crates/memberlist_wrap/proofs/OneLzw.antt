@@ -3,7 +3,8 @@ use Rattle.std.proofs.Common.{◌≡◌, ◌≢◌, ℕ, ◌^◌, ◌<◌, List,
 use Rattle.std.proofs.lemmas.List.{append-nil, length-append}
 use Rattle.memberlist_wrap.specs.Bits.{bits, bits_of}
 use Rattle.memberlist_wrap.specs.declared.fault.WrapFault.{WrapFault}
-use Rattle.memberlist_wrap.specs.declared.fault.WrapFault.TheVariants.{Ended, Trailing, BadCode, BadChecksum, BadMap, BadAlgo, BadLabel, TooLarge, TooDeep, Memory}
+use Rattle.memberlist_wrap.specs.declared.fault.WrapFault.TheVariants.{Ended, Trailing, BadCode, BadChecksum, BadMap}
+use Rattle.memberlist_wrap.specs.declared.fault.WrapFault.TheVariants.{BadAlgo, BadLabel, TooLarge, TooDeep, Memory}
 use Rattle.memberlist_wrap.specs.Fault.{CodesStopAt, ReasonForLzw}
 use Rattle.memberlist_wrap.specs.Lzw.{NextCode, kept_words, width, StandsFor, ReadsCodes, CodesGive, Ends, Lzw}
 use Rattle.memberlist_wrap.proofs.Codes.{no_clear, no_end, wide}
@@ -14,13 +15,17 @@ AreFull-push : (words : List (List ℕ)) (word : List ℕ) → AreFull words →
 AreFull-push [] word full some = (some, tt)
 AreFull-push (w ∷ words) word full some = (full.0, AreFull-push words word full.1 some)
 
-AreFull-kept : (words : List (List ℕ)) (code : ℕ) (word : List ℕ) → AreFull words → StandsFor words code word → AreFull (kept_words words word)
-AreFull-kept words code word full stands = AreFull-take 3839 (words ++ word ∷ []) (AreFull-push words word full (full_word words code word full stands))
+AreFull-kept : (words : List (List ℕ)) (code : ℕ) (word : List ℕ) → AreFull words → StandsFor words code word
+    → AreFull (kept_words words word)
+AreFull-kept words code word full stands = AreFull-take 3839 (words ++ word ∷ [])
+    (AreFull-push words word full (full_word words code word full stands))
 
 -- bits after words start with one code
-one_code : (words : List (List ℕ)) (all more more' : List ℕ) (code code' : ℕ) → all ≡ bits (width (length words)) code ++ more → code < 2 ^ width (length words)
+one_code : (words : List (List ℕ)) (all more more' : List ℕ) (code code' : ℕ)
+    → all ≡ bits (width (length words)) code ++ more → code < 2 ^ width (length words)
     → all ≡ bits (width (length words)) code' ++ more' → code' < 2 ^ width (length words) → (code ≡ code') × (more ≡ more')
-one_code words all more more' code code' e below e' below' = bits_once (width (length words)) code code' more more' below below' (sym e ∙ e')
+one_code words all more more' code code' e below e' below' = bits_once
+    (width (length words)) code code' more more' below below' (sym e ∙ e')
 
 -- What the bits mean after these words up to their end.
 pub record Says (words : List (List ℕ)) (rest out : List ℕ) : Type 0 where
@@ -75,7 +80,8 @@ goes_on words (code ∷ codes) all out after rest (code' ∷ codes') whole after
               tail = more.tail;
               says = more.says;
               is =
-                  adds'.4 ∙ ap (λ (w : List ℕ). w ++ adds'.1) (sym same) ∙ ap (λ (t : List ℕ). adds.0 ++ t) more.is ∙ sym (append_assoc adds.0 adds.1 more.tail)
+                  adds'.4 ∙ ap (λ (w : List ℕ). w ++ adds'.1) (sym same) ∙ ap
+                  (λ (t : List ℕ). adds.0 ++ t) more.is ∙ sym (append_assoc adds.0 adds.1 more.tail)
                   ∙ ap (λ (o : List ℕ). o ++ more.tail) (sym adds.4);
             }
       ]
@@ -85,7 +91,8 @@ goes_on words (code ∷ codes) all out after rest (code' ∷ codes') whole after
 pub Lzw-goes_on : (bytes out : List ℕ) (words : List (List ℕ)) (rest whole : List ℕ) → CodesGive bytes out words rest
     → Lzw bytes whole → GoesOn words rest out whole
 Lzw-goes_on bytes out words rest whole reaches lzw =
-    goes_on [] reaches.codes (bits_of bytes) out words rest lzw.reaches.codes whole lzw.words lzw.rest tt reaches.reads lzw.reaches.reads lzw.ends
+    goes_on [] reaches.codes (bits_of bytes) out words rest lzw.reaches.codes whole lzw.words lzw.rest tt
+    reaches.reads lzw.reaches.reads lzw.ends
 
 -- ---- where bits end
 
@@ -146,7 +153,8 @@ first words rest (c ∷ codes) out after left code more next reads ends P last c
       | inr adds' ↦ adds adds'.0 (rw once.0 adds'.2)
     ]
 
-pub first_code : (words : List (List ℕ)) (rest out : List ℕ) (code : ℕ) (more : List ℕ) → NextCode words rest code more → Says words rest out → (P : Type 0)
+pub first_code : (words : List (List ℕ)) (rest out : List ℕ) (code : ℕ) (more : List ℕ)
+    → NextCode words rest code more → Says words rest out → (P : Type 0)
     → (code ≡ 257 → length more < 8 → P) → (code ≡ 256 → P) → ((word : List ℕ) → StandsFor words code word → P) → P
 first_code words rest out code more next says = first words rest says.codes out says.after says.left code more next says.reads says.ends
 
@@ -169,12 +177,14 @@ stopped limit BadLabel out words rest tail stops says other = stops
 stopped limit TooDeep out words rest tail stops says other = stops
 stopped limit Memory out words rest tail stops says other = stops
 
-pub no_lzw : (limit : ℕ) (fault : WrapFault) (bytes : List ℕ) → ReasonForLzw limit fault bytes → fault ≢ TooLarge → (out : List ℕ) → ¬ Lzw bytes out
+pub no_lzw : (limit : ℕ) (fault : WrapFault) (bytes : List ℕ) → ReasonForLzw limit fault bytes
+    → fault ≢ TooLarge → (out : List ℕ) → ¬ Lzw bytes out
 no_lzw limit fault bytes why other out lzw =
     let on = Lzw-goes_on bytes why.out why.words why.rest out why.reaches lzw in
     stopped limit fault why.out why.words why.rest on.tail why.stops on.says other
 
-too_large : (limit : ℕ) (fault : WrapFault) (bytes : List ℕ) (why : ReasonForLzw limit fault bytes) → fault ≡ TooLarge → limit < length why.out
+too_large : (limit : ℕ) (fault : WrapFault) (bytes : List ℕ) (why : ReasonForLzw limit fault bytes)
+    → fault ≡ TooLarge → limit < length why.out
 too_large limit TooLarge bytes why is = why.stops
 too_large limit Ended bytes why is = absurd cc
 too_large limit Trailing bytes why is = absurd cc
@@ -194,7 +204,8 @@ within_large limit fault bytes why is out lzw =
     omega (arith, ap length on.is, length-append why.out on.tail)
 
 -- what is refused is not a compression within the limit
-pub no_lzw_within : (limit : ℕ) (fault : WrapFault) (bytes : List ℕ) → ReasonForLzw limit fault bytes → (out : List ℕ) → Lzw bytes out → limit < length out
+pub no_lzw_within : (limit : ℕ) (fault : WrapFault) (bytes : List ℕ) → ReasonForLzw limit fault bytes
+    → (out : List ℕ) → Lzw bytes out → limit < length out
 no_lzw_within limit TooLarge bytes why out lzw = within_large limit TooLarge bytes why refl out lzw
 no_lzw_within limit Ended bytes why out lzw = absurd (no_lzw limit Ended bytes why (λ e. cc) out lzw)
 no_lzw_within limit Trailing bytes why out lzw = absurd (no_lzw limit Trailing bytes why (λ e. cc) out lzw)

@@ -1,10 +1,12 @@
 -- Wrappers around bytes: there is one way to remove them, and what refusals rule out.
-use Rattle.std.proofs.Common.{◌≡◌, ◌≢◌, ℕ, ◌+◌, ◌-◌, ◌≤◌, List, [], ◌∷◌, ◌++◌, length, take, drop, refl, sym, ap, subst, ◌∙◌, arith, inl, inr}
+use Rattle.std.proofs.Common.{◌≡◌, ◌≢◌, ℕ, ◌+◌, ◌-◌, ◌≤◌, List, [], ◌∷◌, ◌++◌, length, take, drop, refl, sym, ap, subst}
+use Rattle.std.proofs.Common.{◌∙◌, arith, inl, inr}
 use Rattle.std.proofs.lemmas.List.{length-append, take_at, drop_at}
 use Rattle.swim_wire.proofs.Compressions.{one_compression, whole_lacks}
 use Rattle.memberlist_cipher.proofs.Labels.{one_text, lacks_text}
 use Rattle.memberlist_wrap.specs.declared.fault.WrapFault.{WrapFault}
-use Rattle.memberlist_wrap.specs.declared.fault.WrapFault.TheVariants.{Ended, Trailing, BadCode, BadChecksum, BadMap, BadAlgo, BadLabel, TooLarge, TooDeep, Memory}
+use Rattle.memberlist_wrap.specs.declared.fault.WrapFault.TheVariants.{Ended, Trailing, BadCode, BadChecksum, BadMap}
+use Rattle.memberlist_wrap.specs.declared.fault.WrapFault.TheVariants.{BadAlgo, BadLabel, TooLarge, TooDeep, Memory}
 use Rattle.memberlist_wrap.specs.Reasons.{WrapperFails, ChecksumFails, LabelFails, FailsHere, ReasonForIn}
 use Rattle.memberlist_wrap.specs.Reasons.FailsHere.{deep, broken, large}
 use Rattle.memberlist_wrap.specs.Lzw.{Lzw}
@@ -73,12 +75,14 @@ goes_on m n (w ∷ ws) bytes inner (v ∷ all) message p q bare =
       wrapped = more.wrapped;
     }
 
-none_left : (n : ℕ) (others : List Wrapper) (inner message : List ℕ) → Wrapped n others inner message → IsBare inner → (others ≡ []) × (inner ≡ message)
+none_left : (n : ℕ) (others : List Wrapper) (inner message : List ℕ) → Wrapped n others inner message
+    → IsBare inner → (others ≡ []) × (inner ≡ message)
 none_left n [] inner message p bare = (refl, p)
 none_left n (v ∷ others) inner message p bare = absurd (bare v p.0 p.2)
 
 -- bytes wrap one message, in one way
-pub one_message : (m n : ℕ) (bytes : List ℕ) (ws vs : List Wrapper) (a b : List ℕ) → Wraps m ws bytes a → Wraps n vs bytes b → (ws ≡ vs) × (a ≡ b)
+pub one_message : (m n : ℕ) (bytes : List ℕ) (ws vs : List Wrapper) (a b : List ℕ) → Wraps m ws bytes a
+    → Wraps n vs bytes b → (ws ≡ vs) × (a ≡ b)
 one_message m n bytes ws vs a b p q =
     let on = goes_on m n ws bytes a vs b p.wrapped q.wrapped q.bare in
     let none = none_left n on.others a b on.wrapped p.bare in
@@ -111,11 +115,13 @@ no_label : (fault : WrapFault) (rest inner : List ℕ) → LabelFails fault rest
 no_label fault rest inner fails text = lacks_text fails.0 (244 ∷ rest) text.0 inner fails.1 text.1
 
 -- a wrapper that fails within a limit contains nothing within it
-no_inner : (limit : ℕ) (fault : WrapFault) (w : Wrapper) (rest inner : List ℕ) → WrapperFails limit fault w rest → WrapText limit w rest inner → ⊥
+no_inner : (limit : ℕ) (fault : WrapFault) (w : Wrapper) (rest inner : List ℕ)
+    → WrapperFails limit fault w rest → WrapText limit w rest inner → ⊥
 no_inner limit fault compression rest inner (inl no_map) text = whole_lacks rest no_map.0 no_map.1 text.packed text.map
 no_inner limit fault compression rest inner (inr no_lzw_in) text =
     let P : List ℕ → Type 0 = λ x. Lzw x inner in
-    let past = no_lzw_within limit fault no_lzw_in.0 no_lzw_in.2 inner (subst P (one_compression rest text.packed no_lzw_in.0 text.map no_lzw_in.1) text.lzw) in
+    let past = no_lzw_within limit fault no_lzw_in.0 no_lzw_in.2 inner
+    (subst P (one_compression rest text.packed no_lzw_in.0 text.map no_lzw_in.1) text.lzw) in
     omega (arith, text.within)
 no_inner limit fault checksum rest inner fails text = no_checksum fault rest inner fails text
 no_inner limit fault label rest inner fails text = no_label fault rest inner fails text
@@ -126,14 +132,16 @@ no_inner_at_all : (limit any : ℕ) (fault : WrapFault) (w : Wrapper) (rest inne
 no_inner_at_all limit any fault compression rest inner other (inl no_map) text = whole_lacks rest no_map.0 no_map.1 text.packed text.map
 no_inner_at_all limit any fault compression rest inner other (inr no_lzw_in) text =
     let P : List ℕ → Type 0 = λ x. Lzw x inner in
-    no_lzw limit fault no_lzw_in.0 no_lzw_in.2 other inner (subst P (one_compression rest text.packed no_lzw_in.0 text.map no_lzw_in.1) text.lzw)
+    no_lzw limit fault no_lzw_in.0 no_lzw_in.2 other inner
+    (subst P (one_compression rest text.packed no_lzw_in.0 text.map no_lzw_in.1) text.lzw)
 no_inner_at_all limit any fault checksum rest inner other fails text = no_checksum fault rest inner fails text
 no_inner_at_all limit any fault label rest inner other fails text = no_label fault rest inner fails text
 
 -- ---- what a refusal rules out
 
 -- a message in this many wrappers has none that fails
-fails_within : (depth limit : ℕ) (fault : WrapFault) (inner : List ℕ) (others : List Wrapper) (message : List ℕ) → FailsHere depth limit fault inner
+fails_within : (depth limit : ℕ) (fault : WrapFault) (inner : List ℕ) (others : List Wrapper)
+    (message : List ℕ) → FailsHere depth limit fault inner
     → length others ≤ depth → Wrapped limit others inner message → IsBare message → length message ≤ limit → ⊥
 fails_within depth limit fault inner [] message (deep w rest is none name) few wrapped bare short = bare w rest (sym wrapped ∙ is)
 fails_within depth limit fault inner (v ∷ others) message (deep w rest is none name) few wrapped bare short = omega arith
@@ -158,16 +166,19 @@ no_message depth limit fault bytes why message unwraps =
     lengths [] b = omega arith
     lengths (w ∷ a) b = omega (arith, lengths a b)
 
-fails_at_all : (depth limit any : ℕ) (fault : WrapFault) (inner : List ℕ) (others : List Wrapper) (message : List ℕ) → FailsHere depth limit fault inner
+fails_at_all : (depth limit any : ℕ) (fault : WrapFault) (inner : List ℕ) (others : List Wrapper)
+    (message : List ℕ) → FailsHere depth limit fault inner
     → fault ≢ TooLarge → fault ≢ TooDeep → Wrapped any others inner message → IsBare message → ⊥
 fails_at_all depth limit any fault inner others message (deep w rest is none name) other shallow wrapped bare = shallow name
-fails_at_all depth limit any fault inner [] message (broken w rest is some fails) other shallow wrapped bare = bare w rest (sym wrapped ∙ is)
+fails_at_all depth limit any fault inner [] message
+    (broken w rest is some fails) other shallow wrapped bare = bare w rest (sym wrapped ∙ is)
 fails_at_all depth limit any fault inner (v ∷ others) message (broken w rest is some fails) other shallow wrapped bare =
     let one = one_wrapper w v inner rest wrapped.0 is wrapped.2 in
     no_inner_at_all limit any fault w rest wrapped.1 other fails (rw (one.0, one.1) wrapped.3)
 fails_at_all depth limit any fault inner others message (large none long name) other shallow wrapped bare = other name
 
-pub no_message_at_all : (depth limit : ℕ) (fault : WrapFault) (bytes : List ℕ) → ReasonForIn depth limit fault bytes → fault ≢ TooLarge → fault ≢ TooDeep
+pub no_message_at_all : (depth limit : ℕ) (fault : WrapFault) (bytes : List ℕ)
+    → ReasonForIn depth limit fault bytes → fault ≢ TooLarge → fault ≢ TooDeep
     → (any : ℕ) (ws : List Wrapper) (message : List ℕ) → ¬ Wraps any ws bytes message
 no_message_at_all depth limit fault bytes why other shallow any ws message wraps =
     let on = goes_on limit any why.wrappers bytes why.inner ws message why.wrapped wraps.wrapped wraps.bare in

@@ -8,7 +8,8 @@ use Rattle.memberlist_cipher.specs.declared.label.LabelFault.{LabelFault}
 use Rattle.memberlist_cipher.specs.declared.label.LabelFault.TheVariants as labels
 use Rattle.memberlist_cipher.specs.Label.{LabelCause}
 use Rattle.memberlist_wrap.specs.declared.fault.WrapFault.{WrapFault}
-use Rattle.memberlist_wrap.specs.declared.fault.WrapFault.TheVariants.{Ended, Trailing, BadChecksum, BadMap, BadAlgo, BadLabel, TooLarge, TooDeep, Memory}
+use Rattle.memberlist_wrap.specs.declared.fault.WrapFault.TheVariants.{Ended, Trailing, BadChecksum, BadMap, BadAlgo}
+use Rattle.memberlist_wrap.specs.declared.fault.WrapFault.TheVariants.{BadLabel, TooLarge, TooDeep, Memory}
 use Rattle.memberlist_wrap.specs.Crc.{IsCrc}
 use Rattle.memberlist_wrap.specs.Fault.{ReasonForLzw}
 use Rattle.memberlist_wrap.specs.Wrapping.{Wrapper, kind, Wrapped, IsBare}

@@ -1,6 +1,7 @@
 //! The dictionary.
 
-ghost use Rattle.std.specs.Prelude.{◌≡◌, ℕ, List, [], ◌∷◌, ◌++◌, ◌+◌, ◌-◌, ◌<◌, ◌≤◌, ◌⊎◌, length, take, drop, IfOk, IfErr, IsErrOf, IsOkUnless, OnOk, OnErr, vec_len};
+ghost use Rattle.std.specs.Prelude.{◌≡◌, ℕ, List, [], ◌∷◌, ◌++◌, ◌+◌, ◌-◌, ◌<◌, ◌≤◌, ◌⊎◌, length, take, drop, IfOk};
+ghost use Rattle.std.specs.Prelude.{IfErr, IsErrOf, IsOkUnless, OnOk, OnErr, vec_len};
 ghost use Rattle.memberlist_wrap.specs.Lzw.{kept_words, width, StandsFor};
 ghost use Rattle.memberlist_wrap.specs.Dictionary.{DecoderState, decoder_state, AreKept, next_start, again, max_starts};
 

@@ -1,5 +1,7 @@
 -- Values that Serf writes are read back.
-use Rattle.std.proofs.Common.{◌≡◌, ℕ, ◌+◌, ◌-◌, ◌^◌, ◌<◌, ◌≤◌, Bool, true, false, cond, ltb, eqb, List, [], ◌∷◌, ◌++◌, length, get_or, set, Option, Some, Result, Ok, refl, sym, ap, ◌∙◌, append_assoc, append-nil, arith, length-append}
+use Rattle.std.proofs.Common.{◌≡◌, ℕ, ◌+◌, ◌-◌, ◌^◌, ◌<◌, ◌≤◌, Bool, true, false, cond, ltb, eqb, List, [], ◌∷◌, ◌++◌}
+use Rattle.std.proofs.Common.{length, get_or, set, Option, Some, Result, Ok, refl, sym, ap, ◌∙◌, append_assoc}
+use Rattle.std.proofs.Common.{append-nil, arith, length-append}
 use Rattle.std.specs.List.{flat_map}
 use Rattle.std.proofs.lemmas.Bool.{lt-ltb, le-ltb, ltb-true, eqb-true}
 use Rattle.std.proofs.lemmas.List.{nil_from_length}
@@ -18,7 +20,9 @@ use Rattle.serf_message.specs.declared.form.Form.TheVariants as forms
 use Rattle.serf_message.specs.Keys.{key_text}
 use Rattle.serf_message.specs.Writing.{Entry, entry_text, entries_text, value_text, bytes_text}
 use Rattle.serf_message.specs.Forms.{form_of, long_form_of}
-use Rattle.serf_message.specs.Reading.{bytes_at, count_at, number_at, flag_of, flag_at, text_count, text_at, raw_over, bytes_of, field_bytes_at, Fields, value_at, number_value_at, place_of, slot_at, pair_at, pairs_at, fields_at, fields_of, in_map}
+use Rattle.serf_message.specs.Reading.{bytes_at, count_at, number_at, flag_of, flag_at, text_count, text_at, raw_over}
+use Rattle.serf_message.specs.Reading.{bytes_of, field_bytes_at, Fields, value_at, number_value_at, place_of, slot_at}
+use Rattle.serf_message.specs.Reading.{pair_at, pairs_at, fields_at, fields_of, in_map}
 use Rattle.serf_message.specs.declared.layout.Kind.TheVariants as kinds
 use Rattle.serf_message.specs.Slots.{Slot, Slots, slot, no_slots, raw_or_empty}
 use Rattle.serf_message.proofs.Slotting.{no_field, known_pair, one_pair, filled}
@@ -59,7 +63,8 @@ unfolding count_at
 two_again n rest lt =
     let long : length (big_bytes 2 n) ≡ 2 = length-bytes_high_first 2 n in
     let value : big_number 2 (big_bytes 2 n) ≡ n = ap (big_number 2) (sym (append-nil (big_bytes 2 n))) ∙ big_number-reads_back 2 n [] lt in
-    let digits : bytes_at 2 (big_bytes 2 n ++ rest) ≡ read (big_bytes 2 n) rest = ap (λ k. bytes_at k (big_bytes 2 n ++ rest)) (sym long) ∙ bytes_again (big_bytes 2 n) rest in
+    let digits : bytes_at 2 (big_bytes 2 n ++ rest) ≡ read (big_bytes 2 n) rest = ap
+    (λ k. bytes_at k (big_bytes 2 n ++ rest)) (sym long) ∙ bytes_again (big_bytes 2 n) rest in
     rw (digits, value) refl
 
 pub split : {A : Type 0} (b : Bool) (P : A → Type 0) (x y : A) → (b ≡ true → P x) → (b ≡ false → P y) → P (cond b x y)
@@ -88,22 +93,29 @@ unfolding count_at
 fixed_again n rest = refl
 
 -- bytes over earlier ones, after their length
-raw_again : (old s rest : List ℕ) (count : Count) (after : List ℕ) → eqb (length s) 0 ≡ false → count_at count after ≡ read (length s) (s ++ rest) → raw_over old count after ≡ read s rest
+raw_again : (old s rest : List ℕ) (count : Count) (after : List ℕ) → eqb (length s) 0 ≡ false
+    → count_at count after ≡ read (length s) (s ++ rest) → raw_over old count after ≡ read s rest
 unfolding raw_over
 raw_again old s rest count after some e = rw (e, some) (bytes_again s rest)
 
-short_bytes : (old s rest : List ℕ) → eqb (length s) 0 ≡ false → length s < 32 → field_bytes_at old (((0xa0 + length s) ∷ [] ++ s) ++ rest) ≡ read s rest
+short_bytes : (old s rest : List ℕ) → eqb (length s) 0 ≡ false → length s < 32
+    → field_bytes_at old (((0xa0 + length s) ∷ [] ++ s) ++ rest) ≡ read s rest
 unfolding field_bytes_at bytes_of
-short_bytes old s rest some lt = rw (short_form (length s) lt) (raw_again old s rest (Fixed (length s)) (s ++ rest) some (fixed_again (length s) (s ++ rest)))
+short_bytes old s rest some lt = rw (short_form (length s) lt)
+    (raw_again old s rest (Fixed (length s)) (s ++ rest) some (fixed_again (length s) (s ++ rest)))
 
-long_bytes : (old s rest : List ℕ) → eqb (length s) 0 ≡ false → length s < 2 ^ 16 → field_bytes_at old ((0xda ∷ big_bytes 2 (length s) ++ s) ++ rest) ≡ read s rest
+long_bytes : (old s rest : List ℕ) → eqb (length s) 0 ≡ false → length s < 2 ^ 16
+    → field_bytes_at old ((0xda ∷ big_bytes 2 (length s) ++ s) ++ rest) ≡ read s rest
 unfolding field_bytes_at bytes_of form_of long_form_of
-long_bytes old s rest some lt = rw (append_assoc (big_bytes 2 (length s)) s rest) (raw_again old s rest Two (big_bytes 2 (length s) ++ (s ++ rest)) some (two_again (length s) (s ++ rest) lt))
+long_bytes old s rest some lt = rw (append_assoc (big_bytes 2 (length s)) s rest)
+    (raw_again old s rest Two (big_bytes 2 (length s) ++ (s ++ rest)) some
+    (two_again (length s) (s ++ rest) lt))
 
 some_bytes : (old s rest : List ℕ) → eqb (length s) 0 ≡ false → length s < 2 ^ 16 → field_bytes_at old (raw_text s ++ rest) ≡ read s rest
 unfolding raw_text
 some_bytes old s rest some lt =
-    split (ltb (length s) 32) (λ head. field_bytes_at old ((head ++ s) ++ rest) ≡ read s rest) ((0xa0 + length s) ∷ []) (0xda ∷ big_bytes 2 (length s))
+    split (ltb (length s) 32) (λ head. field_bytes_at old ((head ++ s) ++ rest) ≡ read s rest)
+    ((0xa0 + length s) ∷ []) (0xda ∷ big_bytes 2 (length s))
     (λ e. short_bytes old s rest some (ltb-true _ _ e)) (λ _. long_bytes old s rest some lt)
 
 no_bytes : (old rest : List ℕ) → field_bytes_at old (0xc0 ∷ rest) ≡ read [] rest
@@ -118,27 +130,33 @@ field_bytes_again old s rest lt =
 
 -- ---- the value of a field
 
-pub huge_again : (old : Option Slot) (v : ℕ) (rest : List ℕ) → v < 2 ^ 64 → value_at kinds.Uint64 old (number_text v ++ rest) ≡ read (Slot.huge v) rest
+pub huge_again : (old : Option Slot) (v : ℕ) (rest : List ℕ) → v < 2 ^ 64
+    → value_at kinds.Uint64 old (number_text v ++ rest) ≡ read (Slot.huge v) rest
 unfolding value_at number_value_at
 huge_again old v rest lt = rw (number_again 0xffff_ffff_ffff_ffff v rest (omega arith) lt) refl
 
-pub long_again : (old : Option Slot) (v : ℕ) (rest : List ℕ) → v < 2 ^ 32 → value_at kinds.Uint32 old (number_text v ++ rest) ≡ read (Slot.long v) rest
+pub long_again : (old : Option Slot) (v : ℕ) (rest : List ℕ) → v < 2 ^ 32
+    → value_at kinds.Uint32 old (number_text v ++ rest) ≡ read (Slot.long v) rest
 unfolding value_at number_value_at
 long_again old v rest lt = rw (number_again 0xffff_ffff v rest (omega arith) (omega arith)) refl
 
-pub short_again : (old : Option Slot) (v : ℕ) (rest : List ℕ) → v < 2 ^ 16 → value_at kinds.Uint16 old (number_text v ++ rest) ≡ read (Slot.short v) rest
+pub short_again : (old : Option Slot) (v : ℕ) (rest : List ℕ) → v < 2 ^ 16
+    → value_at kinds.Uint16 old (number_text v ++ rest) ≡ read (Slot.short v) rest
 unfolding value_at number_value_at
 short_again old v rest lt = rw (number_again 0xffff v rest (omega arith) (omega arith)) refl
 
-pub tiny_again : (old : Option Slot) (v : ℕ) (rest : List ℕ) → v < 2 ^ 8 → value_at kinds.Uint8 old (number_text v ++ rest) ≡ read (Slot.tiny v) rest
+pub tiny_again : (old : Option Slot) (v : ℕ) (rest : List ℕ) → v < 2 ^ 8
+    → value_at kinds.Uint8 old (number_text v ++ rest) ≡ read (Slot.tiny v) rest
 unfolding value_at number_value_at
 tiny_again old v rest lt = rw (number_again 0xff v rest (omega arith) (omega arith)) refl
 
-pub string_again : (old : Option Slot) (s rest : List ℕ) → length s < 2 ^ 16 → value_at kinds.Text old (raw_text s ++ rest) ≡ read (Slot.raw s) rest
+pub string_again : (old : Option Slot) (s rest : List ℕ) → length s < 2 ^ 16
+    → value_at kinds.Text old (raw_text s ++ rest) ≡ read (Slot.raw s) rest
 unfolding value_at number_value_at
 string_again old s rest lt = rw (text_again s rest lt) refl
 
-pub array_again : (old : Option Slot) (s rest : List ℕ) → length s < 2 ^ 16 → value_at kinds.Bytes old (bytes_text s ++ rest) ≡ read (Slot.raw s) rest
+pub array_again : (old : Option Slot) (s rest : List ℕ) → length s < 2 ^ 16
+    → value_at kinds.Bytes old (bytes_text s ++ rest) ≡ read (Slot.raw s) rest
 unfolding value_at number_value_at
 array_again old s rest lt = rw (field_bytes_again (raw_or_empty old) s rest lt) refl
 
@@ -150,16 +168,20 @@ truth_again old f rest = rw (flag_again f rest) refl
 
 -- a key of the layout and its value
 pub pair_again : (layout : Fields) (slots : Slots) (key value rest : List ℕ) (place : ℕ) (filling : Slot) → length key < 2 ^ 16
-    → place_of layout key ≡ Some place → place < length layout → value_at (get_or layout place no_field).kind (slot slots place) (value ++ rest) ≡ read filling rest
+    → place_of layout key ≡ Some place → place < length layout
+    → value_at (get_or layout place no_field).kind (slot slots place)
+    (value ++ rest) ≡ read filling rest
     → pair_at layout slots ((raw_text key ++ value) ++ rest) ≡ filled (set slots place (Some filling)) rest
 unfolding slot_at
 pair_again layout slots key value rest place filling short found within e =
     ap (pair_at layout slots) (append_assoc (raw_text key) value rest)
-    ∙ known_pair layout slots (raw_text key ++ (value ++ rest)) key (value ++ rest) place no_field (text_again key (value ++ rest) short) found within
+    ∙ known_pair layout slots (raw_text key ++ (value ++ rest)) key (value ++ rest) place no_field
+    (text_again key (value ++ rest) short) found within
     ∙ rw e refl
 
 -- one field of a map
-pub entry_step : (layout : Fields) (entry : Entry) (entries : List Entry) (slots : Slots) (place : ℕ) (filling : Slot) (rest : List ℕ) → length (key_text entry.0) < 2 ^ 16
+pub entry_step : (layout : Fields) (entry : Entry) (entries : List Entry) (slots : Slots) (place : ℕ)
+    (filling : Slot) (rest : List ℕ) → length (key_text entry.0) < 2 ^ 16
     → place_of layout (key_text entry.0) ≡ Some place → place < length layout
     → ((more : List ℕ) → value_at (get_or layout place no_field).kind (slot slots place) (value_text entry.1 ++ more) ≡ read filling more)
     → pairs_at layout (length (entry ∷ entries)) slots (flat_map entry_text (entry ∷ entries) ++ rest)
@@ -180,6 +202,7 @@ map_form n lt =
 
 -- a map of fields
 pub fields_again : (layout : Fields) (entries : List Entry) (out : Slots) (rest : List ℕ) → length entries < 16
-    → pairs_at layout (length entries) no_slots (flat_map entry_text entries ++ rest) ≡ filled out rest → fields_at layout (entries_text entries ++ rest) ≡ filled out rest
+    → pairs_at layout (length entries) no_slots (flat_map entry_text entries ++ rest) ≡ filled out rest
+    → fields_at layout (entries_text entries ++ rest) ≡ filled out rest
 unfolding fields_at fields_of in_map count_at
 fields_again layout entries out rest few e = rw (map_form (length entries) few) e

@@ -1,5 +1,6 @@
 -- The steps of reading a list of numbers over earlier bytes.
-use Rattle.std.proofs.Common.{◌≡◌, ℕ, suc, ◌+◌, ◌≤◌, List, [], ◌∷◌, ◌++◌, length, take, drop, Result, Ok, Err, refl, sym, ap, ◌∙◌, append_assoc, arith, length-append}
+use Rattle.std.proofs.Common.{◌≡◌, ℕ, suc, ◌+◌, ◌≤◌, List, [], ◌∷◌, ◌++◌, length, take, drop, Result, Ok, Err, refl}
+use Rattle.std.proofs.Common.{sym, ap, ◌∙◌, append_assoc, arith, length-append}
 use Rattle.std.proofs.lemmas.List.{length-take, take-append-drop, append-nil}
 use Rattle.std.proofs.Math.Seq.{take-append-add, drop-append-add}
 use Rattle.swim_pack.specs.Composing.{gives, then_read}
@@ -48,7 +49,8 @@ one_more n i next first front bytes after start e read =
     e ∙ ap (behind front) (one_number _ _ _ _ _ refl read) ∙ behind_both front (first ∷ []) (numbers_at next after)
 
 -- the bytes up to one that is written, and those behind it
-pub written_front : (i b : ℕ) (xs ys : List ℕ) → i ≤ length xs → ys ≡ take i xs ++ b ∷ drop (i + 1) xs → take (i + 1) ys ≡ take i xs ++ b ∷ []
+pub written_front : (i b : ℕ) (xs ys : List ℕ) → i ≤ length xs → ys ≡ take i xs ++ b ∷ drop (i + 1) xs
+    → take (i + 1) ys ≡ take i xs ++ b ∷ []
 written_front i b xs ys le e =
     let long : length (take i xs) ≡ i = omega (arith, length-take i xs) in
     rw e (ap (λ k. take (k + 1) (take i xs ++ b ∷ drop (i + 1) xs)) (sym long) ∙ take-append-add (take i xs) (b ∷ drop (i + 1) xs) 1)
@@ -69,7 +71,8 @@ pub all_numbers : (n i : ℕ) (old written start rest : List ℕ) → n ≡ i �
 unfolding numbers_over numbers_at
 all_numbers n i old written start rest same le e kept =
     let long : length (take i written) ≡ i = omega (arith, length-take i written) in
-    let whole : over old (take i written) ≡ written = ap (λ k. take i written ++ drop k old) long ∙ ap (λ (d : List ℕ). take i written ++ d) (sym kept) ∙ take-append-drop i written in
+    let whole : over old (take i written) ≡ written = ap (λ k. take i written ++ drop k old) long ∙ ap
+    (λ (d : List ℕ). take i written ++ d) (sym kept) ∙ take-append-drop i written in
     rw (e, append-nil (take i written)) (ap (λ (w : List ℕ). ok_pair w rest) whole)
 
 -- a list that is refused

@@ -27,19 +27,22 @@ first_of_many first (Ok read) = refl
 first_of_many first (Err error) = refl
 
 -- one value
-one_of_many : {A : Type 0} (reading : Reading A) (n next : ℕ) (first : A) (bytes after : List ℕ) → n ≡ suc next → reading bytes ≡ Ok (first, after)
+one_of_many : {A : Type 0} (reading : Reading A) (n next : ℕ) (first : A) (bytes after : List ℕ)
+    → n ≡ suc next → reading bytes ≡ Ok (first, after)
     → many_at reading n bytes ≡ before (first ∷ []) (many_at reading next after)
 unfolding many_at
 one_of_many reading n next first bytes after e read = rw (e, read) (first_of_many first (many_at reading next after))
 
 -- a value that is refused
-bad_of_many : {A : Type 0} (reading : Reading A) (n next : ℕ) (bytes : List ℕ) (error : SerfFault) → n ≡ suc next → reading bytes ≡ Err error
+bad_of_many : {A : Type 0} (reading : Reading A) (n next : ℕ) (bytes : List ℕ) (error : SerfFault)
+    → n ≡ suc next → reading bytes ≡ Err error
     → many_at reading n bytes ≡ Err error
 unfolding many_at
 bad_of_many reading n next bytes error e read = rw (e, read) refl
 
 -- before the first value
-pub none_yet : {A : Type 0} (reading : Reading A) (n m : ℕ) (start : List ℕ) (front : List A) → front ≡ [] → m ≡ n → many_at reading n start ≡ before front (many_at reading m start)
+pub none_yet : {A : Type 0} (reading : Reading A) (n m : ℕ) (start : List ℕ) (front : List A) → front ≡ []
+    → m ≡ n → many_at reading n start ≡ before front (many_at reading m start)
 none_yet reading n m start front none e = rw (none, e) (sym (before_none (many_at reading n start)))
 
 -- one more value behind those before it
@@ -47,7 +50,8 @@ pub one_more : {A : Type 0} (reading : Reading A) (n k next : ℕ) (front more :
     → many_at reading n start ≡ before front (many_at reading k bytes) → k ≡ suc next → more ≡ front ++ first ∷ []
     → reading bytes ≡ Ok (first, after) → many_at reading n start ≡ before more (many_at reading next after)
 one_more reading n k next front more first start bytes after e s m read =
-    rw m (e ∙ ap (before front) (one_of_many reading k next first bytes after s read) ∙ before_both front (first ∷ []) (many_at reading next after))
+    rw m (e ∙ ap (before front) (one_of_many reading k next first bytes after s read)
+    ∙ before_both front (first ∷ []) (many_at reading next after))
 
 -- one value too many
 pub bad_one : {A : Type 0} (reading : Reading A) (n k next : ℕ) (front : List A) (error : SerfFault) (start bytes : List ℕ)

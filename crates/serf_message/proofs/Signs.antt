@@ -1,5 +1,6 @@
 -- Numbers with a sign that Serf writes are read back.
-use Rattle.std.proofs.Common.{◌≡◌, ℕ, suc, ◌+◌, ◌-◌, ◌*◌, ◌%◌, ◌^◌, ◌<◌, ◌≤◌, true, false, ltb, eqb, List, [], ◌∷◌, ◌++◌, refl, sym, ap, ◌∙◌, append-nil, arith, ℤ, pos, negsuc, w8, w64}
+use Rattle.std.proofs.Common.{◌≡◌, ℕ, suc, ◌+◌, ◌-◌, ◌*◌, ◌%◌, ◌^◌, ◌<◌, ◌≤◌, true, false, ltb, eqb, List, [], ◌∷◌}
+use Rattle.std.proofs.Common.{◌++◌, refl, sym, ap, ◌∙◌, append-nil, arith, ℤ, pos, negsuc, w8, w64}
 use Rattle.std.proofs.lemmas.Bool.{lt-ltb, le-ltb, ltb-true, ne_eqb}
 use Rattle.std.specs.Prelude.{FitsSigned}
 use Rattle.std.proofs.lemmas.Int.{ints}
@@ -25,7 +26,8 @@ positive_again v rest lt =
     let z : cast_signed w64 v ≡ pos v = omega (arith, ints) in
     unsigned_first v rest ∙ rw (number_again 0xffff_ffff_ffff_ffff v rest (omega arith) (omega arith), z) refl
 
-digits_again : (n x : ℕ) (z : ℤ) (rest : List ℕ) → x < 256 ^ n → twos_complement n x ≡ z → complement_at n (big_bytes n x ++ rest) ≡ read z rest
+digits_again : (n x : ℕ) (z : ℤ) (rest : List ℕ) → x < 256 ^ n → twos_complement n x ≡ z
+    → complement_at n (big_bytes n x ++ rest) ≡ read z rest
 digits_again n x z rest lt e =
     let taken = ap (λ k. bytes_at k (big_bytes n x ++ rest)) (sym (length-bytes_high_first n x)) ∙ bytes_again (big_bytes n x) rest in
     let value = ap (big_number n) (sym (append-nil (big_bytes n x))) ∙ big_number-reads_back n x [] lt in
@@ -69,14 +71,20 @@ negative_again v rest lt =
     split (ltb v 0x8000_0000) P _ _ (λ e. four_bytes_again v rest (ltb-true _ _ e)) (λ _. eight_bytes_again v rest lt))))
   where
     two_bytes_again : (v : ℕ) (rest : List ℕ) → v < 0x8000 → complement_at 2 (big_bytes 2 (0xffff - v) ++ rest) ≡ read (negsuc v) rest
-    two_bytes_again v rest lt = digits_again 2 (0xffff - v) (negsuc v) rest (omega arith) (complement_is 2 (0xffff - v) v 0x1_0000 (omega arith) refl (omega arith))
+    two_bytes_again v rest lt = digits_again 2 (0xffff - v) (negsuc v) rest (omega arith)
+        (complement_is 2 (0xffff - v) v 0x1_0000 (omega arith) refl (omega arith))
 
-    four_bytes_again : (v : ℕ) (rest : List ℕ) → v < 0x8000_0000 → complement_at 4 (big_bytes 4 (0xffff_ffff - v) ++ rest) ≡ read (negsuc v) rest
-    four_bytes_again v rest lt = digits_again 4 (0xffff_ffff - v) (negsuc v) rest (omega arith) (complement_is 4 (0xffff_ffff - v) v 0x1_0000_0000 (omega arith) refl (omega arith))
+    four_bytes_again : (v : ℕ) (rest : List ℕ) → v < 0x8000_0000
+        → complement_at 4 (big_bytes 4 (0xffff_ffff - v) ++ rest) ≡ read (negsuc v) rest
+    four_bytes_again v rest lt = digits_again 4 (0xffff_ffff - v) (negsuc v) rest (omega arith)
+        (complement_is 4 (0xffff_ffff - v) v 0x1_0000_0000 (omega arith) refl (omega arith))
 
-    eight_bytes_again : (v : ℕ) (rest : List ℕ) → v < 2 ^ 63 → complement_at 8 (big_bytes 8 (0xffff_ffff_ffff_ffff - v) ++ rest) ≡ read (negsuc v) rest
+    eight_bytes_again : (v : ℕ) (rest : List ℕ) → v < 2 ^ 63
+        → complement_at 8 (big_bytes 8 (0xffff_ffff_ffff_ffff - v) ++ rest) ≡ read (negsuc v) rest
     eight_bytes_again v rest lt =
-        digits_again 8 (0xffff_ffff_ffff_ffff - v) (negsuc v) rest (omega arith) (complement_is 8 (0xffff_ffff_ffff_ffff - v) v 0x1_0000_0000_0000_0000 (omega arith) refl (omega arith))
+        digits_again 8 (0xffff_ffff_ffff_ffff - v) (negsuc v) rest (omega arith)
+        (complement_is 8 (0xffff_ffff_ffff_ffff - v) v 0x1_0000_0000_0000_0000 (omega arith) refl
+        (omega arith))
 
 -- a number of 64 bits with a sign
 pub signed_again : (z : ℤ) (rest : List ℕ) → FitsSigned w64 z → signed_at (signed_text z ++ rest) ≡ read z rest

@@ -1,5 +1,6 @@
 -- Values that Serf writes are passed over.
-use Rattle.std.proofs.Common.{◌≡◌, ℕ, suc, ◌+◌, ◌-◌, ◌*◌, ◌<◌, ◌≤◌, ◌^◌, true, false, ltb, eqb, List, [], ◌∷◌, ◌++◌, length, Some, Ok, refl, sym, ap, ◌∙◌, append_assoc, append-nil, arith, length-append}
+use Rattle.std.proofs.Common.{◌≡◌, ℕ, suc, ◌+◌, ◌-◌, ◌*◌, ◌<◌, ◌≤◌, ◌^◌, true, false, ltb, eqb, List, [], ◌∷◌, ◌++◌}
+use Rattle.std.proofs.Common.{length, Some, Ok, refl, sym, ap, ◌∙◌, append_assoc, append-nil, arith, length-append}
 use Rattle.std.proofs.lemmas.Bool.{lt-ltb, le-ltb, ltb-true, eqb-true}
 use Rattle.std.proofs.Math.Seq.{take-append_seam}
 use Rattle.std.specs.List.{AllByRecursion, flat_map}
@@ -23,7 +24,8 @@ pub record ArePassed (n : ℕ) (t : List ℕ) : Type 0 where
   pub steps : ℕ
   pub few : steps ≤ length t
   pub many : n ≤ length t
-  pub passes : (more others : ℕ) (rest : List ℕ) → others ≤ length rest → values_within (steps + more) (n + others) (t ++ rest) ≡ values_within more others rest
+  pub passes : (more others : ℕ) (rest : List ℕ) → others ≤ length rest
+      → values_within (steps + more) (n + others) (t ++ rest) ≡ values_within more others rest
 
 -- no values
 pub none_passed : ArePassed 0 []
@@ -48,7 +50,8 @@ both_passed n m s t a b = record {
 }
 
 -- a list or a map: what announces n values, and they
-pub all_passed : (n : ℕ) (h t : List ℕ) → 0 < length h → ((rest : List ℕ) → outside_at (h ++ rest) ≡ Ok (n, rest)) → ArePassed n t → ArePassed 1 (h ++ t)
+pub all_passed : (n : ℕ) (h t : List ℕ) → 0 < length h
+    → ((rest : List ℕ) → outside_at (h ++ rest) ≡ Ok (n, rest)) → ArePassed n t → ArePassed 1 (h ++ t)
 all_passed n h t some announces a = record {
   steps = suc a.steps;
   few = omega (arith, a.few, some, length-append h t);
@@ -72,7 +75,8 @@ leaf_passed t some announces =
     rw e at whole
 
 -- many values, each passed over
-pub each_passed : {A : Type 0} (text : A → List ℕ) (P : A → Type 0) → ((x : A) → P x → ArePassed 1 (text x)) → (xs : List A) → AllByRecursion P xs → ArePassed (length xs) (flat_map text xs)
+pub each_passed : {A : Type 0} (text : A → List ℕ) (P : A → Type 0) → ((x : A) → P x → ArePassed 1 (text x))
+    → (xs : List A) → AllByRecursion P xs → ArePassed (length xs) (flat_map text xs)
 each_passed text P one [] all = none_passed
 each_passed text P one (x ∷ xs) all =
     let e : 1 + length xs ≡ suc (length xs) = omega arith in
@@ -85,7 +89,8 @@ unfolding whole_at values_at
 whole_again t rest a =
     let all : length (t ++ rest) ≡ a.steps + (length (t ++ rest) - a.steps) = omega (arith, a.few, length-append t rest) in
     let one : 1 ≡ 1 + 0 = omega arith in
-    let passed = ap (λ (k : ℕ). values_within k 1 (t ++ rest)) all ∙ ap (λ (n : ℕ). values_within (a.steps + (length (t ++ rest) - a.steps)) n (t ++ rest)) one
+    let passed = ap (λ (k : ℕ). values_within k 1 (t ++ rest)) all ∙ ap
+    (λ (n : ℕ). values_within (a.steps + (length (t ++ rest) - a.steps)) n (t ++ rest)) one
     ∙ a.passes (length (t ++ rest) - a.steps) 0 rest (omega arith) ∙ none_left (length (t ++ rest) - a.steps) 0 rest refl in
     let front : length (t ++ rest) - length rest ≡ length t = omega (arith, length-append t rest) in
     rw (passed, front, take-append_seam t rest) refl
@@ -126,7 +131,8 @@ number_passed v = leaf_passed (number_text v) (some_number v) (number_outside v)
 raw_outside : (s rest : List ℕ) → length s < 2 ^ 16 → outside_at (raw_text s ++ rest) ≡ Ok (0, rest)
 unfolding outside_at inside form_of long_form_of raw_text count_at
 raw_outside s rest lt =
-    split (ltb (length s) 32) (λ head. outside_at ((head ++ s) ++ rest) ≡ Ok (0, rest)) ((0xa0 + length s) ∷ []) (0xda ∷ big_bytes 2 (length s))
+    split (ltb (length s) 32) (λ head. outside_at ((head ++ s) ++ rest) ≡ Ok (0, rest))
+    ((0xa0 + length s) ∷ []) (0xda ∷ big_bytes 2 (length s))
     (λ e. short_outside s rest (ltb-true _ _ e)) (λ _. long_outside s rest lt)
   where
     short_outside : (s rest : List ℕ) → length s < 32 → outside_at (((0xa0 + length s) ∷ [] ++ s) ++ rest) ≡ Ok (0, rest)
@@ -138,7 +144,8 @@ raw_outside s rest lt =
 some_raw : (s : List ℕ) → 0 < length (raw_text s)
 unfolding raw_text
 some_raw s =
-    split (ltb (length s) 32) (λ head. 0 < length (head ++ s)) ((0xa0 + length s) ∷ []) (0xda ∷ big_bytes 2 (length s)) (λ _. omega arith) (λ _. omega arith)
+    split (ltb (length s) 32) (λ head. 0 < length (head ++ s)) ((0xa0 + length s) ∷ [])
+    (0xda ∷ big_bytes 2 (length s)) (λ _. omega arith) (λ _. omega arith)
 
 pub raw_passed : (s : List ℕ) → length s < 2 ^ 16 → ArePassed 1 (raw_text s)
 raw_passed s lt = leaf_passed (raw_text s) (some_raw s) (λ rest. raw_outside s rest lt)
@@ -153,7 +160,8 @@ nil_passed = leaf_passed (0xc0 ∷ []) (omega arith) nil_outside
 -- ---- lists of bytes
 
 pub bytes_passed : (s : List ℕ) → length s < 2 ^ 16 → ArePassed 1 (bytes_text s)
-bytes_passed s lt = split (eqb (length s) 0) (λ (t : List ℕ). ArePassed 1 t) (0xc0 ∷ []) (raw_text s) (λ _. nil_passed) (λ _. raw_passed s lt)
+bytes_passed s lt = split (eqb (length s) 0) (λ (t : List ℕ). ArePassed 1 t) (0xc0 ∷ []) (raw_text s)
+    (λ _. nil_passed) (λ _. raw_passed s lt)
 
 list_form : (n : ℕ) → n < 16 → form_of (0x90 + n) ≡ Some (forms.List (Fixed n))
 unfolding form_of
@@ -177,13 +185,16 @@ list_len_outside n rest lt =
     (λ e. rw (list_form n (ltb-true _ _ e)) (fixed_again n rest)) (λ _. two_again n rest lt)
 
 some_list_len : (n : ℕ) → 0 < length (list_len_text n)
-some_list_len n = split (ltb n 16) (λ (t : List ℕ). 0 < length t) ((0x90 + n) ∷ []) (0xdc ∷ big_bytes 2 n) (λ _. omega arith) (λ _. omega arith)
+some_list_len n = split (ltb n 16) (λ (t : List ℕ). 0 < length t) ((0x90 + n) ∷ []) (0xdc ∷ big_bytes 2 n)
+    (λ _. omega arith) (λ _. omega arith)
 
 -- a list whose values are passed over
-pub list_passed : {A : Type 0} (text : A → List ℕ) (P : A → Type 0) → ((x : A) → P x → ArePassed 1 (text x)) → (xs : List A) → AllByRecursion P xs → length xs < 2 ^ 16
+pub list_passed : {A : Type 0} (text : A → List ℕ) (P : A → Type 0) → ((x : A) → P x → ArePassed 1 (text x))
+    → (xs : List A) → AllByRecursion P xs → length xs < 2 ^ 16
     → ArePassed 1 (list_len_text (length xs) ++ flat_map text xs)
 list_passed text P one xs all lt =
-    all_passed (length xs) (list_len_text (length xs)) (flat_map text xs) (some_list_len (length xs)) (λ rest. list_len_outside (length xs) rest lt) (each_passed text P one xs all)
+    all_passed (length xs) (list_len_text (length xs)) (flat_map text xs) (some_list_len (length xs))
+    (λ rest. list_len_outside (length xs) rest lt) (each_passed text P one xs all)
 
 -- a list of bytes is passed over
 pub list_text_passed : (xs : List (List ℕ)) → IsShortList xs → ArePassed 1 (list_text xs)
@@ -192,7 +203,8 @@ list_text_passed xs short =
     (λ _. nil_passed) (λ _. list_passed bytes_text (λ (x : List ℕ). length x < 2 ^ 16) bytes_passed xs short.1 short.0)
 
 -- many values are read back
-pub many_again : {A : Type 0} (reading : Reading A) (text : A → List ℕ) (P : A → Type 0) → ((x : A) (rest : List ℕ) → P x → reading (text x ++ rest) ≡ read x rest)
+pub many_again : {A : Type 0} (reading : Reading A) (text : A → List ℕ) (P : A → Type 0)
+    → ((x : A) (rest : List ℕ) → P x → reading (text x ++ rest) ≡ read x rest)
     → (xs : List A) (rest : List ℕ) → AllByRecursion P xs → many_at reading (length xs) (flat_map text xs ++ rest) ≡ read xs rest
 unfolding many_at
 many_again reading text P one [] rest all = refl
@@ -201,18 +213,21 @@ many_again reading text P one (x ∷ xs) rest all =
     let others = many_again reading text P one xs rest all.1 in
     rw (append_assoc (text x) (flat_map text xs) rest, first, others) refl
 
-listed_is : {A : Type 0} (reading : Reading A) (whole : List ℕ) → 0 < length whole → listed reading whole ≡ without_rest ((list_len_at >>= many_at reading) whole)
+listed_is : {A : Type 0} (reading : Reading A) (whole : List ℕ) → 0 < length whole
+    → listed reading whole ≡ without_rest ((list_len_at >>= many_at reading) whole)
 listed_is reading [] some = absurd (omega arith)
 listed_is reading (first ∷ rest) some = refl
 
 -- a list whose values are read back
-pub listed_again : {A : Type 0} (reading : Reading A) (text : A → List ℕ) (P : A → Type 0) → ((x : A) (rest : List ℕ) → P x → reading (text x ++ rest) ≡ read x rest)
+pub listed_again : {A : Type 0} (reading : Reading A) (text : A → List ℕ) (P : A → Type 0)
+    → ((x : A) (rest : List ℕ) → P x → reading (text x ++ rest) ≡ read x rest)
     → (xs : List A) → AllByRecursion P xs → length xs < 2 ^ 16 → listed reading (list_len_text (length xs) ++ flat_map text xs) ≡ Ok xs
 listed_again reading text P one xs all lt =
     let whole = list_len_text (length xs) ++ flat_map text xs in
     listed_is reading whole (omega (arith, some_list_len (length xs), length-append (list_len_text (length xs)) (flat_map text xs)))
     ∙ rw (list_len_again (length xs) (flat_map text xs) lt)
-    (ap (λ (t : List ℕ). without_rest (many_at reading (length xs) t)) (sym (append-nil (flat_map text xs))) ∙ ap without_rest (many_again reading text P one xs [] all))
+    (ap (λ (t : List ℕ). without_rest (many_at reading (length xs) t)) (sym (append-nil (flat_map text xs)))
+    ∙ ap without_rest (many_again reading text P one xs [] all))
 
 no_list_again : (xs : List (List ℕ)) → length xs ≡ 0 → listed fresh_bytes_at (0xc0 ∷ []) ≡ Ok xs
 unfolding list_len_at list_len_of form_of many_at
@@ -221,8 +236,11 @@ no_list_again xs e = let none : xs ≡ [] = nil_from_length xs e in rw none refl
 -- a list of bytes is read back
 pub list_text_again : (xs : List (List ℕ)) → IsShortList xs → listed fresh_bytes_at (list_text xs) ≡ Ok xs
 list_text_again xs short =
-    split (eqb (length xs) 0) (λ (t : List ℕ). listed fresh_bytes_at t ≡ Ok xs) (0xc0 ∷ []) (list_len_text (length xs) ++ flat_map bytes_text xs)
-    (λ e. no_list_again xs (eqb-true _ _ e)) (λ _. listed_again fresh_bytes_at bytes_text (λ (x : List ℕ). length x < 2 ^ 16) (λ x rest lt. field_bytes_again [] x rest lt) xs short.1 short.0)
+    split (eqb (length xs) 0) (λ (t : List ℕ). listed fresh_bytes_at t ≡ Ok xs) (0xc0 ∷ [])
+    (list_len_text (length xs) ++ flat_map bytes_text xs)
+    (λ e. no_list_again xs (eqb-true _ _ e))
+    (λ _. listed_again fresh_bytes_at bytes_text (λ (x : List ℕ). length x < 2 ^ 16)
+    (λ x rest lt. field_bytes_again [] x rest lt) xs short.1 short.0)
 
 -- ---- maps of fields
 
@@ -230,7 +248,8 @@ list_text_again xs short =
 abbrev pub IsEntryPassed : Entry → Type 0
 IsEntryPassed entry = (length (key_text entry.0) < 2 ^ 16) × ArePassed 1 (value_text entry.1)
 
-entries_passed : (entries : List Entry) → AllByRecursion IsEntryPassed entries → ArePassed (2 * length entries) (flat_map entry_text entries)
+entries_passed : (entries : List Entry) → AllByRecursion IsEntryPassed entries
+    → ArePassed (2 * length entries) (flat_map entry_text entries)
 entries_passed [] all = none_passed
 entries_passed (entry ∷ entries) all =
     let one = both_passed 1 1 (raw_text (key_text entry.0)) (value_text entry.1) (raw_passed (key_text entry.0) all.0.0) all.0.1 in
@@ -245,4 +264,5 @@ map_outside n rest lt = rw (map_form n lt) refl
 -- a map of fields is passed over
 pub map_passed : (entries : List Entry) → length entries < 16 → AllByRecursion IsEntryPassed entries → ArePassed 1 (entries_text entries)
 map_passed entries lt all =
-    all_passed (2 * length entries) (count_text (length entries)) (flat_map entry_text entries) (omega arith) (λ rest. map_outside (length entries) rest lt) (entries_passed entries all)
+    all_passed (2 * length entries) (count_text (length entries)) (flat_map entry_text entries) (omega arith)
+    (λ rest. map_outside (length entries) rest lt) (entries_passed entries all)

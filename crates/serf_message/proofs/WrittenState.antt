@@ -1,5 +1,6 @@
 -- States that are written are read back.
-use Rattle.std.proofs.Common.{◌≡◌, ℕ, suc, ◌+◌, ◌*◌, ◌<◌, ◌^◌, ltb, List, [], ◌∷◌, ◌++◌, length, Option, Some, None, Ok, refl, sym, ap, ◌∙◌, append_assoc, append-nil, lit<, arith, length-append}
+use Rattle.std.proofs.Common.{◌≡◌, ℕ, suc, ◌+◌, ◌*◌, ◌<◌, ◌^◌, ltb, List, [], ◌∷◌, ◌++◌, length, Option, Some, None, Ok}
+use Rattle.std.proofs.Common.{refl, sym, ap, ◌∙◌, append_assoc, append-nil, lit<, arith, length-append}
 use Rattle.std.proofs.lemmas.Bool.{ltb-true}
 use Rattle.std.specs.List.{AllByRecursion, flat_map}
 use Rattle.byteorder.specs.Endian.{big_bytes}
@@ -11,10 +12,16 @@ use Rattle.serf_message.specs.Layouts.{state_layout, group_layout, grouped_layou
 use Rattle.serf_message.specs.Reading.{count_at, inside, outside_at, fields_at, text_at, without_rest}
 use Rattle.serf_message.specs.Many.{many_at, map_len_at}
 use Rattle.serf_message.specs.Slots.{Slot, Slots, no_slots}
-use Rattle.serf_message.specs.States.{StatusValue, GroupedValue, GroupValue, StateValue, IsShortGrouped, IsShortGroup, IsTimed, IsPlaceTimed, IsStateInRange, status_at, statuses_in, grouped_at, group_at, place_at, state_from, state_after, state_of, status_text, statuses_text, names_text, grouped_text, grouped_entries, all_grouped_text, group_entries, place_text, places_text, state_entries, state_bytes}
+use Rattle.serf_message.specs.States.{StatusValue, GroupedValue, GroupValue, StateValue, IsShortGrouped, IsShortGroup}
+use Rattle.serf_message.specs.States.{IsTimed, IsPlaceTimed, IsStateInRange, status_at, statuses_in, grouped_at}
+use Rattle.serf_message.specs.States.{group_at, place_at, state_from, state_after, state_of, status_text, statuses_text}
+use Rattle.serf_message.specs.States.{names_text, grouped_text, grouped_entries, all_grouped_text, group_entries}
+use Rattle.serf_message.specs.States.{place_text, places_text, state_entries, state_bytes}
 use Rattle.serf_message.specs.Writing.{Spelled, Entry, entries_text, map_len_text}
-use Rattle.serf_message.proofs.Again.{read, split, entry_step, fields_again, map_form, two_again, number_again, text_again, huge_again, string_again, array_again}
-use Rattle.serf_message.proofs.Skipped.{ArePassed, both_passed, all_passed, each_passed, list_passed, map_passed, nil_passed, raw_passed, bytes_passed, number_passed, many_again, listed_again}
+use Rattle.serf_message.proofs.Again.{read, split, entry_step, fields_again, map_form, two_again, number_again}
+use Rattle.serf_message.proofs.Again.{text_again, huge_again, string_again, array_again}
+use Rattle.serf_message.proofs.Skipped.{ArePassed, both_passed, all_passed, each_passed, list_passed, map_passed}
+use Rattle.serf_message.proofs.Skipped.{nil_passed, raw_passed, bytes_passed, number_passed, many_again, listed_again}
 use Rattle.serf_message.proofs.Slotting.{no_pairs, filled}
 use Rattle.serf_message.proofs.Written.{alone_again, whole_field_again}
 use Rattle.serf_message.proofs.WrittenTags.{map_len_again}
@@ -24,18 +31,28 @@ use Rattle.serf_message.proofs.WrittenTags.{map_len_again}
 status_again : (s : StatusValue) (rest : List ℕ) → IsTimed s → status_at (status_text s ++ rest) ≡ read s rest
 unfolding status_at
 status_again s rest fits =
-    rw (append_assoc (raw_text s.0) (number_text s.1) rest, text_again s.0 (number_text s.1 ++ rest) fits.0, number_again 0xffff_ffff_ffff_ffff s.1 rest (omega (arith, fits.1)) fits.1) refl
+    rw (
+      append_assoc (raw_text s.0) (number_text s.1) rest,
+      text_again s.0 (number_text s.1 ++ rest) fits.0,
+      number_again 0xffff_ffff_ffff_ffff s.1 rest (omega (arith, fits.1)) fits.1,
+    ) refl
 
 statuses_is : (whole : List ℕ) → 0 < length whole → statuses_in whole ≡ without_rest ((map_len_at >>= many_at status_at) whole)
 statuses_is [] some = absurd (omega arith)
 statuses_is (first ∷ rest) some = refl
 
 some_map_len : (n : ℕ) → 0 < length (map_len_text n)
-some_map_len n = split (ltb n 16) (λ (t : List ℕ). 0 < length t) ((0x80 + n) ∷ []) (0xde ∷ big_bytes 2 n) (λ _. omega arith) (λ _. omega arith)
+some_map_len n = split (ltb n 16) (λ (t : List ℕ). 0 < length t) ((0x80 + n) ∷ []) (0xde ∷ big_bytes 2 n)
+    (λ _. omega arith) (λ _. omega arith)
 
 statuses_again : (xs : List StatusValue) → length xs < 2 ^ 16 → AllByRecursion IsTimed xs → statuses_in (statuses_text xs) ≡ Ok xs
 statuses_again xs few all =
-    statuses_is (statuses_text xs) (omega (arith, some_map_len (length xs), length-append (map_len_text (length xs)) (flat_map status_text xs)))
+    statuses_is (statuses_text xs) (omega (
+      arith,
+      some_map_len (length xs),
+      length-append (map_len_text (length xs))
+          (flat_map status_text xs),
+    ))
     ∙ rw (map_len_again (length xs) (flat_map status_text xs) few)
     (ap (λ (t : List ℕ). without_rest (many_at status_at (length xs) t)) (sym (append-nil (flat_map status_text xs)))
     ∙ ap without_rest (many_again status_at status_text IsTimed status_again xs [] all))
@@ -59,7 +76,9 @@ each_status_passed (x ∷ xs) all =
 
 statuses_passed : (xs : List StatusValue) → length xs < 2 ^ 16 → AllByRecursion IsTimed xs → ArePassed 1 (statuses_text xs)
 statuses_passed xs few all =
-    all_passed (2 * length xs) (map_len_text (length xs)) (flat_map status_text xs) (some_map_len (length xs)) (λ rest. map_len_outside (length xs) rest few) (each_status_passed xs all)
+    all_passed (2 * length xs) (map_len_text (length xs)) (flat_map status_text xs)
+    (some_map_len (length xs)) (λ rest. map_len_outside (length xs) rest few)
+    (each_status_passed xs all)
 
 -- ---- events
 
@@ -68,18 +87,21 @@ unfolding grouped_at
 grouped_again e rest fits =
     let e2 : Entry = (keys.Payload, Spelled.bytes e.1) in
     let e1 : Entry = (keys.Name, Spelled.text e.0) in
-    let s1 = entry_step grouped_layout e1 (e2 ∷ []) no_slots 0 (Slot.raw e.0) rest (lit< tt) refl (lit< tt) (λ more. string_again _ e.0 more fits.0) in
+    let s1 = entry_step grouped_layout e1 (e2 ∷ []) no_slots 0 (Slot.raw e.0) rest (lit< tt) refl (lit< tt)
+    (λ more. string_again _ e.0 more fits.0) in
     let s2 = entry_step grouped_layout e2 [] _ 1 (Slot.raw e.1) rest (lit< tt) refl (lit< tt) (λ more. array_again _ e.1 more fits.1) in
     let fields = fields_again grouped_layout (grouped_entries e) _ rest (lit< tt) (s1 ∙ s2 ∙ no_pairs grouped_layout 0 _ _ refl) in
     rw fields refl
 
 grouped_passed : (e : GroupedValue) → IsShortGrouped e → ArePassed 1 (grouped_text e)
-grouped_passed e fits = map_passed (grouped_entries e) (lit< tt) ((lit< tt, raw_passed e.0 fits.0), ((lit< tt, bytes_passed e.1 fits.1), tt))
+grouped_passed e fits = map_passed (grouped_entries e) (lit< tt)
+    ((lit< tt, raw_passed e.0 fits.0), ((lit< tt, bytes_passed e.1 fits.1), tt))
 
 all_grouped_passed : (g : GroupValue) → IsShortGroup g → ArePassed 1 (all_grouped_text g.events)
 all_grouped_passed g fits = list_passed grouped_text IsShortGrouped grouped_passed g.events fits.1 fits.0
 
-group_again : (g : GroupValue) (rest : List ℕ) → IsShortGroup g → g.time < 2 ^ 64 → group_at (entries_text (group_entries g) ++ rest) ≡ read g rest
+group_again : (g : GroupValue) (rest : List ℕ) → IsShortGroup g → g.time < 2 ^ 64
+    → group_at (entries_text (group_entries g) ++ rest) ≡ read g rest
 unfolding group_at
 group_again g rest fits time =
     let e2 : Entry = (keys.Time, Spelled.number g.time) in
@@ -106,10 +128,12 @@ IsShortText s = length s < 2 ^ 16
 
 abbrev state_slots : StateValue → Slots
 state_slots s =
-    Some (Slot.huge s.time) ∷ Some (Slot.raw (statuses_text s.status_times)) ∷ Some (Slot.raw (names_text s.left_members)) ∷ Some (Slot.huge s.event_time)
+    Some (Slot.huge s.time) ∷ Some (Slot.raw (statuses_text s.status_times)) ∷ Some
+    (Slot.raw (names_text s.left_members)) ∷ Some (Slot.huge s.event_time)
     ∷ Some (Slot.raw (places_text s.events)) ∷ Some (Slot.huge s.query_time) ∷ None ∷ None ∷ None ∷ None ∷ None ∷ []
 
-state_fields_again : (s : StateValue) → IsStateInRange s → fields_at state_layout (entries_text (state_entries s)) ≡ filled (state_slots s) []
+state_fields_again : (s : StateValue) → IsStateInRange s
+    → fields_at state_layout (entries_text (state_entries s)) ≡ filled (state_slots s) []
 state_fields_again s fits =
     let e6 : Entry = (keys.StatusTimes, Spelled.whole (statuses_text s.status_times)) in
     let e5 : Entry = (keys.QueryTime, Spelled.number s.query_time) in
@@ -117,13 +141,19 @@ state_fields_again s fits =
     let e3 : Entry = (keys.Time, Spelled.number s.time) in
     let e2 : Entry = (keys.Events, Spelled.whole (places_text s.events)) in
     let e1 : Entry = (keys.EventTime, Spelled.number s.event_time) in
-    let s1 = entry_step state_layout e1 (e2 ∷ e3 ∷ e4 ∷ e5 ∷ e6 ∷ []) no_slots 3 (Slot.huge s.event_time) [] (lit< tt) refl (lit< tt) (λ more. huge_again _ s.event_time more fits.event_time) in
+    let s1 = entry_step state_layout e1 (e2 ∷ e3 ∷ e4 ∷ e5 ∷ e6 ∷ []) no_slots 3 (Slot.huge s.event_time) []
+    (lit< tt) refl (lit< tt) (λ more. huge_again _ s.event_time more fits.event_time) in
     let s2 = entry_step state_layout e2 (e3 ∷ e4 ∷ e5 ∷ e6 ∷ []) _ 4 (Slot.raw (places_text s.events)) [] (lit< tt) refl (lit< tt)
-    (λ more. whole_field_again _ (places_text s.events) more (list_passed place_text IsPlaceTimed place_passed s.events fits.each_place fits.places)) in
-    let s3 = entry_step state_layout e3 (e4 ∷ e5 ∷ e6 ∷ []) _ 0 (Slot.huge s.time) [] (lit< tt) refl (lit< tt) (λ more. huge_again _ s.time more fits.time) in
+    (λ more. whole_field_again _ (places_text s.events) more
+    (list_passed place_text IsPlaceTimed place_passed s.events fits.each_place fits.places)) in
+    let s3 = entry_step state_layout e3 (e4 ∷ e5 ∷ e6 ∷ []) _ 0 (Slot.huge s.time) [] (lit< tt) refl
+    (lit< tt) (λ more. huge_again _ s.time more fits.time) in
     let s4 = entry_step state_layout e4 (e5 ∷ e6 ∷ []) _ 2 (Slot.raw (names_text s.left_members)) [] (lit< tt) refl (lit< tt)
-    (λ more. whole_field_again _ (names_text s.left_members) more (list_passed raw_text IsShortText raw_passed s.left_members fits.left_members.1 fits.left_members.0)) in
-    let s5 = entry_step state_layout e5 (e6 ∷ []) _ 5 (Slot.huge s.query_time) [] (lit< tt) refl (lit< tt) (λ more. huge_again _ s.query_time more fits.query_time) in
+    (λ more. whole_field_again _ (names_text s.left_members) more
+    (list_passed raw_text IsShortText raw_passed s.left_members fits.left_members.1
+    fits.left_members.0)) in
+    let s5 = entry_step state_layout e5 (e6 ∷ []) _ 5 (Slot.huge s.query_time) [] (lit< tt) refl (lit< tt)
+    (λ more. huge_again _ s.query_time more fits.query_time) in
     let s6 = entry_step state_layout e6 [] _ 1 (Slot.raw (statuses_text s.status_times)) [] (lit< tt) refl (lit< tt)
     (λ more. whole_field_again _ (statuses_text s.status_times) more (statuses_passed s.status_times fits.statuses fits.each_status)) in
     alone_again state_layout (state_entries s) (state_slots s) (lit< tt) (s1 ∙ s2 ∙ s3 ∙ s4 ∙ s5 ∙ s6 ∙ no_pairs state_layout 0 _ _ refl)

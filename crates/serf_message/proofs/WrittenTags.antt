@@ -19,10 +19,15 @@ map_len_again n rest lt =
 
 tag_again : (tag : TagValue) (rest : List ℕ) → IsShortTag tag → tag_at (tag_text tag ++ rest) ≡ read tag rest
 unfolding tag_at
-tag_again tag rest fits = rw (append_assoc (raw_text tag.0) (raw_text tag.1) rest, text_again tag.0 (raw_text tag.1 ++ rest) fits.0, text_again tag.1 rest fits.1) refl
+tag_again tag rest fits = rw (
+  append_assoc (raw_text tag.0) (raw_text tag.1) rest,
+  text_again tag.0 (raw_text tag.1 ++ rest) fits.0,
+  text_again tag.1 rest fits.1,
+) refl
 
 pub tags_again : (tags : List TagValue) → length tags < 2 ^ 16 → AllByRecursion IsShortTag tags → tags_of (tags_bytes tags) ≡ Ok tags
 unfolding tags_at
 tags_again tags few all =
-    let many = ap (many_at tag_at (length tags)) (sym (append-nil (flat_map tag_text tags))) ∙ many_again tag_at tag_text IsShortTag tag_again tags [] all in
+    let many = ap (many_at tag_at (length tags)) (sym (append-nil (flat_map tag_text tags)))
+    ∙ many_again tag_at tag_text IsShortTag tag_again tags [] all in
     rw (map_len_again (length tags) (flat_map tag_text tags) few, many) refl

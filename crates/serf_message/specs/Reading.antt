@@ -1,6 +1,8 @@
 -- The readings of values as Serf's decoder reads them (go-msgpack's decode.go and msgpack.go):
 -- what is read from the start of the bytes and what is left, or the fault.
-use Rattle.std.specs.Prelude.{◌≡◌, ◌⊎◌, ℕ, ℤ, zero, suc, ◌+◌, ◌-◌, ◌*◌, Bool, true, false, List, [], ◌∷◌, ◌++◌, length, take, drop, Option, Some, None, Result, Ok, Err, nat_lt, ◌==◌, if◌then◌else◌, position, slice_set}
+use Rattle.std.specs.Prelude.{◌≡◌, ◌⊎◌, ℕ, ℤ, zero, suc, ◌+◌, ◌-◌, ◌*◌, Bool, true, false, List, [], ◌∷◌, ◌++◌, length}
+use Rattle.std.specs.Prelude.{take, drop, Option, Some, None, Result, Ok, Err, nat_lt, ◌==◌, if◌then◌else◌, position}
+use Rattle.std.specs.Prelude.{slice_set}
 use Rattle.std.specs.Str.{bytes_eq}
 use Rattle.std.specs.Int.{w8, w64, cast_signed}
 use Rattle.byteorder.specs.Endian.{big_number, twos_complement}
@@ -8,7 +10,8 @@ use Rattle.swim_pack.specs.Composing.{◌>>=◌, gives, refuses, some_or, lift}
 use Rattle.swim_pack.specs.Composing as composing
 use Rattle.swim_pack.specs.Reading.{uint_at}
 use Rattle.serf_message.specs.declared.fault.SerfFault.{SerfFault}
-use Rattle.serf_message.specs.declared.fault.SerfFault.TheVariants.{Ended, NotNumber, NotBool, NotRaw, NotMap, NotFloat, NotValue, WrongType, Trailing, Memory}
+use Rattle.serf_message.specs.declared.fault.SerfFault.TheVariants.{Ended, NotNumber, NotBool, NotRaw, NotMap, NotFloat}
+use Rattle.serf_message.specs.declared.fault.SerfFault.TheVariants.{NotValue, WrongType, Trailing, Memory}
 use Rattle.serf_message.specs.Fault.{fault_of_pack}
 use Rattle.serf_message.specs.declared.form.Count.{Count}
 use Rattle.serf_message.specs.declared.form.Count.TheVariants.{Fixed, One, Two, Four}

@@ -2,7 +2,8 @@
 
 ghost use Rattle.std.specs.Prelude.{◌≡◌, ◌<◌, ◌^◌, ◌++◌, Ok, length, MatchResult, IfOk, OnOk};
 ghost use Rattle.std.specs.List.{flat_map};
-ghost use Rattle.serf_message.specs.Coordinates.{coordinate_of, coordinate_after, coordinate_from, coordinate_value, coordinate_bytes, floats_text};
+ghost use Rattle.serf_message.specs.Coordinates.{coordinate_of, coordinate_after, coordinate_from, coordinate_value};
+ghost use Rattle.serf_message.specs.Coordinates.{coordinate_bytes, floats_text};
 ghost use Rattle.serf_message.specs.Reading.{IsFault, float_at};
 ghost use Rattle.serf_message.specs.Many.{many_at, listed};
 ghost use Rattle.serf_message.specs.Values.{slots_of};

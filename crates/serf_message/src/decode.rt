@@ -1,7 +1,11 @@
 //! One message from its bytes.
 
 ghost use Rattle.std.specs.Prelude.{◌≡◌, Ok, MatchResult, map};
-ghost use Rattle.serf_message.specs.Messages.{message_of, message_after, leave_after, join_after, event_after, query_after, query_from, response_after, relay_after, message_value, leave_value, join_value, event_value, query_value, response_value, relay_value, leave_of, join_of, event_of, query_of, response_of, relay_of};
+ghost use Rattle.serf_message.specs.Messages.{message_of, message_after, leave_after, join_after, event_after};
+ghost use Rattle.serf_message.specs.Messages.{query_after, query_from, response_after, relay_after, message_value};
+ghost use Rattle.serf_message.specs.Messages.{leave_value, join_value, event_value, query_value, response_value};
+ghost use Rattle.serf_message.specs.Messages.{relay_value, leave_of, join_of, event_of, query_of, response_of};
+ghost use Rattle.serf_message.specs.Messages.{relay_of};
 ghost use Rattle.serf_message.specs.Reading.{IsFault};
 ghost use Rattle.serf_message.specs.Values.{slots_of};
 

@@ -2,8 +2,11 @@
 //! go-msgpack writes them in its old form.
 
 ghost use Rattle.std.specs.Prelude.{◌≡◌, ◌<◌, ◌^◌, ◌++◌, ◌∷◌, length, IfOk, OnOk};
-ghost use Rattle.serf_message.specs.Messages.{message_value, leave_value, join_value, event_value, query_value, response_value, relay_value};
-ghost use Rattle.serf_message.specs.Writing.{IsShort, IsShortQuery, IsShortRelay, message_bytes, entries_text, list_text, leave_entries, join_entries, event_entries, query_entries, response_entries, relay_entries};
+ghost use Rattle.serf_message.specs.Messages.{message_value, leave_value, join_value, event_value, query_value};
+ghost use Rattle.serf_message.specs.Messages.{response_value, relay_value};
+ghost use Rattle.serf_message.specs.Writing.{IsShort, IsShortQuery, IsShortRelay, message_bytes, entries_text};
+ghost use Rattle.serf_message.specs.Writing.{list_text, leave_entries, join_entries, event_entries, query_entries};
+ghost use Rattle.serf_message.specs.Writing.{response_entries, relay_entries};
 
 use crate::decode::{
     EVENT_MESSAGE, JOIN_MESSAGE, LEAVE_MESSAGE, QUERY_MESSAGE, RELAY_MESSAGE, RESPONSE_MESSAGE,

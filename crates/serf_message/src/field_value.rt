@@ -3,7 +3,8 @@
 ghost use Rattle.std.specs.Prelude.{◌≡◌, Ok, Err, MatchResult};
 ghost use Rattle.std.specs.Option.{option_map};
 ghost use Rattle.serf_message.specs.Reading.{number_value_at};
-ghost use Rattle.serf_message.specs.Slots.{huge_or_zero, long_or_zero, short_or_zero, tiny_or_zero, signed_or_zero, raw_or_empty, flag_or_false};
+ghost use Rattle.serf_message.specs.Slots.{huge_or_zero, long_or_zero, short_or_zero, tiny_or_zero, signed_or_zero};
+ghost use Rattle.serf_message.specs.Slots.{raw_or_empty, flag_or_false};
 ghost use Rattle.serf_message.specs.Values.{slot_of};
 
 use crate::fault::SerfFault;

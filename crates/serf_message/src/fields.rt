@@ -2,7 +2,8 @@
 
 ghost use Rattle.std.specs.Prelude.{◌≡◌, ◌<◌, ◌≤◌, ℕ, List, Ok, length, MatchResult, IfSome};
 ghost use Rattle.std.specs.Option.{option_map};
-ghost use Rattle.serf_message.specs.Reading.{IsFault, alone, without_rest, in_map, in_list, fields_at, fields_in, fields_of, pairs_at, pair_at, elements_at, place_of, slot_at, value_at};
+ghost use Rattle.serf_message.specs.Reading.{IsFault, alone, without_rest, in_map, in_list, fields_at, fields_in};
+ghost use Rattle.serf_message.specs.Reading.{fields_of, pairs_at, pair_at, elements_at, place_of, slot_at, value_at};
 ghost use Rattle.serf_message.specs.Slots.{no_slots, raw_in};
 ghost use Rattle.serf_message.specs.Values.{slot_of, slots_of};
 ghost use Rattle.serf_message.specs.declared.fields.TheConstants.{SLOTS};

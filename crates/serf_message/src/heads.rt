@@ -2,7 +2,8 @@
 //! bytes after it.
 
 ghost use Rattle.std.specs.Prelude.{◌≡◌, ◌≤◌, Ok, Err, length, MatchResult, IfOk};
-ghost use Rattle.serf_message.specs.Reading.{body_of, byte_at, bytes_at, count_at, number_at, float_at, flag_of, flag_at, text_count, text_at};
+ghost use Rattle.serf_message.specs.Reading.{body_of, byte_at, bytes_at, count_at, number_at, float_at, flag_of};
+ghost use Rattle.serf_message.specs.Reading.{flag_at, text_count, text_at};
 
 use crate::fault::SerfFault;
 use crate::form::{Count, Form, form_of};

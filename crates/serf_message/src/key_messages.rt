@@ -1,7 +1,9 @@
 //! The messages about keys that queries of Serf and their responses carry.
 
 ghost use Rattle.std.specs.Prelude.{◌≡◌, ◌<◌, ◌^◌, ◌++◌, Ok, length, MatchResult, IfOk, OnOk};
-ghost use Rattle.serf_message.specs.KeyMessages.{key_request_of, key_request_after, key_request_bytes, key_response_of, key_response_after, key_response_from, key_response_value, key_response_bytes, texts_text, IsShortKeyResponse};
+ghost use Rattle.serf_message.specs.KeyMessages.{key_request_of, key_request_after, key_request_bytes, key_response_of};
+ghost use Rattle.serf_message.specs.KeyMessages.{key_response_after, key_response_from, key_response_value};
+ghost use Rattle.serf_message.specs.KeyMessages.{key_response_bytes, texts_text, IsShortKeyResponse};
 ghost use Rattle.serf_message.specs.Reading.{IsFault};
 ghost use Rattle.serf_message.specs.Values.{slots_of};
 

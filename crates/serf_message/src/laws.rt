@@ -3,7 +3,8 @@
 ghost use Rattle.std.specs.Prelude.{◌≡◌, ◌<◌, ◌^◌, ℕ, List, Ok, length};
 ghost use Rattle.std.specs.List.{AllByRecursion};
 ghost use Rattle.serf_message.specs.Coordinates.{CoordinateValue, IsCoordinateInRange, coordinate_of, coordinate_bytes};
-ghost use Rattle.serf_message.specs.KeyMessages.{KeyResponseValue, IsShortKeyResponse, key_request_of, key_request_bytes, key_response_of, key_response_bytes};
+ghost use Rattle.serf_message.specs.KeyMessages.{KeyResponseValue, IsShortKeyResponse, key_request_of};
+ghost use Rattle.serf_message.specs.KeyMessages.{key_request_bytes, key_response_of, key_response_bytes};
 ghost use Rattle.serf_message.specs.Messages.{MessageValue, message_of};
 ghost use Rattle.serf_message.specs.States.{StateValue, IsStateInRange, state_of, state_bytes};
 ghost use Rattle.serf_message.specs.Tags.{TagValue, IsShortTag, tags_of, tags_bytes};

@@ -3,7 +3,9 @@
 ghost use Rattle.std.specs.Prelude.{◌≡◌, Ok, map, MatchResult};
 ghost use Rattle.serf_message.specs.Reading.{IsFault};
 ghost use Rattle.serf_message.specs.Many.{listed, many_at};
-ghost use Rattle.serf_message.specs.States.{state_of, state_after, state_from, state_value, statuses_in, status_at, status_value, place_at, place_value, group_at, group_value, grouped_at, grouped_value};
+ghost use Rattle.serf_message.specs.States.{state_of, state_after, state_from, state_value, statuses_in, status_at};
+ghost use Rattle.serf_message.specs.States.{status_value, place_at, place_value, group_at, group_value, grouped_at};
+ghost use Rattle.serf_message.specs.States.{grouped_value};
 ghost use Rattle.serf_message.specs.Slots.{raw_in};
 ghost use Rattle.serf_message.specs.Values.{slots_of};
 

@@ -5,7 +5,8 @@ ghost use Rattle.std.specs.Prelude.{◌≡◌, ◌<◌, ◌≤◌, ◌^◌, ◌+
 ghost use Rattle.std.specs.List.{AllByRecursion, flat_map};
 ghost use Rattle.swim_pack.specs.Spelling.{raw_text};
 ghost use Rattle.serf_message.specs.KeyMessages.{texts_text};
-ghost use Rattle.serf_message.specs.Writing.{bytes_text, negative_text, signed_text, list_len_text, map_len_text, float_text, list_text, IsShortList};
+ghost use Rattle.serf_message.specs.Writing.{bytes_text, negative_text, signed_text, list_len_text, map_len_text};
+ghost use Rattle.serf_message.specs.Writing.{float_text, list_text, IsShortList};
 
 use std::alloc::AllocError;
 use swim_pack::{write_raw, write_uint};

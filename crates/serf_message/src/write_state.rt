@@ -2,7 +2,10 @@
 
 ghost use Rattle.std.specs.Prelude.{◌≡◌, ◌<◌, ◌^◌, ◌++◌, length, map, IfOk, OnOk};
 ghost use Rattle.std.specs.List.{AllByRecursion, flat_map};
-ghost use Rattle.serf_message.specs.States.{IsShortState, IsShortStatus, IsShortGrouped, IsShortGroup, IsShortPlace, state_bytes, state_value, state_entries, statuses_text, status_text, status_value, names_text, places_text, place_text, place_value, group_entries, group_value, all_grouped_text, grouped_text, grouped_value};
+ghost use Rattle.serf_message.specs.States.{IsShortState, IsShortStatus, IsShortGrouped, IsShortGroup, IsShortPlace};
+ghost use Rattle.serf_message.specs.States.{state_bytes, state_value, state_entries, statuses_text, status_text};
+ghost use Rattle.serf_message.specs.States.{status_value, names_text, places_text, place_text, place_value};
+ghost use Rattle.serf_message.specs.States.{group_entries, group_value, all_grouped_text, grouped_text, grouped_value};
 ghost use Rattle.serf_message.specs.Writing.{IsShortList, entries_text};
 
 use crate::layout::Key;

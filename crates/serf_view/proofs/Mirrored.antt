@@ -1,12 +1,15 @@
 -- The square of a difference is that of the difference the other way round.
-use Rattle.std.proofs.Common.{◌≡◌, ℕ, zero, suc, ◌+◌, ◌-◌, ◌*◌, ◌^◌, ℤ, pos, Bool, true, false, not, ◌&&◌, nat_eq, cond, if◌then◌else◌, None, List, [], ◌∷◌, length, refl, sym, ap, ◌∙◌, arith}
+use Rattle.std.proofs.Common.{◌≡◌, ℕ, zero, suc, ◌+◌, ◌-◌, ◌*◌, ◌^◌, ℤ, pos, Bool, true, false, not, ◌&&◌, nat_eq, cond}
+use Rattle.std.proofs.Common.{if◌then◌else◌, None, List, [], ◌∷◌, length, refl, sym, ap, ◌∙◌, arith}
 use Rattle.std.proofs.Math.Nat.{mul_comm, add_comm}
 use Rattle.std.proofs.Math.Dec.{ltb}
 use Rattle.std.proofs.lemmas.Bool.Decides.{nat_tests}
 use Rattle.std.specs.Float.{Float, binary64, nan, inf, fin, sqrt, float_zero}
 use Rattle.std.specs.Float.Ieee.{add, sub, mul, neg, sum, round, units, odd, prec, low, up, down, emax}
 use Rattle.serf_message.specs.Coordinates.{CoordinateValue}
-use Rattle.serf_view.specs.RoundTrip.{number, is_valid, are_comparable, difference, square, squares_after, magnitude, plus_both, raw_distance, if_positive, distance, a_billion, whole_of, round_trip_of}
+use Rattle.serf_view.specs.RoundTrip.{number, is_valid, are_comparable, difference, square, squares_after, magnitude}
+use Rattle.serf_view.specs.RoundTrip.{plus_both, raw_distance, if_positive, distance, a_billion, whole_of}
+use Rattle.serf_view.specs.RoundTrip.{round_trip_of}
 
 signs_square : (s t : Bool) (m : ℕ) (e : ℤ) → square (fin s m e) ≡ square (fin t m e)
 unfolding mul

@@ -6,7 +6,8 @@ ghost use Rattle.std.specs.List.{list_all};
 ghost use Rattle.std.specs.Float.{binary64};
 ghost use Rattle.std.specs.Float.Ieee.{mul};
 ghost use Rattle.serf_message.specs.Coordinates.{coordinate_value};
-ghost use Rattle.serf_view.specs.RoundTrip.{number, is_valid, is_valid_number, are_comparable, magnitude, distance, a_billion, whole_of, round_trip_of};
+ghost use Rattle.serf_view.specs.RoundTrip.{number, is_valid, is_valid_number, are_comparable, magnitude, distance};
+ghost use Rattle.serf_view.specs.RoundTrip.{a_billion, whole_of, round_trip_of};
 
 use serf_message::Coordinate;
 use std::num::{f64_from_bits_with_nan, saturating_f64_to_u64};

@@ -1,13 +1,18 @@
 -- Readings that consume no more than determines their value.
-use Rattle.std.proofs.Common.{◌≡◌, ℕ, ◌-◌, ◌*◌, ◌^◌, ◌<◌, Bool, true, false, ltb, nat_lt, List, [], ◌∷◌, ◌++◌, length, take, drop, Option, Some, None, Result, Ok, Err, refl, sym, ap, ◌∙◌, append_assoc, length-append, if◌then◌else◌, arith}
+use Rattle.std.proofs.Common.{◌≡◌, ℕ, ◌-◌, ◌*◌, ◌^◌, ◌<◌, Bool, true, false, ltb, nat_lt, List, [], ◌∷◌, ◌++◌, length}
+use Rattle.std.proofs.Common.{take, drop, Option, Some, None, Result, Ok, Err, refl, sym, ap, ◌∙◌, append_assoc}
+use Rattle.std.proofs.Common.{length-append, if◌then◌else◌, arith}
 use Rattle.std.proofs.lemmas.Bool.{lt-ltb, le-ltb, ltb-false}
 use Rattle.std.proofs.lemmas.List.{take-append-drop, length-take-le, take_at, drop_at}
 use Rattle.swim_pack.specs.declared.fault.PackFault.{PackFault}
 use Rattle.swim_pack.specs.declared.fault.PackFault.TheVariants.{Ended}
 use Rattle.swim_pack.specs.declared.form.Form.{Form}
 use Rattle.swim_pack.specs.declared.form.Form.TheVariants.{Fixed, Unsigned, Signed}
-use Rattle.swim_pack.specs.Composing.{Reading, then_read, ◌>>=◌, gives, refuses, some_or, within, lift, lift_error, Cause, ConsumesMinimalPrefix, same}
-use Rattle.swim_pack.specs.Reading.{cause_of, next_bytes, next_byte, big_at, positive_at, after_form, head_at, number_form, raw_form, count_form, uint_at, count_at, raw_len_at, raw_at, flag_of_byte, flag_at}
+use Rattle.swim_pack.specs.Composing.{Reading, then_read, ◌>>=◌, gives, refuses, some_or, within, lift, lift_error}
+use Rattle.swim_pack.specs.Composing.{Cause, ConsumesMinimalPrefix, same}
+use Rattle.swim_pack.specs.Reading.{cause_of, next_bytes, next_byte, big_at, positive_at, after_form, head_at}
+use Rattle.swim_pack.specs.Reading.{number_form, raw_form, count_form, uint_at, count_at, raw_len_at, raw_at}
+use Rattle.swim_pack.specs.Reading.{flag_of_byte, flag_at}
 use Rattle.swim_pack.proofs.Composing.{ConsumedText, ConsumesMinimalPrefix-then, ConsumesMinimalPrefix-lift, none_shorter}
 use Rattle.swim_pack.proofs.Pulls.{next_bytes-whole, next_bytes-short}
 
@@ -34,7 +39,8 @@ pub prompt-then : {E V W : Type 0} {cause : E → Cause} {first : Reading E V} {
     ((value : V) → IsPrompt cause (next value)) → IsPrompt cause (first >>= next)
 prompt-then {E} {V} {W} {cause} {first} {next} p q = record { by = λ bytes value rest e. by_first bytes value rest (first bytes) refl e }
   where
-    by_first : (bytes : List ℕ) (value : W) (rest : List ℕ) (r : Result (V × List ℕ) E) → first bytes ≡ r → then_read next r ≡ Ok (value, rest)
+    by_first : (bytes : List ℕ) (value : W) (rest : List ℕ) (r : Result (V × List ℕ) E) → first bytes ≡ r
+        → then_read next r ≡ Ok (value, rest)
         → ConsumedText (ConsumesMinimalPrefix {X = W} cause same (first >>= next) (Ok value)) bytes rest
     by_first bytes value rest (Ok r) is e =
         let front = p.by bytes r.0 r.1 is in
@@ -72,9 +78,11 @@ prompt-if false p q = q
 
 pub prompt-lift : {E F V : Type 0} {cause : E → Cause} {above : F → Cause} {reading : Reading E V} (f : E → F) →
     ((error : E) → above (f error) ≡ cause error) → IsPrompt cause reading → IsPrompt above (lift f reading)
-prompt-lift {E} {F} {V} {cause} {above} {reading} f same_cause p = record { by = λ bytes value rest e. by_read bytes value rest (reading bytes) refl e }
+prompt-lift {E} {F} {V} {cause} {above} {reading} f same_cause p = record
+    { by = λ bytes value rest e. by_read bytes value rest (reading bytes) refl e }
   where
-    by_read : (bytes : List ℕ) (value : V) (rest : List ℕ) (r : Result (V × List ℕ) E) → reading bytes ≡ r → lift_error f r ≡ Ok (value, rest)
+    by_read : (bytes : List ℕ) (value : V) (rest : List ℕ) (r : Result (V × List ℕ) E) → reading bytes ≡ r
+        → lift_error f r ≡ Ok (value, rest)
         → ConsumedText (ConsumesMinimalPrefix {X = V} above same (lift f reading) (Ok value)) bytes rest
     by_read bytes value rest (Ok r) is e =
         let t = p.by bytes value rest (is ∙ cc) in
@@ -117,10 +125,13 @@ prompt-next_bytes n = record { by = λ bytes value rest e. by_length bytes value
             determines =
                 λ more. next_bytes-whole n (take n bytes) more long ∙ ap (λ (v : List ℕ). read v more)
                 (same_value {E = PackFault} (take n bytes) value (drop n bytes) rest e);
-            waits = λ free front more parts some. rw (next_bytes-short n front (omega (arith, long, ap length parts ∙ length-append front more, some))) refl;
+            waits = λ free front more parts some. rw (next_bytes-short n front
+                (omega (arith, long, ap length parts ∙ length-append front more, some))) refl;
           };
           parts =
-              sym (take-append-drop n bytes) ∙ ap (λ (r : List ℕ). take n bytes ++ r) (same_rest {E = PackFault} (take n bytes) value (drop n bytes) rest e);
+              sym (take-append-drop n bytes) ∙ ap
+              (λ (r : List ℕ). take n bytes ++ r)
+              (same_rest {E = PackFault} (take n bytes) value (drop n bytes) rest e);
         }
 
 pub prompt-within : {E : Type 0} {cause : E → Cause} (error : E) (max v : ℕ) → IsPrompt cause (within error max v)

@@ -1,5 +1,6 @@
 -- Reads of the next bytes, by one pull.
-use Rattle.std.proofs.Common.{◌≡◌, ℕ, ◌<◌, ◌≤◌, true, false, ltb, List, [], ◌∷◌, ◌++◌, length, take, drop, get_or, Option, Some, None, Ok, Err, refl, sym, ap, ◌∙◌, length-append, arith}
+use Rattle.std.proofs.Common.{◌≡◌, ℕ, ◌<◌, ◌≤◌, true, false, ltb, List, [], ◌∷◌, ◌++◌, length, take, drop, get_or}
+use Rattle.std.proofs.Common.{Option, Some, None, Ok, Err, refl, sym, ap, ◌∙◌, length-append, arith}
 use Rattle.std.proofs.lemmas.Bool.{lt-ltb, le-ltb}
 use Rattle.std.proofs.lemmas.List.{take_at, drop_at}
 use Rattle.std.specs.Io.KnownBytes.{Consumes}
@@ -22,7 +23,8 @@ pub next_bytes-short : (n : ℕ) (front : List ℕ) → length front < n → nex
 next_bytes-short n front below = let cut : ltb (length front) n ≡ true = lt-ltb _ _ below in rw cut refl
 
 -- the pull gave them
-pub Reads-pulled : {X : Type 0} {a b : Source} {x : X} (n : ℕ) (got : List ℕ) → length got ≡ n → Consumes a.coming b.coming got → a.faults ≤ b.faults
+pub Reads-pulled : {X : Type 0} {a b : Source} {x : X} (n : ℕ) (got : List ℕ) → length got ≡ n
+    → Consumes a.coming b.coming got → a.faults ≤ b.faults
     → Reads (λ (_ : X). got) (next_bytes n) a b (Ok x)
 Reads-pulled {X} {a} {b} {x} n got long gone stay = record {
   rest = (got, gone);
@@ -30,7 +32,8 @@ Reads-pulled {X} {a} {b} {x} n got long gone stay = record {
   takes = ConsumesText-consumed a.coming b.coming _ got
       (record {
         determines = λ more. next_bytes-whole n got more long;
-        waits = λ free front more parts some. rw (next_bytes-short n front (omega (arith, long, ap length parts ∙ length-append front more, some))) refl;
+        waits = λ free front more parts some. rw (next_bytes-short n front
+            (omega (arith, long, ap length parts ∙ length-append front more, some))) refl;
       }) gone;
   fault = tt;
   faults_stay = stay;
@@ -42,7 +45,8 @@ Reads-pulled {X} {a} {b} {x} n got long gone stay = record {
     answered (Some bytes) (Some rest) gone = ap (next_bytes n) gone ∙ next_bytes-whole n got rest long
 
 -- the bytes ended before
-pub Reads-ended : {X : Type 0} {view : X → List ℕ} {a b : Source} (n : ℕ) → IsShorter a.coming n → ConsumesSome a.coming b.coming → a.faults ≤ b.faults
+pub Reads-ended : {X : Type 0} {view : X → List ℕ} {a b : Source} (n : ℕ) → IsShorter a.coming n
+    → ConsumesSome a.coming b.coming → a.faults ≤ b.faults
     → Reads {X = X} view (next_bytes n) a b (Err Ended)
 Reads-ended {X} {view} {a} {b} n short over stay = record {
   rest = over;
@@ -59,7 +63,8 @@ Reads-ended {X} {view} {a} {b} n short over stay = record {
     no_more : (text : List ℕ) → length text ≤ n → ConsumesMinimalPrefix {X = X} cause_of view (next_bytes n) (Err Ended) text
     no_more text few = record {
       determines = λ by. absurd cc;
-      waits = λ free front more parts some. rw (next_bytes-short n front (omega (arith, few, ap length parts ∙ length-append front more, some))) refl;
+      waits = λ free front more parts some. rw (next_bytes-short n front
+          (omega (arith, few, ap length parts ∙ length-append front more, some))) refl;
     }
 
     taken : (old new : Option (List ℕ)) → IsShorter old n → ConsumesSome old new → ConsumesKnownText old new
@@ -70,12 +75,14 @@ Reads-ended {X} {view} {a} {b} n short over stay = record {
         (over.0, no_more over.0 (omega (arith, short, ap length over.1 ∙ length-append over.0 rest)), over.1)
 
 -- the inlet failed
-pub Reads-failed : {X : Type 0} {view : X → List ℕ} {a b : Source} (n : ℕ) → CountsFault a.faults b.faults → ConsumesSome a.coming b.coming → a.faults ≤ b.faults
+pub Reads-failed : {X : Type 0} {view : X → List ℕ} {a b : Source} (n : ℕ) → CountsFault a.faults b.faults
+    → ConsumesSome a.coming b.coming → a.faults ≤ b.faults
     → Reads {X = X} view (next_bytes n) a b (Err Fault)
 Reads-failed {X} {view} {a} {b} n rose over stay = record {
   rest = over;
   answer = answered a.coming b.coming;
-  takes = ConsumesText-consumed a.coming b.coming _ over.0 (record { determines = λ by. absurd cc; waits = λ free. absurd (free refl) }) over.1;
+  takes = ConsumesText-consumed a.coming b.coming _ over.0
+      (record { determines = λ by. absurd cc; waits = λ free. absurd (free refl) }) over.1;
   fault = λ e. rose;
   faults_stay = stay;
 }

@@ -1,5 +1,7 @@
 -- What one event does to the nodes of a cluster.
-use Rattle.std.proofs.Common.{◌≡◌, ◌≢◌, ◌⊎◌, ℕ, ◌+◌, ◌<◌, ◌≤◌, Bool, true, false, Option, Some, None, Result, Ok, Err, List, [], ◌∷◌, ◌++◌, length, get_or, set, take, drop, if◌then◌else◌, refl, sym, ap, subst, ◌∙◌, inl, inr, arith, length-set, append-nil}
+use Rattle.std.proofs.Common.{◌≡◌, ◌≢◌, ◌⊎◌, ℕ, ◌+◌, ◌<◌, ◌≤◌, Bool, true, false, Option, Some, None, Result, Ok, Err}
+use Rattle.std.proofs.Common.{List, [], ◌∷◌, ◌++◌, length, get_or, set, take, drop, if◌then◌else◌, refl, sym, ap, subst}
+use Rattle.std.proofs.Common.{◌∙◌, inl, inr, arith, length-set, append-nil}
 use Rattle.std.specs.Option.{option_map}
 use Rattle.std.specs.Prelude.{slice_get, IfOk, IfSome, OnOk, OnErr}
 use Rattle.std.specs.Result.{result_eq}
@@ -18,7 +20,8 @@ use Rattle.swim_sync.specs.declared.event.Event.{Event}
 use Rattle.swim_sync.specs.declared.event.Event.TheVariants.{Hear, HearAll, Exchange, Half, Refute}
 use Rattle.swim_sync.specs.declared.stop.Why.{Why}
 use Rattle.swim_sync.specs.declared.stop.Why.TheVariants as why
-use Rattle.swim_sync.specs.Cluster.{member_of, members_of, TablesOf, Dumps, CanHappen, EachCanHappen, Ran, BothExchange, DumpsTooMany, StopsBy}
+use Rattle.swim_sync.specs.Cluster.{member_of, members_of, TablesOf, Dumps, CanHappen, EachCanHappen, Ran, BothExchange}
+use Rattle.swim_sync.specs.Cluster.{DumpsTooMany, StopsBy}
 use Rattle.swim_sync.specs.OverMemory.{Hinders}
 use Rattle.swim_sync.specs.Exchanging.{HasTooMany}
 use Rattle.swim_sync.specs.Heard.{Member, heard, heard_by, hear, hear_both, after, refutation, refutation_of, refutation_by}
@@ -51,13 +54,15 @@ module _ {T E : Type 0} (r : Result T E) (P : Type 0) where
       by_answer (Err y) = p
 
 -- the node at an index
-pub node_at : (nodes : List NodeValue) (k : ℕ) (node : NodeValue) → k < length nodes → node ≡ get_or nodes k node → slice_get nodes k ≡ Some node
+pub node_at : (nodes : List NodeValue) (k : ℕ) (node : NodeValue) → k < length nodes
+    → node ≡ get_or nodes k node → slice_get nodes k ≡ Some node
 node_at nodes k node below is = slice_get_read nodes (length nodes) k node refl below is
 
 -- ---- one node hears more
 
 pub one_hears : (nodes : List NodeValue) (lists : List (List Claim)) (k : ℕ) (node new : NodeValue) (added : List Claim)
-    → TablesOf nodes lists → slice_get nodes k ≡ Some node → (TableOf node.table (heard_by lists k) → TableOf new.table (heard_by lists k ++ added))
+    → TablesOf nodes lists → slice_get nodes k ≡ Some node
+    → (TableOf node.table (heard_by lists k) → TableOf new.table (heard_by lists k ++ added))
     → TablesOf (set nodes k new) (hear lists k added)
 one_hears nodes lists k node new added h at takes = record {
   number = length-set lists k (heard_by lists k ++ added) ∙ h.number ∙ sym (length-set nodes k new);
@@ -87,7 +92,8 @@ pub ran_one : (nodes : List NodeValue) (k : ℕ) (node new : NodeValue) (event :
     → Ran nodes (set nodes k new) (event ∷ [])
 ran_one nodes k node new event adds at same hears takes can = record {
   members = members_same nodes k node new at (member_same node new same);
-  tables = λ lists h. subst (TablesOf (set nodes k new)) (sym (hears lists h)) (one_hears nodes lists k node new (adds lists) h at (takes lists));
+  tables = λ lists h. subst (TablesOf (set nodes k new)) (sym (hears lists h))
+      (one_hears nodes lists k node new (adds lists) h at (takes lists));
   could = λ lists h. (can lists h, tt);
 }
 
@@ -100,14 +106,23 @@ pub ran_hear : (nodes : List NodeValue) (k : ℕ) (node new : NodeValue) (claim 
     → Ran nodes (set nodes k new) (Hear k claim ∷ [])
 ran_hear nodes k node new claim at same takes =
     ran_one nodes k node new (Hear k claim) (λ lists. claim ∷ []) at same (λ lists h. refl) (λ lists. takes (heard_by lists k))
-    (λ lists h. record { named = named_heard nodes lists k h (slice_get_within nodes k node at); differ = λ no. no; few = λ y table no. absurd no })
+    (λ lists h. record {
+      named = named_heard nodes lists k h (slice_get_within nodes k node at);
+      differ = λ no. no;
+      few = λ y table no. absurd no;
+    })
 
-pub ran_hear_all : (nodes : List NodeValue) (k : ℕ) (node new : NodeValue) (all : List Claim) → slice_get nodes k ≡ Some node → SameMember node new
+pub ran_hear_all : (nodes : List NodeValue) (k : ℕ) (node new : NodeValue) (all : List Claim)
+    → slice_get nodes k ≡ Some node → SameMember node new
     → ((claims : List Claim) → TableOf node.table claims → TableOf new.table (claims ++ all))
     → Ran nodes (set nodes k new) (HearAll k all ∷ [])
 ran_hear_all nodes k node new all at same takes =
     ran_one nodes k node new (HearAll k all) (λ lists. all) at same (λ lists h. refl) (λ lists. takes (heard_by lists k))
-    (λ lists h. record { named = named_heard nodes lists k h (slice_get_within nodes k node at); differ = λ no. no; few = λ y table no. absurd no })
+    (λ lists h. record {
+      named = named_heard nodes lists k h (slice_get_within nodes k node at);
+      differ = λ no. no;
+      few = λ y table no. absurd no;
+    })
 
 -- ---- a node that is unchanged
 
@@ -133,10 +148,15 @@ ran_refute nodes k node new at same takes =
     ran_one nodes k node new (Refute k) (λ lists. refutation (member_of node) (heard_by lists k)) at same
     (λ lists h. ap (hear lists k) (refutation_at nodes lists k node at))
     (λ lists. takes (heard_by lists k))
-    (λ lists h. record { named = named_heard nodes lists k h (slice_get_within nodes k node at); differ = λ no. no; few = λ y table no. absurd no })
+    (λ lists h. record {
+      named = named_heard nodes lists k h (slice_get_within nodes k node at);
+      differ = λ no. no;
+      few = λ y table no. absurd no;
+    })
 
 -- a node that did not change has the table of what it had heard and nothing more
-stayed : (old new : NodeValue) (claims added : List Claim) → new ≡ old → added ≡ [] → TableOf old.table claims → TableOf new.table (claims ++ added)
+stayed : (old new : NodeValue) (claims added : List Claim) → new ≡ old → added ≡ []
+    → TableOf old.table claims → TableOf new.table (claims ++ added)
 stayed old new claims added same none h =
     subst (λ (n : NodeValue). TableOf n.table (claims ++ added)) (sym same)
     (subst (TableOf old.table) (sym (ap (λ (l : List Claim). claims ++ l) none ∙ append-nil claims)) h)
@@ -144,7 +164,8 @@ stayed old new claims added same none h =
 -- a result that is not equal to out of memory is not out of memory
 pub not_memory : (same : Option ℕ → Option ℕ → Bool) (alike : RefuteFault → RefuteFault → Bool) → alike Memory Memory ≡ true
     → (result : Result (Option ℕ) RefuteFault) → false ≡ result_eq same alike result (Err Memory) → result ≢ Err Memory
-not_memory same alike own result differ is = false≢true (differ ∙ ap (λ (r : Result (Option ℕ) RefuteFault). result_eq same alike r (Err Memory)) is ∙ own)
+not_memory same alike own result differ is = false≢true
+    (differ ∙ ap (λ (r : Result (Option ℕ) RefuteFault). result_eq same alike r (Err Memory)) is ∙ own)
 
 -- unless memory ran out, the node has heard its refutation
 pub refute_takes : (old new : NodeValue) (result : Result (Option ℕ) RefuteFault)
@@ -156,7 +177,8 @@ pub refute_takes : (old new : NodeValue) (result : Result (Option ℕ) RefuteFau
     → OnErr result (new ≡ old)
     → result ≢ Err Memory
     → (claims : List Claim) → TableOf old.table claims → TableOf new.table (claims ++ refutation (member_of old) claims)
-refute_takes old new (Ok (Some inc)) within refuted rest exhausted gone err not_memory claims h = refuted_table old new inc refuted within claims h
+refute_takes old new (Ok (Some inc)) within refuted rest exhausted gone err not_memory claims
+    h = refuted_table old new inc refuted within claims h
 refute_takes old new (Ok None) within refuted rest exhausted gone err not_memory claims h =
     stayed old new claims (refutation (member_of old) claims) (rest refl).1 (at_rest_adds old (rest refl).0 claims h) h
 refute_takes old new (Err Exhausted) within refuted rest exhausted gone err not_memory claims h =
@@ -199,14 +221,16 @@ after_half : (members : List Member) (lists : List (List Claim)) (j k : ℕ) →
 after_half members lists j k two = ap (λ b. if b then hear lists k (heard_by lists j) else lists) (two_nodes_test (length lists) j k two)
 
 pub ran_half : (nodes : List NodeValue) (j k : ℕ) (first second new : NodeValue) → AreTwoNodes (length nodes) j k
-    → slice_get nodes j ≡ Some first → slice_get nodes k ≡ Some second → SameMember second new → (¬ HasTooMany first.table) × (¬ HasTooMany second.table)
+    → slice_get nodes j ≡ Some first → slice_get nodes k ≡ Some second → SameMember second new
+    → (¬ HasTooMany first.table) × (¬ HasTooMany second.table)
     → ((claims others : List Claim) → TableOf second.table claims → TableOf first.table others → TableOf new.table (claims ++ others))
     → Ran nodes (set nodes k new) (Half j k ∷ [])
 ran_half nodes j k first second new two at_first at_second same few takes = record {
   members = members_same nodes k second new at_second (member_same second new same);
   tables = λ lists h.
       subst (TablesOf (set nodes k new)) (sym (after_half (members_of nodes) lists j k (two_heard nodes lists j k h two)))
-      (one_hears nodes lists k second new (heard_by lists j) h at_second (λ own. takes (heard_by lists k) (heard_by lists j) own (h.each j first at_first)));
+      (one_hears nodes lists k second new (heard_by lists j) h at_second
+      (λ own. takes (heard_by lists k) (heard_by lists j) own (h.each j first at_first)));
   could = λ lists h. (
     record {
       named = ((two_heard nodes lists j k h two).0, (two_heard nodes lists j k h two).1);
@@ -222,7 +246,8 @@ two_hear : (nodes : List NodeValue) (lists : List (List Claim)) (j k : ℕ) (a b
     → TablesOf nodes lists → AreTwoNodes (length lists) j k
     → TableOf a.table both → TableOf b.table both → TablesOf (set (set nodes j a) k b) (hear_both lists j k both)
 two_hear nodes lists j k a b both h two own theirs = record {
-  number = length-set (set lists j both) k both ∙ length-set lists j both ∙ h.number ∙ sym (length-set (set nodes j a) k b ∙ length-set nodes j a);
+  number = length-set (set lists j both) k both ∙ length-set lists j both ∙ h.number
+      ∙ sym (length-set (set nodes j a) k b ∙ length-set nodes j a);
   each = λ y node is. elim (replaced (set nodes j a) k y b node is) [
     | inl same ↦ at y node k b same.0 same.1 (subst (TableOf b.table) (sym (both_second lists j k both two)) theirs)
     | inr kept ↦
@@ -233,7 +258,8 @@ two_hear nodes lists j k a b both h two own theirs = record {
   ];
 }
   where
-    at : (y : ℕ) (node : NodeValue) (x : ℕ) (new : NodeValue) → y ≡ x → node ≡ new → TableOf new.table (heard_by (hear_both lists j k both) x)
+    at : (y : ℕ) (node : NodeValue) (x : ℕ) (new : NodeValue) → y ≡ x → node ≡ new
+        → TableOf new.table (heard_by (hear_both lists j k both) x)
         → TableOf node.table (heard_by (hear_both lists j k both) y)
     at y node x new place same takes =
         subst (λ (n : NodeValue). TableOf n.table (heard_by (hear_both lists j k both) y)) (sym same)
@@ -248,7 +274,9 @@ ran_both : (nodes : List NodeValue) (j k : ℕ) (first second a b : NodeValue) �
     → Ran nodes (set (set nodes j a) k b) (Exchange j k ∷ [])
 ran_both nodes j k first second a b two at_first at_second same_first same_second few takes = record {
   members =
-      members_same (set nodes j a) k second b (kept_at nodes j k a second at_second (λ same. two.2 (sym same))) (member_same second b same_second)
+      members_same (set nodes j a) k second b
+      (kept_at nodes j k a second at_second (λ same. two.2 (sym same)))
+      (member_same second b same_second)
       ∙ members_same nodes j first a at_first (member_same first a same_first);
   tables = λ lists h.
       (let joined = takes (heard_by lists j) (heard_by lists k) (h.each j first at_first) (h.each k second at_second) in
@@ -264,19 +292,24 @@ ran_both nodes j k first second a b two at_first at_second same_first same_secon
   );
 }
 
-pub ran_exchange : (nodes new : List NodeValue) (j k : ℕ) → AreTwoNodes (length nodes) j k → BothExchange nodes new j k → Ran nodes new (Exchange j k ∷ [])
+pub ran_exchange : (nodes new : List NodeValue) (j k : ℕ) → AreTwoNodes (length nodes) j k
+    → BothExchange nodes new j k → Ran nodes new (Exchange j k ∷ [])
 ran_exchange nodes new j k two both =
     subst (λ (l : List NodeValue). Ran nodes l (Exchange j k ∷ [])) (sym both.nodes)
-    (ran_both nodes j k both.first both.second (with_table both.first both.one) (with_table both.second both.other) two both.at_first both.at_second
+    (ran_both nodes j k both.first both.second (with_table both.first both.one)
+    (with_table both.second both.other) two both.at_first both.at_second
     (record { name = refl; details = refl }) (record { name = refl; details = refl }) both.few both.joined)
 
 -- the exchange of the greater number with the smaller one is that of the two
-pub exchange_turned : (nodes new : List NodeValue) (j k : ℕ) → AreTwoNodes (length nodes) j k → BothExchange nodes new k j → Ran nodes new (Exchange j k ∷ [])
+pub exchange_turned : (nodes new : List NodeValue) (j k : ℕ) → AreTwoNodes (length nodes) j k
+    → BothExchange nodes new k j → Ran nodes new (Exchange j k ∷ [])
 exchange_turned nodes new j k two both =
     subst (λ (l : List NodeValue). Ran nodes l (Exchange j k ∷ [])) (sym (both.nodes ∙ set_comm))
-    (ran_both nodes j k both.second both.first (with_table both.second both.other) (with_table both.first both.one) two both.at_second both.at_first
+    (ran_both nodes j k both.second both.first (with_table both.second both.other)
+    (with_table both.first both.one) two both.at_second both.at_first
     (record { name = refl; details = refl }) (record { name = refl; details = refl }) (both.few.1, both.few.0)
-    (λ claims others h g. (let joined = both.joined others claims g h in (swapped both.other others claims joined.1, swapped both.one others claims joined.0))))
+    (λ claims others h g. (let joined = both.joined others claims g h
+    in (swapped both.other others claims joined.1, swapped both.one others claims joined.0))))
   where
     set_comm : set (set nodes k (with_table both.first both.one)) j (with_table both.second both.other)
         ≡ set (set nodes j (with_table both.second both.other)) k (with_table both.first both.one)
@@ -335,7 +368,8 @@ stops_exchange nodes j k two why.SameNode hinders = absurd hinders
 stops_exchange nodes j k two why.TooManyRecords hinders = ((two.0, two.1), two.2, hinders)
 stops_exchange nodes j k two why.Memory hinders = ((two.0, two.1), two.2, tt)
 
-pub stops_half : (nodes : List NodeValue) (j k x : ℕ) (node : NodeValue) → AreTwoNodes (length nodes) j k → slice_get nodes x ≡ Some node → Dumps (Half j k) x
+pub stops_half : (nodes : List NodeValue) (j k x : ℕ) (node : NodeValue) → AreTwoNodes (length nodes) j k
+    → slice_get nodes x ≡ Some node → Dumps (Half j k) x
     → (why : Why) → Hinders (HasTooMany node.table) why → StopsBy nodes (Half j k) why
 stops_half nodes j k x node two at dumps why.NoSuchNode hinders = absurd hinders
 stops_half nodes j k x node two at dumps why.SameNode hinders = absurd hinders
@@ -351,7 +385,8 @@ turned_too_many nodes j k (x, node, dumps, at, many) = (x, node, other dumps, at
     other (inr same) = inl same
 
 -- the whole list, if as many nodes were written as there are
-pub all_written : (nodes new : List NodeValue) (n : ℕ) → n ≡ length nodes → length new ≡ length nodes → take n (new ++ drop (length new) nodes) ≡ new
+pub all_written : (nodes new : List NodeValue) (n : ℕ) → n ≡ length nodes → length new ≡ length nodes
+    → take n (new ++ drop (length new) nodes) ≡ new
 all_written nodes new n number same =
     ap (λ (l : List NodeValue). take n (new ++ l)) (drop_all (length new) nodes (omega (arith, same)))
     ∙ ap (λ (l : List NodeValue). take n l) (append-nil new) ∙ take_all n new (omega (arith, number, same))
@@ -370,9 +405,13 @@ could-append : (members : List Member) (start : List (List Claim)) (events other
     → EachCanHappen members start events → EachCanHappen members (heard members start events) others
     → EachCanHappen members start (events ++ others)
 could-append members start [] others each more = more
-could-append members start (event ∷ events) others each more = (each.0, could-append members (after members start event) events others each.1 more)
+could-append members start (event ∷ events) others each more = (
+  each.0,
+  could-append members (after members start event) events others each.1 more,
+)
 
-pub ran-append : (old mid new : List NodeValue) (events others : List Event) → Ran old mid events → Ran mid new others → Ran old new (events ++ others)
+pub ran-append : (old mid new : List NodeValue) (events others : List Event) → Ran old mid events
+    → Ran mid new others → Ran old new (events ++ others)
 ran-append old mid new events others r s = record {
   members = s.members ∙ r.members;
   tables = λ start h.
@@ -386,7 +425,8 @@ ran-append old mid new events others r s = record {
 }
 
 -- a run of one more event
-pub ran_more : (old mid new : List NodeValue) (events : List Event) (i : ℕ) (event : Event) → i < length events → event ≡ get_or events i event
+pub ran_more : (old mid new : List NodeValue) (events : List Event) (i : ℕ) (event : Event)
+    → i < length events → event ≡ get_or events i event
     → Ran old mid (take i events) → Ran mid new (event ∷ []) → Ran old new (take (i + 1) events)
 ran_more old mid new events i event below is r s =
     subst (Ran old new) (sym (take_more events i event below ∙ ap (λ (e : Event). take i events ++ e ∷ []) (sym is)))

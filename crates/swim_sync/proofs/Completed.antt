@@ -25,7 +25,8 @@ dump_taken (Some bytes) (Some left) other sent read rest claims can is taken =
     let dump = dump_bytes other sent in
     let same : bytes ≡ dump ++ rest = cc in
     let parts : taken.0 ++ left ≡ dump ++ rest = sym taken.2 ∙ same in
-    let one = one_stream taken.0 dump left rest claims (Reduced other) read sent taken.1 (dump_is_stream other sent can.legal can.few) parts in
+    let one = one_stream taken.0 dump left rest claims (Reduced other) read sent taken.1
+    (dump_is_stream other sent can.legal can.few) parts in
     (one.1, one.2, ap Some (append_cancel_left dump left rest (ap (λ (text : List ℕ). text ++ left) (sym one.0) ∙ parts)))
 
 -- the table of the claims of both is the join
@@ -34,11 +35,13 @@ joined_as before other after kept =
     let all = Reduced before ++ Reduced other in
     TableOf-unique after (Join before other) all all kept (TableOf-table_of all) (λ c. (λ made. made, λ made. made))
 
-pub side_took : (before after other : Entries) (sent read : Bool) (old new : Source) (rest : List ℕ) → IsSendable other → Brings old other sent rest
+pub side_took : (before after other : Entries) (sent read : Bool) (old new : Source) (rest : List ℕ)
+    → IsSendable other → Brings old other sent rest
     → TakesStream old new before after read → (after ≡ Join before other) × (read ≡ sent) × (new.coming ≡ Some rest)
 side_took before after other sent read old new rest can brings took =
     let one = dump_taken old.coming new.coming other sent read rest took.claims can brings took.taken in
-    let kept : TableOf after (Reduced before ++ Reduced other) = subst (λ claims. TableOf after (Reduced before ++ claims)) one.0 took.reduced in
+    let kept : TableOf after (Reduced before ++ Reduced other) = subst
+    (λ claims. TableOf after (Reduced before ++ claims)) one.0 took.reduced in
     (joined_as before other after kept, one.1, one.2)
 
 -- and the join takes it in
@@ -56,13 +59,15 @@ side_takes before other sent old new rest can brings left =
       all = λ others h. TableOf-Join before other others (Reduced other) h can.legal.own;
     }
 
-pub side : (before after other : Entries) (sent read : Bool) (old new : Source) (rest : List ℕ) → IsSendable other → Brings old other sent rest
+pub side : (before after other : Entries) (sent read : Bool) (old new : Source) (rest : List ℕ)
+    → IsSendable other → Brings old other sent rest
     → (TakesStream old new before after read ↔ ((after ≡ Join before other) × (read ≡ sent) × (new.coming ≡ Some rest)))
 side before after other sent read old new rest can brings = (
   side_took before after other sent read old new rest can brings,
   λ is.
       subst (λ (flag : Bool). TakesStream old new before after flag) (sym is.1)
-      (subst (λ (table : Entries). TakesStream old new before table sent) (sym is.0) (side_takes before other sent old new rest can brings is.2)),
+      (subst (λ (table : Entries). TakesStream old new before table sent) (sym is.0)
+      (side_takes before other sent old new rest can brings is.2)),
 )
 
 -- whatever the inlet, a side took a stream in
@@ -83,8 +88,12 @@ dump_joined before after other can took =
 
 pub both_joined : (first second a b : Entries) → IsSendable first → IsSendable second → TakesDump first a second → TakesDump second b first
     → (a ≡ Join first second) × (b ≡ Join first second)
-both_joined first second a b can could took gave = (dump_joined first a second could took, dump_joined second b first can gave ∙ Join-comm second first)
+both_joined first second a b can could took gave = (
+  dump_joined first a second could took,
+  dump_joined second b first can gave ∙ Join-comm second first,
+)
 
 pub both_took : (first second a b : Entries) → IsSendable first → IsSendable second → TakesDump first a second → TakesDump second b first
-    → (claims others : List Claim) → TableOf first claims → TableOf second others → TableOf a (claims ++ others) × TableOf b (claims ++ others)
+    → (claims others : List Claim) → TableOf first claims → TableOf second others
+    → TableOf a (claims ++ others) × TableOf b (claims ++ others)
 both_took first second a b can could took gave = both_take first second a b (both_joined first second a b can could took gave)

@@ -1,5 +1,6 @@
 -- Tables that take a stream's claims in, and tables that are read back from their dumps.
-use Rattle.std.proofs.Common.{◌≡◌, ◌↔◌, ℕ, ◌≤◌, ◌*◌, Bool, false, Option, Some, None, List, [], ◌∷◌, ◌++◌, length, Ok, Err, refl, sym, ap, subst, ◌∙◌, arith}
+use Rattle.std.proofs.Common.{◌≡◌, ◌↔◌, ℕ, ◌≤◌, ◌*◌, Bool, false, Option, Some, None, List, [], ◌∷◌, ◌++◌, length, Ok}
+use Rattle.std.proofs.Common.{Err, refl, sym, ap, subst, ◌∙◌, arith}
 use Rattle.swim_claim.specs.declared.claim.Claim.{Claim}
 use Rattle.swim_claim.specs.declared.claim.Claim.TheVariants.{Alive, Suspect, Confirm, Leave}
 use Rattle.std.specs.Io.KnownBytes.{Keeps}
@@ -25,7 +26,8 @@ use Rattle.std.proofs.KnownBytes.{Keeps-refl}
 -- a stream was read, and its table joined in
 pub joined_in : (old new : Source) (before theirs after : Entries) (join : Bool)
     → ((claims : List Claim) × TableOf theirs claims × ConsumesText old new (λ b. StreamText b claims join))
-    → after ≡ Join before theirs → ((claims others : List Claim) → TableOf before claims → TableOf theirs others → TableOf after (claims ++ others))
+    → after ≡ Join before theirs → ((claims others : List Claim) → TableOf before claims
+    → TableOf theirs others → TableOf after (claims ++ others))
     → TakesStream old new before after join
 joined_in old new before theirs after join read is all =
     let kept : TableOf after (Reduced before ++ Reduced theirs) =
@@ -38,7 +40,8 @@ joined_in old new before theirs after join read is all =
     }
 
 -- a table that has a dump has few enough records
-few_enough : {V : Type 0} (bytes : V) (table : Entries) → ((Ok bytes ≡ Err TooManyRecords) ↔ HasTooMany table) → length (Reduced table) ≤ max_nodes
+few_enough : {V : Type 0} (bytes : V) (table : Entries)
+    → ((Ok bytes ≡ Err TooManyRecords) ↔ HasTooMany table) → length (Reduced table) ≤ max_nodes
 few_enough bytes table many =
     let few : ¬ HasTooMany table = λ h. let e = many.1 h in absurd cc in
     omega (arith, few)
@@ -47,7 +50,8 @@ few_enough bytes table many =
 pub sent : {V : Type 0} (bytes : V) (dump : List ℕ) (table other : Entries) (flag : Bool) → IsLegalTable table →
     ((Ok bytes ≡ Err TooManyRecords) ↔ HasTooMany table)
     → dump ≡ dump_bytes table false
-    → ((t : Entries) (join : Bool) → IsLegalTable t → length (Reduced t) ≤ max_nodes → dump ≡ dump_bytes t join → ((other ≡ t) × (flag ≡ join)) × Unit {0})
+    → ((t : Entries) (join : Bool) → IsLegalTable t → length (Reduced t) ≤ max_nodes
+    → dump ≡ dump_bytes t join → ((other ≡ t) × (flag ≡ join)) × Unit {0})
     → other ≡ table
 sent bytes dump table other flag legal many is back = (back table false legal (few_enough bytes table many) is).0.0
 
@@ -64,12 +68,14 @@ both_take first second a b same claims others h g =
     (subst (λ t. TableOf t (claims ++ others)) (sym same.0) joined, subst (λ t. TableOf t (claims ++ others)) (sym same.1) joined)
 
 -- tables of which neither changes the other are their join
-pub equal_are_join : (first second : Entries) → Below first second × Below second first → (first ≡ Join first second) × (second ≡ Join first second)
+pub equal_are_join : (first second : Entries) → Below first second × Below second first
+    → (first ≡ Join first second) × (second ≡ Join first second)
 equal_are_join first second both =
     let all = Reduced first ++ Reduced second in
     let other = Reduced second ++ Reduced first in (
       TableOf-unique first (Join first second) all all both.1 (TableOf-table_of all) (λ c. (λ m. m, λ m. m)),
-      TableOf-unique second (Join second first) other other both.0 (TableOf-table_of other) (λ c. (λ m. m, λ m. m)) ∙ Join-comm second first,
+      TableOf-unique second (Join second first) other other both.0 (TableOf-table_of other)
+          (λ c. (λ m. m, λ m. m)) ∙ Join-comm second first,
     )
 
 -- one table that is joined to itself is as it was
@@ -99,7 +105,8 @@ few_records (entry ∷ rest) =
     omega (arith, parts, few, few_records rest)
 
 -- a dump was not pushed
-pub push_refused : (old new : Source) (out_old out_new : Sink) (table theirs : Entries) (join : Bool) (bytes : List ℕ) → bytes ≡ dump_bytes table join
+pub push_refused : (old new : Source) (out_old out_new : Sink) (table theirs : Entries) (join : Bool)
+    (bytes : List ℕ) → bytes ≡ dump_bytes table join
     → ((claims : List Claim) × TableOf theirs claims × ConsumesText old new (λ b. StreamText b claims join))
     → (e : PushFault) → (e ≡ push.Fault → CountsFault out_old.faults out_new.faults)
     → (e ≡ push.Fault → AppendsFront out_old.written out_new.written bytes)

@@ -39,7 +39,8 @@ are_level old new r = record {
       (all start h k other at_other) (λ c. (λ made. made, λ made. made));
 }
   where
-    all : (start : List (List Claim)) → TablesOf old start → (k : ℕ) (node : NodeValue) → slice_get new k ≡ Some node → TableOf node.table (all_heard start)
+    all : (start : List (List Claim)) → TablesOf old start → (k : ℕ) (node : NodeValue)
+        → slice_get new k ≡ Some node → TableOf node.table (all_heard start)
     all start h k node at =
         let events = level_list (length start) in
         let tables : TablesOf new (heard (members_of old) start events) =
@@ -69,7 +70,8 @@ stopped_first old new others i stop one below done r stops =
     let front : take i (level_list (length old)) ≡ take i (meet_each (length old - 1)) =
     take-append-le i (meet_each (length old - 1)) (meet_each (length old - 2)) (omega (arith, number, one, below)) in
     let at : slice_get (level_list (length old)) i ≡ Some (Exchange 0 (i + 1)) =
-    get-front (meet_each (length old - 1)) (meet_each (length old - 2)) i (Exchange 0 (i + 1)) (met_at (length old - 1) i (omega (arith, one, below))) in
+    get-front (meet_each (length old - 1)) (meet_each (length old - 2)) i (Exchange 0 (i + 1))
+    (met_at (length old - 1) i (omega (arith, one, below))) in
     record {
       stopped = record {
         before = omega (arith, done, count, one, below);
@@ -85,14 +87,16 @@ stopped_first old new others i stop one below done r stops =
 -- node 0 met each other node, but not all except the last again
 pub stopped_again : (old mid new : List NodeValue) (others again i : ℕ) (stop : Stop) → others ≡ length old - 1
     → again ≡ length old - 2 → i < again → stop.done ≡ others + i
-    → Ran old mid (meet_each others) → Ran mid new (take i (meet_each again)) → StopsBy new (Exchange 0 (i + 1)) stop.why → LevelStopped old new stop
+    → Ran old mid (meet_each others) → Ran mid new (take i (meet_each again))
+    → StopsBy new (Exchange 0 (i + 1)) stop.why → LevelStopped old new stop
 stopped_again old mid new others again i stop one two below done r s stops =
     let number = length-meet_each (length old - 1) in
     let count = length-level_list (length old) (omega (arith, two, below)) in
     let same = length-ran old mid (meet_each others) r in
     let again_same = length-ran mid new (take i (meet_each again)) s in
     let place : stop.done ≡ length (meet_each (length old - 1)) + i = omega (arith, done, number, one) in
-    let front : take (length (meet_each (length old - 1)) + i) (level_list (length old)) ≡ meet_each (length old - 1) ++ take i (meet_each (length old - 2)) =
+    let front : take (length (meet_each (length old - 1)) + i) (level_list (length old)) ≡ meet_each
+    (length old - 1) ++ take i (meet_each (length old - 2)) =
     take-append-add (meet_each (length old - 1)) (meet_each (length old - 2)) i in
     let at : slice_get (level_list (length old)) (length (meet_each (length old - 1)) + i) ≡ Some (Exchange 0 (i + 1)) =
     get-back (meet_each (length old - 1)) (meet_each (length old - 2)) i ∙ met_at (length old - 2) i (omega (arith, two, below)) in

@@ -1,5 +1,6 @@
 -- The exchanges that level a cluster lead from each node to each node.
-use Rattle.std.proofs.Common.{◌≡◌, ℕ, zero, suc, ◌+◌, ◌-◌, ◌*◌, ◌<◌, ◌≤◌, Some, List, [], ◌∷◌, ◌++◌, map, length, Contains, refl, sym, ap, subst, ◌∙◌, inl, inr, arith, length-append}
+use Rattle.std.proofs.Common.{◌≡◌, ℕ, zero, suc, ◌+◌, ◌-◌, ◌*◌, ◌<◌, ◌≤◌, Some, List, [], ◌∷◌, ◌++◌, map, length}
+use Rattle.std.proofs.Common.{Contains, refl, sym, ap, subst, ◌∙◌, inl, inr, arith, length-append}
 use Rattle.std.specs.Prelude.{⊤, slice_get}
 use Rattle.std.specs.List.{range_with_len}
 use Rattle.std.proofs.lemmas.Bool.{cases_order}
@@ -82,7 +83,8 @@ route nodes (suc i) (suc j) from to = elim (cases_order i j) [
             (by j (suc j) (Exchange 0 (suc j)) (omega (arith, less)) (meets nodes j to) (outward nodes j to) there)
         | inr more ↦
             by i 0 (Exchange 0 (suc i)) (omega arith) (meets nodes i from) (inward nodes i from)
-            (by (nodes - 1 + j) (suc j) (Exchange 0 (suc j)) (omega (arith, from)) (meets_again nodes j (omega (arith, more, from))) (outward nodes j to) there)
+            (by (nodes - 1 + j) (suc j) (Exchange 0 (suc j)) (omega (arith, from))
+            (meets_again nodes j (omega (arith, more, from))) (outward nodes j to) there)
       ]
 ]
 
@@ -109,7 +111,8 @@ exchanges_append [] ys h g i e at = g i e at
 exchanges_append (x ∷ xs) ys h g zero e at = h zero e at
 exchanges_append (x ∷ xs) ys h g (suc i) e at = exchanges_append xs ys (λ n f is. h (suc n) f is) g i e at
 
-brings_none : (members : List Member) (lists : List (List Claim)) (e : Event) (c : Claim) (m : ℕ) → IsExchange e → ¬ Brings members lists e c m
+brings_none : (members : List Member) (lists : List (List Claim)) (e : Event) (c : Claim) (m : ℕ)
+    → IsExchange e → ¬ Brings members lists e c m
 brings_none members lists (Hear k claim) c m is = absurd is
 brings_none members lists (HearAll k claims) c m is = absurd is
 brings_none members lists (Exchange j k) c m is = λ brings. brings
@@ -123,7 +126,8 @@ in_all [] m c made = absurd (omega (arith, made.1))
 in_all (l ∷ lists) zero c made = Contains-append_left l (all_heard lists) c made
 in_all (l ∷ lists) (suc m) c made = Contains-append_right l (all_heard lists) c (in_all lists m c made)
 
-from_all : (lists : List (List Claim)) (c : Claim) → Contains (all_heard lists) c → (m : ℕ) × (m < length lists) × Contains (heard_by lists m) c
+from_all : (lists : List (List Claim)) (c : Claim) → Contains (all_heard lists) c
+    → (m : ℕ) × (m < length lists) × Contains (heard_by lists m) c
 from_all [] c made = absurd (omega (arith, made.1))
 from_all (l ∷ lists) c made = elim (Contains-append_cases l (all_heard lists) c made) [
   | inl here ↦ (zero, omega arith, here)

@@ -1,5 +1,7 @@
 -- Lists of nodes in which one or two nodes are replaced.
-use Rattle.std.proofs.Common.{◌≡◌, ◌≢◌, ◌⊎◌, ℕ, zero, suc, ◌-◌, ◌<◌, Some, List, [], ◌∷◌, ◌++◌, length, get_or, set, refl, sym, ap, subst, ◌∙◌, inl, inr, arith, length-set, length-append, get_or-set_same, get_or-set_other}
+use Rattle.std.proofs.Common.{◌≡◌, ◌≢◌, ◌⊎◌, ℕ, zero, suc, ◌-◌, ◌<◌, Some, List, [], ◌∷◌, ◌++◌, length, get_or, set}
+use Rattle.std.proofs.Common.{refl, sym, ap, subst, ◌∙◌, inl, inr, arith, length-set, length-append, get_or-set_same}
+use Rattle.std.proofs.Common.{get_or-set_other}
 use Rattle.std.specs.Prelude.{slice_get}
 use Rattle.std.proofs.lemmas.Bool.{cases_eq}
 use Rattle.std.proofs.lemmas.List.{set-append_left, set-append_right, get_or_append_left, get_or-append_right}
@@ -13,7 +15,8 @@ minus-itself n = omega arith
 
 module _ {X : Type 0} where
   -- what is at an index after the element at index k was replaced
-  pub replaced : (xs : List X) (k y : ℕ) (new x : X) → slice_get (set xs k new) y ≡ Some x → ((y ≡ k) × (x ≡ new)) ⊎ ((y ≢ k) × (slice_get xs y ≡ Some x))
+  pub replaced : (xs : List X) (k y : ℕ) (new x : X) → slice_get (set xs k new) y ≡ Some x
+      → ((y ≡ k) × (x ≡ new)) ⊎ ((y ≢ k) × (slice_get xs y ≡ Some x))
   replaced xs k y new x is =
       let within = slice_get_within (set xs k new) y x is in
       let number = length-set xs k new in
@@ -45,14 +48,16 @@ module _ {X : Type 0} where
       ∙ ap (λ (n : ℕ). set front i x ++ set back n y) (minus-itself k))
 
   -- an element of the front part
-  pub at_front : (xs front back : List X) (i : ℕ) (x : X) → xs ≡ front ++ back → i < length front → x ≡ get_or front i x → slice_get xs i ≡ Some x
+  pub at_front : (xs front back : List X) (i : ℕ) (x : X) → xs ≡ front ++ back → i < length front
+      → x ≡ get_or front i x → slice_get xs i ≡ Some x
   at_front xs front back i x parts below is =
       subst (λ (l : List X). slice_get l i ≡ Some x) (sym parts)
       (slice_get-get_or (front ++ back) i x (let size = length-append front back in omega (arith, size, below))
       ∙ ap Some (get_or_append_left front back x i below ∙ sym is))
 
   -- the first element of the back part
-  pub at_back : (xs front back : List X) (k : ℕ) (x : X) → xs ≡ front ++ back → length front ≡ k → k < length xs → x ≡ get_or back 0 x → slice_get xs k ≡ Some x
+  pub at_back : (xs front back : List X) (k : ℕ) (x : X) → xs ≡ front ++ back → length front ≡ k
+      → k < length xs → x ≡ get_or back 0 x → slice_get xs k ≡ Some x
   at_back xs front back k x parts size below is =
       subst (λ (l : List X). slice_get l k ≡ Some x) (sym parts)
       (slice_get-get_or (front ++ back) k x (subst (λ (l : List X). k < length l) parts below)
@@ -63,9 +68,11 @@ module _ {X : Type 0} where
   kept_at xs k y new x is other =
       let within = slice_get_within xs y x is in
       let number = length-set xs k new in
-      slice_get-get_or (set xs k new) y x (omega (arith, within, number)) ∙ ap Some (get_or-set_other xs k y new x other ∙ get_or_from_slice_get xs y x x is)
+      slice_get-get_or (set xs k new) y x (omega (arith, within, number))
+      ∙ ap Some (get_or-set_other xs k y new x other ∙ get_or_from_slice_get xs y x x is)
 
 -- a node is replaced by one of the same member
 pub members_same : (nodes : List NodeValue) (k : ℕ) (node new : NodeValue) → slice_get nodes k ≡ Some node
     → member_of new ≡ member_of node → members_of (set nodes k new) ≡ members_of nodes
-members_same nodes k node new at same = map-set_same member_of nodes k new node (same ∙ ap member_of (sym (get_or_from_slice_get nodes k node node at)))
+members_same nodes k node new at same = map-set_same member_of nodes k new node
+    (same ∙ ap member_of (sym (get_or_from_slice_get nodes k node node at)))

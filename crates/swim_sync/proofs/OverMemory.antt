@@ -17,7 +17,8 @@ pub takes_offer : (offer rest : List ℕ) (before after other : Entries) (join :
     → IsOffer other offer → TakesTable before after other
 takes_offer offer rest before after other join took is claims others h g =
     let one =
-    one_stream took.taken.0 (dump_bytes other false) rest [] took.claims (Reduced other) join false took.taken.1 (dump_is_stream other false is.legal is.few)
+    one_stream took.taken.0 (dump_bytes other false) rest [] took.claims
+    (Reduced other) join false took.taken.1 (dump_is_stream other false is.legal is.few)
     (sym took.taken.2 ∙ is.dump ∙ sym (append-nil (dump_bytes other false))) in
     TableOf-sent other after (Reduced other) others claims (TableOf-Reduced other others g) g
     (subst (λ l. TableOf after (claims ++ l)) one.1 (took.all claims h))
@@ -26,5 +27,7 @@ takes_offer offer rest before after other join took is claims others h g =
 pub offer_lacks : (offer rest : List ℕ) (other : Entries) (fault : WireFault)
     → LacksStream (record { coming = Some offer; faults = 0 }) (record { coming = Some rest; faults = 0 }) fault → ¬ IsOffer other offer
 offer_lacks offer rest other fault lacks is =
-    refused_whole fault offer lacks.lacks (λ same. let rose = lacks.failed same in omega (arith, rose)) lacks.no_memory (Reduced other) false
+    refused_whole fault offer lacks.lacks
+    (λ same. let rose = lacks.failed same
+    in omega (arith, rose)) lacks.no_memory (Reduced other) false
     (dumped offer other false is.legal is.few is.dump)

@@ -38,7 +38,11 @@ put_below marks next k mark below less = record {
   some = below.some;
   each =
       λ i other is.
-      elim (replaced marks k i mark other is) [ inl here ↦ (let same = here.1 in omega (arith, same, less)) | inr there ↦ below.each i other there.1 ];
+      elim (replaced marks k i mark other is) [
+        | inl here ↦ (let same = here.1
+            in omega (arith, same, less))
+        | inr there ↦ below.each i other there.1
+      ];
 }
 
 pub raised_below : (marks : List ℕ) (next above : ℕ) → AreBelow marks next → next < above → AreBelow marks above
@@ -81,7 +85,8 @@ paired old marks next j k kept below a b pair = elim (where_is marks j k next a 
 ]
 
 -- without a further mark neither is paired
-pub unpaired : (old marks : List ℕ) (j k : ℕ) → ((a b : ℕ) → IsPair marks a b → IsPair old a b) → PairsOnly old (set (set marks j 0) k 0) j k
+pub unpaired : (old marks : List ℕ) (j k : ℕ) → ((a b : ℕ) → IsPair marks a b → IsPair old a b)
+    → PairsOnly old (set (set marks j 0) k 0) j k
 unpaired old marks j k kept a b pair = elim (where_is marks j k 0 a pair.0 pair.2) [
   | inl one ↦ (let same = one.1 in absurd (omega (arith, pair.1, same)))
   | inr one ↦ elim (where_is marks j k 0 b pair.0 pair.3) [
@@ -96,7 +101,8 @@ pub none_alike : (nodes : List NodeValue) → AreAlike nodes []
 none_alike nodes = λ a b node other pair. absurd (cc (pair.2))
 
 -- whatever becomes of a node that is in no pair, the others are as they were
-pub alike_but : (nodes : List NodeValue) (old new : List ℕ) (k : ℕ) (node : NodeValue) → AreAlike nodes old → Forgets old new k → AreAlike (set nodes k node) new
+pub alike_but : (nodes : List NodeValue) (old new : List ℕ) (k : ℕ) (node : NodeValue) → AreAlike nodes old
+    → Forgets old new k → AreAlike (set nodes k node) new
 alike_but nodes old new k node alike forgets a b one other pair first second =
     let apart = forgets a b pair in
     alike a b one other apart.2 (stays a one apart.0 first) (stays b other apart.1 second)
@@ -121,7 +127,8 @@ alike_two nodes old new j k one other alike only same a b x y pair first second 
       | inr there ↦ elim (replaced nodes j i one x there.1) [ inl here ↦ absurd (away (inl here.0)) | inr still ↦ still.1 ]
     ]
 
-    only_at : (i : ℕ) (x y : NodeValue) → slice_get (set (set nodes j one) k other) i ≡ Some x → slice_get (set (set nodes j one) k other) i ≡ Some y → x ≡ y
+    only_at : (i : ℕ) (x y : NodeValue) → slice_get (set (set nodes j one) k other) i ≡ Some x
+        → slice_get (set (set nodes j one) k other) i ≡ Some y → x ≡ y
     only_at i x y is at = cc
 
     both : (a b : ℕ) (x y : NodeValue) → IsOneOf a j k → IsOneOf b j k → slice_get (set (set nodes j one) k other) a ≡ Some x

@@ -1,5 +1,6 @@
 -- A member refutes exactly if a refutation is due, with its Alive at the next incarnation.
-use Rattle.std.proofs.Common.{◌≡◌, ◌≢◌, ◌⊎◌, ℕ, ◌+◌, ◌<◌, ◌≤◌, Bool, true, false, if◌then◌else◌, Option, Some, None, List, [], ◌∷◌, ◌++◌, Contains, refl, sym, ap, subst, ◌∙◌, inl, inr, arith}
+use Rattle.std.proofs.Common.{◌≡◌, ◌≢◌, ◌⊎◌, ℕ, ◌+◌, ◌<◌, ◌≤◌, Bool, true, false, if◌then◌else◌, Option, Some, None}
+use Rattle.std.proofs.Common.{List, [], ◌∷◌, ◌++◌, Contains, refl, sym, ap, subst, ◌∙◌, inl, inr, arith}
 use Rattle.std.specs.Prelude.{nat_le}
 use Rattle.std.specs.Ordering.{is_eq}
 use Rattle.std.specs.declared.cmp.Ordering.{Ordering}
@@ -52,8 +53,10 @@ what_stands-greatest name (c ∷ claims) = by_answer (what_stands-greatest name 
     other : (o : Ordering) → name_cmp name (name_of c) ≡ o → o ≢ Equal → name_of c ≢ name
     other o e differs about = differs (sym e ∙ ap (name_cmp name) about ∙ tied_itself nat_list_cmp_total name)
 
-    passed : Greatest (IsAbout name) claims (what_stands name claims) → name_of c ≢ name → Greatest (IsAbout name) (c ∷ claims) (what_stands name claims)
-    passed rest differs = Greatest-append (IsAbout name) (one_name name) (c ∷ []) claims None (what_stands name claims) (about_none name c differs) rest
+    passed : Greatest (IsAbout name) claims (what_stands name claims) → name_of c ≢ name
+        → Greatest (IsAbout name) (c ∷ claims) (what_stands name claims)
+    passed rest differs = Greatest-append (IsAbout name) (one_name name) (c ∷ []) claims None
+        (what_stands name claims) (about_none name c differs) rest
 
     by_answer : Greatest (IsAbout name) claims (what_stands name claims) → (o : Ordering) → name_cmp name (name_of c) ≡ o
         → Greatest (IsAbout name) (c ∷ claims)
@@ -95,7 +98,8 @@ module _ (claims : List Claim) (member : Member) where
   never : (¬ Due claims member.name member.details) → Refutes claims member []
   never not_due = inr (refl, λ inc by. not_due by.0)
 
-  refutes_at : (inc : ℕ) → Due claims member.name member.details → IsNext claims member.name inc → Refutes claims member (own_alive member inc)
+  refutes_at : (inc : ℕ) → Due claims member.name member.details → IsNext claims member.name inc
+      → Refutes claims member (own_alive member inc)
   refutes_at inc due next = by_test (nat_le inc 4294967295) refl
     where
       by_test : (b : Bool) → nat_le inc 4294967295 ≡ b → Refutes claims member (if b then Alive member.name inc member.details ∷ [] else [])
@@ -108,18 +112,21 @@ module _ (claims : List Claim) (member : Member) where
                 omega (arith, same, above, by.2)),
           )
 
-  refutes_top : (s : Standing) (top : Claim) → s.top ≡ top → IsStandingOf claims member.name s → Refutes claims member (refuted member (Some top))
+  refutes_top : (s : Standing) (top : Claim) → s.top ≡ top → IsStandingOf claims member.name s
+      → Refutes claims member (refuted member (Some top))
   refutes_top s (Alive name inc details) is h = by_test (is_eq (details_cmp details member.details)) refl
     where
       due : Some details ≢ Some member.details → Due claims member.name member.details
-      due foreign = Due-top claims member.name member.details s h (λ final. subst IsFinal is final) (λ own. foreign (ap details_of (sym is) ∙ own))
+      due foreign = Due-top claims member.name member.details s h (λ final. subst IsFinal is final)
+          (λ own. foreign (ap details_of (sym is) ∙ own))
 
       own : details ≡ member.details → Stands (Alive member.name inc member.details) claims
       own same =
           let about : name ≡ member.name = ap name_of (sym is) ∙ h.about in
           subst (λ c. Stands c claims) (is ∙ (λ k. Alive (about k) inc (same k))) h.top
 
-      by_test : (b : Bool) → is_eq (details_cmp details member.details) ≡ b → Refutes claims member (if b then [] else own_alive member (inc + 1))
+      by_test : (b : Bool) → is_eq (details_cmp details member.details) ≡ b
+          → Refutes claims member (if b then [] else own_alive member (inc + 1))
       by_test true test =
           let same : Some details ≡ Some member.details = (same_details (Some details) details member.details refl).0 test in
           never (λ due. due.not_own inc (own (cc (same))))
@@ -128,7 +135,8 @@ module _ (claims : List Claim) (member : Member) where
           (subst (λ c. IsNext claims member.name (inc_of c + 1)) is (IsNext-top claims member.name s h (λ final. subst IsFinal is final)))
   refutes_top s (Suspect name inc) is h =
       refutes_at (inc + 1)
-      (Due-top claims member.name member.details s h (λ final. subst IsFinal is final) (λ own. absurd (let no = ap details_of (sym is) ∙ own in cc (no))))
+      (Due-top claims member.name member.details s h (λ final. subst IsFinal is final)
+      (λ own. absurd (let no = ap details_of (sym is) ∙ own in cc (no))))
       (subst (λ c. IsNext claims member.name (inc_of c + 1)) is (IsNext-top claims member.name s h (λ final. subst IsFinal is final)))
   refutes_top s (Confirm name inc) is h = never (λ due. due.not_final s.top h.top.made h.about (subst IsFinal (sym is) tt))
   refutes_top s (Leave name inc) is h = never (λ due. due.not_final s.top h.top.made h.about (subst IsFinal (sym is) tt))
@@ -163,7 +171,14 @@ module _ (claims : List Claim) (member : Member) where
       (c ≡ Alive member.name inc member.details) × Due claims member.name member.details × IsNext claims member.name inc ×
       (inc ≤ 4294967295)
   refutation-said c made = elim refutes [
-    | inl at ↦ (at.0, sym (only_one (Alive member.name at.0 member.details) c (subst (λ l. Contains l c) at.2 made)), at.1.0, at.1.1, at.1.2)
+    | inl at ↦ (
+      at.0,
+      sym (only_one (Alive member.name at.0 member.details) c
+          (subst (λ l. Contains l c) at.2 made)),
+      at.1.0,
+      at.1.1,
+      at.1.2,
+    )
     | inr none ↦ (let nowhere : Contains [] c = subst (λ l. Contains l c) none.0 made in absurd (omega (arith, nowhere.1)))
   ]
 
@@ -174,18 +189,24 @@ pub refuted_table : (old new : NodeValue) (inc : ℕ) → IsRefutedBy old new in
     → TableOf old.table claims → TableOf new.table (claims ++ refutation (member_of old) claims)
 refuted_table old new inc r within claims h =
     let by = r.due.all claims h in
-    subst (λ added. TableOf new.table (claims ++ added)) (sym (refutation-due claims (member_of old) inc by.0 by.1 within)) (r.taken.all claims h)
+    subst (λ added. TableOf new.table (claims ++ added))
+    (sym (refutation-due claims (member_of old) inc by.0 by.1 within)) (r.taken.all claims h)
 
 -- a node that is at rest, exhausted or gone adds nothing
-pub at_rest_adds : (node : NodeValue) → IsAtRest node → (claims : List Claim) → TableOf node.table claims → refutation (member_of node) claims ≡ []
+pub at_rest_adds : (node : NodeValue) → IsAtRest node → (claims : List Claim) → TableOf node.table claims
+    → refutation (member_of node) claims ≡ []
 at_rest_adds node r claims h = refutation-none claims (member_of node) (λ inc due next within. (r.all claims h).0 due)
 
-pub exhausted_adds : (node : NodeValue) → IsExhausted node → (claims : List Claim) → TableOf node.table claims → refutation (member_of node) claims ≡ []
+pub exhausted_adds : (node : NodeValue) → IsExhausted node → (claims : List Claim)
+    → TableOf node.table claims → refutation (member_of node) claims ≡ []
 exhausted_adds node e claims h =
     refutation-none claims (member_of node) (λ inc due next within. (
     let same = IsNext-unique claims node.name inc e.0 next (e.1.all claims h).1 in
     omega (arith, same, within, e.2)))
 
-pub gone_adds : (node : NodeValue) (inc : ℕ) → IsGone node inc → (claims : List Claim) → TableOf node.table claims → refutation (member_of node) claims ≡ []
+pub gone_adds : (node : NodeValue) (inc : ℕ) → IsGone node inc → (claims : List Claim)
+    → TableOf node.table claims → refutation (member_of node) claims ≡ []
 gone_adds node inc g claims h =
-    refutation-none claims (member_of node) (λ next due _ within. (let final = g.all claims h in due.not_final final.0 final.1.made final.3 final.2))
+    refutation-none claims (member_of node)
+    (λ next due _ within. (let final = g.all claims h
+    in due.not_final final.0 final.1.made final.3 final.2))

@@ -12,14 +12,16 @@ use Rattle.swim_sync.proofs.Runs.{length-after, arrives, stays, led, brought}
 -- a path among the later events
 later : (nodes : ℕ) (event : Event) (events : List Event) {p m k : ℕ} → Path nodes events p m k → Path nodes (event ∷ events) (suc p) m k
 later nodes event events there = there
-later nodes event events (by place x e above at leads path) = by (suc place) x e (omega (arith, above)) at leads (later nodes event events path)
+later nodes event events (by place x e above at leads path) = by (suc place) x e
+    (omega (arith, above)) at leads (later nodes event events path)
 
 sooner : (nodes : ℕ) (events : List Event) {p q m k : ℕ} → q ≤ p → Path nodes events p m k → Path nodes events q m k
 sooner nodes events le there = there
 sooner nodes events le (by place x e above at leads path) = by place x e (omega (arith, le, above)) at leads path
 
 -- a path that starts after the first event
-past : (nodes : ℕ) (event : Event) (events : List Event) {p m k : ℕ} → Path nodes (event ∷ events) p m k → (q : ℕ) → p ≡ suc q → Path nodes events q m k
+past : (nodes : ℕ) (event : Event) (events : List Event) {p m k : ℕ} → Path nodes (event ∷ events) p m k
+    → (q : ℕ) → p ≡ suc q → Path nodes events q m k
 past nodes event events there q is = there
 past nodes event events (by zero x e above at leads path) q is = absurd (omega (arith, above, is))
 past nodes event events (by (suc place) x e above at leads path) q is =
@@ -32,7 +34,8 @@ first nodes event events there = inl there
 first nodes event events {m = m} (by zero x e above at leads path) =
     let same : event ≡ e = cc (at) in
     inr (x, subst (λ f. Leads nodes f m x) (sym same) leads, past nodes event events path zero refl)
-first nodes event events (by (suc place) x e above at leads path) = inl (by place x e (omega arith) at leads (past nodes event events path (suc place) refl))
+first nodes event events (by (suc place) x e above at leads path) = inl
+    (by place x e (omega arith) at leads (past nodes event events path (suc place) refl))
 
 -- ---- the first event of a run
 
@@ -58,19 +61,33 @@ module _ (members : List Member) (c : Claim) (k : ℕ) where
   ]
   entered_after start event events m (suc zero) entered path =
       let at : Some event ≡ Some entered.0 = entered.1 in
-      let same : event ≡ entered.0 = cc (at) in
-      (m, zero, brought members start c event m (subst (λ e. Brings members start e c m) (sym same) entered.2), past (length start) event events path zero refl)
-  entered_after start event events m (suc (suc place)) entered path = (m, suc place, entered, past (length start) event events path (suc place) refl)
+      let same : event ≡ entered.0 = cc (at) in (
+        m,
+        zero,
+        brought members start c event m
+            (subst (λ e. Brings members start e c m) (sym same) entered.2),
+        past (length start) event events path zero refl,
+      )
+  entered_after start event events m
+      (suc (suc place)) entered path = (
+        m,
+        suc place,
+        entered,
+        past (length start) event events path (suc place) refl,
+      )
 
   -- ---- whole runs
 
-  pub came : (start : List (List Claim)) (events : List Event) → Contains (heard_by (heard members start events) k) c → Reaches members start events c k
+  pub came : (start : List (List Claim)) (events : List Event)
+      → Contains (heard_by (heard members start events) k) c → Reaches members start events c k
   came start [] made = (k, zero, made, there)
   came start (event ∷ events) made =
       let next : Reaches members (after members start event) events c k = came (after members start event) events made in
-      entered_before start event events next.0 next.1 next.2 (subst (λ n. Path n events next.1 next.0 k) (length-after members start event) next.3)
+      entered_before start event events next.0 next.1 next.2
+      (subst (λ n. Path n events next.1 next.0 k) (length-after members start event) next.3)
 
-  pub reached : (start : List (List Claim)) (events : List Event) → Reaches members start events c k → Contains (heard_by (heard members start events) k) c
+  pub reached : (start : List (List Claim)) (events : List Event) → Reaches members start events c k
+      → Contains (heard_by (heard members start events) k) c
   reached start [] way = at_once way.0 way.1 way.2 way.3
     where
       at_once : (m p : ℕ) → Entered members start [] c m p → Path (length start) [] p m k → Contains (heard_by start k) c

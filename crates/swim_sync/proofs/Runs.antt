@@ -1,5 +1,7 @@
 -- What one event adds to what each node has heard.
-use Rattle.std.proofs.Common.{◌≡◌, ◌≢◌, ◌⊎◌, ℕ, ◌+◌, ◌<◌, ◌≤◌, Bool, true, false, not, ◌&&◌, if◌then◌else◌, List, [], ◌∷◌, ◌++◌, length, get_or, set, take, Contains, refl, sym, ap, subst, ◌∙◌, inl, inr, arith, length-set, get_or-set_same, get_or-set_other}
+use Rattle.std.proofs.Common.{◌≡◌, ◌≢◌, ◌⊎◌, ℕ, ◌+◌, ◌<◌, ◌≤◌, Bool, true, false, not, ◌&&◌, if◌then◌else◌, List, []}
+use Rattle.std.proofs.Common.{◌∷◌, ◌++◌, length, get_or, set, take, Contains, refl, sym, ap, subst, ◌∙◌, inl, inr}
+use Rattle.std.proofs.Common.{arith, length-set, get_or-set_same, get_or-set_other}
 use Rattle.std.specs.Prelude.{nat_eq, nat_lt}
 use Rattle.std.proofs.lemmas.Bool.{and_parts, and_from, cases_eq, cases_lt}
 use Rattle.std.proofs.lemmas.Bool.Decides.{nat_tests}
@@ -55,7 +57,8 @@ length-after members lists (Half j k) = by_test (are_two_nodes (length lists) j 
     by_test false = refl
 length-after members lists (Refute k) = length-set lists k (heard_by lists k ++ refutation_of members lists k)
 
-pub length-heard : (members : List Member) (start : List (List Claim)) (events : List Event) → length (heard members start events) ≡ length start
+pub length-heard : (members : List Member) (start : List (List Claim)) (events : List Event)
+    → length (heard members start events) ≡ length start
 length-heard members start [] = refl
 length-heard members start (event ∷ events) = length-heard members (after members start event) events ∙ length-after members start event
 
@@ -68,11 +71,13 @@ pub exchange_nothing : (members : List Member) (lists : List (List Claim)) (j k 
     → after members lists (Exchange j k) ≡ lists
 exchange_nothing members lists j k not_two = by_test (are_two_nodes (length lists) j k) refl
   where
-    by_test : (b : Bool) → are_two_nodes (length lists) j k ≡ b → (if b then hear_both lists j k (heard_by lists j ++ heard_by lists k) else lists) ≡ lists
+    by_test : (b : Bool) → are_two_nodes (length lists) j k ≡ b
+        → (if b then hear_both lists j k (heard_by lists j ++ heard_by lists k) else lists) ≡ lists
     by_test true test = absurd (not_two (two_nodes (length lists) j k test))
     by_test false test = refl
 
-pub half_nothing : (members : List Member) (lists : List (List Claim)) (j k : ℕ) → ¬ AreTwoNodes (length lists) j k → after members lists (Half j k) ≡ lists
+pub half_nothing : (members : List Member) (lists : List (List Claim)) (j k : ℕ)
+    → ¬ AreTwoNodes (length lists) j k → after members lists (Half j k) ≡ lists
 half_nothing members lists j k not_two = by_test (are_two_nodes (length lists) j k) refl
   where
     by_test : (b : Bool) → are_two_nodes (length lists) j k ≡ b → (if b then hear lists k (heard_by lists j) else lists) ≡ lists
@@ -95,10 +100,12 @@ heard_more members start events i event below =
 
 -- ---- one node hears more
 
-pub hear_same : (lists : List (List Claim)) (k : ℕ) (claims : List Claim) → k < length lists → heard_by (hear lists k claims) k ≡ heard_by lists k ++ claims
+pub hear_same : (lists : List (List Claim)) (k : ℕ) (claims : List Claim) → k < length lists
+    → heard_by (hear lists k claims) k ≡ heard_by lists k ++ claims
 hear_same lists k claims below = get_or-set_same lists k (heard_by lists k ++ claims) [] below
 
-pub hear_other : (lists : List (List Claim)) (k : ℕ) (claims : List Claim) (y : ℕ) → y ≢ k → heard_by (hear lists k claims) y ≡ heard_by lists y
+pub hear_other : (lists : List (List Claim)) (k : ℕ) (claims : List Claim) (y : ℕ) → y ≢ k
+    → heard_by (hear lists k claims) y ≡ heard_by lists y
 hear_other lists k claims y other = get_or-set_other lists k y (heard_by lists k ++ claims) [] other
 
 -- either nothing changed in node y's list, or it is node k's
@@ -138,7 +145,9 @@ hear_kept : (lists : List (List Claim)) (k : ℕ) (claims : List Claim) (y : ℕ
 hear_kept lists k claims y c made = elim (hear_list lists k claims y) [
   | inl same ↦ subst (λ l. Contains l c) (sym same) made
   | inr more ↦
-      subst (λ l. Contains l c) (sym more.2) (Contains-append_left (heard_by lists k) claims c (subst (λ m. Contains (heard_by lists m) c) more.0 made))
+      subst (λ l. Contains l c) (sym more.2)
+      (Contains-append_left (heard_by lists k) claims c
+      (subst (λ m. Contains (heard_by lists m) c) more.0 made))
 ]
 
 hear_new : (lists : List (List Claim)) (k : ℕ) (claims : List Claim) (c : Claim) → k < length lists → Contains claims c
@@ -148,16 +157,19 @@ hear_new lists k claims c below made =
 
 -- ---- two nodes hear the same
 
-pub both_first : (lists : List (List Claim)) (j k : ℕ) (claims : List Claim) → AreTwoNodes (length lists) j k → heard_by (hear_both lists j k claims) j ≡ claims
+pub both_first : (lists : List (List Claim)) (j k : ℕ) (claims : List Claim) → AreTwoNodes (length lists) j k
+    → heard_by (hear_both lists j k claims) j ≡ claims
 both_first lists j k claims two = get_or-set_other (set lists j claims) k j claims [] two.2 ∙ get_or-set_same lists j claims [] two.0
 
 pub both_second : (lists : List (List Claim)) (j k : ℕ) (claims : List Claim) → AreTwoNodes (length lists) j k → heard_by
     (hear_both lists j k claims) k ≡ claims
-both_second lists j k claims two = get_or-set_same (set lists j claims) k claims [] (subst (λ n. k < n) (sym (length-set lists j claims)) two.1)
+both_second lists j k claims two = get_or-set_same (set lists j claims) k claims []
+    (subst (λ n. k < n) (sym (length-set lists j claims)) two.1)
 
 pub both_other : (lists : List (List Claim)) (j k : ℕ) (claims : List Claim) (y : ℕ) → y ≢ j → y ≢ k → heard_by
     (hear_both lists j k claims) y ≡ heard_by lists y
-both_other lists j k claims y first second = get_or-set_other (set lists j claims) k y claims [] second ∙ get_or-set_other lists j y claims [] first
+both_other lists j k claims y first second = get_or-set_other (set lists j claims) k y claims [] second
+    ∙ get_or-set_other lists j y claims [] first
 
 -- ---- one event
 
@@ -174,7 +186,15 @@ module _ (members : List Member) (lists : List (List Claim)) (c : Claim) where
     | inl first ↦
         elim (Contains-append_cases (heard_by lists j) (heard_by lists k) c made) [
           | inl own ↦ inl (subst (λ m. Contains (heard_by lists m) c) (sym first) own)
-          | inr theirs ↦ inr (inl (k, (subst (AreTwoNodes (length lists) k) (sym first) (turned (length lists) j k two), inr (refl, first)), theirs))
+          | inr theirs ↦ inr (inl (
+            k,
+            (
+              subst (AreTwoNodes (length lists) k) (sym first)
+                  (turned (length lists) j k two),
+              inr (refl, first),
+            ),
+            theirs,
+          ))
         ]
     | inr second ↦
         elim (Contains-append_cases (heard_by lists j) (heard_by lists k) c made) [
@@ -187,7 +207,9 @@ module _ (members : List Member) (lists : List (List Claim)) (c : Claim) where
       (heard_by (hear_both lists j k (heard_by lists j ++ heard_by lists k)) y) c → Arrives members lists (Exchange j k) c y
   exchanged j k y two made = elim (cases_eq y j) [
     | inl first ↦
-        exchanged_at j k y two (subst (λ l. Contains l c) (ap (heard_by (hear_both lists j k both)) first ∙ both_first lists j k both two) made) (inl first)
+        exchanged_at j k y two (subst (λ l. Contains l c)
+        (ap (heard_by (hear_both lists j k both)) first ∙ both_first lists j k both two) made)
+        (inl first)
     | inr not_first ↦
         elim (cases_eq y k) [
           | inl second ↦
@@ -224,7 +246,16 @@ module _ (members : List Member) (lists : List (List Claim)) (c : Claim) where
           (heard_by (if b then hear lists k (heard_by lists j) else lists) y) c → Arrives members lists (Half j k) c y
       by_test true test made = elim (hear_cases lists k (heard_by lists j) y c made) [
         | inl old ↦ inl old
-        | inr new ↦ inr (inl (j, (subst (AreTwoNodes (length lists) j) (sym new.0) (two_nodes (length lists) j k test), refl, new.0), new.2))
+        | inr new ↦ inr (inl (
+          j,
+          (
+            subst (AreTwoNodes (length lists) j) (sym new.0)
+                (two_nodes (length lists) j k test),
+            refl,
+            new.0,
+          ),
+          new.2,
+        ))
       ]
       by_test false test made = inl made
   arrives (Refute k) y made = elim (hear_cases lists k (refutation_of members lists k) y c made) [
@@ -268,17 +299,22 @@ module _ (members : List Member) (lists : List (List Claim)) (c : Claim) where
   stays (Refute k) y made = hear_kept lists k (refutation_of members lists k) y c made
 
   -- what the event leads to node y is heard there
-  pub led : (event : Event) (x y : ℕ) → Leads (length lists) event x y → Contains (heard_by lists x) c → Contains (heard_by (after members lists event) y) c
+  pub led : (event : Event) (x y : ℕ) → Leads (length lists) event x y → Contains (heard_by lists x) c
+      → Contains (heard_by (after members lists event) y) c
   led (Hear k claim) x y leads made = absurd leads
   led (HearAll k claims) x y leads made = absurd leads
   led (Exchange j k) x y leads made = elim leads.1 [
     | inl to ↦
-        (let two : AreTwoNodes (length lists) j k = subst (λ m. AreTwoNodes (length lists) m k) to.0 (subst (AreTwoNodes (length lists) x) to.1 leads.0) in
-        at_both two (inr to.1) (Contains-append_left (heard_by lists j) (heard_by lists k) c (subst (λ m. Contains (heard_by lists m) c) to.0 made)))
+        (let two : AreTwoNodes (length lists) j k = subst
+        (λ m. AreTwoNodes (length lists) m k) to.0
+        (subst (AreTwoNodes (length lists) x) to.1 leads.0) in
+        at_both two (inr to.1) (Contains-append_left (heard_by lists j) (heard_by lists k) c
+        (subst (λ m. Contains (heard_by lists m) c) to.0 made)))
     | inr from ↦
         (let two : AreTwoNodes (length lists) j k = turned (length lists) k j (subst (λ m. AreTwoNodes (length lists) m j) from.0
         (subst (AreTwoNodes (length lists) x) from.1 leads.0)) in
-        at_both two (inl from.1) (Contains-append_right (heard_by lists j) (heard_by lists k) c (subst (λ m. Contains (heard_by lists m) c) from.0 made)))
+        at_both two (inl from.1) (Contains-append_right (heard_by lists j) (heard_by lists k) c
+        (subst (λ m. Contains (heard_by lists m) c) from.0 made)))
   ]
     where
       at_both : AreTwoNodes (length lists) j k → (y ≡ j) ⊎ (y ≡ k) → Contains (heard_by lists j ++ heard_by lists k) c
@@ -301,8 +337,11 @@ module _ (members : List Member) (lists : List (List Claim)) (c : Claim) where
                 both_made
           ])
   led (Half j k) x y leads made =
-      let two : AreTwoNodes (length lists) j k = subst (λ m. AreTwoNodes (length lists) m k) leads.1 (subst (AreTwoNodes (length lists) x) leads.2 leads.0) in
-      subst (λ b. Contains (heard_by (if b then hear lists k (heard_by lists j) else lists) y) c) (sym (two_nodes_test (length lists) j k two))
+      let two : AreTwoNodes (length lists) j k = subst
+      (λ m. AreTwoNodes (length lists) m k) leads.1
+      (subst (AreTwoNodes (length lists) x) leads.2 leads.0) in
+      subst (λ b. Contains (heard_by (if b then hear lists k (heard_by lists j) else lists) y) c)
+      (sym (two_nodes_test (length lists) j k two))
       (subst (λ m. Contains (heard_by (hear lists k (heard_by lists j)) m) c) (sym leads.2)
       (hear_new lists k (heard_by lists j) c two.1 (subst (λ m. Contains (heard_by lists m) c) leads.1 made)))
   led (Refute k) x y leads made = absurd leads
@@ -311,9 +350,11 @@ module _ (members : List Member) (lists : List (List Claim)) (c : Claim) where
   pub brought : (event : Event) (y : ℕ) → Brings members lists event c y → Contains (heard_by (after members lists event) y) c
   brought (Hear k claim) y brings = at_node k (claim ∷ []) y brings.0 brings.1 (0, omega arith, sym brings.2)
     where
-      at_node : (k : ℕ) (claims : List Claim) (y : ℕ) → y ≡ k → y < length lists → Contains claims c → Contains (heard_by (hear lists k claims) y) c
+      at_node : (k : ℕ) (claims : List Claim) (y : ℕ) → y ≡ k → y < length lists → Contains claims c
+          → Contains (heard_by (hear lists k claims) y) c
       at_node k claims y same below made =
-          subst (λ m. Contains (heard_by (hear lists k claims) m) c) (sym same) (hear_new lists k claims c (subst (λ m. m < length lists) same below) made)
+          subst (λ m. Contains (heard_by (hear lists k claims) m) c) (sym same)
+          (hear_new lists k claims c (subst (λ m. m < length lists) same below) made)
   brought (HearAll k claims) y brings =
       subst (λ m. Contains (heard_by (hear lists k claims) m) c) (sym brings.0)
       (hear_new lists k claims c (subst (λ m. m < length lists) brings.0 brings.1) brings.2)

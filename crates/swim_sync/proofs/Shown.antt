@@ -10,7 +10,8 @@ use Rattle.swim_table.proofs.Showing.{home_is_newest}
 -- each top was
 pub top_made : (table : Entries) (claims : List Claim) → TableOf table claims → (s : Standing) → Contains table s → Contains claims s.top
 top_made table claims h s at =
-    let says : IsStandingOf claims (name_of s.top) s = subst (EntryOf claims (name_of s.top)) (get_contained table s h.ascending at) (h.each (name_of s.top)) in
+    let says : IsStandingOf claims (name_of s.top) s = subst (EntryOf claims (name_of s.top))
+    (get_contained table s h.ascending at) (h.each (name_of s.top)) in
     says.top.made
 
 -- and each home

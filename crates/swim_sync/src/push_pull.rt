@@ -12,7 +12,8 @@ ghost use Rattle.swim_pack.specs.Ends.{ConsumesSome};
 ghost use Rattle.swim_table.specs.Dump.{dump_bytes};
 ghost use Rattle.swim_table.specs.Join.{Join};
 ghost use Rattle.swim_table.specs.Table.{TableOf};
-ghost use Rattle.swim_sync.specs.Exchanging.{HasTooMany, TakesStream, ReadsOffer, IsOfferRefused, IsPrepareRefused, IsAnswerRefused, IsFinishRefused, IsExchangeRefused};
+ghost use Rattle.swim_sync.specs.Exchanging.{HasTooMany, TakesStream, ReadsOffer, IsOfferRefused, IsPrepareRefused};
+ghost use Rattle.swim_sync.specs.Exchanging.{IsAnswerRefused, IsFinishRefused, IsExchangeRefused};
 
 use crate::fault::SyncFault;
 use std::alloc::Global;

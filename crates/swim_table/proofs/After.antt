@@ -1,5 +1,6 @@
 -- The first name above another one.
-use Rattle.std.proofs.Common.{◌≡◌, ℕ, zero, suc, ◌+◌, ◌<◌, ◌≤◌, true, false, List, [], ◌∷◌, length, refl, ap, subst, ◌∙◌, slice_get, inl, inr, arith}
+use Rattle.std.proofs.Common.{◌≡◌, ℕ, zero, suc, ◌+◌, ◌<◌, ◌≤◌, true, false, List, [], ◌∷◌, length, refl, ap, subst}
+use Rattle.std.proofs.Common.{◌∙◌, slice_get, inl, inr, arith}
 use Rattle.std.specs.Ordering.{is_lt}
 use Rattle.std.specs.declared.cmp.Ordering.TheVariants.{Less, Equal, Greater}
 use Rattle.std.proofs.lemmas.Bool.{cases_lt}
@@ -33,7 +34,8 @@ after_gap table name i gap = first_from table name i (record {
   above = λ j d up in_range. ap is_lt (turned (name_at table j d) name Greater (gap.greater_after j d up in_range));
 })
 
-pub after_at : (table : Entries) (name : List ℕ) (i : ℕ) → IsAscending table → IsAt table name i → slice_get table (i + 1) ≡ after table name
+pub after_at : (table : Entries) (name : List ℕ) (i : ℕ) → IsAscending table → IsAt table name i
+    → slice_get table (i + 1) ≡ after table name
 after_at table name i up at = first_from table name (i + 1) (record {
   not_above = λ j d below in_range. elim (cases_lt j i) [
     | inl less ↦ ap is_lt (subst (λ n. name_cmp n (name_at table j d) ≡ Greater) (at.has_name d)
@@ -43,5 +45,7 @@ after_at table name i up at = first_from table name (i + 1) (record {
         let tied : name_cmp name name ≡ Equal = tied_itself nat_list_cmp_total name in
         ap is_lt (ap (λ (k : ℕ). name_cmp name (name_at table k d)) is ∙ ap (name_cmp name) (at.has_name d) ∙ tied)
   ];
-  above = λ j d above in_range. ap is_lt (subst (λ n. name_cmp n (name_at table j d) ≡ Less) (at.has_name d) (less_at table i j d up (omega (arith, above)) in_range));
+  above = λ j d above in_range. ap is_lt
+      (subst (λ n. name_cmp n (name_at table j d) ≡ Less) (at.has_name d)
+      (less_at table i j d up (omega (arith, above)) in_range));
 })

@@ -1,5 +1,6 @@
 -- Each step of the search for what a join changes.
-use Rattle.std.proofs.Common.{◌≡◌, ◌≢◌, ◌↔◌, ◌⊎◌, ℕ, Option, Some, None, IsSome, List, [], ◌∷◌, ◌++◌, MatchOption, Bool, true, false, IsTrue, MatchBool, refl, sym, ap, subst, ◌∙◌, inl, inr}
+use Rattle.std.proofs.Common.{◌≡◌, ◌≢◌, ◌↔◌, ◌⊎◌, ℕ, Option, Some, None, IsSome, List, [], ◌∷◌, ◌++◌, MatchOption, Bool}
+use Rattle.std.proofs.Common.{true, false, IsTrue, MatchBool, refl, sym, ap, subst, ◌∙◌, inl, inr}
 use mathlib.Core.Bool.{false≢true, not}
 use Rattle.swim_claim.specs.declared.claim.Claim.{Claim}
 use Rattle.swim_claim.specs.Claim.{name_of}
@@ -8,7 +9,8 @@ use Rattle.swim_table.specs.Table.{Entries, get, IsAscending, TableOf, Reduced}
 use Rattle.swim_table.specs.Join.{joined, Join, standing_of}
 use Rattle.swim_table.specs.Covering.{IsCovered}
 use Rattle.swim_table.specs.News.{AreChanges, HasAlso}
-use Rattle.swim_table.proofs.Lookups.{IsAscending-head, IsAscending-tail, get_below, get_cases, get_here, joined_both, joined-none, same_table}
+use Rattle.swim_table.proofs.Lookups.{IsAscending-head, IsAscending-tail, get_below, get_cases, get_here, joined_both}
+use Rattle.swim_table.proofs.Lookups.{joined-none, same_table}
 use Rattle.swim_table.proofs.Covering.{covered_nil}
 use Rattle.swim_table.proofs.Tables.{get-append, standing_of_top, TableOf-Join, TableOf-one, TableOf-table_of}
 
@@ -20,7 +22,8 @@ pub map_case : (o : Option Standing) (P P' Q Q' : Type 0) → (P → P') → (Q 
 map_case None P P' Q Q' f g h = f h
 map_case (Some s) P P' Q Q' f g h = g h
 
-kept_case : (o o' : Option Standing) (P P' Q R : Type 0) → IsSome o' ↔ (IsSome o ⊎ R) → ¬ R → (P → P') → MatchOption o P (λ _. Q) → MatchOption o' P' (λ _. Q)
+kept_case : (o o' : Option Standing) (P P' Q R : Type 0) → IsSome o' ↔ (IsSome o ⊎ R) → ¬ R → (P → P')
+    → MatchOption o P (λ _. Q) → MatchOption o' P' (λ _. Q)
 kept_case None None P P' Q R is not f h = f h
 kept_case None (Some t) P P' Q R is not f h = elim (is.0 refl) [ inl one ↦ absurd cc | inr other ↦ absurd (not other) ]
 kept_case (Some s) None P P' Q R is not f h = let some = is.1 (inl refl) in absurd (cc (some))
@@ -52,7 +55,8 @@ took_none table other claims others h none of also =
     subst (λ t. TableOf t (claims ++ others)) (join_of_none table other h none) (TableOf-Join table other claims others of also)
 
 pub told_by_covering : (table other : Entries) → TableOf table (Reduced table) → TableOf other (Reduced other)
-    → (covered : Bool) → IsTrue covered ↔ IsCovered other table → MatchBool (not covered) (Join table other ≢ table) (Join table other ≡ table)
+    → (covered : Bool) → IsTrue covered ↔ IsCovered other table
+    → MatchBool (not covered) (Join table other ≢ table) (Join table other ≡ table)
 told_by_covering table other h g true is = (covered_is_unchanged table other h g).0 (is.0 refl)
 told_by_covering table other h g false is = λ same. false≢true (is.1 ((covered_is_unchanged table other h g).1 same))
 
@@ -64,8 +68,14 @@ also_noted before after c h w name = elim (get_cases (standing_of c) [] name) [
       (let is = gets ∙ joined_both refl here.1 in
       (λ _. inr (here.0 ∙ named), λ _. some (get before name) (standing_of c) (get after name) is))
   | inr later ↦
-      (let is = gets ∙ joined_both refl later.1 ∙ joined-none (get before name) in
-      (λ some. inl (subst IsSome is some), λ had. elim had [ inl one ↦ subst IsSome (sym is) one | inr same ↦ absurd (later.0 (same ∙ sym named)) ]))
+      (let is = gets ∙ joined_both refl later.1 ∙ joined-none (get before name) in (
+        λ some. inl (subst IsSome is some),
+        λ had. elim had [
+          | inl one ↦ subst IsSome (sym is) one
+          | inr same ↦ absurd
+              (later.0 (same ∙ sym named))
+        ],
+      ))
 ]
   where
     named : name_of (standing_of c).top ≡ name_of c
@@ -130,7 +140,8 @@ module _ (table other news : Entries) (e : Standing) (rest : Entries) (w : IsSea
   theirs : (name : List ℕ) → name ≡ name_of e.top → get other name ≡ Some e
   theirs name is = let here = get_here e rest name is in w.left name (subst IsSome (sym here) refl) ∙ here
 
-  pub searching_noted : (after : Entries) → TableOf after (Reduced after) → (TableOf news (Reduced news) → HasAlso (name_of e.top) news after)
+  pub searching_noted : (after : Entries) → TableOf after (Reduced after)
+      → (TableOf news (Reduced news) → HasAlso (name_of e.top) news after)
       → IsChanged (get table (name_of e.top)) (Some e) → IsSearching table other after rest
   searching_noted after own adds changed = let also = adds w.own in record {
     own = own;
@@ -139,7 +150,8 @@ module _ (table other news : Entries) (e : Standing) (rest : Entries) (w : IsSea
     found = λ name. elim (get_cases e rest name) [
       | inl here ↦
           some_case (get after name) _ _ ((also name).1 (inr here.0))
-          (subst (λ o. IsChanged (get table name) o) (sym (theirs name here.0)) (subst (λ n. IsChanged (get table n) (Some e)) (sym here.0) changed))
+          (subst (λ o. IsChanged (get table name) o) (sym (theirs name here.0))
+          (subst (λ n. IsChanged (get table n) (Some e)) (sym here.0) changed))
       | inr later ↦ kept_case (get news name) (get after name) _ _ _ _ (also name) later.0 (λ why. again name later.1 why) (w.found name)
     ];
   }
@@ -168,7 +180,8 @@ module _ (table other news : Entries) (e : Standing) (rest : Entries) (w : IsSea
       again name (inr later) (inr is) = inr is
 
   -- the entry changes the table
-  pub changed_here : TableOf table (Reduced table) → TableOf other (Reduced other) → IsChanged (get table (name_of e.top)) (Some e) → Join table other ≢ table
+  pub changed_here : TableOf table (Reduced table) → TableOf other (Reduced other)
+      → IsChanged (get table (name_of e.top)) (Some e) → Join table other ≢ table
   changed_here h g changed same =
       let here = joined_both refl (theirs (name_of e.top) refl) in
       changed (sym here ∙ sym (get-Join table other h g (name_of e.top)) ∙ ap (λ t. get t (name_of e.top)) same)

@@ -46,15 +46,18 @@ pub dump_claims : (table : Entries) (join flag : Bool) (claims : List Claim) →
     → StreamText (dump_bytes table join) claims flag → (claims ≡ Reduced table) × (flag ≡ join)
 dump_claims table join flag claims legal few text =
     let same =
-    one_stream (dump_bytes table join) (dump_bytes table join) [] [] claims (Reduced table) flag join text (dump_is_stream table join legal few) refl in
+    one_stream (dump_bytes table join) (dump_bytes table join) [] [] claims (Reduced table) flag join text
+    (dump_is_stream table join legal few) refl in
     (same.1, same.2)
 
 -- and is read as the table
-pub dump_read_back : (table other : Entries) (join flag : Bool) (claims : List Claim) → IsLegalTable table → length (Reduced table) ≤ max_nodes
+pub dump_read_back : (table other : Entries) (join flag : Bool) (claims : List Claim) → IsLegalTable table
+    → length (Reduced table) ≤ max_nodes
     → TableOf other claims → StreamText (dump_bytes table join) claims flag → (other ≡ table) × (flag ≡ join)
 dump_read_back table other join flag claims legal few is text =
     let same = dump_claims table join flag claims legal few text in (
-      TableOf-unique other table claims (Reduced table) is legal.own (λ c. subst (λ l. Contains claims c ↔ Contains l c) same.0 (λ made. made, λ made. made)),
+      TableOf-unique other table claims (Reduced table) is legal.own
+          (λ c. subst (λ l. Contains claims c ↔ Contains l c) same.0 (λ made. made, λ made. made)),
       same.1,
     )
 
@@ -63,4 +66,5 @@ pub same_table_dumped : (table other : Entries) (join flag : Bool) → IsLegalTa
     (Reduced table) ≤ max_nodes → length (Reduced other) ≤ max_nodes
     → dump_bytes table join ≡ dump_bytes other flag → (table ≡ other) × (join ≡ flag)
 same_table_dumped table other join flag h g few few' same =
-    dump_read_back other table flag join (Reduced table) g few' h.own (subst (λ b. StreamText b (Reduced table) join) same (dump_is_stream table join h few))
+    dump_read_back other table flag join (Reduced table) g few' h.own
+    (subst (λ b. StreamText b (Reduced table) join) same (dump_is_stream table join h few))

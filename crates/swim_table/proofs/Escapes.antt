@@ -34,7 +34,11 @@ all_bytes = refl
 
 by_answer : (escaped : Bool) (b : ℕ) → agrees escaped (is_visible b) ≡ true → (escaped ≡ false) ↔ ((33 ≤ b) × (b ≤ 126) × (b ≢ 37))
 by_answer true b agree = (λ kept. absurd cc, λ visible. absurd (grind (arith, nat_tests)))
-by_answer false b agree = (λ kept. (grind (arith, nat_tests), grind (arith, nat_tests), λ is. absurd (grind (arith, nat_tests))), λ visible. refl)
+by_answer false b agree = (
+  λ kept.
+      (grind (arith, nat_tests), grind (arith, nat_tests), λ is. absurd (grind (arith, nat_tests))),
+  λ visible. refl,
+)
 
 pub kept_bytes : (b : ℕ) → (should_percent_encode ESCAPED b ≡ false) ↔ ((33 ≤ b) × (b ≤ 126) × (b ≢ 37))
 kept_bytes b = elim (cases_lt b 128) [

@@ -1,18 +1,21 @@
 -- A table without a name.
-use Rattle.std.proofs.Common.{◌≡◌, ◌≢◌, ℕ, zero, suc, ◌⊎◌, inl, inr, Bool, true, false, not, cond, Option, Some, None, List, [], ◌∷◌, Contains, refl, sym, ap, subst, ◌∙◌, arith, true≢false}
+use Rattle.std.proofs.Common.{◌≡◌, ◌≢◌, ℕ, zero, suc, ◌⊎◌, inl, inr, Bool, true, false, not, cond, Option, Some, None}
+use Rattle.std.proofs.Common.{List, [], ◌∷◌, Contains, refl, sym, ap, subst, ◌∙◌, arith, true≢false}
 use Rattle.std.specs.List.{remove}
 use Rattle.std.specs.Ordering.{is_eq}
 use Rattle.std.specs.declared.cmp.Ordering.{Ordering}
 use Rattle.std.specs.declared.cmp.Ordering.TheVariants.{Less, Equal, Greater}
 use Rattle.std.proofs.lemmas.Cmp.{nat_list_cmp_total, tied_itself}
-use Rattle.std.proofs.lemmas.List.Elements.{All-contains, All-contains_itself, All-filter, filter_passes, Contains-append_left, Contains-append_right, Contains-append_cases}
+use Rattle.std.proofs.lemmas.List.Elements.{All-contains, All-contains_itself, All-filter, filter_passes}
+use Rattle.std.proofs.lemmas.List.Elements.{Contains-append_left, Contains-append_right, Contains-append_cases}
 use Rattle.std.proofs.lemmas.Map.Lookups.{exact_bytes}
 use Rattle.swim_claim.specs.declared.claim.Claim.{Claim}
 use Rattle.swim_claim.specs.Claim.{name_of, IsLegalClaim}
 use Rattle.swim_table.specs.Standing.{Standing}
 use Rattle.swim_table.specs.Table.{Entries, name_cmp, get, IsAscending, IsHomeOf, EntryOf, TableOf, Reduced, IsLegalTable, about_others}
 use Rattle.swim_table.specs.Place.{IsAt, IsGapFor}
-use Rattle.swim_table.proofs.Lookups.{only_one, get_cases, get_here, get_later, get_below, IsBelowAll, IsAscending-head, IsAscending-tail, IsAscending-cons, IsAscending-nil}
+use Rattle.swim_table.proofs.Lookups.{only_one, get_cases, get_here, get_later, get_below, IsBelowAll, IsAscending-head}
+use Rattle.swim_table.proofs.Lookups.{IsAscending-tail, IsAscending-cons, IsAscending-nil}
 use Rattle.swim_table.proofs.Place.{less_at, get_in_gap}
 use Rattle.swim_table.proofs.Tables.{EntryOf-unique}
 use Rattle.swim_table.proofs.Taking.{legal_table}
@@ -38,7 +41,8 @@ differs name c passes same =
 module _ (name : List ℕ) (claims : List Claim) where
   within : (c : Claim) → Contains (about_others name claims) c → Contains claims c
   within c =
-      All-contains (Contains claims) (about_others name claims) c (All-filter (is_other name) (Contains claims) claims (All-contains_itself claims))
+      All-contains (Contains claims) (about_others name claims) c
+      (All-filter (is_other name) (Contains claims) claims (All-contains_itself claims))
 
   other_named : (c : Claim) → Contains (about_others name claims) c → name_of c ≢ name
   other_named c made =
@@ -63,7 +67,8 @@ EntryOf-none : (name : List ℕ) (claims : List Claim) → EntryOf (about_others
 EntryOf-none name claims = other_named name claims
 
 -- and about another name what all claims say about it
-IsHomeOf-others : (name n : List ℕ) (claims : List Claim) (o : Option Claim) → n ≢ name → IsHomeOf claims n o → IsHomeOf (about_others name claims) n o
+IsHomeOf-others : (name n : List ℕ) (claims : List Claim) (o : Option Claim) → n ≢ name → IsHomeOf claims n o
+    → IsHomeOf (about_others name claims) n o
 IsHomeOf-others name n claims None other h = λ c made. h c (within name claims c made)
 IsHomeOf-others name n claims (Some a) other h = (
   h.0,
@@ -74,7 +79,8 @@ IsHomeOf-others name n claims (Some a) other h = (
   },
 )
 
-EntryOf-others : (name n : List ℕ) (claims : List Claim) (o : Option Standing) → n ≢ name → EntryOf claims n o → EntryOf (about_others name claims) n o
+EntryOf-others : (name n : List ℕ) (claims : List Claim) (o : Option Standing) → n ≢ name
+    → EntryOf claims n o → EntryOf (about_others name claims) n o
 EntryOf-others name n claims None other h = λ c made. h c (within name claims c made)
 EntryOf-others name n claims (Some s) other h = record {
   about = h.about;
@@ -95,7 +101,8 @@ TableOf-others table whole name claims up none same h = record { ascending = up;
     other_than n o unequal e is = unequal (sym e ∙ ap (name_cmp name) is ∙ tied_itself nat_list_cmp_total name)
 
     of_other : (n : List ℕ) → n ≢ name → EntryOf (about_others name claims) n (get whole n)
-    of_other n other = subst (EntryOf (about_others name claims) n) (sym (same n other)) (EntryOf-others name n claims (get table n) other (h.each n))
+    of_other n other = subst (EntryOf (about_others name claims) n) (sym (same n other))
+        (EntryOf-others name n claims (get table n) other (h.each n))
 
     by_answer : (n : List ℕ) (o : Ordering) → name_cmp name n ≡ o → EntryOf (about_others name claims) n (get whole n)
     by_answer n Less e = of_other n (other_than n Less (λ h. cc) e)
@@ -142,7 +149,9 @@ first_differs : (entry : Standing) (rest : Entries) (name : List ℕ) (i : ℕ) 
     (entry ∷ rest) name (suc i) → name ≢ name_of entry.top
 first_differs entry rest name i up at same =
     let less = less_at (entry ∷ rest) 0 (suc i) entry up (omega arith) at.in_range in
-    let itself : name_cmp name name ≡ Less = subst (λ n. name_cmp n name ≡ Less) (sym same) (subst (λ n. name_cmp (name_of entry.top) n ≡ Less) (at.has_name entry) less) in
+    let itself : name_cmp name name ≡ Less = subst
+    (λ n. name_cmp n name ≡ Less) (sym same)
+    (subst (λ n. name_cmp (name_of entry.top) n ≡ Less) (at.has_name entry) less) in
     let tied = tied_itself nat_list_cmp_total name in
     cc (itself, tied)
 
@@ -157,7 +166,8 @@ get-removed (entry ∷ rest) name (suc i) up at =
 get-left : (table : Entries) (name : List ℕ) (i : ℕ) → IsAt table name i → (n : List ℕ) → n ≢ name → get (remove table i) n ≡ get table n
 get-left [] name i at n other = absurd (omega (arith, at.in_range))
 get-left (entry ∷ rest) name zero at n other = sym (get_later entry rest n (λ same. other (same ∙ at.has_name entry)))
-get-left (entry ∷ rest) name (suc i) at n other = by_cases (get-left rest name i (later_at entry rest name i at) n other) (get_cases entry rest n)
+get-left (entry ∷ rest) name (suc i) at n other = by_cases
+    (get-left rest name i (later_at entry rest name i at) n other) (get_cases entry rest n)
   where
     by_cases : get (remove rest i) n ≡ get rest n →
         ((n ≡ name_of entry.top) × (get (entry ∷ rest) n ≡ Some entry)) ⊎

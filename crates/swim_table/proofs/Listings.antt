@@ -1,5 +1,7 @@
 -- A listing shows all that its table says.
-use Rattle.std.proofs.Common.{◌≡◌, ◌≢◌, ℕ, ◌<◌, ◌≤◌, ◌^◌, Option, Some, None, List, [], ◌∷◌, ◌++◌, Contains, true, false, codes, decimal, get_or, length, length-append, append_assoc, refl, sym, ap, subst, ◌∙◌, arith}
+use Rattle.std.proofs.Common.{◌≡◌, ◌≢◌, ℕ, ◌<◌, ◌≤◌, ◌^◌, Option, Some, None, List, [], ◌∷◌, ◌++◌, Contains, true}
+use Rattle.std.proofs.Common.{false, codes, decimal, get_or, length, length-append, append_assoc, refl, sym, ap, subst}
+use Rattle.std.proofs.Common.{◌∙◌, arith}
 use Rattle.std.specs.List.{list_all}
 use Rattle.std.specs.Prelude.{IfSome, ◌==◌, not}
 use Rattle.std.proofs.lemmas.Bool.Decides.{nat_tests}
@@ -29,7 +31,8 @@ use Rattle.swim_table.proofs.Tables.{alive_top_is_home}
 
 kept_is_no_space : (b : ℕ) → should_percent_encode ESCAPED b ≡ false → b ≢ 32
 unfolding should_percent_encode
-kept_is_no_space b kept is = let at_space : should_percent_encode ESCAPED 32 ≡ false = subst (λ x. should_percent_encode ESCAPED x ≡ false) is kept in cc
+kept_is_no_space b kept is = let at_space : should_percent_encode ESCAPED 32 ≡ false = subst
+    (λ x. should_percent_encode ESCAPED x ≡ false) is kept in cc
 
 escape_is_no_space : (b : ℕ) → IsEscapeByte b → b ≢ 32
 escape_is_no_space b escape is = absurd (grind arith)
@@ -54,7 +57,8 @@ number_lacks separator n low small =
 
 bytes_lack : (separator : ℕ) (bytes : List ℕ) → separator < 48 → AreBytes bytes → Lacks separator (encode_lower bytes)
 bytes_lack separator bytes low small =
-    All-weaker (λ b. (48 ≤ b) × (b ≤ 102)) (λ b. b ≢ separator) (λ b digit is. absurd (omega arith)) (encode_lower bytes) (All-encode_lower bytes small)
+    All-weaker (λ b. (48 ≤ b) × (b ≤ 102)) (λ b. b ≢ separator)
+    (λ b digit is. absurd (omega arith)) (encode_lower bytes) (All-encode_lower bytes small)
 
 slash_lacks : (separator : ℕ) → separator < 45 → Lacks separator (codes "/")
 slash_lacks separator low = All-cons (λ b. b ≢ separator) 47 [] (λ is. absurd (omega arith)) (All-nil (λ b. b ≢ separator))
@@ -63,7 +67,8 @@ slash_lacks separator low = All-cons (λ b. b ≢ separator) 47 [] (λ is. absur
 wider : (n : ℕ) → n < 2 ^ 32 → n < 2 ^ 64
 wider n small = omega arith
 
-address_lacks : (separator inc : ℕ) (d : DetailsValue) → separator < 45 → inc < 2 ^ 32 → IsLegalDetails d → Lacks separator (address_text inc d)
+address_lacks : (separator inc : ℕ) (d : DetailsValue) → separator < 45 → inc < 2 ^ 32 → IsLegalDetails d
+    → Lacks separator (address_text inc d)
 address_lacks separator inc d low small legal =
     let P : ℕ → Type 0 = λ b. b ≢ separator in
     let below : separator < 48 = omega arith in
@@ -71,7 +76,8 @@ address_lacks separator inc d low small legal =
     All-append P
     (decimal inc ++ codes "/" ++ encode_lower d.addr ++ codes "/" ++ decimal d.port ++ codes "/" ++ encode_lower d.meta ++ codes "/")
     (encode_lower d.vsn)
-    (All-append P (decimal inc ++ codes "/" ++ encode_lower d.addr ++ codes "/" ++ decimal d.port ++ codes "/" ++ encode_lower d.meta) (codes "/")
+    (All-append P (decimal inc ++ codes "/" ++ encode_lower d.addr ++ codes "/" ++ decimal d.port
+    ++ codes "/" ++ encode_lower d.meta) (codes "/")
     (All-append P (decimal inc ++ codes "/" ++ encode_lower d.addr ++ codes "/" ++ decimal d.port ++ codes "/") (encode_lower d.meta)
     (All-append P (decimal inc ++ codes "/" ++ encode_lower d.addr ++ codes "/" ++ decimal d.port) (codes "/")
     (All-append P (decimal inc ++ codes "/" ++ encode_lower d.addr ++ codes "/") (decimal d.port)
@@ -97,7 +103,8 @@ pub record IsSound (s : Standing) : Type 0 where
   pub home : IfSome s.home (IsHomeFor (name_of s.top))
   pub alive : IsAlive s.top → s.home ≡ Some s.top
 
-home_lacks : (separator : ℕ) (name : List ℕ) (home : Option Claim) → separator < 45 → IfSome home (IsHomeFor name) → Lacks separator (home_text home)
+home_lacks : (separator : ℕ) (name : List ℕ) (home : Option Claim) → separator < 45
+    → IfSome home (IsHomeFor name) → Lacks separator (home_text home)
 home_lacks separator name None low h = All-cons (λ b. b ≢ separator) 45 [] (λ is. absurd (omega arith)) (All-nil (λ b. b ≢ separator))
 home_lacks separator name (Some (Alive n i d)) low h = address_lacks separator i d low h.legal.inc h.legal.details
 home_lacks separator name (Some (Suspect n i)) low h = absurd h.alive
@@ -147,14 +154,17 @@ same_address i j d e small small' h g same =
     let ports : d.port < 2 ^ 32 = omega (arith, h.port) in
     let ports' : e.port < 2 ^ 32 = omega (arith, g.port) in
     let whole = sym (address_is i d) ∙ same ∙ address_is j e in
-    let inc = same_first 47 (decimal i) (decimal j) _ _ (number_lacks 47 i slash (wider i small)) (number_lacks 47 j slash (wider j small')) whole in
+    let inc = same_first 47 (decimal i) (decimal j) _ _ (number_lacks 47 i slash (wider i small))
+    (number_lacks 47 j slash (wider j small')) whole in
     let addr =
-    same_first 47 (encode_lower d.addr) (encode_lower e.addr) _ _ (bytes_lack 47 d.addr slash h.addr_bytes) (bytes_lack 47 e.addr slash g.addr_bytes) inc.1 in
+    same_first 47 (encode_lower d.addr) (encode_lower e.addr) _ _ (bytes_lack 47 d.addr slash h.addr_bytes)
+    (bytes_lack 47 e.addr slash g.addr_bytes) inc.1 in
     let port =
     same_first 47 (decimal d.port) (decimal e.port) _ _ (number_lacks 47 d.port slash (wider d.port ports))
     (number_lacks 47 e.port slash (wider e.port ports')) addr.1 in
     let meta =
-    same_first 47 (encode_lower d.meta) (encode_lower e.meta) _ _ (bytes_lack 47 d.meta slash h.meta_bytes) (bytes_lack 47 e.meta slash g.meta_bytes) port.1 in
+    same_first 47 (encode_lower d.meta) (encode_lower e.meta) _ _ (bytes_lack 47 d.meta slash h.meta_bytes)
+    (bytes_lack 47 e.meta slash g.meta_bytes) port.1 in
     let same_addr = encode_lower_injective d.addr e.addr h.addr_bytes g.addr_bytes addr.0 in
     let same_port = same_number d.port e.port ports ports' port.0 in
     let same_meta = encode_lower_injective d.meta e.meta h.meta_bytes g.meta_bytes meta.0 in
@@ -268,13 +278,20 @@ same_entries (s ∷ ss) (t ∷ ts) h g same =
     let first = both.0 in
     cc (first, rest)
 
-home_sound : (table : Entries) → IsLegalTable table → (name : List ℕ) (home : Option Claim) → IsHomeOf (Reduced table) name home → IfSome home (IsHomeFor name)
+home_sound : (table : Entries) → IsLegalTable table → (name : List ℕ) (home : Option Claim)
+    → IsHomeOf (Reduced table) name home → IfSome home (IsHomeFor name)
 home_sound table legal name None h = tt
-home_sound table legal name (Some a) h = record { alive = h.1.alive; about = h.0; legal = All-contains IsLegalClaim (Reduced table) a legal.claims h.1.made }
+home_sound table legal name (Some a) h = record {
+  alive = h.1.alive;
+  about = h.0;
+  legal = All-contains IsLegalClaim (Reduced table) a legal.claims h.1.made;
+}
 
 pub are_sound : (table : Entries) → IsLegalTable table → AreSound table
 are_sound table legal s at =
-    let says : IsStandingOf (Reduced table) (name_of s.top) s = rw (get_contained table s legal.own.ascending at) at (legal.own.each (name_of s.top)) in
+    let says : IsStandingOf (Reduced table)
+    (name_of s.top) s = rw (get_contained table s legal.own.ascending at) at
+    (legal.own.each (name_of s.top)) in
     record {
       top = All-contains IsLegalClaim (Reduced table) s.top legal.claims says.top.made;
       home = home_sound table legal (name_of s.top) s.home says.home;

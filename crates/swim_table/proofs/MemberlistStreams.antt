@@ -1,6 +1,8 @@
 -- The dump that memberlist merges is a stream of the claims that are told, and of no others.
-use Rattle.std.proofs.Common.{◌≡◌, ℕ, ◌≤◌, Bool, List, [], ◌∷◌, ◌++◌, length, All, Contains, Option, Some, None, true, false, nat_lt, inl, inr, refl, sym, ap, subst, append_assoc, if◌then◌else◌, arith}
-use Rattle.std.proofs.lemmas.List.Elements.{All-head, All-tail, All-weaker, All-contains, All-contains_itself, Contains-append_left, Contains-append_right, Contains-append_cases}
+use Rattle.std.proofs.Common.{◌≡◌, ℕ, ◌≤◌, Bool, List, [], ◌∷◌, ◌++◌, length, All, Contains, Option, Some, None, true}
+use Rattle.std.proofs.Common.{false, nat_lt, inl, inr, refl, sym, ap, subst, append_assoc, if◌then◌else◌, arith}
+use Rattle.std.proofs.lemmas.List.Elements.{All-head, All-tail, All-weaker, All-contains, All-contains_itself}
+use Rattle.std.proofs.lemmas.List.Elements.{Contains-append_left, Contains-append_right, Contains-append_cases}
 use Rattle.std.proofs.lemmas.Bool.Decides.{nat_tests}
 use Rattle.std.specs.List.{flat_map}
 use Rattle.swim_claim.specs.declared.claim.Claim.{Claim}
@@ -15,7 +17,8 @@ use Rattle.swim_wire.specs.Streams.StateTexts.{none, one}
 use Rattle.swim_wire.proofs.OneStream.{one_stream}
 use Rattle.swim_wire.proofs.SpelledTexts.{Fits, Fits-legal, Fits-none, HeaderText-canonical, StateText-beside}
 use Rattle.swim_wire.specs.Limits.{max_nodes, max_user_state_len}
-use Rattle.swim_table.specs.MemberlistDump.{are_versions, details_at, later, told_at, told, told_of, home_details, entry_bytes, memberlist_dump_bytes}
+use Rattle.swim_table.specs.MemberlistDump.{are_versions, details_at, later, told_at, told, told_of, home_details}
+use Rattle.swim_table.specs.MemberlistDump.{entry_bytes, memberlist_dump_bytes}
 use Rattle.swim_table.specs.Standing.{Standing}
 use Rattle.swim_table.specs.Table.{Entries, Reduced, IsLegalTable, beside_home, kept}
 
@@ -50,11 +53,13 @@ later_within (Leave name inc) home c at = by_test (nat_lt inc (inc_of home)) at
     by_test true at = Contains-append_left (home ∷ []) (Leave name inc ∷ []) c at
     by_test false at = Contains-append_right (home ∷ []) (Leave name inc ∷ []) c at
 
-told_within : (top : Claim) (home : Option Claim) (c : Claim) → Contains (told_at top home) c → Contains (kept (record { top = top; home = home })) c
+told_within : (top : Claim) (home : Option Claim) (c : Claim) → Contains (told_at top home) c
+    → Contains (kept (record { top = top; home = home })) c
 told_within top None c at = absurd (omega (arith, at.1))
 told_within top (Some home) c at = by_versions (are_versions (details_at (Some home)).vsn) at
   where
-    by_versions : (b : Bool) → Contains (if b then later top home ∷ [] else []) c → Contains (kept (record { top = top; home = Some home })) c
+    by_versions : (b : Bool) → Contains (if b then later top home ∷ [] else []) c
+        → Contains (kept (record { top = top; home = Some home })) c
     by_versions true at = later_within top home c at
     by_versions false at = absurd (omega (arith, at.1))
 
@@ -69,10 +74,12 @@ one_told entry = by_home entry.home
     by_home None = omega arith
     by_home (Some home) = by_versions (are_versions (details_at (Some home)).vsn) (later entry.top home)
 
-pub told_if_sound : (top home : Claim) → are_versions (details_at (Some home)).vsn ≡ true → told (record { top = top; home = Some home }) ≡ later top home ∷ []
+pub told_if_sound : (top home : Claim) → are_versions (details_at (Some home)).vsn ≡ true
+    → told (record { top = top; home = Some home }) ≡ later top home ∷ []
 told_if_sound top home sound = ap (λ b. if b then later top home ∷ [] else []) sound
 
-pub latest : (top home : Claim) → (inc_of home ≤ inc_of (later top home)) × (beside_home top ≡ top ∷ [] → inc_of top ≤ inc_of (later top home))
+pub latest : (top home : Claim) → (inc_of home ≤ inc_of (later top home))
+    × (beside_home top ≡ top ∷ [] → inc_of top ≤ inc_of (later top home))
 latest (Alive name inc details) home = (omega arith, λ none. absurd (omega (arith, ap length none)))
 latest (Suspect name inc) home = by_test (nat_lt inc (inc_of home)) refl
   where
@@ -113,7 +120,8 @@ StateTexts-beside details (c ∷ claims) fits legal =
     (StateText-beside c details (All-head IsLegalClaim c claims legal) fits)
     (StateTexts-beside details claims fits (All-tail IsLegalClaim c claims legal))
 
-StateTexts-append : (a b : List ℕ) (claims others : List Claim) → StateTexts a claims → StateTexts b others → StateTexts (a ++ b) (claims ++ others)
+StateTexts-append : (a b : List ℕ) (claims others : List Claim) → StateTexts a claims → StateTexts b others
+    → StateTexts (a ++ b) (claims ++ others)
 StateTexts-append _ b _ others none texts = texts
 StateTexts-append _ b _ others (one a rest c claims first more) texts =
     subst (λ (r : List ℕ). StateTexts r (c ∷ claims ++ others)) (sym (append_assoc a rest b))
@@ -133,7 +141,8 @@ fits top (Some home) legal =
 
 -- what holds for all elements of a list holds for those of a part of it
 All-part : (xs ys : List Claim) → ((c : Claim) → Contains xs c → Contains ys c) → All IsLegalClaim ys → All IsLegalClaim xs
-All-part xs ys within all = All-weaker (Contains xs) IsLegalClaim (λ c at. All-contains IsLegalClaim ys c all (within c at)) xs (All-contains_itself xs)
+All-part xs ys within all = All-weaker (Contains xs) IsLegalClaim
+    (λ c at. All-contains IsLegalClaim ys c all (within c at)) xs (All-contains_itself xs)
 
 entry_texts : (entry : Standing) → All IsLegalClaim (kept entry) → StateTexts (entry_bytes entry) (told entry)
 entry_texts entry legal =
@@ -169,9 +178,12 @@ memberlist_dump_is_stream table join user legal few short = record {
 }
 
 -- a stream text of the dump has its claims and its flag
-pub memberlist_dump_claims : (table : Entries) (join flag : Bool) (user : List ℕ) (claims : List Claim) → IsLegalTable table → length (told_of table) ≤ max_nodes
-    → length user ≤ max_user_state_len → StreamText (memberlist_dump_bytes table join user) claims flag → (claims ≡ told_of table) × (flag ≡ join)
+pub memberlist_dump_claims : (table : Entries) (join flag : Bool) (user : List ℕ) (claims : List Claim)
+    → IsLegalTable table → length (told_of table) ≤ max_nodes
+    → length user ≤ max_user_state_len → StreamText (memberlist_dump_bytes table join user) claims flag
+    → (claims ≡ told_of table) × (flag ≡ join)
 memberlist_dump_claims table join flag user claims legal few short text =
     let bytes = memberlist_dump_bytes table join user in
-    let same = one_stream bytes bytes [] [] claims (told_of table) flag join text (memberlist_dump_is_stream table join user legal few short) refl in
+    let same = one_stream bytes bytes [] [] claims (told_of table) flag join text
+    (memberlist_dump_is_stream table join user legal few short) refl in
     (same.1, same.2)

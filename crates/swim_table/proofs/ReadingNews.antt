@@ -1,6 +1,8 @@
 -- A push/pull stream of which a part was read, and what a table lacks of it.
 use mathlib.Core.Bool.{false≢true}
-use Rattle.std.proofs.Common.{◌≡◌, ◌≢◌, ◌↔◌, true, false, IsTrue, MatchBool, ℕ, ◌+◌, ◌<◌, ◌⊎◌, inl, inr, Bool, List, [], Err, ◌∷◌, ◌++◌, length, Option, Some, None, Contains, MatchOption, refl, sym, ap, subst, ◌∙◌, append_assoc, append-nil, length-append, arith}
+use Rattle.std.proofs.Common.{◌≡◌, ◌≢◌, ◌↔◌, true, false, IsTrue, MatchBool, ℕ, ◌+◌, ◌<◌, ◌⊎◌, inl, inr, Bool, List, []}
+use Rattle.std.proofs.Common.{Err, ◌∷◌, ◌++◌, length, Option, Some, None, Contains, MatchOption, refl, sym, ap, subst}
+use Rattle.std.proofs.Common.{◌∙◌, append_assoc, append-nil, length-append, arith}
 use Rattle.std.proofs.lemmas.List.Elements.{Contains-append_cases, Contains-append_left, Contains-append_right}
 use Rattle.std.specs.Prelude.{IfSome}
 use Rattle.swim_claim.specs.Claim.{name_of}
@@ -24,7 +26,8 @@ use Rattle.swim_table.specs.News.{IsKnown, IsNewsOf, TakesNews, TakesNews as tak
 use Rattle.swim_table.proofs.Changed.{get-Join}
 use Rattle.swim_table.proofs.Lookups.{IsAscending-put, get-put, get_cases, get_here, joined_both, joined-none, same_table}
 use Rattle.swim_table.proofs.Streams.{ReadSome, begun_more, none_wanted, record_asks, step_reason, user_reason, whole}
-use Rattle.swim_table.proofs.Tables.{Same-append_comm, standing_of_top, TableOf-Join, TableOf-put, TableOf-Reduced, TableOf-same, TableOf-table_of, TableOf-unique}
+use Rattle.swim_table.proofs.Tables.{Same-append_comm, standing_of_top, TableOf-Join, TableOf-put, TableOf-Reduced}
+use Rattle.swim_table.proofs.Tables.{TableOf-same, TableOf-table_of, TableOf-unique}
 
 -- ---- a claim that adds nothing
 
@@ -33,7 +36,8 @@ module _ (table : Entries) (up : IsAscending table) (c : Claim) where
   named = ap name_of (standing_of_top c)
 
   pub known_put : IsKnown table c → put table (standing_of c) ≡ table
-  known_put is = same_table (put table (standing_of c)) table (IsAscending-put table (standing_of c) up) up (λ name. get-put table (standing_of c) up name ∙ each name)
+  known_put is = same_table (put table (standing_of c)) table (IsAscending-put table (standing_of c) up) up
+      (λ name. get-put table (standing_of c) up name ∙ each name)
     where
       each : (name : List ℕ) → joined (get table name) (get (standing_of c ∷ []) name) ≡ get table name
       each name = elim (get_cases (standing_of c) [] name) [
@@ -141,7 +145,8 @@ module _ (table : Entries) (h : TableOf table (Reduced table)) where
         joins =
             λ taken of.
             subst (TableOf (Join table new)) (append_assoc taken claims (c ∷ []))
-            (subst (λ t. TableOf t ((taken ++ claims) ++ c ∷ [])) (sym one_more) (TableOf-put (Join table old) (taken ++ claims) c (w.joins taken of)));
+            (subst (λ t. TableOf t ((taken ++ claims) ++ c ∷ [])) (sym one_more)
+            (TableOf-put (Join table old) (taken ++ claims) c (w.joins taken of)));
         changes = λ name. by_entry name (get new name) refl;
       }
         where
@@ -156,7 +161,8 @@ module _ (table : Entries) (h : TableOf table (Reduced table)) where
                 (let other = λ (at : name ≡ name_of c). later.0 (at ∙ sym (named table h.ascending c)) in
                 let before : get old name ≡ Some s = sym (at_other name other) ∙ is in
                 let changed : get (Join table old) name ≢ get table name =
-                subst (λ o. MatchOption o (get (Join table old) name ≡ get table name) (λ _. get (Join table old) name ≢ get table name)) before
+                subst (λ o. MatchOption o (get (Join table old) name ≡ get table name)
+                (λ _. get (Join table old) name ≢ get table name)) before
                 (w.changes name) in
                 changed
                 (get-Join table old h g name ∙ joined_both refl (sym (at_other name other)) ∙ sym (get-Join table new h own name) ∙ same))
@@ -179,19 +185,28 @@ pub record ReadNews (old new : Source) (header : Header) (left : ℕ) (table new
   pub are_news : IsNewsOf table news claims
 
 pub begun_news : (old new : Source) (reader : Streaming) (header : Header) (table news : Entries) → header ≡ reader.header → news ≡ []
-    → ConsumesText old new (λ b. HeaderText b reader.header) → TableOf table (Reduced table) → ReadNews old new header header.nodes table news
+    → ConsumesText old new (λ b. HeaderText b reader.header) → TableOf table (Reduced table)
+    → ReadNews old new header header.nodes table news
 begun_news old new reader header table news same none taken h = record {
   claims = [];
   counted = omega arith;
   taken =
-      ConsumesText-mono old.coming new.coming _ _ (λ b text. record { head = b; records = []; bytes = sym (append-nil b); head_text = text; record_texts = texts.none })
+      ConsumesText-mono old.coming new.coming _ _
+      (λ b text. record {
+        head = b;
+        records = [];
+        bytes = sym (append-nil b);
+        head_text = text;
+        record_texts = texts.none;
+      })
       (subst (λ h. ConsumesText old new (λ b. HeaderText b h)) (sym same) taken);
   are_news = subst (λ n. IsNewsOf table n []) (sym none) (no_news table h);
 }
 
 pub read_more : (old mid new : Source) (header : Header) (left next : ℕ) (table before after : Entries) (c : Claim)
     → ReadNews old mid header left table before → left ≡ next + 1 → ConsumesText mid new (λ b. StateText b c)
-    → TableOf table (Reduced table) → TableOf before (Reduced before) → TakesNews table before after c → ReadNews old new header next table after
+    → TableOf table (Reduced table) → TableOf before (Reduced before) → TakesNews table before after c
+    → ReadNews old new header next table after
 read_more old mid new header left next table before after c some steps text h g take =
     let count = length-append some.claims (c ∷ []) in
     let sum = some.counted in
@@ -202,7 +217,8 @@ read_more old mid new header left next table before after c some steps text h g 
       are_news = more_news table h before after g some.claims c some.are_news take;
     }
 
-pub read_all : (old mid new : Source) (header : Header) (left : ℕ) (table news : Entries) → ReadNews old mid header left table news → left ≡ 0
+pub read_all : (old mid new : Source) (header : Header) (left : ℕ) (table news : Entries)
+    → ReadNews old mid header left table news → left ≡ 0
     → ConsumesText mid new (λ b. length b ≡ header.user_len)
     → (claims : List Claim) × IsNewsOf table news claims × ConsumesText old new (λ b. StreamText b claims header.join)
 read_all old mid new header left table news some none user =
@@ -238,7 +254,9 @@ module _ (old mid : Source) (header : Header) (left : ℕ) (table news : Entries
   pub no_record : (fault : WireFault) → 0 < left → UnlessFailed (wire_cause fault) (NoTextAtFront mid (λ b. (c : Claim) × StateText b c))
       → UnlessFailed (wire_cause fault) (NoTextAtFront old IsStream)
   no_record fault more =
-      UnlessFailed-weaker (wire_cause fault) (λ lacks. none_wanted old mid table reader as_some (not_wanted reader mid (λ b. (c : Claim) × StateText b c) from lacks))
+      UnlessFailed-weaker (wire_cause fault)
+      (λ lacks. none_wanted old mid table reader as_some
+      (not_wanted reader mid (λ b. (c : Claim) × StateText b c) from lacks))
     where
       from : (b : List ℕ) → IsWanted reader b → (c : Claim) × StateText b c
       from b (wants.record_of c some text) = (c, text)
@@ -247,25 +265,31 @@ module _ (old mid : Source) (header : Header) (left : ℕ) (table news : Entries
   pub no_user : (fault : WireFault) → left ≡ 0 → UnlessFailed (wire_cause fault) (NoTextAtFront mid (λ b. length b ≡ header.user_len))
       → UnlessFailed (wire_cause fault) (NoTextAtFront old IsStream)
   no_user fault over =
-      UnlessFailed-weaker (wire_cause fault) (λ lacks. none_wanted old mid table reader as_some (not_wanted reader mid (λ b. length b ≡ header.user_len) from lacks))
+      UnlessFailed-weaker (wire_cause fault)
+      (λ lacks. none_wanted old mid table reader as_some
+      (not_wanted reader mid (λ b. length b ≡ header.user_len) from lacks))
     where
       from : (b : List ℕ) → IsWanted reader b → length b ≡ header.user_len
       from b (wants.record_of c more text) = absurd (omega (arith, more, over))
       from b (wants.user_state none long) = long
 
   pub record_reason : (fault : WireFault) (new : Source) → 0 < left → ReasonForStart (ReasonForState fault) mid
-      → ReadsAs {E = WireFault} {X = Claim} {V = Claim} wire_cause same state_at mid new (Err fault) → IfSome old.coming (ReasonForStream fault)
+      → ReadsAs {E = WireFault} {X = Claim} {V = Claim} wire_cause same state_at mid new (Err fault)
+      → IfSome old.coming (ReasonForStream fault)
   record_reason fault new more why exact = step_reason fault old mid table reader as_some (known mid.coming new.coming why exact.answer)
     where
-      known : (o n : Option (List ℕ)) → IfSome o (ReasonForState fault) → Answers {E = WireFault} {X = Claim} {V = Claim} wire_cause same state_at o n (Err fault)
+      known : (o n : Option (List ℕ)) → IfSome o (ReasonForState fault)
+          → Answers {E = WireFault} {X = Claim} {V = Claim} wire_cause same state_at o n (Err fault)
           → IfSome o (ReasonForStep reader fault)
       known None n w a = tt
       known (Some bytes) None w a = why_step.record_of more (w, a)
       known (Some bytes) (Some rest) w a = why_step.record_of more (w, a)
 
-  pub memory_reason : (new : Source) (c : Claim) → left ≢ 0 → ConsumesText mid new (λ b. StateText b c) → IfSome old.coming (ReasonForStream Memory)
+  pub memory_reason : (new : Source) (c : Claim) → left ≢ 0 → ConsumesText mid new (λ b. StateText b c)
+      → IfSome old.coming (ReasonForStream Memory)
   memory_reason new c more text = step_reason Memory old mid table reader as_some (record_asks reader reader mid new c refl more text)
 
   pub state_reason : (fault : WireFault) → left ≡ 0 → (fault ≡ Ended) ⊎ (fault ≡ Fault)
       → UnlessFailed (wire_cause fault) (NoTextAtFront mid (λ b. length b ≡ header.user_len)) → IfSome old.coming (ReasonForStream fault)
-  state_reason fault over which lacks = step_reason fault old mid table reader as_some (user_reason reader reader fault mid refl over which lacks)
+  state_reason fault over which lacks = step_reason fault old mid table reader as_some
+      (user_reason reader reader fault mid refl over which lacks)

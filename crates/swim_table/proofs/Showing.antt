@@ -9,14 +9,16 @@ use Rattle.swim_table.proofs.Lookups.{get_contained}
 use Rattle.swim_table.proofs.Tables.{TableOf-table_of, TableOf-unique, TableOf-same, TableOf-instead, Same-append_comm}
 
 -- a table has each name about which there is a claim
-pub name_shown : (table : Entries) (claims : List Claim) → TableOf table claims → (c : Claim) → Contains claims c → IsSome (get table (name_of c))
+pub name_shown : (table : Entries) (claims : List Claim) → TableOf table claims → (c : Claim)
+    → Contains claims c → IsSome (get table (name_of c))
 name_shown table claims h c made = by_answer (get table (name_of c)) (h.each (name_of c))
   where
     by_answer : (o : Option Standing) → EntryOf claims (name_of c) o → IsSome o
     by_answer None says = absurd (says c made refl)
     by_answer (Some s) says = refl
 
-entry_says : (table : Entries) (claims : List Claim) → TableOf table claims → (s : Standing) → Contains table s → IsStandingOf claims (name_of s.top) s
+entry_says : (table : Entries) (claims : List Claim) → TableOf table claims → (s : Standing)
+    → Contains table s → IsStandingOf claims (name_of s.top) s
 entry_says table claims h s at = rw (get_contained table s h.ascending at) at (h.each (name_of s.top))
 
 pub top_stands : (table : Entries) (claims : List Claim) → TableOf table claims → (s : Standing) → Contains table s →
@@ -34,7 +36,8 @@ turned whole claims others = TableOf-same whole (claims ++ others) (others ++ cl
 
 pub TableOf-sent : (table whole : Entries) (claims others more : List Claim) → TableOf table claims → TableOf table others
     → TableOf whole (more ++ claims) → TableOf whole (more ++ others)
-TableOf-sent table whole claims others more h g w = turned whole others more (TableOf-instead table whole claims others more h g (turned whole more claims w))
+TableOf-sent table whole claims others more h g w = turned whole others more
+    (TableOf-instead table whole claims others more h g (turned whole more claims w))
 
 -- ---- tables below one another
 
@@ -50,4 +53,5 @@ below_join table other = (
 
 pub below_both : (table other : Entries) → Below table other → Below other table → table ≡ other
 below_both table other below above =
-    TableOf-unique table other (Reduced table ++ Reduced other) (Reduced other ++ Reduced table) above below (Same-append_comm (Reduced table) (Reduced other))
+    TableOf-unique table other (Reduced table ++ Reduced other) (Reduced other ++ Reduced table) above below
+    (Same-append_comm (Reduced table) (Reduced other))

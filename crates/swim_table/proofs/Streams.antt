@@ -1,5 +1,7 @@
 -- A push/pull stream of which a part was read.
-use Rattle.std.proofs.Common.{◌≡◌, ◌≢◌, ℕ, ◌+◌, ◌≤◌, ◌<◌, ◌⊎◌, inl, inr, Bool, List, [], ◌∷◌, ◌++◌, length, take, drop, Option, Some, None, refl, sym, ap, subst, ◌∙◌, append_assoc, append-nil, length-append, arith}
+use Rattle.std.proofs.Common.{◌≡◌, ◌≢◌, ℕ, ◌+◌, ◌≤◌, ◌<◌, ◌⊎◌, inl, inr, Bool, List, [], ◌∷◌, ◌++◌, length, take, drop}
+use Rattle.std.proofs.Common.{Option, Some, None, refl, sym, ap, subst, ◌∙◌, append_assoc, append-nil, length-append}
+use Rattle.std.proofs.Common.{arith}
 use Rattle.std.proofs.Math.Nat.{lt_of_not-le}
 use Rattle.std.specs.Prelude.{IfSome}
 use Rattle.std.proofs.lemmas.List.{append_cancel_left, length-take-le, take-append-drop}
@@ -39,7 +41,8 @@ behind : (a b x y : List ℕ) → a ≡ b → a ++ x ≡ b ++ y → x ≡ y
 behind a b x y same e = append_cancel_left b x y (ap (λ (z : List ℕ). z ++ x) (sym same) ∙ e)
 
 -- the records still to come, if some were read
-to_come : (a b x y : List ℕ) (claims others : List Claim) → StateTexts a claims → StateTexts b others → length claims ≤ length others → a ++ x ≡ b ++ y
+to_come : (a b x y : List ℕ) (claims others : List Claim) → StateTexts a claims → StateTexts b others
+    → length claims ≤ length others → a ++ x ≡ b ++ y
     → (rest : List ℕ) × (more : List Claim) × StateTexts rest more × (length claims + length more ≡ length others) × (x ≡ rest ++ y)
 to_come _ b x y _ others none texts le e = (b, others, texts, omega arith, e)
 to_come _ _ x y _ _ (one a rest c claims text texts) none le e = absurd (omega arith)
@@ -66,7 +69,8 @@ in_parts head records user more = simp append_assoc
 -- in a stream it is what the next step expects
 pub wanted : (reader : Streaming) (claims all : List Claim) (join : Bool) (begun now text rest : List ℕ)
     → BeginText begun reader.header claims → length claims + reader.left ≡ reader.header.nodes
-    → StreamText text all join → begun ++ now ≡ text ++ rest → (front : List ℕ) × (back : List ℕ) × IsWanted reader front × (now ≡ front ++ back)
+    → StreamText text all join → begun ++ now ≡ text ++ rest
+    → (front : List ℕ) × (back : List ℕ) × IsWanted reader front × (now ≡ front ++ back)
 wanted reader claims all join begun now text rest b counted t e =
     let parts : b.head ++ (b.records ++ now) ≡ t.head ++ (t.records ++ (t.user ++ rest)) =
     sym (append_assoc b.head b.records now) ∙ ap (λ (z : List ℕ). z ++ now) (sym b.bytes) ∙ e
@@ -75,7 +79,8 @@ wanted reader claims all join begun now text rest b counted t e =
     let nodes : reader.header.nodes ≡ t.header.nodes = ap (λ (h : Header). h.nodes) heads.1 in
     let promised = t.nodes in
     let le : length claims ≤ length all = omega (arith, counted, nodes, promised) in
-    let left = to_come b.records t.records now (t.user ++ rest) claims all b.record_texts t.record_texts le (behind b.head t.head _ _ heads.0 parts) in
+    let left = to_come b.records t.records now (t.user ++ rest) claims all b.record_texts t.record_texts le
+    (behind b.head t.head _ _ heads.0 parts) in
     let sum = left.3 in
     by_records reader now t.user rest left.0 left.1 left.2 (omega (arith, counted, nodes, promised, sum))
     (t.user_len ∙ sym (ap (λ (h : Header). h.user_len) heads.1)) left.4
@@ -97,7 +102,14 @@ started old new before reader taken fresh = record {
   table = λ taken of. subst (TableOf reader.table) (sym (append-nil taken)) (subst (λ (t : Entries). TableOf t taken) (sym fresh.1) of);
   counted = omega (arith, fresh.0);
   taken =
-      ConsumesText-mono old.coming new.coming _ _ (λ b text. record { head = b; records = []; bytes = sym (append-nil b); head_text = text; record_texts = none }) taken;
+      ConsumesText-mono old.coming new.coming _ _
+      (λ b text. record {
+        head = b;
+        records = [];
+        bytes = sym (append-nil b);
+        head_text = text;
+        record_texts = none;
+      }) taken;
 }
 
 -- one more record was read
@@ -113,7 +125,8 @@ begun_more header claims c x y begun text = record {
 
 stepped_to : (old mid new : Source) (before : Entries) (reader next : Streaming) (c : Claim) → ReadSome old mid before reader
     → reader.left ≡ next.left + 1 → ConsumesText mid new (λ b. StateText b c)
-    → ((claims : List Claim) → TableOf reader.table claims → TableOf next.table (claims ++ c ∷ [])) → next.header ≡ reader.header → ReadSome old new before next
+    → ((claims : List Claim) → TableOf reader.table claims → TableOf next.table (claims ++ c ∷ []))
+    → next.header ≡ reader.header → ReadSome old new before next
 stepped_to old mid new before reader next c some left taken table header =
     let count = length-append some.claims (c ∷ []) in
     let nodes : next.header.nodes ≡ reader.header.nodes = ap (λ (h : Header). h.nodes) header in
@@ -151,7 +164,9 @@ whole header claims x y count begun long = record {
 }
 
 pub ended : (old mid new : Source) (before : Entries) (reader : Streaming) (table : Entries) (join : Bool) → ReadSome old mid before reader
-    → Steps reader mid new (End table join) → (claims : List Claim) × TakesIn before table claims × ConsumesText old new (λ b. StreamText b claims join)
+    → Steps reader mid new (End table join)
+    → (claims : List Claim) × TakesIn before table claims
+    × ConsumesText old new (λ b. StreamText b claims join)
 ended old mid new before reader table join some (steps.record_of c to is left taken of all header) = absurd cc
 ended old mid new before reader table join some (steps.user_state is left taken) =
     let the_table : reader.table ≡ table = cc in
@@ -169,7 +184,8 @@ ended old mid new before reader table join some (steps.user_state is left taken)
 abbrev IsStream : List ℕ → Type 0
 IsStream b = (claims : List Claim) × (join : Bool) × StreamText b claims join
 
-pub none_wanted : (old mid : Source) (before : Entries) (reader : Streaming) → ReadSome old mid before reader → NoTextAtFront mid (IsWanted reader) → NoTextAtFront old IsStream
+pub none_wanted : (old mid : Source) (before : Entries) (reader : Streaming) → ReadSome old mid before reader
+    → NoTextAtFront mid (IsWanted reader) → NoTextAtFront old IsStream
 none_wanted old mid before reader some lacks = known old.coming mid.coming some.taken lacks
   where
     known : (old mid : Option (List ℕ)) → ConsumesKnownText old mid (λ b. BeginText b reader.header some.claims) → IfSome mid
@@ -181,7 +197,8 @@ none_wanted old mid before reader some lacks = known old.coming mid.coming some.
         let w = wanted reader some.claims is.0 is.1 taken.0 now text rest taken.1 some.counted is.2 (sym taken.2 ∙ parts) in
         lacks w.0 w.1 w.2 w.3
 
-pub step_reason : (fault : WireFault) (old mid : Source) (before : Entries) (reader : Streaming) → ReadSome old mid before reader → IfSome mid.coming
+pub step_reason : (fault : WireFault) (old mid : Source) (before : Entries) (reader : Streaming)
+    → ReadSome old mid before reader → IfSome mid.coming
     (ReasonForStep reader fault) → IfSome old.coming (ReasonForStream fault)
 step_reason fault old mid before reader some says = known old.coming mid.coming some.taken says
   where
@@ -203,7 +220,8 @@ step_reason fault old mid before reader some says = known old.coming mid.coming 
 -- ---- which refusal
 
 -- a record that was read requested memory
-pub record_asks : (reader inside : Streaming) (old new : Source) (c : Claim) → inside ≡ reader → inside.left ≢ 0 → ConsumesText old new (λ b. StateText b c)
+pub record_asks : (reader inside : Streaming) (old new : Source) (c : Claim) → inside ≡ reader
+    → inside.left ≢ 0 → ConsumesText old new (λ b. StateText b c)
     → IfSome old.coming (ReasonForStep reader Memory)
 record_asks reader inside old new c same some taken =
     subst (λ (r : Streaming). IfSome old.coming (ReasonForStep r Memory)) same (known old.coming new.coming taken)
@@ -218,19 +236,24 @@ record_asks reader inside old new c same some taken =
 fewer : (bytes : List ℕ) (n : ℕ) → ((text rest : List ℕ) → length text ≡ n → bytes ≡ text ++ rest → ⊥) → length bytes < n
 fewer bytes n lacks = lt_of_not-le (λ le. lacks (take n bytes) (drop n bytes) (length-take-le n bytes le) (sym (take-append-drop n bytes)))
 
-pub user_reason : (reader inside : Streaming) (fault : WireFault) (old : Source) → inside ≡ reader → inside.left ≡ 0 → (fault ≡ Ended) ⊎ (fault ≡ Fault)
-    → UnlessFailed (wire_cause fault) (NoTextAtFront old (λ b. length b ≡ inside.header.user_len)) → IfSome old.coming (ReasonForStep reader fault)
+pub user_reason : (reader inside : Streaming) (fault : WireFault) (old : Source) → inside ≡ reader
+    → inside.left ≡ 0 → (fault ≡ Ended) ⊎ (fault ≡ Fault)
+    → UnlessFailed (wire_cause fault) (NoTextAtFront old (λ b. length b ≡ inside.header.user_len))
+    → IfSome old.coming (ReasonForStep reader fault)
 user_reason reader inside fault old same over which lacks =
     subst (λ (r : Streaming). IfSome old.coming (ReasonForStep r fault)) same (known old.coming which lacks)
   where
     known : (old : Option (List ℕ)) → (fault ≡ Ended) ⊎ (fault ≡ Fault)
-        → UnlessFailed (wire_cause fault) (IfSome old (λ bytes. (text rest : List ℕ) → length text ≡ inside.header.user_len → bytes ≡ text ++ rest → ⊥))
+        → UnlessFailed (wire_cause fault) (IfSome old
+        (λ bytes. (text rest : List ℕ) → length text ≡ inside.header.user_len → bytes ≡ text ++ rest
+        → ⊥))
         → IfSome old (ReasonForStep inside fault)
     known None which lacks = tt
     known (Some bytes) (inl is) lacks =
         let short =
         subst
-        (λ (f : WireFault). UnlessFailed (wire_cause f) ((text rest : List ℕ) → length text ≡ inside.header.user_len → bytes ≡ text ++ rest → ⊥))
+        (λ (f : WireFault). UnlessFailed (wire_cause f) ((text rest : List ℕ)
+        → length text ≡ inside.header.user_len → bytes ≡ text ++ rest → ⊥))
         is lacks in
         why_step.user_state over (inl (is, fewer bytes inside.header.user_len short))
     known (Some bytes) (inr is) lacks = why_step.user_state over (inr is)

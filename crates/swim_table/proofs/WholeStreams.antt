@@ -1,5 +1,6 @@
 -- A stream with nothing after it, and a canonical dump that is read back.
-use Rattle.std.proofs.Common.{◌≡◌, ◌≢◌, inl, inr, ℕ, Result, Ok, Err, IfOk, IfErr, ◌≤◌, Bool, List, [], ◌++◌, length, refl, sym, ap, subst, ◌∙◌, append-nil}
+use Rattle.std.proofs.Common.{◌≡◌, ◌≢◌, inl, inr, ℕ, Result, Ok, Err, IfOk, IfErr, ◌≤◌, Bool, List, [], ◌++◌, length}
+use Rattle.std.proofs.Common.{refl, sym, ap, subst, ◌∙◌, append-nil}
 use Rattle.std.proofs.lemmas.List.{append_cancel_left}
 use Rattle.swim_claim.specs.declared.claim.Claim.{Claim}
 use Rattle.swim_pack.specs.Composing.{UnlessFailed}
@@ -20,7 +21,8 @@ use Rattle.swim_table.proofs.Dumps.{dump_is_stream, dump_read_back}
 abbrev pub HasNone : List ℕ → Type 0
 HasNone bytes = (text rest : List ℕ) → ((claims : List Claim) × (join : Bool) × StreamText text claims join) → bytes ≡ text ++ rest → ⊥
 
-pub refused_whole : (fault : WireFault) (bytes : List ℕ) → UnlessFailed (wire_cause fault) (HasNone bytes) → (fault ≡ Fault → ⊥) → fault ≢ Memory
+pub refused_whole : (fault : WireFault) (bytes : List ℕ) → UnlessFailed (wire_cause fault) (HasNone bytes)
+    → (fault ≡ Fault → ⊥) → fault ≢ Memory
     → (claims : List Claim) (join : Bool) → ¬ StreamText bytes claims join
 refused_whole Fault bytes none no_fault no_memory claims join text = no_fault refl
 refused_whole Memory bytes none no_fault no_memory claims join text = no_memory refl
@@ -35,7 +37,8 @@ refused_front Memory bytes front rest claims join none no_fault text parts = ref
 refused_front error bytes front rest claims join none no_fault text parts = absurd (none front rest (claims, join, text) parts)
 
 -- a stream with bytes after it is not a stream
-pub trailing_whole : (bytes text rest : List ℕ) (claims others : List Claim) (join flag : Bool) → StreamText text claims join → bytes ≡ text ++ rest → rest ≢ []
+pub trailing_whole : (bytes text rest : List ℕ) (claims others : List Claim) (join flag : Bool)
+    → StreamText text claims join → bytes ≡ text ++ rest → rest ≢ []
     → ¬ StreamText bytes others flag
 trailing_whole bytes text rest claims others join flag front parts more whole =
     let same : text ≡ bytes = (one_stream text bytes rest [] claims others join flag front whole (sym parts ∙ sym (append-nil bytes))).0 in
@@ -50,7 +53,8 @@ all_taken bytes text rest claims join whole parts none =
 -- the bytes are the canonical dump of a table
 pub dumped : (bytes : List ℕ) (table : Entries) (join : Bool) → IsLegalTable table → length (Reduced table) ≤ max_nodes
     → bytes ≡ dump_bytes table join → StreamText bytes (Reduced table) join
-dumped bytes table join legal few is = subst (λ (b : List ℕ). StreamText b (Reduced table) join) (sym is) (dump_is_stream table join legal few)
+dumped bytes table join legal few is = subst
+    (λ (b : List ℕ). StreamText b (Reduced table) join) (sym is) (dump_is_stream table join legal few)
 
 pub read_back : (bytes : List ℕ) (table other : Entries) (join flag : Bool) (claims : List Claim) → IsLegalTable table
     → length (Reduced table) ≤ max_nodes → bytes ≡ dump_bytes table join

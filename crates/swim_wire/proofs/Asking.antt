@@ -1,5 +1,7 @@
 -- Where a read of a message requests memory.
-use Rattle.std.proofs.Common.{◌≡◌, ◌≢◌, inl, inr, ℕ, zero, suc, ◌-◌, ◌<◌, ◌≤◌, Bool, true, false, cond, List, [], ◌∷◌, ◌++◌, length, Option, Some, None, Result, Ok, Err, refl, sym, ap, subst, ◌∙◌, append_assoc, append-nil, arith}
+use Rattle.std.proofs.Common.{◌≡◌, ◌≢◌, inl, inr, ℕ, zero, suc, ◌-◌, ◌<◌, ◌≤◌, Bool, true, false, cond, List, [], ◌∷◌}
+use Rattle.std.proofs.Common.{◌++◌, length, Option, Some, None, Result, Ok, Err, refl, sym, ap, subst, ◌∙◌}
+use Rattle.std.proofs.Common.{append_assoc, append-nil, arith}
 use Rattle.std.proofs.lemmas.Result.{err_from_is_err_and}
 use Rattle.std.specs.Prelude.{IfSome, IsErrAnd, slice_index_or, ⊤}
 use Rattle.std.specs.Str.{bytes_eq}
@@ -20,7 +22,8 @@ use Rattle.swim_wire.specs.declared.layout.Limit.TheVariants as limits
 use Rattle.swim_wire.specs.Asking.{ValueAsks, PairAsks, PairsAsk, MapAsks, PacketAsks}
 use Rattle.swim_wire.specs.Fault.{fault_of_pack, fault_of_key}
 use Rattle.swim_wire.specs.Keys.{key_text}
-use Rattle.swim_wire.specs.Layout.{Layout, Spelled, Spells, Pairs, PairText, PairTexts, MapText, of_key, raw_or_empty, raw_of, alive_layout, accusation_layout, state_layout}
+use Rattle.swim_wire.specs.Layout.{Layout, Spelled, Spells, Pairs, PairText, PairTexts, MapText, of_key, raw_or_empty}
+use Rattle.swim_wire.specs.Layout.{raw_of, alive_layout, accusation_layout, state_layout}
 use Rattle.swim_wire.specs.Layout.Spelled.{number, raw, flag}
 use Rattle.swim_wire.specs.Reading.{wire_cause, Slots, slot, place_of, limit_at, key_at, pair_at, map_at, raw_in}
 use Rattle.swim_wire.specs.Packet.{PacketValue}
@@ -49,7 +52,8 @@ fault_exits r exits h is =
     h (same_fault _ _ (ap (refused _) (sym p.2) ∙ sym p.1 ∙ is))
 
 -- if the remaining bytes request memory, so do the original ones
-pub Reads-asks : {E X V : Type 0} {cause : E → Cause} {view : X → V} {reading : composing.Reading E V} {a b : Source} {x : X} (P Q : List ℕ → Type 0)
+pub Reads-asks : {E X V : Type 0} {cause : E → Cause} {view : X
+    → V} {reading : composing.Reading E V} {a b : Source} {x : X} (P Q : List ℕ → Type 0)
     → ((bytes rest : List ℕ) → reading bytes ≡ Ok (view x, rest) → Q rest → P bytes)
     → ReadsAs cause view reading a b (Ok x) → IfSome b.coming Q → IfSome a.coming P
 Reads-asks {E} {X} {V} {cause} {view} {reading} {a} {b} {x} P Q step h asks = by a.coming b.coming h.answer asks
@@ -61,7 +65,9 @@ Reads-asks {E} {X} {V} {cause} {view} {reading} {a} {b} {x} P Q step h asks = by
 
 -- ---- a value, a pair, a map
 
-pub raw_asks : (limit : ℕ) (a b : Option (List ℕ)) → ConsumesKnownText a b (λ t. (n : ℕ) × (n ≤ limit) × RawLen t n) → IfSome a (ValueAsks (limits.Raw limit))
+pub raw_asks : (limit : ℕ) (a b : Option (List ℕ))
+    → ConsumesKnownText a b (λ t. (n : ℕ) × (n ≤ limit) × RawLen t n)
+    → IfSome a (ValueAsks (limits.Raw limit))
 raw_asks limit None b h = tt
 raw_asks limit (Some bytes) None h = absurd h
 raw_asks limit (Some bytes) (Some rest) h = (h.0, rest, h.1.0, h.1.2, h.1.1, h.2)
@@ -94,7 +100,8 @@ pair_asks {b} fields place d within h asks =
     Reads-asks (PairAsks (layout_of fields)) (ValueAsks (limit_at (layout_of fields) place)) (key_step (layout_of fields) place) h there
 
 -- the first of at least one pair requests memory
-pub first_asks : (layout : Layout) (left : ℕ) (known : Option (List ℕ)) → 0 < left → IfSome known (PairAsks layout) → IfSome known (PairsAsk layout left)
+pub first_asks : (layout : Layout) (left : ℕ) (known : Option (List ℕ)) → 0 < left
+    → IfSome known (PairAsks layout) → IfSome known (PairsAsk layout left)
 first_asks layout zero known pos h = absurd (omega arith)
 first_asks layout (suc left) None pos h = tt
 first_asks layout (suc left) (Some bytes) pos h = inl h
@@ -112,9 +119,11 @@ pub later_asks : {X : Type 0} {view : X → Slots} {x : X} {a b : Source} (layou
     → ReadsAs wire_cause view (pair_at layout slots) a b (Ok x)
     → IfSome b.coming (PairsAsk layout (left - 1)) → IfSome a.coming (PairsAsk layout left)
 later_asks {view} {x} layout left slots pos h asks =
-    Reads-asks (PairsAsk layout left) (PairsAsk layout (left - 1)) (λ bytes rest e. pair_step layout left slots (view x) bytes rest pos e) h asks
+    Reads-asks (PairsAsk layout left) (PairsAsk layout (left - 1))
+    (λ bytes rest e. pair_step layout left slots (view x) bytes rest pos e) h asks
 
-count_step : (layout : Layout) (max n : ℕ) → length layout ≡ max → (bytes rest : List ℕ) → count_at max bytes ≡ Ok (n, rest) → PairsAsk layout n rest
+count_step : (layout : Layout) (max n : ℕ) → length layout ≡ max → (bytes rest : List ℕ)
+    → count_at max bytes ≡ Ok (n, rest) → PairsAsk layout n rest
     → MapAsks layout bytes
 count_step layout max n same bytes rest e asks =
     let t = count_takes max bytes n rest e in
@@ -134,7 +143,8 @@ spelled_asks (limits.Raw limit) b rest s is =
     (is.0.head, s ++ rest, length s, is.0.len, is.1, ap (λ (t : List ℕ). t ++ rest) is.0.text ∙ append_assoc is.0.head s rest)
 spelled_asks limits.Flag b rest s is = absurd is
 
-text_asks : (layout : Layout) (b rest s : List ℕ) (pair : List ℕ × Spelled) → pair.1 ≡ raw s → PairText layout b pair → PairAsks layout (b ++ rest)
+text_asks : (layout : Layout) (b rest s : List ℕ) (pair : List ℕ × Spelled) → pair.1 ≡ raw s
+    → PairText layout b pair → PairAsks layout (b ++ rest)
 text_asks layout b rest s pair is text = record {
   limit = text.limit;
   name = pair.0;
@@ -201,7 +211,8 @@ body_asks layout place body rest slots legal inside e some =
 
 -- a map at hand
 pub hand_asks : (layout : Layout) (place : ℕ) (hand rest : List ℕ) (slots : Slots) (known : Option (List ℕ)) → IsLegalLayout layout
-    → place < length layout → map_at layout hand ≡ read slots rest → raw_in slots place ≢ [] → Begins known hand → IfSome known (MapAsks layout)
+    → place < length layout → map_at layout hand ≡ read slots rest → raw_in slots place ≢ []
+    → Begins known hand → IfSome known (MapAsks layout)
 hand_asks layout place hand rest slots None legal inside e some begins = tt
 hand_asks layout place hand rest slots (Some bytes) legal inside e some begins =
     subst (MapAsks layout) (sym begins.1) (slot_asks layout place hand rest begins.0 slots legal inside e some)
@@ -211,10 +222,13 @@ always None = tt
 always (Some bytes) = tt
 
 -- a map that was read
-pub read_asks : {X : Type 0} {view : X → Slots} {x : X} {a b : Source} (layout : Layout) (place : ℕ) → IsLegalLayout layout → place < length layout
+pub read_asks : {X : Type 0} {view : X → Slots} {x : X} {a b : Source} (layout : Layout) (place : ℕ)
+    → IsLegalLayout layout → place < length layout
     → ReadsAs wire_cause view (map_at layout) a b (Ok x) → raw_in (view x) place ≢ [] → IfSome a.coming (MapAsks layout)
 read_asks {view} {x} {b} layout place legal inside h some =
-    Reads-asks (MapAsks layout) (λ bytes. ⊤) (λ bytes rest e _. body_asks layout place bytes rest (view x) legal inside e some) h (always b.coming)
+    Reads-asks (MapAsks layout) (λ bytes. ⊤)
+    (λ bytes rest e _. body_asks layout place bytes rest (view x) legal inside e some) h
+    (always b.coming)
 
 -- ---- packets
 

@@ -51,8 +51,12 @@ passed_over {X} {reading} prompt old new hand rest x n begins e size passed = re
         → ConsumesKnownText a b (ConsumesMinimalPrefix {X = X} wire_cause same reading (Ok x))
     taken_is None b begins taken long consumes = (text, settled)
     taken_is (Some bytes) None begins taken long consumes = consumes
-    taken_is (Some bytes) (Some left) begins taken long consumes =
-        (text, settled, whole bytes begins.0 begins.1 ∙ ap (λ (r : List ℕ). text ++ r) (sym (behind bytes left taken begins.0 begins.1 long consumes)))
+    taken_is (Some bytes) (Some left) begins taken long consumes = (
+      text,
+      settled,
+      whole bytes begins.0 begins.1 ∙ ap
+          (λ (r : List ℕ). text ++ r) (sym (behind bytes left taken begins.0 begins.1 long consumes)),
+    )
 
 pub state_passed : (old new : Source) (hand rest : List ℕ) (claim : Claim) (n : ℕ) → Begins old.coming hand
     → state_at hand ≡ read claim rest → n + length rest ≡ length hand → ConsumesCount old new n

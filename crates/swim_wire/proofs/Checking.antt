@@ -1,5 +1,6 @@
 -- What the checks of a message as a whole accept, and what they refuse.
-use Rattle.std.proofs.Common.{◌≡◌, ◌≢◌, ◌⊎◌, ℕ, Bool, true, false, cond, ◌||◌, eqb, List, [], ◌∷◌, length, Result, Ok, Err, refl, sym, ap, arith}
+use Rattle.std.proofs.Common.{◌≡◌, ◌≢◌, ◌⊎◌, ℕ, Bool, true, false, cond, ◌||◌, eqb, List, [], ◌∷◌, length, Result, Ok}
+use Rattle.std.proofs.Common.{Err, refl, sym, ap, arith}
 use Rattle.std.proofs.lemmas.Bool.Decides.{nat_tests}
 use Rattle.swim_claim.specs.Details.{DetailsValue, IsAddress, IsVersions}
 use Rattle.swim_wire.specs.declared.fault.WireFault.{WireFault}
@@ -21,11 +22,13 @@ pub split : {A : Type 0} (b : Bool) (P : A → Type 0) (x y : A) → (b ≡ true
 split true P x y first other = first refl
 split false P x y first other = other refl
 
-pub checked_ok : {A : Type 0} (r : Result A WireFault) (mid : List ℕ) (x : A) (rest : List ℕ) → checked r mid ≡ read x rest → (r ≡ passed x) × (mid ≡ rest)
+pub checked_ok : {A : Type 0} (r : Result A WireFault) (mid : List ℕ) (x : A) (rest : List ℕ)
+    → checked r mid ≡ read x rest → (r ≡ passed x) × (mid ≡ rest)
 checked_ok (Ok y) mid x rest e = (ap passed (read_value y x mid rest e), read_rest y x mid rest e)
 checked_ok (Err error) mid x rest e = absurd cc
 
-pub checked_err : {A : Type 0} (r : Result A WireFault) (mid : List ℕ) (error : WireFault) → checked r mid ≡ refused A error → r ≡ failed A error
+pub checked_err : {A : Type 0} (r : Result A WireFault) (mid : List ℕ) (error : WireFault)
+    → checked r mid ≡ refused A error → r ≡ failed A error
 checked_err (Ok y) mid error e = absurd cc
 checked_err (Err other) mid error e = cc
 
@@ -37,7 +40,8 @@ nothing_after_ok (Ok (y, byte ∷ rest)) x e = absurd cc
 nothing_after_ok (Err error) x e = absurd cc
 
 -- it is refused, or bytes follow it
-pub nothing_after_err : {A : Type 0} (r : Result (A × List ℕ) WireFault) (error : WireFault) → nothing_after r ≡ failed A error → (P : Type 0)
+pub nothing_after_err : {A : Type 0} (r : Result (A × List ℕ) WireFault) (error : WireFault)
+    → nothing_after r ≡ failed A error → (P : Type 0)
     → (r ≡ refused A error → P) → ((x : A) (byte : ℕ) (rest : List ℕ) → r ≡ read x (byte ∷ rest) → Trailing ≡ error → P) → P
 nothing_after_err (Ok (x, [])) error e P first more = absurd cc
 nothing_after_err (Ok (x, byte ∷ rest)) error e P first more = more x byte rest refl cc
@@ -45,7 +49,8 @@ nothing_after_err {A} (Err other) error e P first more = first cc
 
 -- ---- the name
 
-pub with_name_ok : {A : Type 0} (name : List ℕ) (r : Result A WireFault) (x : A) → with_name name r ≡ passed x → (name ≢ []) × (r ≡ passed x)
+pub with_name_ok : {A : Type 0} (name : List ℕ) (r : Result A WireFault) (x : A)
+    → with_name name r ≡ passed x → (name ≢ []) × (r ≡ passed x)
 with_name_ok [] r x e = absurd cc
 with_name_ok (byte ∷ bytes) r x e = ((λ empty. cc), e)
 
@@ -87,16 +92,20 @@ with_details_ok {A} d f x = split address P _ _
     is : passed (f d) ≡ passed x → x ≡ f d
     is e = cc
 
-pub with_details_again : {A : Type 0} (d : DetailsValue) (f : DetailsValue → A) → IsAddress d.addr → IsVersions d.vsn → with_details d f ≡ passed (f d)
+pub with_details_again : {A : Type 0} (d : DetailsValue) (f : DetailsValue → A) → IsAddress d.addr
+    → IsVersions d.vsn → with_details d f ≡ passed (f d)
 with_details_again d f address versions =
     let a = one_of_again (length d.addr) 4 16 address in
     let v = one_of_again (length d.vsn) 0 6 versions in
     rw (a, v) refl
 
 pub with_details_err : {A : Type 0} (d : DetailsValue) (f : DetailsValue → A) (error : WireFault) → with_details d f ≡ failed A error
-    → (Q : Type 0) → ((¬ IsAddress d.addr) → BadAddress ≡ error → Q) → (IsAddress d.addr → (¬ IsVersions d.vsn) → BadVersions ≡ error → Q) → Q
+    → (Q : Type 0) → ((¬ IsAddress d.addr) → BadAddress ≡ error → Q)
+    → (IsAddress d.addr → (¬ IsVersions d.vsn) → BadVersions ≡ error → Q) → Q
 with_details_err {A} d f error fails Q address_fails versions_fail = split address P _ _
-    (λ a. split versions P _ _ (λ v e. absurd cc) (λ v e. versions_fail (one_of_true (length d.addr) 4 16 a) (one_of_false (length d.vsn) 0 6 v) cc))
+    (λ a. split versions P _ _ (λ v e. absurd cc)
+    (λ v e. versions_fail (one_of_true (length d.addr) 4 16 a)
+    (one_of_false (length d.vsn) 0 6 v) cc))
     (λ a e. address_fails (one_of_false (length d.addr) 4 16 a) cc) fails
   where
     address : Bool

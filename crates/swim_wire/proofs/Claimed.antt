@@ -14,9 +14,12 @@ use Rattle.swim_wire.specs.declared.message.PushPullHeader.{PushPullHeader}
 use Rattle.swim_wire.specs.declared.state_record.StateRecord.{StateRecord}
 use Rattle.swim_wire.specs.declared.stream.Header.{Header}
 use Rattle.swim_wire.specs.Limits.{max_nodes, max_user_state_len}
-use Rattle.swim_wire.specs.Message.{HasAliveFields, HasAccusationFields, HasHeaderFields, HasStateFields, slots_of_alive, slots_of_accusation, slots_of_header, slots_of_state}
+use Rattle.swim_wire.specs.Message.{HasAliveFields, HasAccusationFields, HasHeaderFields, HasStateFields}
+use Rattle.swim_wire.specs.Message.{slots_of_alive, slots_of_accusation, slots_of_header, slots_of_state}
 use Rattle.swim_wire.specs.Places.{header_nodes, header_user_state_len, state_name, state_state}
-use Rattle.swim_wire.specs.Reading.{Slots, wire_cause, AnswersUnlessMemory, number_in, raw_in, with_name, with_details, alive_of, suspect_of, dead_of, header_of, state_of, claim_of_state, told_of, with_told, record_of}
+use Rattle.swim_wire.specs.Reading.{Slots, wire_cause, AnswersUnlessMemory, number_in, raw_in, with_name, with_details}
+use Rattle.swim_wire.specs.Reading.{alive_of, suspect_of, dead_of, header_of, state_of, claim_of_state, told_of}
+use Rattle.swim_wire.specs.Reading.{with_told, record_of}
 use Rattle.swim_wire.proofs.Checking.{split}
 
 pub unless_ok : {A : Type 0} (wanted : Result A WireFault) (x : A) → AnswersUnlessMemory wanted (Ok x) → wanted ≡ Ok x
@@ -64,12 +67,14 @@ claim_check slots state =
     P r = IsCheck r
 
 pub state_check : (slots : Slots) → IsCheck (state_of slots)
-state_check slots = name_check (raw_in slots state_name) (claim_of_state slots (number_in slots state_state)) (claim_check slots (number_in slots state_state))
+state_check slots = name_check (raw_in slots state_name) (claim_of_state slots (number_in slots state_state))
+    (claim_check slots (number_in slots state_state))
 
 pub header_check : (slots : Slots) → IsCheck (header_of slots)
 header_check slots =
     split (ltb max_nodes (number_in slots header_nodes)) P _ _ (λ _. record { by = refl })
-    (λ _. split (ltb max_user_state_len (number_in slots header_user_state_len)) P _ _ (λ _. record { by = refl }) (λ _. record { by = tt }))
+    (λ _. split (ltb max_user_state_len (number_in slots header_user_state_len)) P _ _
+    (λ _. record { by = refl }) (λ _. record { by = tt }))
   where
     P : Result Header WireFault → Type 0
     P r = IsCheck r
@@ -97,13 +102,15 @@ no_memory {A} (Err error) result check e is =
 pub alive_said : (slots : Slots) (alive : Alive) → HasAliveFields slots alive → alive_of (slots_of_alive alive) ≡ alive_of slots
 alive_said slots alive says = rw (says.addr, says.incarnation, says.meta, says.node, says.port, says.vsn) refl
 
-pub suspect_said : (slots : Slots) (suspect : Accusation) → HasAccusationFields slots suspect → suspect_of (slots_of_accusation suspect) ≡ suspect_of slots
+pub suspect_said : (slots : Slots) (suspect : Accusation) → HasAccusationFields slots suspect
+    → suspect_of (slots_of_accusation suspect) ≡ suspect_of slots
 suspect_said slots suspect says = rw (says.from, says.incarnation, says.node) refl
 
 pub dead_said : (slots : Slots) (dead : Accusation) → HasAccusationFields slots dead → dead_of (slots_of_accusation dead) ≡ dead_of slots
 dead_said slots dead says = rw (says.from, says.incarnation, says.node) refl
 
-pub header_said : (slots : Slots) (header : PushPullHeader) → HasHeaderFields slots header → header_of (slots_of_header header) ≡ header_of slots
+pub header_said : (slots : Slots) (header : PushPullHeader) → HasHeaderFields slots header
+    → header_of (slots_of_header header) ≡ header_of slots
 header_said slots header says = rw (says.join, says.nodes, says.user_state_len) refl
 
 pub state_said : (slots : Slots) (state : PushNodeState) → HasStateFields slots state → state_of (slots_of_state state) ≡ state_of slots

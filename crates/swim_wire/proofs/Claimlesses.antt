@@ -1,10 +1,12 @@
 -- Bytes are read as a message that makes no claim exactly if they are one.
-use Rattle.std.proofs.Common.{◌≡◌, ◌≢◌, ℕ, List, [], ◌∷◌, length, inl, inr, Option, Some, None, Result, Ok, Err, IfOk, IfErr, refl, sym, ap, subst, ◌∙◌, append-nil, true, eqb, eqb-true}
+use Rattle.std.proofs.Common.{◌≡◌, ◌≢◌, ℕ, List, [], ◌∷◌, length, inl, inr, Option, Some, None, Result, Ok, Err, IfOk}
+use Rattle.std.proofs.Common.{IfErr, refl, sym, ap, subst, ◌∙◌, append-nil, true, eqb, eqb-true}
 use Rattle.swim_wire.specs.declared.claimless.Claimless.{Claimless}
 use Rattle.swim_wire.specs.declared.claimless.Claimless.TheVariants.{Ping, IndirectPing, Ack, User, Nack, Error}
 use Rattle.swim_wire.specs.declared.fault.WireFault.{WireFault}
 use Rattle.swim_wire.specs.declared.fault.WireFault.TheVariants.{Memory}
-use Rattle.swim_wire.specs.Claimless.{type_of, claimless_layout, IsMapOf, BodyText, ClaimlessText, claimless_kind, whole_map, whole_body, as_kind, behind_type, whole_claimless}
+use Rattle.swim_wire.specs.Claimless.{type_of, claimless_layout, IsMapOf, BodyText, ClaimlessText, claimless_kind}
+use Rattle.swim_wire.specs.Claimless.{whole_map, whole_body, as_kind, behind_type, whole_claimless}
 use Rattle.swim_wire.specs.Layout.{Layout, MapText}
 use Rattle.swim_wire.specs.Reading.{Slots, map_at, nothing_after, AnswersUnlessMemory}
 use Rattle.swim_wire.proofs.Keys.{IsLegalLayout, claimless_legal, some_is}
@@ -18,7 +20,8 @@ map_taken layout b slots legal e =
     let t = map_takes layout b slots [] legal (nothing_after_ok (map_at layout b) slots e) in
     (t.1, subst (λ x. MapText layout x t.1) (sym (t.3 ∙ append-nil t.0)) t.2)
 
-map_read_again : (layout : Layout) (b : List ℕ) → IsLegalLayout layout → IsMapOf layout b → (slots : Slots) × (whole_map layout b ≡ passed slots)
+map_read_again : (layout : Layout) (b : List ℕ) → IsLegalLayout layout → IsMapOf layout b
+    → (slots : Slots) × (whole_map layout b ≡ passed slots)
 map_read_again layout b legal text =
     let a = map_again layout b text.0 [] legal text.1 in
     (a.0, ap nothing_after (ap (map_at layout) (sym (append-nil b)) ∙ a.1))
@@ -27,7 +30,8 @@ map_read_again layout b legal text =
 
 body_taken : (kind : Claimless) (body : List ℕ) (slots : Slots) → whole_body kind body ≡ passed slots → BodyText body kind
 body_taken Ping body slots e = map_taken (claimless_layout (length body) Ping) body slots (claimless_legal (length body) Ping) e
-body_taken IndirectPing body slots e = map_taken (claimless_layout (length body) IndirectPing) body slots (claimless_legal (length body) IndirectPing) e
+body_taken IndirectPing body slots e = map_taken (claimless_layout (length body) IndirectPing) body slots
+    (claimless_legal (length body) IndirectPing) e
 body_taken Ack body slots e = map_taken (claimless_layout (length body) Ack) body slots (claimless_legal (length body) Ack) e
 body_taken User body slots e = tt
 body_taken Nack body slots e = map_taken (claimless_layout (length body) Nack) body slots (claimless_legal (length body) Nack) e
@@ -35,7 +39,8 @@ body_taken Error body slots e = map_taken (claimless_layout (length body) Error)
 
 body_read_again : (kind : Claimless) (body : List ℕ) → BodyText body kind → (slots : Slots) × (whole_body kind body ≡ passed slots)
 body_read_again Ping body is = map_read_again (claimless_layout (length body) Ping) body (claimless_legal (length body) Ping) is
-body_read_again IndirectPing body is = map_read_again (claimless_layout (length body) IndirectPing) body (claimless_legal (length body) IndirectPing) is
+body_read_again IndirectPing body is = map_read_again (claimless_layout (length body) IndirectPing) body
+    (claimless_legal (length body) IndirectPing) is
 body_read_again Ack body is = map_read_again (claimless_layout (length body) Ack) body (claimless_legal (length body) Ack) is
 body_read_again User body is = ([], refl)
 body_read_again Nack body is = map_read_again (claimless_layout (length body) Nack) body (claimless_legal (length body) Nack) is
@@ -68,7 +73,8 @@ kind_again Error = refl
 
 -- ---- whole messages
 
-body_known : (kind other : Claimless) (first : ℕ) (body : List ℕ) (r : Result Slots WireFault) → whole_body other body ≡ r → claimless_kind first ≡ Some other
+body_known : (kind other : Claimless) (first : ℕ) (body : List ℕ) (r : Result Slots WireFault)
+    → whole_body other body ≡ r → claimless_kind first ≡ Some other
     → as_kind other r ≡ passed kind → ClaimlessText (first ∷ body) kind
 body_known kind other first body (Ok slots) at known e =
     let same : other ≡ kind = sym (passed_is other kind e) in
@@ -99,7 +105,8 @@ ok≢err kind error r ok err = cc
 err_is : (error other : WireFault) → failed Claimless error ≡ failed Claimless other → error ≡ other
 err_is error other e = cc
 
-pub claimless_reads : (b : List ℕ) (r : Result Claimless WireFault) → AnswersUnlessMemory (whole_claimless b) r → IfOk r (λ kind. ClaimlessText b kind)
+pub claimless_reads : (b : List ℕ) (r : Result Claimless WireFault)
+    → AnswersUnlessMemory (whole_claimless b) r → IfOk r (λ kind. ClaimlessText b kind)
 claimless_reads b (Ok kind) (inl e) = whole_takes b kind (sym e)
 claimless_reads b (Ok kind) (inr e) = absurd (ok≢err kind Memory (Ok kind) refl e)
 claimless_reads b (Err error) h = tt

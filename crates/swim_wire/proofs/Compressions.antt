@@ -1,5 +1,6 @@
 -- The map of a compression that is read is a text of its compressed bytes, and each text is read.
-use Rattle.std.proofs.Common.{◌≡◌, ◌≢◌, ℕ, List, [], ◌++◌, length, inl, inr, Option, Result, Ok, Err, IfOk, IfErr, sym, ap, subst, ◌∙◌, append-nil, arith}
+use Rattle.std.proofs.Common.{◌≡◌, ◌≢◌, ℕ, List, [], ◌++◌, length, inl, inr, Option, Result, Ok, Err, IfOk, IfErr, sym}
+use Rattle.std.proofs.Common.{ap, subst, ◌∙◌, append-nil, arith}
 use Rattle.swim_pack.specs.Ends.{Source}
 use Rattle.swim_pack.specs.Composing.{ReadsAs, gives, ◌>>=◌}
 use Rattle.swim_pack.proofs.Composing.{Reads-then, Reads-gives}
@@ -18,8 +19,10 @@ use Rattle.swim_wire.proofs.Filling.{HoldsSlots}
 use Rattle.swim_wire.proofs.Maps.{map_takes, map_again}
 use Rattle.swim_wire.proofs.Checking.{passed, passed_is, failed, nothing_after_ok}
 
-same_packed : (limit : ℕ) (pairs : Pairs) (slots : Slots) → HoldsSlots (compression_layout limit) pairs slots → raw_in slots 1 ≡ raw_of keys.Buf pairs
-same_packed limit pairs slots holds = let buf : slot slots 1 ≡ of_key (key_text keys.Buf) pairs = holds 1 (omega arith) in ap raw_or_empty buf
+same_packed : (limit : ℕ) (pairs : Pairs) (slots : Slots) → HoldsSlots (compression_layout limit) pairs slots
+    → raw_in slots 1 ≡ raw_of keys.Buf pairs
+same_packed limit pairs slots holds = let buf : slot slots 1 ≡ of_key (key_text keys.Buf) pairs = holds 1
+    (omega arith) in ap raw_or_empty buf
 
 -- the map of a compression that was read is a text of these
 record Taken (limit : ℕ) (bytes packed rest : List ℕ) : Type 0 where
@@ -62,13 +65,15 @@ whole_takes b packed e =
 -- each text is read
 pub whole_again : (b packed : List ℕ) → CompressionText b packed → whole_compression b ≡ passed packed
 whole_again b packed text =
-    ap nothing_after (ap (compression_at (length b)) (sym (append-nil b)) ∙ again (length b) b [] packed text.pairs text.text text.packed_is)
+    ap nothing_after (ap (compression_at (length b)) (sym (append-nil b))
+    ∙ again (length b) b [] packed text.pairs text.text text.packed_is)
 
 -- a map has one list of compressed bytes
 pub one_compression : (b packed packed' : List ℕ) → CompressionText b packed → CompressionText b packed' → packed ≡ packed'
 one_compression b packed packed' s t = passed_is packed' packed (sym (whole_again b packed' t) ∙ whole_again b packed s)
 
-pub whole_lacks : (b : List ℕ) (error : WireFault) → whole_compression b ≡ failed (List ℕ) error → (packed : List ℕ) → CompressionText b packed → ⊥
+pub whole_lacks : (b : List ℕ) (error : WireFault) → whole_compression b ≡ failed (List ℕ) error
+    → (packed : List ℕ) → CompressionText b packed → ⊥
 whole_lacks b error e packed text = let read_again = whole_again b packed text in cc
 
 pub compression_reads : {X : Type 0} (view : X → List ℕ) (b : List ℕ) (r : Result X WireFault) → ShowsUnlessMemory view
@@ -76,14 +81,16 @@ pub compression_reads : {X : Type 0} (view : X → List ℕ) (b : List ℕ) (r :
 compression_reads view b (Ok x) h = whole_takes b (view x) h
 compression_reads view b (Err error) h = tt
 
-pub compression_refuses : {X : Type 0} (view : X → List ℕ) (b : List ℕ) (r : Result X WireFault) → ShowsUnlessMemory view (whole_compression b) r
+pub compression_refuses : {X : Type 0} (view : X → List ℕ) (b : List ℕ) (r : Result X WireFault)
+    → ShowsUnlessMemory view (whole_compression b) r
     → IfErr r (λ error. error ≢ Memory → (packed : List ℕ) → ¬ CompressionText b packed)
 compression_refuses view b (Ok x) h = tt
 compression_refuses view b (Err error) (inl e) = λ _ packed text. whole_lacks b error e packed text
 compression_refuses view b (Err error) (inr e) = λ other. absurd (other e)
 
 -- a map, and then something of its values
-pub Reads-shown : {X : Type 0} {a b : Source} {values : List (Option Value)} (view : X → List ℕ) (reading : Reading Slots) (f : Slots → List ℕ) (x : X)
+pub Reads-shown : {X : Type 0} {a b : Source} {values : List (Option Value)} (view : X
+    → List ℕ) (reading : Reading Slots) (f : Slots → List ℕ) (x : X)
     → view x ≡ f (slots_of values) → ReadsAs wire_cause slots_of reading a b (Ok values)
     → ReadsAs wire_cause view (reading >>= (λ slots. gives (f slots))) a b (Ok x)
 Reads-shown {X} {a} {b} {values} view reading f x is p =

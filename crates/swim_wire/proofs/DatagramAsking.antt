@@ -1,5 +1,7 @@
 -- Where a read of a datagram requests memory.
-use Rattle.std.proofs.Common.{◌≡◌, inl, inr, ℕ, ◌*◌, ◌≤◌, Bool, true, false, eqb, cond, List, [], ◌∷◌, ◌++◌, length, take, drop, Result, Ok, Err, refl, sym, ap, subst, ◌∙◌, arith, length-take, take-append-drop, eqb-true}
+use Rattle.std.proofs.Common.{◌≡◌, inl, inr, ℕ, ◌*◌, ◌≤◌, Bool, true, false, eqb, cond, List, [], ◌∷◌, ◌++◌, length}
+use Rattle.std.proofs.Common.{take, drop, Result, Ok, Err, refl, sym, ap, subst, ◌∙◌, arith, length-take}
+use Rattle.std.proofs.Common.{take-append-drop, eqb-true}
 use Rattle.std.specs.Int.{w16, from_be_bytes}
 use Rattle.swim_wire.specs.declared.fault.WireFault.{WireFault}
 use Rattle.swim_wire.specs.Asking.{PacketAsks, PartsAsk, CompoundAsks}
@@ -28,8 +30,10 @@ part_asks bytes two len rest part le is e fits part_is asks =
     (take len rest, drop len rest, long_enough len rest fits, sym (take-append-drop len rest), inl (subst PacketAsks part_is asks))
 
 -- one after it requests memory
-pub later_part_asks : (bytes two later : List ℕ) (len : ℕ) (rest behind : List ℕ) → 2 ≤ length bytes → two ≡ take 2 bytes → later ≡ drop 2 bytes
-    → len ≡ from_be_bytes w16 two → len ≤ length rest → behind ≡ drop len rest → PartsAsk (lengths_in later) behind → PartsAsk (lengths_in bytes) rest
+pub later_part_asks : (bytes two later : List ℕ) (len : ℕ) (rest behind : List ℕ) → 2 ≤ length bytes
+    → two ≡ take 2 bytes → later ≡ drop 2 bytes
+    → len ≡ from_be_bytes w16 two → len ≤ length rest → behind ≡ drop len rest
+    → PartsAsk (lengths_in later) behind → PartsAsk (lengths_in bytes) rest
 later_part_asks bytes two later len rest behind le is later_is e fits behind_is asks =
     let there : PartsAsk (lengths_in (drop 2 bytes)) (drop len rest) =
     subst (λ (bs : List ℕ). PartsAsk (lengths_in bs) (drop len rest)) later_is (subst (PartsAsk (lengths_in later)) behind_is asks) in
@@ -43,15 +47,18 @@ compound_asks body rest lens parts count n is same le lens_is parts_is asks =
     let long : length lens ≡ 2 * count =
     ap length lens_is ∙ long_enough (2 * n) rest le ∙ ap (λ (k : ℕ). 2 * k) same in
     let whole : rest ≡ lens ++ parts =
-    sym (take-append-drop (2 * n) rest) ∙ ap (λ (l : List ℕ). l ++ drop (2 * n) rest) (sym lens_is) ∙ ap (λ (p : List ℕ). lens ++ p) (sym parts_is) in
+    sym (take-append-drop (2 * n) rest) ∙ ap (λ (l : List ℕ). l ++ drop (2 * n) rest) (sym lens_is) ∙ ap
+    (λ (p : List ℕ). lens ++ p) (sym parts_is) in
     subst CompoundAsks (sym is) (lens, parts, long, whole, asks)
 
 -- a single packet that was read
-pub alone_asks : (bytes : List ℕ) (packets : List PacketValue) → ¬ BeginsWith 7 bytes → whole_datagram bytes ≡ packet_list packets → PacketAsks bytes
+pub alone_asks : (bytes : List ℕ) (packets : List PacketValue) → ¬ BeginsWith 7 bytes
+    → whole_datagram bytes ≡ packet_list packets → PacketAsks bytes
 alone_asks [] packets other e = absurd cc
 alone_asks (first ∷ rest) packets other e = by (eqb first 7) refl e
   where
-    packet : (r : Result PacketValue WireFault) → whole_packet (first ∷ rest) ≡ r → alone r ≡ packet_list packets → PacketAsks (first ∷ rest)
+    packet : (r : Result PacketValue WireFault) → whole_packet (first ∷ rest) ≡ r
+        → alone r ≡ packet_list packets → PacketAsks (first ∷ rest)
     packet (Ok p) is e = read_asks (first ∷ rest) p is
     packet (Err error) is e = absurd cc
 

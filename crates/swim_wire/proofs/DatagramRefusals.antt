@@ -1,14 +1,18 @@
 -- Why bytes are not a datagram.
-use Rattle.std.proofs.Common.{◌≡◌, ◌≢◌, ◌⊎◌, inl, inr, ⊎_elim, ℕ, zero, suc, false, eqb, List, [], ◌∷◌, ◌++◌, length, map, flat_map, Result, Ok, Err, refl, sym, ap, subst, ◌∙◌, eqb-true, arith}
+use Rattle.std.proofs.Common.{◌≡◌, ◌≢◌, ◌⊎◌, inl, inr, ⊎_elim, ℕ, zero, suc, false, eqb, List, [], ◌∷◌, ◌++◌, length}
+use Rattle.std.proofs.Common.{map, flat_map, Result, Ok, Err, refl, sym, ap, subst, ◌∙◌, eqb-true, arith}
 use Rattle.std.proofs.lemmas.Bool.Decides.{nat_tests}
 use Rattle.std.specs.Int.{w16, to_be_bytes, from_be_bytes}
 use Rattle.swim_claim.specs.Bytes.{AreBytes}
 use Rattle.swim_pack.specs.Composing.{◌>>=◌, gives, lift}
 use Rattle.swim_pack.specs.Reading.{next_bytes}
 use Rattle.swim_wire.specs.declared.fault.WireFault.{WireFault}
-use Rattle.swim_wire.specs.declared.fault.WireFault.TheVariants.{Ended, Memory, NameEmpty, BadAddress, BadVersions, WrongType, BadState, TooManyNodes, UserTooLong, Trailing}
+use Rattle.swim_wire.specs.declared.fault.WireFault.TheVariants.{Ended, Memory, NameEmpty, BadAddress, BadVersions}
+use Rattle.swim_wire.specs.declared.fault.WireFault.TheVariants.{WrongType, BadState, TooManyNodes, UserTooLong}
+use Rattle.swim_wire.specs.declared.fault.WireFault.TheVariants.{Trailing}
 use Rattle.swim_wire.specs.Checks.{ReasonForWhole}
-use Rattle.swim_wire.specs.Datagrams.{length_at, lengths_at, alone, is_packet_type, packets_of, parts_at, compound_at, whole_datagram, HasBadPart, ReasonForDatagram}
+use Rattle.swim_wire.specs.Datagrams.{length_at, lengths_at, alone, is_packet_type, packets_of, parts_at, compound_at}
+use Rattle.swim_wire.specs.Datagrams.{whole_datagram, HasBadPart, ReasonForDatagram}
 use Rattle.swim_wire.specs.Fault.{fault_of_pack}
 use Rattle.swim_wire.specs.Packet.{PacketValue}
 use Rattle.swim_wire.specs.Reading.{checked, nothing_after, whole_packet}
@@ -22,17 +26,23 @@ use Rattle.swim_wire.proofs.DatagramTexts.{bytes_takes, part_takes, PartText, te
 
 -- ---- a part
 
-alone_err : (r : Result PacketValue WireFault) (error : WireFault) → alone r ≡ failed (List PacketValue) error → r ≡ failed PacketValue error
+alone_err : (r : Result PacketValue WireFault) (error : WireFault)
+    → alone r ≡ failed (List PacketValue) error → r ≡ failed PacketValue error
 alone_err (Ok p) error e = absurd cc
 alone_err (Err other) error e = cc
 
-part_refusal : (part : List ℕ) (error : WireFault) → error ≢ Memory → packets_of part ≡ failed (List PacketValue) error → IsPacketPart part × ReasonForWhole error part
+part_refusal : (part : List ℕ) (error : WireFault) → error ≢ Memory
+    → packets_of part ≡ failed (List PacketValue) error → IsPacketPart part × ReasonForWhole error part
 part_refusal [] error other e = absurd cc
 part_refusal (first ∷ rest) error other e =
     split (is_packet_type first)
     (λ r. r ≡ failed (List PacketValue) error → IsPacketPart (first ∷ rest) × ReasonForWhole error (first ∷ rest))
     (alone (whole_packet (first ∷ rest))) (Ok [])
-    (λ t own. (type_is first t, whole_refusal (first ∷ rest) error other (alone_err (whole_packet (first ∷ rest)) error own))) (λ t none. absurd cc) e
+    (λ t own. (
+      type_is first t,
+      whole_refusal (first ∷ rest) error other
+          (alone_err (whole_packet (first ∷ rest)) error own),
+    )) (λ t none. absurd cc) e
 
 -- ---- the parts
 
@@ -69,7 +79,8 @@ parts_refusal : (lens : List ℕ) (packets : List PacketValue) (bytes : List ℕ
 unfolding parts_at
 parts_refusal [] packets bytes error other e = absurd cc
 parts_refusal (len ∷ lens) packets bytes error other e =
-    then_err (lift fault_of_pack (next_bytes len) bytes) (λ part. checked (packets_of part) >>= (λ more. parts_at lens (packets ++ more))) error e Q
+    then_err (lift fault_of_pack (next_bytes len) bytes)
+    (λ part. checked (packets_of part) >>= (λ more. parts_at lens (packets ++ more))) error e Q
     (λ short. inl (lift_fault fault_of_pack (next_bytes len bytes) error pack_fault short))
     (λ part mid ok next. let one = bytes_takes len bytes part mid ok in
     then_err (checked (packets_of part) mid) (λ more. parts_at lens (packets ++ more)) error next Q
@@ -77,13 +88,15 @@ parts_refusal (len ∷ lens) packets bytes error other e =
     (λ own behind passes later. let own_is = checked_ok (packets_of part) mid own behind passes in
     ⊎_elim (λ (m : IsMapFault error). inl m)
     (λ (r : PartRefused lens behind error). inr
-    (one_more len lens bytes behind part own error one.0 (one.1 ∙ ap (λ (bs : List ℕ). part ++ bs) own_is.1) (part_takes part own own_is.0) r))
+    (one_more len lens bytes behind part own error one.0 (one.1 ∙ ap (λ (bs : List ℕ). part ++ bs) own_is.1)
+    (part_takes part own own_is.0) r))
     (parts_refusal lens (packets ++ own) behind error other later)))
   where
     Q : Type 0
     Q = IsMapFault error ⊎ PartRefused (len ∷ lens) bytes error
 
-    first : (part mid : List ℕ) → length part ≡ len → bytes ≡ part ++ mid → IsPacketPart part × ReasonForWhole error part → PartRefused (len ∷ lens) bytes error
+    first : (part mid : List ℕ) → length part ≡ len → bytes ≡ part ++ mid
+        → IsPacketPart part × ReasonForWhole error part → PartRefused (len ∷ lens) bytes error
     first part mid long parts wrong = record {
       before = [];
       packets = [];
@@ -100,13 +113,15 @@ parts_refusal (len ∷ lens) packets bytes error other e =
 
 length_fault : (bytes : List ℕ) (error : WireFault) → length_at bytes ≡ refused ℕ error → IsMapFault error
 unfolding length_at
-length_fault bytes error e = then_err (lift fault_of_pack (next_bytes 2) bytes) (λ two. gives (from_be_bytes w16 two)) error e (IsMapFault error)
+length_fault bytes error e = then_err (lift fault_of_pack (next_bytes 2) bytes)
+    (λ two. gives (from_be_bytes w16 two)) error e (IsMapFault error)
     (λ short. lift_fault fault_of_pack (next_bytes 2 bytes) error pack_fault short) (λ two mid ok other. absurd cc)
 
 lengths_fault : (n : ℕ) (bytes : List ℕ) (error : WireFault) → lengths_at n bytes ≡ refused (List ℕ) error → IsMapFault error
 unfolding lengths_at
 lengths_fault zero bytes error e = absurd cc
-lengths_fault (suc n) bytes error e = then_err (length_at bytes) (λ len. lengths_at n >>= (λ lens. gives (len ∷ lens))) error e (IsMapFault error)
+lengths_fault (suc n) bytes error e = then_err (length_at bytes)
+    (λ len. lengths_at n >>= (λ lens. gives (len ∷ lens))) error e (IsMapFault error)
     (λ short. length_fault bytes error short)
     (λ len mid ok next. then_err (lengths_at n mid) (λ lens. gives (len ∷ lens)) error next (IsMapFault error)
     (λ short. lengths_fault n mid error short) (λ lens rest ok other. absurd cc))
@@ -119,7 +134,9 @@ compound_refusal (count ∷ bytes) error other are e =
     then_err (lengths_at count bytes) (λ lens. parts_at lens []) error e Q
     (λ short. inl (lengths_fault count bytes error short))
     (λ lens mid ok parts. let l = lengths_takes count bytes lens mid (λ k d lt. are (suc k) d (omega arith)) ok in
-    ⊎_elim (λ (m : IsMapFault error). inl m) (λ (r : PartRefused lens mid error). inr (bad lens mid l.0 l.1 r)) (parts_refusal lens [] mid error other parts))
+    ⊎_elim (λ (m : IsMapFault error). inl m)
+    (λ (r : PartRefused lens mid error). inr (bad lens mid l.0 l.1 r))
+    (parts_refusal lens [] mid error other parts))
   where
     Q : Type 0
     Q = IsMapFault error ⊎ HasBadPart error (7 ∷ count ∷ bytes)
@@ -179,11 +196,14 @@ by_packet Trailing first bytes other t h = inl (h.0, h.1 ∷ [], h.2, h.3, packe
 by_packet Memory first bytes other t h = absurd (other refl)
 by_packet error first bytes other t h = tt
 
-pub datagram_refusal : (b : List ℕ) (error : WireFault) → error ≢ Memory → AreBytes b → whole_datagram b ≡ failed (List PacketValue) error → ReasonForDatagram error b
+pub datagram_refusal : (b : List ℕ) (error : WireFault) → error ≢ Memory → AreBytes b
+    → whole_datagram b ≡ failed (List PacketValue) error → ReasonForDatagram error b
 datagram_refusal [] error memory are e = let is : Ended ≡ error = cc in subst (λ f. ReasonForDatagram f []) is tt
 datagram_refusal (first ∷ bytes) error memory are e =
     split (eqb first 7) P _ _ (λ t. explained (eqb-true _ _ t))
-    (λ t own. by_packet error first bytes memory t (whole_refusal (first ∷ bytes) error memory (alone_err (whole_packet (first ∷ bytes)) error own))) e
+    (λ t own. by_packet error first bytes memory t
+    (whole_refusal (first ∷ bytes) error memory
+    (alone_err (whole_packet (first ∷ bytes)) error own))) e
   where
     P : Result (List PacketValue) WireFault → Type 0
     P r = r ≡ failed (List PacketValue) error → ReasonForDatagram error (first ∷ bytes)
@@ -195,8 +215,16 @@ datagram_refusal (first ∷ bytes) error memory are e =
     explained seven fails =
         nothing_after_err (compound_at bytes) error fails (ReasonForDatagram error (first ∷ bytes))
         (λ refusal. ⊎_elim (λ (m : IsMapFault error). (explained_by_map error (first ∷ bytes) memory m).3)
-        (λ (h : HasBadPart error (7 ∷ bytes)). by_part error (first ∷ bytes) memory (subst (λ n. HasBadPart error (n ∷ bytes)) (sym seven) h))
+        (λ (h : HasBadPart error (7 ∷ bytes)). by_part error (first ∷ bytes) memory
+        (subst (λ n. HasBadPart error (n ∷ bytes)) (sym seven) h))
         (compound_refusal bytes error memory tail refusal))
         (λ ps byte rest ok is. let c = compound_takes bytes ps (byte ∷ rest) tail ok in
         subst (λ f. ReasonForDatagram f (first ∷ bytes)) is
-        (inl (compound_bytes c.parts, ps, byte, rest, compound c.parts c.few c.short refl c.texts, ap (λ (n : ℕ). n ∷ bytes) seven ∙ c.text)))
+        (inl (
+          compound_bytes c.parts,
+          ps,
+          byte,
+          rest,
+          compound c.parts c.few c.short refl c.texts,
+          ap (λ (n : ℕ). n ∷ bytes) seven ∙ c.text,
+        )))

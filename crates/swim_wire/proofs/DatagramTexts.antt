@@ -1,5 +1,8 @@
 -- A datagram that is read is a text of its packets, and each text is read.
-use Rattle.std.proofs.Common.{◌≡◌, ◌⊎◌, inl, inr, ⊎_elim, ℕ, zero, suc, ◌^◌, ◌<◌, ◌≤◌, Bool, true, false, cond, eqb, ltb, List, [], ◌∷◌, ◌++◌, length, map, get_or, take, drop, All, flat_map, Result, Ok, Err, refl, sym, ap, subst, ◌∙◌, append_assoc, append-nil, length-take, take-append-drop, ltb-false, eqb-true, arith}
+use Rattle.std.proofs.Common.{◌≡◌, ◌⊎◌, inl, inr, ⊎_elim, ℕ, zero, suc, ◌^◌, ◌<◌, ◌≤◌, Bool, true, false, cond, eqb}
+use Rattle.std.proofs.Common.{ltb, List, [], ◌∷◌, ◌++◌, length, map, get_or, take, drop, All, flat_map, Result, Ok, Err}
+use Rattle.std.proofs.Common.{refl, sym, ap, subst, ◌∙◌, append_assoc, append-nil, length-take, take-append-drop}
+use Rattle.std.proofs.Common.{ltb-false, eqb-true, arith}
 use Rattle.std.proofs.lemmas.Bool.{cases_Bool}
 use Rattle.std.proofs.lemmas.Bool.Decides.{nat_tests}
 use Rattle.std.proofs.lemmas.List.Elements.{All-cons, All-nil}
@@ -25,10 +28,13 @@ use Rattle.swim_wire.proofs.PacketTexts.{whole_takes, whole_again}
 -- ---- bytes at the start
 
 -- this many bytes were consumed
-pub bytes_takes : (n : ℕ) (bytes s rest : List ℕ) → lift fault_of_pack (next_bytes n) bytes ≡ read s rest → (length s ≡ n) × (bytes ≡ s ++ rest)
+pub bytes_takes : (n : ℕ) (bytes s rest : List ℕ) → lift fault_of_pack (next_bytes n) bytes ≡ read s rest
+    → (length s ≡ n) × (bytes ≡ s ++ rest)
 bytes_takes n bytes s rest e = by (ltb (length bytes) n) refl e
   where
-    by : (b : Bool) → ltb (length bytes) n ≡ b → lift_error fault_of_pack (cond b (Err packs.Ended) (Ok (take n bytes, drop n bytes))) ≡ read s rest
+    by : (b : Bool) → ltb (length bytes) n ≡ b
+        → lift_error fault_of_pack (cond b (Err packs.Ended)
+        (Ok (take n bytes, drop n bytes))) ≡ read s rest
         → (length s ≡ n) × (bytes ≡ s ++ rest)
     by true t e = absurd cc
     by false t e =
@@ -60,7 +66,8 @@ length_takes bytes len rest are e =
     let small : (i : ℕ) → get_or t.0 i 0 < 256 = AreBytes-front t.0 t.1 (subst AreBytes two.1 are) in
     let is = read_value (from_be_bytes w16 t.0) len t.1 rest t.3 in
     let written = be_bytes_2 t.0 len two.0 small (sym is) in (
-      parts_to (to_be_bytes w16 len) (two.1 ∙ ap (λ (s : List ℕ). s ++ t.1) (sym written)) (read_rest (from_be_bytes w16 t.0) len t.1 rest t.3),
+      parts_to (to_be_bytes w16 len) (two.1 ∙ ap (λ (s : List ℕ). s ++ t.1) (sym written))
+          (read_rest (from_be_bytes w16 t.0) len t.1 rest t.3),
       below t.0 len small is,
     )
   where
@@ -97,7 +104,8 @@ lengths_takes (suc n) bytes lens rest are e =
     let same = read_rest (t.0 ∷ u.0) lens u.1 rest u.3 in
     subst (λ ls. (length ls ≡ suc n) × (bytes ≡ flat_map (to_be_bytes w16) ls ++ rest) × All (λ len. len < 2 ^ 16) ls × AreBytes rest) is (
       ap suc more.0,
-      parts_joined (to_be_bytes w16 t.0) (flat_map (to_be_bytes w16) u.0) rest one.0 (parts_to (flat_map (to_be_bytes w16) u.0) more.1 same),
+      parts_joined (to_be_bytes w16 t.0) (flat_map (to_be_bytes w16) u.0) rest one.0
+          (parts_to (flat_map (to_be_bytes w16) u.0) more.1 same),
       All-cons (λ len. len < 2 ^ 16) t.0 u.0 one.1 more.2,
       subst AreBytes same more.3,
     )
@@ -137,7 +145,8 @@ alone_ok (Err error) packets e = absurd cc
 pub part_takes : (part : List ℕ) (packets : List PacketValue) → packets_of part ≡ packet_list packets → PartText part packets
 part_takes [] packets e = inr ((λ h. h), passed_is [] packets e)
 part_takes (first ∷ rest) packets e =
-    split (is_packet_type first) (λ r. r ≡ packet_list packets → PartText (first ∷ rest) packets) (alone (whole_packet (first ∷ rest))) (Ok [])
+    split (is_packet_type first) (λ r. r ≡ packet_list packets
+    → PartText (first ∷ rest) packets) (alone (whole_packet (first ∷ rest))) (Ok [])
     (λ t own. let p = alone_ok (whole_packet (first ∷ rest)) packets own in inl (p.0, whole_takes (first ∷ rest) p.0 p.1, p.2))
     (λ t none. inr (type_is_not first t, passed_is [] packets none)) e
 
@@ -154,7 +163,8 @@ read_as_packet first rest t = rw t refl
 
 passed_over : (first : ℕ) (rest : List ℕ) → ¬ IsPacketPart (first ∷ rest) → packets_of (first ∷ rest) ≡ packet_list []
 passed_over first rest other =
-    let t : is_packet_type first ≡ false = ⊎_elim (λ yes. absurd (other (type_is first yes))) (λ no. no) (cases_Bool (is_packet_type first)) in
+    let t : is_packet_type first ≡ false = ⊎_elim (λ yes. absurd (other (type_is first yes)))
+    (λ no. no) (cases_Bool (is_packet_type first)) in
     rw t refl
 
 part_again : (part : List ℕ) (packets : List PacketValue) → PartText part packets → packets_of part ≡ packet_list packets
@@ -180,7 +190,8 @@ record PartsTaken (lens : List ℕ) (packets : List PacketValue) (bytes : List �
 pub texts_joined : (part : List ℕ) (parts : List (List ℕ)) (one more : List PacketValue) → PartText part one
     → PartTexts parts more → PartTexts (part ∷ parts) (one ++ more)
 texts_joined part parts one more (inl own) texts = inl (own.0, more, own.1, texts, ap (λ (ps : List PacketValue). ps ++ more) own.2)
-texts_joined part parts one more (inr other) texts = inr (other.0, subst (PartTexts parts) (sym (ap (λ (ps : List PacketValue). ps ++ more) other.1)) texts)
+texts_joined part parts one more (inr other) texts = inr
+    (other.0, subst (PartTexts parts) (sym (ap (λ (ps : List PacketValue). ps ++ more) other.1)) texts)
 
 part_before : (len : ℕ) (lens : List ℕ) (packets own : List PacketValue) (bytes part mid behind : List ℕ)
     (out : List PacketValue) (rest : List ℕ) → length part ≡ len → bytes ≡ part ++ mid
@@ -207,7 +218,8 @@ parts_takes [] packets bytes out rest e = record {
   behind = sym (read_value packets out bytes rest e) ∙ sym (append-nil packets);
 }
 parts_takes (len ∷ lens) packets bytes out rest e =
-    let t = then_ok (lift fault_of_pack (next_bytes len) bytes) (λ part. checked (packets_of part) >>= (λ more. parts_at lens (packets ++ more))) out rest e in
+    let t = then_ok (lift fault_of_pack (next_bytes len) bytes)
+    (λ part. checked (packets_of part) >>= (λ more. parts_at lens (packets ++ more))) out rest e in
     let one = bytes_takes len bytes t.0 t.1 t.2 in
     let u = then_ok (checked (packets_of t.0) t.1) (λ more. parts_at lens (packets ++ more)) out rest t.3 in
     let own = checked_ok (packets_of t.0) t.1 u.0 u.1 u.2 in
@@ -235,7 +247,9 @@ parts_again (part ∷ parts) packets more rest (inr other) =
 
 -- ---- compound packets
 
-lengths_text : (parts : List (List ℕ)) → flat_map (to_be_bytes w16) (map length parts) ≡ flat_map (λ part. to_be_bytes w16 (length part)) parts
+lengths_text : (parts : List (List ℕ))
+    → flat_map (to_be_bytes w16) (map length parts) ≡ flat_map
+    (λ part. to_be_bytes w16 (length part)) parts
 lengths_text [] = refl
 lengths_text (part ∷ parts) = ap (λ (bytes : List ℕ). to_be_bytes w16 (length part) ++ bytes) (lengths_text parts)
 
@@ -271,7 +285,8 @@ compound_takes (count ∷ bytes) packets rest are e =
     let small = are 0 count (omega arith) in
     let digits : flat_map (to_be_bytes w16) t.0 ≡ flat_map (λ part. to_be_bytes w16 (length part)) p.parts =
     ap (flat_map (to_be_bytes w16)) (sym p.lengths) ∙ lengths_text p.parts in
-    let behind : bytes ≡ flat_map (λ part. to_be_bytes w16 (length part)) p.parts ++ t.1 = lens.1 ∙ ap (λ (ls : List ℕ). ls ++ t.1) digits in
+    let behind : bytes ≡ flat_map (λ part. to_be_bytes w16 (length part)) p.parts ++ t.1 = lens.1 ∙ ap
+    (λ (ls : List ℕ). ls ++ t.1) digits in
     record {
       parts = p.parts;
       few = subst (λ n. n < 256) many small;
@@ -282,19 +297,24 @@ compound_takes (count ∷ bytes) packets rest are e =
           (parts_joined (flat_map (λ part. to_be_bytes w16 (length part)) p.parts) (flat_map (λ part. part) p.parts) rest behind p.text);
     }
 
-pub compound_again : (parts : List (List ℕ)) (packets : List PacketValue) (rest : List ℕ) → All (λ part. length part < 2 ^ 16) parts → PartTexts parts packets
-    → compound_at (length parts ∷ (flat_map (λ part. to_be_bytes w16 (length part)) parts ++ (flat_map (λ part. part) parts ++ rest))) ≡ read packets rest
+pub compound_again : (parts : List (List ℕ)) (packets : List PacketValue) (rest : List ℕ)
+    → All (λ part. length part < 2 ^ 16) parts → PartTexts parts packets
+    → compound_at (length parts ∷ (flat_map
+    (λ part. to_be_bytes w16 (length part)) parts ++ (flat_map (λ part. part) parts ++ rest)))
+    ≡ read packets rest
 unfolding compound_at
 compound_again parts packets rest short texts =
     rw (lengths_again parts (flat_map (λ part. part) parts ++ rest) short) (parts_again parts [] packets rest texts)
 
 -- ---- datagrams
 
-pub datagram_takes : (b : List ℕ) (packets : List PacketValue) → AreBytes b → whole_datagram b ≡ packet_list packets → DatagramText b packets
+pub datagram_takes : (b : List ℕ) (packets : List PacketValue) → AreBytes b
+    → whole_datagram b ≡ packet_list packets → DatagramText b packets
 datagram_takes [] packets are e = absurd cc
 datagram_takes (first ∷ bytes) packets are e =
     split (eqb first 7) P _ _
-    (λ t own. let c = compound_takes bytes packets [] (λ k d lt. are (suc k) d (omega arith)) (nothing_after_ok (compound_at bytes) packets own) in
+    (λ t own. let c = compound_takes bytes packets []
+    (λ k d lt. are (suc k) d (omega arith)) (nothing_after_ok (compound_at bytes) packets own) in
     compound c.parts c.few c.short (ap (λ (n : ℕ). n ∷ bytes) (eqb-true _ _ t) ∙ c.text ∙ append-nil (compound_bytes c.parts)) c.texts)
     (λ t own. let p = alone_ok (whole_packet (first ∷ bytes)) packets own in packet p.0 (whole_takes (first ∷ bytes) p.0 p.1) p.2) e
   where

@@ -1,12 +1,14 @@
 -- Slots that pairs fill, each pair that of its key.
-use Rattle.std.proofs.Common.{◌≡◌, ◌≢◌, ℕ, zero, suc, ◌<◌, ◌≤◌, Bool, true, false, cond, List, [], ◌∷◌, length, Option, Some, None, refl, sym, ap, ◌∙◌, length-set, get_or-set_same, get_or-set_other, ap₂, arith}
+use Rattle.std.proofs.Common.{◌≡◌, ◌≢◌, ℕ, zero, suc, ◌<◌, ◌≤◌, Bool, true, false, cond, List, [], ◌∷◌, length, Option}
+use Rattle.std.proofs.Common.{Some, None, refl, sym, ap, ◌∙◌, length-set, get_or-set_same, get_or-set_other, ap₂, arith}
 use Rattle.std.specs.Prelude.{slice_set}
 use Rattle.std.specs.List.{IsDistinct, AllByRecursion}
 use Rattle.std.specs.Map.{keys_of}
 use Rattle.std.specs.Str.{bytes_eq}
 use Rattle.swim_wire.specs.Layout.{Layout, Spelled, Pairs, PairText, PairTexts, of_key}
 use Rattle.swim_wire.specs.Reading.{Slots, slot, place_of, no_slots}
-use Rattle.swim_wire.proofs.Keys.{IsLegalLayout, key_in, same_key, key_same, other_key, false≢true, first_from_place, place_from_first, some_is, found, own_place}
+use Rattle.swim_wire.proofs.Keys.{IsLegalLayout, key_in, same_key, key_same, other_key, false≢true, first_from_place}
+use Rattle.swim_wire.proofs.Keys.{place_from_first, some_is, found, own_place}
 
 -- the value of each key of the layout is at its index
 abbrev pub HoldsSlots : Layout → Pairs → Slots → Type 0
@@ -16,7 +18,8 @@ HoldsSlots layout pairs slots = (place : ℕ) → place < length layout → slot
 abbrev pub Fills : Layout → Slots → Pairs → Slots → Type 0
 Fills layout slots [] out = out ≡ slots
 Fills layout slots (pair ∷ pairs) out =
-    (place : ℕ) × (place_of layout pair.0 ≡ Some place) × (slot slots place ≡ None) × Fills layout (slice_set slots place (Some pair.1)) pairs out
+    (place : ℕ) × (place_of layout pair.0 ≡ Some place) × (slot slots place ≡ None)
+    × Fills layout (slice_set slots place (Some pair.1)) pairs out
 
 some≢none : {A : Type 0} (x : A) → Some x ≡ None → ⊥
 some≢none x e = cc
@@ -34,7 +37,8 @@ fills_apart layout slots (pair ∷ pairs) out key place fills at full =
     )
 
 -- the slot that a pair fills
-filled_slot : (layout : Layout) (slots : Slots) (key : List ℕ) (value : Spelled) (place : ℕ) → length layout ≤ length slots → place_of layout key ≡ Some place
+filled_slot : (layout : Layout) (slots : Slots) (key : List ℕ) (value : Spelled) (place : ℕ)
+    → length layout ≤ length slots → place_of layout key ≡ Some place
     → slot (slice_set slots place (Some value)) place ≡ Some value
 filled_slot layout slots key value place room at =
     let first = first_from_place layout key place at in
@@ -84,11 +88,14 @@ fills_hold layout slots (pair ∷ pairs) out distinct room fills place inside =
         let value = filled_slot layout slots pair.0 pair.1 fills.0 room fills.1 in
         let none =
         no_pair pair.0 pairs
-        (fills_apart layout (slice_set slots fills.0 (Some pair.1)) pairs out pair.0 fills.0 fills.3 fills.1 (λ e. some≢none pair.1 (sym value ∙ e))) in
-        later ∙ ap₂ or_kept (ap (λ (k : List ℕ). of_key k pairs) same ∙ none) (ap (slot (slice_set slots fills.0 (Some pair.1))) here ∙ value)
+        (fills_apart layout (slice_set slots fills.0 (Some pair.1)) pairs out pair.0 fills.0 fills.3 fills.1
+        (λ e. some≢none pair.1 (sym value ∙ e))) in
+        later ∙ ap₂ or_kept (ap (λ (k : List ℕ). of_key k pairs) same ∙ none)
+        (ap (slot (slice_set slots fills.0 (Some pair.1))) here ∙ value)
     by false t later =
         let first = first_from_place layout pair.0 fills.0 fills.1 in
-        let differ : place ≢ fills.0 = λ same. false≢true (sym t ∙ key_same (key_in layout place) pair.0 (ap (key_in layout) same ∙ first.here)) in
+        let differ : place ≢ fills.0 = λ same. false≢true
+        (sym t ∙ key_same (key_in layout place) pair.0 (ap (key_in layout) same ∙ first.here)) in
         later ∙ ap (or_kept (of_key (key_in layout place) pairs)) (get_or-set_other slots fills.0 place (Some pair.1) None differ)
 
 pub no_slot : (place : ℕ) → slot no_slots place ≡ None
@@ -106,7 +113,8 @@ or_none : (o : Option Spelled) → or_kept o None ≡ o
 or_none None = refl
 or_none (Some value) = refl
 
-pub holds_from_fills : (layout : Layout) (pairs : Pairs) (out : Slots) → IsLegalLayout layout → Fills layout no_slots pairs out → HoldsSlots layout pairs out
+pub holds_from_fills : (layout : Layout) (pairs : Pairs) (out : Slots) → IsLegalLayout layout
+    → Fills layout no_slots pairs out → HoldsSlots layout pairs out
 holds_from_fills layout pairs out legal fills place inside =
     fills_hold layout no_slots pairs out legal.distinct legal.few fills place inside
     ∙ ap (or_kept (of_key (key_in layout place) pairs)) (no_slot place) ∙ or_none (of_key (key_in layout place) pairs)
@@ -115,20 +123,28 @@ holds_from_fills layout pairs out legal fills place inside =
 abbrev pub IsVacant : Layout → Slots → List ℕ → Type 0
 IsVacant layout slots key = (place : ℕ) → place_of layout key ≡ Some place → slot slots place ≡ None
 
-vacant_after : (layout : Layout) (slots : Slots) (key : List ℕ) (place : ℕ) (value : Spelled) (keys : List (List ℕ)) → place_of layout key ≡ Some place
+vacant_after : (layout : Layout) (slots : Slots) (key : List ℕ) (place : ℕ) (value : Spelled)
+    (keys : List (List ℕ)) → place_of layout key ≡ Some place
     → AllByRecursion (λ y. bytes_eq key y ≡ false) keys → AllByRecursion (IsVacant layout slots) keys
     → AllByRecursion (IsVacant layout (slice_set slots place (Some value))) keys
 vacant_after layout slots key place value [] at apart vacant = tt
-vacant_after layout slots key place value (other ∷ keys) at apart vacant = (still, vacant_after layout slots key place value keys at apart.1 vacant.1)
+vacant_after layout slots key place value
+    (other ∷ keys) at apart vacant = (
+      still,
+      vacant_after layout slots key place value keys at apart.1 vacant.1,
+    )
   where
     still : IsVacant layout (slice_set slots place (Some value)) other
     still q there =
         let first = first_from_place layout key place at in
         let second = first_from_place layout other q there in
-        let differ : q ≢ place = λ same. false≢true (sym apart.0 ∙ key_same key other (sym first.here ∙ ap (key_in layout) (sym same) ∙ second.here)) in
+        let differ : q ≢ place = λ same. false≢true
+        (sym apart.0 ∙ key_same key other (sym first.here ∙ ap (key_in layout) (sym same)
+        ∙ second.here)) in
         get_or-set_other slots place q (Some value) None differ ∙ vacant.0 q there
 
-pub fills_from : (layout : Layout) (slots : Slots) (b : List ℕ) (pairs : Pairs) → PairTexts layout b pairs → IsDistinct bytes_eq (keys_of pairs)
+pub fills_from : (layout : Layout) (slots : Slots) (b : List ℕ) (pairs : Pairs) → PairTexts layout b pairs
+    → IsDistinct bytes_eq (keys_of pairs)
     → AllByRecursion (IsVacant layout slots) (keys_of pairs) → (out : Slots) × Fills layout slots pairs out
 unfolding IsDistinct
 fills_from layout slots b [] texts distinct vacant = (slots, refl)

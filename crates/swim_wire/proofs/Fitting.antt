@@ -8,7 +8,8 @@ use Rattle.swim_wire.specs.Slots.{Fits, FitsEach, CanRead, CanReadEach}
 
 -- one more value that fits its key
 pub FitsEach-set : (layout : List Field) (values : List (Option Value)) (place : ℕ) (d : Field) (value : Value) → place < length layout
-    → FitsEach layout values → Fits (let field = slice_index_or layout place d in field.limit) value → FitsEach layout (slice_set values place (Some value))
+    → FitsEach layout values → Fits (let field = slice_index_or layout place d in field.limit) value
+    → FitsEach layout (slice_set values place (Some value))
 FitsEach-set [] values place d value within fits fit = tt
 FitsEach-set (field ∷ layout) [] place d value within fits fit = absurd fits
 FitsEach-set (field ∷ layout) (old ∷ values) zero d value within fits fit = (fit, fits.1)
@@ -36,7 +37,8 @@ CanReadEach-some alloc (field ∷ layout) = (CanRead-some alloc field.limit, Can
     CanRead-some alloc limits.Flag = tt
 
 -- a value of the layout can be read
-pub CanReadEach-at : {A : Type 0} (alloc : Option A) (layout : List Field) (place : ℕ) (d : Field) → place < length layout → CanReadEach alloc layout
+pub CanReadEach-at : {A : Type 0} (alloc : Option A) (layout : List Field) (place : ℕ) (d : Field)
+    → place < length layout → CanReadEach alloc layout
     → CanRead alloc (let field = slice_index_or layout place d in field.limit)
 CanReadEach-at alloc [] place d within can = absurd (omega arith)
 CanReadEach-at alloc (field ∷ layout) zero d within can = can.0

@@ -1,5 +1,6 @@
 -- Maps that have all their keys in alphabetical order, and their fields.
-use Rattle.std.proofs.Common.{◌≡◌, ℕ, suc, ◌+◌, ◌<◌, ◌≤◌, true, eqb, eqb-true, List, [], ◌∷◌, ◌++◌, length, take, drop, Option, Some, None, Result, Ok, Err, refl, sym, ap, ◌∙◌, get_or-set_other, arith}
+use Rattle.std.proofs.Common.{◌≡◌, ℕ, suc, ◌+◌, ◌<◌, ◌≤◌, true, eqb, eqb-true, List, [], ◌∷◌, ◌++◌, length, take, drop}
+use Rattle.std.proofs.Common.{Option, Some, None, Result, Ok, Err, refl, sym, ap, ◌∙◌, get_or-set_other, arith}
 use Rattle.std.proofs.lemmas.List.{length-append, nil_from_length, take-append-drop}
 use Rattle.std.specs.Prelude.{slice_set, IfSome}
 use Rattle.swim_claim.specs.declared.claim.Claim.{Claim}
@@ -9,7 +10,8 @@ use Rattle.swim_pack.proofs.Numbers.{raw_again, count_again}
 use Rattle.swim_wire.specs.declared.fault.WireFault.{WireFault}
 use Rattle.swim_wire.specs.declared.stream.Header.{Header}
 use Rattle.swim_wire.specs.Layout.{Layout, Spelled, header_layout, state_layout}
-use Rattle.swim_wire.specs.Reading.{nothing_after, checked, state_of, Slots, slot, value_at, limit_at, key_at, pair_at, pairs_at, no_slots, map_at, state_at, header_of, header_at}
+use Rattle.swim_wire.specs.Reading.{nothing_after, checked, state_of, Slots, slot, value_at, limit_at, key_at, pair_at}
+use Rattle.swim_wire.specs.Reading.{pairs_at, no_slots, map_at, state_at, header_of, header_at}
 use Rattle.swim_wire.proofs.Filling.{no_slot}
 use Rattle.swim_wire.proofs.Keys.{IsLegalLayout, key_in, all_at, own_place, header_legal, state_legal}
 use Rattle.swim_wire.proofs.Maps.{map_takes}
@@ -17,7 +19,8 @@ use Rattle.swim_wire.proofs.Messages.{message_at}
 use Rattle.swim_wire.proofs.Readings.{read}
 
 -- the bytes are their prefix and what is after it
-pub split_front : (n : ℕ) (bytes front rest text : List ℕ) → front ≡ take n bytes → rest ≡ drop n bytes → front ≡ text → bytes ≡ text ++ rest
+pub split_front : (n : ℕ) (bytes front rest text : List ℕ) → front ≡ take n bytes → rest ≡ drop n bytes
+    → front ≡ text → bytes ≡ text ++ rest
 split_front n bytes front rest text front_is rest_is same = rw (← same, front_is, rest_is) (sym (take-append-drop n bytes))
 
 -- a key at the start, then a value within its limit
@@ -39,24 +42,28 @@ Behind front layout place bytes value rest =
 
 -- the last n keys of the layout, each after the value before it, fill the slots from this index on
 pub record InOrder (layout : Layout) (place n : ℕ) (slots : Slots) (bytes : List ℕ) (out : Slots) (rest : List ℕ) : Type 0 where
-  by : IsLegalLayout layout → place + n ≤ length layout → ((k : ℕ) → place ≤ k → slot slots k ≡ None) → pairs_at layout n slots bytes ≡ read out rest
+  by : IsLegalLayout layout → place + n ≤ length layout → ((k : ℕ) → place ≤ k → slot slots k ≡ None)
+      → pairs_at layout n slots bytes ≡ read out rest
 
 pub done : {layout : Layout} {place : ℕ} {slots : Slots} {rest : List ℕ} → InOrder layout place 0 slots rest slots rest
 unfolding pairs_at
 done = record { by = λ legal few vacant. refl }
 
 -- a pair, and then the others
-pub next : {layout : Layout} {place n : ℕ} {slots out : Slots} {bytes mid rest : List ℕ} {value : Spelled} → Behind [] layout place bytes value mid
+pub next : {layout : Layout} {place n : ℕ} {slots out : Slots} {bytes mid rest : List ℕ} {value : Spelled}
+    → Behind [] layout place bytes value mid
     → InOrder layout (suc place) n (slice_set slots place (Some value)) mid out rest → InOrder layout place (suc n) slots bytes out rest
 unfolding pairs_at
 next {layout} {place} {n} {slots} {out} {bytes} {mid} {rest} {value} pair more = record {
   by = λ legal few vacant.
       rw (pair_in_order layout slots place bytes pair.0 mid value legal (omega arith) (vacant place (omega arith)) pair.1 pair.2)
-      (more.by legal (omega arith) (λ k later. get_or-set_other slots place k (Some value) None (λ same. absurd (omega arith)) ∙ vacant k (omega arith)));
+      (more.by legal (omega arith) (λ k later. get_or-set_other slots place k (Some value) None
+      (λ same. absurd (omega arith)) ∙ vacant k (omega arith)));
 }
 
 -- a map of fewer than 16 pairs, after their count in one byte
-pub map_in_order : {layout : Layout} {n : ℕ} {bytes mid rest : List ℕ} {value : Spelled} {out : Slots} → IsLegalLayout layout → length layout ≡ suc n
+pub map_in_order : {layout : Layout} {n : ℕ} {bytes mid rest : List ℕ} {value : Spelled} {out : Slots}
+    → IsLegalLayout layout → length layout ≡ suc n
     → Behind ((0x80 + suc n) ∷ []) layout 0 bytes value mid → InOrder layout 1 n (slice_set no_slots 0 (Some value)) mid out rest
     → map_at layout bytes ≡ read out rest
 unfolding map_at
@@ -64,7 +71,8 @@ map_in_order {layout} {n} {bytes} {mid} {rest} {value} {out} legal all first mor
     let few = legal.few in
     let start = raw_text (key_in layout 0) ++ first.0 in
     let whole : InOrder layout 0 (suc n) no_slots start out rest = next (first.0, refl, first.2) more in
-    let count = count_again (length layout) ((0x80 + suc n) ∷ []) start (suc n) (omega (arith, all)) (counts.fixmap (omega (arith, few, all)) refl) in
+    let count = count_again (length layout) ((0x80 + suc n) ∷ []) start (suc n) (omega (arith, all))
+    (counts.fixmap (omega (arith, few, all)) refl) in
     rw (first.1, count) (whole.by legal (omega (arith, all)) (λ k _. no_slot k))
 
 -- ---- what is after them is shorter
@@ -75,7 +83,8 @@ state_shorter bytes rest slots e =
     let text = (map_takes state_layout bytes slots rest state_legal e).0 in
     omega (arith, ap length parts ∙ length-append text rest)
 
-pub header_shorter : (bytes body rest : List ℕ) (slots : Slots) → bytes ≡ 6 ∷ body → map_at header_layout body ≡ read slots rest → length rest ≤ length bytes
+pub header_shorter : (bytes body rest : List ℕ) (slots : Slots) → bytes ≡ 6 ∷ body
+    → map_at header_layout body ≡ read slots rest → length rest ≤ length bytes
 header_shorter bytes body rest slots is e =
     let parts = (map_takes header_layout body slots rest header_legal e).3 in
     let text = (map_takes header_layout body slots rest header_legal e).0 in
@@ -101,7 +110,8 @@ pub state_told : (bytes rest : List ℕ) (slots : Slots) (claim : Claim) → map
 unfolding state_at
 state_told bytes rest slots claim e is = rw (e, is) refl
 
-pub header_told : (bytes body rest : List ℕ) (slots : Slots) (header : Header) → bytes ≡ 6 ∷ body → map_at header_layout body ≡ read slots rest
+pub header_told : (bytes body rest : List ℕ) (slots : Slots) (header : Header) → bytes ≡ 6 ∷ body
+    → map_at header_layout body ≡ read slots rest
     → header_of slots ≡ Ok header → header_at bytes ≡ read header rest
 unfolding header_at
 header_told bytes body rest slots header first e is = rw (first, e, is) refl

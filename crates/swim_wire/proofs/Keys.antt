@@ -1,5 +1,6 @@
 -- Layouts, and the indices of their keys.
-use Rattle.std.proofs.Common.{◌≡◌, ◌≢◌, ℕ, zero, suc, ◌<◌, ◌≤◌, Bool, true, false, cond, ltb, List, [], ◌∷◌, length, Some, refl, sym, ◌∙◌, ⊎_elim, arith}
+use Rattle.std.proofs.Common.{◌≡◌, ◌≢◌, ℕ, zero, suc, ◌<◌, ◌≤◌, Bool, true, false, cond, ltb, List, [], ◌∷◌, length}
+use Rattle.std.proofs.Common.{Some, refl, sym, ◌∙◌, ⊎_elim, arith}
 use Rattle.std.proofs.lemmas.Bool.{cases_Bool, lt-ltb}
 use Rattle.std.proofs.lemmas.List.Quantifiers.{position-Some}
 use Rattle.std.proofs.lemmas.List.Sums.{position_or_len_is}
@@ -93,13 +94,15 @@ place_from_first layout key place h =
     rw (within, at) refl
 
 -- the limit of a key is that of its first index
-pub limit_from_first : (layout : Layout) (key : List ℕ) (place : ℕ) → IsFirstAt layout key place → of_key key layout ≡ Some (limit_at layout place)
+pub limit_from_first : (layout : Layout) (key : List ℕ) (place : ℕ) → IsFirstAt layout key place
+    → of_key key layout ≡ Some (limit_at layout place)
 limit_from_first [] key place h = absurd (let inside = h.inside in omega arith)
 limit_from_first (field ∷ layout) key zero h = rw (key_same key field.0 (sym h.here)) refl
 limit_from_first (field ∷ layout) key (suc place) h =
     let other : bytes_eq key field.0 ≡ false = other_key key field.0 (λ same. h.first 0 (omega arith) (sym same)) in
     let inside = h.inside in
-    rw other (limit_from_first layout key place (record { inside = omega arith; here = h.here; first = λ k lt. h.first (suc k) (omega arith) }))
+    rw other (limit_from_first layout key place
+    (record { inside = omega arith; here = h.here; first = λ k lt. h.first (suc k) (omega arith) }))
 
 pub some_is : {A : Type 0} (x y : A) → Some x ≡ Some y → x ≡ y
 some_is x y e = cc
@@ -135,7 +138,8 @@ found (field ∷ layout) key limit e = by (bytes_eq key field.0) refl e (found l
         apart place h zero lt same = false≢true (sym t ∙ key_same key field.0 (sym same))
         apart place h (suc k) lt same = h.first k (omega arith) same
 
-pub all_at : (P : List ℕ → Type 0) (layout : Layout) (place : ℕ) → AllByRecursion P (keys_of layout) → place < length layout → P (key_in layout place)
+pub all_at : (P : List ℕ → Type 0) (layout : Layout) (place : ℕ) → AllByRecursion P (keys_of layout)
+    → place < length layout → P (key_in layout place)
 all_at P [] place each inside = absurd (omega arith)
 all_at P (field ∷ layout) zero each inside = each.0
 all_at P (field ∷ layout) (suc place) each inside = all_at P layout place each.1 (omega arith)
@@ -149,9 +153,11 @@ own_first (field ∷ layout) zero distinct inside k lt same = absurd (omega arit
 own_first (field ∷ layout) (suc place) distinct inside zero lt same =
     let apart = all_at (λ y. bytes_eq field.0 y ≡ false) layout place distinct.0 (omega arith) in
     false≢true (sym apart ∙ key_same field.0 (key_in layout place) same)
-own_first (field ∷ layout) (suc place) distinct inside (suc k) lt same = own_first layout place distinct.1 (omega arith) k (omega arith) same
+own_first (field ∷ layout) (suc place) distinct inside (suc k) lt same = own_first layout place distinct.1
+    (omega arith) k (omega arith) same
 
 pub own_place : (layout : Layout) (place : ℕ) → IsDistinct bytes_eq (keys_of layout) → place < length layout → place_of layout
     (key_in layout place) ≡ Some place
 own_place layout place distinct inside =
-    place_from_first layout (key_in layout place) place (record { inside = inside; here = refl; first = own_first layout place distinct inside })
+    place_from_first layout (key_in layout place) place
+    (record { inside = inside; here = refl; first = own_first layout place distinct inside })

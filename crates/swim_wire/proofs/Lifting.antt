@@ -8,7 +8,8 @@ use Rattle.swim_pack.specs.Numbers.{pack_fault}
 use Rattle.swim_pack.specs.declared.fault.PullFault.{PullFault}
 use Rattle.swim_pack.specs.declared.fault.PullFault.TheVariants as pulls
 use Rattle.swim_pack.specs.declared.fault.PackFault.{PackFault}
-use Rattle.swim_pack.specs.declared.fault.PackFault.TheVariants.{Ended, NotUnsigned, OutOfRange, NotBool, NotRaw, TooLong, NotMap, MapCount, Fault, Memory}
+use Rattle.swim_pack.specs.declared.fault.PackFault.TheVariants.{Ended, NotUnsigned, OutOfRange, NotBool, NotRaw}
+use Rattle.swim_pack.specs.declared.fault.PackFault.TheVariants.{TooLong, NotMap, MapCount, Fault, Memory}
 use Rattle.swim_pack.proofs.Composing.{Reads-lift}
 use Rattle.swim_pack.proofs.Pulls.{Reads-no_byte, Reads-refused}
 use Rattle.swim_wire.specs.Fault.{fault_of_pack, fault_of_key, fault_of_pull}
@@ -45,7 +46,8 @@ Wire-ok p = Reads-lift wire_cause fault_of_pack same_cause p
 
 -- its refusal
 pub Wire-err : {X V : Type 0} {view : X → V} {reading : composing.Reading PackFault V} {a b : Source} {error : PackFault}
-    → ReadsAs {X = X} cause_of view reading a b (Err error) → ReadsAs {X = X} wire_cause view (lift fault_of_pack reading) a b (Err (fault_of_pack error))
+    → ReadsAs {X = X} cause_of view reading a b (Err error)
+    → ReadsAs {X = X} wire_cause view (lift fault_of_pack reading) a b (Err (fault_of_pack error))
 Wire-err p = Reads-lift wire_cause fault_of_pack same_cause p
 
 told_pull : (pull : PullFault) → fault_of_pack (pack_fault pull) ≡ fault_of_pull pull
@@ -53,8 +55,10 @@ told_pull pulls.Ended = refl
 told_pull pulls.Fault = refl
 
 -- a byte that was not pulled
-pub Wire-pulled : {a b : Source} (pull : PullFault) → (pull ≡ pulls.Ended → IsShorter a.coming 1) → (pull ≡ pulls.Fault → CountsFault a.faults b.faults)
-    → ConsumesSome a.coming b.coming → a.faults ≤ b.faults → ReadsAs {X = ℕ} wire_cause same (lift fault_of_pack next_byte) a b (Err (fault_of_pull pull))
+pub Wire-pulled : {a b : Source} (pull : PullFault) → (pull ≡ pulls.Ended → IsShorter a.coming 1)
+    → (pull ≡ pulls.Fault → CountsFault a.faults b.faults)
+    → ConsumesSome a.coming b.coming → a.faults ≤ b.faults
+    → ReadsAs {X = ℕ} wire_cause same (lift fault_of_pack next_byte) a b (Err (fault_of_pull pull))
 Wire-pulled {a} {b} pull short rose over stay =
     rw (← told_pull pull) (Wire-err (Reads-no_byte {X = Unit {0}} {view = λ _. []} (Reads-refused 1 pull short rose over stay)))
 
@@ -64,5 +68,6 @@ pub Key-ok : {X V : Type 0} {view : X → V} {reading : composing.Reading PackFa
 Key-ok p = Reads-lift wire_cause fault_of_key same_cause_of_key p
 
 pub Key-err : {X V : Type 0} {view : X → V} {reading : composing.Reading PackFault V} {a b : Source} {error : PackFault}
-    → ReadsAs {X = X} cause_of view reading a b (Err error) → ReadsAs {X = X} wire_cause view (lift fault_of_key reading) a b (Err (fault_of_key error))
+    → ReadsAs {X = X} cause_of view reading a b (Err error)
+    → ReadsAs {X = X} wire_cause view (lift fault_of_key reading) a b (Err (fault_of_key error))
 Key-err p = Reads-lift wire_cause fault_of_key same_cause_of_key p

@@ -6,7 +6,9 @@ use Rattle.swim_pack.specs.declared.fault.PackFault.TheVariants as packs
 use Rattle.swim_pack.specs.Composing.{◌>>=◌, gives, some_or, lift, lift_error}
 use Rattle.swim_pack.specs.Reading.{uint_at, flag_at, raw_at, count_at}
 use Rattle.swim_wire.specs.declared.fault.WireFault.{WireFault}
-use Rattle.swim_wire.specs.declared.fault.WireFault.TheVariants.{Memory, NameEmpty, BadAddress, BadVersions, WrongType, BadState, TooManyNodes, UserTooLong, Trailing, UnknownKey, DuplicateKey}
+use Rattle.swim_wire.specs.declared.fault.WireFault.TheVariants.{Memory, NameEmpty, BadAddress, BadVersions, WrongType}
+use Rattle.swim_wire.specs.declared.fault.WireFault.TheVariants.{BadState, TooManyNodes, UserTooLong, Trailing}
+use Rattle.swim_wire.specs.declared.fault.WireFault.TheVariants.{UnknownKey, DuplicateKey}
 use Rattle.swim_wire.specs.declared.layout.Limit.{Limit}
 use Rattle.swim_wire.specs.declared.layout.Limit.TheVariants as limits
 use Rattle.swim_wire.specs.Checks.{ReasonForPacket, ReasonForHeader, ReasonForState}
@@ -38,15 +40,19 @@ key_fault : (pack : PackFault) → IsMapFault (fault_of_key pack)
 key_fault packs.TooLong = tt
 key_fault pack = tt
 
-pub lift_fault : {A : Type 0} (f : PackFault → WireFault) (r : Result (A × List ℕ) PackFault) (error : WireFault) → ((pack : PackFault) → IsMapFault (f pack))
+pub lift_fault : {A : Type 0} (f : PackFault
+    → WireFault) (r : Result (A × List ℕ) PackFault) (error : WireFault)
+    → ((pack : PackFault) → IsMapFault (f pack))
     → lift_error f r ≡ refused A error → IsMapFault error
 lift_fault f r error each e = let t = lift_err f r error e in rw t.1 (each t.0)
 
 value_fault : (limit : Limit) (bytes : List ℕ) (error : WireFault) → value_at limit bytes ≡ refused Spelled error → IsMapFault error
 unfolding value_at
-value_fault (limits.Number max) bytes error e = then_err (lift fault_of_pack (uint_at max) bytes) (λ v. gives (number v)) error e (IsMapFault error)
+value_fault (limits.Number max) bytes error e = then_err (lift fault_of_pack (uint_at max) bytes)
+    (λ v. gives (number v)) error e (IsMapFault error)
     (λ first. lift_fault fault_of_pack (uint_at max bytes) error pack_fault first) (λ x mid ok other. absurd cc)
-value_fault (limits.Raw limit) bytes error e = then_err (lift fault_of_pack (raw_at limit) bytes) (λ s. gives (raw s)) error e (IsMapFault error)
+value_fault (limits.Raw limit) bytes error e = then_err (lift fault_of_pack (raw_at limit) bytes)
+    (λ s. gives (raw s)) error e (IsMapFault error)
     (λ first. lift_fault fault_of_pack (raw_at limit bytes) error pack_fault first) (λ x mid ok other. absurd cc)
 value_fault limits.Flag bytes error e = then_err (lift fault_of_pack flag_at bytes) (λ f. gives (flag f)) error e (IsMapFault error)
     (λ first. lift_fault fault_of_pack (flag_at bytes) error pack_fault first) (λ x mid ok other. absurd cc)
@@ -60,16 +66,19 @@ vacant_fault : (o : Option Spelled) (limit : Limit) (mid : List ℕ) (error : Wi
 vacant_fault None limit mid error e = value_fault limit mid error e
 vacant_fault (Some value) limit mid error e = let is : DuplicateKey ≡ error = cc in subst IsMapFault is tt
 
-pair_fault : (layout : Layout) (slots : Slots) (bytes : List ℕ) (error : WireFault) → pair_at layout slots bytes ≡ refused Slots error → IsMapFault error
+pair_fault : (layout : Layout) (slots : Slots) (bytes : List ℕ) (error : WireFault)
+    → pair_at layout slots bytes ≡ refused Slots error → IsMapFault error
 unfolding pair_at key_at
 pair_fault layout slots bytes error e =
     then_err (key_at layout bytes)
     (λ place. if_vacant (slot slots place) (value_at (limit_at layout place)) >>= (λ value. gives (slice_set slots place (Some value))))
     error e (IsMapFault error)
-    (λ first. then_err (lift fault_of_key (raw_at 12) bytes) (λ key. some_or UnknownKey (place_of layout key)) error first (IsMapFault error)
+    (λ first. then_err (lift fault_of_key (raw_at 12) bytes)
+    (λ key. some_or UnknownKey (place_of layout key)) error first (IsMapFault error)
     (λ key. lift_fault fault_of_key (raw_at 12 bytes) error key_fault key)
     (λ key mid ok unknown. unknown_fault (place_of layout key) mid error unknown))
-    (λ place mid ok second. then_err (if_vacant (slot slots place) (value_at (limit_at layout place)) mid) (λ value. gives (slice_set slots place (Some value)))
+    (λ place mid ok second. then_err (if_vacant (slot slots place) (value_at (limit_at layout place)) mid)
+    (λ value. gives (slice_set slots place (Some value)))
     error second (IsMapFault error)
     (λ value. vacant_fault (slot slots place) (limit_at layout place) mid error value)
     (λ value rest ok other. absurd cc))
@@ -84,8 +93,10 @@ pairs_fault layout (suc n) slots bytes error e = then_err (pair_at layout slots 
 -- why a map is refused
 pub map_refusal : (layout : Layout) (bytes : List ℕ) (error : WireFault) → map_at layout bytes ≡ refused Slots error → IsMapFault error
 unfolding map_at
-map_refusal layout bytes error e = then_err (lift fault_of_pack (count_at (length layout)) bytes) (λ n. pairs_at layout n no_slots) error e (IsMapFault error)
-    (λ first. lift_fault fault_of_pack (count_at (length layout) bytes) error pack_fault first) (λ n mid ok more. pairs_fault layout n no_slots mid error more)
+map_refusal layout bytes error e = then_err (lift fault_of_pack (count_at (length layout)) bytes)
+    (λ n. pairs_at layout n no_slots) error e (IsMapFault error)
+    (λ first. lift_fault fault_of_pack (count_at (length layout) bytes) error pack_fault first)
+    (λ n mid ok more. pairs_fault layout n no_slots mid error more)
 
 -- so no reason says more of it
 pub explained_by_map : (error : WireFault) (bytes : List ℕ) → error ≢ Memory → IsMapFault error

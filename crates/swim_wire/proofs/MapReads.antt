@@ -39,7 +39,8 @@ Completes-pair {view} {x} start now after layout reading (suc left) slots pos c 
 
 pub Completes-exit : {X : Type 0} {view : X → Slots} (start now after : Source) (layout : Layout) (reading : Reading Slots)
     (left : ℕ) (slots : Slots) (error : WireFault) → 0 < left
-    → Completes start now reading (pairs_at layout left slots) → ReadsAs {X = X} wire_cause view (pair_at layout slots) now after (Err error)
+    → Completes start now reading (pairs_at layout left slots)
+    → ReadsAs {X = X} wire_cause view (pair_at layout slots) now after (Err error)
     → ReadsAs {X = List (Option Value)} wire_cause slots_of reading start after (Err error)
 unfolding pairs_at
 Completes-exit start now after layout reading zero slots error pos c p = absurd (omega arith)

@@ -1,5 +1,6 @@
 -- A map that is read is a text of its layout, and each text of a layout is read.
-use Rattle.std.proofs.Common.{◌≡◌, ℕ, zero, suc, ◌≤◌, Bool, true, false, ◌||◌, List, [], ◌∷◌, ◌++◌, length, Option, Some, None, IsSome, Ok, refl, sym, ap, subst, ◌∙◌, append_assoc, arith}
+use Rattle.std.proofs.Common.{◌≡◌, ℕ, zero, suc, ◌≤◌, Bool, true, false, ◌||◌, List, [], ◌∷◌, ◌++◌, length, Option}
+use Rattle.std.proofs.Common.{Some, None, IsSome, Ok, refl, sym, ap, subst, ◌∙◌, append_assoc, arith}
 use Rattle.std.proofs.lemmas.Cmp.{nat_list_eq_equiv}
 use Rattle.std.proofs.lemmas.Map.Entries.{length-keys_of}
 use Rattle.std.proofs.lemmas.Map.Steps.{length-le_from_keys}
@@ -20,13 +21,16 @@ use Rattle.swim_wire.specs.declared.layout.Limit.TheVariants as limits
 use Rattle.swim_wire.specs.Fault.{fault_of_pack, fault_of_key}
 use Rattle.swim_wire.specs.Layout.{Layout, Spelled, Spells, Pairs, PairText, PairTexts, MapText, of_key}
 use Rattle.swim_wire.specs.Layout.Spelled.{number, raw, flag}
-use Rattle.swim_wire.specs.Reading.{Reading, Slots, slot, value_at, place_of, limit_at, if_vacant, key_at, pair_at, pairs_at, no_slots, map_at}
+use Rattle.swim_wire.specs.Reading.{Reading, Slots, slot, value_at, place_of, limit_at, if_vacant, key_at, pair_at}
+use Rattle.swim_wire.specs.Reading.{pairs_at, no_slots, map_at}
 use Rattle.swim_wire.proofs.Readings.{parts_to, parts_joined, read, read_value, read_rest, then_ok, lift_ok, some_ok}
-use Rattle.swim_wire.proofs.Keys.{IsLegalLayout, same_key, false≢true, first_from_place, place_from_first, limit_from_first, some_is, found, all_at}
+use Rattle.swim_wire.proofs.Keys.{IsLegalLayout, same_key, false≢true, first_from_place, place_from_first}
+use Rattle.swim_wire.proofs.Keys.{limit_from_first, some_is, found, all_at}
 use Rattle.swim_wire.proofs.Filling.{HoldsSlots, Fills, fills_distinct, holds_from_fills, fills_from, all_vacant}
 
 -- a value that the layer below read
-value_made : {A : Type 0} (limit : Limit) (reading : composing.Reading PackFault A) (make : A → Spelled) (bytes : List ℕ) (value : Spelled) (rest : List ℕ)
+value_made : {A : Type 0} (limit : Limit) (reading : composing.Reading PackFault A) (make : A
+    → Spelled) (bytes : List ℕ) (value : Spelled) (rest : List ℕ)
     → ((x : A) (mid : List ℕ) → reading bytes ≡ Ok (x, mid) → ConsumedText (λ b. Spells limit b (make x)) bytes mid)
     → (lift fault_of_pack reading >>= (λ x. gives (make x))) bytes ≡ read value rest → ConsumedText (λ b. Spells limit b value) bytes rest
 value_made limit reading make bytes value rest each e =
@@ -107,7 +111,8 @@ pair_takes layout slots bytes out rest e =
     let k = then_ok (lift fault_of_key (raw_at 12) bytes) (λ key. some_or UnknownKey (place_of layout key)) t.0 t.1 t.2 in
     let known = some_ok UnknownKey (place_of layout k.0) k.1 t.0 t.1 k.3 in
     let key = raw_takes 12 bytes k.0 k.1 (lift_ok fault_of_key (raw_at 12 bytes) k.0 k.1 k.2) in
-    let u = then_ok (if_vacant (slot slots t.0) (value_at (limit_at layout t.0)) t.1) (λ value. gives (slice_set slots t.0 (Some value))) out rest t.3 in
+    let u = then_ok (if_vacant (slot slots t.0) (value_at (limit_at layout t.0)) t.1)
+    (λ value. gives (slice_set slots t.0 (Some value))) out rest t.3 in
     let free = vacant_ok (slot slots t.0) (value_at (limit_at layout t.0)) t.1 u.0 u.1 u.2 in
     let value = value_takes (limit_at layout t.0) t.1 u.0 u.1 free.1 in
     let stored = slice_set slots t.0 (Some u.0) in
@@ -122,7 +127,8 @@ record PairsTaken (layout : Layout) (n : ℕ) (slots : Slots) (bytes : List ℕ)
   parts : bytes ≡ text ++ rest
   fills : Fills layout slots pairs out
 
-pairs_takes : (layout : Layout) (n : ℕ) (slots : Slots) (bytes : List ℕ) (out : Slots) (rest : List ℕ) → pairs_at layout n slots bytes ≡ read out rest
+pairs_takes : (layout : Layout) (n : ℕ) (slots : Slots) (bytes : List ℕ) (out : Slots) (rest : List ℕ)
+    → pairs_at layout n slots bytes ≡ read out rest
     → PairsTaken layout n slots bytes out rest
 unfolding pairs_at
 pairs_takes layout zero slots bytes out rest e = record {
@@ -147,7 +153,8 @@ pairs_takes layout (suc n) slots bytes out rest e =
     }
 
 -- a map that was read
-pub map_takes : (layout : Layout) (bytes : List ℕ) (slots : Slots) (rest : List ℕ) → IsLegalLayout layout → map_at layout bytes ≡ read slots rest
+pub map_takes : (layout : Layout) (bytes : List ℕ) (slots : Slots) (rest : List ℕ) → IsLegalLayout layout
+    → map_at layout bytes ≡ read slots rest
     → (b : List ℕ) × (pairs : Pairs) × MapText layout b pairs × (bytes ≡ b ++ rest) × HoldsSlots layout pairs slots
 unfolding map_at
 map_takes layout bytes slots rest legal e =
@@ -188,7 +195,8 @@ pairs_again layout slots b rest (pair ∷ pairs) out legal texts fills =
     let first = first_from_place layout pair.0 fills.0 fills.1 in
     let here : key.place ≡ fills.0 = some_is key.place fills.0 (sym (place_from_first layout pair.0 key.place key.first) ∙ fills.1) in
     let short = subst (λ k. length k ≤ 12) first.here (all_at (λ k. length k ≤ 12) layout fills.0 legal.short first.inside) in
-    let one = pair_again layout slots texts.0 (texts.1 ++ rest) pair fills.0 text fills.1 (ap (limit_at layout) (sym here) ∙ key.limit_is) short fills.2 in
+    let one = pair_again layout slots texts.0 (texts.1 ++ rest) pair fills.0 text fills.1
+    (ap (limit_at layout) (sym here) ∙ key.limit_is) short fills.2 in
     rw (texts.4, append_assoc texts.0 texts.1 rest, one)
     (pairs_again layout (slice_set slots fills.0 (Some pair.1)) texts.1 rest pairs out legal texts.3 fills.3)
 
@@ -208,7 +216,8 @@ known_key layout b (pair ∷ pairs) texts q e = by (bytes_eq q pair.0) refl e (k
 -- a map has no more pairs than the layout has keys
 pub pairs_few : (layout : Layout) (b : List ℕ) (pairs : Pairs) → MapText layout b pairs → length pairs ≤ length layout
 pairs_few layout b pairs text =
-    let few = length-le_from_keys nat_list_eq_equiv (keys_of pairs) layout text.distinct (known_key layout text.pairs_text pairs text.each) in
+    let few = length-le_from_keys nat_list_eq_equiv (keys_of pairs) layout text.distinct
+    (known_key layout text.pairs_text pairs text.each) in
     let keys = length-keys_of pairs in
     omega arith
 
@@ -218,7 +227,8 @@ pub map_again : (layout : Layout) (b : List ℕ) (pairs : Pairs) (rest : List �
 unfolding map_at
 map_again layout b pairs rest legal text =
     let fills = fills_from layout no_slots text.pairs_text pairs text.each text.distinct (all_vacant layout (keys_of pairs)) in
-    let count = count_again (length layout) text.count_text (text.pairs_text ++ rest) (length pairs) (pairs_few layout b pairs text) text.count in
+    let count = count_again (length layout) text.count_text (text.pairs_text ++ rest) (length pairs)
+    (pairs_few layout b pairs text) text.count in
     let more = pairs_again layout no_slots text.pairs_text rest pairs fills.0 legal text.each fills.1 in (
       fills.0,
       rw (text.text, append_assoc text.count_text text.pairs_text rest, count) more,

@@ -13,7 +13,8 @@ use Rattle.swim_wire.proofs.Maps.{map_takes, map_again}
 use Rattle.swim_wire.proofs.Readings.{read, refused, then_ok, then_err, parts_to}
 
 -- what is made of the slots is made of the pairs that they hold
-pub record IsMessage {A : Type 0} (layout : Layout) (of_slots : Slots → Result A WireFault) (of_pairs : Pairs → Result A WireFault) : Type 0 where
+pub record IsMessage {A : Type 0} (layout : Layout) (of_slots : Slots → Result A WireFault) (of_pairs : Pairs
+    → Result A WireFault) : Type 0 where
   pub legal : IsLegalLayout layout
   pub same : (pairs : Pairs) (slots : Slots) → HoldsSlots layout pairs slots → of_slots slots ≡ of_pairs pairs
 

@@ -56,4 +56,5 @@ datagram_again_at b rest packets (compound parts few short is texts) =
 
 pub datagram_one : (a b x y : List ℕ) (packets others : List PacketValue) → DatagramText a packets → DatagramText b others
     → a ++ x ≡ b ++ y → (a ≡ b) × (packets ≡ others)
-datagram_one a b x y packets others s t e = same_text datagram_at a b x y packets others (datagram_again_at a x packets s) (datagram_again_at b y others t) e
+datagram_one a b x y packets others s t e = same_text datagram_at a b x y packets others
+    (datagram_again_at a x packets s) (datagram_again_at b y others t) e

@@ -1,6 +1,7 @@
 -- A packet that is read is a text of its value, each text is read, and what a refusal means for the
 -- bytes.
-use Rattle.std.proofs.Common.{◌≡◌, ◌≢◌, ◌⊎◌, inl, inr, ℕ, Bool, true, false, eqb, List, [], ◌∷◌, ◌++◌, Result, Ok, refl, sym, ap, subst, ◌∙◌, append-nil, eqb-true, arith}
+use Rattle.std.proofs.Common.{◌≡◌, ◌≢◌, ◌⊎◌, inl, inr, ℕ, Bool, true, false, eqb, List, [], ◌∷◌, ◌++◌, Result, Ok, refl}
+use Rattle.std.proofs.Common.{sym, ap, subst, ◌∙◌, append-nil, eqb-true, arith}
 use Rattle.std.proofs.lemmas.Bool.Decides.{nat_tests}
 use Rattle.std.specs.Str.{bytes_eq}
 use Rattle.swim_claim.specs.declared.claim.Claim.TheVariants.{Alive, Suspect}
@@ -13,14 +14,17 @@ use Rattle.swim_wire.specs.declared.layout.Key.TheVariants as keys
 use Rattle.swim_wire.specs.Checks.{AliveFails, AccusationFails, ReasonForPacket, ReasonForWhole}
 use Rattle.swim_wire.specs.Layout.{Pairs, MapText, number_of, raw_of, alive_layout, accusation_layout}
 use Rattle.swim_wire.specs.Packet.{PacketValue}
-use Rattle.swim_wire.specs.Reading.{Reading, Slots, with_name, with_details, alive_of, suspect_of, dead_of, dead_claim, alive_at, suspect_at, dead_at, packet_at, nothing_after, whole_packet}
+use Rattle.swim_wire.specs.Reading.{Reading, Slots, with_name, with_details, alive_of, suspect_of, dead_of, dead_claim}
+use Rattle.swim_wire.specs.Reading.{alive_at, suspect_at, dead_at, packet_at, nothing_after, whole_packet}
 use Rattle.swim_wire.specs.Texts.{PacketText, told_details}
 use Rattle.swim_wire.specs.Texts.PacketText.{alive, suspect, leave, confirm}
 use Rattle.swim_wire.proofs.Readings.{read, refused}
 use Rattle.swim_wire.proofs.Keys.{alive_legal, accusation_legal, same_key, key_same, other_key, false≢true}
 use Rattle.swim_wire.proofs.MapFaults.{explained_by_map}
 use Rattle.swim_wire.proofs.Messages.{IsMessage, message_at, message_takes, message_again, message_refusal}
-use Rattle.swim_wire.proofs.Checking.{passed, passed_is, failed, split, nothing_after_ok, nothing_after_err, with_name_ok, with_name_again, with_name_err, with_details_ok, with_details_again, with_details_err}
+use Rattle.swim_wire.proofs.Checking.{passed, passed_is, failed, split, nothing_after_ok, nothing_after_err}
+use Rattle.swim_wire.proofs.Checking.{with_name_ok, with_name_again, with_name_err, with_details_ok, with_details_again}
+use Rattle.swim_wire.proofs.Checking.{with_details_err}
 
 -- ---- the packet in the pairs of a map, or the first check that they fail
 
@@ -105,7 +109,8 @@ dead_takes first bytes p rest type e =
     record {
       text = first ∷ m.0;
       is =
-          by m.0 m.1 (bytes_eq (raw_of keys.From m.1) (raw_of keys.Node m.1)) refl (ap (λ (x : ℕ). x ∷ m.0) type) m.2 named.0 (passed_is _ p named.1);
+          by m.0 m.1 (bytes_eq (raw_of keys.From m.1) (raw_of keys.Node m.1)) refl
+          (ap (λ (x : ℕ). x ∷ m.0) type) m.2 named.0 (passed_is _ p named.1);
       parts = ap (λ (r : List ℕ). first ∷ r) m.4;
     }
   where
@@ -114,7 +119,8 @@ dead_takes first bytes p rest type e =
     by m pairs true own b text named is = leave m pairs b text named (same_key _ _ own) is
     by m pairs false own b text named is = confirm m pairs b text named (λ same. false≢true (sym own ∙ key_same _ _ same)) is
 
-pub packet_takes : (bytes : List ℕ) (p : PacketValue) (rest : List ℕ) → packet_at bytes ≡ read p rest → ConsumedText (λ b. PacketText b p) bytes rest
+pub packet_takes : (bytes : List ℕ) (p : PacketValue) (rest : List ℕ) → packet_at bytes ≡ read p rest
+    → ConsumedText (λ b. PacketText b p) bytes rest
 unfolding packet_at
 packet_takes [] p rest e = absurd cc
 packet_takes (first ∷ bytes) p rest e =
@@ -130,7 +136,9 @@ packet_takes (first ∷ bytes) p rest e =
 pub packet_again : (b rest : List ℕ) (p : PacketValue) → PacketText b p → packet_at (b ++ rest) ≡ read p rest
 unfolding packet_at alive_at suspect_at dead_at
 packet_again b rest p (alive m pairs type text named legal is) =
-    let value = with_name_again _ _ named ∙ with_details_again (told_details pairs) (alive_with pairs) legal.0 legal.1 ∙ ap passed (sym is) in
+    let value = with_name_again _ _ named
+    ∙ with_details_again (told_details pairs) (alive_with pairs) legal.0 legal.1 ∙ ap passed (sym is)
+    in
     rw type (message_again alive_message m rest pairs p text value)
 packet_again b rest p (suspect m pairs type text named is) =
     rw type (message_again suspect_message m rest pairs p text (with_name_again _ _ named ∙ ap passed (sym is)))
@@ -138,7 +146,8 @@ packet_again b rest p (leave m pairs type text named own is) =
     let left = ap (λ (same : Bool). passed (dead_packet same pairs)) (key_same (raw_of keys.From pairs) (raw_of keys.Node pairs) own) in
     rw type (message_again dead_message m rest pairs p text (with_name_again _ _ named ∙ left ∙ ap passed (sym is)))
 packet_again b rest p (confirm m pairs type text named other is) =
-    let confirmed = ap (λ (same : Bool). passed (dead_packet same pairs)) (other_key (raw_of keys.From pairs) (raw_of keys.Node pairs) other) in
+    let confirmed = ap (λ (same : Bool). passed (dead_packet same pairs))
+    (other_key (raw_of keys.From pairs) (raw_of keys.Node pairs) other) in
     rw type (message_again dead_message m rest pairs p text (with_name_again _ _ named ∙ confirmed ∙ ap passed (sym is)))
 
 -- ---- a refusal
@@ -147,13 +156,15 @@ alive_refusal : (first : ℕ) (bytes : List ℕ) (error : WireFault) → error �
     → ReasonForPacket error (first ∷ bytes)
 unfolding alive_at
 alive_refusal first bytes error other type e =
-    message_refusal alive_message bytes error e (ReasonForPacket error (first ∷ bytes)) (λ map. (explained_by_map error (first ∷ bytes) other map).0)
+    message_refusal alive_message bytes error e (ReasonForPacket error (first ∷ bytes))
+    (λ map. (explained_by_map error (first ∷ bytes) other map).0)
     (λ pairs fails begins. with_name_err (raw_of keys.Node pairs) (with_details (told_details pairs) (alive_with pairs)) error fails
     (ReasonForPacket error (first ∷ bytes))
     (λ empty is. subst (λ f. ReasonForPacket f (first ∷ bytes)) is (inl (type, begins (AliveFails NameEmpty) empty)))
     (λ named more. with_details_err (told_details pairs) (alive_with pairs) error more (ReasonForPacket error (first ∷ bytes))
     (λ address is. subst (λ f. ReasonForPacket f (first ∷ bytes)) is (inl (type, begins (AliveFails BadAddress) (named, address))))
-    (λ address versions is. subst (λ f. ReasonForPacket f (first ∷ bytes)) is (inl (type, begins (AliveFails BadVersions) (named, (address, versions)))))))
+    (λ address versions is. subst (λ f. ReasonForPacket f (first ∷ bytes)) is
+    (inl (type, begins (AliveFails BadVersions) (named, (address, versions)))))))
 
 -- a suspect or dead message, whose only check is that of its name
 accusation_refusal : (value : Pairs → PacketValue) (of_slots : Slots → Result PacketValue WireFault)
@@ -161,9 +172,11 @@ accusation_refusal : (value : Pairs → PacketValue) (of_slots : Slots → Resul
     → (first : ℕ) (bytes : List ℕ) (error : WireFault) → error ≢ Memory → (first ≡ 3) ⊎ (first ≡ 5)
     → message_at accusation_layout of_slots bytes ≡ refused PacketValue error → ReasonForPacket error (first ∷ bytes)
 accusation_refusal value of_slots message first bytes error other type e =
-    message_refusal message bytes error e (ReasonForPacket error (first ∷ bytes)) (λ map. (explained_by_map error (first ∷ bytes) other map).0)
+    message_refusal message bytes error e (ReasonForPacket error (first ∷ bytes))
+    (λ map. (explained_by_map error (first ∷ bytes) other map).0)
     (λ pairs fails begins. with_name_err (raw_of keys.Node pairs) (passed (value pairs)) error fails (ReasonForPacket error (first ∷ bytes))
-    (λ empty is. subst (λ f. ReasonForPacket f (first ∷ bytes)) is (inr (type, begins (AccusationFails NameEmpty) empty))) (λ named more. absurd cc))
+    (λ empty is. subst (λ f. ReasonForPacket f (first ∷ bytes)) is
+    (inr (type, begins (AccusationFails NameEmpty) empty))) (λ named more. absurd cc))
 
 ended : (error : WireFault) → Ended ≡ error → ReasonForPacket error []
 ended error is = subst (λ f. ReasonForPacket f []) is tt
@@ -178,7 +191,8 @@ wrong_type first bytes error four three five e =
     differs : (n : ℕ) → eqb first n ≡ false → first ≢ n
     differs n no_match same = grind (arith, nat_tests)
 
-pub packet_refusal : (bytes : List ℕ) (error : WireFault) → error ≢ Memory → packet_at bytes ≡ refused PacketValue error → ReasonForPacket error bytes
+pub packet_refusal : (bytes : List ℕ) (error : WireFault) → error ≢ Memory
+    → packet_at bytes ≡ refused PacketValue error → ReasonForPacket error bytes
 unfolding packet_at suspect_at dead_at
 packet_refusal [] error other e = ended error cc
 packet_refusal (first ∷ bytes) error other e =

@@ -24,13 +24,15 @@ pub read_rest : {A : Type 0} (x y : A) (r s : List ℕ) → read x r ≡ read y 
 read_rest {A} x y r s e = ap (λ (p : A × List ℕ). p.1) (read_pair x y r s e)
 
 -- both readings returned a value
-pub then_ok : {A B : Type 0} (r : Result (A × List ℕ) WireFault) (next : A → Reading B) (y : B) (rest : List ℕ) → then_read next r ≡ read y rest
+pub then_ok : {A B : Type 0} (r : Result (A × List ℕ) WireFault) (next : A
+    → Reading B) (y : B) (rest : List ℕ) → then_read next r ≡ read y rest
     → (x : A) × (mid : List ℕ) × (r ≡ read x mid) × (next x mid ≡ read y rest)
 then_ok (Ok r) next y rest e = (r.0, r.1, refl, e)
 then_ok (Err error) next y rest e = absurd cc
 
 -- one of two readings refused
-pub then_err : {A B : Type 0} (r : Result (A × List ℕ) WireFault) (next : A → Reading B) (error : WireFault) → then_read next r ≡ refused B error
+pub then_err : {A B : Type 0} (r : Result (A × List ℕ) WireFault) (next : A → Reading B) (error : WireFault)
+    → then_read next r ≡ refused B error
     → (P : Type 0) → (r ≡ refused A error → P) → ((x : A) (mid : List ℕ) → r ≡ read x mid → next x mid ≡ refused B error → P) → P
 then_err {A} (Ok r) next error e P first second = second r.0 r.1 refl e
 then_err {A} (Err other) next error e P first second = first cc
@@ -57,5 +59,6 @@ pub parts_to : {bytes mid rest : List ℕ} (text : List ℕ) → bytes ≡ text 
 parts_to text first same = first ∙ ap (λ (r : List ℕ). text ++ r) same
 
 -- two texts, one after the other
-pub parts_joined : {bytes mid : List ℕ} (front back rest : List ℕ) → bytes ≡ front ++ mid → mid ≡ back ++ rest → bytes ≡ (front ++ back) ++ rest
+pub parts_joined : {bytes mid : List ℕ} (front back rest : List ℕ) → bytes ≡ front ++ mid
+    → mid ≡ back ++ rest → bytes ≡ (front ++ back) ++ rest
 parts_joined front back rest first second = first ∙ ap (λ (r : List ℕ). front ++ r) second ∙ sym (append_assoc front back rest)

@@ -30,16 +30,20 @@ unless P error fault other h = h
 
 -- if the refusal of the reading means something for the bytes, and so does `Memory`, so does the
 -- refusal of the read
-pub Reads-reason : {X V : Type 0} {view : X → V} {reading : Reading V} {a b : Source} (r : Result X WireFault) (P : WireFault → List ℕ → Type 0)
+pub Reads-reason : {X V : Type 0} {view : X
+    → V} {reading : Reading V} {a b : Source} (r : Result X WireFault) (P : WireFault → List ℕ → Type 0)
     → ((bytes : List ℕ) → P Fault bytes)
     → ((bytes : List ℕ) (error : WireFault) → error ≢ Memory → reading bytes ≡ refused V error → P error bytes)
     → (r ≡ Err Memory → IfSome a.coming (P Memory)) → ReadsAs wire_cause view reading a b r → IfErr r (λ error. IfSome a.coming (P error))
 Reads-reason (Ok x) P fault says memory h = tt
 Reads-reason {X} {V} {view} {reading} {a} {b} (Err error) P fault says memory h = by (memory_or error)
   where
-    explained : (known : Option (List ℕ)) → error ≢ Memory → Answers {X = X} wire_cause view reading known b.coming (Err error) → IfSome known (P error)
+    explained : (known : Option (List ℕ)) → error ≢ Memory
+        → Answers {X = X} wire_cause view reading known b.coming (Err error) → IfSome known (P error)
     explained None other e = tt
-    explained (Some bytes) other e = unless (λ f. P f bytes) error (fault bytes) other (UnlessFailed-weaker (wire_cause error) (says bytes error other) e)
+    explained (Some bytes) other e = unless
+        (λ f. P f bytes) error (fault bytes) other
+        (UnlessFailed-weaker (wire_cause error) (says bytes error other) e)
 
     by : (error ≡ Memory) ⊎ (error ≢ Memory) → IfSome a.coming (P error)
     by (inl is) = subst (λ (f : WireFault). IfSome a.coming (P f)) (sym is) (memory (ap Err is))
@@ -53,9 +57,11 @@ Header-takes r h = Reads-takes r (λ value text. HeaderText text value) header_t
 
 pub Header-lacks : {X : Type 0} {view : X → Header} {a b : Source} (r : Result X WireFault) → ReadsAs wire_cause view header_at a b r
     → IfErr r (λ error. UnlessFailed (wire_cause error) (NoTextAtFront a (λ text. (value : Header) × HeaderText text value)))
-Header-lacks r h = Reads-lacks r (λ text. (value : Header) × HeaderText text value) (λ text rest is. (is.0, header_again text rest is.0 is.1)) h
+Header-lacks r h = Reads-lacks r (λ text. (value : Header) × HeaderText text value)
+    (λ text rest is. (is.0, header_again text rest is.0 is.1)) h
 
-pub Header-reason : {X : Type 0} {view : X → Header} {a b : Source} (r : Result X WireFault) → ¬ (r ≡ Err Memory) → ReadsAs wire_cause view header_at a b r
+pub Header-reason : {X : Type 0} {view : X → Header} {a b : Source} (r : Result X WireFault)
+    → ¬ (r ≡ Err Memory) → ReadsAs wire_cause view header_at a b r
     → IfErr r (λ error. IfSome a.coming (ReasonForHeader error))
 Header-reason r none h = Reads-reason r ReasonForHeader (λ bytes. tt) header_refusal (λ is. absurd (none is)) h
 

@@ -19,7 +19,8 @@ PartTexts-canonical (p ∷ rest) legal =
     let here : IsLegal p = All-head IsLegal p rest legal in
     inl (p, rest, PacketText-canonical p here.0 here.1, PartTexts-canonical rest (All-tail IsLegal p rest legal), refl)
 
-pub DatagramText-canonical : (packets : List PacketValue) → length packets ≤ 255 → All IsLegal packets → DatagramText (packets_bytes packets) packets
+pub DatagramText-canonical : (packets : List PacketValue) → length packets ≤ 255 → All IsLegal packets
+    → DatagramText (packets_bytes packets) packets
 DatagramText-canonical packets few legal =
     datagrams.compound (map packet_bytes packets) (omega (arith, length-map packets packet_bytes))
     (All-map (λ part. length part < 2 ^ 16) packet_bytes packets

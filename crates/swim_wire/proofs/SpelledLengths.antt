@@ -1,5 +1,6 @@
 -- The maximum length of the canonical bytes of a packet.
-use Rattle.std.proofs.Common.{◌≡◌, ℕ, ◌+◌, ◌<◌, ◌≤◌, ◌^◌, Bool, true, false, cond, ltb, List, [], ◌∷◌, length, length-append, ap, lit≤, inl, inr, arith}
+use Rattle.std.proofs.Common.{◌≡◌, ℕ, ◌+◌, ◌<◌, ◌≤◌, ◌^◌, Bool, true, false, cond, ltb, List, [], ◌∷◌, length}
+use Rattle.std.proofs.Common.{length-append, ap, lit≤, inl, inr, arith}
 use Rattle.std.specs.List.{flat_map}
 use Rattle.std.specs.Int.{bytes_high_first}
 use Rattle.swim_claim.specs.declared.claim.Claim.{Claim}
@@ -72,9 +73,12 @@ claim_short (Alive name inc details) from legal made =
     let meta = legal.details.meta in
     let most = legal.name.most in
     along (alive_bytes-pairs name inc details) (omega (arith, length-pairs (alive_pairs name inc details)))
-claim_short (Suspect name inc) from legal made = along (accusation_bytes-pairs 3 name inc from) (accusation_short 3 name inc from legal.name.most made.1)
-claim_short (Confirm name inc) from legal made = along (accusation_bytes-pairs 5 name inc from) (accusation_short 5 name inc from legal.name.most made.1)
-claim_short (Leave name inc) from legal made = along (accusation_bytes-pairs 5 name inc from) (accusation_short 5 name inc from legal.name.most made.1)
+claim_short (Suspect name inc) from legal made = along (accusation_bytes-pairs 3 name inc from)
+    (accusation_short 3 name inc from legal.name.most made.1)
+claim_short (Confirm name inc) from legal made = along (accusation_bytes-pairs 5 name inc from)
+    (accusation_short 5 name inc from legal.name.most made.1)
+claim_short (Leave name inc) from legal made = along (accusation_bytes-pairs 5 name inc from)
+    (accusation_short 5 name inc from legal.name.most made.1)
 
 -- so two bytes hold its length
 pub packet_bytes-short : (p : PacketValue) → IsLegalClaim p.claim → IsLegalPacket p.claim p.from → length (packet_bytes p) < 2 ^ 16

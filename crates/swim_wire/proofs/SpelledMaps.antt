@@ -46,7 +46,8 @@ PairText-canonical layout pair h = record {
   text = refl;
 }
 
-pub PairTexts-canonical : (layout : Layout) (pairs : Pairs) → AllByRecursion (IsPairOf layout) pairs → PairTexts layout (flat_map pair_text pairs) pairs
+pub PairTexts-canonical : (layout : Layout) (pairs : Pairs) → AllByRecursion (IsPairOf layout) pairs
+    → PairTexts layout (flat_map pair_text pairs) pairs
 PairTexts-canonical layout [] h = refl
 PairTexts-canonical layout (pair ∷ pairs) h =
     (pair_text pair, flat_map pair_text pairs, PairText-canonical layout pair h.0, PairTexts-canonical layout pairs h.1, refl)

@@ -15,17 +15,27 @@ alive_pairs name inc details =
     ∷ (key_text keys.Node, raw name) ∷ (key_text keys.Port, number details.port) ∷ (key_text keys.Vsn, raw details.vsn) ∷ []
 
 abbrev pub accusation_pairs : List ℕ → ℕ → List ℕ → Pairs
-accusation_pairs name inc from = (key_text keys.From, raw from) ∷ (key_text keys.Incarnation, number inc) ∷ (key_text keys.Node, raw name) ∷ []
+accusation_pairs name inc from = (key_text keys.From, raw from) ∷ (
+  key_text keys.Incarnation,
+  number inc,
+) ∷ (key_text keys.Node, raw name) ∷ []
 
 abbrev pub header_pairs : Header → Pairs
-header_pairs h = (key_text keys.Join, flag h.join) ∷ (key_text keys.Nodes, number h.nodes) ∷ (key_text keys.UserStateLen, number h.user_len) ∷ []
+header_pairs h = (key_text keys.Join, flag h.join) ∷ (
+  key_text keys.Nodes,
+  number h.nodes,
+) ∷ (key_text keys.UserStateLen, number h.user_len) ∷ []
 
 abbrev pub record_pairs : List ℕ → ℕ → ℕ → DetailsValue → Pairs
 record_pairs name inc state details =
     (key_text keys.Addr, raw details.addr) ∷ (key_text keys.Incarnation, number inc) ∷ (key_text keys.Meta, raw details.meta)
-    ∷ (key_text keys.Name, raw name) ∷ (key_text keys.Port, number details.port) ∷ (key_text keys.State, number state) ∷ (key_text keys.Vsn, raw details.vsn) ∷ []
+    ∷ (key_text keys.Name, raw name) ∷ (key_text keys.Port, number details.port) ∷ (
+      key_text keys.State,
+      number state,
+    ) ∷ (key_text keys.Vsn, raw details.vsn) ∷ []
 
-pub alive_bytes-pairs : (name : List ℕ) (inc : ℕ) (details : DetailsValue) → alive_bytes name inc details ≡ 4 ∷ map_text (alive_pairs name inc details)
+pub alive_bytes-pairs : (name : List ℕ) (inc : ℕ) (details : DetailsValue)
+    → alive_bytes name inc details ≡ 4 ∷ map_text (alive_pairs name inc details)
 alive_bytes-pairs name inc details = simp (append_assoc, append-nil)
 
 pub accusation_bytes-pairs : (type : ℕ) (name : List ℕ) (inc : ℕ) (from : List ℕ)

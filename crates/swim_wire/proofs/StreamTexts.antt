@@ -1,6 +1,7 @@
 -- A header or a state record that is read is a text of its value, each text is read, and what a
 -- refusal means for the bytes.
-use Rattle.std.proofs.Common.{◌≡◌, ◌≢◌, ℕ, ◌<◌, ◌≤◌, Bool, true, false, cond, eqb, ltb, List, [], ◌∷◌, ◌++◌, Result, Ok, Err, refl, sym, ap, subst, ◌∙◌, eqb-true, ltb-true, ltb-false, le-ltb, arith}
+use Rattle.std.proofs.Common.{◌≡◌, ◌≢◌, ℕ, ◌<◌, ◌≤◌, Bool, true, false, cond, eqb, ltb, List, [], ◌∷◌, ◌++◌, Result, Ok}
+use Rattle.std.proofs.Common.{Err, refl, sym, ap, subst, ◌∙◌, eqb-true, ltb-true, ltb-false, le-ltb, arith}
 use Rattle.std.proofs.lemmas.Bool.Decides.{nat_tests}
 use Rattle.swim_claim.specs.declared.claim.Claim.{Claim}
 use Rattle.swim_claim.specs.declared.claim.Claim.TheVariants.{Alive, Suspect, Confirm, Leave}
@@ -8,7 +9,8 @@ use Rattle.swim_claim.specs.Details.{DetailsValue}
 use Rattle.swim_pack.proofs.Composing.{ConsumedText}
 use Rattle.swim_pack.specs.Composing.{then_read, refuses}
 use Rattle.swim_wire.specs.declared.fault.WireFault.{WireFault}
-use Rattle.swim_wire.specs.declared.fault.WireFault.TheVariants.{Ended, Memory, NameEmpty, BadAddress, BadVersions, WrongType, BadState, TooManyNodes, UserTooLong}
+use Rattle.swim_wire.specs.declared.fault.WireFault.TheVariants.{Ended, Memory, NameEmpty, BadAddress, BadVersions}
+use Rattle.swim_wire.specs.declared.fault.WireFault.TheVariants.{WrongType, BadState, TooManyNodes, UserTooLong}
 use Rattle.swim_wire.specs.declared.layout.Key.TheVariants as keys
 use Rattle.swim_wire.specs.declared.stream.Header.{Header}
 use Rattle.swim_wire.specs.Checks.{HeaderFails, StateFails, ReasonForHeader, ReasonForState}
@@ -20,12 +22,17 @@ use Rattle.swim_wire.proofs.Readings.{read, refused}
 use Rattle.swim_wire.proofs.Keys.{header_legal, state_legal}
 use Rattle.swim_wire.proofs.MapFaults.{explained_by_map}
 use Rattle.swim_wire.proofs.Messages.{IsMessage, message_at, message_takes, message_again, message_refusal}
-use Rattle.swim_wire.proofs.Checking.{passed, passed_is, failed, split, with_name_ok, with_name_again, with_name_err, with_details_ok, with_details_again, with_details_err}
+use Rattle.swim_wire.proofs.Checking.{passed, passed_is, failed, split, with_name_ok, with_name_again, with_name_err}
+use Rattle.swim_wire.proofs.Checking.{with_details_ok, with_details_again, with_details_err}
 
 -- ---- the header in the pairs of a map, or the first check that they fail
 
 abbrev header_with : Pairs → Header
-header_with pairs = record { nodes = number_of keys.Nodes pairs; user_len = number_of keys.UserStateLen pairs; join = flag_of keys.Join pairs }
+header_with pairs = record {
+  nodes = number_of keys.Nodes pairs;
+  user_len = number_of keys.UserStateLen pairs;
+  join = flag_of keys.Join pairs;
+}
 
 abbrev header_from : Pairs → Result Header WireFault
 header_from pairs =
@@ -48,7 +55,8 @@ header_ok pairs h = split (ltb 131072 (number_of keys.Nodes pairs)) P _ _ (λ ma
     P r = r ≡ passed h → (number_of keys.Nodes pairs ≤ 131072) × (number_of keys.UserStateLen pairs ≤ 20971520) × (h ≡ header_with pairs)
 
 header_err : (pairs : Pairs) (error : WireFault) → header_from pairs ≡ failed Header error
-    → (Q : Type 0) → (HeaderFails TooManyNodes pairs → TooManyNodes ≡ error → Q) → (HeaderFails UserTooLong pairs → UserTooLong ≡ error → Q) → Q
+    → (Q : Type 0) → (HeaderFails TooManyNodes pairs → TooManyNodes ≡ error → Q)
+    → (HeaderFails UserTooLong pairs → UserTooLong ≡ error → Q) → Q
 header_err pairs error fails Q nodes user = split (ltb 131072 (number_of keys.Nodes pairs)) P _ _ (λ many e. nodes (ltb-true _ _ many) cc)
     (λ few. split (ltb 20971520 (number_of keys.UserStateLen pairs)) P _ _
     (λ long e. user (ltb-false _ _ few, ltb-true _ _ long) cc) (λ short e. absurd cc))
@@ -70,7 +78,15 @@ header_after_takes first bytes h rest type e =
     let is = header_ok m.1 h m.3 in
     record {
       text = first ∷ m.0;
-      is = record { map_text = m.0; pairs = m.1; bytes = ap (λ (x : ℕ). x ∷ m.0) type; text = m.2; few_nodes = is.0; short_user = is.1; header = is.2 };
+      is = record {
+        map_text = m.0;
+        pairs = m.1;
+        bytes = ap (λ (x : ℕ). x ∷ m.0) type;
+        text = m.2;
+        few_nodes = is.0;
+        short_user = is.1;
+        header = is.2;
+      };
       parts = ap (λ (r : List ℕ). first ∷ r) m.4;
     }
 
@@ -81,7 +97,8 @@ by_type : (b : Bool) (first : ℕ) (bytes : List ℕ) → (P : Result (Header ×
 by_type true first bytes P t six other = six (eqb-true _ _ t)
 by_type false first bytes P t six other = other (λ same. grind (arith, nat_tests))
 
-pub header_takes : (bytes : List ℕ) (h : Header) (rest : List ℕ) → header_at bytes ≡ read h rest → ConsumedText (λ b. HeaderText b h) bytes rest
+pub header_takes : (bytes : List ℕ) (h : Header) (rest : List ℕ) → header_at bytes ≡ read h rest
+    → ConsumedText (λ b. HeaderText b h) bytes rest
 unfolding header_at
 header_takes [] h rest e = absurd cc
 header_takes (first ∷ bytes) h rest e =
@@ -100,12 +117,14 @@ header_after_refusal : (first : ℕ) (bytes : List ℕ) (error : WireFault) → 
     → header_after bytes ≡ refused Header error → ReasonForHeader error (first ∷ bytes)
 header_after_refusal first bytes error other type e =
     let six : first ∷ bytes ≡ 6 ∷ bytes = ap (λ (x : ℕ). x ∷ bytes) type in
-    message_refusal header_message bytes error e (ReasonForHeader error (first ∷ bytes)) (λ map. (explained_by_map error (first ∷ bytes) other map).1)
+    message_refusal header_message bytes error e (ReasonForHeader error (first ∷ bytes))
+    (λ map. (explained_by_map error (first ∷ bytes) other map).1)
     (λ pairs fails begins. header_err pairs error fails (ReasonForHeader error (first ∷ bytes))
     (λ many is. subst (λ f. ReasonForHeader f (first ∷ bytes)) is (bytes, six, begins (HeaderFails TooManyNodes) many))
     (λ long is. subst (λ f. ReasonForHeader f (first ∷ bytes)) is (bytes, six, begins (HeaderFails UserTooLong) long)))
 
-pub header_refusal : (bytes : List ℕ) (error : WireFault) → error ≢ Memory → header_at bytes ≡ refused Header error → ReasonForHeader error bytes
+pub header_refusal : (bytes : List ℕ) (error : WireFault) → error ≢ Memory
+    → header_at bytes ≡ refused Header error → ReasonForHeader error bytes
 unfolding header_at
 header_refusal [] error memory e = let is : Ended ≡ error = cc in subst (λ f. ReasonForHeader f []) is tt
 header_refusal (first ∷ bytes) error memory e =
@@ -155,10 +174,12 @@ state_message = record {
 state_is : (pairs : Pairs) (state n : ℕ) → state ≡ number_of keys.State pairs → eqb state n ≡ true → number_of keys.State pairs ≡ n
 state_is pairs state n same t = sym same ∙ eqb-true _ _ t
 
-claim_ok : (pairs : Pairs) (state : ℕ) (c : Claim) → state ≡ number_of keys.State pairs → claim_from pairs state ≡ passed c → IsStateOf pairs c
+claim_ok : (pairs : Pairs) (state : ℕ) (c : Claim) → state ≡ number_of keys.State pairs
+    → claim_from pairs state ≡ passed c → IsStateOf pairs c
 claim_ok pairs state c same =
     split (eqb state 0) P _ _
-    (λ t e. let legal = with_details_ok (told_details pairs) (alive_with pairs) c e in alive (state_is pairs state 0 same t) (legal.0, legal.1) legal.2)
+    (λ t e. let legal = with_details_ok (told_details pairs) (alive_with pairs) c e
+    in alive (state_is pairs state 0 same t) (legal.0, legal.1) legal.2)
     (λ _.
     split (eqb state 1) P _ _ (λ t e. suspect (state_is pairs state 1 same t) (passed_is (suspect_with pairs) c e)) (λ _.
     split (eqb state 2) P _ _ (λ t e. confirm (state_is pairs state 2 same t) (passed_is (confirm_with pairs) c e)) (λ _.
@@ -185,7 +206,8 @@ claim_err : (pairs : Pairs) (state : ℕ) (error : WireFault) → state ≡ numb
 claim_err pairs state error same named fails Q address versions bad =
     split (eqb state 0) P _ _
     (λ t e. with_details_err (told_details pairs) (alive_with pairs) error e Q
-    (λ a is. address (named, state_is pairs state 0 same t, a) is) (λ a v is. versions (named, state_is pairs state 0 same t, (a, v)) is)) (λ none.
+    (λ a is. address (named, state_is pairs state 0 same t, a) is)
+    (λ a v is. versions (named, state_is pairs state 0 same t, (a, v)) is)) (λ none.
     split (eqb state 1) P _ _ (λ t e. absurd cc) (λ one.
     split (eqb state 2) P _ _ (λ t e. absurd cc) (λ two.
     split (eqb state 3) P _ _ (λ t e. absurd cc) (λ three e. bad (named, sym same, above_three state none one two three) cc)))) fails
@@ -211,7 +233,8 @@ unfolding state_at
 state_again b rest c text =
     message_again state_message b rest text.pairs c text.text (with_name_again _ _ text.name ∙ claim_again text.pairs c text.state)
 
-pub state_refusal : (bytes : List ℕ) (error : WireFault) → error ≢ Memory → state_at bytes ≡ refused Claim error → ReasonForState error bytes
+pub state_refusal : (bytes : List ℕ) (error : WireFault) → error ≢ Memory
+    → state_at bytes ≡ refused Claim error → ReasonForState error bytes
 unfolding state_at
 state_refusal bytes error other e =
     message_refusal state_message bytes error e (ReasonForState error bytes) (λ map. (explained_by_map error bytes other map).2)

@@ -18,7 +18,8 @@ pub datagram_reads : {X : Type 0} (items : X → List PacketValue) (b : List ℕ
 datagram_reads items b (Ok packets) are h = datagram_takes b (items packets) are h
 datagram_reads items b (Err error) are h = tt
 
-pub datagram_refuses : {X : Type 0} (items : X → List PacketValue) (b : List ℕ) (r : Result X WireFault) → ListsUnlessMemory items (whole_datagram b) r
+pub datagram_refuses : {X : Type 0} (items : X → List PacketValue) (b : List ℕ) (r : Result X WireFault)
+    → ListsUnlessMemory items (whole_datagram b) r
     → IfErr r (λ error. error ≢ Memory → (packets : List PacketValue) → ¬ DatagramText b packets)
 datagram_refuses items b (Ok packets) h = tt
 datagram_refuses items b (Err error) (inl e) = λ _ packets text. datagram_lacks b error e packets text
@@ -35,7 +36,8 @@ datagram_reason items b (Err error) are (inl e) memory = by (memory_or error)
 datagram_reason items b (Err error) are (inr e) memory = subst (λ (f : WireFault). ReasonForDatagram f b) (sym e) (memory (ap Err e))
 
 -- the refusal is the one at which the reading stops
-pub datagram_exact : {X : Type 0} (items : X → List PacketValue) (b : List ℕ) (r : Result X WireFault) → ListsUnlessMemory items (whole_datagram b) r
+pub datagram_exact : {X : Type 0} (items : X → List PacketValue) (b : List ℕ) (r : Result X WireFault)
+    → ListsUnlessMemory items (whole_datagram b) r
     → IfErr r (λ error. error ≢ Memory → whole_datagram b ≡ Err error)
 datagram_exact items b (Ok packets) h = tt
 datagram_exact items b (Err error) (inl e) = λ _. e

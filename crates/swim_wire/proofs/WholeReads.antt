@@ -33,7 +33,8 @@ Reads-passed {A} {a} {b} {values} reading f x passed p =
     Reads-then (λ slots. checked (f slots)) p given
 
 -- a map, and then a check that fails
-Reads-failed : {A : Type 0} {a b : Source} {values : List (Option Value)} (reading : Reading Slots) (f : Slots → Result A WireFault) (error : WireFault)
+Reads-failed : {A : Type 0} {a b : Source} {values : List (Option Value)} (reading : Reading Slots)
+    (f : Slots → Result A WireFault) (error : WireFault)
     → wire_cause error ≡ by_bytes → f (slots_of values) ≡ Err error → ReadsAs wire_cause slots_of reading a b (Ok values)
     → ReadsAs {X = A} wire_cause same (reading >>= (λ slots. checked (f slots))) a b (Err error)
 Reads-failed {A} {a} {b} {values} reading f error is failed p =
@@ -64,7 +65,8 @@ Reads-viewed view reading f own (Ok x) is check (inr e) p = absurd cc
 Reads-viewed {X} {A} {a} {b} {values} view reading f own (Err error) is check (inl e) p =
     let caused : IsCheck (err A error) = subst (λ (w : Result A WireFault). IsCheck w) (sym e) check in
     let failed : f (slots_of values) ≡ Err error = sym is ∙ sym e in
-    let refused : ReadsAs {X = X} wire_cause view (checked (f (slots_of values))) b b (Err error) = rw failed (Reads-refuses error caused.by) in
+    let refused : ReadsAs {X = X} wire_cause view (checked (f (slots_of values))) b b (Err error) = rw failed
+    (Reads-refuses error caused.by) in
     Reads-then (λ slots. checked (f slots)) p refused
 Reads-viewed {X} view reading f own (Err error) is check (inr e) p = Reads-memory _ error (memory_cause {A = X} error cc) p
 

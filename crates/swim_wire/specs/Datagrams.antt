@@ -1,11 +1,14 @@
 -- The reading of a datagram: one packet, or the parts of a compound packet.
-use Rattle.std.specs.Prelude.{◌≡◌, ◌≢◌, ℕ, zero, suc, ◌==◌, ◌||◌, Bool, List, [], ◌∷◌, ◌++◌, length, map, Result, Ok, Err, ◌⊎◌, if◌then◌else◌, ⊤}
+use Rattle.std.specs.Prelude.{◌≡◌, ◌≢◌, ℕ, zero, suc, ◌==◌, ◌||◌, Bool, List, [], ◌∷◌, ◌++◌, length, map, Result, Ok}
+use Rattle.std.specs.Prelude.{Err, ◌⊎◌, if◌then◌else◌, ⊤}
 use Rattle.std.specs.Int.{w16, to_be_bytes, from_be_bytes}
 use Rattle.std.specs.List.{flat_map}
 use Rattle.swim_pack.specs.Composing.{◌>>=◌, gives, lift}
 use Rattle.swim_pack.specs.Reading.{next_byte, next_bytes}
 use Rattle.swim_wire.specs.declared.fault.WireFault.{WireFault}
-use Rattle.swim_wire.specs.declared.fault.WireFault.TheVariants.{Ended, Memory, NameEmpty, BadAddress, BadVersions, WrongType, BadState, TooManyNodes, UserTooLong, Trailing}
+use Rattle.swim_wire.specs.declared.fault.WireFault.TheVariants.{Ended, Memory, NameEmpty, BadAddress, BadVersions}
+use Rattle.swim_wire.specs.declared.fault.WireFault.TheVariants.{WrongType, BadState, TooManyNodes, UserTooLong}
+use Rattle.swim_wire.specs.declared.fault.WireFault.TheVariants.{Trailing}
 use Rattle.swim_wire.specs.Asking.{DatagramAsks}
 use Rattle.swim_wire.specs.Checks.{BeginsWith, IsNoPacketType, ReasonForWhole}
 use Rattle.swim_wire.specs.Fault.{fault_of_pack}

@@ -7,7 +7,11 @@ use Rattle.swim_pack.specs.declared.fault.PackFault.TheVariants as packs
 use Rattle.swim_pack.specs.declared.fault.PullFault.{PullFault}
 use Rattle.swim_pack.specs.declared.fault.PullFault.TheVariants as pulls
 use Rattle.swim_wire.specs.declared.fault.WireFault.{WireFault}
-use Rattle.swim_wire.specs.declared.fault.WireFault.TheVariants.{Ended, NotUnsigned, OutOfRange, NotBool, NotRaw, TooLong, NotMap, MapCount, Fault, Memory, NameEmpty, BadAddress, BadVersions, WrongType, UnknownKey, DuplicateKey, BadState, TooManyNodes, UserTooLong, Trailing}
+use Rattle.swim_wire.specs.declared.fault.WireFault.TheVariants.{Ended, NotUnsigned, OutOfRange, NotBool, NotRaw}
+use Rattle.swim_wire.specs.declared.fault.WireFault.TheVariants.{TooLong, NotMap, MapCount, Fault, Memory, NameEmpty}
+use Rattle.swim_wire.specs.declared.fault.WireFault.TheVariants.{BadAddress, BadVersions, WrongType, UnknownKey}
+use Rattle.swim_wire.specs.declared.fault.WireFault.TheVariants.{DuplicateKey, BadState, TooManyNodes, UserTooLong}
+use Rattle.swim_wire.specs.declared.fault.WireFault.TheVariants.{Trailing}
 
 -- the number that identifies a fault in reports
 abbrev pub wire_number : WireFault → ℕ

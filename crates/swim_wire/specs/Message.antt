@@ -6,7 +6,10 @@ use Rattle.swim_wire.specs.declared.message.Accusation.{Accusation}
 use Rattle.swim_wire.specs.declared.message.PushPullHeader.{PushPullHeader}
 use Rattle.swim_wire.specs.declared.message.PushNodeState.{PushNodeState}
 use Rattle.swim_wire.specs.InOrder.{state_slots, alive_slots, accusation_slots, header_slots}
-use Rattle.swim_wire.specs.Places.{alive_addr, alive_incarnation, alive_meta, alive_node, alive_port, alive_vsn, accusation_from, accusation_incarnation, accusation_node, header_join, header_nodes, header_user_state_len, state_addr, state_incarnation, state_meta, state_name, state_port, state_state, state_vsn}
+use Rattle.swim_wire.specs.Places.{alive_addr, alive_incarnation, alive_meta, alive_node, alive_port, alive_vsn}
+use Rattle.swim_wire.specs.Places.{accusation_from, accusation_incarnation, accusation_node, header_join, header_nodes}
+use Rattle.swim_wire.specs.Places.{header_user_state_len, state_addr, state_incarnation, state_meta, state_name}
+use Rattle.swim_wire.specs.Places.{state_port, state_state, state_vsn}
 use Rattle.swim_wire.specs.Reading.{Slots, number_in, raw_in, flag_in}
 
 -- memberlist's alive

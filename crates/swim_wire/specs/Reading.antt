@@ -1,5 +1,6 @@
 -- The readings of messages, one field at a time.
-use Rattle.std.specs.Prelude.{◌≡◌, ◌⊎◌, ℕ, zero, suc, nat_lt, ◌==◌, ◌||◌, Bool, true, false, List, [], ◌∷◌, length, Option, Some, None, Result, Ok, Err, if◌then◌else◌, position, slice_index_or, slice_set}
+use Rattle.std.specs.Prelude.{◌≡◌, ◌⊎◌, ℕ, zero, suc, nat_lt, ◌==◌, ◌||◌, Bool, true, false, List, [], ◌∷◌, length}
+use Rattle.std.specs.Prelude.{Option, Some, None, Result, Ok, Err, if◌then◌else◌, position, slice_index_or, slice_set}
 use Rattle.std.specs.Result.{result_ok}
 use Rattle.std.specs.Str.{bytes_eq}
 use Rattle.swim_claim.specs.declared.claim.Claim.{Claim}
@@ -10,15 +11,21 @@ use Rattle.swim_pack.specs.Composing.Cause.{by_end, by_bytes, by_inlet, by_memor
 use Rattle.swim_pack.specs.Composing as composing
 use Rattle.swim_pack.specs.Reading.{next_byte, uint_at, flag_at, raw_at, count_at}
 use Rattle.swim_wire.specs.declared.fault.WireFault.{WireFault}
-use Rattle.swim_wire.specs.declared.fault.WireFault.TheVariants.{Ended, Fault, Memory, NameEmpty, BadAddress, BadVersions, WrongType, UnknownKey, DuplicateKey, BadState, TooManyNodes, UserTooLong, Trailing}
+use Rattle.swim_wire.specs.declared.fault.WireFault.TheVariants.{Ended, Fault, Memory, NameEmpty, BadAddress}
+use Rattle.swim_wire.specs.declared.fault.WireFault.TheVariants.{BadVersions, WrongType, UnknownKey, DuplicateKey}
+use Rattle.swim_wire.specs.declared.fault.WireFault.TheVariants.{BadState, TooManyNodes, UserTooLong, Trailing}
 use Rattle.swim_wire.specs.declared.layout.Limit.{Limit}
 use Rattle.swim_wire.specs.declared.layout.Limit.TheVariants as limits
 use Rattle.swim_wire.specs.declared.state_record.StateRecord.{StateRecord}
 use Rattle.swim_wire.specs.declared.stream.Header.{Header}
 use Rattle.swim_wire.specs.Fault.{fault_of_pack, fault_of_key}
-use Rattle.swim_wire.specs.Layout.{Layout, Spelled, number_or_zero, raw_or_empty, flag_or_false, alive_layout, accusation_layout, header_layout, state_layout}
+use Rattle.swim_wire.specs.Layout.{Layout, Spelled, number_or_zero, raw_or_empty, flag_or_false, alive_layout}
+use Rattle.swim_wire.specs.Layout.{accusation_layout, header_layout, state_layout}
 use Rattle.swim_wire.specs.Limits.{max_nodes, max_user_state_len}
-use Rattle.swim_wire.specs.Places.{alive_addr, alive_incarnation, alive_meta, alive_node, alive_port, alive_vsn, accusation_from, accusation_incarnation, accusation_node, header_join, header_nodes, header_user_state_len, state_addr, state_incarnation, state_meta, state_name, state_port, state_state, state_vsn}
+use Rattle.swim_wire.specs.Places.{alive_addr, alive_incarnation, alive_meta, alive_node, alive_port, alive_vsn}
+use Rattle.swim_wire.specs.Places.{accusation_from, accusation_incarnation, accusation_node, header_join, header_nodes}
+use Rattle.swim_wire.specs.Places.{header_user_state_len, state_addr, state_incarnation, state_meta, state_name}
+use Rattle.swim_wire.specs.Places.{state_port, state_state, state_vsn}
 use Rattle.swim_wire.specs.Layout.Spelled.{number, raw, flag}
 use Rattle.swim_wire.specs.Packet.{PacketValue}
 

@@ -1,7 +1,8 @@
 //! Messages that make no claim.
 
 ghost use Rattle.std.specs.Prelude.{◌≡◌, ◌≢◌, ◌≤◌, length, Some, IfOk, IfErr};
-ghost use Rattle.swim_wire.specs.Claimless.{ClaimlessText, IsReadUnlessMemory, claimless_kind, whole_map, whole_body, whole_claimless, claimless_layout};
+ghost use Rattle.swim_wire.specs.Claimless.{ClaimlessText, IsReadUnlessMemory, claimless_kind, whole_map, whole_body};
+ghost use Rattle.swim_wire.specs.Claimless.{whole_claimless, claimless_layout};
 ghost use Rattle.swim_wire.specs.Reading.{AnswersUnlessMemory};
 ghost use Rattle.swim_wire.specs.Slots.{layout_of};
 ghost use Rattle.swim_wire.specs.declared.map.TheConstants.{SLOTS};

@@ -5,8 +5,10 @@ ghost use Rattle.std.specs.Prelude.{◌≡◌, ◌≢◌, ◌≤◌, [], Ok, len
 ghost use Rattle.swim_claim.specs.Limits.{max_meta_len, max_name_len};
 ghost use Rattle.swim_pack.specs.Composing.{same};
 ghost use Rattle.swim_wire.specs.Limits.{max_nodes, max_user_state_len};
-ghost use Rattle.swim_wire.specs.Message.{IsShortAlive, IsShortAccusation, IsShortState, slots_of_alive, slots_of_accusation, slots_of_header, slots_of_state};
-ghost use Rattle.swim_wire.specs.Reading.{AnswersUnlessMemory, with_name, with_details, alive_of, suspect_of, dead_of, header_of, state_of, told_of, record_of};
+ghost use Rattle.swim_wire.specs.Message.{IsShortAlive, IsShortAccusation, IsShortState, slots_of_alive};
+ghost use Rattle.swim_wire.specs.Message.{slots_of_accusation, slots_of_header, slots_of_state};
+ghost use Rattle.swim_wire.specs.Reading.{AnswersUnlessMemory, with_name, with_details, alive_of, suspect_of, dead_of};
+ghost use Rattle.swim_wire.specs.Reading.{header_of, state_of, told_of, record_of};
 
 use crate::WireFault;
 use crate::message::{Accusation, Alive, PushNodeState, PushPullHeader};

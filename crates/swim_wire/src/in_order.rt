@@ -12,8 +12,10 @@ ghost use Rattle.swim_wire.specs.Checks.{ReasonForStart};
 ghost use Rattle.swim_wire.specs.Layout.{alive_layout, state_layout, accusation_layout, header_layout};
 ghost use Rattle.swim_wire.specs.Layout.Spelled.{number, raw, flag};
 ghost use Rattle.swim_wire.specs.Limits.{max_nodes, max_user_state_len};
-ghost use Rattle.swim_wire.specs.Message.{IsShortAlive, IsShortAccusation, IsShortState, slots_of_alive, slots_of_accusation, slots_of_header, slots_of_state};
-ghost use Rattle.swim_wire.specs.Reading.{wire_cause, value_at, map_at, state_at, alive_at, suspect_at, dead_at, header_at, nothing_after, whole_packet, AnswersUnlessMemory};
+ghost use Rattle.swim_wire.specs.Message.{IsShortAlive, IsShortAccusation, IsShortState, slots_of_alive};
+ghost use Rattle.swim_wire.specs.Message.{slots_of_accusation, slots_of_header, slots_of_state};
+ghost use Rattle.swim_wire.specs.Reading.{wire_cause, value_at, map_at, state_at, alive_at, suspect_at, dead_at};
+ghost use Rattle.swim_wire.specs.Reading.{header_at, nothing_after, whole_packet, AnswersUnlessMemory};
 
 use crate::WireFault;
 use crate::claims::{

@@ -1,6 +1,7 @@
 //! The fields of messages, with memberlist's names, before the message is checked as a whole.
 
-ghost use Rattle.swim_wire.specs.Message.{HasAliveFields, HasAccusationFields, HasHeaderFields, HasStateFields, IsShortAlive, IsShortAccusation, IsShortState};
+ghost use Rattle.swim_wire.specs.Message.{HasAliveFields, HasAccusationFields, HasHeaderFields, HasStateFields};
+ghost use Rattle.swim_wire.specs.Message.{IsShortAlive, IsShortAccusation, IsShortState};
 ghost use Rattle.swim_wire.specs.Slots.{FitsEach, slots_of};
 
 use crate::layout::{ACCUSATION, ALIVE, HEADER, STATE};

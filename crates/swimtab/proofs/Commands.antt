@@ -39,7 +39,8 @@ found_verb m words n rows name =
     (stop_after (built program).top.rules (names_of (built program)) (argument_words program words))
     (ap (option_map (λ p. p.0)) (sym rows) ∙ names_agree (out-ArgMatches m).subcommand ∙ sym name))
 
-asked : (o : Option (Text × List Row)) (n : Text) (rows : List Row) (choice : Choice) → option_map (λ p. p.0) o ≡ Some n → option_map (λ p. p.1) o ≡ Some rows
+asked : (o : Option (Text × List Row)) (n : Text) (rows : List Row) (choice : Choice)
+    → option_map (λ p. p.0) o ≡ Some n → option_map (λ p. p.1) o ≡ Some rows
     → verb_of n ≡ Some choice.verb → choice.files ≡ unwrap_or (all_of (codes "FILE") rows) [] → ParsesTo o choice
 asked None n rows choice name found verb files = absurd cc
 asked (Some p) n rows choice name found verb files =
@@ -48,8 +49,10 @@ asked (Some p) n rows choice name found verb files =
     (ap verb_of first ∙ verb, files ∙ ap (λ r. unwrap_or (all_of (codes "FILE") r) []) (sym second))
 
 -- what is chosen is what the words ask for
-pub asks : (m : ArgMatches) (words : List Text) (n : Text) (rows : List Row) (choice : Choice) → subcommand_rows_of m ≡ subcommand_of program words
+pub asks : (m : ArgMatches) (words : List Text) (n : Text) (rows : List Row) (choice : Choice)
+    → subcommand_rows_of m ≡ subcommand_of program words
     → Some n ≡ subcommand_name_of m → Some rows ≡ option_map (λ p. p.1) (subcommand_rows_of m)
-    → verb_of n ≡ Some choice.verb → choice.files ≡ unwrap_or (all_of (codes "FILE") rows) [] → ParsesTo (subcommand_of program words) choice
+    → verb_of n ≡ Some choice.verb → choice.files ≡ unwrap_or (all_of (codes "FILE") rows) []
+    → ParsesTo (subcommand_of program words) choice
 asks m words n rows choice is name found verb files =
     rw (sym is) (asked (subcommand_rows_of m) n rows choice (names_agree (out-ArgMatches m).subcommand ∙ sym name) (sym found) verb files)

@@ -1,5 +1,6 @@
 -- The number of records of a table: at most that of the claims made, and of the bytes of its dump.
-use Rattle.std.proofs.Common.{◌≡◌, ℕ, ◌<◌, ◌≤◌, ◌+◌, Bool, true, false, if◌then◌else◌, Option, Some, None, List, [], ◌∷◌, length, refl, length-append, arith}
+use Rattle.std.proofs.Common.{◌≡◌, ℕ, ◌<◌, ◌≤◌, ◌+◌, Bool, true, false, if◌then◌else◌, Option, Some, None, List, []}
+use Rattle.std.proofs.Common.{◌∷◌, length, refl, length-append, arith}
 use Rattle.std.specs.List.{flat_map}
 use Rattle.std.specs.Option.{option_to_list}
 use Rattle.std.specs.Ordering.{is_gt}
@@ -21,7 +22,8 @@ use Rattle.swimtab.specs.Looping.{FitsLoop}
 
 -- ---- as claims
 
-beside_either : (first : Bool) (c d : Claim) → length (beside_home (if first then d else c)) ≤ length (beside_home c) + length (beside_home d)
+beside_either : (first : Bool) (c d : Claim)
+    → length (beside_home (if first then d else c)) ≤ length (beside_home c) + length (beside_home d)
 beside_either true c d = omega arith
 beside_either false c d = omega arith
 
@@ -54,11 +56,22 @@ records_put [] s = omega (arith, length-append (kept s) [])
 records_put (entry ∷ rest) s = by_place (records_put rest s) (name_cmp (name_of s.top) (name_of entry.top))
   where
     by_place : length (Reduced (put rest s)) ≤ length (Reduced rest) + length (kept s) → (o : Ordering)
-        → length (Reduced (by_order o (s ∷ entry ∷ rest) (combined entry s ∷ rest) (entry ∷ put rest s))) ≤ length (Reduced (entry ∷ rest)) + length (kept s)
+        → length (Reduced (by_order o (s ∷ entry ∷ rest) (combined entry s ∷ rest)
+        (entry ∷ put rest s))) ≤ length (Reduced (entry ∷ rest)) + length (kept s)
     by_place later Less = omega (arith, length-append (kept s) (Reduced (entry ∷ rest)))
     by_place later Equal =
-        omega (arith, kept_combined entry s, length-append (kept (combined entry s)) (Reduced rest), length-append (kept entry) (Reduced rest))
-    by_place later Greater = omega (arith, later, length-append (kept entry) (Reduced (put rest s)), length-append (kept entry) (Reduced rest))
+        omega (
+          arith,
+          kept_combined entry s,
+          length-append (kept (combined entry s)) (Reduced rest),
+          length-append (kept entry) (Reduced rest),
+        )
+    by_place later Greater = omega (
+      arith,
+      later,
+      length-append (kept entry) (Reduced (put rest s)),
+      length-append (kept entry) (Reduced rest),
+    )
 
 -- each claim adds at most one record
 records_of : (claims : List Claim) → length (Reduced (table_of claims)) ≤ length claims
@@ -66,7 +79,8 @@ records_of [] = omega arith
 records_of (c ∷ claims) = omega (arith, records_of claims, records_put (table_of claims) (standing_of c), kept_one c)
 
 -- the table of one stream has few enough records
-pub stream_few : (file : List ℕ) (claims : List Claim) (table : Entries) → FileClaims file claims → TableOf table claims → ¬ HasTooMany table
+pub stream_few : (file : List ℕ) (claims : List Claim) (table : Entries) → FileClaims file claims
+    → TableOf table claims → ¬ HasTooMany table
 stream_few file claims table made h many =
     let text = made.1 in
     let same = TableOf-unique table (table_of claims) claims claims h (TableOf-table_of claims) (λ c. (λ m. m, λ m. m)) in
@@ -95,5 +109,6 @@ fits_few table fits many =
       fits,
       many,
       a_byte_each (Reduced table),
-      length-append (header_bytes (record { nodes = length (Reduced table); user_len = 0; join = false })) (flat_map state_bytes (Reduced table)),
+      length-append (header_bytes (record { nodes = length (Reduced table); user_len = 0; join = false }))
+          (flat_map state_bytes (Reduced table)),
     )

@@ -1,5 +1,7 @@
 -- The claims of files, one file after another.
-use Rattle.std.proofs.Common.{◌≡◌, ◌≢◌, Result, Ok, Err, IfOk, ℕ, ◌<◌, ◌≤◌, ◌⊎◌, inl, inr, Bool, List, [], ◌∷◌, ◌++◌, length, map, take, drop, get_or, refl, sym, ap, subst, ◌∙◌, append_assoc, append-nil, zero, suc, ◌+◌, arith}
+use Rattle.std.proofs.Common.{◌≡◌, ◌≢◌, Result, Ok, Err, IfOk, ℕ, ◌<◌, ◌≤◌, ◌⊎◌, inl, inr, Bool, List, [], ◌∷◌, ◌++◌}
+use Rattle.std.proofs.Common.{length, map, take, drop, get_or, refl, sym, ap, subst, ◌∙◌, append_assoc, append-nil}
+use Rattle.std.proofs.Common.{zero, suc, ◌+◌, arith}
 use Rattle.std.specs.Prelude.{None}
 use Rattle.std.proofs.Math.ListN.{get_or-map}
 use Rattle.std.proofs.lemmas.List.{length-map, length-take-le, take_all}
@@ -62,8 +64,13 @@ read_alone (Err report) file h = tt
 pub FilesClaims-push : (files : List (List ℕ)) (file : List ℕ) (claims own : List Claim) → FilesClaims files claims
     → FileClaims file own → FilesClaims (files ++ file ∷ []) (claims ++ own)
 FilesClaims-push [] file claims own each h = (own, [], h, refl, ap (λ t. t ++ own) each ∙ sym (append-nil own))
-FilesClaims-push (first ∷ files) file claims own each h =
-    (each.0, each.1 ++ own, each.2, FilesClaims-push files file each.1 own each.3 h, ap (λ t. t ++ own) each.4 ∙ append_assoc each.0 each.1 own)
+FilesClaims-push (first ∷ files) file claims own each h = (
+  each.0,
+  each.1 ++ own,
+  each.2,
+  FilesClaims-push files file each.1 own each.3 h,
+  ap (λ t. t ++ own) each.4 ∙ append_assoc each.0 each.1 own,
+)
 
 -- a list up to an index, the element there, and what follows
 pub parts_at : {A : Type 0} (xs : List A) (n : ℕ) (d : A) → n < length xs → xs ≡ take n xs ++ get_or xs n d ∷ drop (suc n) xs
@@ -72,7 +79,8 @@ parts_at (x ∷ xs) zero d l = refl
 parts_at (x ∷ xs) (suc n) d l = ap (λ t. x ∷ t) (parts_at xs n d (omega arith))
 
 -- the file at an index
-at_place : {V : Type 0} (f : V → List ℕ) (files : List V) (k : ℕ) (v : V) (file : List ℕ) → k < length files → v ≡ get_or files k v → file ≡ f v
+at_place : {V : Type 0} (f : V → List ℕ) (files : List V) (k : ℕ) (v : V) (file : List ℕ) → k < length files
+    → v ≡ get_or files k v → file ≡ f v
     → map f files ≡ take k (map f files) ++ file ∷ drop (suc k) (map f files)
 at_place f files k v file l here is =
     let same : get_or (map f files) k (f v) ≡ file = get_or-map f files k v ∙ ap f (sym here) ∙ sym is in
@@ -117,17 +125,20 @@ wrong_at f files k v file claims report l here is short right place why = elim w
 ]
 
 -- one more file is short
-pub short_push : {V : Type 0} (f : V → List ℕ) (files : List V) (k : ℕ) (v : V) (file : List ℕ) → k < length files → v ≡ get_or files k v → file ≡ f v
+pub short_push : {V : Type 0} (f : V → List ℕ) (files : List V) (k : ℕ) (v : V) (file : List ℕ)
+    → k < length files → v ≡ get_or files k v → file ≡ f v
     → AreShortFiles (take k (map f files)) → length file ≤ 268435456 → AreShortFiles (take (k + 1) (map f files))
 short_push f files k v file l here is short own =
-    subst AreShortFiles (sym (one_more f files k v file l here is)) (All-push (λ t. length t ≤ 268435456) (take k (map f files)) file short own)
+    subst AreShortFiles (sym (one_more f files k v file l here is))
+    (All-push (λ t. length t ≤ 268435456) (take k (map f files)) file short own)
 
 -- one more file makes its claims
 pub claims_push : {V : Type 0} (f : V → List ℕ) (files : List V) (k : ℕ) (v : V) (file : List ℕ) (claims own : List Claim)
     → k < length files → v ≡ get_or files k v → file ≡ f v
     → FilesClaims (take k (map f files)) claims → FileClaims file own → FilesClaims (take (k + 1) (map f files)) (claims ++ own)
 claims_push f files k v file claims own l here is each h =
-    subst (λ t. FilesClaims t (claims ++ own)) (sym (one_more f files k v file l here is)) (FilesClaims-push (take k (map f files)) file claims own each h)
+    subst (λ t. FilesClaims t (claims ++ own)) (sym (one_more f files k v file l here is))
+    (FilesClaims-push (take k (map f files)) file claims own each h)
 
 -- all files
 pub all_files : {V : Type 0} (f : V → List ℕ) (files : List V) (k : ℕ) (P : List (List ℕ) → Type 0) → length files ≤ k → P
@@ -154,7 +165,8 @@ second_long first second report short long e =
 
 pub first_wrong : (first second : List ℕ) (report : Report) → AreShortFiles (first ∷ second ∷ []) → report.place ≡ File 0
     → (report.what ≡ Memory) ⊎ IsNoDump first report.what → AreRefused (first ∷ second ∷ []) report
-first_wrong first second report short place why = wrong_at (λ t. t) (first ∷ second ∷ []) 0 first first [] report (omega arith) refl refl short refl place why
+first_wrong first second report short place why = wrong_at
+    (λ t. t) (first ∷ second ∷ []) 0 first first [] report (omega arith) refl refl short refl place why
 
 pub second_wrong : (first second : List ℕ) (claims : List Claim) (report : Report) → AreShortFiles (first ∷ second ∷ [])
     → FileClaims first claims → report.place ≡ File 1

@@ -1,5 +1,7 @@
 -- The claims of the lines, one line after another.
-use Rattle.std.proofs.Common.{◌≡◌, ◌⊎◌, inl, inr, ℕ, ◌+◌, ◌<◌, List, [], ◌∷◌, ◌++◌, length, map, get_or, Result, Ok, Err, OnOk, IfErr, ◌≢◌, refl, sym, ap, ap₂, subst, ◌∙◌, take, length-take-le, append_assoc, append-nil, zero, suc, drop, arith}
+use Rattle.std.proofs.Common.{◌≡◌, ◌⊎◌, inl, inr, ℕ, ◌+◌, ◌<◌, List, [], ◌∷◌, ◌++◌, length, map, get_or, Result, Ok}
+use Rattle.std.proofs.Common.{Err, OnOk, IfErr, ◌≢◌, refl, sym, ap, ap₂, subst, ◌∙◌, take, length-take-le, append_assoc}
+use Rattle.std.proofs.Common.{append-nil, zero, suc, drop, arith}
 use Rattle.std.specs.List.{enumerate_from}
 use Rattle.std.specs.Str.Lines.{strip_carriage_return}
 use Rattle.std.proofs.lemmas.List.FromFn.{length-enumerate_from, get_or-enumerate_from}
@@ -36,10 +38,12 @@ no_text_claims (digit ∷ digits) bytes claims some e none t =
     none t.1 (subst (λ b. DatagramText b t.1) same t.3)
 
 -- taking in the claims of the packets of a text takes in those of the text
-pub text_taken : {X : Type 0} (text bytes : List ℕ) (old new : Entries) (result : Result X What) → 0 < length text → decode_of text ≡ Ok bytes
+pub text_taken : {X : Type 0} (text bytes : List ℕ) (old new : Entries) (result : Result X What)
+    → 0 < length text → decode_of text ≡ Ok bytes
     → OnOk result ((packets : List PacketValue) × DatagramText bytes packets
     × ((taken : List Claim) → TableOf old taken → TableOf new (taken ++ map (λ p. p.claim) packets)))
-    → OnOk result ((claims : List Claim) × TextClaims text claims × ((taken : List Claim) → TableOf old taken → TableOf new (taken ++ claims)))
+    → OnOk result ((claims : List Claim) × TextClaims text claims
+    × ((taken : List Claim) → TableOf old taken → TableOf new (taken ++ claims)))
 text_taken text bytes old new (Ok done) some e took =
     (map (λ p. p.claim) took.0, text_claims text bytes took.0 (map (λ p. p.claim) took.0) some e took.1 refl, took.2)
 text_taken text bytes old new (Err what) some e took = tt
@@ -68,8 +72,13 @@ text_told text bytes (Err what) e told = λ seen. no_datagram bytes e (told seen
 pub EachLine-push : (lines : List (List ℕ)) (line : List ℕ) (claims own : List Claim) → EachLine lines claims
     → LineClaims line own → EachLine (lines ++ line ∷ []) (claims ++ own)
 EachLine-push [] line claims own each h = (own, [], h, refl, ap (λ t. t ++ own) each ∙ sym (append-nil own))
-EachLine-push (first ∷ lines) line claims own each h =
-    (each.0, each.1 ++ own, each.2, EachLine-push lines line each.1 own each.3 h, ap (λ t. t ++ own) each.4 ∙ append_assoc each.0 each.1 own)
+EachLine-push (first ∷ lines) line claims own each h = (
+  each.0,
+  each.1 ++ own,
+  each.2,
+  EachLine-push lines line each.1 own each.3 h,
+  ap (λ t. t ++ own) each.4 ∙ append_assoc each.0 each.1 own,
+)
 
 -- each line makes claims
 pub EachLine-at : (lines : List (List ℕ)) (n : ℕ) (d : List ℕ) (claims : List Claim) → n < length lines
@@ -89,7 +98,8 @@ no_claims_at lines n index line claims here none each =
     none own.0 (subst (λ l. LineClaims l own.0) (sym same) own.1)
 
 -- a line that makes no claims, after lines that make some
-pub first_wrong : (input : List ℕ) (before : List (List ℕ)) (n index : ℕ) (line : List ℕ) (claims : List Claim) (place : Place) (what : What)
+pub first_wrong : (input : List ℕ) (before : List (List ℕ)) (n index : ℕ) (line : List ℕ)
+    (claims : List Claim) (place : Place) (what : What)
     → before ≡ take n (input_lines input)
     → (n < length (enumerate_from 0 (input_lines input))) × ((index, line) ≡ get_or (enumerate_from 0 (input_lines input)) n (index, line))
     → EachLine before claims → ((own : List Claim) → ¬ LineClaims line own) → TellsText (strip_carriage_return line) what

@@ -1,5 +1,6 @@
 -- Runs of the events of a script, and what is shown of the nodes.
-use Rattle.std.proofs.Common.{◌≡◌, ◌≢◌, ℕ, zero, suc, ◌+◌, ◌<◌, Option, Some, None, List, [], ◌∷◌, ◌++◌, length, map, take, get_or, refl, sym, ap, ap₂, subst, ◌∙◌, arith, length-append, append-nil}
+use Rattle.std.proofs.Common.{◌≡◌, ◌≢◌, ℕ, zero, suc, ◌+◌, ◌<◌, Option, Some, None, List, [], ◌∷◌, ◌++◌, length, map}
+use Rattle.std.proofs.Common.{take, get_or, refl, sym, ap, ap₂, subst, ◌∙◌, arith, length-append, append-nil}
 use Rattle.std.specs.Prelude.{slice_get}
 use Rattle.std.proofs.Math.Seq.{take-append-add}
 use Rattle.std.proofs.lemmas.List.{append_assoc, length-map, take_more, take-append-le, length-take-le}
@@ -30,7 +31,8 @@ use Rattle.swim_script.proofs.ScriptNumbers.{event_line_past}
 -- ---- stops of a run in two parts
 
 -- a run that stops in its first part
-pub stopped_earlier : (old new : List NodeValue) (events more : List Event) (stop : Stop) → Stopped old new events stop → Stopped old new (events ++ more) stop
+pub stopped_earlier : (old new : List NodeValue) (events more : List Event) (stop : Stop)
+    → Stopped old new events stop → Stopped old new (events ++ more) stop
 stopped_earlier old new events more stop s = record {
   before = (let number = length-append events more in let below = s.before in omega (arith, number, below));
   ran = subst (Ran old new) (sym (take-append-le stop.done events more (let below = s.before in omega (arith, below)))) s.ran;
@@ -58,7 +60,8 @@ pub ran_plan : (old mid new : List NodeValue) (events : List Event) (level : Opt
     → Ran old new (plan_events events (length old) level)
 ran_plan old mid new events level line is r s =
     subst (λ (o : Option ℕ). Ran old new (plan_events events (length old) o)) (sym is)
-    (ran-append old mid new events (level_list (length old)) r (subst (λ (n : ℕ). Ran mid new (level_list n)) (length-ran old mid events r) s))
+    (ran-append old mid new events (level_list (length old)) r
+    (subst (λ (n : ℕ). Ran mid new (level_list n)) (length-ran old mid events r) s))
 
 pub stops_plan : (old mid : List NodeValue) (events : List Event) (numbers : List ℕ) (level : Option ℕ) (line : ℕ)
     (report : Report) → level ≡ Some line → length numbers ≡ length events → Ran old mid events
@@ -67,7 +70,8 @@ stops_plan old mid events numbers level line report is count r (new, stop, numbe
   new,
   record { done = length events + stop.done; why = stop.why },
   number,
-  subst (λ (o : Option ℕ). Stopped old new (plan_events events (length old) o) (record { done = length events + stop.done; why = stop.why })) (sym is)
+  subst (λ (o : Option ℕ). Stopped old new (plan_events events (length old) o)
+      (record { done = length events + stop.done; why = stop.why })) (sym is)
       (stopped_later old mid new events (level_list (length old)) stop r
       (subst (λ (n : ℕ). Stopped mid new (level_list n) stop) (length-ran old mid events r) stopped)),
   same,
@@ -105,7 +109,8 @@ shown_more tables k table below is =
 some_same : {X : Type 0} (x y : X) → Some x ≡ Some y → x ≡ y
 some_same x y same = cc (same)
 
-pub started_members : (nodes : List NodeValue) (starts : List Start) → AreStarted nodes starts → members_of nodes ≡ map started_member starts
+pub started_members : (nodes : List NodeValue) (starts : List Start) → AreStarted nodes starts
+    → members_of nodes ≡ map started_member starts
 started_members [] [] are = refl
 started_members [] (start ∷ starts) are = absurd are
 started_members (node ∷ nodes) [] are = absurd are
@@ -113,7 +118,8 @@ started_members (node ∷ nodes) (start ∷ starts) are =
     let same : node_member node ≡ started_member start = (λ i. record { name = are.0.0 i; details = are.0.1 i }) in
     ap₂ (λ (m : Member) (l : List Member). m ∷ l) same (started_members nodes starts are.1)
 
-started_at : (nodes : List NodeValue) (starts : List Start) → AreStarted nodes starts → (k : ℕ) (node : NodeValue) → slice_get nodes k ≡ Some node
+started_at : (nodes : List NodeValue) (starts : List Start) → AreStarted nodes starts
+    → (k : ℕ) (node : NodeValue) → slice_get nodes k ≡ Some node
     → TableOf node.table (heard_by (map start_claims starts) k)
 started_at [] starts are k node at = absurd (let no = at in cc (no))
 started_at (first ∷ nodes) [] are k node at = absurd are
@@ -133,8 +139,14 @@ pub each_table : (nodes : List NodeValue) (lists : List (List Claim)) → Tables
 each_table [] [] h = tt
 each_table [] (claims ∷ rest) h = (let number = h.number in absurd (omega (arith, number)))
 each_table (node ∷ nodes) [] h = (let number = h.number in absurd (omega (arith, number)))
-each_table (node ∷ nodes) (claims ∷ rest) h =
-    (h.each 0 node refl, each_table nodes rest (record { number = (let number = h.number in omega (arith, number)); each = λ k other at. h.each (suc k) other at }))
+each_table (node ∷ nodes) (claims ∷ rest) h = (
+  h.each 0 node refl,
+  each_table nodes rest
+      (record {
+        number = (let number = h.number in omega (arith, number));
+        each = λ k other at. h.each (suc k) other at;
+      }),
+)
 
 -- what the nodes have heard
 tables_after : (nodes new : List NodeValue) (starts : List Start) (events : List Event) → AreStarted nodes starts
@@ -167,8 +179,12 @@ replayed input text nodes new starts events are script r shown = record {
 
 refuses_so : (new : List NodeValue) (lists : List (List Claim)) (event : Event) (cause : Why) → TablesOf new lists
     → StopsBy new event cause → Refuses lists event (what_of_why cause)
-refuses_so new lists event why.NoSuchNode h stops =
-    (λ same. subst (λ (n : ℕ). ¬ NamesNodes n event) (sym h.number) stops, λ other. absurd (omega (arith, other)), λ other. absurd (omega (arith, other)), refl)
+refuses_so new lists event why.NoSuchNode h stops = (
+  λ same. subst (λ (n : ℕ). ¬ NamesNodes n event) (sym h.number) stops,
+  λ other. absurd (omega (arith, other)),
+  λ other. absurd (omega (arith, other)),
+  refl,
+)
 refuses_so new lists event why.SameNode h stops = (
   λ other. absurd (omega (arith, other)),
   λ same. (subst (λ (n : ℕ). NamesNodes n event) (sym h.number) stops.0, stops.1),

@@ -21,7 +21,8 @@ unfolding clap_on_literals
 program_is_free = refl
 
 -- the choice is what the arguments ask for, if they name the command
-pub asks_stream : (o : Option (Text × List Row)) (flags rows : List Row) (choice : Choice) → Some rows ≡ option_map (λ p. p.1) o → choice.verb ≡ verb.Stream
+pub asks_stream : (o : Option (Text × List Row)) (flags rows : List Row) (choice : Choice)
+    → Some rows ≡ option_map (λ p. p.1) o → choice.verb ≡ verb.Stream
     → choice.files ≡ at_most_one (first_of (codes "FILE") rows) → choice.key_files ≡ key_words flags ++ key_words rows
     → choice.clear ≡ either (clear_of flags) (clear_of rows) → ParsesTo o flags choice
 asks_stream None flags rows choice found verb files keys clear = absurd cc
@@ -34,9 +35,16 @@ asks_stream (Some p) flags rows choice found verb files keys clear =
     )
 
 -- and if they do not
-pub asks_lines : (o : Option (Text × List Row)) (flags rows : List Row) (choice : Choice) → None ≡ option_map (λ (p : Text × List Row). p.1) o → rows ≡ flags
-    → choice.verb ≡ verb_of rows → choice.files ≡ [] → choice.key_files ≡ key_words rows → choice.clear ≡ clear_of rows → ParsesTo o flags choice
-asks_lines None flags rows choice none same verb files keys clear = (verb ∙ ap verb_of same, files, keys ∙ ap key_words same, clear ∙ ap clear_of same)
+pub asks_lines : (o : Option (Text × List Row)) (flags rows : List Row) (choice : Choice)
+    → None ≡ option_map (λ (p : Text × List Row). p.1) o → rows ≡ flags
+    → choice.verb ≡ verb_of rows → choice.files ≡ [] → choice.key_files ≡ key_words rows
+    → choice.clear ≡ clear_of rows → ParsesTo o flags choice
+asks_lines None flags rows choice none same verb files keys clear = (
+  verb ∙ ap verb_of same,
+  files,
+  keys ∙ ap key_words same,
+  clear ∙ ap clear_of same,
+)
 asks_lines (Some p) flags rows choice none same verb files keys clear = absurd cc
 
 -- ---- a flag, from what `clap` returns

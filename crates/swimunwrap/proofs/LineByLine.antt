@@ -1,5 +1,6 @@
 -- The outcome of lines, one line after the other.
-use Rattle.std.proofs.Common.{◌≡◌, ℕ, zero, suc, ◌+◌, ◌<◌, Bool, List, [], ◌∷◌, ◌++◌, length, take, get_or, refl, ap, ap₂, ◌∙◌, sym, subst, append_assoc, length-take-le, arith}
+use Rattle.std.proofs.Common.{◌≡◌, ℕ, zero, suc, ◌+◌, ◌<◌, Bool, List, [], ◌∷◌, ◌++◌, length, take, get_or, refl, ap}
+use Rattle.std.proofs.Common.{ap₂, ◌∙◌, sym, subst, append_assoc, length-take-le, arith}
 use Rattle.std.specs.List.{enumerate_from}
 use Rattle.std.proofs.lemmas.List.FromFn.{length-enumerate_from, get_or-enumerate_from}
 use Rattle.std.proofs.Math.Seq.{take-suc}
@@ -54,7 +55,8 @@ pub AllBecome-next : (policy : InTheClear) (keys : List (List ℕ)) (skip : Bool
     (line text own : List ℕ) (causes first : List Cause) → before ≡ take n lines
     → (n < length (enumerate_from 0 lines)) × ((index, line) ≡ get_or (enumerate_from 0 lines) n (index, line))
     → AllBecome policy keys skip before text causes → Becomes policy keys skip line own first
-    → (before ++ line ∷ [] ≡ take (suc n) lines) × AllBecome policy keys skip (before ++ line ∷ []) (parted index text ++ own) (causes ++ first)
+    → (before ++ line ∷ [] ≡ take (suc n) lines)
+    × AllBecome policy keys skip (before ++ line ∷ []) (parted index text ++ own) (causes ++ first)
 AllBecome-next policy keys skip lines before n index line text own causes first front here each h =
     let within : n < length lines = omega (arith, here.0, length-enumerate_from 0 lines) in
     let at : (index, line) ≡ (0 + n, get_or lines n line) = here.1 ∙ get_or-enumerate_from 0 lines n (index, line) within in
@@ -69,4 +71,10 @@ pub too_long : (policy : InTheClear) (keys : List (List ℕ)) (skip : Bool) (lim
     (causes : List Cause) → before ≡ take (suc n) lines
     → AllBecome policy keys skip before text causes → limit < length text → BecomeTooLong policy keys skip limit lines
 too_long policy keys skip limit n lines before text causes front each long =
-    record { count = suc n; text = text; causes = causes; become = subst (λ b. AllBecome policy keys skip b text causes) front each; long = long }
+    record {
+      count = suc n;
+      text = text;
+      causes = causes;
+      become = subst (λ b. AllBecome policy keys skip b text causes) front each;
+      long = long;
+    }

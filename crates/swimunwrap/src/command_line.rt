@@ -1,9 +1,11 @@
 //! The command line arguments.
 
 ghost use Rattle.std.specs.Prelude.{◌≡◌, true, false, [], codes, map, string_bytes, IfOk, IfErr};
-ghost use Rattle.clap.specs.Words.{app_of, fault_of, found_of, rows_of, first_of, matches_of, rule_of, takes, subcommand_of, with_subcommand};
+ghost use Rattle.clap.specs.Words.{app_of, fault_of, found_of, rows_of, first_of, matches_of, rule_of, takes};
+ghost use Rattle.clap.specs.Words.{subcommand_of, with_subcommand};
 ghost use Rattle.swim_program.specs.Words.{IsRefusal};
-ghost use Rattle.swimunwrap.specs.Words.{program, bare, key_rule, clear_rule, stream_command, at_most_one, is_true, verb_of, clear_of, either, ParsesTo};
+ghost use Rattle.swimunwrap.specs.Words.{program, bare, key_rule, clear_rule, stream_command, at_most_one, is_true};
+ghost use Rattle.swimunwrap.specs.Words.{verb_of, clear_of, either, ParsesTo};
 
 use crate::help;
 use crate::verb::{Chosen, Verb};

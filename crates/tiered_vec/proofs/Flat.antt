@@ -1,8 +1,12 @@
 -- Blocks one after another, and what an edit of a block does to the list of all elements.
-use Rattle.std.proofs.Common.{◌≡◌, ℕ, max, min, ◌/◌, zero, suc, ◌+◌, ◌-◌, ◌*◌, ◌<◌, ◌≤◌, List, [], ◌∷◌, ◌++◌, All, Some, slice_get, length, get_or, set, take, drop, refl, sym, ap, subst, ◌∙◌, arith, length-append, append_assoc}
+use Rattle.std.proofs.Common.{◌≡◌, ℕ, max, min, ◌/◌, zero, suc, ◌+◌, ◌-◌, ◌*◌, ◌<◌, ◌≤◌, List, [], ◌∷◌, ◌++◌, All, Some}
+use Rattle.std.proofs.Common.{slice_get, length, get_or, set, take, drop, refl, sym, ap, subst, ◌∙◌, arith}
+use Rattle.std.proofs.Common.{length-append, append_assoc}
 use Rattle.std.specs.List.{insert}
 use Rattle.std.proofs.lemmas.Option.{slice_get-get_or}
-use Rattle.std.proofs.lemmas.List.{take-append-drop, length-take-le, length-drop, take_all, length-set, get_or_default, get_or_push, take_at, set_at, append-nil, length-map, set-append_left, set-append_right}
+use Rattle.std.proofs.lemmas.List.{take-append-drop, length-take-le, length-drop, take_all, length-set, get_or_default}
+use Rattle.std.proofs.lemmas.List.{get_or_push, take_at, set_at, append-nil, length-map, set-append_left}
+use Rattle.std.proofs.lemmas.List.{set-append_right}
 use Rattle.std.specs.declared.vec.Vec.{Vec}
 use Rattle.std.specs.Vec.{with_item}
 use Rattle.tiered_vec.specs.Sound.{shape, HasRoom, IsSound}
@@ -11,17 +15,21 @@ use Rattle.std.proofs.lemmas.List.Concat.{flat_map-append, get_or-flat_map}
 use Rattle.std.proofs.lemmas.List.Edits.{insert-append_left, insert-append_right, length-insert}
 use Rattle.std.proofs.lemmas.List.Elements.{All-cons, All-head, All-tail, All-set, All-get_or, All-push}
 use Rattle.tiered_vec.specs.Place.{Position}
-use Rattle.tiered_vec.specs.Tiers.{Tiers, room, with_item_at, flatten, start, block_at, cut, overfull, load, IsBlock, IsGap, IsPlace, IsOpened, index_of, block_size, half_size}
+use Rattle.tiered_vec.specs.Tiers.{Tiers, room, with_item_at, flatten, start, block_at, cut, overfull, load, IsBlock}
+use Rattle.tiered_vec.specs.Tiers.{IsGap, IsPlace, IsOpened, index_of, block_size, half_size}
 
 module _ {X : Type 0} where
   -- the elements are those before a block, those in it, and those after it
-  pub flatten-parts : (s : List (List X)) (k : ℕ) → k < length s → flatten s ≡ flatten (take k s) ++ (block_at s k ++ flatten (drop (suc k) s))
+  pub flatten-parts : (s : List (List X)) (k : ℕ) → k < length s
+      → flatten s ≡ flatten (take k s) ++ (block_at s k ++ flatten (drop (suc k) s))
   flatten-parts [] k h = absurd (omega arith)
   flatten-parts (b ∷ s) zero h = refl
   flatten-parts (b ∷ s) (suc k) h =
-      ap (λ xs. b ++ xs) (flatten-parts s k (omega arith)) ∙ sym (append_assoc b (flatten (take k s)) (block_at s k ++ flatten (drop (suc k) s)))
+      ap (λ xs. b ++ xs) (flatten-parts s k (omega arith))
+      ∙ sym (append_assoc b (flatten (take k s)) (block_at s k ++ flatten (drop (suc k) s)))
 
-  pub flatten-set : (s : List (List X)) (k : ℕ) (c : List X) → k < length s → flatten (set s k c) ≡ flatten (take k s) ++ (c ++ flatten (drop (suc k) s))
+  pub flatten-set : (s : List (List X)) (k : ℕ) (c : List X) → k < length s
+      → flatten (set s k c) ≡ flatten (take k s) ++ (c ++ flatten (drop (suc k) s))
   flatten-set [] k c h = absurd (omega arith)
   flatten-set (b ∷ s) zero c h = refl
   flatten-set (b ∷ s) (suc k) c h =
@@ -48,12 +56,18 @@ module _ {X : Type 0} where
   pub start-suc : (s : List (List X)) (k : ℕ) → k < length s → start s (suc k) ≡ start s k + length (block_at s k)
   start-suc [] k h = absurd (omega arith)
   start-suc (b ∷ s) zero h = omega (arith, length-append b [])
-  start-suc (b ∷ s) (suc k) h = omega (arith, length-append b (flatten (take (suc k) s)), length-append b (flatten (take k s)), start-suc s k (omega arith))
+  start-suc (b ∷ s) (suc k) h = omega (
+    arith,
+    length-append b (flatten (take (suc k) s)),
+    length-append b (flatten (take k s)),
+    start-suc s k (omega arith),
+  )
 
   pub start-all : (s : List (List X)) → start s (length s) ≡ length (flatten s)
   start-all s = ap (λ t. length (flatten t)) (take_all (length s) s (omega arith))
 
-  cut-is : (s : List (List X)) (k : ℕ) → k < length s → insert (set s k (take half_size (block_at s k))) (suc k) (drop half_size (block_at s k)) ≡ cut s k
+  cut-is : (s : List (List X)) (k : ℕ) → k < length s
+      → insert (set s k (take half_size (block_at s k))) (suc k) (drop half_size (block_at s k)) ≡ cut s k
   cut-is [] k h = absurd (omega arith)
   cut-is (b ∷ s) zero h = refl
   cut-is (b ∷ s) (suc k) h = ap (λ t. b ∷ t) (cut-is s k (omega arith))
@@ -66,11 +80,14 @@ module _ {X : Type 0} where
       let b = d ∷ rest in
       let within : k < length s = omega (arith, n) in
       let one : suc k ≡ length s = omega (arith, n) in
-      let long : length (flatten s) ≡ start s k + length (block_at s k) = sym (start-all s) ∙ ap (start s) (sym one) ∙ start-suc s k within in
+      let long : length (flatten s) ≡ start s k + length (block_at s k) = sym (start-all s)
+      ∙ ap (start s) (sym one) ∙ start-suc s k within in
       let at : start s k + (length b - 1) ≡ length (flatten s) - 1 = omega (arith, long, ap length e, h) in
       slice_get-get_or b (length b - 1) d (omega (arith, h))
       ∙ ap Some
-      (ap (λ c. get_or c (length b - 1) d) e ∙ sym (placed s k (length b - 1) d within (omega (arith, ap length e, h))) ∙ ap (λ i. get_or (flatten s) i d) at)
+      (ap (λ c. get_or c (length b - 1) d) e
+      ∙ sym (placed s k (length b - 1) d within (omega (arith, ap length e, h))) ∙ ap
+      (λ i. get_or (flatten s) i d) at)
       ∙ sym (slice_get-get_or (flatten s) (length (flatten s) - 1) d (omega (arith, long, ap length e, h)))
 
   -- cutting a block keeps its lower half and inserts the upper one after it
@@ -82,7 +99,8 @@ module _ {X : Type 0} where
 
   pub flatten-cut : (s : List (List X)) (k : ℕ) → flatten (cut s k) ≡ flatten s
   flatten-cut [] k = refl
-  flatten-cut (b ∷ s) zero = sym (append_assoc (take half_size b) (drop half_size b) (flatten s)) ∙ ap (λ c. c ++ flatten s) (take-append-drop half_size b)
+  flatten-cut (b ∷ s) zero = sym (append_assoc (take half_size b) (drop half_size b) (flatten s)) ∙ ap
+      (λ c. c ++ flatten s) (take-append-drop half_size b)
   flatten-cut (b ∷ s) (suc k) = ap (λ xs. b ++ xs) (flatten-cut s k)
 
   pub length-cut : (s : List (List X)) (k : ℕ) → k < length s → length (cut s k) ≡ length s + 1
@@ -93,7 +111,12 @@ module _ {X : Type 0} where
   pub start-cut : (s : List (List X)) (k : ℕ) → start (cut s k) k ≡ start s k
   start-cut [] k = refl
   start-cut (b ∷ s) zero = refl
-  start-cut (b ∷ s) (suc k) = omega (arith, length-append b (flatten (take k (cut s k))), length-append b (flatten (take k s)), start-cut s k)
+  start-cut (b ∷ s) (suc k) = omega (
+    arith,
+    length-append b (flatten (take k (cut s k))),
+    length-append b (flatten (take k s)),
+    start-cut s k,
+  )
 
   pub lower-cut : (s : List (List X)) (k : ℕ) → k < length s → block_at (cut s k) k ≡ take half_size (block_at s k)
   lower-cut [] k h = absurd (omega arith)
@@ -109,12 +132,20 @@ module _ {X : Type 0} where
   All-cut [] k h full a = absurd (omega arith)
   All-cut (b ∷ s) zero h full a =
       let low : IsBlock (take half_size b) =
-      record { filled = omega (arith, length-take-le half_size b (omega arith)); fits = omega (arith, length-take-le half_size b (omega arith)) } in
-      let high : IsBlock (drop half_size b) = record { filled = omega (arith, length-drop half_size b); fits = omega (arith, length-drop half_size b) } in
+      record {
+        filled = omega (arith, length-take-le half_size b (omega arith));
+        fits = omega (arith, length-take-le half_size b (omega arith));
+      } in
+      let high : IsBlock (drop half_size b) = record {
+        filled = omega (arith, length-drop half_size b);
+        fits = omega (arith, length-drop half_size b);
+      } in
       All-cons IsBlock (take half_size b) (drop half_size b ∷ s) low (All-cons IsBlock (drop half_size b) s high (All-tail IsBlock b s a))
-  All-cut (b ∷ s) (suc k) h full a = All-cons IsBlock b (cut s k) (All-head IsBlock b s a) (All-cut s k (omega arith) full (All-tail IsBlock b s a))
+  All-cut (b ∷ s) (suc k) h full a = All-cons IsBlock b (cut s k) (All-head IsBlock b s a)
+      (All-cut s k (omega arith) full (All-tail IsBlock b s a))
 
-  pub overfull-cut : (s : List (List X)) (k : ℕ) → k < length s → length (block_at s k) ≡ block_size → overfull (cut s k) + half_size ≡ overfull s
+  pub overfull-cut : (s : List (List X)) (k : ℕ) → k < length s → length (block_at s k) ≡ block_size
+      → overfull (cut s k) + half_size ≡ overfull s
   overfull-cut [] k h full = absurd (omega arith)
   overfull-cut (b ∷ s) zero h full = omega (arith, length-take-le half_size b (omega arith), length-drop half_size b)
   overfull-cut (b ∷ s) (suc k) h full = omega (arith, overfull-cut s k (omega arith) full)
@@ -125,12 +156,14 @@ module _ {X : Type 0} where
   load-cut (b ∷ s) (suc k) h full = overfull-cut (b ∷ s) (suc k) h full
 
   -- one more element in a block
-  pub overfull-set : (s : List (List X)) (k : ℕ) (c : List X) → k < length s → length c ≡ length (block_at s k) + 1 → overfull (set s k c) ≤ overfull s + 1
+  pub overfull-set : (s : List (List X)) (k : ℕ) (c : List X) → k < length s
+      → length c ≡ length (block_at s k) + 1 → overfull (set s k c) ≤ overfull s + 1
   overfull-set [] k c h more = absurd (omega arith)
   overfull-set (b ∷ s) zero c h more = omega arith
   overfull-set (b ∷ s) (suc k) c h more = omega (arith, overfull-set s k c (omega arith) more)
 
-  pub load-set : (s : List (List X)) (k : ℕ) (c : List X) → k < length s → length c ≡ length (block_at s k) + 1 → load (set s k c) ≤ load s + 1
+  pub load-set : (s : List (List X)) (k : ℕ) (c : List X) → k < length s
+      → length c ≡ length (block_at s k) + 1 → load (set s k c) ≤ load s + 1
   load-set [] k c h more = absurd (omega arith)
   load-set (b ∷ s) zero c h more = overfull-set (b ∷ s) zero c h more
   load-set (b ∷ s) (suc k) c h more = overfull-set (b ∷ s) (suc k) c h more
@@ -157,7 +190,8 @@ module _ {X : Type 0} (s t : List (List X)) (k : ℕ) (h : k < length s) (full :
     each = λ b good. All-set IsBlock (cut s k) k b good (All-cut s k h full each);
   })
 
-  pub opened-upper : (at : ℕ) → half_size < at → at ≤ block_size → IsOpened s t (start s k + at) (record { block = k + 1; at = at - half_size })
+  pub opened-upper : (at : ℕ) → half_size < at → at ≤ block_size
+      → IsOpened s t (start s k + at) (record { block = k + 1; at = at - half_size })
   unfolding index_of
   opened-upper at high low =
       let n : suc k ≡ k + 1 = omega arith in
@@ -215,7 +249,8 @@ module _ {X : Type 0} (s : List (List X)) (p : Position) where
       by_blocks [] e =
           let none : length s ≡ 0 = omega (arith, ap length e) in
           let here : length (block_at s p.block) ≡ 0 = subst (λ v. length (block_at v p.block) ≡ 0) e refl in
-          let front : length (flatten (take p.block s)) ≡ 0 = subst (λ v. length (flatten (take p.block v)) ≡ 0) e (none_before X p.block) in
+          let front : length (flatten (take p.block s)) ≡ 0 = subst
+          (λ v. length (flatten (take p.block v)) ≡ 0) e (none_before X p.block) in
           omega (arith, h.in_range)
       by_blocks (b ∷ u) e =
           let some : p.block < length s = omega (arith, ap length e, h.in_block) in
@@ -246,7 +281,8 @@ module _ {X : Type 0} where
       → x ≡ get_or b 0 x → (d : X) → x ≡ get_or (flatten s) (start s k) d
   first_of s k b x h e l r d =
       let n : start s k + 0 ≡ start s k = omega arith in
-      r ∙ get_or_default b 0 x d l ∙ ap (λ c. get_or c 0 d) e ∙ sym (placed s k 0 d h (subst (λ c. 0 < length c) e l)) ∙ ap (λ i. get_or (flatten s) i d) n
+      r ∙ get_or_default b 0 x d l ∙ ap (λ c. get_or c 0 d) e
+      ∙ sym (placed s k 0 d h (subst (λ c. 0 < length c) e l)) ∙ ap (λ i. get_or (flatten s) i d) n
 
   pub block_within : (s : List (List X)) (k : ℕ) → k < length s → start s k + length (block_at s k) ≤ length (flatten s)
   block_within s k h =
@@ -318,7 +354,11 @@ module _ {X : Type 0} where
             };
         each =
             subst (All IsBlock) (sym (shape-set bs k c))
-            (All-set IsBlock (shape bs) k c.items (record { filled = omega (arith, same, good.filled); fits = omega (arith, same, good.fits) }) i.each);
+            (All-set IsBlock (shape bs) k c.items
+            (record {
+              filled = omega (arith, same, good.filled);
+              fits = omega (arith, same, good.fits);
+            }) i.each);
         count =
             omega (
               arith,

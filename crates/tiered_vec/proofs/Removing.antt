@@ -1,5 +1,6 @@
 -- What removing an element from a block does to the list of all elements.
-use Rattle.std.proofs.Common.{◌≡◌, ℕ, zero, suc, ◌+◌, ◌-◌, ◌<◌, ◌≤◌, List, [], ◌∷◌, ◌++◌, All, length, set, take, drop, refl, sym, ap, subst, ◌∙◌, arith, get_or-set_same}
+use Rattle.std.proofs.Common.{◌≡◌, ℕ, zero, suc, ◌+◌, ◌-◌, ◌<◌, ◌≤◌, List, [], ◌∷◌, ◌++◌, All, length, set, take, drop}
+use Rattle.std.proofs.Common.{refl, sym, ap, subst, ◌∙◌, arith, get_or-set_same}
 use Rattle.std.specs.List.{remove}
 use Rattle.std.proofs.lemmas.List.{length-set}
 use Rattle.std.proofs.lemmas.List.Edits.{length-remove, remove-append_left, remove-append_right}
@@ -37,7 +38,8 @@ module _ {X : Type 0} where
   remove-set (b ∷ s) (suc k) c = ap (λ t. b ∷ t) (remove-set s k c)
 
   -- the blocks that are left, with or without the one from which it was taken
-  each-without : (s : List (List X)) (k at : ℕ) → at < length (block_at s k) → 1 < length (block_at s k) → length (block_at s k) ≤ block_size
+  each-without : (s : List (List X)) (k at : ℕ) → at < length (block_at s k) → 1 < length (block_at s k)
+      → length (block_at s k) ≤ block_size
       → All IsBlock s → All IsBlock (without s k at)
   each-without s k at a more fits each =
       let n = length-remove (block_at s k) at a in
@@ -71,7 +73,8 @@ module _ {X : Type 0} where
   load-remove (b ∷ c ∷ s) zero = omega arith
   load-remove (b ∷ s) (suc k) = omega (arith, overfull-remove s k)
 
-  block-less : (s : List (List X)) (k : ℕ) (c : List X) (j : ℕ) → length c ≤ length (block_at s k) → length (block_at (set s k c) j) ≤ length (block_at s j)
+  block-less : (s : List (List X)) (k : ℕ) (c : List X) (j : ℕ) → length c ≤ length (block_at s k)
+      → length (block_at (set s k c) j) ≤ length (block_at s j)
   block-less [] k c j less = omega arith
   block-less (b ∷ s) zero c zero less = less
   block-less (b ∷ s) zero c (suc j) less = omega arith
@@ -108,7 +111,8 @@ pub record IsTakenOut {X : Type 0} (s t : List (List X)) (n m k at : ℕ) : Type
   pub room : cut_room s n ≤ cut_room t m
   pub end_room : end_room s n ≤ end_room t m
 
-module _ {X : Type 0} (s t : List (List X)) (k at : ℕ) (h : k < length s) (a : at < length (block_at s k)) (each : All IsBlock s) (e : t ≡ without s k at) where
+module _ {X : Type 0} (s t : List (List X)) (k at : ℕ) (h : k < length s) (a : at < length (block_at s k))
+    (each : All IsBlock s) (e : t ≡ without s k at) where
   shorter : length (block_at t k) + 1 ≡ length (block_at s k)
   shorter =
       let c = remove (block_at s k) at in

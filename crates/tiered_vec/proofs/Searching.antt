@@ -1,5 +1,6 @@
 -- What a binary search among blocks finds.
-use Rattle.std.proofs.Common.{◌≡◌, ℕ, zero, suc, ◌+◌, ◌-◌, ◌<◌, ◌≤◌, ◌⊎◌, inl, inr, true, false, List, [], ◌∷◌, HoldsAt, length, get_or, refl, sym, ap, subst, ◌∙◌, arith, true≢false}
+use Rattle.std.proofs.Common.{◌≡◌, ℕ, zero, suc, ◌+◌, ◌-◌, ◌<◌, ◌≤◌, ◌⊎◌, inl, inr, true, false, List, [], ◌∷◌, HoldsAt}
+use Rattle.std.proofs.Common.{length, get_or, refl, sym, ap, subst, ◌∙◌, arith, true≢false}
 use Rattle.std.proofs.lemmas.Bool.{cases_lt}
 use Rattle.std.specs.declared.cmp.Ordering.{Ordering}
 use Rattle.std.specs.declared.cmp.Ordering.TheVariants.{Less, Equal, Greater}
@@ -53,7 +54,8 @@ module _ {X : Type 0} (ord : X → Ordering) (s : List (List X)) where
   found_in_block k j h l e d = subst (λ y. ord y ≡ Equal) (sym (placed s k j d h l)) (e d)
 
   module _ (k j : ℕ) (h : k < length s) (l : j ≤ length (block_at s k)) (filled : 0 < length (block_at s k)) (n : Narrowed k (k + 1))
-      (part : IsNonDecreasingBy (λ y. ordering_index (ord y)) (block_at s k) → IsPartitionPoint (λ y. ord y ≡ Less) (λ y. ord y ≡ Greater) (block_at s k) j)
+      (part : IsNonDecreasingBy (λ y. ordering_index (ord y)) (block_at s k)
+      → IsPartitionPoint (λ y. ord y ≡ Less) (λ y. ord y ≡ Greater) (block_at s k) j)
       (up : IsNonDecreasingBy (λ y. ordering_index (ord y)) (flatten s)) where
     suc-one : k + 1 ≡ suc k
     suc-one = omega arith
@@ -97,9 +99,11 @@ module _ {X : Type 0} (ord : X → Ordering) (s : List (List X)) where
         | inl inside ↦
             let at : start s k + (i - start s k) ≡ i = omega arith in
             subst (λ q. ord (get_or (flatten s) q d) ≡ Greater) at
-            (subst (λ y. ord y ≡ Greater) (sym (placed s k (i - start s k) d h (omega arith))) (parted.1 (i - start s k) d (omega arith) (omega arith)))
+            (subst (λ y. ord y ≡ Greater) (sym (placed s k (i - start s k) d h (omega arith)))
+            (parted.1 (i - start s k) d (omega arith) (omega arith)))
         | inr beyond ↦ elim n.below [
-          | inl last ↦ let all : start s (k + 1) ≡ length (flatten s) = ap (start s) last ∙ start-all s in absurd (omega (arith, all, next_start))
+          | inl last ↦ let all : start s (k + 1) ≡ length (flatten s) = ap (start s) last ∙ start-all s
+              in absurd (omega (arith, all, next_start))
           | inr above ↦
               top _
               (subst (λ (o : Ordering). ordering_index o ≤ ordering_index (ord (get_or (flatten s) i d)))

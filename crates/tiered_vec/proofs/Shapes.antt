@@ -26,6 +26,9 @@ module _ {X Z : Type 0} where
       ∙ ap (λ xs. xs ++ shape (drop (suc i) bs)) (sym (take-map (λ (v : Vec X Z). v.items) i bs))
       ∙ ap (λ xs. take i (shape bs) ++ xs) (sym (drop-map (λ (v : Vec X Z). v.items) (suc i) bs))
 
-  pub block_good : (bs : List (Vec X Z)) (k : ℕ) (b : Vec X Z) → k < length bs → b ≡ get_or bs k b → All IsBlock (shape bs) → IsBlock b.items
+  pub block_good : (bs : List (Vec X Z)) (k : ℕ) (b : Vec X Z) → k < length bs → b ≡ get_or bs k b
+      → All IsBlock (shape bs) → IsBlock b.items
   block_good bs k b h e a =
-      subst IsBlock (sym (block_read bs k b h e)) (All-get_or IsBlock (shape bs) k [] (subst (λ n. k < n) (sym (length-map bs (λ (v : Vec X Z). v.items))) h) a)
+      subst IsBlock (sym (block_read bs k b h e))
+      (All-get_or IsBlock (shape bs) k []
+      (subst (λ n. k < n) (sym (length-map bs (λ (v : Vec X Z). v.items))) h) a)

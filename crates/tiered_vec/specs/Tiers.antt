@@ -1,5 +1,6 @@
 -- How a vector in blocks is seen.
-use Rattle.std.specs.Prelude.{◌≡◌, ℕ, zero, suc, ◌+◌, ◌-◌, ◌*◌, ◌/◌, ◌<◌, ◌≤◌, max, List, [], ◌∷◌, length, take, drop, slice_index_or, slice_set, All, Result, Ok, Err, refl}
+use Rattle.std.specs.Prelude.{◌≡◌, ℕ, zero, suc, ◌+◌, ◌-◌, ◌*◌, ◌/◌, ◌<◌, ◌≤◌, max, List, [], ◌∷◌, length, take, drop}
+use Rattle.std.specs.Prelude.{slice_index_or, slice_set, All, Result, Ok, Err, refl}
 use Rattle.std.specs.List.{flat_map, insert, remove}
 use Rattle.std.specs.Coded.{Coded, code_by, coded×, coded_ℕ, coded_list}
 use Rattle.tiered_vec.specs.Place.{Position}

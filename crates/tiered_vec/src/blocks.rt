@@ -1,10 +1,12 @@
 //! Operations on the vectors that hold the blocks.
-ghost use Rattle.std.specs.Prelude.{◌≡◌, ◌+◌, ◌<◌, ◌≤◌, ◌++◌, ◌∷◌, [], All, max, length, take, drop, vec_capacity, slice_index_or, OnOk, OnErr, IfOk, IsOk, MatchBool, MatchResult};
+ghost use Rattle.std.specs.Prelude.{◌≡◌, ◌+◌, ◌<◌, ◌≤◌, ◌++◌, ◌∷◌, [], All, max, length, take, drop, vec_capacity};
+ghost use Rattle.std.specs.Prelude.{slice_index_or, OnOk, OnErr, IfOk, IsOk, MatchBool, MatchResult};
 ghost use Rattle.std.specs.Fn.{ComputesKey};
 ghost use Rattle.std.specs.List.{remove};
 ghost use Rattle.std.specs.List.Sorted.{IsBinarySearchResult};
 ghost use Rattle.tiered_vec.specs.Sound.{shape, HasRoom, HasRooms};
-ghost use Rattle.tiered_vec.specs.Tiers.{IsBlock, IsGap, IsPlace, IsPlaceOf, IsOpened, block_size, half_size, cut_room, end_room, with_put, without, cut, block_at, flatten, index_of, index_result};
+ghost use Rattle.tiered_vec.specs.Tiers.{IsBlock, IsGap, IsPlace, IsPlaceOf, IsOpened, block_size, half_size, cut_room};
+ghost use Rattle.tiered_vec.specs.Tiers.{end_room, with_put, without, cut, block_at, flatten, index_of, index_result};
 
 use crate::place::Place;
 use std::alloc::{AllocError, Global};

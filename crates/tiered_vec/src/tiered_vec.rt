@@ -1,11 +1,14 @@
 //! A vector in blocks: what its callers see.
 ghost use Rattle.std.specs.declared.alloc.Global.{Global};
-ghost use Rattle.std.specs.Prelude.{◌≡◌, ◌+◌, ◌-◌, ◌/◌, ◌<◌, ◌≤◌, ◌^◌, ◌↔◌, ◌++◌, ◌∷◌, [], IsTrue, IsOk, IfOk, IfErr, OnOk, OnErr, MatchBool, MatchResult, slice_get, slice_set, length, min, max, slice_index_or};
+ghost use Rattle.std.specs.Prelude.{◌≡◌, ◌+◌, ◌-◌, ◌/◌, ◌<◌, ◌≤◌, ◌^◌, ◌↔◌, ◌++◌, ◌∷◌, [], IsTrue, IsOk, IfOk, IfErr};
+ghost use Rattle.std.specs.Prelude.{OnOk, OnErr, MatchBool, MatchResult, slice_get, slice_set, length, min, max};
+ghost use Rattle.std.specs.Prelude.{slice_index_or};
 ghost use Rattle.std.specs.List.{insert, remove};
 ghost use Rattle.std.specs.Option.{option_copied};
 ghost use Rattle.std.specs.List.Sorted.{IsBinarySearchResult};
 ghost use Rattle.std.specs.Fn.{ComputesKey};
-ghost use Rattle.tiered_vec.specs.Tiers.{block_size, half_size, items, room, tail_room, IsPlace, IsGap, IsPlaceOf, index_of, index_result, with_item_at};
+ghost use Rattle.tiered_vec.specs.Tiers.{block_size, half_size, items, room, tail_room, IsPlace, IsGap, IsPlaceOf};
+ghost use Rattle.tiered_vec.specs.Tiers.{index_of, index_result, with_item_at};
 
 use crate::blocks::{
     BLOCK, HALF, end_of, find_among, has_element, make_spares, open, open_end, place_after,

@@ -1,6 +1,6 @@
 //! Segments in every order.
 
-use crate::{Ends, Flow, Flows, Heard, Segment, Taken};
+use crate::{Ends, Fate, Flow, Flows, Heard, Segment};
 use std::alloc::Global;
 use std::process::Abort;
 use std::test::Fail;
@@ -64,11 +64,11 @@ fn segments_come_in_any_order(rt: HostRuntime) -> Result<(), Fail> {
 fn what_became_of_a_segment_is_told(rt: HostRuntime) -> Result<(), Fail> {
     let alloc = rt.alloc();
     let mut flow = Flow::new(alloc, 0);
-    assert_eq!(rt; flow.take(alloc, 2, b"cd")?, Taken::Waits);
-    assert_eq!(rt; flow.take(alloc, 3, b"d")?, Taken::Known);
-    assert_eq!(rt; flow.take(alloc, 16_777_216, b"x")?, Taken::Beyond);
-    assert_eq!(rt; flow.take(alloc, 0, b"ab")?, Taken::Joined);
-    assert_eq!(rt; flow.take(alloc, 0, b"abcd")?, Taken::Known);
+    assert_eq!(rt; flow.take(alloc, 2, b"cd")?, Fate::Waits);
+    assert_eq!(rt; flow.take(alloc, 3, b"d")?, Fate::Known);
+    assert_eq!(rt; flow.take(alloc, 16_777_216, b"x")?, Fate::Beyond);
+    assert_eq!(rt; flow.take(alloc, 0, b"ab")?, Fate::Joined);
+    assert_eq!(rt; flow.take(alloc, 0, b"abcd")?, Fate::Known);
     Ok(())
 }
 

@@ -18,4 +18,6 @@ returns-in_err-fill g c =
 pub returns : goal.returns
 unfolding closed
 returns g c =
-    (Reads-then _ c.in_ok-skip.ensures (Reads-then _ c.in_ok-fill.ensures (rw c.u32_at-again.ensures at (c.check_total.ensures (g.I.Inlet.seen c.fill.new.inlet)))))
+    (Reads-then _ c.in_ok-skip.ensures
+    (Reads-then _ c.in_ok-fill.ensures
+    (rw c.u32_at-again.ensures at (c.check_total.ensures (g.I.Inlet.seen c.fill.new.inlet)))))

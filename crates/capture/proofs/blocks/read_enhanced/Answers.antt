@@ -19,9 +19,20 @@ pub returns-in_err-on : goal.returns-in_err-on
 unfolding timed_packet
 returns-in_err-on g c =
     let p = err_from_is_err_and c.from_residual-in_err-on.result c.from_residual-in_err-on.ensures.1 in
-    rw (p.1, p.2) (Reads-then _ (c.in_ok-room.ensures (g.I.Inlet.seen c.args.inlet.now)) (Reads-then _ c.in_ok-fill.ensures (Reads-exit _ (rw c.u32_at-number.ensures at (c.in_err-on.ensures (g.I.Inlet.seen c.fill.new.inlet))))))
+    rw (p.1, p.2) (Reads-then _ (c.in_ok-room.ensures (g.I.Inlet.seen c.args.inlet.now))
+    (Reads-then _ c.in_ok-fill.ensures
+    (Reads-exit _ (rw c.u32_at-number.ensures at
+    (c.in_err-on.ensures (g.I.Inlet.seen c.fill.new.inlet))))))
 
 pub returns : goal.returns
 unfolding timed_packet
 returns g c =
-    (Reads-then _ (c.in_ok-room.ensures (g.I.Inlet.seen c.args.inlet.now)) (Reads-then _ c.in_ok-fill.ensures (Reads-then _ (rw c.u32_at-number.ensures at (c.in_ok-on.ensures (g.I.Inlet.seen c.fill.new.inlet))) (rw (c.timed-head.ensures, c.u32_at-number.ensures, c.u32_at-captured.ensures) at c.read_packet.ensures))))
+    (Reads-then _ (c.in_ok-room.ensures (g.I.Inlet.seen c.args.inlet.now))
+    (Reads-then _ c.in_ok-fill.ensures
+    (Reads-then _ (rw c.u32_at-number.ensures at
+    (c.in_ok-on.ensures (g.I.Inlet.seen c.fill.new.inlet)))
+    (rw (
+      c.timed-head.ensures,
+      c.u32_at-number.ensures,
+      c.u32_at-captured.ensures,
+    ) at c.read_packet.ensures))))

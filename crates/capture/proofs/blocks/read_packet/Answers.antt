@@ -21,9 +21,13 @@ pub returns-in_err-read_closed : goal.returns-in_err-read_closed
 unfolding packet_at
 returns-in_err-read_closed g c =
     let p = err_from_is_err_and c.from_residual-in_err-read_closed.result c.from_residual-in_err-read_closed.ensures.1 in
-    rw (p.1, p.2) (Reads-then _ (c.in_ok-left.ensures (g.I.Inlet.seen c.args.inlet.now)) (Reads-then _ c.in_ok-read_captured.ensures (Reads-exit _ c.in_err-read_closed.ensures)))
+    rw (p.1, p.2) (Reads-then _ (c.in_ok-left.ensures (g.I.Inlet.seen c.args.inlet.now))
+    (Reads-then _ c.in_ok-read_captured.ensures (Reads-exit _ c.in_err-read_closed.ensures)))
 
 pub returns : goal.returns
 unfolding packet_at
 returns g c =
-    (Reads-then _ (c.in_ok-left.ensures (g.I.Inlet.seen c.args.inlet.now)) (Reads-then _ c.in_ok-read_captured.ensures (Reads-then _ c.in_ok-read_closed.ensures (Reads-gives {view = block_text c.read_captured.new.bytes.items} _))))
+    (Reads-then _ (c.in_ok-left.ensures (g.I.Inlet.seen c.args.inlet.now))
+    (Reads-then _ c.in_ok-read_captured.ensures
+    (Reads-then _ c.in_ok-read_closed.ensures
+    (Reads-gives {view = block_text c.read_captured.new.bytes.items} _))))

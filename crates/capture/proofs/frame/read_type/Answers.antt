@@ -20,7 +20,8 @@ returns-then-not-is_type_of_tag-clause-err c =
     let rest = c.loop-rest.rest.now in
     let long : 2 ≤ length rest = omega (arith, c.if-rest-lt2.false) in
     let none : version_of (field 0 2 rest) ≡ None = rw (sym c.read_u16-kind.ensures) (sym c.version.ensures ∙ c.in_default.is) in
-    let untagged : is_tag (field 0 2 rest) ≡ false = rw (sym c.read_u16-kind.ensures) (sym c.is_type_of_tag.ensures ∙ c.if-not-is_type_of_tag.true) in
+    let untagged : is_tag (field 0 2 rest) ≡ false = rw (sym c.read_u16-kind.ensures)
+    (sym c.is_type_of_tag.ensures ∙ c.if-not-is_type_of_tag.true) in
     rw (c.other_type.ensures, c.read_u16-kind.ensures) (c.loop-rest.invariant ∙ type_other rest long none untagged)
 
 pub returns-then-rest-lt4-clause-err : goal.returns-then-rest-lt4-clause-err
@@ -29,7 +30,8 @@ returns-then-rest-lt4-clause-err c =
     let long : 2 ≤ length rest = omega (arith, c.if-rest-lt2.false) in
     let short : length rest < 4 = omega (arith, c.if-rest-lt4.true) in
     let none : version_of (field 0 2 rest) ≡ None = rw (sym c.read_u16-kind.ensures) (sym c.version.ensures ∙ c.in_default.is) in
-    let is : is_tag (field 0 2 rest) ≡ true = rw (sym c.read_u16-kind.ensures) (sym c.is_type_of_tag.ensures ∙ c.if-not-is_type_of_tag.false) in
+    let is : is_tag (field 0 2 rest) ≡ true = rw (sym c.read_u16-kind.ensures)
+    (sym c.is_type_of_tag.ensures ∙ c.if-not-is_type_of_tag.false) in
     c.loop-rest.invariant ∙ tag_short rest long short none is
 
 pub loop-rest-preserved : goal.loop-rest-preserved
@@ -37,5 +39,6 @@ loop-rest-preserved c =
     let rest = c.loop-rest.rest.now in
     let long : 4 ≤ length rest = omega (arith, c.if-rest-lt4.false) in
     let none : version_of (field 0 2 rest) ≡ None = rw (sym c.read_u16-kind.ensures) (sym c.version.ensures ∙ c.in_default.is) in
-    let is : is_tag (field 0 2 rest) ≡ true = rw (sym c.read_u16-kind.ensures) (sym c.is_type_of_tag.ensures ∙ c.if-not-is_type_of_tag.false) in
+    let is : is_tag (field 0 2 rest) ≡ true = rw (sym c.read_u16-kind.ensures)
+    (sym c.is_type_of_tag.ensures ∙ c.if-not-is_type_of_tag.false) in
     c.loop-rest.invariant ∙ tag_cut_off rest long none is

@@ -26,4 +26,5 @@ returns g c =
     let seconds = c.from-seconds.ensures ∙ c.u32_at-whole.ensures in
     let fraction = c.nanoseconds-fraction.ensures.is ∙ ap (λ (n : ℕ). fraction_of c.args.file.precision n) c.u32_at-part.ensures in
     Reads-then _ c.in_ok-fill_header.ensures
-    (Reads-then _ read (Reads-is _ _ (record_same c.read_captured.new.bytes.items c.args.file.link _ _ _ _ _ _ seconds fraction c.u32_at-original.ensures)))
+    (Reads-then _ read (Reads-is _ _ (record_same c.read_captured.new.bytes.items c.args.file.link _ _ _ _ _
+    _ seconds fraction c.u32_at-original.ensures)))

@@ -7,7 +7,8 @@ pub returns-then-place-end-clause-covered : goal.returns-then-place-end-clause-c
 returns-then-place-end-clause-covered c = λ k low high.
     covered_at c.args.pieces.now k (c.before-count.result - 1) c.index-pieces-count.result
     (omega (arith, c.if-count-eq0.false, c.before-count.ensures.bound)) c.index-pieces-count.is
-    (covers_yes k c.index-pieces-count.result (omega (arith, low, c.at.ensures)) (omega (arith, high, c.if-place-end.true, c.end.ensures.is)))
+    (covers_yes k c.index-pieces-count.result (omega (arith, low, c.at.ensures))
+    (omega (arith, high, c.if-place-end.true, c.end.ensures.is)))
 
 pub returns-then-place-end-clause-clean : goal.returns-then-place-end-clause-clean
 returns-then-place-end-clause-clean c =

@@ -6,11 +6,15 @@ use Rattle.capture.proofs.piece.before.Goals as goal
 pub returns-clause-low : goal.returns-clause-low
 returns-clause-low c =
     let parted = IsPartitionedBy-ltb (λ s. s.at) _ c.args.place (starts_rise _ (follows _ c.requires)) in
-    let point = IsPartitionPoint-from_clause (λ s. nat_lt s.at c.args.place) _ _ c.partition_point.ensures.partitioned parted (λ a r q k. search rules) in
+    let point = IsPartitionPoint-from_clause
+    (λ s. nat_lt s.at c.args.place) _ _ c.partition_point.ensures.partitioned parted
+    (λ a r q k. search rules) in
     λ k d low high. ltb-true _ _ (point.0 k d low high)
 
 pub returns-clause-high : goal.returns-clause-high
 returns-clause-high c =
     let parted = IsPartitionedBy-ltb (λ s. s.at) _ c.args.place (starts_rise _ (follows _ c.requires)) in
-    let point = IsPartitionPoint-from_clause (λ s. nat_lt s.at c.args.place) _ _ c.partition_point.ensures.partitioned parted (λ a r q k. search rules) in
+    let point = IsPartitionPoint-from_clause
+    (λ s. nat_lt s.at c.args.place) _ _ c.partition_point.ensures.partitioned parted
+    (λ a r q k. search rules) in
     λ k d low high. ltb-false _ _ (point.1 k d low high)

@@ -13,5 +13,7 @@ returns-in_err-block-clause-exact g c =
 
 pub returns-clause-exact : goal.returns-clause-exact
 returns-clause-exact g c =
-    block-step (section_text c.args.section.now) (section_text c.take_block.new.section) c.read_block.new.bytes.items c.in_ok-block.block c.take_block.result
+    block-step (section_text c.args.section.now)
+    (section_text c.take_block.new.section) c.read_block.new.bytes.items c.in_ok-block.block
+    c.take_block.result
     c.take_block.ensures.taken c.take_block.ensures.refused c.in_ok-block.ensures

@@ -10,8 +10,10 @@ returns-in_err-pull g c =
     let refused = c.in_err-pull.ensures in
     let old = g.I.Inlet.seen c.args.inlet.now in
     rw (p.1, p.2)
-    (part-stopped old (length c.args.part.now) (length c.args.part.now) [] c.in_err-pull.field-0.0 (omega arith) (Consumes-nil old.coming) (omega arith)
+    (part-stopped old (length c.args.part.now) (length c.args.part.now) [] c.in_err-pull.field-0.0
+    (omega arith) (Consumes-nil old.coming) (omega arith)
     (λ e. refused.ended (ap Err e)) (λ e. refused.fault (ap Err e)) refused.refused refused.faults_stay)
 
 pub returns : goal.returns
-returns g c = part-taken (length c.args.part.now) c.pull.new.buf c.pull.auto.buf refl c.in_ok-pull.ensures.ok c.in_ok-pull.ensures.faults_stay
+returns g c = part-taken (length c.args.part.now) c.pull.new.buf c.pull.auto.buf refl c.in_ok-pull.ensures.ok
+    c.in_ok-pull.ensures.faults_stay

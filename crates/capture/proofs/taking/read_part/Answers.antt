@@ -11,7 +11,8 @@ returns-in_err-pull g c =
     let le : c.min-size.result ≤ c.loop-left.left = search rules in
     rw (p.1, p.2)
     (part-stopped (g.I.Inlet.seen c.loop-left.inlet) c.args.len c.min-size.result c.loop-left.bytes.items c.in_err-pull.field-0.0
-    (omega arith) inv.taken inv.faults (λ ended. search rules) (λ failed. search rules) c.in_err-pull.ensures.refused c.in_err-pull.ensures.faults_stay)
+    (omega arith) inv.taken inv.faults (λ ended. search rules)
+    (λ failed. search rules) c.in_err-pull.ensures.refused c.in_err-pull.ensures.faults_stay)
 
 pub returns-in_err-extend_from_slice : goal.returns-in_err-extend_from_slice
 returns-in_err-extend_from_slice g c =

@@ -18,7 +18,8 @@ returns-in_err-pull g c =
     rw (p.1, p.2)
     (Reads-exit _
     (part-stopped {X = List ℕ} {view = same} (g.I.Inlet.seen c.loop-left.inlet) c.args.len c.min-size.result gone.0 c.in_err-pull.field-0.0
-    (omega arith) gone.1 inv.faults (λ ended. search rules) (λ failed. search rules) c.in_err-pull.ensures.refused c.in_err-pull.ensures.faults_stay))
+    (omega arith) gone.1 inv.faults (λ ended. search rules)
+    (λ failed. search rules) c.in_err-pull.ensures.refused c.in_err-pull.ensures.faults_stay))
 
 pub loop-left-preserved : goal.loop-left-preserved
 loop-left-preserved g c =
@@ -27,7 +28,8 @@ loop-left-preserved g c =
     let le : c.min-size.result ≤ c.loop-left.left = search rules in
     let sum = gone.2 in
     let lengths = length-append gone.0 c.pull.new.buf in
-    let rest : length (gone.0 ++ c.pull.new.buf) + (c.loop-left.left - c.min-size.result) ≡ c.args.len = omega (arith, long, le, sum, lengths) in
+    let rest : length (gone.0 ++ c.pull.new.buf) +
+    (c.loop-left.left - c.min-size.result) ≡ c.args.len = omega (arith, long, le, sum, lengths) in
     record {
       dropped = (gone.0 ++ c.pull.new.buf, Consumes-trans _ _ _ gone.0 c.pull.new.buf gone.1 c.in_ok-pull.ensures.ok, rest);
       faults = let before = c.loop-left.invariant.faults in let after = c.in_ok-pull.ensures.faults_stay in omega arith;

@@ -4,7 +4,8 @@ use Rattle.capture.proofs.taking.skip.Given as goal
 
 abbrev pub invariant-loop-left : goal.invariant-loop-left
 invariant-loop-left g l = record {
-  dropped : (bytes : List ℕ) × Consumes (g.I.Inlet.seen l.fn.inlet).coming (g.I.Inlet.seen l.inlet).coming bytes × (length bytes + l.left ≡ l.len);
+  dropped : (bytes : List ℕ) × Consumes (g.I.Inlet.seen l.fn.inlet).coming
+      (g.I.Inlet.seen l.inlet).coming bytes × (length bytes + l.left ≡ l.len);
   faults : (g.I.Inlet.seen l.fn.inlet).faults ≤ (g.I.Inlet.seen l.inlet).faults;
 }
 

@@ -42,7 +42,9 @@ loop-rest-2-preserved c =
       bytes =
           ap₂ (λ (o r : List ℕ). o ++ counted_all f nonce ((n + 1) % 2 ^ 32) r) c.append_sum.ensures.items c.split_block.ensures.back
           ∙ append_assoc old _ more
-          ∙ ap (λ (p : List ℕ). old ++ (p ++ more)) (ap₂ plus_bytes c.split_block.ensures.front (c.cipher-mask.ensures ∙ ap f c.counter_block.ensures))
+          ∙ ap (λ (p : List ℕ). old ++ (p ++ more))
+          (ap₂ plus_bytes c.split_block.ensures.front
+          (c.cipher-mask.ensures ∙ ap f c.counter_block.ensures))
           ∙ ap (λ (p : List ℕ). old ++ p) (sym (counted_step f nonce n rest c.loop-rest-2-test.true))
           ∙ c.loop-rest-2.invariant.bytes;
       len = omega (arith, c.append_sum.ensures.len, c.split_block.ensures.len, c.loop-rest-2.invariant.len);
@@ -53,5 +55,6 @@ pub returns-clause-items : goal.returns-clause-items
 returns-clause-items c =
     let f = cipher c.args.words.now c.args.count in
     sym (append-nil c.loop-rest-2.to.items)
-    ∙ ap (λ (o : List ℕ). c.loop-rest-2.to.items ++ o) (sym (counted_end f c.args.nonce.now c.loop-rest-2.counter c.loop-rest-2.rest.now (omega arith)))
+    ∙ ap (λ (o : List ℕ). c.loop-rest-2.to.items ++ o)
+    (sym (counted_end f c.args.nonce.now c.loop-rest-2.counter c.loop-rest-2.rest.now (omega arith)))
     ∙ c.loop-rest-2.invariant.bytes

@@ -14,6 +14,9 @@ returns-clause-items c =
     ∙ ap (more _) (c.append_block-2.ensures.items ∙ ap (more _) c.append_block.ensures.items))
     ∙ four_parts f c.args.nonce.now c.args.counter bytes c.args.to.now.items _ _ _ _
     (ap (plus_bytes (take 16 bytes)) (masks.first ∙ ap f c.counter_block-first.ensures))
-    (ap (λ (bs : List ℕ). plus_bytes (take 16 bs) c.cipher_four-masks.result.1) (tail_is 16 bytes) ∙ ap (plus_bytes (take 16 (drop 16 bytes))) (masks.second ∙ ap f c.counter_block-second.ensures))
-    (ap (λ (bs : List ℕ). plus_bytes (take 16 bs) c.cipher_four-masks.result.2) (tail_is 32 bytes) ∙ ap (plus_bytes (take 16 (drop 32 bytes))) (masks.third ∙ ap f c.counter_block-third.ensures))
-    (ap (λ (bs : List ℕ). plus_bytes (take 16 bs) c.cipher_four-masks.result.3) (tail_is 48 bytes) ∙ ap (plus_bytes (take 16 (drop 48 bytes))) (masks.fourth ∙ ap f c.counter_block-fourth.ensures))
+    (ap (λ (bs : List ℕ). plus_bytes (take 16 bs) c.cipher_four-masks.result.1) (tail_is 16 bytes)
+    ∙ ap (plus_bytes (take 16 (drop 16 bytes))) (masks.second ∙ ap f c.counter_block-second.ensures))
+    (ap (λ (bs : List ℕ). plus_bytes (take 16 bs) c.cipher_four-masks.result.2) (tail_is 32 bytes)
+    ∙ ap (plus_bytes (take 16 (drop 32 bytes))) (masks.third ∙ ap f c.counter_block-third.ensures))
+    (ap (λ (bs : List ℕ). plus_bytes (take 16 bs) c.cipher_four-masks.result.3) (tail_is 48 bytes)
+    ∙ ap (plus_bytes (take 16 (drop 48 bytes))) (masks.fourth ∙ ap f c.counter_block-fourth.ensures))

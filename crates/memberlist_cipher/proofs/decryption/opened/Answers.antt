@@ -19,7 +19,8 @@ pub returns-in_err-_parts-clause-refuses : goal.returns-in_err-_parts-clause-ref
 returns-in_err-_parts-clause-refuses c =
     let exit = err_from_is_err_and c.from_residual.result c.from_residual.ensures.1 in
     rw (exit.1, exit.2)
-    (form_cause _ c.args.key.now c.args.aad.now c.args.bytes.now c.if-not-is_key.ensures c.if-not-is_within.ensures c.in_err-_parts.ensures.refuses)
+    (form_cause _ c.args.key.now c.args.aad.now c.args.bytes.now c.if-not-is_key.ensures
+    c.if-not-is_within.ensures c.in_err-_parts.ensures.refuses)
 
 pub returns-in_err-key-clause-refuses : goal.returns-in_err-key-clause-refuses
 returns-in_err-key-clause-refuses c =

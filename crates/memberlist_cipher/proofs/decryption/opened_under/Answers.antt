@@ -7,31 +7,46 @@ use Rattle.memberlist_cipher.proofs.Prepared.{known}
 use Rattle.memberlist_cipher.proofs.decryption.opened_under.Goals as goal
 
 pub overflow_sub-count : goal.overflow_sub-count
-overflow_sub-count c = (known c.args.key.now _ c.as_slice-words.result.now _ c.key.view_is c.key.invariant c.as_slice-words.ensures.value).some
+overflow_sub-count c = (known c.args.key.now _ c.as_slice-words.result.now _ c.key.view_is c.key.invariant
+    c.as_slice-words.ensures.value).some
 
 pub tag-expected-requires-clause-few : goal.tag-expected-requires-clause-few
-tag-expected-requires-clause-few c = (known c.args.key.now _ c.as_slice-words.result.now _ c.key.view_is c.key.invariant c.as_slice-words.ensures.value).few
+tag-expected-requires-clause-few c = (known c.args.key.now _ c.as_slice-words.result.now _ c.key.view_is
+    c.key.invariant c.as_slice-words.ensures.value).few
 
 pub tag-expected-requires-clause-words : goal.tag-expected-requires-clause-words
-tag-expected-requires-clause-words c = (known c.args.key.now _ c.as_slice-words.result.now _ c.key.view_is c.key.invariant c.as_slice-words.ensures.value).words
+tag-expected-requires-clause-words
+    c = (known c.args.key.now _ c.as_slice-words.result.now _ c.key.view_is c.key.invariant
+    c.as_slice-words.ensures.value).words
 
 pub tag-expected-requires-clause-block : goal.tag-expected-requires-clause-block
-tag-expected-requires-clause-block c = (known c.args.key.now _ c.as_slice-words.result.now _ c.key.view_is c.key.invariant c.as_slice-words.ensures.value).block
+tag-expected-requires-clause-block
+    c = (known c.args.key.now _ c.as_slice-words.result.now _ c.key.view_is c.key.invariant
+    c.as_slice-words.ensures.value).block
 
 pub ctr-requires-clause-few : goal.ctr-requires-clause-few
-ctr-requires-clause-few c = (known c.args.key.now _ c.as_slice-words.result.now _ c.key.view_is c.key.invariant c.as_slice-words.ensures.value).few
+ctr-requires-clause-few c = (known c.args.key.now _ c.as_slice-words.result.now _ c.key.view_is
+    c.key.invariant c.as_slice-words.ensures.value).few
 
 pub ctr-requires-clause-words : goal.ctr-requires-clause-words
-ctr-requires-clause-words c = (known c.args.key.now _ c.as_slice-words.result.now _ c.key.view_is c.key.invariant c.as_slice-words.ensures.value).words
+ctr-requires-clause-words c = (known c.args.key.now _ c.as_slice-words.result.now _ c.key.view_is
+    c.key.invariant c.as_slice-words.ensures.value).words
 
 pub returns-then-not-is_within-clause-refuses : goal.returns-then-not-is_within-clause-refuses
-returns-then-not-is_within-clause-refuses c = ((known c.args.key.now _ c.as_slice-words.result.now _ c.key.view_is c.key.invariant c.as_slice-words.ensures.value).good, c.if-not-is_within.ensures)
+returns-then-not-is_within-clause-refuses
+    c = (
+      (known c.args.key.now _ c.as_slice-words.result.now _ c.key.view_is c.key.invariant
+          c.as_slice-words.ensures.value).good,
+      c.if-not-is_within.ensures,
+    )
 
 pub returns-in_err-parts-clause-refuses : goal.returns-in_err-parts-clause-refuses
 returns-in_err-parts-clause-refuses c =
     let exit = err_from_is_err_and c.from_residual.result c.from_residual.ensures.1 in
     rw (exit.1, exit.2)
-    (form_cause _ c.args.key.now c.args.aad.now c.args.bytes.now (known c.args.key.now _ c.as_slice-words.result.now _ c.key.view_is c.key.invariant c.as_slice-words.ensures.value).good c.if-not-is_within.ensures c.in_err-parts.ensures.refuses)
+    (form_cause _ c.args.key.now c.args.aad.now c.args.bytes.now
+    (known c.args.key.now _ c.as_slice-words.result.now _ c.key.view_is c.key.invariant
+    c.as_slice-words.ensures.value).good c.if-not-is_within.ensures c.in_err-parts.ensures.refuses)
 
 pub returns-then-not-is_same-clause-refuses : goal.returns-then-not-is_same-clause-refuses
 returns-then-not-is_same-clause-refuses c =
@@ -125,5 +140,7 @@ returns-in_err-text-clause-memory c = λ is.
     let was = c.in_ok-parts.ensures in (
       layout c.args.bytes.now p.version p.nonce.now p.ciphertext.now p.tag.now was.version was.nonce was.tag was.text,
       c.if-not-is_same.ensures ∙ c.tag-expected.ensures
-          ∙ ap (λ (f : List ℕ → List ℕ). tag f p.nonce.now c.args.aad.now p.ciphertext.now) (known c.args.key.now _ c.as_slice-words.result.now _ c.key.view_is c.key.invariant c.as_slice-words.ensures.value).under,
+          ∙ ap (λ (f : List ℕ → List ℕ). tag f p.nonce.now c.args.aad.now p.ciphertext.now)
+          (known c.args.key.now _ c.as_slice-words.result.now _ c.key.view_is c.key.invariant
+          c.as_slice-words.ensures.value).under,
     )

@@ -7,25 +7,34 @@ use Rattle.memberlist_cipher.proofs.Encrypting.{parts_are}
 use Rattle.memberlist_cipher.proofs.encrypt.append_encrypted.Goals as goal
 
 pub overflow_sub-count : goal.overflow_sub-count
-overflow_sub-count c = (known c.args.key.now _ c.as_slice-words.result.now _ c.key.view_is c.key.invariant c.as_slice-words.ensures.value).some
+overflow_sub-count c = (known c.args.key.now _ c.as_slice-words.result.now _ c.key.view_is c.key.invariant
+    c.as_slice-words.ensures.value).some
 
 pub append_ctr-requires-clause-few : goal.append_ctr-requires-clause-few
-append_ctr-requires-clause-few c = (known c.args.key.now _ c.as_slice-words.result.now _ c.key.view_is c.key.invariant c.as_slice-words.ensures.value).few
+append_ctr-requires-clause-few c = (known c.args.key.now _ c.as_slice-words.result.now _ c.key.view_is
+    c.key.invariant c.as_slice-words.ensures.value).few
 
 pub append_ctr-requires-clause-words : goal.append_ctr-requires-clause-words
-append_ctr-requires-clause-words c = (known c.args.key.now _ c.as_slice-words.result.now _ c.key.view_is c.key.invariant c.as_slice-words.ensures.value).words
+append_ctr-requires-clause-words c = (known c.args.key.now _ c.as_slice-words.result.now _ c.key.view_is
+    c.key.invariant c.as_slice-words.ensures.value).words
 
 pub tag-tag_bytes-requires-clause-few : goal.tag-tag_bytes-requires-clause-few
-tag-tag_bytes-requires-clause-few c = (known c.args.key.now _ c.as_slice-words.result.now _ c.key.view_is c.key.invariant c.as_slice-words.ensures.value).few
+tag-tag_bytes-requires-clause-few c = (known c.args.key.now _ c.as_slice-words.result.now _ c.key.view_is
+    c.key.invariant c.as_slice-words.ensures.value).few
 
 pub tag-tag_bytes-requires-clause-words : goal.tag-tag_bytes-requires-clause-words
-tag-tag_bytes-requires-clause-words c = (known c.args.key.now _ c.as_slice-words.result.now _ c.key.view_is c.key.invariant c.as_slice-words.ensures.value).words
+tag-tag_bytes-requires-clause-words
+    c = (known c.args.key.now _ c.as_slice-words.result.now _ c.key.view_is c.key.invariant
+    c.as_slice-words.ensures.value).words
 
 pub tag-tag_bytes-requires-clause-block : goal.tag-tag_bytes-requires-clause-block
-tag-tag_bytes-requires-clause-block c = (known c.args.key.now _ c.as_slice-words.result.now _ c.key.view_is c.key.invariant c.as_slice-words.ensures.value).block
+tag-tag_bytes-requires-clause-block
+    c = (known c.args.key.now _ c.as_slice-words.result.now _ c.key.view_is c.key.invariant
+    c.as_slice-words.ensures.value).block
 
 pub returns-clause-good_key : goal.returns-clause-good_key
-returns-clause-good_key c = (known c.args.key.now _ c.as_slice-words.result.now _ c.key.view_is c.key.invariant c.as_slice-words.ensures.value).good
+returns-clause-good_key c = (known c.args.key.now _ c.as_slice-words.result.now _ c.key.view_is
+    c.key.invariant c.as_slice-words.ensures.value).good
 
 pub returns-clause-items : goal.returns-clause-items
 returns-clause-items c =
@@ -41,4 +50,5 @@ returns-clause-items c =
     let all : part ≡ drop start d = take_all (length d - start) (drop start d) (omega (arith, length-drop start d)) in
     let tagged : c.tag-tag_bytes.result ≡ tag (cipher w n) nonce aad part = c.tag-tag_bytes.ensures in
     parts_are c.args.key.now nonce aad c.args.message.now c.args.to.now.items w _ _ _ _ part _ n start under
-    c.append.ensures.items c.append-2.ensures.items place c.append_ctr.ensures.items (all ∙ ap (drop start) c.deref.ensures.value) tagged c.append-3.ensures.items
+    c.append.ensures.items c.append-2.ensures.items place c.append_ctr.ensures.items
+    (all ∙ ap (drop start) c.deref.ensures.value) tagged c.append-3.ensures.items

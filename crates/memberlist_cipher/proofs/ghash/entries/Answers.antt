@@ -29,6 +29,7 @@ returns c =
     let k = 16 * c.args.plane in
     zip2_of_maps bit_xor (λ b. get_or planes (k + high b) 0) (λ b. get_or planes (256 + k + low b) 0) v
     (entries_from planes k high v _ c.fits-block (high_is v c.fits-block) (λ b hb. omega arith) (omega (arith, c.requires.size)))
-    (entries_from planes (256 + k) low v _ c.fits-block (low_is v c.fits-block) (λ b hb. omega (arith, and_le_r b 15)) (omega (arith, c.requires.size)))
+    (entries_from planes (256 + k) low v _ c.fits-block (low_is v c.fits-block)
+    (λ b hb. omega (arith, and_le_r b 15)) (omega (arith, c.requires.size)))
     ∙ map_bytes (λ b. bit_xor (get_or planes (k + high b) 0) (get_or planes (256 + k + low b) 0)) (entry planes c.args.plane) v
     (λ b hb. ap (λ (d : ℕ). bit_xor (get_or planes (k + high b) 0) (get_or planes (256 + k + d) 0)) (and_mask b 4)) c.fits-block.1

@@ -15,5 +15,7 @@ returns c =
     let below : h < 2 ^ 128 = subst (λ (n : ℕ). n < 2 ^ 128) c.ghash_key.view_is c.ghash_key.invariant.1 in
     c.reduced.ensures
     ∙ c.unreduced.ensures.value
-    ∙ ap₂ (λ (planes bytes : List ℕ). planes_sum planes 16 0 bytes) (c.deref.ensures.value ∙ c.ghash_key.invariant.0 ∙ ap all_planes c.ghash_key.view_is) c.bytes_of.ensures
+    ∙ ap₂ (λ (planes bytes : List ℕ). planes_sum planes 16 0 bytes)
+    (c.deref.ensures.value ∙ c.ghash_key.invariant.0
+    ∙ ap all_planes c.ghash_key.view_is) c.bytes_of.ensures
     ∙ product_is h x below small

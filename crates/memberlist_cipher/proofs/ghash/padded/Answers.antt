@@ -19,4 +19,6 @@ returns c =
     (cons c.at-9.ensures
     (cons c.at-10.ensures
     (cons c.at-11.ensures
-    (cons c.at-12.ensures (cons c.at-13.ensures (cons c.at-14.ensures (cons c.at-15.ensures (ap (λ (z : ℕ). z ∷ []) c.at-16.ensures))))))))))))))))
+    (cons c.at-12.ensures (cons c.at-13.ensures
+    (cons c.at-14.ensures (cons c.at-15.ensures
+    (ap (λ (z : ℕ). z ∷ []) c.at-16.ensures))))))))))))))))

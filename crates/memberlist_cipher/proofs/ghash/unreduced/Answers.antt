@@ -25,8 +25,10 @@ loop-step-preserved c =
     record {
       some = omega arith;
       value =
-          step_is below above c.entries.result c.loop-step.auto.below.0 c.loop-step.auto.above.0 size (c.loop-step.invariant.zero 15 (omega arith) (omega arith))
+          step_is below above c.entries.result c.loop-step.auto.below.0 c.loop-step.auto.above.0 size
+          (c.loop-step.invariant.zero 15 (omega arith) (omega arith))
           ∙ ap₂ (λ (p q : ℕ). bit_xor p (shifted 8 q)) (ap poly c.entries.ensures) c.loop-step.invariant.value
           ∙ sum_next planes bs n (omega arith);
-      zero = zeros_pushed below above n c.loop-step.auto.below.0 c.loop-step.auto.above.0 c.loop-step.invariant.some c.loop-step.invariant.zero;
+      zero = zeros_pushed below above n c.loop-step.auto.below.0 c.loop-step.auto.above.0
+          c.loop-step.invariant.some c.loop-step.invariant.zero;
     }

@@ -12,7 +12,8 @@ returns c =
     let sealed = c.args.ciphertext.now in
     let k = c.args.h.now in
     let s : c.gf128_mul-s.result ≡ block_product (bit_xor (hash k (hash k 0 extra) sealed) (lengths extra sealed)) k =
-    c.gf128_mul-s.ensures ∙ ap (λ y. block_product (bit_xor y (lengths extra sealed)) k) (c.hash-2.ensures ∙ ap (λ y. hash k y sealed) c.hash.ensures) in
+    c.gf128_mul-s.ensures ∙ ap (λ y. block_product (bit_xor y (lengths extra sealed)) k)
+    (c.hash-2.ensures ∙ ap (λ y. hash k y sealed) c.hash.ensures) in
     let all = s ∙ ap (λ x. block_product (bit_xor (hash x (hash x 0 extra) sealed) (lengths extra sealed)) x) c.requires.block in
     c.plus_key.ensures
     ∙ ap₂ plus_bytes (c.to_be_bytes.ensures ∙ ap (to_be_bytes w128) all) (c.cipher-mask.ensures ∙ ap f c.counter_block.ensures)

@@ -6,7 +6,8 @@ use Rattle.memberlist_keyring.proofs.Files.{no_texts, item_holds, wrong_text}
 use Rattle.memberlist_keyring.proofs.key_file.keys_of_items.Goals as goal
 
 pub returns-in_default-clause-err : goal.returns-in_default-clause-err
-returns-in_default-clause-err c = no_texts view c.args.items.now c.loop-i.i c.index-items-i.result (omega arith) c.index-items-i.is c.in_default.ensures
+returns-in_default-clause-err c = no_texts view c.args.items.now c.loop-i.i c.index-items-i.result
+    (omega arith) c.index-items-i.is c.in_default.ensures
 
 pub returns-then-not-branch-clause-err : goal.returns-then-not-branch-clause-err
 returns-then-not-branch-clause-err c =
@@ -21,4 +22,5 @@ loop-i-preserved c =
     rw good.2
     (HoldInOrder-more ItemHolds view c.args.items.now c.loop-i.i c.index-items-i.result c.loop-i.keys.items _ (omega arith)
     c.index-items-i.is c.loop-i.invariant
-    (item_holds (view c.index-items-i.result) c.in-Some.text.now c.as_bytes.result.now good.0 c.in-Some.ensures c.as_bytes.ensures.value good.1))
+    (item_holds (view c.index-items-i.result) c.in-Some.text.now c.as_bytes.result.now good.0
+    c.in-Some.ensures c.as_bytes.ensures.value good.1))

@@ -12,7 +12,8 @@ unfolding indirect_ping_after
 returns-in_err-values c =
     let p = err_from_is_err_and c.from_residual.result c.from_residual.ensures.1 in
     rw (p.1, p.2)
-    (fault_of _ _ _ (λ e. ap (λ (r : Result Slots WireFault). and_then r (λ slots. Ok (MessageValue.indirect_ping (indirect_ping_of slots)))) e)
+    (fault_of _ _ _ (λ e. ap (λ (r : Result Slots WireFault). and_then r
+    (λ slots. Ok (MessageValue.indirect_ping (indirect_ping_of slots)))) e)
     c.in_err-values.ensures)
 
 pub returns : goal.returns

@@ -17,7 +17,10 @@ returns-in_err-rest c =
 pub loop-preserved : goal.loop-preserved
 loop-preserved c =
     let e : c.args.pairs - c.loop.counter ≡ suc (c.args.pairs - (c.loop.counter + 1)) = omega arith in
-    record { long = c.in_ok-rest.ensures.kept ∙ c.loop.invariant.long; same = sym (one_pair _ _ _ _ _ _ _ e c.in_ok-rest.ensures.exact) ∙ c.loop.invariant.same }
+    record {
+      long = c.in_ok-rest.ensures.kept ∙ c.loop.invariant.long;
+      same = sym (one_pair _ _ _ _ _ _ _ e c.in_ok-rest.ensures.exact) ∙ c.loop.invariant.same;
+    }
 
 pub returns : goal.returns
 returns c = sym c.loop.invariant.same ∙ no_pairs _ _ _ _ (omega arith)

@@ -2,7 +2,8 @@ use Rattle.std.proofs.Common.{◌≡◌, ◌+◌, ◌-◌, suc, take, inl, refl,
 use Rattle.std.proofs.lemmas.Grind.{drop_more_same}
 use Rattle.std.proofs.lemmas.Result.{err_from_is_err_and}
 use Rattle.memberlist_message.specs.Reading.{numbers_at}
-use Rattle.memberlist_message.proofs.Listed.{behind, behind_none, bad_number, one_more, written_front, written_back, written_long, all_numbers, bad_list}
+use Rattle.memberlist_message.proofs.Listed.{behind, behind_none, bad_number, one_more, written_front, written_back}
+use Rattle.memberlist_message.proofs.Listed.{written_long, all_numbers, bad_list}
 use Rattle.memberlist_message.proofs.lists.numbers_over.Goals as goal
 
 pub loop-i-init : goal.loop-i-init
@@ -15,7 +16,9 @@ returns-in_err-number c =
     let p = err_from_is_err_and c.from_residual.result c.from_residual.ensures.1 in
     let e : c.args.count - c.loop-i.i ≡ suc (c.args.count - c.loop-i.i - 1) = omega arith in
     rw (p.1, p.2)
-    (inl (bad_list _ _ _ _ (c.loop-i.invariant.same ∙ ap (behind (take c.loop-i.i c.loop-i.written.items)) (bad_number _ _ _ _ e c.in_err-number.ensures.exact))))
+    (inl (bad_list _ _ _ _ (c.loop-i.invariant.same
+    ∙ ap (behind (take c.loop-i.i c.loop-i.written.items))
+    (bad_number _ _ _ _ e c.in_err-number.ensures.exact))))
 
 pub put-requires : goal.put-requires
 put-requires c = c.loop-i.invariant.inside
@@ -29,7 +32,9 @@ loop-i-preserved c =
     record {
       inside = written_long i _ c.loop-i.written.items _ inside put;
       same = rw (written_front i _ c.loop-i.written.items _ inside put)
-          (one_more c.args.count i _ _ _ _ _ _ (c.loop-i.invariant.same ∙ ap (λ k. behind (take i c.loop-i.written.items) (numbers_at k c.loop-i.rest.now)) e)
+          (one_more c.args.count i _ _ _ _ _ _
+          (c.loop-i.invariant.same ∙ ap (λ k. behind (take i c.loop-i.written.items)
+          (numbers_at k c.loop-i.rest.now)) e)
           c.in_ok-number.ensures.exact);
       kept = written_back i _ c.loop-i.written.items _ inside put ∙ drop_more_same _ _ i c.loop-i.invariant.kept;
     }
@@ -39,4 +44,5 @@ returns c =
     let same : c.args.count ≡ c.loop-i.i = omega arith in
     let none : c.args.count - c.loop-i.i ≡ 0 = omega arith in
     all_numbers c.args.count c.loop-i.i _ _ _ _ same c.loop-i.invariant.inside
-    (c.loop-i.invariant.same ∙ ap (λ k. behind (take c.loop-i.i c.loop-i.written.items) (numbers_at k c.loop-i.rest.now)) none) c.loop-i.invariant.kept
+    (c.loop-i.invariant.same ∙ ap (λ k. behind (take c.loop-i.i c.loop-i.written.items)
+    (numbers_at k c.loop-i.rest.now)) none) c.loop-i.invariant.kept

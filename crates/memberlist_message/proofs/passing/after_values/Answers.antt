@@ -37,7 +37,8 @@ returns-in_err-pending-2 c =
     let e : c.loop.pending ≡ suc (c.loop.pending - 1) = omega arith in
     let many = c.in_err-pending-2.ensures in
     rw (p.1, p.2, many.0)
-    (sym c.loop.invariant.same ∙ one_value _ _ _ _ _ _ _ s e c.loop.invariant.few c.in_ok-more.ensures ∙ too_many _ _ _ (omega (arith, many.1)))
+    (sym c.loop.invariant.same ∙ one_value _ _ _ _ _ _ _ s e c.loop.invariant.few c.in_ok-more.ensures
+    ∙ too_many _ _ _ (omega (arith, many.1)))
 
 pub loop-preserved : goal.loop-preserved
 loop-preserved c =

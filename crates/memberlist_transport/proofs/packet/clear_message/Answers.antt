@@ -13,7 +13,9 @@ returns-in-Ok-Some-clause-holds c =
 pub returns-in-Ok-Some-clause-reason : goal.returns-in-Ok-Some-clause-reason
 returns-in-Ok-Some-clause-reason c =
     let unwraps : Unwraps 1048576 c.args.bytes.now c.in-Ok-Some.inner.now = search rules in
-    IfErr-weaker c.message_of.result _ _ (λ fault h seen. none_inside c.args.bytes.now c.in-Ok-Some.inner.now fault unwraps (h seen)) c.message_of.ensures.reason
+    IfErr-weaker c.message_of.result _ _
+    (λ fault h seen. none_inside c.args.bytes.now c.in-Ok-Some.inner.now fault unwraps
+    (h seen)) c.message_of.ensures.reason
 
 pub returns-in-Err-clause-reason : goal.returns-in-Err-clause-reason
 returns-in-Err-clause-reason c = λ seen.

@@ -12,10 +12,15 @@ returns-in-Ok-clause-err c =
     let opens : OpensStreamFirst c.args.keys.now c.args.bytes.now c.deref.result.now = search rules in
     IfErr-weaker c.unwrapped.result _ _
     (λ fault lacks seen plain inner also wraps.
-    lacks seen inner (subst (λ p. Unwraps c.args.limit p inner) (one_opened_stream c.args.keys.now c.args.bytes.now plain c.deref.result.now also opens) wraps))
+    lacks seen inner (subst (λ p. Unwraps c.args.limit p inner)
+    (one_opened_stream c.args.keys.now c.args.bytes.now plain c.deref.result.now also opens) wraps))
     c.unwrapped.ensures.err
 
 pub returns-in-Err : goal.returns-in-Err
 returns-in-Err c =
     let other : c.in-Err.cause ≢ Memory = search rules in
-    record { ok = tt; err = λ seen plain inner opens wraps. c.in-Err.ensures.lacks other plain (opens_stream c.args.keys.now c.args.bytes.now plain opens) }
+    record {
+      ok = tt;
+      err = λ seen plain inner opens wraps. c.in-Err.ensures.lacks other plain
+          (opens_stream c.args.keys.now c.args.bytes.now plain opens);
+    }

@@ -24,19 +24,24 @@ returns-then-is_sealed-clause-refuses c =
     let begins : BeginsAsSealed c.in_ok-message.message.items = search rules in
     let some : c.args.keys.now ≢ [] = search rules in
     IfErr-weaker c.opened.result _ _
-    (λ fault lacks seen. none_opened c.args.limit c.args.clear c.args.keys.now c.args.bytes.now c.in_ok-message.message.items c.in_ok-message.ensures.ok some begins (lacks seen))
+    (λ fault lacks seen. none_opened c.args.limit c.args.clear c.args.keys.now c.args.bytes.now
+    c.in_ok-message.message.items c.in_ok-message.ensures.ok some begins (lacks seen))
     c.opened.ensures.err
 
 pub returns-then-is_accepted-clause-inside : goal.returns-then-is_accepted-clause-inside
 returns-then-is_accepted-clause-inside c =
     let begins : ¬ BeginsAsSealed c.in_ok-message.message.items = search rules in
     let accepted : AcceptsClear c.args.clear c.args.keys.now =
-    subst (λ b. MatchBool b (AcceptsClear c.args.clear c.args.keys.now) (¬ AcceptsClear c.args.clear c.args.keys.now)) c.if-is_accepted.true c.is_accepted.ensures in
-    read_clear c.args.limit c.args.clear c.args.keys.now c.args.bytes.now c.in_ok-message.message.items c.in_ok-message.ensures.ok accepted begins
+    subst (λ b. MatchBool b (AcceptsClear c.args.clear c.args.keys.now)
+    (¬ AcceptsClear c.args.clear c.args.keys.now)) c.if-is_accepted.true c.is_accepted.ensures in
+    read_clear c.args.limit c.args.clear c.args.keys.now c.args.bytes.now c.in_ok-message.message.items
+    c.in_ok-message.ensures.ok accepted begins
 
 pub returns-else-is_accepted-clause-refuses : goal.returns-else-is_accepted-clause-refuses
 returns-else-is_accepted-clause-refuses c = λ seen.
     let begins : ¬ BeginsAsSealed c.in_ok-message.message.items = search rules in
     let refuses : ¬ AcceptsClear c.args.clear c.args.keys.now =
-    subst (λ b. MatchBool b (AcceptsClear c.args.clear c.args.keys.now) (¬ AcceptsClear c.args.clear c.args.keys.now)) c.if-is_accepted.false c.is_accepted.ensures in
-    none_clear c.args.limit c.args.clear c.args.keys.now c.args.bytes.now c.in_ok-message.message.items c.in_ok-message.ensures.ok refuses begins
+    subst (λ b. MatchBool b (AcceptsClear c.args.clear c.args.keys.now)
+    (¬ AcceptsClear c.args.clear c.args.keys.now)) c.if-is_accepted.false c.is_accepted.ensures in
+    none_clear c.args.limit c.args.clear c.args.keys.now c.args.bytes.now c.in_ok-message.message.items
+    c.in_ok-message.ensures.ok refuses begins

@@ -11,9 +11,11 @@ loop-one-init c = record { same = refl; bytes = λ k. (c.type_inv.one k).fits; o
 pub returns-then-word-another : goal.returns-then-word-another
 returns-then-word-another c =
     let inv = c.loop-one.invariant in
-    let differ : word c.loop-one.one.now ≢ word c.loop-one.other.now = λ same. c.if-word-another.true (c.read_u64-word.ensures ∙ same ∙ sym c.read_u64-another.ensures) in
+    let differ : word c.loop-one.one.now ≢ word c.loop-one.other.now = λ same. c.if-word-another.true
+    (c.read_u64-word.ensures ∙ same ∙ sym c.read_u64-another.ensures) in
     c.cmp.ensures ∙ ap (λ w. nat_cmp w c.read_u64-another.result) c.read_u64-word.ensures ∙ ap (nat_cmp _) c.read_u64-another.ensures
-    ∙ sym (if_unequal c.loop-one.one.now c.loop-one.other.now inv.bytes inv.others c.loop-one-test.true c.if-other-ge-WORD.true differ) ∙ inv.same
+    ∙ sym (if_unequal c.loop-one.one.now c.loop-one.other.now inv.bytes inv.others c.loop-one-test.true
+    c.if-other-ge-WORD.true differ) ∙ inv.same
 
 pub loop-one-smaller : goal.loop-one-smaller
 loop-one-smaller c =
@@ -27,7 +29,8 @@ loop-one-preserved c =
     let level = sym c.read_u64-word.ensures ∙ c.if-word-another.false ∙ c.read_u64-another.ensures in
     rw (take_rest c.loop-one.one.now 8, take_rest c.loop-one.other.now 8)
     (record {
-      same = sym (if_equal c.loop-one.one.now c.loop-one.other.now inv.bytes inv.others c.loop-one-test.true c.if-other-ge-WORD.true level) ∙ inv.same;
+      same = sym (if_equal c.loop-one.one.now c.loop-one.other.now inv.bytes inv.others c.loop-one-test.true
+          c.if-other-ge-WORD.true level) ∙ inv.same;
       bytes = λ k. rw get_or-drop (inv.bytes (8 + k));
       others = λ k. rw get_or-drop (inv.others (8 + k));
     })

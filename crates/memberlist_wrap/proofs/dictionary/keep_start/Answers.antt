@@ -6,7 +6,8 @@ pub returns-in_ok-push-clause-ok : goal.returns-in_ok-push-clause-ok
 returns-in_ok-push-clause-ok c =
     let starts = c.args.starts.now.items in
     c.in_ok-push.ensures.items
-    ∙ sym (take_all 3840 (starts ++ c.args.start ∷ []) (omega (arith, c.len.ensures, c.args.starts.now.ok.0, length-append starts (c.args.start ∷ []))))
+    ∙ sym (take_all 3840 (starts ++ c.args.start ∷ [])
+    (omega (arith, c.len.ensures, c.args.starts.now.ok.0, length-append starts (c.args.start ∷ []))))
 
 pub returns-else-len-lt-MAX_STARTS-clause-ok : goal.returns-else-len-lt-MAX_STARTS-clause-ok
 returns-else-len-lt-MAX_STARTS-clause-ok c =

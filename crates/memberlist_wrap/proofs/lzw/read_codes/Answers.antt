@@ -3,13 +3,15 @@ use Rattle.std.proofs.lemmas.Result.{err_from_is_err_and}
 use Rattle.std.proofs.lemmas.List.{length-append, drop_all}
 use Rattle.memberlist_wrap.specs.Bits.{bits_of}
 use Rattle.memberlist_wrap.specs.Lzw.{width}
-use Rattle.memberlist_wrap.proofs.Codes.{CodesGive-start, CodesGive-clear, CodesGive-word, taken_in, few_left, bits_of_some, read_code, few_again, width_between}
+use Rattle.memberlist_wrap.proofs.Codes.{CodesGive-start, CodesGive-clear, CodesGive-word, taken_in, few_left}
+use Rattle.memberlist_wrap.proofs.Codes.{bits_of_some, read_code, few_again, width_between}
 use Rattle.memberlist_wrap.proofs.Stopping.{trailing, ended, bad_code, large, ends}
 use Rattle.memberlist_wrap.proofs.lzw.read_codes.Goals as goal
 use Rattle.memberlist_wrap.proofs.lzw.read_codes.Goals.{in-None, in-Some-eq256, in-Some+in_ok-append-in-Some}
 
 pub loop-i-init : goal.loop-i-init
-loop-i-init c = rw (c.new-words.ensures, c.new-held.ensures) (record { few = omega arith; within = omega arith; reaches = CodesGive-start c.args.bytes.now })
+loop-i-init c = rw (c.new-words.ensures, c.new-held.ensures)
+    (record { few = omega arith; within = omega arith; reaches = CodesGive-start c.args.bytes.now })
 
 pub append-requires-clause-narrow : goal.append-requires-clause-narrow
 append-requires-clause-narrow c =
@@ -19,15 +21,18 @@ append-requires-clause-narrow c =
 
 pub returns-then-i-bytes-clause-err : goal.returns-then-i-bytes-clause-err
 returns-then-i-bytes-clause-err c m =
-    let next = read_code c.args.bytes.now c.loop-i.words.words c.loop-i.held c.add.new.self c.take.new.self c.loop-i.i c.width.result c.in-Some-eq257.field-0
+    let next = read_code c.args.bytes.now c.loop-i.words.words c.loop-i.held c.add.new.self c.take.new.self
+    c.loop-i.i c.width.result c.in-Some-eq257.field-0
     c.loop-i-test.true c.add.ensures c.width.ensures c.in-Some-eq257.ensures in
     let long = bits_of_some c.args.bytes.now (c.loop-i.i + 1) c.if-i-bytes.true in
-    trailing c.args.limit c.args.bytes.now c.loop-i.words _ _ c.in-Some-eq257.field-0 c.loop-i.invariant.reaches next c.in-Some-eq257.field-0-test
+    trailing c.args.limit c.args.bytes.now c.loop-i.words _ _ c.in-Some-eq257.field-0
+    c.loop-i.invariant.reaches next c.in-Some-eq257.field-0-test
     (omega (arith, long, length-append c.take.new.self (bits_of (drop (c.loop-i.i + 1) c.args.bytes.now))))
 
 pub returns-in-Some-eq257-clause-ok : goal.returns-in-Some-eq257-clause-ok
 returns-in-Some-eq257-clause-ok c =
-    let next = read_code c.args.bytes.now c.loop-i.words.words c.loop-i.held c.add.new.self c.take.new.self c.loop-i.i c.width.result c.in-Some-eq257.field-0
+    let next = read_code c.args.bytes.now c.loop-i.words.words c.loop-i.held c.add.new.self c.take.new.self
+    c.loop-i.i c.width.result c.in-Some-eq257.field-0
     c.loop-i-test.true c.add.ensures c.width.ensures c.in-Some-eq257.ensures in
     let few =
     few_left c.loop-i.held c.add.new.self c.take.new.self _ c.width.result c.in-Some-eq257.field-0
@@ -40,7 +45,8 @@ returns-in-Some-eq257-clause-ok c =
 
 pub returns-in_err-append-in-Some-clause-err : goal.returns-in_err-append-in-Some-clause-err
 returns-in_err-append-in-Some-clause-err c =
-    let next = read_code c.args.bytes.now c.loop-i.words.words c.loop-i.held c.add.new.self c.take.new.self c.loop-i.i c.width.result c.in-Some.code
+    let next = read_code c.args.bytes.now c.loop-i.words.words c.loop-i.held c.add.new.self c.take.new.self
+    c.loop-i.i c.width.result c.in-Some.code
     c.loop-i-test.true c.add.ensures c.width.ensures c.in-Some.ensures in
     let exit = err_from_is_err_and c.from_residual.result c.from_residual.ensures.1 in
     let same = exit.2 in
@@ -67,7 +73,8 @@ loop-i-preserved c =
             few = omega (arith, w.in-None.ensures.1, c.width.ensures);
             within = c.loop-i.invariant.within;
             reaches =
-                rw (taken_in c.args.bytes.now c.loop-i.held c.add.new.self c.loop-i.i _ c.loop-i-test.true refl c.add.ensures) at c.loop-i.invariant.reaches;
+                rw (taken_in c.args.bytes.now c.loop-i.held c.add.new.self c.loop-i.i _ c.loop-i-test.true
+                refl c.add.ensures) at c.loop-i.invariant.reaches;
           })
       | in-Some-eq256 w ↦
           (let next = read_code c.args.bytes.now c.loop-i.words.words c.loop-i.held c.add.new.self c.take.new.self
@@ -83,7 +90,8 @@ loop-i-preserved c =
                 c.loop-i.invariant.reaches next w.in-Some-eq256.field-0-test;
           }))
       | in-Some+in_ok-append-in-Some w ↦
-          (let next = read_code c.args.bytes.now c.loop-i.words.words c.loop-i.held c.add.new.self c.take.new.self c.loop-i.i c.width.result w.in-Some.code
+          (let next = read_code c.args.bytes.now c.loop-i.words.words c.loop-i.held c.add.new.self
+          c.take.new.self c.loop-i.i c.width.result w.in-Some.code
           c.loop-i-test.true c.add.ensures c.width.ensures w.in-Some.ensures in
           let added = w.in_ok-append-in-Some.ensures.appends in
           let short = w.in_ok-append-in-Some.ensures.short in
@@ -95,7 +103,8 @@ loop-i-preserved c =
             within = short;
             reaches =
                 rw added.2
-                (CodesGive-word c.args.bytes.now c.loop-i.words.output c.loop-i.words.words _ _ added.0 w.in-Some.code c.loop-i.invariant.reaches next added.1);
+                (CodesGive-word c.args.bytes.now c.loop-i.words.output c.loop-i.words.words _ _ added.0
+                w.in-Some.code c.loop-i.invariant.reaches next added.1);
           }))
     ]
 

@@ -41,7 +41,8 @@ returns-in_err-inner-in_default-kind-clause-err c =
     let which = c.if-not-is_kind.ensures.0 is_true in
     let kind_is : c.in-Some.first.now ≡ 244 = omega (arith, which) in
     let begins : c.args.bytes.now ≡ 244 ∷ rest = c.in-Some.ensures.cases.0 ∙ ap (λ k. k ∷ rest) kind_is in
-    let exit = err_from_is_err_and c.from_residual-in_err-inner-in_default-kind.result c.from_residual-in_err-inner-in_default-kind.ensures.1 in
+    let exit = err_from_is_err_and c.from_residual-in_err-inner-in_default-kind.result
+    c.from_residual-in_err-inner-in_default-kind.ensures.1 in
     let cause = rw begins at c.in_err-inner-in_default-kind.ensures.refuses in
     rw exit.1 (λ limit. broken label rest begins (omega (arith, c.if-depth-eq0.false)) (_, cause, exit.2))
 
@@ -51,5 +52,6 @@ returns-in_ok-inner-in_default-kind-clause-ok c =
     let which = c.if-not-is_kind.ensures.0 is_true in
     let kind_is : c.in-Some.first.now ≡ 244 = omega (arith, which) in
     let begins : c.args.bytes.now ≡ 244 ∷ rest = c.in-Some.ensures.cases.0 ∙ ap (λ k. k ∷ rest) kind_is in
-    let text = off_label c.args.bytes.now rest _ c.in_ok-inner-in_default-kind.inner.now begins c.in_ok-inner-in_default-kind.ensures.label in
+    let text = off_label c.args.bytes.now rest _ c.in_ok-inner-in_default-kind.inner.now begins
+    c.in_ok-inner-in_default-kind.ensures.label in
     (omega (arith, c.if-depth-eq0.false), text.0, (label, rest, begins, λ limit. text.1))

@@ -18,4 +18,5 @@ pub returns-in-Layer-clause-err : goal.returns-in-Layer-clause-err
 returns-in-Layer-clause-err t c =
     let s = rw c.in-Layer.is at c.in_ok-take_off.ensures.ok in
     IfErr-weaker c.peel.result c.peel.ensures.err
-    (λ fault why limit. ReasonFor-more c.args.depth limit fault c.args.bytes.now c.in-Layer.inner.now s.2.0 s.2.1 s.0 s.2.2 (s.2.3 limit) (why limit))
+    (λ fault why limit. ReasonFor-more c.args.depth limit fault c.args.bytes.now c.in-Layer.inner.now s.2.0
+    s.2.1 s.0 s.2.2 (s.2.3 limit) (why limit))

@@ -15,7 +15,8 @@ returns-in_err-message-clause-err t c =
 
 pub returns-in_err-inner-in-Compression-clause-err : goal.returns-in_err-inner-in-Compression-clause-err
 returns-in_err-inner-in-Compression-clause-err t c =
-    let exit = err_from_is_err_and c.from_residual-in_err-inner-in-Compression.result c.from_residual-in_err-inner-in-Compression.ensures.1 in
+    let exit = err_from_is_err_and c.from_residual-in_err-inner-in-Compression.result
+    c.from_residual-in_err-inner-in-Compression.ensures.1 in
     let is = exit.2 in
     let lzw = rw c.deref.ensures.value at c.in_ok-layer.ensures.decodes in
     let holds = rw (c.deref-2.ensures.value, c.in-Compression.is) at c.in_ok-message.ensures.ok in
@@ -63,5 +64,6 @@ returns-in_ok-inner-in-Compression-clause-err t c =
     let holds = rw (c.deref-2.ensures.value, c.in-Compression.is) at c.in_ok-message.ensures.ok in
     IfErr-weaker c.unwrap_packed.result c.unwrap_packed.ensures.err (λ fault why m.
     inside c.in_ok-layer.layer.items lzw c.in_ok-layer.ensures.within
-    (packed_fails c.args.depth c.args.limit c.in-Compression.left c.in_ok-layer.layer.items c.in-Compression.map.now holds.0 holds.1 (holds.2 c.args.limit)
+    (packed_fails c.args.depth c.args.limit c.in-Compression.left c.in_ok-layer.layer.items
+    c.in-Compression.map.now holds.0 holds.1 (holds.2 c.args.limit)
     c.in_ok-inner-in-Compression.inner.items fault c.in_ok-inner-in-Compression.ensures.reads (why m)))

@@ -7,12 +7,14 @@ use Rattle.memberlist_wrap.proofs.wrappers.unwrap_slice.Goals as goal
 
 pub returns-in_err-packed-in-Compression-clause-err : goal.returns-in_err-packed-in-Compression-clause-err
 returns-in_err-packed-in-Compression-clause-err c =
-    let exit = err_from_is_err_and c.from_residual-in_err-packed-in-Compression.result c.from_residual-in_err-packed-in-Compression.ensures.1 in
+    let exit = err_from_is_err_and c.from_residual-in_err-packed-in-Compression.result
+    c.from_residual-in_err-packed-in-Compression.ensures.1 in
     let is = exit.2 in
     let holds = rw c.in-Compression.is at c.in_ok-message.ensures.ok in
     rw exit.1 (λ m. elim c.in_err-packed-in-Compression.ensures.exact [
       | inl no_map ↦
-          map_fails 4 c.args.limit c.in-Compression.depth c.args.bytes.now c.in-Compression.map.now holds.0 holds.1 (holds.2 c.args.limit) _ _ no_map is
+          map_fails 4 c.args.limit c.in-Compression.depth c.args.bytes.now c.in-Compression.map.now holds.0
+          holds.1 (holds.2 c.args.limit) _ _ no_map is
       | inr memory ↦ absurd (m (is ∙ ap fault_of_map memory))
     ])
 
@@ -33,9 +35,11 @@ returns-in_ok-packed-in-Compression-clause-err c =
 pub returns-in_err-packed-in-Compression-clause-memory : goal.returns-in_err-packed-in-Compression-clause-memory
 returns-in_err-packed-in-Compression-clause-memory c =
     let holds = rw c.in-Compression.is at c.in_ok-message.ensures.ok in
-    λ is. compression_asks 4 c.args.limit c.in-Compression.depth c.args.bytes.now c.in-Compression.map.now holds.0 holds.1 (holds.2 c.args.limit)
+    λ is. compression_asks 4 c.args.limit c.in-Compression.depth c.args.bytes.now c.in-Compression.map.now
+    holds.0 holds.1 (holds.2 c.args.limit)
 
 pub returns-in_ok-packed-in-Compression-clause-memory : goal.returns-in_ok-packed-in-Compression-clause-memory
 returns-in_ok-packed-in-Compression-clause-memory c =
     let holds = rw c.in-Compression.is at c.in_ok-message.ensures.ok in
-    λ is. compression_asks 4 c.args.limit c.in-Compression.depth c.args.bytes.now c.in-Compression.map.now holds.0 holds.1 (holds.2 c.args.limit)
+    λ is. compression_asks 4 c.args.limit c.in-Compression.depth c.args.bytes.now c.in-Compression.map.now
+    holds.0 holds.1 (holds.2 c.args.limit)

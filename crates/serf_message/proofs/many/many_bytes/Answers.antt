@@ -14,7 +14,8 @@ returns-in_err-value c =
 pub loop-preserved : goal.loop-preserved
 loop-preserved c =
     let e : c.args.count - c.loop.counter ≡ suc (c.args.count - (c.loop.counter + 1)) = omega arith in
-    one_more fresh_bytes_at _ _ _ _ _ _ _ _ _ c.loop.invariant e (mapped_more (λ v. v.items) _ _ _ c.in_ok-append.ensures) c.in_ok-value.ensures
+    one_more fresh_bytes_at _ _ _ _ _ _ _ _ _ c.loop.invariant e
+    (mapped_more (λ v. v.items) _ _ _ c.in_ok-append.ensures) c.in_ok-value.ensures
 
 pub returns : goal.returns
 returns c = all_read fresh_bytes_at _ _ _ _ _ c.loop.invariant (omega arith)

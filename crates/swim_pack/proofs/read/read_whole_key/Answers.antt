@@ -16,7 +16,9 @@ unfolding raw_at
 returns-in_err-fill-clause-exact g c =
     let p = err_from_is_err_and c.from_residual-in_err-fill.result c.from_residual-in_err-fill.ensures.1 in
     rw (p.1, p.2)
-    (Reads-then _ c.in_ok-len.ensures.exact (Reads-error (rw (length-take-le c.in_ok-len.len _ c.in_ok-len.ensures.within) at c.in_err-fill.ensures.exact)))
+    (Reads-then _ c.in_ok-len.ensures.exact
+    (Reads-error (rw (length-take-le c.in_ok-len.len _ c.in_ok-len.ensures.within) at
+    c.in_err-fill.ensures.exact)))
 
 pub returns-clause-exact : goal.returns-clause-exact
 unfolding raw_at

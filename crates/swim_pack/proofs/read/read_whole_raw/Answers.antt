@@ -32,8 +32,11 @@ unfolding raw_at
 returns-clause-exact g c =
     let size : length c.deref_mut.result.now ≡ c.in_ok-len.len = c.deref_mut.ensures.len ∙ c.in_ok-bytes.ensures.len in
     Reads-then _ c.in_ok-len.ensures.exact
-    (Reads-seen _ (with_items_is c.in_ok-bytes.bytes c.fill.new.buf (c.fill.auto.buf ∙ c.deref_mut.ensures.len)) (rw size at c.in_ok-fill.ensures.exact))
+    (Reads-seen _ (with_items_is c.in_ok-bytes.bytes c.fill.new.buf
+    (c.fill.auto.buf ∙ c.deref_mut.ensures.len)) (rw size at c.in_ok-fill.ensures.exact))
 
 pub returns-in_err-bytes-clause-memory : goal.returns-in_err-bytes-clause-memory
 returns-in_err-bytes-clause-memory g c =
-    λ _. Reads-takes (Ok c.in_ok-len.len) (λ _ b. (n : ℕ) × (n ≤ c.args.limit) × RawLen b n) (raw_len_takes c.args.limit) c.in_ok-len.ensures.exact
+    λ _. Reads-takes (Ok c.in_ok-len.len)
+    (λ _ b. (n : ℕ) × (n ≤ c.args.limit) × RawLen b n)
+    (raw_len_takes c.args.limit) c.in_ok-len.ensures.exact

@@ -32,7 +32,8 @@ pub returns-clause-one_listing : goal.returns-clause-one_listing
 returns-clause-one_listing c = λ table other claims others h g same. ap listing (TableOf-unique table other claims others h g same)
 
 pub returns-clause-one_dump : goal.returns-clause-one_dump
-returns-clause-one_dump c = λ table other claims others join h g same. ap (λ t. dump_bytes t join) (TableOf-unique table other claims others h g same)
+returns-clause-one_dump c = λ table other claims others join h g same. ap
+    (λ t. dump_bytes t join) (TableOf-unique table other claims others h g same)
 
 pub returns-clause-read_back : goal.returns-clause-read_back
 returns-clause-read_back c = dump_claims

@@ -18,4 +18,5 @@ unreachable-requires c =
     (record { coming = Some c.answer.new.inlet; faults = 0 }) (record { written = Some c.new-lost.result; faults = 0 })
     (record { written = Some c.answer.new.outlet; faults = 0 }) c.args.table.now fault)
     c.in-Err-Wire.field-0-is c.in-Err-Wire.ensures.refused in
-    offer_lacks c.new.result c.answer.new.inlet c.requires.0 c.in-Err-Wire.field-0-0 refused.0 (subst (IsOffer c.requires.0) (sym c.new.ensures) c.requires.1)
+    offer_lacks c.new.result c.answer.new.inlet c.requires.0 c.in-Err-Wire.field-0-0 refused.0
+    (subst (IsOffer c.requires.0) (sym c.new.ensures) c.requires.1)

@@ -23,7 +23,8 @@ returns-in-Less c =
     (sym c.in-Less.ensures)
 
 pub covers-requires : goal.covers-requires
-covers-requires c = sym (exact_bytes (name_of c.get_at-mine.result.now.top) (name_of c.get_at-theirs.result.now.top) (sym c.in-Equal.ensures))
+covers-requires c = sym (exact_bytes (name_of c.get_at-mine.result.now.top)
+    (name_of c.get_at-theirs.result.now.top) (sym c.in-Equal.ensures))
 
 pub returns-then-not-covers : goal.returns-then-not-covers
 returns-then-not-covers c =
@@ -54,7 +55,8 @@ loop-i-preserved-in-Equal c =
           so_far_covers A B c.requires.first c.requires.second c.loop-i.i c.loop-i.j x y h h' read read' c.loop-i.invariant.covered
           ((rw c.if-not-covers.false at c.covers.ensures).0 refl) (exact_bytes (name_of x.top) (name_of y.top) (sym c.in-Equal.ensures));
       own = subst (λ n. IsPlaceOf c.args.first.now.blocks (n + 1) c.after-own.result) c.loop-i.invariant.own.index c.after-own.ensures;
-      other = subst (λ n. IsPlaceOf c.args.second.now.blocks (n + 1) c.after-other.result) c.loop-i.invariant.other.index c.after-other.ensures;
+      other = subst (λ n. IsPlaceOf c.args.second.now.blocks
+          (n + 1) c.after-other.result) c.loop-i.invariant.other.index c.after-other.ensures;
     }
 
 pub loop-i-preserved : goal.loop-i-preserved

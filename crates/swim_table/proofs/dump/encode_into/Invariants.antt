@@ -6,6 +6,9 @@ use Rattle.swim_table.proofs.dump.encode_into.Given as goal
 
 abbrev pub invariant-loop-entry : goal.invariant-loop-entry
 invariant-loop-entry l = record {
-  put : take l.at l.out ++ flat_map state_bytes (Reduced l.entry-iterator) ≡ take l.initial.at l.initial.out ++ flat_map state_bytes (Reduced l.fn.table);
-  place : l.at + length (flat_map state_bytes (Reduced l.entry-iterator)) ≡ l.initial.at + length (flat_map state_bytes (Reduced l.fn.table));
+  put : take l.at l.out ++ flat_map state_bytes
+      (Reduced l.entry-iterator) ≡ take l.initial.at l.initial.out ++ flat_map state_bytes
+      (Reduced l.fn.table);
+  place : l.at + length (flat_map state_bytes (Reduced l.entry-iterator)) ≡ l.initial.at + length
+      (flat_map state_bytes (Reduced l.fn.table));
 }

@@ -10,10 +10,12 @@ pub returns-in-Ok-clause-known : goal.returns-in-Ok-clause-known
 returns-in-Ok-clause-known c =
     let table = items c.args.entries.now in
     let i = index_of c.args.entries.now.blocks c.in-Ok.place in
-    let at : IsAt table (name_of c.args.claim.now) i = subst (λ n. IsAt table n i) (c.bytes.ensures.bytes ∙ c.name.ensures.name) c.in-Ok.ensures.found in
+    let at : IsAt table (name_of c.args.claim.now) i = subst
+    (λ n. IsAt table n i) (c.bytes.ensures.bytes ∙ c.name.ensures.name) c.in-Ok.ensures.found in
     let entry = c.get_at.result.now in
     told_known table c.args.claim.now entry c.covers_claim-known.result
-    (get_at table (name_of c.args.claim.now) i entry c.requires.ascending at ∙ (λ t. Some (sym c.get_at.ensures t))) c.covers_claim-known.ensures
+    (get_at table (name_of c.args.claim.now) i entry c.requires.ascending at
+    ∙ (λ t. Some (sym c.get_at.ensures t))) c.covers_claim-known.ensures
 
 pub returns-in-Err-clause-known : goal.returns-in-Err-clause-known
 returns-in-Err-clause-known c =

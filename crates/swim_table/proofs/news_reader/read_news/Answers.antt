@@ -12,7 +12,8 @@ loop-left-init g c = record {
   some =
       begun_news (g.I.Inlet.seen c.args.inlet.now) (g.I.Inlet.seen c.begin.new.inlet) c.in_ok-begin.field-0 c.header-header.result.now
       c.args.table.now c.new-news.result c.header-header.ensures c.new-news.ensures c.in_ok-begin.ensures.takes c.len.ensures.legal.own;
-  next = subst (λ i. IsPlaceOf c.tiers-entries.result.now.blocks i c.place-next.result) (sym c.place-next.ensures.index) c.place-next.ensures;
+  next = subst (λ i. IsPlaceOf c.tiers-entries.result.now.blocks i c.place-next.result)
+      (sym c.place-next.ensures.index) c.place-next.ensures;
   end = c.begin.ensures.end;
 }
 
@@ -21,7 +22,8 @@ returns-in_err-claim-clause-lacks g c =
     let p = err_from_is_err_and c.from_residual-in_err-claim.result c.from_residual-in_err-claim.ensures.1 in
     rw (p.1, p.2)
     (no_record (g.I.Inlet.seen c.args.inlet.now) (g.I.Inlet.seen c.loop-left.inlet) c.header-header.result.now c.loop-left.left
-    c.args.table.now c.loop-left.news c.loop-left.invariant.some c.in_err-claim.field-0.0 (omega (arith, c.loop-left-test.true)) c.in_err-claim.ensures.lacks)
+    c.args.table.now c.loop-left.news c.loop-left.invariant.some c.in_err-claim.field-0.0
+    (omega (arith, c.loop-left-test.true)) c.in_err-claim.ensures.lacks)
 
 pub returns-in_err-claim-clause-reason : goal.returns-in_err-claim-clause-reason
 returns-in_err-claim-clause-reason g c =
@@ -51,10 +53,13 @@ pub loop-left-preserved : goal.loop-left-preserved
 loop-left-preserved g c = record {
   some =
       read_more (g.I.Inlet.seen c.args.inlet.now) (g.I.Inlet.seen c.loop-left.inlet) (g.I.Inlet.seen c.read_state.new.inlet)
-      c.header-header.result.now c.loop-left.left (c.loop-left.left - 1) c.args.table.now c.loop-left.news c.take_news.new.news c.in_ok-claim.claim
+      c.header-header.result.now c.loop-left.left
+      (c.loop-left.left - 1) c.args.table.now c.loop-left.news c.take_news.new.news
+      c.in_ok-claim.claim
       c.loop-left.invariant.some (omega (arith, c.loop-left-test.true)) c.in_ok-claim.ensures.takes c.len.ensures.legal.own
       (subst (λ t. TableOf t (Reduced t)) c.news.view_is c.news.invariant.own)
-      (subst (λ t. TakesNews t c.loop-left.news c.take_news.new.news c.in_ok-claim.claim) c.tiers-entries.ensures.entries c.in_ok-next.ensures.takes);
+      (subst (λ t. TakesNews t c.loop-left.news c.take_news.new.news c.in_ok-claim.claim)
+      c.tiers-entries.ensures.entries c.in_ok-next.ensures.takes);
   next = c.in_ok-next.ensures.next;
   end = Advances-trans _ _ _ c.loop-left.invariant.end (c.read_state.ensures.exact.rest, c.read_state.ensures.exact.faults_stay);
 }
@@ -64,7 +69,8 @@ returns-in_err-skip_user-clause-lacks g c =
     let p = err_from_is_err_and c.from_residual-in_err-skip_user.result c.from_residual-in_err-skip_user.ensures.1 in
     rw (p.1, p.2)
     (no_user (g.I.Inlet.seen c.args.inlet.now) (g.I.Inlet.seen c.loop-left.inlet) c.header-header.result.now c.loop-left.left
-    c.args.table.now c.loop-left.news c.loop-left.invariant.some c.in_err-skip_user.field-0.0 (omega (arith, c.loop-left-test.false)) c.in_err-skip_user.ensures.lacks)
+    c.args.table.now c.loop-left.news c.loop-left.invariant.some c.in_err-skip_user.field-0.0
+    (omega (arith, c.loop-left-test.false)) c.in_err-skip_user.ensures.lacks)
 
 pub returns-in_err-skip_user-clause-reason : goal.returns-in_err-skip_user-clause-reason
 returns-in_err-skip_user-clause-reason g c =
@@ -79,8 +85,10 @@ returns-in_err-skip_user-clause-end g c = Advances-trans _ _ _ c.loop-left.invar
 
 pub returns-clause-takes : goal.returns-clause-takes
 returns-clause-takes g c =
-    read_all (g.I.Inlet.seen c.args.inlet.now) (g.I.Inlet.seen c.loop-left.inlet) (g.I.Inlet.seen c.skip_user.new.inlet) c.header-header.result.now
-    c.loop-left.left c.args.table.now c.loop-left.news c.loop-left.invariant.some (omega (arith, c.loop-left-test.false)) c.in_ok-skip_user.ensures.takes
+    read_all (g.I.Inlet.seen c.args.inlet.now) (g.I.Inlet.seen c.loop-left.inlet)
+    (g.I.Inlet.seen c.skip_user.new.inlet) c.header-header.result.now
+    c.loop-left.left c.args.table.now c.loop-left.news c.loop-left.invariant.some
+    (omega (arith, c.loop-left-test.false)) c.in_ok-skip_user.ensures.takes
 
 pub returns-clause-end : goal.returns-clause-end
 returns-clause-end g c = Advances-trans _ _ _ c.loop-left.invariant.end c.skip_user.ensures.end

@@ -25,5 +25,6 @@ returns-then-is_eq-clause-found c =
           λ (d : Standing).
           (let at = sym there ∙ slice_get-get_or entries i d within in
           let is : slice_index_or entries i d ≡ entry = cc in
-          exact_bytes (name_of (slice_index_or entries i d).top) c.args.name.now (ap (λ (e : Standing). name_cmp (name_of e.top) c.args.name.now) is ∙ tied));
+          exact_bytes (name_of (slice_index_or entries i d).top) c.args.name.now
+          (ap (λ (e : Standing). name_cmp (name_of e.top) c.args.name.now) is ∙ tied));
     }

@@ -10,5 +10,6 @@ use Rattle.swim_table.proofs.placing.search_place.Goals as goal
 pub returns : goal.returns
 returns c =
     let facts = c.find_by.ensures in
-    let by_name = facts.position (λ (s : Standing). name_cmp (name_of s.top) c.args.name.now) (always_returns_same _ _ _ (λ a r f called. search rules)) in
+    let by_name = facts.position (λ (s : Standing). name_cmp (name_of s.top) c.args.name.now)
+    (always_returns_same _ _ _ (λ a r f called. search rules)) in
     searched_place c.args.entries.now.blocks c.requires.ascending c.args.name.now _ facts.range by_name

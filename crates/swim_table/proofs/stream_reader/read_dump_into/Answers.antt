@@ -9,7 +9,8 @@ pub returns-in_err-read-clause-refuses : goal.returns-in_err-read-clause-refuses
 returns-in_err-read-clause-refuses c =
     let p = err_from_is_err_and c.from_residual.result c.from_residual.ensures.1 in
     let why = c.in_err-read.ensures in
-    rw (p.1, p.2) (refused_whole c.in_err-read.field-0.0 c.args.bytes.now (rw c.new-inlet.ensures at why.lacks) (λ e. absurd (search rules)))
+    rw (p.1, p.2) (refused_whole c.in_err-read.field-0.0 c.args.bytes.now
+    (rw c.new-inlet.ensures at why.lacks) (λ e. absurd (search rules)))
 
 pub returns-in_err-read-clause-reason : goal.returns-in_err-read-clause-reason
 returns-in_err-read-clause-reason c =
@@ -35,9 +36,11 @@ returns-in_err-read-clause-after c front rest claims join text more parts =
 pub returns-then-is_empty-clause-after : goal.returns-then-is_empty-clause-after
 returns-then-is_empty-clause-after c front rest claims join text more parts =
     let read = c.in_ok-read.ensures.takes in
-    let none : c.read_stream_into.new.inlet ≡ [] = sym c.rest.ensures ∙ nil_from_length c.rest.result.now (eqb-true _ _ (sym c.if-is_empty.ensures)) in
+    let none : c.read_stream_into.new.inlet ≡ [] = sym c.rest.ensures
+    ∙ nil_from_length c.rest.result.now (eqb-true _ _ (sym c.if-is_empty.ensures)) in
     let whole : StreamText c.args.bytes.now read.0 c.in_ok-read.read.1 =
-    all_taken c.args.bytes.now read.2.0 c.read_stream_into.new.inlet read.0 c.in_ok-read.read.1 read.2.1 (sym c.new-inlet.ensures ∙ read.2.2) none in
+    all_taken c.args.bytes.now read.2.0 c.read_stream_into.new.inlet read.0 c.in_ok-read.read.1 read.2.1
+    (sym c.new-inlet.ensures ∙ read.2.2) none in
     absurd (trailing_whole c.args.bytes.now front rest claims read.0 join c.in_ok-read.read.1 text parts more whole)
 
 pub returns-else-is_empty-clause-refuses : goal.returns-else-is_empty-clause-refuses
@@ -50,8 +53,10 @@ returns-else-is_empty-clause-refuses c other claims join whole =
 pub returns-then-is_empty-clause-reads : goal.returns-then-is_empty-clause-reads
 returns-then-is_empty-clause-reads c =
     let read = c.in_ok-read.ensures.takes in
-    let none : c.read_stream_into.new.inlet ≡ [] = sym c.rest.ensures ∙ nil_from_length c.rest.result.now (eqb-true _ _ (sym c.if-is_empty.ensures)) in (
+    let none : c.read_stream_into.new.inlet ≡ [] = sym c.rest.ensures
+    ∙ nil_from_length c.rest.result.now (eqb-true _ _ (sym c.if-is_empty.ensures)) in (
       read.0,
       read.1,
-      all_taken c.args.bytes.now read.2.0 c.read_stream_into.new.inlet read.0 c.in_ok-read.read.1 read.2.1 (sym c.new-inlet.ensures ∙ read.2.2) none,
+      all_taken c.args.bytes.now read.2.0 c.read_stream_into.new.inlet read.0 c.in_ok-read.read.1 read.2.1
+          (sym c.new-inlet.ensures ∙ read.2.2) none,
     )

@@ -9,7 +9,9 @@ pub loop-next-init : goal.loop-next-init
 loop-next-init g c =
     let begun = c.in_ok-reader.ensures in
     record {
-      some = started (g.I.Inlet.seen c.args.inlet.now) (g.I.Inlet.seen c.begin_into.new.inlet) c.args.table c.in_ok-reader.reader begun.takes begun.fresh;
+      some = started (g.I.Inlet.seen c.args.inlet.now)
+          (g.I.Inlet.seen c.begin_into.new.inlet) c.args.table c.in_ok-reader.reader begun.takes
+          begun.fresh;
       end = c.begin_into.ensures.end;
     }
 
@@ -17,7 +19,8 @@ pub returns-in_err-next-clause-lacks : goal.returns-in_err-next-clause-lacks
 returns-in_err-next-clause-lacks g c =
     let p = err_from_is_err_and c.from_residual-in_err-next.result c.from_residual-in_err-next.ensures.1 in
     rw (p.1, p.2) (UnlessFailed-weaker (wire_cause c.in_err-next.field-0.0)
-    (none_wanted (g.I.Inlet.seen c.args.inlet.now) (g.I.Inlet.seen c.loop-next.inlet) c.args.table c.loop-next.reader c.loop-next.invariant.some)
+    (none_wanted (g.I.Inlet.seen c.args.inlet.now)
+    (g.I.Inlet.seen c.loop-next.inlet) c.args.table c.loop-next.reader c.loop-next.invariant.some)
     c.in_err-next.ensures.lacks)
 
 pub returns-in_err-next-clause-reason : goal.returns-in_err-next-clause-reason

@@ -1,4 +1,5 @@
-use Rattle.std.proofs.Common.{◌≡◌, ℕ, ◌+◌, ◌-◌, ◌<◌, ◌^◌, ◌∷◌, ◌++◌, [], List, All, length, get_or, take, ap, subst, ◌∙◌, length-append, arith, rules}
+use Rattle.std.proofs.Common.{◌≡◌, ℕ, ◌+◌, ◌-◌, ◌<◌, ◌^◌, ◌∷◌, ◌++◌, [], List, All, length, get_or, take, ap, subst}
+use Rattle.std.proofs.Common.{◌∙◌, length-append, arith, rules}
 use Rattle.std.proofs.lemmas.Grind.{common_steps}
 use Rattle.std.proofs.lemmas.List.{take_all}
 use Rattle.std.proofs.lemmas.List.Elements.{All-more}
@@ -30,8 +31,10 @@ loop-packet-preserved c =
     ap length c.in_ok-write_packet.ensures.ok ∙ length-append _ _ in
     let len : c.len.result - c.len-start.result ≡ length (packet_bytes item) = omega arith in
     let legal : IsLegal item = (c.in_ok-write_packet.ensures.legal, c.in_ok-write_packet.ensures.made_by) in
-    let spelled : c.extend_from_slice-in-loop-packet.new.self.items ≡ c.loop-packet.out.items ++ to_be_bytes w16 (length (packet_bytes item)) =
-    c.in_ok-extend_from_slice-2.ensures.items ∙ ap (λ z. c.loop-packet.out.items ++ z) (c.to_be_bytes.ensures ∙ ap (λ z. to_be_bytes w16 z) len) in
+    let spelled : c.extend_from_slice-in-loop-packet.new.self.items ≡ c.loop-packet.out.items
+    ++ to_be_bytes w16 (length (packet_bytes item)) =
+    c.in_ok-extend_from_slice-2.ensures.items ∙ ap
+    (λ z. c.loop-packet.out.items ++ z) (c.to_be_bytes.ensures ∙ ap (λ z. to_be_bytes w16 z) len) in
     record {
       lengths =
           flat_map-one_more (λ part. to_be_bytes w16 (length part)) packet_bytes packets i item (7 ∷ length packets ∷ []) _ _

@@ -1,6 +1,7 @@
 use Rattle.std.proofs.Common.{◌≡◌, eqb, false, inl, length, rules}
 use Rattle.swim_wire.proofs.Parts.{no_bytes, no_compound}
-use Rattle.swim_wire.proofs.datagram.decode_any_datagram.Goals.{in_default-via-in-Some+else-first-eq-COMPOUND_MESSAGE, in_default-via-in_default}
+use Rattle.swim_wire.proofs.datagram.decode_any_datagram.Goals.{in_default-via-in-Some+else-first-eq-COMPOUND_MESSAGE}
+use Rattle.swim_wire.proofs.datagram.decode_any_datagram.Goals.{in_default-via-in_default}
 use Rattle.swim_wire.proofs.datagram.decode_any_datagram.Goals as goal
 
 pub returns-in_default-clause-lists : goal.returns-in_default-clause-lists

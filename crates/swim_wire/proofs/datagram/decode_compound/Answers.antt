@@ -16,9 +16,11 @@ returns-in_default-split_at_checked-clause-lists c =
 pub returns-clause-lists : goal.returns-clause-lists
 returns-clause-lists c =
     let parts = c.in-Some-split_at_checked.ensures.cases in
-    rw (compound_parts _ _ _ _ _ _ c.in-Some.ensures.cases.0 c.from-lengths_len.ensures parts.0 parts.1 parts.2) c.decode_parts.ensures.lists
+    rw (compound_parts _ _ _ _ _ _ c.in-Some.ensures.cases.0 c.from-lengths_len.ensures parts.0 parts.1
+    parts.2) c.decode_parts.ensures.lists
 
 pub returns-clause-memory : goal.returns-clause-memory
 returns-clause-memory c = λ is.
     let parts = c.in-Some-split_at_checked.ensures.cases in
-    compound_asks _ _ _ _ _ _ c.in-Some.ensures.cases.0 c.from-lengths_len.ensures parts.0 parts.1 parts.2 (c.decode_parts.ensures.memory is)
+    compound_asks _ _ _ _ _ _ c.in-Some.ensures.cases.0 c.from-lengths_len.ensures parts.0 parts.1 parts.2
+    (c.decode_parts.ensures.memory is)

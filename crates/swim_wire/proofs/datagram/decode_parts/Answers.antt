@@ -28,7 +28,8 @@ returns-in_err-take_part-clause-lists c =
     let len : c.from-len.result ≡ from_be_bytes w16 c.in-Some.length.now = search rules in
     let parts = c.in-Some-split_at_checked.ensures.cases in
     rw (p.1, p.2)
-    (wrong_part _ _ _ _ _ c.take_part.new.packets.items _ _ _ c.loop-length.invariant.0 le pair.0 len parts.0 parts.1 c.in_err-take_part.ensures.grows)
+    (wrong_part _ _ _ _ _ c.take_part.new.packets.items _ _ _ c.loop-length.invariant.0 le pair.0 len parts.0
+    parts.1 c.in_err-take_part.ensures.grows)
 
 pub loop-length-preserved : goal.loop-length-preserved
 loop-length-preserved c =
@@ -37,7 +38,8 @@ loop-length-preserved c =
     let le : 2 ≤ length c.loop-length.lengths.now = omega arith in
     let len : c.from-len.result ≡ from_be_bytes w16 c.in-Some.length.now = search rules in
     let parts = c.in-Some-split_at_checked.ensures.cases in (
-      next_part _ _ _ _ _ _ _ _ _ _ _ c.loop-length.invariant.0 le pair.0 pair.1 len parts.0 parts.1 parts.2 c.in_ok-take_part.ensures.grows,
+      next_part _ _ _ _ _ _ _ _ _ _ _ c.loop-length.invariant.0 le pair.0 pair.1 len parts.0 parts.1 parts.2
+          c.in_ok-take_part.ensures.grows,
       λ asks. c.loop-length.invariant.1 (later_part_asks _ _ _ _ _ _ le pair.0 pair.1 len parts.0 parts.2 asks),
     )
 

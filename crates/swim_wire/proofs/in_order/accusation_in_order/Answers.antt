@@ -7,4 +7,5 @@ use Rattle.swim_wire.proofs.in_order.accusation_in_order.Goals as goal
 pub returns-clause-reads : goal.returns-clause-reads
 unfolding raw_text
 returns-clause-reads c =
-    map_in_order accusation_legal refl c.in_ok-from.ensures.reads (next c.in_ok-incarnation.ensures.reads (next c.in_ok-node.ensures.reads done))
+    map_in_order accusation_legal refl c.in_ok-from.ensures.reads
+    (next c.in_ok-incarnation.ensures.reads (next c.in_ok-node.ensures.reads done))

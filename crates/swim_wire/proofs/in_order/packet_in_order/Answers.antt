@@ -12,7 +12,8 @@ returns-in-Some-eq4-default-clause-answers c =
 pub returns-in-Some-eq4-default-clause-memory : goal.returns-in-Some-eq4-default-clause-memory
 returns-in-Some-eq4-default-clause-memory c =
     let is = type_is 4 c.in-Some-eq4-default.ensures.cases.0 cc in
-    if_some_more _ _ c.alive_packet.result (λ read asks memory. packet_asks _ _ 4 is (inl (refl, asks memory))) c.alive_packet.ensures.memory
+    if_some_more _ _ c.alive_packet.result
+    (λ read asks memory. packet_asks _ _ 4 is (inl (refl, asks memory))) c.alive_packet.ensures.memory
 
 pub returns-in-Some-eq3-default-clause-answers : goal.returns-in-Some-eq3-default-clause-answers
 unfolding packet_at
@@ -22,7 +23,9 @@ returns-in-Some-eq3-default-clause-answers c =
 pub returns-in-Some-eq3-default-clause-memory : goal.returns-in-Some-eq3-default-clause-memory
 returns-in-Some-eq3-default-clause-memory c =
     let is = type_is 3 c.in-Some-eq3-default.ensures.cases.0 cc in
-    if_some_more _ _ c.suspect_packet.result (λ read asks memory. packet_asks _ _ 3 is (inr (inl refl, asks memory))) c.suspect_packet.ensures.memory
+    if_some_more _ _ c.suspect_packet.result
+    (λ read asks memory. packet_asks _ _ 3 is
+    (inr (inl refl, asks memory))) c.suspect_packet.ensures.memory
 
 pub returns-in-Some-eq5-default-clause-answers : goal.returns-in-Some-eq5-default-clause-answers
 unfolding packet_at
@@ -32,4 +35,6 @@ returns-in-Some-eq5-default-clause-answers c =
 pub returns-in-Some-eq5-default-clause-memory : goal.returns-in-Some-eq5-default-clause-memory
 returns-in-Some-eq5-default-clause-memory c =
     let is = type_is 5 c.in-Some-eq5-default.ensures.cases.0 cc in
-    if_some_more _ _ c.dead_packet.result (λ read asks memory. packet_asks _ _ 5 is (inr (inr refl, asks memory))) c.dead_packet.ensures.memory
+    if_some_more _ _ c.dead_packet.result
+    (λ read asks memory. packet_asks _ _ 5 is
+    (inr (inr refl, asks memory))) c.dead_packet.ensures.memory

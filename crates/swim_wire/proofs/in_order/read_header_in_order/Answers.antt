@@ -9,4 +9,5 @@ returns-then-pass-clause-read g c =
     let reads = found.reads in
     let shorter = found.shorter in
     header_passed _ _ c.at_hand-hand.result.now c.in_ok-header.rest.now c.in-Ok.header _ c.at_hand-hand.ensures.front
-    (header_told _ reads.0 _ _ c.in-Ok.header reads.1 reads.2 (sym c.in-Ok.ensures.answers)) (omega (arith, shorter)) c.if-pass.ensures.passed
+    (header_told _ reads.0 _ _ c.in-Ok.header reads.1 reads.2 (sym c.in-Ok.ensures.answers))
+    (omega (arith, shorter)) c.if-pass.ensures.passed

@@ -8,7 +8,8 @@ pub returns-clause-reads : goal.returns-clause-reads
 unfolding raw_text
 returns-clause-reads c =
     map_in_order state_legal refl c.in_ok-addr.ensures.reads (next c.in_ok-incarnation.ensures.reads (next c.in_ok-meta.ensures.reads
-    (next c.in_ok-name.ensures.reads (next c.in_ok-port.ensures.reads (next c.in_ok-state.ensures.reads (next c.in_ok-vsn.ensures.reads done))))))
+    (next c.in_ok-name.ensures.reads (next c.in_ok-port.ensures.reads
+    (next c.in_ok-state.ensures.reads (next c.in_ok-vsn.ensures.reads done))))))
 
 pub returns-clause-shorter : goal.returns-clause-shorter
 returns-clause-shorter c = state_shorter _ _ _ (returns-clause-reads c)

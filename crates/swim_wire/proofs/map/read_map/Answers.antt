@@ -39,7 +39,8 @@ returns-in_err-read_pair-clause-exact g c =
 pub returns-in_err-read_pair-clause-memory : goal.returns-in_err-read_pair-clause-memory
 returns-in_err-read_pair-clause-memory g c =
     let left : 0 < c.in_ok-count.count - c.loop.counter = omega arith in
-    fault_exits _ c.from_residual-in_err-read_pair.ensures.1 (λ is. c.loop.invariant.2 (first_asks _ _ _ left (c.in_err-read_pair.ensures.memory is)))
+    fault_exits _ c.from_residual-in_err-read_pair.ensures.1
+    (λ is. c.loop.invariant.2 (first_asks _ _ _ left (c.in_err-read_pair.ensures.memory is)))
 
 pub loop-preserved : goal.loop-preserved
 loop-preserved g c =

@@ -28,7 +28,8 @@ returns-in_ok-read_raw-in-Raw-clause-exact g c =
 pub returns-in_err-read_bool-in-Flag-clause-exact : goal.returns-in_err-read_bool-in-Flag-clause-exact
 unfolding value_at
 returns-in_err-read_bool-in-Flag-clause-exact g c =
-    rw (c.in-Flag.is) (Reads-exits _ _ c.from_residual-in_err-read_bool-in-Flag.ensures.1 (Wire-err c.in_err-read_bool-in-Flag.ensures.exact))
+    rw (c.in-Flag.is) (Reads-exits _ _ c.from_residual-in_err-read_bool-in-Flag.ensures.1
+    (Wire-err c.in_err-read_bool-in-Flag.ensures.exact))
 
 pub returns-in_ok-read_bool-in-Flag-clause-exact : goal.returns-in_ok-read_bool-in-Flag-clause-exact
 unfolding value_at

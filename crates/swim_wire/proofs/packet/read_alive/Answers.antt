@@ -15,7 +15,8 @@ returns-in_err-values-clause-exact g c = Reads-exits _ _ c.from_residual.ensures
 pub returns-clause-exact : goal.returns-clause-exact
 unfolding alive_at
 returns-clause-exact g c =
-    Reads-checked (map_at alive_layout) alive_of (slots_of_alive c.new.result) _ (alive_said _ _ c.new.ensures.says) (alive_check (slots_of_alive c.new.result))
+    Reads-checked (map_at alive_layout) alive_of (slots_of_alive c.new.result) _
+    (alive_said _ _ c.new.ensures.says) (alive_check (slots_of_alive c.new.result))
     c.packet_of_alive.ensures.answers c.in_ok-values.ensures.exact
 
 pub returns-in_err-values-clause-memory : goal.returns-in_err-values-clause-memory

@@ -36,12 +36,17 @@ returns-in_err-found-clause-memory g c = fault_exits _ c.from_residual.ensures.1
 
 pub returns-in-4-clause-memory : goal.returns-in-4-clause-memory
 returns-in-4-clause-memory g c = λ is.
-    type_asks c.in_ok-found.found (MapAsks alive_layout) (λ rest asks. inl (c.in-4.is, asks)) c.in_ok-found.ensures.exact (c.read_alive.ensures.memory is)
+    type_asks c.in_ok-found.found (MapAsks alive_layout)
+    (λ rest asks. inl (c.in-4.is, asks)) c.in_ok-found.ensures.exact (c.read_alive.ensures.memory is)
 
 pub returns-in-3-clause-memory : goal.returns-in-3-clause-memory
 returns-in-3-clause-memory g c = λ is.
-    type_asks c.in_ok-found.found (MapAsks accusation_layout) (λ rest asks. inr (inl c.in-3.is, asks)) c.in_ok-found.ensures.exact (c.read_suspect.ensures.memory is)
+    type_asks c.in_ok-found.found (MapAsks accusation_layout)
+    (λ rest asks. inr (inl c.in-3.is, asks)) c.in_ok-found.ensures.exact
+    (c.read_suspect.ensures.memory is)
 
 pub returns-in-5-clause-memory : goal.returns-in-5-clause-memory
 returns-in-5-clause-memory g c = λ is.
-    type_asks c.in_ok-found.found (MapAsks accusation_layout) (λ rest asks. inr (inr c.in-5.is, asks)) c.in_ok-found.ensures.exact (c.read_dead.ensures.memory is)
+    type_asks c.in_ok-found.found (MapAsks accusation_layout)
+    (λ rest asks. inr (inr c.in-5.is, asks)) c.in_ok-found.ensures.exact
+    (c.read_dead.ensures.memory is)

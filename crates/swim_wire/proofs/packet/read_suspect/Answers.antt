@@ -15,7 +15,8 @@ returns-in_err-values-clause-exact g c = Reads-exits _ _ c.from_residual.ensures
 pub returns-clause-exact : goal.returns-clause-exact
 unfolding suspect_at
 returns-clause-exact g c =
-    Reads-checked (map_at accusation_layout) suspect_of (slots_of_accusation c.new.result) _ (suspect_said _ _ c.new.ensures.says) (suspect_check (slots_of_accusation c.new.result))
+    Reads-checked (map_at accusation_layout) suspect_of (slots_of_accusation c.new.result) _
+    (suspect_said _ _ c.new.ensures.says) (suspect_check (slots_of_accusation c.new.result))
     c.packet_of_suspect.ensures.answers c.in_ok-values.ensures.exact
 
 pub returns-in_err-values-clause-memory : goal.returns-in_err-values-clause-memory

@@ -19,7 +19,8 @@ returns-in_err-values-clause-claim g c = Reads-exits _ _ c.from_residual.ensures
 pub returns-clause-exact : goal.returns-clause-exact
 unfolding record_at
 returns-clause-exact g c =
-    Reads-checked (map_at state_layout) record_of (slots_of_state c.new.result) _ (record_said _ _ c.new.ensures.says) (record_check (slots_of_state c.new.result))
+    Reads-checked (map_at state_layout) record_of (slots_of_state c.new.result) _
+    (record_said _ _ c.new.ensures.says) (record_check (slots_of_state c.new.result))
     c.record_of_state.ensures.answers c.in_ok-values.ensures.exact
 
 pub returns-clause-claim : goal.returns-clause-claim

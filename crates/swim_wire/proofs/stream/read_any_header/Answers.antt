@@ -19,7 +19,8 @@ pub returns-clause-exact : goal.returns-clause-exact
 unfolding header_at
 returns-clause-exact g c =
     Reads-then _ c.in_ok-found.ensures.exact
-    (Reads-checked _ header_of (slots_of_header c.new.result) _ (header_said _ _ c.new.ensures) (header_check (slots_of_header c.new.result)) (inl c.header_of.ensures.answers)
+    (Reads-checked _ header_of (slots_of_header c.new.result) _ (header_said _ _ c.new.ensures)
+    (header_check (slots_of_header c.new.result)) (inl c.header_of.ensures.answers)
     c.in_ok-values.ensures.exact)
 
 pub returns-clause-no_memory : goal.returns-clause-no_memory

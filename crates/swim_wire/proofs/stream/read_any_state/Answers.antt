@@ -15,7 +15,8 @@ returns-in_err-values-clause-exact g c = Reads-exits _ _ c.from_residual.ensures
 pub returns-clause-exact : goal.returns-clause-exact
 unfolding state_at
 returns-clause-exact g c =
-    Reads-checked (map_at state_layout) state_of (slots_of_state c.new.result) _ (state_said _ _ c.new.ensures.says) (state_check (slots_of_state c.new.result))
+    Reads-checked (map_at state_layout) state_of (slots_of_state c.new.result) _
+    (state_said _ _ c.new.ensures.says) (state_check (slots_of_state c.new.result))
     c.claim_of_state.ensures.answers c.in_ok-values.ensures.exact
 
 pub returns-in_err-values-clause-memory : goal.returns-in_err-values-clause-memory

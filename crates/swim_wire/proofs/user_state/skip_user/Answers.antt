@@ -38,7 +38,8 @@ loop-left-preserved g c =
     let le : c.min-size.result ≤ c.loop-left.left = search rules in
     let sum = gone.2 in
     let lengths = length-append gone.0 c.pull.new.buf in
-    let rest : length (gone.0 ++ c.pull.new.buf) + (c.loop-left.left - c.min-size.result) ≡ c.args.len = omega (arith, long, le, sum, lengths) in
+    let rest : length (gone.0 ++ c.pull.new.buf) +
+    (c.loop-left.left - c.min-size.result) ≡ c.args.len = omega (arith, long, le, sum, lengths) in
     record {
       dropped = (gone.0 ++ c.pull.new.buf, Consumes-trans _ _ _ gone.0 c.pull.new.buf gone.1 c.in_ok-pull.ensures.ok, rest);
       faults = let before = c.loop-left.invariant.faults in let after = c.in_ok-pull.ensures.faults_stay in omega arith;

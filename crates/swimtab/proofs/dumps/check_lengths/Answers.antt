@@ -19,4 +19,5 @@ loop-place-preserved c =
 
 pub returns-clause-short : goal.returns-clause-short
 returns-clause-short c =
-    all_files (λ file. file.items) c.args.files.now c.loop-place.place AreShortFiles (omega (arith, c.loop-place-test.false)) c.loop-place.invariant
+    all_files (λ file. file.items) c.args.files.now c.loop-place.place AreShortFiles
+    (omega (arith, c.loop-place-test.false)) c.loop-place.invariant

@@ -5,4 +5,5 @@ use Rattle.swimtab.specs.Files.{FilesClaims}
 use Rattle.swimtab.proofs.dumps.joined.Given as goal
 
 abbrev pub invariant-loop-place : goal.invariant-loop-place
-invariant-loop-place l = (claims : List Claim) × TableOf l.table claims × FilesClaims (take l.place (map (λ file. file.items) l.files)) claims
+invariant-loop-place l = (claims : List Claim) × TableOf l.table claims
+    × FilesClaims (take l.place (map (λ file. file.items) l.files)) claims

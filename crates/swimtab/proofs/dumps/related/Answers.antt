@@ -11,7 +11,8 @@ pub returns-in_err-check_length-2-clause-refuses : goal.returns-in_err-check_len
 returns-in_err-check_length-2-clause-refuses c =
     let p = err_from_is_err_and c.from_residual-in_err-check_length-2.result c.from_residual-in_err-check_length-2.ensures.1 in
     rw (p.1, p.2)
-    (second_long c.args.first.now _ _ c.in_ok-check_length.ensures.short c.in_err-check_length-2.ensures.long.0 c.in_err-check_length-2.ensures.long.1)
+    (second_long c.args.first.now _ _ c.in_ok-check_length.ensures.short
+    c.in_err-check_length-2.ensures.long.0 c.in_err-check_length-2.ensures.long.1)
 
 pub returns-in_err-table-clause-refuses : goal.returns-in_err-table-clause-refuses
 returns-in_err-table-clause-refuses c =
@@ -24,7 +25,8 @@ returns-in_err-other-clause-refuses c =
     let p = err_from_is_err_and c.from_residual-in_err-other.result c.from_residual-in_err-other.ensures.1 in
     let short = both_short c.args.first.now c.args.second.now c.in_ok-check_length.ensures.short c.in_ok-check_length-2.ensures.short in
     rw (p.1, p.2)
-    (second_wrong c.args.first.now c.args.second.now _ _ short c.in_ok-table.ensures.reads.1 c.in_err-other.ensures.place c.in_err-other.ensures.refuses)
+    (second_wrong c.args.first.now c.args.second.now _ _ short c.in_ok-table.ensures.reads.1
+    c.in_err-other.ensures.place c.in_err-other.ensures.refuses)
 
 pub returns-clause-relates : goal.returns-clause-relates
 returns-clause-relates c =

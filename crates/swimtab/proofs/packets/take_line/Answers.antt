@@ -6,4 +6,5 @@ use Rattle.swimtab.proofs.packets.take_line.Goals as goal
 
 pub returns-clause-tells : goal.returns-clause-tells
 returns-clause-tells c =
-    subst (λ (text : List ℕ). IfErr c.take_text.result (λ what. what ≢ Memory → TellsText text what)) c.without_return.ensures c.take_text.ensures.tells
+    subst (λ (text : List ℕ). IfErr c.take_text.result
+    (λ what. what ≢ Memory → TellsText text what)) c.without_return.ensures c.take_text.ensures.tells

@@ -8,7 +8,8 @@ pub returns-clause-takes : goal.returns-clause-takes
 returns-clause-takes c =
     let decoded : decode_of c.args.text.now ≡ Ok c.deref.result.now = search rules in
     let some : 0 < length c.args.text.now = search rules in
-    text_taken c.args.text.now c.deref.result.now c.args.table.now c.take_datagram.new.table c.take_datagram.result some decoded c.take_datagram.ensures.takes
+    text_taken c.args.text.now c.deref.result.now c.args.table.now c.take_datagram.new.table
+    c.take_datagram.result some decoded c.take_datagram.ensures.takes
 
 pub returns-clause-refuses : goal.returns-clause-refuses
 returns-clause-refuses c =

@@ -15,10 +15,14 @@ loop-k-preserved c =
     let table = c.in-Some.node.now.table in
     let number = c.len-k-end.ensures in
     let within = c.loop-k-test.true in
-    let below : c.loop-k.k < length tables = (let same = length-map c.args.cluster.now (λ (n : NodeValue). n.table) in omega (arith, number, within, same)) in
-    let at = slice_get-map (λ (n : NodeValue). n.table) c.args.cluster.now c.loop-k.k ∙ ap (option_map (λ (n : NodeValue). n.table)) (sym c.in-Some.ensures) in
+    let below : c.loop-k.k < length tables = (let same = length-map c.args.cluster.now
+    (λ (n : NodeValue). n.table) in omega (arith, number, within, same)) in
+    let at = slice_get-map (λ (n : NodeValue). n.table) c.args.cluster.now c.loop-k.k
+    ∙ ap (option_map (λ (n : NodeValue). n.table)) (sym c.in-Some.ensures) in
     let is = sym (get_or_from_slice_get tables c.loop-k.k table table at) in
     c.in_ok-extend_from_slice.ensures.items
-    ∙ ap₂ (λ (xs ys : List ℕ). xs ++ ys) (c.in_ok-write_node_line.ensures ∙ ap (λ (xs : List ℕ). xs ++ node_line c.loop-k.k) c.loop-k.invariant)
+    ∙ ap₂ (λ (xs ys : List ℕ). xs ++ ys)
+    (c.in_ok-write_node_line.ensures ∙ ap
+    (λ (xs : List ℕ). xs ++ node_line c.loop-k.k) c.loop-k.invariant)
     (c.deref.ensures.value ∙ c.in_ok-list.ensures ∙ ap listing c.table.ensures.table)
     ∙ sym (shown_more tables c.loop-k.k table below is)

@@ -11,13 +11,16 @@ use Rattle.swimtab.proofs.replay.played.Goals as goal
 pub returns-in-Err-clause-stops : goal.returns-in-Err-clause-stops
 returns-in-Err-clause-stops c =
     let stopped = subst (λ (events : List Event). Stopped c.args.plan.nodes.items c.run.new.self events c.in-Err.stop) c.deref.ensures.value
-    (subst (λ (nodes : List NodeValue). Stopped nodes c.run.new.self c.deref.result.now c.in-Err.stop) c.new-cluster.ensures c.in-Err.ensures.stopped) in (
+    (subst (λ (nodes : List NodeValue). Stopped nodes c.run.new.self c.deref.result.now c.in-Err.stop)
+    c.new-cluster.ensures c.in-Err.ensures.stopped) in (
       c.run.new.self,
       c.in-Err.stop,
       c.index.result.now,
-      stopped_in_plan c.args.plan.nodes.items c.run.new.self c.args.plan.events.items (length c.args.plan.nodes.items) c.args.plan.level c.in-Err.stop stopped,
+      stopped_in_plan c.args.plan.nodes.items c.run.new.self c.args.plan.events.items
+          (length c.args.plan.nodes.items) c.args.plan.level c.in-Err.stop stopped,
       ap (λ (r : Report). r.what) c.at.ensures ∙ c.what_of_why.ensures,
-      event_line_within c.args.plan.lines.items c.args.plan.level c.in-Err.stop.done c.index.result.now (omega (arith, stopped.before, c.requires.lines))
+      event_line_within c.args.plan.lines.items c.args.plan.level c.in-Err.stop.done c.index.result.now
+          (omega (arith, stopped.before, c.requires.lines))
           ∙ ap (λ (n : ℕ). Some n) (sym c.index.ensures),
       ap (λ (r : Report). r.place) c.at.ensures,
     )

@@ -11,7 +11,8 @@ pub returns-in_err-plan-clause-refuses : goal.returns-in_err-plan-clause-refuses
 returns-in_err-plan-clause-refuses c =
     let err = err_from_is_err_and c.from_residual.result c.from_residual.ensures.1 in
     rw (err.1 ∙ ap (λ (r : Report). Err r) err.2)
-    (λ not_memory short other. wrong_line_no_script c.args.input.now c.in_err-plan.field-0.0.place c.in_err-plan.field-0.0.what (c.in_err-plan.ensures.line not_memory short))
+    (λ not_memory short other. wrong_line_no_script c.args.input.now c.in_err-plan.field-0.0.place
+    c.in_err-plan.field-0.0.what (c.in_err-plan.ensures.line not_memory short))
 
 pub returns-in_err-plan-clause-line : goal.returns-in_err-plan-clause-line
 returns-in_err-plan-clause-line c =
@@ -33,7 +34,9 @@ returns-in_err-cluster-clause-line c =
     let err = err_from_is_err_and c.from_residual-in_err-cluster.result c.from_residual-in_err-cluster.ensures.1 in
     let stops = c.in_err-cluster.ensures.stops in
     rw (err.1 ∙ ap (λ (r : Report). Err r) err.2)
-    (λ not_memory short other. absurd (other (subst IsOfEvent (sym stops.4) (why_of_event stops.1.why (λ memory. not_memory (stops.4 ∙ memory))))))
+    (λ not_memory short other. absurd (other
+    (subst IsOfEvent (sym stops.4) (why_of_event stops.1.why
+    (λ memory. not_memory (stops.4 ∙ memory))))))
 
 pub returns-in-Ok-clause-replays : goal.returns-in-Ok-clause-replays
 returns-in-Ok-clause-replays c =

@@ -2,7 +2,8 @@ use Rattle.std.proofs.Common.{◌≡◌, ◌∙◌, ◌++◌, sym, ap, ap₂, ma
 use Rattle.std.specs.Prelude.{option_map, string_bytes}
 use Rattle.std.proofs.lemmas.List.{map-append}
 use Rattle.std.proofs.lemmas.Result.{err_from_is_err_and}
-use Rattle.clap.specs.Words.{fault_of, found_of, is_simple, is_simple_and_free, matches_of, rows_of, subcommand_of, subcommand_rows_of, takes}
+use Rattle.clap.specs.Words.{fault_of, found_of, is_simple, is_simple_and_free, matches_of, rows_of, subcommand_of}
+use Rattle.clap.specs.Words.{subcommand_rows_of, takes}
 use Rattle.clap.specs.Kinds.{HasKind}
 use Rattle.swim_program.proofs.Commands.{memory_of, refusal}
 use Rattle.swimunwrap.specs.Chosen.{Choice}
@@ -40,8 +41,10 @@ pub returns-in-Some-clause-asks : goal.returns-in-Some-clause-asks
 returns-in-Some-clause-asks c =
     let words = map string_bytes c.args.words.now in
     let m = c.in_ok-matches.ensures.matches (ap is_simple c.in_ok-command.ensures ∙ program_is_simple) in
-    let flags : rows_of (found_of c.in_ok-matches.matches) ≡ matches_of program words = m.0 ∙ ap (λ a. matches_of a words) c.in_ok-command.ensures in
-    let found : subcommand_rows_of c.in_ok-matches.matches ≡ subcommand_of program words = m.1 ∙ ap (λ a. subcommand_of a words) c.in_ok-command.ensures in
+    let flags : rows_of (found_of c.in_ok-matches.matches) ≡ matches_of program words = m.0 ∙ ap
+    (λ a. matches_of a words) c.in_ok-command.ensures in
+    let found : subcommand_rows_of c.in_ok-matches.matches ≡ subcommand_of program words = m.1 ∙ ap
+    (λ a. subcommand_of a words) c.in_ok-command.ensures in
     let before = c.in_ok-key_files.ensures ∙ ap key_words flags in
     let keys =
     ap (map string_bytes) c.in_ok-append-in-Some.ensures.items
@@ -58,8 +61,10 @@ pub returns-clause-asks : goal.returns-clause-asks
 returns-clause-asks c =
     let words = map string_bytes c.args.words.now in
     let m = c.in_ok-matches.ensures.matches (ap is_simple c.in_ok-command.ensures ∙ program_is_simple) in
-    let flags : rows_of (found_of c.in_ok-matches.matches) ≡ matches_of program words = m.0 ∙ ap (λ a. matches_of a words) c.in_ok-command.ensures in
-    let found : subcommand_rows_of c.in_ok-matches.matches ≡ subcommand_of program words = m.1 ∙ ap (λ a. subcommand_of a words) c.in_ok-command.ensures in
+    let flags : rows_of (found_of c.in_ok-matches.matches) ≡ matches_of program words = m.0 ∙ ap
+    (λ a. matches_of a words) c.in_ok-command.ensures in
+    let found : subcommand_rows_of c.in_ok-matches.matches ≡ subcommand_of program words = m.1 ∙ ap
+    (λ a. subcommand_of a words) c.in_ok-command.ensures in
     asks_lines (subcommand_of program words) (matches_of program words) (rows_of (found_of c.in_ok-matches.matches)) c.new-in-None-2.result
     (c.in-None.ensures.rows ∙ ap (option_map (λ p. p.1)) found) flags
     (ap (λ (r : Choice). r.verb) c.new-in-None-2.ensures ∙ c.verb_of.ensures)

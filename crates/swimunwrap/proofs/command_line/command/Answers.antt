@@ -14,5 +14,6 @@ returns c =
     c.in_ok-with_keys.ensures.shape (search rules) ∙ ap₂ with_rule skipping c.key_argument.ensures.rule in
     let flagged : app_of c.in_ok-with_flags.with_flags ≡ with_rule (with_rule (with_rule bare skip_rule) key_rule) clear_rule =
     c.in_ok-with_flags.ensures.shape (search rules) ∙ ap₂ with_rule keyed c.clear_argument.ensures.rule in
-    let added : app_of c.in_ok-add_stream.field-0 ≡ program = c.in_ok-add_stream.ensures ∙ ap (λ (a : App). with_subcommand a stream_command.top) flagged in
+    let added : app_of c.in_ok-add_stream.field-0 ≡ program = c.in_ok-add_stream.ensures ∙ ap
+    (λ (a : App). with_subcommand a stream_command.top) flagged in
     IfOk-weaker c.bin_name.result _ _ (λ whole h. ap app_of_fields h.0 ∙ added) c.bin_name.ensures

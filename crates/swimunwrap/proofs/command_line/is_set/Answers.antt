@@ -6,7 +6,8 @@ use Rattle.swimunwrap.proofs.command_line.is_set.Goals as goal
 
 pub returns-in-Some : goal.returns-in-Some
 returns-in-Some c =
-    c.eq.ensures ∙ set_by c.get_str.result c.in-Some.word _ (c.get_str.ensures ∙ first_value-rows (found_of c.args.matches.now) c.args.id.now) c.in-Some.is
+    c.eq.ensures ∙ set_by c.get_str.result c.in-Some.word _
+    (c.get_str.ensures ∙ first_value-rows (found_of c.args.matches.now) c.args.id.now) c.in-Some.is
 
 pub returns-in-None : goal.returns-in-None
 returns-in-None c =

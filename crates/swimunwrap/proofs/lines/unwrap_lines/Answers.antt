@@ -48,7 +48,8 @@ loop-index-preserved c =
     (here.0, here.1) c.loop-index.invariant.2 added.2 in
     let shown =
     subst
-    (λ (s : Shown). AllBecome c.args.clear c.args.keys.now c.args.skip (map (λ p. p.1.now) c.loop-index.yielded ++ c.in-Some.line.now ∷ []) s.text s.causes)
+    (λ (s : Shown). AllBecome c.args.clear c.args.keys.now c.args.skip
+    (map (λ p. p.1.now) c.loop-index.yielded ++ c.in-Some.line.now ∷ []) s.text s.causes)
     (sym added.3) next.1 in (
       search rules,
       search rules,

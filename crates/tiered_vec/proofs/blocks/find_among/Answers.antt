@@ -89,7 +89,8 @@ returns-in-Err-clause-position g c = λ ord k up.
     let is = block_read bs low b h c.index-blocks-low.is in
     let read = c.deref.ensures.value ∙ is in
     let next : c.loop-high.high ≡ low + 1 = omega (arith, c.loop-high-test.false, c.loop-high.invariant.some) in
-    gap_among ord (shape bs) low c.in-Err.at h' (omega (arith, ap length read, c.in-Err.ensures.bound)) (omega (arith, good.filled, ap length is))
+    gap_among ord (shape bs) low c.in-Err.at h' (omega (arith, ap length read, c.in-Err.ensures.bound))
+    (omega (arith, good.filled, ap length is))
     (subst (Narrowed ord (shape bs) low) next i.1)
     (subst
     (λ xs. IsNonDecreasingBy (λ y. ordering_index (ord y)) xs → IsPartitionPoint (λ y. ord y ≡ Less) (λ y. ord y ≡ Greater) xs c.in-Err.at)

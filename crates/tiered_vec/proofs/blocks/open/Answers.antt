@@ -39,7 +39,12 @@ returns-then-place-le-HALF-clause-room g c =
     let read = block_read bs k c.index.result.now (omega (arith, h, long)) c.index.ensures in
     let full : length (block_at s k) ≡ block_size = omega (arith, ap length read, fits.fits, c.len.ensures, c.index.result.now.ok.0) in
     let is = subst (λ u. shape c.split.new.blocks.items ≡ cut u k) (ap shape c.in_ok-make_spares-2.ensures.items) c.split.ensures.shape in
-    omega (arith, load-is_cut s (shape c.split.new.blocks.items) k h full c.requires.each is, c.split.ensures.spares, c.in_ok-make_spares-2.ensures.more)
+    omega (
+      arith,
+      load-is_cut s (shape c.split.new.blocks.items) k h full c.requires.each is,
+      c.split.ensures.spares,
+      c.in_ok-make_spares-2.ensures.more,
+    )
 
 pub returns-clause-ok : goal.returns-clause-ok
 unfolding index_of
@@ -55,8 +60,10 @@ returns-clause-ok g c =
     let read = block_read bs k c.index.result.now (omega (arith, h, long)) c.index.ensures in
     let full : length (block_at s k) ≡ block_size = omega (arith, ap length read, fits.fits, c.len.ensures, c.index.result.now.ok.0) in
     let is = subst (λ u. shape c.split.new.blocks.items ≡ cut u k) (ap shape c.in_ok-make_spares-2.ensures.items) c.split.ensures.shape in
-    subst (λ q. IsOpened s (shape c.split.new.blocks.items) (index_of s q) (record { block = k + 1; at = c.place.inside.at - half_size })) c.place.view_is
-    (opened-upper s (shape c.split.new.blocks.items) k h full c.requires.each is c.place.inside.at (omega arith) (omega (arith, gap.in_range, full)))
+    subst (λ q. IsOpened s (shape c.split.new.blocks.items) (index_of s q)
+    (record { block = k + 1; at = c.place.inside.at - half_size })) c.place.view_is
+    (opened-upper s (shape c.split.new.blocks.items) k h full c.requires.each is c.place.inside.at
+    (omega arith) (omega (arith, gap.in_range, full)))
 
 pub returns-clause-room : goal.returns-clause-room
 returns-clause-room g c =
@@ -71,4 +78,9 @@ returns-clause-room g c =
     let read = block_read bs k c.index.result.now (omega (arith, h, long)) c.index.ensures in
     let full : length (block_at s k) ≡ block_size = omega (arith, ap length read, fits.fits, c.len.ensures, c.index.result.now.ok.0) in
     let is = subst (λ u. shape c.split.new.blocks.items ≡ cut u k) (ap shape c.in_ok-make_spares-2.ensures.items) c.split.ensures.shape in
-    omega (arith, load-is_cut s (shape c.split.new.blocks.items) k h full c.requires.each is, c.split.ensures.spares, c.in_ok-make_spares-2.ensures.more)
+    omega (
+      arith,
+      load-is_cut s (shape c.split.new.blocks.items) k h full c.requires.each is,
+      c.split.ensures.spares,
+      c.in_ok-make_spares-2.ensures.more,
+    )

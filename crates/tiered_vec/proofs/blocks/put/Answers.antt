@@ -10,4 +10,6 @@ returns-clause-shape g c =
     shape-set bs c.args.block c.insert.new.self
     ∙ ap (set (shape bs) c.args.block)
     (c.in-Ok.ensures.items
-    ∙ ap (λ l. insert l c.args.at c.args.x) (block_read bs c.args.block c.index_mut-block.result.now c.requires.block c.index_mut-block.ensures.value))
+    ∙ ap (λ l. insert l c.args.at c.args.x)
+    (block_read bs c.args.block c.index_mut-block.result.now c.requires.block
+    c.index_mut-block.ensures.value))

@@ -16,5 +16,6 @@ returns-clause-shape g c =
     ∙ shape-insert (set bs k c.move_upper.new.block) (k + 1) c.move_upper.new.upper
     ∙ ap (λ t. insert t (k + 1) c.move_upper.new.upper.items) (shape-set bs k c.move_upper.new.block)
     ∙ ap (λ l. insert (set (shape bs) k l) (k + 1) c.move_upper.new.upper.items) (c.move_upper.ensures.lower ∙ ap (take half_size) read)
-    ∙ ap (λ l. insert (set (shape bs) k (take half_size (get_or (shape bs) k []))) (k + 1) l) (c.move_upper.ensures.upper ∙ ap (drop half_size) read)
+    ∙ ap (λ l. insert (set (shape bs) k (take half_size (get_or (shape bs) k []))) (k + 1) l)
+    (c.move_upper.ensures.upper ∙ ap (drop half_size) read)
     ∙ cut-insert (shape bs) k (omega (arith, c.requires.block, length-map bs (λ b. b.items)))

@@ -10,4 +10,5 @@ returns-clause-shape g c =
     shape-set bs c.args.block c.remove.new.self
     ∙ ap (set (shape bs) c.args.block)
     (c.remove.ensures.items
-    ∙ ap (λ l. remove l c.args.at) (block_read bs c.args.block c.index_mut-block.result.now c.requires.block c.index_mut-block.ensures.value))
+    ∙ ap (λ l. remove l c.args.at) (block_read bs c.args.block c.index_mut-block.result.now c.requires.block
+    c.index_mut-block.ensures.value))

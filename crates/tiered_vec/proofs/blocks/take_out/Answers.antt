@@ -18,7 +18,12 @@ returns-then-not-is_empty g c =
     let p : Position = record { block = c.place.inside.block; at = c.place.inside.at } in
     let x = c.take_from-x.result in
     let here : IsPlace s p = subst (IsPlace s) (sym c.place.view_is) c.requires.place in
-    let within : p.block < length bs = omega (arith, here.in_block, c.take_from-x.ensures.len, length-map c.args.blocks.now.items (λ b. b.items)) in
+    let within : p.block < length bs = omega (
+      arith,
+      here.in_block,
+      c.take_from-x.ensures.len,
+      length-map c.args.blocks.now.items (λ b. b.items),
+    ) in
     let read = ap length (block_read bs p.block c.index.result.now within c.index.ensures) in
     let some = eqb-false c.index.result.now.len 0 (sym c.is_empty.ensures ∙ c.if-not-is_empty.true) in
     let out =
@@ -44,7 +49,12 @@ returns g c =
     let p : Position = record { block = c.place.inside.block; at = c.place.inside.at } in
     let x = c.take_from-x.result in
     let here : IsPlace s p = subst (IsPlace s) (sym c.place.view_is) c.requires.place in
-    let within : p.block < length bs = omega (arith, here.in_block, c.take_from-x.ensures.len, length-map c.args.blocks.now.items (λ b. b.items)) in
+    let within : p.block < length bs = omega (
+      arith,
+      here.in_block,
+      c.take_from-x.ensures.len,
+      length-map c.args.blocks.now.items (λ b. b.items),
+    ) in
     let read = ap length (block_read bs p.block c.index.result.now within c.index.ensures) in
     let none = eqb-true c.index.result.now.len 0 (sym c.is_empty.ensures ∙ c.if-not-is_empty.false) in
     let out =

@@ -6,4 +6,5 @@ pub returns : goal.returns
 unfolding time_of
 returns c =
     c.min.ensures
-    ∙ ap₂ (λ (m t : ℕ). min m t) (c.moved-later.ensures ∙ ap (λ (n : ℕ). moved c.args.self.offset n) c.unshifted-nanos.ensures.is) c.from-most.ensures
+    ∙ ap₂ (λ (m t : ℕ). min m t) (c.moved-later.ensures ∙ ap
+    (λ (n : ℕ). moved c.args.self.offset n) c.unshifted-nanos.ensures.is) c.from-most.ensures

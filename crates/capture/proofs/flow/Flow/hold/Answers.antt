@@ -1,4 +1,5 @@
-use Rattle.std.proofs.Common.{◌≡◌, ◌≤◌, ◌<◌, ◌+◌, ◌-◌, ◌++◌, ◌∷◌, [], List, length, take, drop, inl, inr, sym, ◌∙◌, arith, rules, length-append, length-take, length-drop}
+use Rattle.std.proofs.Common.{◌≡◌, ◌≤◌, ◌<◌, ◌+◌, ◌-◌, ◌++◌, ◌∷◌, [], List, length, take, drop, inl, inr, sym, ◌∙◌}
+use Rattle.std.proofs.Common.{arith, rules, length-append, length-take, length-drop}
 use Rattle.std.specs.Prelude.{None, is_ok}
 use Rattle.std.specs.List.{AllWithin}
 use Rattle.capture.specs.Flows.{placed, end_of, byte_at, InOrder, IsClean, AreCovered, SaysFrom}
@@ -85,13 +86,23 @@ invariant_of-self c =
     let count : length found ≡ stop - here = c.in_ok-patched.ensures.len in
     let some : here < stop = c.if-stop-here.false in
     let le : m ≤ n = index_below xs here stop m n low high fits_m some in
-    let bytes = put_bytes xs seg here stop m n found c.args.self.now.in_order low mid near high fits_m fits_n clean clean_stop some count front back says_found in
+    let bytes = put_bytes xs seg here stop m n found c.args.self.now.in_order low mid near high fits_m fits_n
+    clean clean_stop some count front back says_found in
     let order = put_order xs seg here stop m n found old.in_order low mid near high fits_m fits_n clean clean_stop some count in
     let gap = length old.text.items in
     let tight : byte_at gap (take m xs ++ placed here found ∷ drop n xs) ≡ None =
     sym (bytes gap) ∙ held_tight xs seg gap old.tight c.requires.apart in
     let long : length (take m xs ++ placed here found ∷ drop n xs) ≤ 4096 =
-    simp (length-append, length-take, length-drop) (omega (arith, c.if-from-len-ge-MAX_WAITING.false, le, fits_n, fits_m, c.len.ensures, old.waiting.ok.0)) in
+    simp (length-append, length-take, length-drop)
+    (omega (
+      arith,
+      c.if-from-len-ge-MAX_WAITING.false,
+      le,
+      fits_n,
+      fits_m,
+      c.len.ensures,
+      old.waiting.ok.0,
+    )) in
     elim (which (is_ok c.put.result)) [
       | inl is ↦
           (let items : c.put.new.pieces.items ≡ take m xs ++ placed here found ∷ drop n xs = rw (is, c.of-piece.ensures) at c.put.ensures in
@@ -124,6 +135,7 @@ returns-clause-counts c = λ _ segments says.
     let count : length found ≡ stop - here = c.in_ok-patched.ensures.len in
     let some : here < stop = c.if-stop-here.false in
     let le : m ≤ n = index_below xs here stop m n low high fits_m some in
-    let bytes = put_bytes xs seg here stop m n found c.args.self.now.in_order low mid near high fits_m fits_n clean clean_stop some count front back says_found in
+    let bytes = put_bytes xs seg here stop m n found c.args.self.now.in_order low mid near high fits_m fits_n
+    clean clean_stop some count front back says_found in
     rw (c.in_ok-put.ensures, c.of-piece.ensures) (
     says_put segments (flow_text c.args.self.now) seg (take m xs ++ placed here found ∷ drop n xs) bytes says)

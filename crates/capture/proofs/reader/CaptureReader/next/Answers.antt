@@ -10,7 +10,8 @@ loop-init g c = none
 pub loop-preserved : goal.loop-preserved
 loop-preserved g c =
     more c.loop.counter c.loop.self (g.I.Inlet.seen c.loop.inlet) c.step.new.self (g.I.Inlet.seen c.step.new.inlet) c.loop.invariant
-    (step-seen c.loop.self c.step.new.self c.step.new.bytes.items None (rw (c.in-Ok-None.is, c.in-Ok-None.field-0-is) at c.step.ensures.exact))
+    (step-seen c.loop.self c.step.new.self c.step.new.bytes.items None
+    (rw (c.in-Ok-None.is, c.in-Ok-None.field-0-is) at c.step.ensures.exact))
 
 pub returns-in-Ok-Some : goal.returns-in-Ok-Some
 returns-in-Ok-Some g c = record {
@@ -45,7 +46,13 @@ returns-in-Err-Fault g c =
         at = c.loop.self;
         from = g.I.Inlet.seen c.loop.inlet;
         passed = c.loop.invariant;
-        last = (inl (Reads-error (rw (c.in-Err-Fault.is, c.in-Err-Fault.field-0-is) at c.step.ensures.exact)), rw c.in-Err-Fault.is at c.step.ensures.kept);
+        last = (
+          inl (Reads-error (rw (
+            c.in-Err-Fault.is,
+            c.in-Err-Fault.field-0-is,
+          ) at c.step.ensures.exact)),
+          rw c.in-Err-Fault.is at c.step.ensures.kept,
+        );
       };
     })
 

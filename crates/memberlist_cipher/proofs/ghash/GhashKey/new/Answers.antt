@@ -10,7 +10,9 @@ invariant_of-result c =
     let small : h < 2 ^ 128 = omega arith in
     let items =
     c.append_planes-2.ensures.items
-    ∙ ap (λ (o : List ℕ). o ++ planes_of c.times_x_4.result) (c.append_planes.ensures.items ∙ ap (λ (o : List ℕ). o ++ planes_of h) c.in_ok-planes.ensures.items)
+    ∙ ap (λ (o : List ℕ). o ++ planes_of c.times_x_4.result)
+    (c.append_planes.ensures.items ∙ ap
+    (λ (o : List ℕ). o ++ planes_of h) c.in_ok-planes.ensures.items)
     ∙ ap (λ (v : ℕ). planes_of h ++ planes_of v) c.times_x_4.ensures in
     let block = ap planes_block items ∙ planes_block_is h small in (
       items ∙ ap all_planes (sym block),
@@ -24,6 +26,8 @@ returns c =
     let h = c.args.block in
     let small : h < 2 ^ 128 = omega arith in
     ap planes_block (c.append_planes-2.ensures.items
-    ∙ ap (λ (o : List ℕ). o ++ planes_of c.times_x_4.result) (c.append_planes.ensures.items ∙ ap (λ (o : List ℕ). o ++ planes_of h) c.in_ok-planes.ensures.items)
+    ∙ ap (λ (o : List ℕ). o ++ planes_of c.times_x_4.result)
+    (c.append_planes.ensures.items ∙ ap
+    (λ (o : List ℕ). o ++ planes_of h) c.in_ok-planes.ensures.items)
     ∙ ap (λ (v : ℕ). planes_of h ++ planes_of v) c.times_x_4.ensures)
     ∙ planes_block_is h small

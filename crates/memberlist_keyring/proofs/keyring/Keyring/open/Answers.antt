@@ -23,15 +23,18 @@ returns-clause-first c =
 
 pub returns-clause-lacks : goal.returns-clause-lacks
 returns-clause-lacks c =
-    opens_none Encryption c.try_keys.result c.args.self.now c.deref.result.now c.args.bytes.now _ _ (c.deref.ensures.value ∙ c.self.view_is) c.cut_label.ensures
+    opens_none Encryption c.try_keys.result c.args.self.now c.deref.result.now c.args.bytes.now _ _
+    (c.deref.ensures.value ∙ c.self.view_is) c.cut_label.ensures
     c.try_keys.ensures.lacks
 
 pub returns-clause-reason : goal.returns-clause-reason
 returns-clause-reason c =
-    refused PacketCause c.try_keys.result c.args.self.now c.deref.result.now c.args.bytes.now _ _ (c.deref.ensures.value ∙ c.self.view_is) c.cut_label.ensures
+    refused PacketCause c.try_keys.result c.args.self.now c.deref.result.now c.args.bytes.now _ _
+    (c.deref.ensures.value ∙ c.self.view_is) c.cut_label.ensures
     c.try_keys.ensures.reason
 
 pub returns-clause-memory : goal.returns-clause-memory
 returns-clause-memory c =
-    asks PacketCause c.try_keys.result c.args.self.now c.deref.result.now c.args.bytes.now _ _ (c.deref.ensures.value ∙ c.self.view_is) c.cut_label.ensures
+    asks PacketCause c.try_keys.result c.args.self.now c.deref.result.now c.args.bytes.now _ _
+    (c.deref.ensures.value ∙ c.self.view_is) c.cut_label.ensures
     c.try_keys.ensures.memory

@@ -23,15 +23,18 @@ returns-clause-first c =
 
 pub returns-clause-lacks : goal.returns-clause-lacks
 returns-clause-lacks c =
-    opens_none StreamEncryption c.try_keys.result c.args.self.now c.deref.result.now c.args.bytes.now _ _ (c.deref.ensures.value ∙ c.self.view_is) c.cut_label.ensures
+    opens_none StreamEncryption c.try_keys.result c.args.self.now c.deref.result.now c.args.bytes.now _ _
+    (c.deref.ensures.value ∙ c.self.view_is) c.cut_label.ensures
     c.try_keys.ensures.lacks
 
 pub returns-clause-reason : goal.returns-clause-reason
 returns-clause-reason c =
-    refused StreamCause c.try_keys.result c.args.self.now c.deref.result.now c.args.bytes.now _ _ (c.deref.ensures.value ∙ c.self.view_is) c.cut_label.ensures
+    refused StreamCause c.try_keys.result c.args.self.now c.deref.result.now c.args.bytes.now _ _
+    (c.deref.ensures.value ∙ c.self.view_is) c.cut_label.ensures
     c.try_keys.ensures.reason
 
 pub returns-clause-memory : goal.returns-clause-memory
 returns-clause-memory c =
-    asks StreamCause c.try_keys.result c.args.self.now c.deref.result.now c.args.bytes.now _ _ (c.deref.ensures.value ∙ c.self.view_is) c.cut_label.ensures
+    asks StreamCause c.try_keys.result c.args.self.now c.deref.result.now c.args.bytes.now _ _
+    (c.deref.ensures.value ∙ c.self.view_is) c.cut_label.ensures
     c.try_keys.ensures.memory

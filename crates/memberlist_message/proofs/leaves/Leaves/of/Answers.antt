@@ -2,12 +2,15 @@ use Rattle.std.proofs.Common.{◌≡◌, ℕ, ◌-◌, List, [], ◌∷◌, ◌+
 use Rattle.std.proofs.lemmas.List.{map-append}
 use Rattle.memberlist_message.specs.Compounds.{PartsValue, parts_in, truncated_in}
 use Rattle.memberlist_message.specs.Leaves.{AreLeaves}
-use Rattle.memberlist_message.proofs.Opening.{Going, only_leaf, going_begins, going_ends, ends_smaller, ends_fit, leaf_smaller, going_leaf, compound_smaller, going_compound, going_done}
+use Rattle.memberlist_message.proofs.Opening.{Going, only_leaf, going_begins, going_ends, ends_smaller, ends_fit}
+use Rattle.memberlist_message.proofs.Opening.{leaf_smaller, going_leaf, compound_smaller, going_compound, going_done}
 use Rattle.memberlist_message.proofs.leaves.Leaves.of.Goals as goal
 
 -- the bytes of one more part
-and_part : (xs ys : List (Bor (List ℕ))) (x : Bor (List ℕ)) → ys ≡ xs ++ x ∷ [] → map (λ (r : Bor (List ℕ)). r.now) ys ≡ map (λ (r : Bor (List ℕ)). r.now) xs ++ x.now ∷ []
-and_part xs ys x is = ap (λ (zs : List (Bor (List ℕ))). map (λ (r : Bor (List ℕ)). r.now) zs) is ∙ map-append (λ (r : Bor (List ℕ)). r.now) xs (x ∷ [])
+and_part : (xs ys : List (Bor (List ℕ))) (x : Bor (List ℕ)) → ys ≡ xs ++ x ∷ []
+    → map (λ (r : Bor (List ℕ)). r.now) ys ≡ map (λ (r : Bor (List ℕ)). r.now) xs ++ x.now ∷ []
+and_part xs ys x is = ap (λ (zs : List (Bor (List ℕ))). map (λ (r : Bor (List ℕ)). r.now) zs) is ∙ map-append
+    (λ (r : Bor (List ℕ)). r.now) xs (x ∷ [])
 
 none_yet : (xs : List (Bor (List ℕ))) → xs ≡ [] → map (λ (r : Bor (List ℕ)). r.now) xs ≡ []
 none_yet xs is = ap (λ (zs : List (Bor (List ℕ))). map (λ (r : Bor (List ℕ)). r.now) zs) is
@@ -20,7 +23,8 @@ emptied old new n no_more items rest =
 pub returns-in_default : goal.returns-in_default
 returns-in_default c =
     subst (λ (xs : List (List ℕ)). AreLeaves (c.args.message.now ∷ []) xs 0)
-    (sym (and_part _ _ c.args.message c.in_ok-push.ensures.items ∙ ap (λ (xs : List (List ℕ)). xs ++ c.args.message.now ∷ []) (none_yet _ c.new-taken.ensures.items)))
+    (sym (and_part _ _ c.args.message c.in_ok-push.ensures.items ∙ ap
+    (λ (xs : List (List ℕ)). xs ++ c.args.message.now ∷ []) (none_yet _ c.new-taken.ensures.items)))
     (only_leaf _ c.in_default.ensures)
 
 pub loop-parts-init : goal.loop-parts-init
@@ -44,30 +48,35 @@ loop-parts-preserved-in_default-next_part c =
     let last = c.in_default-next_part.ensures.part in
     let kept = c.in_default-next_part.ensures.kept in
     going_ends _ _ _ _ _ c.in-Some-pop.parts c.loop-parts.invariant c.in-Some-pop.ensures.items _ last
-    (c.untaken-truncated.ensures.truncated (ap (λ (p : PartsValue). parts_in p.lens p.bytes) kept ∙ last) ∙ ap (λ (p : PartsValue). truncated_in p.lens p.bytes) kept)
+    (c.untaken-truncated.ensures.truncated (ap (λ (p : PartsValue). parts_in p.lens p.bytes) kept ∙ last)
+    ∙ ap (λ (p : PartsValue). truncated_in p.lens p.bytes) kept)
     (c.untaken-truncated.ensures.untaken ∙ ap (λ (p : PartsValue). length p.lens) kept)
 
 pub loop-parts-smaller-in_default-of : goal.loop-parts-smaller-in_default-of
 loop-parts-smaller-in_default-of c =
     let n = c.in-Some-next_part.ensures in
-    leaf_smaller _ _ _ _ _ c.in-Some-pop.parts c.loop-parts.invariant c.in-Some-pop.ensures.items c.next_part.new.self _ _ n.part n.truncated n.kept n.bytes c.in_ok-push-3.ensures.items
+    leaf_smaller _ _ _ _ _ c.in-Some-pop.parts c.loop-parts.invariant c.in-Some-pop.ensures.items
+    c.next_part.new.self _ _ n.part n.truncated n.kept n.bytes c.in_ok-push-3.ensures.items
 
 pub loop-parts-preserved-in_default-of : goal.loop-parts-preserved-in_default-of
 loop-parts-preserved-in_default-of c =
     let n = c.in-Some-next_part.ensures in
-    going_leaf _ _ _ _ _ c.in-Some-pop.parts c.loop-parts.invariant c.in-Some-pop.ensures.items c.next_part.new.self _ _ n.part n.truncated n.kept n.bytes c.in_ok-push-3.ensures.items
+    going_leaf _ _ _ _ _ c.in-Some-pop.parts c.loop-parts.invariant c.in-Some-pop.ensures.items
+    c.next_part.new.self _ _ n.part n.truncated n.kept n.bytes c.in_ok-push-3.ensures.items
     _ c.in_default-of.ensures (and_part _ _ c.in-Some-next_part.part c.in_ok-push-4.ensures.items)
 
 pub loop-parts-smaller : goal.loop-parts-smaller
 loop-parts-smaller c =
     let n = c.in-Some-next_part.ensures in
-    compound_smaller _ _ _ _ _ c.in-Some-pop.parts c.loop-parts.invariant c.in-Some-pop.ensures.items c.next_part.new.self _ _ n.part n.truncated n.kept n.bytes c.in_ok-push-3.ensures.items
+    compound_smaller _ _ _ _ _ c.in-Some-pop.parts c.loop-parts.invariant c.in-Some-pop.ensures.items
+    c.next_part.new.self _ _ n.part n.truncated n.kept n.bytes c.in_ok-push-3.ensures.items
     c.in-Some-of.inner _ c.in-Some-of.ensures c.in_ok-push-5.ensures.items
 
 pub loop-parts-preserved : goal.loop-parts-preserved
 loop-parts-preserved c =
     let n = c.in-Some-next_part.ensures in
-    going_compound _ _ _ _ _ c.in-Some-pop.parts c.loop-parts.invariant c.in-Some-pop.ensures.items c.next_part.new.self _ _ n.part n.truncated n.kept n.bytes c.in_ok-push-3.ensures.items
+    going_compound _ _ _ _ _ c.in-Some-pop.parts c.loop-parts.invariant c.in-Some-pop.ensures.items
+    c.next_part.new.self _ _ n.part n.truncated n.kept n.bytes c.in_ok-push-3.ensures.items
     c.in-Some-of.inner _ c.in-Some-of.ensures c.in_ok-push-5.ensures.items
 
 pub returns : goal.returns

@@ -11,7 +11,8 @@ returns-clause-truncated c =
     let view = ap (λ (p : PartsValue). truncated_in p.lens p.bytes) c.self.view_is in
     let len : c.from.result ≡ from_be_bytes w16 c.in_ok-len.len.now = c.from.ensures ∙ c.from_be_bytes.ensures in
     let split = first_length c.self.inside.lens.now _ _ a.0 a.1 a.2 ∙ ap (λ n. n ∷ lengths_in c.in_ok-len.lens.now) (sym len) in
-    ap (λ (bytes : List ℕ). truncated_in (lengths_in c.in_ok-len.lens.now) bytes) b.2 ∙ sym (taken c.from.result (lengths_in c.in_ok-len.lens.now) c.self.inside.bytes.now b.0)
+    ap (λ (bytes : List ℕ). truncated_in (lengths_in c.in_ok-len.lens.now) bytes) b.2
+    ∙ sym (taken c.from.result (lengths_in c.in_ok-len.lens.now) c.self.inside.bytes.now b.0)
     ∙ sym (ap (λ (lens : List ℕ). truncated_in lens c.self.inside.bytes.now) split) ∙ view
 
 pub returns-clause-kept : goal.returns-clause-kept

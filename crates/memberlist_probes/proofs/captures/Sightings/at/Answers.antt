@@ -7,8 +7,12 @@ pub loop-seen-preserved : goal.loop-seen-preserved
 loop-seen-preserved l =
     let items = l.deref-seen-items.result.now in
     subst (WasNotSeen l.args.captures.now l.args.host)
-    (sym (ap (λ n. take n items) (add-one l.loop-seen.seen-index) ∙ take-suc items l.loop-seen.seen-index (record { capture = 0; time = 0 }) l.loop-seen-test.true))
-    (All-push (λ seen. IsAt l.args.captures.now seen.capture l.args.host → ⊥) (take l.loop-seen.seen-index items) (slice_index_or items l.loop-seen.seen-index (record { capture = 0; time = 0 })) l.loop-seen.invariant l.if-is_at.ensures)
+    (sym (ap (λ n. take n items) (add-one l.loop-seen.seen-index)
+    ∙ take-suc items l.loop-seen.seen-index (record { capture = 0; time = 0 }) l.loop-seen-test.true))
+    (All-push (λ seen. IsAt l.args.captures.now seen.capture l.args.host
+    → ⊥) (take l.loop-seen.seen-index items)
+    (slice_index_or items l.loop-seen.seen-index
+    (record { capture = 0; time = 0 })) l.loop-seen.invariant l.if-is_at.ensures)
 
 pub returns : goal.returns
 returns l =
@@ -22,7 +26,9 @@ returns-then-is_at l =
     let items = l.deref-seen-items.result.now in
     let seen = slice_index_or items l.loop-seen.seen-index (record { capture = 0; time = 0 }) in (
       seen,
-      subst (λ all. Contains all seen) (l.deref-seen-items.ensures.value ∙ l.self.view_is) (All-contains_itself items l.loop-seen.seen-index (record { capture = 0; time = 0 }) l.loop-seen-test.true),
+      subst (λ all. Contains all seen) (l.deref-seen-items.ensures.value ∙ l.self.view_is)
+          (All-contains_itself items l.loop-seen.seen-index
+          (record { capture = 0; time = 0 }) l.loop-seen-test.true),
       l.if-is_at.ensures,
       refl,
     )

@@ -6,8 +6,12 @@ pub loop-seen-preserved : goal.loop-seen-preserved
 loop-seen-preserved c =
     let items = c.deref-seen-items.result.now in
     subst (All (λ seen. seen.capture ≡ c.args.capture → ⊥))
-    (sym (ap (λ n. take n items) (add-one c.loop-seen.seen-index) ∙ take-suc items c.loop-seen.seen-index (record { capture = 0; time = 0 }) c.loop-seen-test.true))
-    (All-push (λ seen. seen.capture ≡ c.args.capture → ⊥) (take c.loop-seen.seen-index items) (slice_index_or items c.loop-seen.seen-index (record { capture = 0; time = 0 })) c.loop-seen.invariant c.if-seen-capture.false)
+    (sym (ap (λ n. take n items) (add-one c.loop-seen.seen-index)
+    ∙ take-suc items c.loop-seen.seen-index (record { capture = 0; time = 0 }) c.loop-seen-test.true))
+    (All-push (λ seen. seen.capture ≡ c.args.capture
+    → ⊥) (take c.loop-seen.seen-index items)
+    (slice_index_or items c.loop-seen.seen-index
+    (record { capture = 0; time = 0 })) c.loop-seen.invariant c.if-seen-capture.false)
 
 pub returns : goal.returns
 returns c =

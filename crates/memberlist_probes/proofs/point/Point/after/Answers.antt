@@ -5,7 +5,8 @@ use Rattle.memberlist_probes.proofs.point.Point.after.Goals as goal
 
 pub returns-in-Either : goal.returns-in-Either
 returns-in-Either c = λ packets is. subst (IsPointOf ((c.args.from, c.args.to) ∷ packets)) (sym c.narrowed.ensures)
-    (of_either packets _ _ (c.args.from, c.args.to) _ _ c.is_end.ensures c.is_end-in-Either.ensures (subst (IsPointOf packets) c.in-Either.is is))
+    (of_either packets _ _ (c.args.from, c.args.to) _ _ c.is_end.ensures c.is_end-in-Either.ensures
+    (subst (IsPointOf packets) c.in-Either.is is))
 
 pub returns-in-At : goal.returns-in-At
 returns-in-At c = λ packets is. subst (IsPointOf ((c.args.from, c.args.to) ∷ packets)) (sym c.kept.ensures)

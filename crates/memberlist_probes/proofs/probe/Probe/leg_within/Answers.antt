@@ -5,7 +5,8 @@ use Rattle.memberlist_probes.proofs.probe.Probe.leg_within.Goals as goal
 
 pub returns : goal.returns
 returns c = λ world ahead clocks complete refuses.
-    shows_within c.args.captures.now c.args.self.now.pinged c.args.self.now.acked (socket_ip c.args.self.now.from) (socket_ip c.args.self.now.to) world ahead clocks
+    shows_within c.args.captures.now c.args.self.now.pinged c.args.self.now.acked
+    (socket_ip c.args.self.now.from) (socket_ip c.args.self.now.to) world ahead clocks
     (record {
       timeout = c.args.timeout;
       at_prober = record { ping = None; ack = None };

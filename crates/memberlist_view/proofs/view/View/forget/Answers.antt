@@ -14,9 +14,11 @@ without view wait time entries left is h = ap (λ l. record { wait = wait; entri
 pub returns-clause-forgets : goal.returns-clause-forgets
 returns-clause-forgets c =
     without c.args.self.now c.self.inside.wait c.args.time c.self.inside.entries.entries c.retain.new.self.entries (sym c.self.view_is)
-    (filter_same_pairs _ (λ e. not (is_dropped c.self.inside.wait c.args.time e.1)) _ (λ k v b w f' t. (search rules, search rules, search rules)) _ _
+    (filter_same_pairs _ (λ e. not (is_dropped c.self.inside.wait c.args.time e.1)) _
+    (λ k v b w f' t. (search rules, search rules, search rules)) _ _
     c.retain.ensures.filtered)
 
 pub returns-clause-view : goal.returns-clause-view
 returns-clause-view c = λ past v.
-    subst (λ w. IsViewOf w (about_others c.args.self.now c.args.time past)) (sym (returns-clause-forgets c)) (IsViewOf-others c.args.self.now c.args.time past v)
+    subst (λ w. IsViewOf w (about_others c.args.self.now c.args.time past)) (sym (returns-clause-forgets c))
+    (IsViewOf-others c.args.self.now c.args.time past v)

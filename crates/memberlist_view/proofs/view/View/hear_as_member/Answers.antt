@@ -18,8 +18,12 @@ one false b h = cc h
 pub returns-then-knows-clause-view : goal.returns-then-knows-clause-view
 returns-then-knows-clause-view c =
     let is : is_heeded c.args.self.now c.args.heard.now ≡ true = elim c.if-is_alive.branch [
-      | then-is_alive w ↦ one (is_alive c.args.heard.now.said) (is_known (entry_of c.args.self.now (about c.args.heard.now.said))) (search rules)
-      | else-is_alive w ↦ either (is_alive c.args.heard.now.said) (is_known (entry_of c.args.self.now (about c.args.heard.now.said))) (search rules)
+      | then-is_alive w ↦ one (is_alive c.args.heard.now.said)
+          (is_known (entry_of c.args.self.now (about c.args.heard.now.said))) (search rules)
+      | else-is_alive w ↦ either (is_alive c.args.heard.now.said)
+          (is_known (entry_of c.args.self.now (about c.args.heard.now.said))) (search rules)
     ] in
     let all : heeded c.args.self.now c.args.heard.now ≡ c.args.heard.now ∷ [] = ap (λ b. if b then c.args.heard.now ∷ [] else []) is in
-    on_ok_weaker c.hear.result (λ h past v. subst (λ (l : List Heard). IsViewOf c.hear.new.self (past ++ l)) (sym all) (h past v)) c.hear.ensures.view
+    on_ok_weaker c.hear.result (λ h past v. subst
+    (λ (l : List Heard). IsViewOf c.hear.new.self (past ++ l)) (sym all)
+    (h past v)) c.hear.ensures.view

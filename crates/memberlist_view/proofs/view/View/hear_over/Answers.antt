@@ -9,7 +9,8 @@ use Rattle.memberlist_view.proofs.view.View.hear_over.Goals as goal
 pub returns-clause-view : goal.returns-clause-view
 returns-clause-view c =
     on_ok_weaker c.take.result (λ e past v.
-    subst (λ w. IsViewOf w (past ++ c.args.heard.now ∷ [])) (sym e) (IsViewOf-after c.args.self.now past c.args.heard.now v)) c.take.ensures.step
+    subst (λ w. IsViewOf w (past ++ c.args.heard.now ∷ [])) (sym e)
+    (IsViewOf-after c.args.self.now past c.args.heard.now v)) c.take.ensures.step
 
 is_told : (what : Change) → IsSome what → IsSome (told what)
 is_told None h = h

@@ -39,7 +39,14 @@ returns-then-to-from-clause-large c e =
     omega (arith, c.len-start.ensures, inside.output.ok.0, ap (λ (m : DecoderState). length m.output) c.self.view_is) in (
       word,
       subst P c.self.view_is stands,
-      omega (arith, start, ends.some, c.requires.short, length-again inside.output.items c.index-from.result.now c.start_after-to.result ends.some ends.within),
+      omega (
+        arith,
+        start,
+        ends.some,
+        c.requires.short,
+        length-again inside.output.items c.index-from.result.now c.start_after-to.result ends.some
+            ends.within,
+      ),
     )
 
 pub copy_again-requires-clause-some : goal.copy_again-requires-clause-some

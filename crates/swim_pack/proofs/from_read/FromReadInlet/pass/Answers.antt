@@ -11,5 +11,8 @@ returns-clause-passed g c =
     let short = c.if-count-self.false in
     let within : i.start + k ≤ i.end = grind arith in
     let size : (i.start + k) - i.start ≡ k = omega arith in
-    let room : (i.start + k) - i.start ≤ length (drop i.start i.buffer) = omega (arith, length-drop i.start i.buffer) in
-    (slice_range i.buffer i.start (i.start + k), length-take-le _ _ room ∙ size, rw (← view) (Consumes-given _ i.buffer i.start k i.end within))
+    let room : (i.start + k) - i.start ≤ length (drop i.start i.buffer) = omega (arith, length-drop i.start i.buffer) in (
+      slice_range i.buffer i.start (i.start + k),
+      length-take-le _ _ room ∙ size,
+      rw (← view) (Consumes-given _ i.buffer i.start k i.end within),
+    )

@@ -17,7 +17,9 @@ both_of c =
     c.in_ok-exchange_nodes.ensures.exchanges
 
 -- all nodes were written back
-written_of : (c : goal.After-pair) → take c.self.inside.nodes.len (c.exchange_nodes.new.nodes ++ drop (length c.exchange_nodes.new.nodes) c.self.inside.nodes.items) ≡ c.exchange_nodes.new.nodes
+written_of : (c : goal.After-pair)
+    → take c.self.inside.nodes.len (c.exchange_nodes.new.nodes ++ drop
+    (length c.exchange_nodes.new.nodes) c.self.inside.nodes.items) ≡ c.exchange_nodes.new.nodes
 written_of c =
     let items = c.self.inside.nodes.items in
     let number = c.deref_mut.ensures.len in

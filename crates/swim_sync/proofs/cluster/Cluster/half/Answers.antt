@@ -48,4 +48,5 @@ returns-clause-refused c =
 
 pub invariant_of-self : goal.invariant_of-self
 invariant_of-self c =
-    alike_but c.self.inside.nodes.items c.self.inside.alike c.forget.new.self c.args.second (with_table c.index_mut.result.now c.answered.new.table) c.self.invariant c.forget.ensures
+    alike_but c.self.inside.nodes.items c.self.inside.alike c.forget.new.self c.args.second
+    (with_table c.index_mut.result.now c.answered.new.table) c.self.invariant c.forget.ensures

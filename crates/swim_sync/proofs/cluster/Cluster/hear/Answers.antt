@@ -21,10 +21,12 @@ pub returns-clause-ok : goal.returns-clause-ok
 returns-clause-ok c = elim c.match-take.branch [
   | in-Ok w ↦
       done c.match-take.result _ _ w.result-is
-      (subst (λ (nodes : List NodeValue). Ran nodes (set c.self.inside.nodes.items c.args.k c.take.new.self) (Hear c.args.k c.args.claim.now ∷ []))
+      (subst (λ (nodes : List NodeValue). Ran nodes (set c.self.inside.nodes.items c.args.k c.take.new.self)
+      (Hear c.args.k c.args.claim.now ∷ []))
       c.self.view_is
       (ran_hear c.self.inside.nodes.items c.args.k c.index_mut.result.now c.take.new.self c.args.claim.now (at c) w.in-Ok.ensures.member
-      (λ claims h. subst (λ (d : Claim). TableOf c.take.new.self.table (claims ++ d ∷ [])) c.in_ok-claim.ensures (w.in-Ok.ensures.all claims h))))
+      (λ claims h. subst (λ (d : Claim). TableOf c.take.new.self.table
+      (claims ++ d ∷ [])) c.in_ok-claim.ensures (w.in-Ok.ensures.all claims h))))
   | in-Err w ↦ not_done c.match-take.result _ _ w.result-is
 ]
 
@@ -33,7 +35,8 @@ returns-clause-unchanged c = elim c.match-take.branch [
   | in-Ok w ↦ not_refused c.match-take.result _ _ w.result-is
   | in-Err w ↦
       refused c.match-take.result _ _ w.result-is
-      (unchanged_node c.self.inside.nodes.items c.args.k c.index_mut.result.now c.take.new.self (at c) w.in-Err.ensures.member w.in-Err.ensures.err
+      (unchanged_node c.self.inside.nodes.items c.args.k c.index_mut.result.now c.take.new.self
+      (at c) w.in-Err.ensures.member w.in-Err.ensures.err
       ∙ c.self.view_is)
 ]
 

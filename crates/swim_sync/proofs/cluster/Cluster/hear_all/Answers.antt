@@ -12,7 +12,8 @@ pub returns-in_err-take_all-clause-unchanged : goal.returns-in_err-take_all-clau
 returns-in_err-take_all-clause-unchanged c =
     let number = c.len.ensures in
     let below = c.if-k-len.false in
-    let within : c.args.k < length c.self.inside.nodes.items = (let same = ap length c.self.view_is in omega (arith, number, below, same)) in
+    let within : c.args.k < length c.self.inside.nodes.items = (let same = ap length c.self.view_is
+    in omega (arith, number, below, same)) in
     let at = node_at c.self.inside.nodes.items c.args.k c.index_mut.result.now within c.index_mut.ensures.value in
     always_refused c.from_residual-in_err-take_all.result _
     (unchanged_node c.self.inside.nodes.items c.args.k c.index_mut.result.now c.take_all.new.self at
@@ -23,12 +24,15 @@ pub returns-clause-ok : goal.returns-clause-ok
 returns-clause-ok c =
     let number = c.len.ensures in
     let below = c.if-k-len.false in
-    let within : c.args.k < length c.self.inside.nodes.items = (let same = ap length c.self.view_is in omega (arith, number, below, same)) in
+    let within : c.args.k < length c.self.inside.nodes.items = (let same = ap length c.self.view_is
+    in omega (arith, number, below, same)) in
     let at = node_at c.self.inside.nodes.items c.args.k c.index_mut.result.now within c.index_mut.ensures.value in
     subst
-    (λ (nodes : List NodeValue). Ran nodes (set c.self.inside.nodes.items c.args.k c.take_all.new.self) (HearAll c.args.k c.args.claims.now ∷ []))
+    (λ (nodes : List NodeValue). Ran nodes (set c.self.inside.nodes.items c.args.k c.take_all.new.self)
+    (HearAll c.args.k c.args.claims.now ∷ []))
     c.self.view_is
-    (ran_hear_all c.self.inside.nodes.items c.args.k c.index_mut.result.now c.take_all.new.self c.args.claims.now at c.in_ok-take_all.ensures.member
+    (ran_hear_all c.self.inside.nodes.items c.args.k c.index_mut.result.now c.take_all.new.self
+    c.args.claims.now at c.in_ok-take_all.ensures.member
     (λ claims h. subst (λ (all : List Claim). TableOf c.take_all.new.self.table (claims ++ all)) c.in_ok-claims.ensures
     (c.in_ok-take_all.ensures.all claims h)))
 

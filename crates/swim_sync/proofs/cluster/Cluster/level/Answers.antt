@@ -16,9 +16,11 @@ pub returns-in_err-meet_each-clause-stopped : goal.returns-in_err-meet_each-clau
 returns-in_err-meet_each-clause-stopped c =
     let err = err_from_is_err_and c.from_residual.result c.from_residual.ensures.1 in
     let stopped = c.in_err-meet_each.ensures.stopped in
-    subst (λ (r : Result (Unit {0}) Stop). IfErr r (LevelStopped c.args.self.now c.meet_each.new.self)) (sym (err.1 ∙ ap (λ (stop : Stop). Err stop) err.2))
+    subst (λ (r : Result (Unit {0}) Stop). IfErr r (LevelStopped c.args.self.now c.meet_each.new.self))
+    (sym (err.1 ∙ ap (λ (stop : Stop). Err stop) err.2))
     (stopped_first c.args.self.now c.meet_each.new.self c.saturating_sub-others.result stopped.0 c.in_err-meet_each.field-0.0
-    (c.saturating_sub-others.ensures ∙ ap (λ n. n - 1) c.len.ensures) stopped.1 (let done = stopped.2 in omega (arith, done)) stopped.3 stopped.4)
+    (c.saturating_sub-others.ensures ∙ ap (λ n. n - 1) c.len.ensures) stopped.1 (let done = stopped.2
+    in omega (arith, done)) stopped.3 stopped.4)
 
 pub returns-clause-ok : goal.returns-clause-ok
 returns-clause-ok c =

@@ -19,7 +19,8 @@ returns-in-Err-clause-stopped c =
       c.loop-met.met,
       c.loop-met-test.true,
       refl,
-      subst (λ (nodes : List NodeValue). Ran c.args.self.now nodes (take c.loop-met.met (meet_each c.args.count))) (sym same) c.loop-met.invariant.0,
+      subst (λ (nodes : List NodeValue). Ran c.args.self.now nodes
+          (take c.loop-met.met (meet_each c.args.count))) (sym same) c.loop-met.invariant.0,
       subst (λ (nodes : List NodeValue). StopsBy nodes (Exchange 0 (c.loop-met.met + 1)) c.in-Err.why) (sym same) c.in-Err.ensures.refused,
     )
 

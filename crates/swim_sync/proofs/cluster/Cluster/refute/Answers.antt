@@ -11,9 +11,11 @@ pub returns-clause-ok : goal.returns-clause-ok
 returns-clause-ok c =
     let number = c.len.ensures in
     let below = c.if-k-len.false in
-    let within : c.args.k < length c.self.inside.nodes.items = (let same = ap length c.self.view_is in omega (arith, number, below, same)) in
+    let within : c.args.k < length c.self.inside.nodes.items = (let same = ap length c.self.view_is
+    in omega (arith, number, below, same)) in
     let at = node_at c.self.inside.nodes.items c.args.k c.index_mut.result.now within c.index_mut.ensures.value in
-    subst (λ (nodes : List NodeValue). Ran nodes (set c.self.inside.nodes.items c.args.k c.refute.new.self) (Refute c.args.k ∷ [])) c.self.view_is
+    subst (λ (nodes : List NodeValue). Ran nodes (set c.self.inside.nodes.items c.args.k c.refute.new.self)
+    (Refute c.args.k ∷ [])) c.self.view_is
     (ran_refute c.self.inside.nodes.items c.args.k c.index_mut.result.now c.refute.new.self at c.refute.ensures.member
     (refute_takes c.index_mut.result.now c.refute.new.self c.refute.result c.refute.ensures.range c.refute.ensures.refuted
     c.refute.ensures.rest c.refute.ensures.exhausted c.refute.ensures.gone
@@ -33,7 +35,8 @@ returns-then-eq-clause-refused c =
     let number = c.len.ensures in
     let below = c.if-k-len.false in
     let within : c.args.k < length c.args.self.now = omega (arith, number, below) in
-    let inside : c.args.k < length c.self.inside.nodes.items = (let same = ap length c.self.view_is in omega (arith, number, below, same)) in
+    let inside : c.args.k < length c.self.inside.nodes.items = (let same = ap length c.self.view_is
+    in omega (arith, number, below, same)) in
     let at = node_at c.self.inside.nodes.items c.args.k c.index_mut.result.now inside c.index_mut.ensures.value in (
       within,
       λ none. none,

@@ -18,8 +18,10 @@ returns-in-Err-clause-stopped c = record {
       (sym c.in-Err.ensures.unchanged) c.loop-done.invariant;
   why = (
     c.index-events-done.result,
-    slice_get_read c.args.events.now (length c.args.events.now) c.loop-done.done c.index-events-done.result refl c.loop-done-test.true c.index-events-done.is,
-    subst (λ (nodes : List NodeValue). StopsBy nodes c.index-events-done.result c.in-Err.why) (sym c.in-Err.ensures.unchanged) c.in-Err.ensures.refused,
+    slice_get_read c.args.events.now (length c.args.events.now) c.loop-done.done c.index-events-done.result
+        refl c.loop-done-test.true c.index-events-done.is,
+    subst (λ (nodes : List NodeValue). StopsBy nodes c.index-events-done.result c.in-Err.why)
+        (sym c.in-Err.ensures.unchanged) c.in-Err.ensures.refused,
   );
 }
 

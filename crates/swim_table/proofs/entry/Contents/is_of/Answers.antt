@@ -21,4 +21,6 @@ returns-in-Some-Some c = λ same.
     let some : details_of claim ≡ Some theirs = search rules in
     let names : own.name ≡ name_of claim =
     sym (top_of-name own.name own.kind own.inc own.home) ∙ ap (λ t. name_of t.top) c.self.view_is ∙ c.requires in
-    rw (← c.self.view_is, c.in-Some-Some.is-1) (alone own.name own.kind own.inc home claim theirs (rw c.in-Some-Some.is-1 at c.self.invariant.alive_is_home) names kinds incs some details)
+    rw (← c.self.view_is, c.in-Some-Some.is-1)
+    (alone own.name own.kind own.inc home claim theirs
+    (rw c.in-Some-Some.is-1 at c.self.invariant.alive_is_home) names kinds incs some details)

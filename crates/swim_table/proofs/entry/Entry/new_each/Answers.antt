@@ -18,6 +18,8 @@ loop-claim-preserved c =
       legal =
           λ h.
           c.loop-claim.invariant.legal
-          (subst (All IsLegalClaim) (sym next.0) (All-cons IsLegalClaim c.in-Some.claim (into_iter_items c.next.new.self) c.new.ensures.legal h));
+          (subst (All IsLegalClaim) (sym next.0)
+          (All-cons IsLegalClaim c.in-Some.claim
+          (into_iter_items c.next.new.self) c.new.ensures.legal h));
       counted = omega (arith, next.1, fewer, c.loop-claim.invariant.counted);
     }

@@ -14,6 +14,7 @@ invariant_of-self c =
     let other = standing_of c.args.claim in
     let same : name_of old.top ≡ name_of other.top =
     ap (λ (s : Standing). name_of s.top) c.self.view_is ∙ c.requires ∙ ap name_of (sym (standing_of_top c.args.claim)) in
-    let is : c.combine.new.self ≡ combined old other = c.combine.ensures.new ∙ (λ j. combined (c.deref_mut.ensures.value j) (c.new.ensures.standing j)) in
+    let is : c.combine.new.self ≡ combined old other = c.combine.ensures.new
+    ∙ (λ j. combined (c.deref_mut.ensures.value j) (c.new.ensures.standing j)) in
     let named = ap (λ (s : Standing). name_of s.top) is ∙ combined_name old other same in
     subst (IsPrefixOf c.self.inside.prefix) (sym named) c.self.invariant

@@ -11,7 +11,8 @@ returns c =
     let name = c.args.name.now in
     let front = c.padded-front.result in
     let next : (k : ℕ) → k < 8 → slice_index (take 8 (drop 8 front)) k ≡ slice_index (drop 8 name) k =
-    λ k high. get_or-take 8 (drop 8 front) k 0 high ∙ get_or-drop 8 front k 0 ∙ c.padded-front.ensures (8 + k) (omega arith) ∙ sym (get_or-drop 8 name k 0) in
+    λ k high. get_or-take 8 (drop 8 front) k 0 high ∙ get_or-drop 8 front k 0
+    ∙ c.padded-front.ensures (8 + k) (omega arith) ∙ sym (get_or-drop 8 name k 0) in
     record {
       bytes = λ k. (c.type_inv.name k).fits;
       high = c.read_u64.ensures ∙ big_from-same 0 8 front name (λ k low high. c.padded-front.ensures k (omega (arith, high)));

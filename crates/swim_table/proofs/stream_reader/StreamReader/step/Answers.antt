@@ -13,7 +13,8 @@ use Rattle.swim_table.proofs.stream_reader.StreamReader.step.Goals as goal
 
 one_record : (reader inside : Streaming) (old new : Source) (c : Claim) (table : Entries) → inside ≡ reader → inside.left ≢ 0
     → ConsumesText old new (λ b. StateText b c)
-    → TableOf table (Reduced inside.table ++ c ∷ []) → ((claims : List Claim) → TableOf inside.table claims → TableOf table (claims ++ c ∷ []))
+    → TableOf table (Reduced inside.table ++ c ∷ [])
+    → ((claims : List Claim) → TableOf inside.table claims → TableOf table (claims ++ c ∷ []))
     → Steps reader old new (More (record { header = inside.header; left = inside.left - 1; table = table }))
 one_record reader inside old new c table same some taken reduced all =
     let sum : inside.left ≡ (inside.left - 1) + 1 = omega (arith, some) in
@@ -34,10 +35,13 @@ returns-in_err-skip_user-clause-reason g c =
     let same : inside ≡ c.args.self = cc in
     let why = c.in_err-skip_user.ensures in
     rw (p.1, p.2)
-    (user_reason c.args.self inside c.in_err-skip_user.field-0.0 (g.I.Inlet.seen c.args.inlet.now) same c.if-left-eq0.true why.refusals why.lacks)
+    (user_reason c.args.self inside c.in_err-skip_user.field-0.0
+    (g.I.Inlet.seen c.args.inlet.now) same c.if-left-eq0.true why.refusals why.lacks)
 
 pub returns-in-Err-clause-reason : goal.returns-in-Err-clause-reason
 returns-in-Err-clause-reason g c =
     let inside : Streaming = record { header = c.self.inside.header; left = c.self.inside.left; table = c.self.inside.table } in
     let same : inside ≡ c.args.self = cc in
-    record_asks c.args.self inside (g.I.Inlet.seen c.args.inlet.now) (g.I.Inlet.seen c.read_state.new.inlet) c.in_ok-claim.claim same c.if-left-eq0.false c.in_ok-claim.ensures.takes
+    record_asks c.args.self inside (g.I.Inlet.seen c.args.inlet.now)
+    (g.I.Inlet.seen c.read_state.new.inlet) c.in_ok-claim.claim same c.if-left-eq0.false
+    c.in_ok-claim.ensures.takes

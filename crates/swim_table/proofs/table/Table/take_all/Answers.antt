@@ -12,7 +12,8 @@ own_table c = subst IsLegalTable c.self.view_is c.self.invariant
 all_in : (c : goal.In_ok-put_sorted) → IsTakenIn c.args.self.now (items c.put_sorted.new.entries) c.args.claims.items
 all_in c =
     let put = c.in_ok-put_sorted.ensures.ok in
-    all_taken_in_sorted c.args.self.now (items c.put_sorted.new.entries) c.args.claims.items put.0 (own_table c) c.in_ok-others.ensures.legal
+    all_taken_in_sorted c.args.self.now (items c.put_sorted.new.entries) c.args.claims.items put.0
+    (own_table c) c.in_ok-others.ensures.legal
     (subst (λ es. IsPermutation es put.0) c.in_ok-others.ensures.ok put.1)
     (put.2 ∙ ap (λ t. put_each t put.0) c.self.view_is)
 

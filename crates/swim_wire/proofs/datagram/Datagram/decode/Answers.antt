@@ -7,7 +7,8 @@ use Rattle.swim_wire.proofs.datagram.Datagram.decode.Goals as goal
 
 pub returns-clause-reads : goal.returns-clause-reads
 returns-clause-reads c =
-    let are : AreBytes c.args.bytes.now = All-from_get_or (λ b. b < 256) c.args.bytes.now 0 (λ i lt. let fits = c.type_inv.bytes i in omega arith) in
+    let are : AreBytes c.args.bytes.now = All-from_get_or (λ b. b < 256) c.args.bytes.now 0
+    (λ i lt. let fits = c.type_inv.bytes i in omega arith) in
     datagram_reads packets_in _ _ are c.decode_any_datagram.ensures.lists
 
 pub returns-clause-refuses : goal.returns-clause-refuses
@@ -15,7 +16,8 @@ returns-clause-refuses c = datagram_refuses packets_in _ _ c.decode_any_datagram
 
 pub returns-clause-reason : goal.returns-clause-reason
 returns-clause-reason c =
-    let are : AreBytes c.args.bytes.now = All-from_get_or (λ b. b < 256) c.args.bytes.now 0 (λ i lt. let fits = c.type_inv.bytes i in omega arith) in
+    let are : AreBytes c.args.bytes.now = All-from_get_or (λ b. b < 256) c.args.bytes.now 0
+    (λ i lt. let fits = c.type_inv.bytes i in omega arith) in
     datagram_reason packets_in _ _ are c.decode_any_datagram.ensures.lists c.decode_any_datagram.ensures.memory
 
 pub returns-clause-exact : goal.returns-clause-exact

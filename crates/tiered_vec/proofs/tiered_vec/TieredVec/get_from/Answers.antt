@@ -9,7 +9,8 @@ returns-then-has_element g c =
     let v = c.args.self.now in
     let p = c.settled-place.result in
     let here : IsPlace v.blocks p = c.if-has_element.ensures in
-    let read = slice_get_read (items v) (length (items v)) (index_of v.blocks p) c.get_at.result.now refl (index_in_range v.blocks p here) c.get_at.ensures in
+    let read = slice_get_read (items v) (length (items v)) (index_of v.blocks p) c.get_at.result.now refl
+    (index_in_range v.blocks p here) c.get_at.ensures in
     sym read ∙ ap (slice_get (items v)) c.settled-place.ensures.index
 
 pub returns-else-has_element : goal.returns-else-has_element

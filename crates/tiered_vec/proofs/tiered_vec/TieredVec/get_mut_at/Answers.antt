@@ -26,7 +26,8 @@ returns g c =
     let s = shape bs in
     let ns = length c.self.inside.spares.items in
     let p : Position = record { block = c.place.inside.block; at = c.place.inside.at } in
-    let here : IsPlace s p = subst (λ v. IsPlace v.blocks p) (sym c.self.view_is) (subst (IsPlace c.args.self.now.blocks) (sym c.place.view_is) c.requires) in
+    let here : IsPlace s p = subst (λ v. IsPlace v.blocks p) (sym c.self.view_is)
+    (subst (IsPlace c.args.self.now.blocks) (sym c.place.view_is) c.requires) in
     let h : p.block < length bs = omega (arith, length-map bs (λ b. b.items), here.in_block) in
     let b = c.index_mut-block.result.now in
     let read = block_read bs p.block b h c.index_mut-block.ensures.value in
@@ -34,7 +35,10 @@ returns g c =
     let v : Tiers g.row.T.Denot = record { blocks = s; spares = ns } in (
       (
         refl,
-        λ w. subst (λ u. record { blocks = shape (set bs p.block (with_item b p.at w)); spares = ns } ≡ with_item_at u c.args.place w) c.self.view_is
+        λ w. subst (λ u. record {
+          blocks = shape (set bs p.block (with_item b p.at w));
+          spares = ns;
+        } ≡ with_item_at u c.args.place w) c.self.view_is
             (subst (λ q. record { blocks = shape (set bs p.block (with_item b p.at w)); spares = ns } ≡ with_item_at v q w) c.place.view_is
             (ap (λ (u : _). let t : Tiers g.row.T.Denot = record { blocks = u; spares = ns } in t)
             (shape-set bs p.block (with_item b p.at w) ∙ ap (λ xs. set s p.block (set xs p.at w)) read))),

@@ -19,7 +19,8 @@ invariant_of-self g c =
     let s = shape c.self.inside.blocks.items in
     let t = shape c.open.new.blocks.items in
     let p : Position = record { block = c.at.inside.block; at = c.at.inside.at } in
-    let o : IsOpened s t (index_of s c.args.place) p = subst (IsOpened s t (index_of s c.args.place)) (sym c.at.view_is) c.in-Ok.ensures.ok in
+    let o : IsOpened s t (index_of s c.args.place) p = subst (IsOpened s t (index_of s c.args.place))
+    (sym c.at.view_is) c.in-Ok.ensures.ok in
     let rooms = c.in-Ok.ensures.rooms in
     let gap = subst (λ v. IsGap v.blocks c.args.place) (sym c.self.view_is) c.requires in
     let more = ap length (ap flatten c.put.ensures.shape ∙ put_flatten s t (index_of s c.args.place) p c.args.x o) in
@@ -33,7 +34,13 @@ invariant_of-self g c =
             few = omega (arith, c.put.ensures.len, rooms.few);
           };
       each = subst (All IsBlock) (sym c.put.ensures.shape) (put_each s t (index_of s c.args.place) p c.args.x o);
-      count = omega (arith, more, length-insert (flatten s) (index_of s c.args.place) c.args.x (index_in_gap s c.args.place gap), c.self.invariant.count);
+      count = omega (
+        arith,
+        more,
+        length-insert (flatten s) (index_of s c.args.place) c.args.x
+            (index_in_gap s c.args.place gap),
+        c.self.invariant.count,
+      );
     }
 
 pub returns-in-Ok-clause-ok : goal.returns-in-Ok-clause-ok
@@ -41,7 +48,8 @@ returns-in-Ok-clause-ok g c =
     let s = shape c.self.inside.blocks.items in
     let t = shape c.open.new.blocks.items in
     let p : Position = record { block = c.at.inside.block; at = c.at.inside.at } in
-    let o : IsOpened s t (index_of s c.args.place) p = subst (IsOpened s t (index_of s c.args.place)) (sym c.at.view_is) c.in-Ok.ensures.ok in
+    let o : IsOpened s t (index_of s c.args.place) p = subst (IsOpened s t (index_of s c.args.place))
+    (sym c.at.view_is) c.in-Ok.ensures.ok in
     subst (λ v. flatten (shape c.put.new.blocks.items) ≡ insert (items v) (index_of v.blocks c.args.place) c.args.x) c.self.view_is
     (ap flatten c.put.ensures.shape ∙ put_flatten s t (index_of s c.args.place) p c.args.x o)
 
@@ -51,7 +59,8 @@ returns-in-Ok-clause-room g c =
     let s = shape c.self.inside.blocks.items in
     let t = shape c.open.new.blocks.items in
     let p : Position = record { block = c.at.inside.block; at = c.at.inside.at } in
-    let o : IsOpened s t (index_of s c.args.place) p = subst (IsOpened s t (index_of s c.args.place)) (sym c.at.view_is) c.in-Ok.ensures.ok in
+    let o : IsOpened s t (index_of s c.args.place) p = subst (IsOpened s t (index_of s c.args.place))
+    (sym c.at.view_is) c.in-Ok.ensures.ok in
     let new : Tiers g.row.T.Denot = record { blocks = shape c.put.new.blocks.items; spares = length c.open.new.spares.items } in
     subst (λ v. room v ≤ room new + 1) c.self.view_is
     (subst (λ u. room (record { blocks = s; spares = length c.self.inside.spares.items })

@@ -13,8 +13,10 @@ returns-in-Some g c =
     let block = c.in-Some.block.now in
     let k = length bs - 1 in
     let some : 0 < length bs = subst (λ l. 0 < length l) c.deref.ensures.value c.in-Some.ensures.item.3.0 in
-    let read : block ≡ get_or bs k block = subst (λ l. block ≡ get_or l (length l - 1) block) c.deref.ensures.value c.in-Some.ensures.item.1 in
+    let read : block ≡ get_or bs k block = subst
+    (λ l. block ≡ get_or l (length l - 1) block) c.deref.ensures.value c.in-Some.ensures.item.1 in
     let good = block_good bs k block (omega (arith, some)) read c.self.invariant.each in
     subst (λ v. option_copied c.last-in-Some.result ≡ slice_get (items v) (length (items v) - 1)) c.self.view_is
     (c.last-in-Some.ensures.value ∙ ap (λ l. slice_get l (length l - 1)) c.deref-in-Some.ensures.value
-    ∙ last_item (shape bs) block.items k (omega (arith, some, length-map bs (λ b. b.items))) (block_read bs k block (omega (arith, some)) read) good.filled)
+    ∙ last_item (shape bs) block.items k (omega (arith, some, length-map bs (λ b. b.items)))
+    (block_read bs k block (omega (arith, some)) read) good.filled)

@@ -2,7 +2,7 @@
 
 /// What became of a segment that a flow was given.
 #[derive(Clone, Copy, Debug, PartialEq, Eq)]
-pub enum Taken {
+pub enum Fate {
     /// It has no new byte.
     Known,
     /// The flow has more bytes without a gap.
