@@ -122,6 +122,26 @@ def same_claims(n):
     """Packets of several claims, most of which are known already."""
     gossip("all.pcap", [compound([alive((i + k) % 50) for k in range(3)]) for i in range(n)])
 
+def crowd(packets, count):
+    """Packets of eight claims each between any two members of so many, of which one in a hundred is news."""
+    chance = random.Random(7)
+    inc = [1] * count
+    def claim():
+        i = chance.randrange(count)
+        inc[i] += chance.random() < 0.01
+        return alive(i, inc[i])
+    pcap("all.pcap", timed(datagram(*chance.sample(range(count), 2), compound([claim() for _ in range(8)]))
+                           for _ in range(packets)))
+
+def crowd_of_100(n):
+    crowd(n, 100)
+
+def crowd_of_1000(n):
+    crowd(n, 1000)
+
+def crowd_of_10000(n):
+    crowd(n, 10000)
+
 def members(n):
     gossip("all.pcap", map(alive, shuffled(range(n))))
 
@@ -143,6 +163,11 @@ def suspicions_in_one(n):
     """One packet with many suspicions, in compound messages of compound messages."""
     said = [suspect(0, 1)] * n
     gossip("all.pcap", [compressed(compound([compound(said[at:at + 250]) for at in range(0, n, 250)]))])
+
+def pings_in_one(n):
+    """The same with a ping before each suspicion, which it makes a warning."""
+    said = [each for i in range(n) for each in (ping(i, i, 1), suspect(i, 1))]
+    gossip("all.pcap", [compressed(compound([compound(said[at:at + 250]) for at in range(0, len(said), 250)]))])
 
 def rivals(n):
     gossip("all.pcap", [alive(0)] + [alive(0, 2 + i, at=i) for i in shuffled(range(1, n))])

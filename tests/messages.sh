@@ -1,4 +1,4 @@
-# The messages that the cases are made of, in hexadecimal, as docs/PROTOCOL.md spells them under
+# The messages that the cases are made of, in hexadecimal, as docs/messages.md spells them under
 # "Canonical bytes", and the dumps that most cases read, as files. Numbers are given with their first
 # byte, such as 'cd1f0a' for 7946.
 # shellcheck shell=sh disable=SC2034

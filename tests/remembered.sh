@@ -1,6 +1,6 @@
 # What swimwatch pull shows of Serf's state in an answer: who left, and the user events that a member remembers.
 # tests/watched runs it in its folder. The states are bytes that Serf's own encodeMessage wrote, from the values in
-# tests/serf_states/states_test.go; what is expected follows from these values and the rules in docs/PROTOCOL.md.
+# tests/serf_states/states_test.go; what is expected follows from these values and the rules in docs/views.md.
 # shellcheck shell=sh disable=SC2034,SC2154
 
 # state NAME: prints a state of tests/answers in hexadecimal.

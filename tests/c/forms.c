@@ -1,5 +1,5 @@
 /* The form of a stream that memberlist merges, and bytes in memory of the library. The expected bytes are those
- * of docs/PROTOCOL.md. */
+ * of docs/messages.md. */
 #include "streams.h"
 
 /* The details in packets and records: an address, metadata, a port and versions. */

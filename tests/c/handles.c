@@ -1,5 +1,5 @@
 /* Handles, the members of a node, its listing, and how two nodes relate. The expected values are those
- * of docs/PROTOCOL.md. */
+ * of docs/messages.md. */
 #include "check.h"
 
 static void versions_agree(void) {

@@ -1,4 +1,4 @@
-/* Prints each known status with its name, for a comparison with docs/PROTOCOL.md. */
+/* Prints each known status with its name, for a comparison with docs/faults.md. */
 #include <swimtab.h>
 
 #include <stdio.h>

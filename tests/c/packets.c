@@ -1,5 +1,5 @@
 /* Packets: taken in, refused and written, with every buffer one byte too small. The expected bytes and
- * faults are those of docs/PROTOCOL.md. */
+ * faults are those of docs/messages.md. */
 #include "check.h"
 
 static void packets_are_taken_in(void) {

@@ -1,5 +1,5 @@
 /* Push/pull streams: taken in, refused, offered and answered. The expected bytes and faults are those of
- * docs/PROTOCOL.md. */
+ * docs/messages.md. */
 #include "streams.h"
 
 static void what_is_no_stream_is_refused(void) {

@@ -1,4 +1,4 @@
-/* Streams that several tests share. The bytes and faults are those of docs/PROTOCOL.md. */
+/* Streams that several tests share. The bytes and faults are those of docs/messages.md. */
 #ifndef STREAMS_H
 #define STREAMS_H
 

@@ -1,5 +1,5 @@
 /* Views: streams told record by record and written, limits, and calls with NULL or an empty handle. The expected
- * values are those of include/swimtab.h, of docs/PROTOCOL.md and of memberlist's state.go. */
+ * values are those of include/swimtab.h, of docs/messages.md and of memberlist's state.go. */
 #include "views.h"
 
 /* b is alive at 4, c suspected at 5, d dead at 2, and e left at 3. */
