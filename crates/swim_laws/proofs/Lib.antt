@@ -1,0 +1,4 @@
+pub mod Claimed
+pub mod Under
+pub mod Placed
+pub mod Lives

@@ -1,0 +1,4 @@
+pub mod Claims
+pub mod Above
+pub mod Places
+pub mod Living

@@ -1,0 +1,62 @@
+-- A name about which nothing was heard but that it is alive, or suspected.
+use Rattle.std.specs.Prelude.{◌≡◌, ⊤, ℕ, ◌<◌, true, Option, Some, None, List, ◌∷◌, ◌++◌, Contains}
+use Rattle.swim_claim.specs.declared.claim.Claim.{Claim}
+use Rattle.swim_claim.specs.declared.claim.Claim.TheVariants.{Alive, Suspect, Confirm, Leave}
+use Rattle.swim_claim.specs.Claim.{name_of, inc_of}
+use Rattle.swim_table.specs.Standing.{Standing}
+use Rattle.swim_table.specs.Table.{IsAlive}
+use Rattle.memberlist_view.specs.declared.entry.Entry.{Entry}
+use Rattle.memberlist_view.specs.declared.entry.State.{State}
+use Rattle.memberlist_view.specs.declared.entry.State.TheVariants as state
+use Rattle.memberlist_view.specs.Rules.{are_sound_versions}
+use Rattle.swim_laws.specs.Places.{IsAtOnePlace}
+
+-- an Alive with sound versions, or a Suspect
+abbrev pub IsOfLife : Claim → Type 0
+IsOfLife (Alive name inc details) = are_sound_versions details.vsn ≡ true
+IsOfLife (Suspect name inc) = ⊤
+IsOfLife (Confirm name inc) = ⊥
+IsOfLife (Leave name inc) = ⊥
+
+-- No suspicion of the name is greater than all that was claimed before, if that ended in a
+-- suspicion: where one is greater than an earlier one, something greater than the earlier one was
+-- claimed before it. So it is where each suspicion comes after an Alive of at least its
+-- incarnation, as it does for one who hears all. Where it is not, a view keeps the incarnation of
+-- the first suspicion: after Alive 1, Suspect 1 and Suspect 2 it shows a suspicion at 1, and a
+-- table has one at 2.
+abbrev pub IsFounded : List ℕ → List Claim → Type 0
+IsFounded name claims = (past later : List Claim) (i j : ℕ)
+    → claims ≡ past ++ Suspect name j ∷ later → Contains past (Suspect name i) → i < j
+    → (c : Claim) × Contains past c × (name_of c ≡ name) × (i < inc_of c)
+
+-- only Alives with sound versions, at one place, and suspicions that are founded
+pub record IsOneLife (name : List ℕ) (claims : List Claim) : Type 0 where
+  pub lives : (c : Claim) → Contains claims c → name_of c ≡ name → IsOfLife c
+  pub place : IsAtOnePlace name claims
+  pub founded : IsFounded name claims
+
+-- the claim is a Suspect
+abbrev pub IsSuspect : Claim → Type 0
+IsSuspect (Alive name inc details) = ⊥
+IsSuspect (Suspect name inc) = ⊤
+IsSuspect (Confirm name inc) = ⊥
+IsSuspect (Leave name inc) = ⊥
+
+-- the state of a name whose top is this claim: alive where it is an Alive, but at incarnation 0,
+-- which is not believed, only noted or seen; suspected where it is a Suspect
+abbrev pub IsStateOf : Claim → State → Type 0
+IsStateOf top state.Noted = IsAlive top × (inc_of top ≡ 0)
+IsStateOf top state.Seen = IsAlive top × (inc_of top ≡ 0)
+IsStateOf top state.Alive = IsAlive top × (0 < inc_of top)
+IsStateOf top (state.Suspect by) = IsSuspect top
+IsStateOf top (state.Dead by) = ⊥
+IsStateOf top state.Left = ⊥
+
+-- the view and the table show the same for a name: the same incarnation, and the state of the top.
+-- Of one that is in no claim, packets may have shown that it is alive.
+abbrev pub IsSame : Option Entry → Option Standing → Type 0
+IsSame None None = ⊤
+IsSame None (Some standing) = ⊥
+IsSame (Some entry) None = entry.state ≡ state.Seen
+IsSame (Some entry) (Some standing) = (entry.inc ≡ inc_of standing.top)
+    × IsStateOf standing.top entry.state

@@ -1,0 +1,75 @@
+//! Laws about the definitions of a table and of a view. Each is the contract of a function that
+//! does nothing.
+ghost use Rattle.std.specs.Prelude.{◌≡◌, ◌↔◌, ◌⊎◌, ◌<◌, ℕ, Bool, true, false, List, Option, Some, Contains, IsSome};
+ghost use Rattle.swim_claim.specs.declared.claim.Claim.{Claim};
+ghost use Rattle.swim_claim.specs.declared.claim.Claim.TheVariants.{Alive};
+ghost use Rattle.swim_claim.specs.Details.{DetailsValue};
+ghost use Rattle.swim_table.specs.Standing.{Standing};
+ghost use Rattle.swim_table.specs.Table.{Entries, TableOf, get};
+ghost use Rattle.memberlist_view.specs.declared.entry.Entry.{Entry};
+ghost use Rattle.memberlist_view.specs.declared.heard.Heard.{Heard};
+ghost use Rattle.memberlist_view.specs.Heard.{said_in_packet, said_in_record};
+ghost use Rattle.memberlist_view.specs.Rules.{are_sound_versions, is_gone};
+ghost use Rattle.memberlist_view.specs.Shown.{shown};
+ghost use Rattle.memberlist_view.specs.Sources.{Was};
+ghost use Rattle.swim_laws.specs.Above.{is_claimed, Has, IsStateBelow, AreDetailsBelow, IsFinalFrom, IsFinalOrFrom};
+ghost use Rattle.swim_laws.specs.Claims.{claim_of, claims_of};
+ghost use Rattle.swim_laws.specs.Living.{IsOneLife, IsSame};
+ghost use Rattle.swim_laws.specs.Places.{IsAtOnePlace, IsHomeAt};
+
+/// Who hears a claim in a record of a stream, or in a packet in anybody's name, hears this claim
+/// and no other; and the claims that were heard are those of all that was heard.
+pub fn claims_are_heard()
+    ensures in_record { (c : Claim) (joins : Bool) → claim_of (said_in_record c joins) ≡ Some c }
+    ensures in_packet { (c : Claim) (from : Option (List ℕ))
+        → claim_of (said_in_packet c from) ≡ Some c }
+    ensures all { (heard : List Heard) (c : Claim)
+        → Contains (claims_of heard) c ↔ Was heard (λ h. claim_of h.said ≡ Some c) }
+{}
+
+/// Whatever state a view shows for a name, somebody claimed at that incarnation, and the claim does
+/// not override what a table of the same claims has at the top. So a member that the view shows as
+/// dead, or as one that left, is dead or has left in the table, at no lower incarnation; one that
+/// it shows as alive or suspected is so too, or is at no lower incarnation there. And the details
+/// were claimed in an Alive that does not override the table's home.
+pub fn never_above()
+    ensures state { (wait : ℕ) (heard : List Heard) (name : List ℕ) (entry : Entry)
+        (table : Entries) → TableOf table (claims_of heard) → shown wait heard name ≡ Some entry
+        → is_claimed entry.state ≡ true → Has table name (IsStateBelow heard name entry) }
+    ensures gone { (wait : ℕ) (heard : List Heard) (name : List ℕ) (entry : Entry)
+        (table : Entries) → TableOf table (claims_of heard) → shown wait heard name ≡ Some entry
+        → is_gone entry.state ≡ true → Has table name (IsFinalFrom entry.inc) }
+    ensures here { (wait : ℕ) (heard : List Heard) (name : List ℕ) (entry : Entry)
+        (table : Entries) → TableOf table (claims_of heard) → shown wait heard name ≡ Some entry
+        → is_claimed entry.state ≡ true → Has table name (IsFinalOrFrom entry.inc) }
+    ensures details { (wait : ℕ) (heard : List Heard) (name : List ℕ) (entry : Entry)
+        (table : Entries) (details : DetailsValue) → TableOf table (claims_of heard)
+        → shown wait heard name ≡ Some entry → entry.details ≡ Some details
+        → Has table name (AreDetailsBelow heard name details) }
+{}
+
+/// If all Alives of a name are at one address and port, the details that a view shows for it are at
+/// those of the home that a table of the same claims has. The view has details if the home has
+/// sound versions and is above incarnation 0, and also at 0 while the member is not dead and
+/// has not left.
+pub fn one_place()
+    ensures same { (wait : ℕ) (heard : List Heard) (name : List ℕ) (entry : Entry)
+        (table : Entries) (details : DetailsValue) → IsAtOnePlace name (claims_of heard)
+        → TableOf table (claims_of heard) → shown wait heard name ≡ Some entry
+        → entry.details ≡ Some details → Has table name (IsHomeAt details) }
+    ensures known { (wait : ℕ) (heard : List Heard) (name : List ℕ) (entry : Entry)
+        (table : Entries) (standing : Standing) (inc : ℕ) (details : DetailsValue)
+        → TableOf table (claims_of heard) → get table name ≡ Some standing
+        → standing.home ≡ Some (Alive name inc details) → are_sound_versions details.vsn ≡ true
+        → shown wait heard name ≡ Some entry → (0 < inc) ⊎ (is_gone entry.state ≡ false)
+        → IsSome entry.details }
+{}
+
+/// If nothing was claimed of a name but Alives with sound versions, at one place, and suspicions
+/// that are founded, a view and a table of the same claims show the same for it, whatever the times
+/// are.
+pub fn the_same_where_nobody_died()
+    ensures { (wait : ℕ) (heard : List Heard) (name : List ℕ) (table : Entries)
+        → TableOf table (claims_of heard) → IsOneLife name (claims_of heard)
+        → IsSame (shown wait heard name) (get table name) }
+{}
