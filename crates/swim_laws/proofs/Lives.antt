@@ -35,7 +35,7 @@ use Rattle.memberlist_view.proofs.Inserting.{itself}
 use Rattle.memberlist_view.proofs.Viewing.{shown_from-last}
 use Rattle.swim_laws.specs.Claims.{claim_of, claims_of}
 use Rattle.swim_laws.specs.Places.{IsSamePlace}
-use Rattle.swim_laws.specs.Living.{IsOneLife, IsSuspect, IsStateOf, IsSame}
+use Rattle.swim_laws.specs.Living.{IsFounded, IsOneLife, IsSuspect, IsStateOf, IsSame}
 use Rattle.swim_laws.proofs.Claimed.{here, claimed, claims_of-append, claim_name, now_or_before}
 use Rattle.swim_laws.proofs.Under.{was_heard, not_below}
 use Rattle.swim_laws.proofs.Placed.{by_bool}
@@ -121,10 +121,10 @@ is_le i j h = grind (arith, nat_tests)
 is_above : (i j : ℕ) → nat_le i j ≡ false → j < i
 is_above i j h = grind (arith, nat_tests)
 
-is_lt : (i j : ℕ) → nat_lt i j ≡ true → i < j
+pub is_lt : (i j : ℕ) → nat_lt i j ≡ true → i < j
 is_lt i j h = grind (arith, nat_tests)
 
-is_ge : (i j : ℕ) → nat_lt i j ≡ false → j ≤ i
+pub is_ge : (i j : ℕ) → nat_lt i j ≡ false → j ≤ i
 is_ge i j h = grind (arith, nat_tests)
 
 both : (a b : Bool) → a ≡ true → b ≡ true → (a && b) ≡ true
@@ -325,8 +325,8 @@ module _ (name : List ℕ) (past : List Heard) (none : (c : Claim) → Contains 
 
 -- ---- each thing heard
 
-module _ (wait : ℕ) (name : List ℕ) (whole : List Heard) (life : IsOneLife name (claims_of whole)) (past later : List Heard)
-    (time : ℕ) where
+module _ (wait : ℕ) (name : List ℕ) (whole : List Heard) (life : IsOneLife name (claims_of whole)) (firm : IsFounded name (claims_of whole))
+    (past later : List Heard) (time : ℕ) where
   abbrev pub now : Said → Heard
   now said = record { time = time; said = said }
 
@@ -422,7 +422,7 @@ module _ (wait : ℕ) (name : List ℕ) (whole : List Heard) (life : IsOneLife n
 
         by_suspicion : Was past (Suspects name entry.inc) → inc ≤ entry.inc
         by_suspicion s = elim s.2 [
-          | inl doubt ↦ not_above entry.inc (λ lt. life.founded (claims_of past) (claims_of later) entry.inc inc split
+          | inl doubt ↦ not_above entry.inc (λ lt. firm (claims_of past) (claims_of later) entry.inc inc split
               (claimed past s.0 (claim.Suspect name entry.inc) s.1 (ap claim_of doubt.1)) lt) at_most
           | inr dead ↦ absurd (life.lives (claim.Confirm name entry.inc)
               (was_before (claim.Confirm name entry.inc) (claimed past s.0 (claim.Confirm name entry.inc) s.1 (ap claim_of dead))) refl)
@@ -525,13 +525,14 @@ module _ (wait : ℕ) (name : List ℕ) (whole : List Heard) (life : IsOneLife n
 
 -- ---- all that was heard
 
-module _ (wait : ℕ) (name : List ℕ) (whole : List Heard) (life : IsOneLife name (claims_of whole)) where
+module _ (wait : ℕ) (name : List ℕ) (whole : List Heard) (life : IsOneLife name (claims_of whole))
+    (firm : IsFounded name (claims_of whole)) where
   levels : (later past : List Heard) → whole ≡ past ++ later → UpTo name past (shown wait past name)
       → UpTo name whole (shown wait whole name)
   levels [] past is u = subst (λ hs. UpTo name hs (shown wait hs name)) (sym (is ∙ append-nil past)) u
   levels (heard ∷ later) past is u = levels later (past ++ heard ∷ []) (is ∙ sym (append_assoc past (heard ∷ []) later))
       (subst (UpTo name (past ++ heard ∷ [])) (sym (shown_from-last wait name None past heard))
-      (next_level wait name whole life past later heard.time heard.said is u))
+      (next_level wait name whole life firm past later heard.time heard.said is u))
 
   pub level : UpTo name whole (shown wait whole name)
   level = levels whole [] refl (λ c at. absurd (omega (arith, at.1)))
@@ -618,8 +619,8 @@ module _ (heard : List Heard) (name : List ℕ) (life : IsOneLife name (claims_o
       shows state.Left p within v = absurd p
 
 pub same : (wait : ℕ) (heard : List Heard) (name : List ℕ) (table : Entries) → TableOf table (claims_of heard)
-    → IsOneLife name (claims_of heard) → IsSame (shown wait heard name) (get table name)
-same wait heard name table of life = by_both (shown wait heard name) refl (level wait name heard life) (get table name) (of.each name)
+    → IsOneLife name (claims_of heard) → IsFounded name (claims_of heard) → IsSame (shown wait heard name) (get table name)
+same wait heard name table of life firm = by_both (shown wait heard name) refl (level wait name heard life firm) (get table name) (of.each name)
   where
     by_both : (o : Option Entry) → shown wait heard name ≡ o → UpTo name heard o → (t : Option Standing)
         → EntryOf (claims_of heard) name t → IsSame o t

@@ -4,11 +4,15 @@ use Rattle.swim_claim.specs.declared.claim.Claim.{Claim}
 use Rattle.swim_claim.specs.declared.claim.Claim.TheVariants.{Alive, Suspect, Confirm, Leave}
 use Rattle.swim_claim.specs.Claim.{name_of, inc_of}
 use Rattle.swim_table.specs.Standing.{Standing}
-use Rattle.swim_table.specs.Table.{IsAlive}
+use Rattle.swim_table.specs.Join.{table_of}
+use Rattle.swim_table.specs.Table.{IsAlive, get}
 use Rattle.memberlist_view.specs.declared.entry.Entry.{Entry}
 use Rattle.memberlist_view.specs.declared.entry.State.{State}
 use Rattle.memberlist_view.specs.declared.entry.State.TheVariants as state
+use Rattle.memberlist_view.specs.declared.heard.Heard.{Heard}
 use Rattle.memberlist_view.specs.Rules.{are_sound_versions}
+use Rattle.memberlist_view.specs.Shown.{shown}
+use Rattle.swim_laws.specs.Claims.{claims_of}
 use Rattle.swim_laws.specs.Places.{IsAtOnePlace}
 
 -- an Alive with sound versions, or a Suspect
@@ -18,22 +22,20 @@ IsOfLife (Suspect name inc) = ⊤
 IsOfLife (Confirm name inc) = ⊥
 IsOfLife (Leave name inc) = ⊥
 
--- No suspicion of the name is greater than all that was claimed before, if that ended in a
--- suspicion: where one is greater than an earlier one, something greater than the earlier one was
--- claimed before it. So it is where each suspicion comes after an Alive of at least its
--- incarnation, as it does for one who hears all. Where it is not, a view keeps the incarnation of
--- the first suspicion: after Alive 1, Suspect 1 and Suspect 2 it shows a suspicion at 1, and a
--- table has one at 2.
+-- Who is suspected is not suspected at a greater incarnation: a suspicion that is greater than an
+-- earlier one comes after something else that is greater than the earlier one. So it is where each
+-- suspicion comes after an Alive of at least its incarnation. Where it is not so, a view keeps the
+-- incarnation of the first suspicion: after Alive 1, Suspect 1 and Suspect 2 it shows a suspicion
+-- at 1, and a table has one at 2.
 abbrev pub IsFounded : List ℕ → List Claim → Type 0
 IsFounded name claims = (past later : List Claim) (i j : ℕ)
     → claims ≡ past ++ Suspect name j ∷ later → Contains past (Suspect name i) → i < j
     → (c : Claim) × Contains past c × (name_of c ≡ name) × (i < inc_of c)
 
--- only Alives with sound versions, at one place, and suspicions that are founded
+-- nothing of the name but Alives with sound versions, at one place, and suspicions
 pub record IsOneLife (name : List ℕ) (claims : List Claim) : Type 0 where
   pub lives : (c : Claim) → Contains claims c → name_of c ≡ name → IsOfLife c
   pub place : IsAtOnePlace name claims
-  pub founded : IsFounded name claims
 
 -- the claim is a Suspect
 abbrev pub IsSuspect : Claim → Type 0
@@ -60,3 +62,8 @@ IsSame None (Some standing) = ⊥
 IsSame (Some entry) None = entry.state ≡ state.Seen
 IsSame (Some entry) (Some standing) = (entry.inc ≡ inc_of standing.top)
     × IsStateOf standing.top entry.state
+
+-- they show the same for the name after each thing that was heard
+abbrev pub IsSameThroughout : ℕ → List Heard → List ℕ → Type 0
+IsSameThroughout wait heard name = (past later : List Heard) → heard ≡ past ++ later
+    → IsSame (shown wait past name) (get (table_of (claims_of past)) name)

@@ -14,7 +14,7 @@ ghost use Rattle.memberlist_view.specs.Shown.{shown};
 ghost use Rattle.memberlist_view.specs.Sources.{Was};
 ghost use Rattle.swim_laws.specs.Above.{is_claimed, Has, IsStateBelow, AreDetailsBelow, IsFinalFrom, IsFinalOrFrom};
 ghost use Rattle.swim_laws.specs.Claims.{claim_of, claims_of};
-ghost use Rattle.swim_laws.specs.Living.{IsOneLife, IsSame};
+ghost use Rattle.swim_laws.specs.Living.{IsOneLife, IsFounded, IsSame, IsSameThroughout};
 ghost use Rattle.swim_laws.specs.Places.{IsAtOnePlace, IsHomeAt};
 
 /// Who hears a claim in a record of a stream, or in a packet in anybody's name, hears this claim
@@ -30,8 +30,8 @@ pub fn claims_are_heard()
 /// Whatever state a view shows for a name, somebody claimed at that incarnation, and the claim does
 /// not override what a table of the same claims has at the top. So a member that the view shows as
 /// dead, or as one that left, is dead or has left in the table, at no lower incarnation; one that
-/// it shows as alive or suspected is so too, or is at no lower incarnation there. And the details
-/// were claimed in an Alive that does not override the table's home.
+/// it shows as alive or suspected is dead or has left there, or is at no lower incarnation. And
+/// the details were claimed in an Alive that does not override the table's home.
 pub fn never_above()
     ensures state { (wait : ℕ) (heard : List Heard) (name : List ℕ) (entry : Entry)
         (table : Entries) → TableOf table (claims_of heard) → shown wait heard name ≡ Some entry
@@ -67,9 +67,11 @@ pub fn one_place()
 
 /// If nothing was claimed of a name but Alives with sound versions, at one place, and suspicions
 /// that are founded, a view and a table of the same claims show the same for it, whatever the times
-/// are.
+/// are. And where they show the same after each thing that was heard, all suspicions are founded.
 pub fn the_same_where_nobody_died()
-    ensures { (wait : ℕ) (heard : List Heard) (name : List ℕ) (table : Entries)
+    ensures same { (wait : ℕ) (heard : List Heard) (name : List ℕ) (table : Entries)
         → TableOf table (claims_of heard) → IsOneLife name (claims_of heard)
-        → IsSame (shown wait heard name) (get table name) }
+        → IsFounded name (claims_of heard) → IsSame (shown wait heard name) (get table name) }
+    ensures needed { (wait : ℕ) (heard : List Heard) (name : List ℕ)
+        → IsSameThroughout wait heard name → IsFounded name (claims_of heard) }
 {}
