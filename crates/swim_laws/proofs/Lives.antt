@@ -620,7 +620,8 @@ module _ (heard : List Heard) (name : List ℕ) (life : IsOneLife name (claims_o
 
 pub same : (wait : ℕ) (heard : List Heard) (name : List ℕ) (table : Entries) → TableOf table (claims_of heard)
     → IsOneLife name (claims_of heard) → IsFounded name (claims_of heard) → IsSame (shown wait heard name) (get table name)
-same wait heard name table of life firm = by_both (shown wait heard name) refl (level wait name heard life firm) (get table name) (of.each name)
+same wait heard name table of life firm =
+    by_both (shown wait heard name) refl (level wait name heard life firm) (get table name) (of.each name)
   where
     by_both : (o : Option Entry) → shown wait heard name ≡ o → UpTo name heard o → (t : Option Standing)
         → EntryOf (claims_of heard) name t → IsSame o t

@@ -54,7 +54,8 @@ heard_after : (heard : List Heard) (before after : List Claim) (c : Claim) → c
 heard_after [] before after c e = absurd (no_claims before after c e)
 heard_after (first ∷ rest) before after c e = by_claim (claim_of first.said) refl before e (λ b f. heard_after rest b after c f)
   where
-    by_claim : (o : Option Claim) → claim_of first.said ≡ o → (before : List Claim) → option_to_list o ++ claims_of rest ≡ before ++ c ∷ after
+    by_claim : (o : Option Claim) → claim_of first.said ≡ o → (before : List Claim)
+        → option_to_list o ++ claims_of rest ≡ before ++ c ∷ after
         → ((b : List Claim) → claims_of rest ≡ b ++ c ∷ after → IsHeardAfter rest b c) → IsHeardAfter (first ∷ rest) before c
     by_claim None is before e more = subst (λ o. IsHeardAfter (first ∷ rest) (option_to_list o ++ before) c) is
         (one_more first rest before c (more before e))
@@ -160,7 +161,8 @@ module _ (wait : ℕ) (heard : List Heard) (name : List ℕ) (same : IsSameThrou
       let says = subst (EntryOf (claims_of past) name) h.1 (of.each name) in
       (h.0, says.top.made, says.about, h.2, subst (IsSame (shown wait past name)) h.1 (same past later is))
 
-  module _ (past later : List Heard) (h : Heard) (is : heard ≡ past ++ h ∷ later) (i j : ℕ) (now : claim_of h.said ≡ Some (claim.Suspect name j))
+  module _ (past later : List Heard) (h : Heard) (is : heard ≡ past ++ h ∷ later) (i j : ℕ)
+      (now : claim_of h.said ≡ Some (claim.Suspect name j))
       (made : Contains (claims_of past) (claim.Suspect name i)) (lt : i < j) where
     abbrev pub HasGreater : Type 0
     HasGreater = (c : Claim) × Contains (claims_of past) c × (name_of c ≡ name) × (i < inc_of c)

@@ -2,3 +2,5 @@ pub mod Claims
 pub mod Above
 pub mod Places
 pub mod Living
+pub mod State
+pub mod Nodes

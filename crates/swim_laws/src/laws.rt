@@ -1,6 +1,6 @@
 //! Laws about the definitions of a table and of a view. Each is the contract of a function that
 //! does nothing.
-ghost use Rattle.std.specs.Prelude.{◌≡◌, ◌↔◌, ◌⊎◌, ◌<◌, ℕ, Bool, true, false, List, Option, Some, Contains, IsSome};
+ghost use Rattle.std.specs.Prelude.{◌≡◌, ◌≢◌, ◌↔◌, ◌⊎◌, ◌<◌, ◌≤◌, ℕ, Bool, true, false, List, Option, Some, Contains, IsSome};
 ghost use Rattle.swim_claim.specs.declared.claim.Claim.{Claim};
 ghost use Rattle.swim_claim.specs.declared.claim.Claim.TheVariants.{Alive};
 ghost use Rattle.swim_claim.specs.Details.{DetailsValue};
@@ -8,14 +8,20 @@ ghost use Rattle.swim_table.specs.Standing.{Standing};
 ghost use Rattle.swim_table.specs.Table.{Entries, TableOf, get};
 ghost use Rattle.memberlist_view.specs.declared.entry.Entry.{Entry};
 ghost use Rattle.memberlist_view.specs.declared.heard.Heard.{Heard};
-ghost use Rattle.memberlist_view.specs.Heard.{said_in_packet, said_in_record};
+ghost use Rattle.memberlist_view.specs.declared.heard.Said.{Said};
+ghost use Rattle.memberlist_view.specs.declared.heard.Said.TheVariants.{Dead};
+ghost use Rattle.memberlist_view.specs.Heard.{about, said_in_packet, said_in_record};
+ghost use Rattle.memberlist_view.specs.Member.{member_view_after, view_without_dropped};
 ghost use Rattle.memberlist_view.specs.Rules.{are_sound_versions, is_gone};
 ghost use Rattle.memberlist_view.specs.Shown.{shown};
 ghost use Rattle.memberlist_view.specs.Sources.{Was};
+ghost use Rattle.memberlist_view.specs.Told.{ViewValue, IsAscending, entry_of};
 ghost use Rattle.swim_laws.specs.Above.{is_claimed, Has, IsStateBelow, AreDetailsBelow, IsFinalFrom, IsFinalOrFrom};
 ghost use Rattle.swim_laws.specs.Claims.{claim_of, claims_of};
 ghost use Rattle.swim_laws.specs.Living.{IsOneLife, IsFounded, IsSame, IsSameThroughout};
+ghost use Rattle.swim_laws.specs.Nodes.{node_at, IsOfMember, Becomes};
 ghost use Rattle.swim_laws.specs.Places.{IsAtOnePlace, IsHomeAt};
+ghost use Rattle.swim_laws.specs.State.{Node, Handles, Resets, TimesOut};
 
 /// Who hears a claim in a record of a stream, or in a packet in anybody's name, hears this claim
 /// and no other; and the claims that were heard are those of all that was heard.
@@ -74,4 +80,35 @@ pub fn the_same_where_nobody_died()
         → IsFounded name (claims_of heard) → IsSame (shown wait heard name) (get table name) }
     ensures needed { (wait : ℕ) (heard : List Heard) (name : List ℕ)
         → IsSameThroughout wait heard name → IsFounded name (claims_of heard) }
+{}
+
+/// Each step of a view that hears as a member does is one of memberlist's state.go, in which no
+/// timer ends: the node of the name becomes what handling it makes of the node, and those of other
+/// names stay. Whoever was dead, or had left, for longer than the wait is forgotten at once, and
+/// what a view forgets is reset.
+pub fn a_member_hears_as_state_go()
+    ensures step { (view : ViewValue) (heard : Heard) (name : List ℕ) → about heard.said ≡ name
+        → IsOfMember (entry_of view name) → Becomes view.wait heard.time name heard.said
+        (node_at view.wait heard.time (entry_of view name))
+        (node_at view.wait heard.time (entry_of (member_view_after view heard) name)) }
+    ensures others { (view : ViewValue) (heard : Heard) (name : List ℕ) → about heard.said ≢ name
+        → entry_of (member_view_after view heard) name ≡ entry_of view name }
+    ensures member { (view : ViewValue) (heard : Heard) (name : List ℕ)
+        → IsOfMember (entry_of view name)
+        → IsOfMember (entry_of (member_view_after view heard) name) }
+    ensures waits { (wait time later : ℕ) (entry : Option Entry) → time ≤ later
+        → Resets wait later (node_at wait time entry) (node_at wait later entry) }
+    ensures forgets { (view : ViewValue) (time : ℕ) (name : List ℕ) → IsAscending view.entries
+        → Resets view.wait time (node_at view.wait time (entry_of view name))
+        (node_at view.wait time (entry_of (view_without_dropped view time) name)) }
+{}
+
+/// What state.go makes of a node when it handles something is one thing only. When a timer ends, it
+/// is as if a death was heard in the member's own name.
+pub fn state_go_has_one_answer()
+    ensures one { (name : List ℕ) (time : ℕ) (said : Said) (old new other : Option Node)
+        → Handles name time said old new → Handles name time said old other → new ≡ other }
+    ensures timer { (name own : List ℕ) (time : ℕ) (node : Node) (new : Option Node) → own ≢ name
+        → TimesOut time (Some node) new
+        → Handles name time (Dead name node.inc (Some own)) (Some node) new }
 {}
