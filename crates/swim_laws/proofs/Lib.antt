@@ -6,3 +6,4 @@ pub mod Lives
 pub mod Needed
 pub mod Stepping
 pub mod Members
+pub mod Running

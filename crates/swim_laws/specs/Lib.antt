@@ -4,3 +4,4 @@ pub mod Places
 pub mod Living
 pub mod State
 pub mod Nodes
+pub mod Runs

@@ -1,6 +1,6 @@
 //! Laws about the definitions of a table and of a view. Each is the contract of a function that
 //! does nothing.
-ghost use Rattle.std.specs.Prelude.{◌≡◌, ◌≢◌, ◌↔◌, ◌⊎◌, ◌<◌, ◌≤◌, ℕ, Bool, true, false, List, Option, Some, Contains, IsSome};
+ghost use Rattle.std.specs.Prelude.{◌≡◌, ◌≢◌, ◌↔◌, ◌⊎◌, ◌<◌, ◌≤◌, ℕ, Bool, true, false, List, Option, Some, None, Contains, IsSome};
 ghost use Rattle.swim_claim.specs.declared.claim.Claim.{Claim};
 ghost use Rattle.swim_claim.specs.declared.claim.Claim.TheVariants.{Alive};
 ghost use Rattle.swim_claim.specs.Details.{DetailsValue};
@@ -21,6 +21,7 @@ ghost use Rattle.swim_laws.specs.Claims.{claim_of, claims_of};
 ghost use Rattle.swim_laws.specs.Living.{IsOneLife, IsFounded, IsSame, IsSameThroughout};
 ghost use Rattle.swim_laws.specs.Nodes.{node_at, IsOfMember, Becomes};
 ghost use Rattle.swim_laws.specs.Places.{IsAtOnePlace, IsHomeAt};
+ghost use Rattle.swim_laws.specs.Runs.{Runs, AreInOrder, last_time, member_view};
 ghost use Rattle.swim_laws.specs.State.{Node, Handles, Resets, TimesOut};
 
 /// Who hears a claim in a record of a stream, or in a packet in anybody's name, hears this claim
@@ -82,11 +83,14 @@ pub fn the_same_where_nobody_died()
         → IsSameThroughout wait heard name → IsFounded name (claims_of heard) }
 {}
 
-/// Each step of a view that hears as a member does is one of memberlist's state.go, in which no
-/// timer ends: the node of the name becomes what handling it makes of the node, and those of other
-/// names stay. Whoever was dead, or had left, for longer than the wait is forgotten at once, and
-/// what a view forgets is reset.
+/// What a member shows for a name, after any list of things heard at times that do not go back, is a
+/// run of memberlist's state.go in which no timer ends. At each step the node of the name becomes
+/// what handling makes of it, and those of other names stay. Whoever was dead, or had left, for
+/// longer than the wait is forgotten at once; and what a view is told to forget, resetNodes forgets.
 pub fn a_member_hears_as_state_go()
+    ensures run { (wait : ℕ) (heard : List Heard) (name : List ℕ) → AreInOrder 0 heard
+        → Runs wait name 0 None heard (last_time 0 heard)
+        (node_at wait (last_time 0 heard) (entry_of (member_view wait heard) name)) }
     ensures step { (view : ViewValue) (heard : Heard) (name : List ℕ) → about heard.said ≡ name
         → IsOfMember (entry_of view name) → Becomes view.wait heard.time name heard.said
         (node_at view.wait heard.time (entry_of view name))

@@ -1,4 +1,5 @@
 use Rattle.swim_laws.proofs.Members.{member_steps, others_stay, member_kept, waits, forgets}
+use Rattle.swim_laws.proofs.Running.{member_runs}
 use Rattle.swim_laws.proofs.laws.a_member_hears_as_state_go.Goals as goal
 
 pub returns-clause-step : goal.returns-clause-step
@@ -15,3 +16,6 @@ returns-clause-waits c = waits
 
 pub returns-clause-forgets : goal.returns-clause-forgets
 returns-clause-forgets c = forgets
+
+pub returns-clause-run : goal.returns-clause-run
+returns-clause-run c = λ wait heard name. member_runs wait name heard
