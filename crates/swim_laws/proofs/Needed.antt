@@ -157,7 +157,7 @@ module _ (wait : ℕ) (heard : List Heard) (name : List ℕ) (same : IsSameThrou
       × IsSame (shown wait past name) (Some s)
   standing past later is c made of_it =
       let of = TableOf-table_of (claims_of past) in
-      let h = has_claimed past name (table_of (claims_of past)) of c made of_it in
+      let h = has_claimed (claims_of past) name (table_of (claims_of past)) of c made of_it in
       let says = subst (EntryOf (claims_of past) name) h.1 (of.each name) in
       (h.0, says.top.made, says.about, h.2, subst (IsSame (shown wait past name)) h.1 (same past later is))
 

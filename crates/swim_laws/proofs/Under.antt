@@ -120,17 +120,35 @@ was_heard wait heard name entry is = subst (λ o. IfSome o (WasHeard heard name)
 
 -- ---- what the table has
 
-module _ (heard : List Heard) (name : List ℕ) (table : Entries) (of : TableOf table (claims_of heard)) where
+module _ (all : List Claim) (name : List ℕ) (table : Entries) (of : TableOf table all) where
   -- the table has a name that was claimed, and the claim does not override its top
-  pub has_claimed : (c : Claim) → Contains (claims_of heard) c → name_of c ≡ name → Has table name (λ s. ¬ Overrides c s.top)
+  pub has_claimed : (c : Claim) → Contains all c → name_of c ≡ name → Has table name (λ s. ¬ Overrides c s.top)
   has_claimed c made about = by_answer (get table name) refl (of.each name)
     where
-      by_answer : (o : Option Standing) → get table name ≡ o → EntryOf (claims_of heard) name o
-          → Has table name (λ s. ¬ Overrides c s.top)
+      by_answer : (o : Option Standing) → get table name ≡ o → EntryOf all name o → Has table name (λ s. ¬ Overrides c s.top)
       by_answer None e says = absurd (says c made about)
       by_answer (Some s) e says = (s, e, says.top.greatest c made (about ∙ sym says.about))
 
-  module _ (entry : Entry) (w : WasHeard heard name entry) where
+  -- the table has the home of a name whose details were heard
+  pub home_of : (alive : Claim) → Contains all alive → IsAlive alive → name_of alive ≡ name
+      → Has table name (λ s. (home : Claim) × (s.home ≡ Some home) × (name_of home ≡ name) × Home home all)
+  home_of alive made is about =
+      let h = has_claimed alive made about in
+      (h.0, h.1, by_home h.0 h.0.home refl (home_says h.0 h.1))
+    where
+      home_says : (s : Standing) → get table name ≡ Some s → IsHomeOf all name s.home
+      home_says s e = (subst (EntryOf all name) e (of.each name)).home
+
+      by_home : (s : Standing) (o : Option Claim) → s.home ≡ o → IsHomeOf all name o
+          → (home : Claim) × (s.home ≡ Some home) × (name_of home ≡ name) × Home home all
+      by_home s None e says = absurd (says alive made is about)
+      by_home s (Some home) e says = (home, e, says.0, says.1)
+
+  module _ (heard : List Heard) (within : (c : Claim) → Contains (claims_of heard) c → Contains all c) (entry : Entry)
+      (w : WasHeard heard name entry) where
+    was_taken : (h : Heard) (c : Claim) → Contains heard h → claim_of h.said ≡ Some c → Contains all c
+    was_taken h c at is = within c (claimed heard h c at is)
+
     state_given : is_claimed entry.state ≡ true → Was heard (λ h. (c : Claim) × IsClaimOf name entry.inc entry.state h c)
     state_given claims =
         let g = given heard name entry.inc entry.details entry.state claims w.state in
@@ -140,55 +158,40 @@ module _ (heard : List Heard) (name : List ℕ) (table : Entries) (of : TableOf 
     state_below claims =
         let g = given heard name entry.inc entry.details entry.state claims w.state in
         let c = giving name entry.inc entry.state g.0 g.2 in
-        let h = has_claimed c.0 (claimed heard g.0 c.0 g.1 c.1.is) c.1.about in
+        let h = has_claimed c.0 (was_taken g.0 c.0 g.1 c.1.is) c.1.about in
         (h.0, h.1, (g.0, g.1, (g.2, (c.0, c.1.is, h.2))))
 
     pub final_from : is_gone entry.state ≡ true → Has table name (IsFinalFrom entry.inc)
     final_from gone =
         let g = state_given (gone_claimed entry.state gone) in
-        let h = has_claimed g.2.0 (claimed heard g.0 g.2.0 g.1 g.2.1.is) g.2.1.about in
+        let h = has_claimed g.2.0 (was_taken g.0 g.2.0 g.1 g.2.1.is) g.2.1.about in
         let f = from_final g.2.0 h.0.top (g.2.1.ends gone) h.2 in
         (h.0, h.1, (f.0, subst (λ i. i ≤ inc_of h.0.top) g.2.1.at f.1))
 
     pub final_or_from : is_claimed entry.state ≡ true → Has table name (IsFinalOrFrom entry.inc)
     final_or_from claims =
         let g = state_given claims in
-        let h = has_claimed g.2.0 (claimed heard g.0 g.2.0 g.1 g.2.1.is) g.2.1.about in
+        let h = has_claimed g.2.0 (was_taken g.0 g.2.0 g.1 g.2.1.is) g.2.1.about in
         (h.0, h.1, subst (λ i. (finality h.0.top ≡ 1) ⊎ (i ≤ inc_of h.0.top)) g.2.1.at (from_any g.2.0 h.0.top h.2))
 
     details_heard : (details : DetailsValue) → entry.details ≡ Some details → Was heard (HasDetails name details)
     details_heard details is = (subst (λ o. IfSome o (DetailsWereHeard heard name)) is w.details).0
-
-    -- the table has the home of a name whose details were heard
-    pub home_of : (alive : Claim) → Contains (claims_of heard) alive → IsAlive alive → name_of alive ≡ name
-        → Has table name (λ s. (home : Claim) × (s.home ≡ Some home) × (name_of home ≡ name) × Home home (claims_of heard))
-    home_of alive made is about =
-        let h = has_claimed alive made about in
-        (h.0, h.1, by_home h.0 h.0.home refl (home_says h.0 h.1))
-      where
-        home_says : (s : Standing) → get table name ≡ Some s → IsHomeOf (claims_of heard) name s.home
-        home_says s e = (subst (EntryOf (claims_of heard) name) e (of.each name)).home
-
-        by_home : (s : Standing) (o : Option Claim) → s.home ≡ o → IsHomeOf (claims_of heard) name o
-            → (home : Claim) × (s.home ≡ Some home) × (name_of home ≡ name) × Home home (claims_of heard)
-        by_home s None e says = absurd (says alive made is about)
-        by_home s (Some home) e says = (home, e, says.0, says.1)
 
     pub details_below : (details : DetailsValue) → entry.details ≡ Some details → Has table name (AreDetailsBelow heard name details)
     details_below details is =
         let d = details_heard details is in
         let alive : Claim = claim.Alive name d.2.0 d.2.1.0 in
         let claims : claim_of d.0.said ≡ Some alive = ap claim_of d.2.1.2 in
-        let made : Contains (claims_of heard) alive = claimed heard d.0 alive d.1 claims in
+        let made : Contains all alive = was_taken d.0 alive d.1 claims in
         let h = home_of alive made tt refl in
         (h.0, h.1, (h.2.0, h.2.1, (d.0, d.1, (d.2, (alive, claims, h.2.3.greatest alive made tt (sym h.2.2))))))
 
-    pub home_at : IsAtOnePlace name (claims_of heard) → (details : DetailsValue) → entry.details ≡ Some details
+    pub home_at : IsAtOnePlace name all → (details : DetailsValue) → entry.details ≡ Some details
         → Has table name (IsHomeAt details)
     home_at one details is =
         let d = details_heard details is in
         let alive : Claim = claim.Alive name d.2.0 d.2.1.0 in
-        let made : Contains (claims_of heard) alive = claimed heard d.0 alive d.1 (ap claim_of d.2.1.2) in
+        let made : Contains all alive = was_taken d.0 alive d.1 (ap claim_of d.2.1.2) in
         let h = home_of alive made tt refl in
         (h.0, h.1, (h.2.0, h.2.1, at h.2.0 h.2.2 h.2.3.alive h.2.3.made d.2.0 d.2.1.0 made d.2.1.4))
       where
@@ -198,10 +201,10 @@ module _ (heard : List Heard) (name : List ℕ) (table : Entries) (of : TableOf 
           | inr is ↦ (ap (λ (x : DetailsValue). x.addr) is.1 ∙ place.0, ap (λ (x : DetailsValue). x.port) is.1 ∙ place.1)
         ]
 
-        at : (home : Claim) → name_of home ≡ name → IsAlive home → Contains (claims_of heard) home → (i : ℕ) (said : DetailsValue)
-            → Contains (claims_of heard) (claim.Alive name i said) → IsSaidAs details said → IsAliveAtPlace details home
+        at : (home : Claim) → name_of home ≡ name → IsAlive home → Contains all home → (i : ℕ) (said : DetailsValue)
+            → Contains all (claim.Alive name i said) → IsSaidAs details said → IsAliveAtPlace details home
         at (claim.Alive n j e) about a made i said too same = said_there said e same
-            (one i j said e too (subst (λ m. Contains (claims_of heard) (claim.Alive m j e)) about made))
+            (one i j said e too (subst (λ m. Contains all (claim.Alive m j e)) about made))
         at (claim.Suspect n j) about a made i said too same = a
         at (claim.Confirm n j) about a made i said too same = a
         at (claim.Leave n j) about a made i said too same = a

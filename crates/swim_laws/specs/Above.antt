@@ -1,11 +1,11 @@
--- Which claim a state that a view shows comes from, and that a table has nothing below it.
-use Rattle.std.specs.Prelude.{◌≡◌, ℕ, ◌≤◌, ◌⊎◌, Bool, true, false, Some, List}
+-- From which claim a state that a view shows comes, and that a table has nothing below that claim.
+use Rattle.std.specs.Prelude.{◌≡◌, ℕ, ◌≤◌, ◌⊎◌, Bool, true, false, Some, List, Contains}
 use Rattle.swim_claim.specs.declared.claim.Claim.{Claim}
 use Rattle.swim_claim.specs.Claim.{inc_of, Overrides}
 use Rattle.swim_claim.specs.Details.{DetailsValue}
 use Rattle.swim_claim.specs.Rank.{finality}
 use Rattle.swim_table.specs.Standing.{Standing}
-use Rattle.swim_table.specs.Table.{Entries, get}
+use Rattle.swim_table.specs.Table.{Entries, TableOf, get}
 use Rattle.memberlist_view.specs.declared.entry.Entry.{Entry}
 use Rattle.memberlist_view.specs.declared.entry.State.{State}
 use Rattle.memberlist_view.specs.declared.entry.State.TheVariants as state
@@ -38,6 +38,11 @@ Gives name inc state.Left heard = Leaves name inc heard
 -- the claim that was heard does not override this one
 abbrev pub IsNotAbove : Claim → Heard → Type 0
 IsNotAbove top heard = (c : Claim) × (claim_of heard.said ≡ Some c) × ¬ Overrides c top
+
+-- the table took in these claims, and maybe more
+abbrev pub TookIn : Entries → List Claim → Type 0
+TookIn table claims = (all : List Claim) × TableOf table all
+    × ((c : Claim) → Contains claims c → Contains all c)
 
 -- what the table has for the name
 abbrev pub Has : Entries → List ℕ → (Standing → Type 0) → Type 0

@@ -16,7 +16,7 @@ ghost use Rattle.memberlist_view.specs.Rules.{are_sound_versions, is_gone};
 ghost use Rattle.memberlist_view.specs.Shown.{shown};
 ghost use Rattle.memberlist_view.specs.Sources.{Was};
 ghost use Rattle.memberlist_view.specs.Told.{ViewValue, IsAscending, entry_of};
-ghost use Rattle.swim_laws.specs.Above.{is_claimed, Has, IsStateBelow, AreDetailsBelow, IsFinalFrom, IsFinalOrFrom};
+ghost use Rattle.swim_laws.specs.Above.{is_claimed, TookIn, Has, IsStateBelow, AreDetailsBelow, IsFinalFrom, IsFinalOrFrom};
 ghost use Rattle.swim_laws.specs.Claims.{claim_of, claims_of};
 ghost use Rattle.swim_laws.specs.Living.{IsOneLife, IsFounded, IsSame, IsSameThroughout};
 ghost use Rattle.swim_laws.specs.Nodes.{node_at, IsOfMember, Becomes};
@@ -34,31 +34,32 @@ pub fn claims_are_heard()
         → Contains (claims_of heard) c ↔ Was heard (λ h. claim_of h.said ≡ Some c) }
 {}
 
-/// Whatever state a view shows for a name, somebody claimed at that incarnation, and the claim does
-/// not override what a table of the same claims has at the top. So a member that the view shows as
-/// dead, or as one that left, is dead or has left in the table, at no lower incarnation; one that
-/// it shows as alive or suspected is dead or has left there, or is at no lower incarnation. And
-/// the details were claimed in an Alive that does not override the table's home.
+/// A view shows nothing above a table that took in the same claims, and maybe more. Whatever state
+/// it shows for a name was claimed at that incarnation, and the claim does not override the table's
+/// top. So a member that it shows as dead, or as one that left, is dead or has left in the table,
+/// at no lower incarnation; one that it shows as alive or suspected is dead or has left there, or
+/// is at no lower incarnation. Details were claimed in an Alive that does not override the table's
+/// home.
 pub fn never_above()
     ensures state { (wait : ℕ) (heard : List Heard) (name : List ℕ) (entry : Entry)
-        (table : Entries) → TableOf table (claims_of heard) → shown wait heard name ≡ Some entry
+        (table : Entries) → TookIn table (claims_of heard) → shown wait heard name ≡ Some entry
         → is_claimed entry.state ≡ true → Has table name (IsStateBelow heard name entry) }
     ensures gone { (wait : ℕ) (heard : List Heard) (name : List ℕ) (entry : Entry)
-        (table : Entries) → TableOf table (claims_of heard) → shown wait heard name ≡ Some entry
+        (table : Entries) → TookIn table (claims_of heard) → shown wait heard name ≡ Some entry
         → is_gone entry.state ≡ true → Has table name (IsFinalFrom entry.inc) }
     ensures here { (wait : ℕ) (heard : List Heard) (name : List ℕ) (entry : Entry)
-        (table : Entries) → TableOf table (claims_of heard) → shown wait heard name ≡ Some entry
+        (table : Entries) → TookIn table (claims_of heard) → shown wait heard name ≡ Some entry
         → is_claimed entry.state ≡ true → Has table name (IsFinalOrFrom entry.inc) }
     ensures details { (wait : ℕ) (heard : List Heard) (name : List ℕ) (entry : Entry)
-        (table : Entries) (details : DetailsValue) → TableOf table (claims_of heard)
+        (table : Entries) (details : DetailsValue) → TookIn table (claims_of heard)
         → shown wait heard name ≡ Some entry → entry.details ≡ Some details
         → Has table name (AreDetailsBelow heard name details) }
 {}
 
 /// If all Alives of a name are at one address and port, the details that a view shows for it are at
 /// those of the home that a table of the same claims has. The view has details if the home has
-/// sound versions and is above incarnation 0, and also at 0 while the member is not dead and
-/// has not left.
+/// sound versions and is above incarnation 0, and also at 0 while the member is not dead and has
+/// not left.
 pub fn one_place()
     ensures same { (wait : ℕ) (heard : List Heard) (name : List ℕ) (entry : Entry)
         (table : Entries) (details : DetailsValue) → IsAtOnePlace name (claims_of heard)
@@ -83,10 +84,11 @@ pub fn the_same_where_nobody_died()
         → IsSameThroughout wait heard name → IsFounded name (claims_of heard) }
 {}
 
-/// What a member shows for a name, after any list of things heard at times that do not go back, is a
-/// run of memberlist's state.go in which no timer ends. At each step the node of the name becomes
+/// What a member shows for a name, after any list of things heard at times that do not go back, is
+/// a run of memberlist's state.go in which no timer ends. At each step the node of the name becomes
 /// what handling makes of it, and those of other names stay. Whoever was dead, or had left, for
-/// longer than the wait is forgotten at once; and what a view is told to forget, resetNodes forgets.
+/// longer than the wait is forgotten at once; and what a view is told to forget, resetNodes
+/// forgets.
 pub fn a_member_hears_as_state_go()
     ensures run { (wait : ℕ) (heard : List Heard) (name : List ℕ) → AreInOrder 0 heard
         → Runs wait name 0 None heard (last_time 0 heard)

@@ -10,7 +10,7 @@ use Rattle.swim_laws.proofs.laws.one_place.Goals as goal
 
 pub returns-clause-same : goal.returns-clause-same
 returns-clause-same c = λ wait heard name entry table details one of is.
-    home_at heard name table of entry (was_heard wait heard name entry is) one details
+    home_at (claims_of heard) name table of heard (λ c at. at) entry (was_heard wait heard name entry is) one details
 
 pub returns-clause-known : goal.returns-clause-known
 returns-clause-known c = λ wait heard name entry table standing inc details of has home sound is here.
