@@ -1,8 +1,9 @@
 -- A name about which nothing was heard but that it is alive, or suspected.
-use Rattle.std.specs.Prelude.{◌≡◌, ⊤, ℕ, ◌<◌, true, Option, Some, None, List, ◌∷◌, ◌++◌, Contains}
+use Rattle.std.specs.Prelude.{◌≡◌, ⊤, ℕ, ◌<◌, ◌≤◌, true, Option, Some, None, List, ◌∷◌, ◌++◌, Contains}
 use Rattle.swim_claim.specs.declared.claim.Claim.{Claim}
 use Rattle.swim_claim.specs.declared.claim.Claim.TheVariants.{Alive, Suspect, Confirm, Leave}
 use Rattle.swim_claim.specs.Claim.{name_of, inc_of}
+use Rattle.swim_claim.specs.Details.{DetailsValue}
 use Rattle.swim_table.specs.Standing.{Standing}
 use Rattle.swim_table.specs.Join.{table_of}
 use Rattle.swim_table.specs.Table.{IsAlive, get}
@@ -23,14 +24,19 @@ IsOfLife (Confirm name inc) = ⊥
 IsOfLife (Leave name inc) = ⊥
 
 -- Who is suspected is not suspected at a greater incarnation: a suspicion that is greater than an
--- earlier one comes after something else that is greater than the earlier one. So it is where each
--- suspicion comes after an Alive of at least its incarnation. Where it is not so, a view keeps the
--- incarnation of the first suspicion: after Alive 1, Suspect 1 and Suspect 2 it shows a suspicion
--- at 1, and a table has one at 2.
+-- earlier one comes after something else that is greater than the earlier one. Where it is not so,
+-- a view keeps the incarnation of the first suspicion: after Alive 1, Suspect 1 and Suspect 2 it
+-- shows a suspicion at 1, and a table has one at 2.
 abbrev pub IsFounded : List ℕ → List Claim → Type 0
 IsFounded name claims = (past later : List Claim) (i j : ℕ)
     → claims ≡ past ++ Suspect name j ∷ later → Contains past (Suspect name i) → i < j
     → (c : Claim) × Contains past c × (name_of c ≡ name) × (i < inc_of c)
+
+-- each suspicion of the name comes after an Alive of at least its incarnation
+abbrev pub IsAfterAlives : List ℕ → List Claim → Type 0
+IsAfterAlives name claims = (past later : List Claim) (j : ℕ)
+    → claims ≡ past ++ Suspect name j ∷ later
+    → (i : ℕ) × (details : DetailsValue) × Contains past (Alive name i details) × (j ≤ i)
 
 -- nothing of the name but Alives with sound versions, at one place, and suspicions
 pub record IsOneLife (name : List ℕ) (claims : List Claim) : Type 0 where

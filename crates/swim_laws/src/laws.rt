@@ -18,7 +18,7 @@ ghost use Rattle.memberlist_view.specs.Sources.{Was};
 ghost use Rattle.memberlist_view.specs.Told.{ViewValue, IsAscending, entry_of};
 ghost use Rattle.swim_laws.specs.Above.{is_claimed, TookIn, Has, IsStateBelow, AreDetailsBelow, IsFinalFrom, IsFinalOrFrom};
 ghost use Rattle.swim_laws.specs.Claims.{claim_of, claims_of};
-ghost use Rattle.swim_laws.specs.Living.{IsOneLife, IsFounded, IsSame, IsSameThroughout};
+ghost use Rattle.swim_laws.specs.Living.{IsOneLife, IsFounded, IsAfterAlives, IsSame, IsSameThroughout};
 ghost use Rattle.swim_laws.specs.Nodes.{node_at, IsOfMember, Becomes};
 ghost use Rattle.swim_laws.specs.Places.{IsAtOnePlace, IsHomeAt};
 ghost use Rattle.swim_laws.specs.Runs.{Runs, AreInOrder, last_time, member_view};
@@ -75,11 +75,14 @@ pub fn one_place()
 
 /// If nothing was claimed of a name but Alives with sound versions, at one place, and suspicions
 /// that are founded, a view and a table of the same claims show the same for it, whatever the times
-/// are. And where they show the same after each thing that was heard, all suspicions are founded.
+/// are. For that it is enough that each suspicion comes after an Alive of at least its incarnation;
+/// and where they show the same after each thing that was heard, all suspicions are founded.
 pub fn the_same_where_nobody_died()
     ensures same { (wait : ℕ) (heard : List Heard) (name : List ℕ) (table : Entries)
         → TableOf table (claims_of heard) → IsOneLife name (claims_of heard)
         → IsFounded name (claims_of heard) → IsSame (shown wait heard name) (get table name) }
+    ensures enough { (name : List ℕ) (claims : List Claim) → IsAfterAlives name claims
+        → IsFounded name claims }
     ensures needed { (wait : ℕ) (heard : List Heard) (name : List ℕ)
         → IsSameThroughout wait heard name → IsFounded name (claims_of heard) }
 {}
