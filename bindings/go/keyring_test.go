@@ -205,6 +205,24 @@ func TestMessagesAreSealed(t *testing.T) {
 	refused(t, err, ErrCipherTooLong)
 }
 
+func TestEachByteOfANonceIsDrawn(t *testing.T) {
+	// behind the version, which is the first byte of a packet without a label
+	keys, drawn := keyring(t, key16), [nonceSize]map[byte]bool{}
+	for i := 0; i < 20; i++ {
+		for j, one := range must[[]byte](t)(keys.Seal("", []byte{8}))[1 : 1+nonceSize] {
+			if drawn[j] == nil {
+				drawn[j] = map[byte]bool{}
+			}
+			drawn[j][one] = true
+		}
+	}
+	for j := range drawn {
+		if len(drawn[j]) == 1 {
+			t.Errorf("byte %d of a nonce is always the same", j)
+		}
+	}
+}
+
 func TestWhatIsSealedIsUnwrapped(t *testing.T) {
 	keys, message := keyring(t, newKey), unhex(clearAlive)
 	first, second := must[[]byte](t)(keys.Seal("dc", message)), must[[]byte](t)(keys.Seal("dc", message))

@@ -1,6 +1,7 @@
 package swimtab
 
 import (
+	"fmt"
 	"strings"
 	"testing"
 )
@@ -52,6 +53,16 @@ func bare(name string, inc, state byte) string {
 		"\xa4Port\x00\xa5State" + string([]byte{state}) + "\xa3Vsn\xa0"
 }
 
+func TestStatesAndRelationsHaveNames(t *testing.T) {
+	if names := fmt.Sprint(Equal, Behind, Ahead, Apart, Relation(4)); names != "equal behind ahead apart unknown" {
+		t.Error(names)
+	}
+	names := fmt.Sprint(Alive, Suspect, Confirm, Leave, Noted, State(5))
+	if names != "alive suspect confirm leave noted unknown" {
+		t.Error(names)
+	}
+}
+
 func TestStreamsHaveTwoForms(t *testing.T) {
 	a, b := opened(t, "a", 1), opened(t, "b", 2)
 	takes(t, a, must[[]byte](t)(b.Alive(3)), true)
@@ -97,6 +108,9 @@ func TestUserStateIsSentAndRead(t *testing.T) {
 	}
 	if _, whole, err := progress.Whole(reply); !whole || err != nil || string(progress.User(reply)) != "us" {
 		t.Error(err)
+	}
+	if user := progress.User(append(reply, "behind"...)); string(user) != "us" {
+		t.Errorf("%q", user)
 	}
 	progress = Progress{}
 	none := must[[]byte](t)(a.Dump())

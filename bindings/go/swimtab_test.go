@@ -197,6 +197,9 @@ func TestACompoundPacketHas255PacketsAtMost(t *testing.T) {
 
 func TestAClosedNodeHasNoNode(t *testing.T) {
 	a, b := opened(t, "a", 1), opened(t, "b", 1)
+	if a.Len() != 1 {
+		t.Error(a.Len())
+	}
 	a.Close()
 	a.Close()
 	_, err := a.Take(nil)

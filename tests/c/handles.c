@@ -37,6 +37,7 @@ static void statuses_have_sentences(void) {
     static const char none[] = "There is no such status.";
     WANT(strcmp(swimtab_fault_text(SWIMTAB_DONE), "Done.") == 0);
     WANT(strcmp(swimtab_fault_text(SWIMTAB_MEMORY), "Out of memory.") == 0);
+    WANT(strcmp(swimtab_fault_text(SWIMTAB_BAD_LABEL), "The label is empty.") == 0);
     WANT(strcmp(swimtab_fault_text(SWIMTAB_BAD_FORM), "There is no such form of a stream, or it has no user state.") == 0);
     for (uint32_t status = 0; status < 256; status++) {
         const char *text = swimtab_fault_text(status);
@@ -131,6 +132,37 @@ static void keyrings_and_packets_may_be_null(void) {
     out[0] = 9;
     written = written_of(swimtab_unwrap(&keyring, packet, 2, out, 4));
     WANT(written.status == SWIMTAB_DONE && is_hex(out, written.len, "0700") && out[2] == 7);
+}
+
+/* A buffer that is NULL has no room, whatever length is passed with it. */
+static void no_buffer_has_no_room(void) {
+    swimtab_node node = opened("a", 1, 0);
+    swimtab_details b = SWIMTAB_DETAILS_INIT;
+    b.name = "b", b.name_len = 1, b.addr = local_addr, b.addr_len = 4;
+    const uint8_t packet[20] = {3, 0x81, 0xa4, 'N', 'o', 'd', 'e', 0xa1, 'b'};
+    const size_t len = 9;
+    const swimtab_written written[] = {
+        swimtab_alive(&node, 1, NULL, 99),
+        swimtab_alive_of(&b, NULL, 99),
+        swimtab_suspect(&node, "b", 1, 1, NULL, 99),
+        swimtab_confirm(&node, "b", 1, 1, NULL, 99),
+        swimtab_leave(&node, 1, NULL, 99),
+        swimtab_suspect_of("c", 1, "b", 1, 1, NULL, 99),
+        swimtab_dead_of("c", 1, "b", 1, 1, NULL, 99),
+        swimtab_compound(packet, len, &len, 1, NULL, 99),
+        swimtab_ping_of(1, "b", 1, NULL, NULL, 99),
+        swimtab_indirect_of(1, &b, true, NULL, NULL, 99),
+        swimtab_ack_of(1, NULL, 9, NULL, 99),
+        swimtab_nack_of(1, NULL, 99),
+        swimtab_user_of(NULL, 9, NULL, 99),
+        swimtab_offer(&node, false, SWIMTAB_CANONICAL, NULL, 9, NULL, 999),
+        swimtab_dump(&node, NULL, 999),
+        swimtab_list(&node, NULL, 99),
+        swimtab_seal_stream(NULL, NULL, NULL, 9, false, packet, len, NULL, 99),
+    };
+    for (size_t i = 0; i < sizeof written / sizeof *written; i++)
+        WANT(written[i].status == SWIMTAB_TOO_SMALL && written[i].len > 0);
+    WANT(swimtab_close(&node) == 0);
 }
 
 static void a_closed_handle_opens_again(void) {
@@ -293,6 +325,7 @@ int main(void) {
         {"statuses have sentences", statuses_have_sentences},
         {"a handle without a node has none", a_handle_without_a_node_has_none},
         {"keyrings and packets may be NULL", keyrings_and_packets_may_be_null},
+        {"no buffer has no room", no_buffer_has_no_room},
         {"a closed handle opens again", a_closed_handle_opens_again},
         {"openings are refused", openings_are_refused},
         {"the longest values are copied out", the_longest_values_are_copied_out},

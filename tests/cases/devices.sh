@@ -34,6 +34,12 @@ prints 'a pipe as a file' 0 "$line_a" "$line_b"
 bytes "$dump_p" | timeout 120 "$program" relate /dev/stdin r.bin > out 2> err
 status=$?
 prints 'standard input as a file' 1 behind
+bytes "$dump_q" | timeout 120 "$program" list p.bin /dev/stdin > out 2> err
+status=$?
+prints 'standard input as a file that is listed' 0 "$line_a" "$line_b"
+bytes "$dump_q" | timeout 120 "$program" merge p.bin /dev/stdin > out 2> err
+status=$?
+prints_file 'standard input as a file that is merged' r.bin
 
 # Standard input that fails, or is not used.
 timeout 120 "$program" < / > out 2> err

@@ -131,6 +131,17 @@ if command -v cc > /dev/null; then
     fault=
     [ "$waited" -ge 9 ] && [ "$waited" -le 30 ] || fault="; it took $waited seconds"
     count 'loop: the peer is abandoned after 10 seconds' "$fault"
+
+    # It listens at a port that the system chooses, on 127.0.0.1 alone. Who connects first is the peer of the second
+    # table. If one of them gets other bytes than the other sent, they do not end equal.
+    cc -shared -fPIC -O2 -o meddles.so "$here/c/meddles.c" -ldl
+    LD_PRELOAD=$PWD/meddles.so FIRST=1 timeout 120 "$program" loop p.bin q.bin > out 2> err
+    status=$?
+    refuses 'loop: a stranger connects first, and leaves' 3 'swimtab: loop: fault 1 Ended'
+    count 'loop: the address and port' "$([ "$(cat bound)" = '127.0.0.1 0' ] || echo "; $(cat bound)")"
+    LD_PRELOAD=$PWD/meddles.so OTHER=1 timeout 120 "$program" loop p.bin q.bin > out 2> err
+    status=$?
+    prints 'loop: the tables do not end equal' 1 "$line_a" "$line_b"
 else
-    echo 'skipped: a peer of loop that sends little by little: there is no cc'
+    echo 'skipped: peers of loop that meddle: there is no cc'
 fi

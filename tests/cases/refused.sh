@@ -6,6 +6,8 @@ if can_refuse; then
     printf '%s\n%s\n' "$alive_a" "$suspect_b" > packets.hex
     printf 'node a 7f000001 7946 - - 0\nnode b 7f000002 7946 - - 0\nhear 0 %s\nhalf 0 1\nrefute 1\nlevel\n' "$suspect_b" > events.script
     each_refused packets packets.hex
+    bytes d4c3b2a10a > short.pcap
+    each_refused 'a capture' short.pcap
     each_refused list /dev/null list v.bin q.bin
     each_refused merge /dev/null merge v.bin q.bin
     each_refused 'relate of equal tables' /dev/null relate p.bin p.bin

@@ -15,7 +15,7 @@ done
 
 # Arguments that are not UTF-8.
 run list "$(printf '\377')"
-explains 'an argument that is not UTF-8'
+refuses 'an argument that is not UTF-8' 2 'swimtab: an argument is not valid UTF-8'
 run "$(printf 'list\377')" p.bin
 explains 'a command that is not UTF-8'
 
@@ -26,7 +26,7 @@ for word in p.bin missing.bin listing; do
     count "swimtab $word names the next step" \
         "$([ "$(tail -n 1 err)" = 'swimtab: packets are read from standard input: swimtab < FILE' ] || echo "; $(start_of err)")"
 done
-for words in --foo 'list' 'run p.bin' '--help' 'relate p.bin'; do
+for words in --foo 'list' 'run p.bin' '--help' --version 'relate p.bin' 'relate p.bin q.bin r.bin'; do
     # shellcheck disable=SC2086
     run $words
     count "swimtab $words names no such step" "$(! grep -q 'packets are read from' err || echo "; $(start_of err)")"

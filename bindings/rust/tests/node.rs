@@ -67,6 +67,9 @@ fn members_come_in_the_order_of_their_names() {
         [a.suspect(b"z", 4).unwrap(), opened("c", 9).alive(2).unwrap(), opened("d", 8).leave(5).unwrap()];
     a.take(&compound(&packets).unwrap()).unwrap();
     assert_eq!((a.iter().len(), a.iter().count()), (4, 4));
+    let mut members = a.iter();
+    members.next();
+    assert_eq!(members.len(), 3);
     let all: Vec<Member> = a.iter().collect();
     assert!(all.iter().cloned().eq(&a));
     let names: Vec<&[u8]> = all.iter().map(|member| &member.name[..]).collect();
