@@ -1,10 +1,10 @@
 -- What a segment does to the flows between its endpoints, by whether one is open.
-use Rattle.std.proofs.Common.{◌≡◌, ℕ, true, false, Option, Some, None, IsSome, IfSome, Result, Ok, Err, OnErr, refl, sym, ◌∙◌, ap}
+use Rattle.std.proofs.Common.{◌≡◌, ℕ, true, false, Option, Some, None, IsSome, IfSome, Result, Ok, Err, OnErr, refl, ◌∙◌, ap}
 use Rattle.std.proofs.Math.Path.{subst}
 use Rattle.capture.specs.declared.fate.Fate.{Fate}
 use Rattle.capture.specs.Flows.{FlowText}
 use Rattle.capture.specs.FlowTexts.{OpenText, PairText}
-use Rattle.capture.specs.OpenFlows.{alone, begins, begun, first_of, settled, is_other, confirms, confirms_newer}
+use Rattle.capture.specs.OpenFlows.{alone, begins, begun, first_of, settled, is_other, confirms_newer}
 use Rattle.capture.specs.OpenFlows.{newer_of, IsAfter, GoesOn, Hears}
 use Rattle.capture.specs.OpenFlows.GoesOn.{aside, replaces, takes}
 use Rattle.capture.specs.OpenFlows.Hears.{began, went_on}

@@ -1,5 +1,6 @@
 mod Checking
 mod Clocks
+mod Gathering
 mod Hearing
 mod Made
 mod Parts

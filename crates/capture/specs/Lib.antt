@@ -1,6 +1,8 @@
 pub mod Blocks
+pub mod Captured
 pub mod Captures
 pub mod Clock
+pub mod Endpoints
 pub mod FlowTexts
 pub mod Flows
 pub mod OpenFlows

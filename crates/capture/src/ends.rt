@@ -1,6 +1,8 @@
 //! Both endpoints of a flow.
 
-ghost use Rattle.std.specs.Prelude.{◌≡◌, ◌⊎◌, ◌↔◌, length, IsSome};
+ghost use Rattle.std.specs.Prelude.{◌≡◌, ◌⊎◌, ◌↔◌, length, IsSome, IfSome};
+ghost use Rattle.capture.specs.Endpoints.{IsAddress, AreEndsOf};
+ghost use Rattle.capture.specs.Packets.{tcp_text};
 
 use crate::Segment;
 use byteorder::{BigEndian, ByteOrder};
@@ -17,7 +19,8 @@ pub struct Ends {
 
 /// The address with these bytes, 4 or 16 of them.
 fn address(bytes: &[u8]) -> Option<IpAddr>
-    ensures { IsSome result ↔ ((length bytes.now ≡ 4) ⊎ (length bytes.now ≡ 16)) }
+    ensures some { IsSome result ↔ ((length bytes.now ≡ 4) ⊎ (length bytes.now ≡ 16)) }
+    ensures is { IfSome result (IsAddress bytes.now) }
 {
     match bytes.len() {
         4 => Some(IpAddr::from(Ipv4Addr::from_bits(BigEndian::read_u32(bytes)))),
@@ -29,7 +32,9 @@ fn address(bytes: &[u8]) -> Option<IpAddr>
 impl Ends {
     /// The endpoints of a segment between these addresses. `None` if one has neither 4 nor 16
     /// bytes.
-    pub fn of(source: &[u8], destination: &[u8], segment: &Segment) -> Option<Ends> {
+    pub fn of(source: &[u8], destination: &[u8], segment: &Segment) -> Option<Ends>
+        ensures { IfSome result (AreEndsOf source.now destination.now (tcp_text segment.now)) }
+    {
         Some(Ends {
             source: SocketAddr::new(address(source)?, segment.source),
             destination: SocketAddr::new(address(destination)?, segment.destination),

@@ -1,11 +1,12 @@
 //! The flows of a capture.
 
-ghost use Rattle.std.specs.Prelude.{◌≡◌, ◌↔◌, ◌+◌, ◌≤◌, ◌∷◌, [], true, false, Some, None, IsSome, IsNone, IfSome};
+ghost use Rattle.std.specs.Prelude.{◌≡◌, ◌↔◌, ◌+◌, ◌≤◌, ◌∷◌, ◌++◌, [], List, true, false, Some, None, IsSome, IsNone, IfSome};
 ghost use Rattle.std.specs.Prelude.{IfNone, IfOk, OnErr, MatchBool};
 ghost use Rattle.std.specs.List.{All};
 ghost use Rattle.std.specs.Map.{keys_of};
 ghost use Rattle.std.specs.Option.{option_map};
 ghost use Rattle.std.specs.Ordering.{is_eq, is_lt};
+ghost use Rattle.capture.specs.Captured.{Captured, captured, IsFlowOf, AreFlowsOf};
 ghost use Rattle.capture.specs.declared.ends.Ends.{Ends};
 ghost use Rattle.capture.specs.FlowTexts.{PairText, flow_text};
 ghost use Rattle.capture.specs.OpenFlows.{ends_cmp, flows_len, flow_at, begun, alone, begins, first_of, settled, IsAfter, GoesOn, Hears};
@@ -73,6 +74,26 @@ impl Flows {
         ends: Ends,
         segment: &Segment,
     ) -> Result<Heard, AllocError>
+        ensures hears { IfOk result (λ heard. Hears (flow_at self.old ends) (tcp_text segment.now)
+            heard.taken (option_map flow_text heard.replaced) (option_map flow_text heard.complete)
+            (flow_at self.new ends)) }
+        ensures others { (other : Ends) → is_eq (ends_cmp ends other) ≡ false
+            → flow_at self.new other ≡ flow_at self.old other }
+        ensures grows { flows_len self.new ≤ flows_len self.old + 1 }
+        ensures refused { OnErr result (self.new ≡ self.old) }
+        // If the open flows have the bytes of segments that were captured between their endpoints,
+        // so have those after this one, and those that are handed over.
+        ensures of { (all : List Captured) → AreFlowsOf all self.old
+            → IfOk result (λ heard. AreFlowsOf (all ++ captured ends (tcp_text segment.now) ∷ [])
+            self.new × IfSome (option_map flow_text heard.replaced)
+            (IsFlowOf (all ++ captured ends (tcp_text segment.now) ∷ []) ends)
+            × IfSome (option_map flow_text heard.complete)
+            (IsFlowOf (all ++ captured ends (tcp_text segment.now) ∷ []) ends)) }
+    {
+        self.hear(alloc, ends, segment)
+    }
+
+    fn hear(&mut self, alloc: Global, ends: Ends, segment: &Segment) -> Result<Heard, AllocError>
         ensures hears { IfOk result (λ heard. Hears (flow_at self.old ends) (tcp_text segment.now)
             heard.taken (option_map flow_text heard.replaced) (option_map flow_text heard.complete)
             (flow_at self.new ends)) }
@@ -194,7 +215,7 @@ impl Flows {
         ensures grows_not { flows_len self.new ≤ flows_len self.old }
     {
         if self.open.get(ends)?.is_complete() {
-            self.close(ends)
+            self.remove(ends)
         } else {
             None
         }
@@ -203,6 +224,21 @@ impl Flows {
     /// Removes the open flow between these endpoints, complete or not, as after a long silence. A
     /// newer flow takes its place.
     pub fn close(&mut self, ends: &Ends) -> Option<Flow>
+        ensures flow { option_map flow_text result
+            ≡ option_map (λ p. p.older.flow) (flow_at self.old ends.now) }
+        ensures newer { IfSome (flow_at self.old ends.now) (λ p.
+            flow_at self.new ends.now ≡ option_map alone p.newer) }
+        ensures none { (flow_at self.old ends.now ≡ None) → self.new ≡ self.old }
+        ensures others { (other : Ends) → is_eq (ends_cmp ends.now other) ≡ false
+            → flow_at self.new other ≡ flow_at self.old other }
+        ensures grows_not { flows_len self.new ≤ flows_len self.old }
+        ensures of { (all : List Captured) → AreFlowsOf all self.old → AreFlowsOf all self.new
+            × IfSome (option_map flow_text result) (IsFlowOf all ends.now) }
+    {
+        self.remove(ends)
+    }
+
+    fn remove(&mut self, ends: &Ends) -> Option<Flow>
         ensures flow { option_map flow_text result
             ≡ option_map (λ p. p.older.flow) (flow_at self.old ends.now) }
         ensures newer { IfSome (flow_at self.old ends.now) (λ p.
@@ -248,6 +284,26 @@ impl Flows {
     /// At the end of the capture, removes the flows that are left between two endpoints, the least
     /// ones: the open flow and the newer one.
     pub fn finish(&mut self) -> Option<(Ends, Flow, Option<Flow>)>
+        ensures none { IsNone result ↔ (self.old ≡ []) }
+        ensures takes_out { IfSome result (λ t. (p : PairText)
+            × (self.old ≡ (t.0, p) ∷ self.new) × (flow_text t.1 ≡ p.older.flow)
+            × (option_map flow_text t.2 ≡ option_map (λ n. n.flow) p.newer)) }
+        ensures least { IfSome result (λ t. All (λ ends. is_lt (ends_cmp t.0 ends) ≡ true)
+            (keys_of self.new)) }
+        ensures gone { IfSome result (λ t. flow_at self.new t.0 ≡ None) }
+        ensures others { IfSome result (λ t. (ends : Ends)
+            → is_eq (ends_cmp t.0 ends) ≡ false
+            → flow_at self.new ends ≡ flow_at self.old ends) }
+        ensures len { IfSome result (λ t. flows_len self.new + 1 ≡ flows_len self.old) }
+        ensures empty { IfNone result (self.new ≡ []) }
+        ensures of { (all : List Captured) → AreFlowsOf all self.old → AreFlowsOf all self.new
+            × IfSome result (λ t. IsFlowOf all t.0 (flow_text t.1)
+            × IfSome (option_map flow_text t.2) (IsFlowOf all t.0)) }
+    {
+        self.pop_first()
+    }
+
+    fn pop_first(&mut self) -> Option<(Ends, Flow, Option<Flow>)>
         ensures none { IsNone result ↔ (self.old ≡ []) }
         ensures takes_out { IfSome result (λ t. (p : PairText)
             × (self.old ≡ (t.0, p) ∷ self.new) × (flow_text t.1 ≡ p.older.flow)

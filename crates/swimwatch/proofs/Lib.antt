@@ -1,3 +1,4 @@
+mod Flowing
 pub mod Hearing
 pub mod LeavesRead
 pub mod Pings

@@ -7,6 +7,7 @@ pub mod Pinged
 pub mod Records
 pub mod Serf
 pub mod SerfState
+pub mod Shown
 pub mod Svg
 pub mod Told
 pub mod Versions

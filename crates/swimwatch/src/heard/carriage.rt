@@ -24,6 +24,13 @@ pub(crate) const MAX_STREAM_LEN: usize = 33_554_432;
 /// The first byte of an encrypted stream, as in memberlist's `net.go`.
 pub(crate) const ENCRYPTED: u8 = 10;
 
+/// With which keys packets and streams are opened, and what becomes of those in the clear.
+#[derive(Clone, Copy)]
+pub(crate) struct Opening<'a> {
+    pub(crate) keys: &'a Keyring,
+    pub(crate) clear: InTheClear,
+}
+
 /// What a datagram carries.
 #[derive(Drop)]
 pub(crate) enum Carriage {

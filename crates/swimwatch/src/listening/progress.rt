@@ -1,5 +1,12 @@
 //! How far connections have been read.
 
+ghost use Rattle.std.specs.Prelude.{List, OnOk, IfSome};
+ghost use Rattle.std.specs.Option.{option_map};
+ghost use Rattle.capture.specs.Captured.{Captured, IsFlowOf};
+ghost use Rattle.capture.specs.FlowTexts.{flow_text};
+ghost use Rattle.swimwatch.specs.Shown.{HearsFlows};
+
+use crate::heard::carriage::Opening;
 use crate::heard::sent::{Proto, Sent};
 use crate::listening::watch::Watch;
 use crate::text::endpoint::plain;
@@ -101,13 +108,40 @@ pub(crate) fn sent_at(time: u64, ends: Ends) -> Sent {
     }
 }
 
-/// Takes in what a flow carried, unless it was taken in before.
-pub(crate) fn told(
+/// Takes in what a flow carried, if there is one, unless it was taken in before. Returns the progress
+/// of the newer flow that takes its place.
+pub(crate) fn hear_flow(
     watch: &mut Watch,
+    opening: Opening,
+    progress: Progress,
+    ends: Ends,
+    flow: Option<Flow>,
+) -> Result<Progress, AllocError>
+    ensures { (all : List Captured) → IfSome (option_map flow_text flow) (IsFlowOf all ends)
+        → OnOk result (HearsFlows opening.entry.clear opening.entry.keys.now all watch.old.listener.view
+        watch.new.listener.view) }
+{
+    match flow {
+        Some(flow) => {
+            hear_whole(watch, opening, progress, ends, &flow)?;
+            Ok(progress.of_newer())
+        }
+        None => Ok(progress),
+    }
+}
+
+/// Takes in what a flow carried, unless it was taken in before.
+fn hear_whole(
+    watch: &mut Watch,
+    opening: Opening,
     progress: Progress,
     ends: Ends,
     flow: &Flow,
-) -> Result<(), AllocError> {
+) -> Result<(), AllocError>
+    ensures { (all : List Captured) → IsFlowOf all ends (flow_text flow.now)
+        → OnOk result (HearsFlows opening.entry.clear opening.entry.keys.now all watch.old.listener.view
+        watch.new.listener.view) }
+{
     let bytes = flow.bytes();
     let behind = flow.waiting_len();
     let sent = sent_at(progress.time, ends);
@@ -115,7 +149,7 @@ pub(crate) fn told(
         return watch.count_bytes(sent, bytes.len().saturating_add(behind));
     }
     if !bytes.is_empty() {
-        return watch.stream(sent, bytes, behind);
+        return watch.stream(opening, sent, bytes, behind);
     }
     if progress.has_gap(flow) {
         return watch.headless(sent, behind);

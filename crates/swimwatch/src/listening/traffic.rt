@@ -1,11 +1,19 @@
 //! What members sent, from the frames of captures.
 
+ghost use Rattle.std.specs.Prelude.{◌≡◌, ◌++◌, ◌∷◌, [], List, IfOk, OnOk, IfSome};
+ghost use Rattle.std.specs.Option.{option_map};
+ghost use Rattle.capture.specs.Captured.{Captured, captured, IsFlowOf, AreFlowsOf};
+ghost use Rattle.capture.specs.FlowTexts.{flow_text};
+ghost use Rattle.capture.specs.Packets.{tcp_text, carried_text};
+ghost use Rattle.swimwatch.specs.Shown.{HearsFlows, HandsOver, HearsFrame, HearsRecord};
+
 use crate::arguments::chosen::Chosen;
+use crate::heard::carriage::Opening;
 use crate::heard::counts::{Counts, count};
 use crate::heard::recent::{Recent, Way};
 use crate::heard::sent::{Proto, Sent};
 use crate::heard::waiting::{Due, Waiting};
-use crate::listening::progress::{Progress, sent_at, told};
+use crate::listening::progress::{Progress, hear_flow, sent_at};
 use crate::listening::watch::Watch;
 use crate::text::endpoint::endpoint;
 use crate::text::window::Window;
@@ -34,7 +42,9 @@ impl Traffic {
         alloc: Global,
         chosen: &Chosen,
         window: &Window,
-    ) -> Result<Traffic, AllocError> {
+    ) -> Result<Traffic, AllocError>
+        ensures { IfOk result (λ traffic. traffic.flows ≡ []) }
+    {
         Ok(Traffic {
             alloc,
             until: window.until,
@@ -55,9 +65,15 @@ impl Traffic {
     pub(crate) fn record(
         &mut self,
         watch: &mut Watch,
+        opening: Opening,
         record: Record,
         bytes: &[u8],
-    ) -> Result<(), AllocError> {
+    ) -> Result<(), AllocError>
+        ensures { (all : List Captured) → AreFlowsOf all self.old.flows
+            → OnOk result ((now : List Captured) × AreFlowsOf now self.new.flows
+            × HearsRecord opening.entry.clear opening.entry.keys.now «record» bytes.now all
+            watch.old.listener.view now watch.new.listener.view) }
+    {
         count(&mut watch.counts.records);
         let Some(nanos) = record.time else {
             count(&mut watch.counts.timeless);
@@ -74,7 +90,7 @@ impl Traffic {
         };
         let way = Way::of(record.interface, link, bytes);
         match carried(link, bytes) {
-            Ok(content) => self.content(watch, time, way, content),
+            Ok(content) => self.content(watch, opening, time, way, content),
             Err(cause) => {
                 leave_out(&mut watch.counts, cause);
                 Ok(())
@@ -86,10 +102,16 @@ impl Traffic {
     fn content(
         &mut self,
         watch: &mut Watch,
+        opening: Opening,
         time: u64,
         way: Way,
         content: Carried,
-    ) -> Result<(), AllocError> {
+    ) -> Result<(), AllocError>
+        ensures { (all : List Captured) → AreFlowsOf all self.old.flows
+            → OnOk result ((now : List Captured) × AreFlowsOf now self.new.flows
+            × HearsFrame opening.entry.clear opening.entry.keys.now time (carried_text content.entry) all
+            watch.old.listener.view now watch.new.listener.view) }
+    {
         let Some(parcel) = Parcel::of(&content.transport) else {
             return self.refusal(watch, time, content);
         };
@@ -113,18 +135,23 @@ impl Traffic {
             return Ok(());
         }
         watch.captured(&sent)?;
-        let Transport::Tcp(segment) = &content.transport else {
-            return watch.datagram(sent, parcel.payload);
-        };
-        watch.detect_segment(&sent, segment)?;
-        match Ends::of(content.source, content.destination, segment) {
-            Some(ends) => self.segment(watch, time, ends, segment),
-            None => Ok(()),
+        match &content.transport {
+            Transport::Udp(datagram) => watch.datagram(opening, sent, datagram.payload),
+            Transport::Tcp(segment) => {
+                watch.detect_segment(&sent, segment)?;
+                match Ends::of(content.source, content.destination, segment) {
+                    Some(ends) => self.segment(watch, opening, time, ends, segment),
+                    None => Ok(()),
+                }
+            }
+            Transport::Unreachable(_) => Ok(()),
         }
     }
 
     /// Takes in that a host refused a packet.
-    fn refusal(&self, watch: &mut Watch, time: u64, content: Carried) -> Result<(), AllocError> {
+    fn refusal(&self, watch: &mut Watch, time: u64, content: Carried) -> Result<(), AllocError>
+        ensures { watch.new.listener ≡ watch.old.listener }
+    {
         let Transport::Unreachable(refused) = content.transport else {
             return Ok(());
         };
@@ -155,16 +182,43 @@ impl Traffic {
     fn segment(
         &mut self,
         watch: &mut Watch,
+        opening: Opening,
         time: u64,
         ends: Ends,
         segment: &Segment,
-    ) -> Result<(), AllocError> {
-        self.close_silent(watch, time)?;
+    ) -> Result<(), AllocError>
+        ensures { (all : List Captured) → AreFlowsOf all self.old.flows → OnOk result
+            (AreFlowsOf (all ++ captured ends (tcp_text segment.now) ∷ []) self.new.flows
+            × HearsFlows opening.entry.clear opening.entry.keys.now
+            (all ++ captured ends (tcp_text segment.now) ∷ [])
+            watch.old.listener.view watch.new.listener.view) }
+    {
+        self.close_silent(watch, opening, time)?;
+        let heard = self.flows.take(self.alloc, ends, segment)?;
+        self.hear(watch, opening, time, ends, segment, heard)
+    }
+
+    /// Takes in what a segment did to the flows between its ends.
+    fn hear(
+        &mut self,
+        watch: &mut Watch,
+        opening: Opening,
+        time: u64,
+        ends: Ends,
+        segment: &Segment,
+        heard: Heard,
+    ) -> Result<(), AllocError>
+        ensures { (all : List Captured) → AreFlowsOf all self.old.flows
+            → IfSome (option_map flow_text heard.replaced) (IsFlowOf all ends)
+            → IfSome (option_map flow_text heard.complete) (IsFlowOf all ends)
+            → OnOk result (AreFlowsOf all self.new.flows × HearsFlows opening.entry.clear
+            opening.entry.keys.now all watch.old.listener.view watch.new.listener.view) }
+    {
         let Heard {
             taken: Some(taken),
             replaced,
             complete,
-        } = self.flows.take(self.alloc, ends, segment)?
+        } = heard
         else {
             return Ok(());
         };
@@ -172,37 +226,39 @@ impl Traffic {
         progress.seen = time;
         if replaced.is_none() && complete.is_none() && self.is_aside(&ends, segment) {
             progress.syn = time;
-            return self.keep(watch, ends, progress);
+            return self.keep(watch, opening, ends, progress);
         }
-        if let Some(older) = replaced {
-            told(watch, progress, ends, &older)?;
-            progress = progress.of_newer();
-        }
+        let mut progress = hear_flow(watch, opening, progress, ends, replaced)?;
         progress.note(time, taken, segment);
-        self.go_on(watch, ends, progress, complete, taken, segment.psh)
+        let may_read = taken == Fate::Joined && segment.psh;
+        self.go_on(watch, opening, ends, progress, complete, may_read)
     }
 
     /// Takes in what a flow carried if it is complete, or has a whole stream.
     fn go_on(
         &mut self,
         watch: &mut Watch,
+        opening: Opening,
         ends: Ends,
-        mut progress: Progress,
+        progress: Progress,
         complete: Option<Flow>,
-        taken: Fate,
-        is_pushed: bool,
-    ) -> Result<(), AllocError> {
-        if let Some(flow) = complete {
-            told(watch, progress, ends, &flow)?;
-            if self.flows.get(&ends).is_none() {
-                self.forget(&ends);
-                return Ok(());
-            }
-            progress = progress.of_newer();
-        } else if taken == Fate::Joined && is_pushed {
-            self.try_reading(watch, &mut progress, ends)?;
+        may_read: bool,
+    ) -> Result<(), AllocError>
+        ensures { (all : List Captured) → AreFlowsOf all self.old.flows
+            → IfSome (option_map flow_text complete) (IsFlowOf all ends)
+            → OnOk result (AreFlowsOf all self.new.flows × HearsFlows opening.entry.clear
+            opening.entry.keys.now all watch.old.listener.view watch.new.listener.view) }
+    {
+        if complete.is_none() {
+            let progress = self.try_reading(watch, opening, ends, progress, may_read)?;
+            return self.keep(watch, opening, ends, progress);
         }
-        self.keep(watch, ends, progress)
+        let newer = hear_flow(watch, opening, progress, ends, complete)?;
+        if self.flows.get(&ends).is_none() {
+            self.forget(&ends);
+            return Ok(());
+        }
+        self.keep(watch, opening, ends, newer)
     }
 
     /// Whether a segment is a SYN that was set aside: it begins another flow than the open one.
@@ -225,9 +281,13 @@ impl Traffic {
     fn keep(
         &mut self,
         watch: &mut Watch,
+        opening: Opening,
         ends: Ends,
         progress: Progress,
-    ) -> Result<(), AllocError> {
+    ) -> Result<(), AllocError>
+        ensures { OnOk result (HandsOver opening.entry.clear opening.entry.keys.now self.old.flows
+            watch.old.listener.view self.new.flows watch.new.listener.view) }
+    {
         if self.progress.insert(ends, progress)?.is_none() {
             self.waiting.add(ends, progress.queued)?;
         }
@@ -235,7 +295,7 @@ impl Traffic {
             if !self.waiting.is_full() {
                 break;
             }
-            if self.close_first(watch)? {
+            if self.close_first(watch, opening)? {
                 count(&mut watch.counts.dropped);
             }
         }
@@ -244,12 +304,20 @@ impl Traffic {
 
     /// Closes the flows that have been silent for too long at this time. Each is first in the queue
     /// at most twice.
-    fn close_silent(&mut self, watch: &mut Watch, time: u64) -> Result<(), AllocError> {
+    fn close_silent(
+        &mut self,
+        watch: &mut Watch,
+        opening: Opening,
+        time: u64,
+    ) -> Result<(), AllocError>
+        ensures { OnOk result (HandsOver opening.entry.clear opening.entry.keys.now self.old.flows
+            watch.old.listener.view self.new.flows watch.new.listener.view) }
+    {
         for _ in 0..self.waiting.len().saturating_mul(2) {
             if !self.waiting.is_due(time) {
                 break;
             }
-            if self.close_first(watch)? {
+            if self.close_first(watch, opening)? {
                 count(&mut watch.counts.silent);
             }
         }
@@ -258,7 +326,10 @@ impl Traffic {
 
     /// Closes the flow that is first in the queue, unless it had a segment since it was put there:
     /// then it is put there again. Returns whether one was closed that had not been read.
-    fn close_first(&mut self, watch: &mut Watch) -> Result<bool, AllocError> {
+    fn close_first(&mut self, watch: &mut Watch, opening: Opening) -> Result<bool, AllocError>
+        ensures { OnOk result (HandsOver opening.entry.clear opening.entry.keys.now self.old.flows
+            watch.old.listener.view self.new.flows watch.new.listener.view) }
+    {
         let Some(Due { since, ends }) = self.waiting.pop() else {
             return Ok(false);
         };
@@ -270,47 +341,57 @@ impl Traffic {
             return Ok(false);
         }
         let _ = self.progress.remove(&ends);
-        if let Some(flow) = self.flows.close(&ends) {
-            told(watch, progress, ends, &flow)?;
-        }
-        if let Some(newer) = self.flows.close(&ends) {
-            told(watch, progress.of_newer(), ends, &newer)?;
-        }
+        let older = self.flows.close(&ends);
+        let newer = self.flows.close(&ends);
+        let left = hear_flow(watch, opening, progress, ends, older)?;
+        let _ = hear_flow(watch, opening, left, ends, newer)?;
         Ok(!progress.is_read)
     }
 
     /// Forgets the progress of a flow that is complete.
-    fn forget(&mut self, ends: &Ends) {
+    fn forget(&mut self, ends: &Ends)
+        ensures { self.new.flows ≡ self.old.flows }
+    {
         if let Some(progress) = self.progress.remove(ends) {
             self.waiting.remove(*ends, progress.queued);
         }
     }
 
-    /// Takes in a pushed stream, if it is complete.
+    /// Takes in a pushed stream, if it is complete and may be read. Returns the flow's progress.
     fn try_reading(
         &self,
         watch: &mut Watch,
-        progress: &mut Progress,
+        opening: Opening,
         ends: Ends,
-    ) -> Result<(), AllocError> {
-        if !progress.may_read() {
-            return Ok(());
+        progress: Progress,
+        may_read: bool,
+    ) -> Result<Progress, AllocError>
+        ensures { (all : List Captured) → AreFlowsOf all self.now.flows
+            → OnOk result (HearsFlows opening.entry.clear opening.entry.keys.now all
+            watch.old.listener.view watch.new.listener.view) }
+    {
+        let mut progress = progress;
+        if !may_read || !progress.may_read() {
+            return Ok(progress);
         }
-        if let Some(flow) = self.flows.get(&ends) {
-            progress.is_read = watch.whole_stream(sent_at(progress.time, ends), flow.bytes())?;
-        }
-        Ok(())
+        let Some(flow) = self.flows.get(&ends) else {
+            return Ok(progress);
+        };
+        let sent = sent_at(progress.time, ends);
+        progress.is_read = watch.whole_stream(opening, sent, flow.bytes())?;
+        Ok(progress)
     }
 
     /// Takes in the flows that are left at the end of a capture.
-    pub(crate) fn finish(&mut self, watch: &mut Watch) -> Result<(), AllocError> {
+    pub(crate) fn finish(&mut self, watch: &mut Watch, opening: Opening) -> Result<(), AllocError>
+        ensures { OnOk result (HandsOver opening.entry.clear opening.entry.keys.now self.old.flows
+            watch.old.listener.view self.new.flows watch.new.listener.view) }
+    {
         while let Some((ends, flow, newer)) = self.flows.finish() {
             let progress = self.progress_of(&ends, 0);
             let _ = self.progress.remove(&ends);
-            told(watch, progress, ends, &flow)?;
-            if let Some(newer) = newer {
-                told(watch, progress.of_newer(), ends, &newer)?;
-            }
+            let left = hear_flow(watch, opening, progress, ends, Some(flow))?;
+            let _ = hear_flow(watch, opening, left, ends, newer)?;
         }
         Ok(())
     }

@@ -1,6 +1,7 @@
 //! What each capture shows: a view of its own, or one of all.
 
 use crate::arguments::chosen::{Chosen, Verb};
+use crate::heard::carriage::Opening;
 use crate::heard::counts::Counts;
 use crate::heard::serf::queries::{Queries, Tally};
 use crate::listening::traffic::Traffic;
@@ -87,6 +88,14 @@ impl<'a> Views<'a> {
         self.chosen.merge || !self.chosen.verb.has_views()
     }
 
+    /// With which keys packets and streams are opened.
+    fn opening(&self) -> Opening<'a> {
+        Opening {
+            keys: self.keys,
+            clear: self.chosen.asking.clear,
+        }
+    }
+
     /// How long is listened by the clock, if that is limited.
     pub(crate) fn span(&self) -> Option<Duration> {
         Some(Duration::from_micros(self.chosen.times.span?))
@@ -108,11 +117,13 @@ impl<'a> Views<'a> {
             self.tell_queries(nanos / 1000, false)?;
         }
         let index = self.seat(place, word)?;
+        let opening = self.opening();
         let Some(seat) = self.seats.get_mut(index) else {
             return Ok(());
         };
         seat.watch.capture = place;
-        seat.traffic.record(&mut seat.watch, record, bytes)?;
+        seat.traffic
+            .record(&mut seat.watch, opening, record, bytes)?;
         self.collect_from(index)
     }
 
@@ -268,8 +279,9 @@ impl<'a> Views<'a> {
         if self.seats.is_empty() {
             let _ = self.new_seat("")?;
         }
+        let opening = self.opening();
         for seat in &mut self.seats {
-            seat.traffic.finish(&mut seat.watch)?;
+            seat.traffic.finish(&mut seat.watch, opening)?;
         }
         self.collect()?;
         self.tell_queries(self.now(), true)?;

@@ -5,7 +5,7 @@
 //! `spreading` their news, `locating` their coordinates; `showing` shows what was asked for, and
 //! `reporting` all of it in one page.
 
-ghost use Rattle.std.specs.Prelude.{◌≡◌, OnOk};
+ghost use Rattle.std.specs.Prelude.{◌≡◌, [], IfOk, OnOk};
 ghost use Rattle.memberlist_view.specs.Told.{view_after};
 ghost use Rattle.swimwatch.specs.Told.{told_text, heard_of};
 ghost use Rattle.swimwatch.specs.Views.{HearsDatagram};
@@ -23,7 +23,7 @@ mod tallies;
 
 use crate::arguments::chosen::{Chosen, Verb};
 use crate::chart::Chart;
-use crate::heard::carriage::{Carriage, carriage_of};
+use crate::heard::carriage::{Carriage, Opening, carriage_of};
 use crate::heard::counts::{Counts, count};
 use crate::heard::pings::Pings;
 use crate::heard::sent::Sent;
@@ -46,7 +46,6 @@ use memberlist_causes::Causes;
 use memberlist_cipher::split_label;
 use memberlist_keyring::Keyring;
 use memberlist_probes::Detector;
-use memberlist_transport::InTheClear;
 use memberlist_view::{Event, Heard, MemberName, Said};
 use spreading::spread_of;
 use std::alloc::{AllocError, Global};
@@ -77,7 +76,6 @@ pub(crate) struct Occurrence {
 pub(crate) struct Watch<'a> {
     alloc: Global,
     keys: &'a Keyring,
-    clear: InTheClear,
     listener: Listener,
     pings: Pings,
     warnings: Warnings,
@@ -138,12 +136,14 @@ impl<'a> Watch<'a> {
         chosen: &Chosen,
         window: Window,
         name: Option<String>,
-    ) -> Result<Watch<'a>, AllocError> {
+    ) -> Result<Watch<'a>, AllocError>
+        ensures { IfOk result (λ watch.
+            watch.listener.view ≡ record { wait = chosen.now.wait; entries = [] }) }
+    {
         let member = copied(alloc, &chosen.member)?;
         Ok(Watch {
             alloc,
             keys,
-            clear: chosen.asking.clear,
             listener: Listener::new(alloc, chosen.wait, name),
             pings: Pings::new(alloc),
             warnings: Warnings::new(alloc),
@@ -193,9 +193,7 @@ impl<'a> Watch<'a> {
 
     /// Notes that something was captured at this time.
     fn reach(&mut self, time: u64)
-        ensures listener { self.new.listener ≡ self.old.listener }
-        ensures keys { self.new.keys ≡ self.old.keys }
-        ensures clear { self.new.clear ≡ self.old.clear }
+        ensures { self.new.listener ≡ self.old.listener }
     {
         self.now = time.max(self.now);
         if self.window.shows(time) {
@@ -204,8 +202,13 @@ impl<'a> Watch<'a> {
     }
 
     /// Takes in what a datagram carried.
-    pub(crate) fn datagram(&mut self, sent: Sent, payload: &[u8]) -> Result<(), AllocError>
-        ensures hears { OnOk result (HearsDatagram self.old.clear self.old.keys.now payload.now
+    pub(crate) fn datagram(
+        &mut self,
+        opening: Opening,
+        sent: Sent,
+        payload: &[u8],
+    ) -> Result<(), AllocError>
+        ensures hears { OnOk result (HearsDatagram opening.entry.clear opening.entry.keys.now payload.now
             sent.time self.old.listener.view self.new.listener.view) }
     {
         count(&mut self.counts.datagrams);
@@ -217,7 +220,7 @@ impl<'a> Watch<'a> {
             count(&mut self.counts.other_labels);
             return Ok(());
         }
-        match carriage_of(self.alloc, self.keys, self.clear, payload)? {
+        match carriage_of(self.alloc, opening.keys, opening.clear, payload)? {
             Carriage::Read(messages) => {
                 self.count_bytes(sent, payload.len())?;
                 self.messages(sent, messages)

@@ -1,6 +1,6 @@
 //! A listener, which hears what members say and says nothing itself.
 
-ghost use Rattle.std.specs.Prelude.{◌≡◌, IfOk, OnOk, OnErr};
+ghost use Rattle.std.specs.Prelude.{◌≡◌, [], IfOk, OnOk};
 ghost use Rattle.memberlist_view.specs.declared.heard.Heard.{Heard};
 ghost use Rattle.memberlist_view.specs.Told.{event_of, view_after};
 
@@ -25,7 +25,7 @@ pub(crate) struct Listener {
 impl Listener {
     /// A listener that has heard nothing, and forgets a dead member after this many microseconds.
     pub(crate) fn new(alloc: Global, wait: u64, name: Option<String>) -> Listener
-        ensures { result.view.wait ≡ wait }
+        ensures { result.view ≡ record { wait = wait; entries = [] } }
     {
         Listener {
             alloc,

@@ -1,4 +1,4 @@
-use Rattle.std.proofs.Common.{◌≡◌, suc, ◌-◌, sym, arith}
+use Rattle.std.proofs.Common.{◌≡◌, suc, ◌-◌, arith}
 use Rattle.capture.proofs.Covering.{covers_yes}
 use Rattle.capture.proofs.Queued.{clean_first, clean_last, clean_begun, covered_at}
 use Rattle.capture.proofs.piece.back.Goals as goal

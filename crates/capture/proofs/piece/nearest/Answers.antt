@@ -1,4 +1,4 @@
-use Rattle.std.proofs.Common.{◌≡◌, min, sym, ◌∙◌, ap, arith}
+use Rattle.std.proofs.Common.{◌≡◌, min, ◌∙◌, arith}
 use Rattle.capture.proofs.Queued.{near_next, near_last}
 use Rattle.capture.proofs.piece.nearest.Goals as goal
 

@@ -1,4 +1,4 @@
-use Rattle.std.proofs.Common.{◌+◌, ◌∙◌, arith, rules}
+use Rattle.std.proofs.Common.{◌+◌, arith, rules}
 use Rattle.capture.proofs.Queued.{put_range}
 use Rattle.capture.proofs.piece.put.Goals as goal
 

@@ -6,7 +6,7 @@ ghost use Rattle.swimwatch.specs.Records.{claims_in};
 ghost use Rattle.swimwatch.specs.Views.{HearsRecords, HearsStream};
 
 use super::Watch;
-use crate::heard::carriage::{NoStream, stream_records};
+use crate::heard::carriage::{NoStream, Opening, stream_records};
 use crate::heard::counts::count;
 use crate::heard::records::Records;
 use crate::heard::sent::Sent;
@@ -21,11 +21,16 @@ use swim_claim::Claim;
 impl<'a> Watch<'a> {
     /// Takes in one direction of a connection that may still grow, if it is a whole push/pull
     /// stream, and returns whether it is.
-    pub(crate) fn whole_stream(&mut self, sent: Sent, bytes: &[u8]) -> Result<bool, AllocError>
-        ensures hears { IfOk result (λ whole. HearsStream self.old.clear self.old.keys.now bytes.now
+    pub(crate) fn whole_stream(
+        &mut self,
+        opening: Opening,
+        sent: Sent,
+        bytes: &[u8],
+    ) -> Result<bool, AllocError>
+        ensures hears { IfOk result (λ whole. HearsStream opening.entry.clear opening.entry.keys.now bytes.now
             sent.time whole self.old.listener.view self.new.listener.view) }
     {
-        match self.take_stream(sent, bytes)? {
+        match self.take_stream(opening, sent, bytes)? {
             None => Ok(true),
             Some(_) => Ok(false),
         }
@@ -35,15 +40,16 @@ impl<'a> Watch<'a> {
     /// many are known after it.
     pub(crate) fn stream(
         &mut self,
+        opening: Opening,
         sent: Sent,
         bytes: &[u8],
         behind: usize,
     ) -> Result<(), AllocError>
-        ensures hears { OnOk result ((whole : Bool) × HearsStream self.old.clear self.old.keys.now
+        ensures hears { OnOk result ((whole : Bool) × HearsStream opening.entry.clear opening.entry.keys.now
             bytes.now sent.time whole self.old.listener.view self.new.listener.view) }
     {
         let len = bytes.len().saturating_add(behind);
-        let counted = match self.take_stream(sent, bytes)? {
+        let counted = match self.take_stream(opening, sent, bytes)? {
             None => {
                 self.count_bytes(sent, len)?;
                 return Ok(());
@@ -97,12 +103,17 @@ impl<'a> Watch<'a> {
     }
 
     /// Hears the push/pull stream in one direction of a connection, or returns why there is none.
-    fn take_stream(&mut self, sent: Sent, bytes: &[u8]) -> Result<Option<NoStream>, AllocError>
-        ensures { IfOk result (λ cause. HearsStream self.old.clear self.old.keys.now bytes.now
+    fn take_stream(
+        &mut self,
+        opening: Opening,
+        sent: Sent,
+        bytes: &[u8],
+    ) -> Result<Option<NoStream>, AllocError>
+        ensures { IfOk result (λ cause. HearsStream opening.entry.clear opening.entry.keys.now bytes.now
             sent.time (is_none cause) self.old.listener.view self.new.listener.view) }
     {
         self.reach(sent.time);
-        match stream_records(self.alloc, self.keys, self.clear, bytes) {
+        match stream_records(self.alloc, opening.keys, opening.clear, bytes) {
             Ok(records) if is_understood(&records.records) => {
                 self.records(sent, records)?;
                 Ok(None)

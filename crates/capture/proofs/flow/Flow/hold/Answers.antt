@@ -1,8 +1,8 @@
-use Rattle.std.proofs.Common.{◌≡◌, ◌≤◌, ◌<◌, ◌+◌, ◌-◌, ◌++◌, ◌∷◌, [], List, length, take, drop, inl, inr, sym, ◌∙◌}
-use Rattle.std.proofs.Common.{arith, rules, length-append, length-take, length-drop}
+use Rattle.std.proofs.Common.{◌≡◌, ◌≤◌, ◌<◌, ◌-◌, ◌++◌, ◌∷◌, [], length, take, drop, inl, inr, sym, ◌∙◌}
+use Rattle.std.proofs.Common.{arith, length-append, length-take, length-drop}
 use Rattle.std.specs.Prelude.{None, is_ok}
 use Rattle.std.specs.List.{AllWithin}
-use Rattle.capture.specs.Flows.{placed, end_of, byte_at, InOrder, IsClean, AreCovered, SaysFrom}
+use Rattle.capture.specs.Flows.{placed, end_of, byte_at, IsClean, AreCovered, SaysFrom}
 use Rattle.capture.specs.FlowTexts.{flow_text}
 use Rattle.capture.proofs.Covering.{which}
 use Rattle.capture.proofs.Queued.{index_below, put_order, put_bytes}

@@ -1,5 +1,4 @@
 use Rattle.std.proofs.Common.{◌≡◌, ◌≤◌, length, sym, arith, rules}
-use Rattle.std.proofs.lemmas.Result.{IfOk-weaker}
 use Rattle.capture.specs.Flows.{placed, end_of}
 use Rattle.capture.specs.FlowTexts.{flow_text}
 use Rattle.capture.proofs.Saying.{says_bare, says_old}

@@ -1,5 +1,5 @@
 use Rattle.std.proofs.Common.{◌≡◌, rules, ap, ◌∙◌}
-use Rattle.memberlist_view.specs.Told.{ViewValue, view_after}
+use Rattle.memberlist_view.specs.Told.{view_after}
 use Rattle.memberlist_view.specs.declared.heard.Heard.{Heard}
 use Rattle.swimwatch.specs.Told.{told_text, heard_of}
 use Rattle.swimwatch.proofs.Hearing.{on_ok}
