@@ -37,7 +37,8 @@ IsFlowOf all ends flow =
 
 -- so have the open flow between these endpoints and the newer one
 abbrev pub IsPairOf : List Captured → Ends → PairText → Type 0
-IsPairOf all ends p = IsFlowOf all ends p.older.flow × IfSome p.newer (λ n. IsFlowOf all ends n.flow)
+IsPairOf all ends p = IsFlowOf all ends p.older.flow
+    × IfSome p.newer (λ n. IsFlowOf all ends n.flow)
 
 -- so have all open flows
 abbrev pub AreFlowsOf : List Captured → OpenFlows → Type 0

@@ -14,7 +14,8 @@ use Rattle.capture.specs.Packets.{TcpText}
 -- the address in 4 bytes of IPv4, or in 16 of IPv6
 abbrev pub IsAddress : List ℕ → IpAddr → Type 0
 IsAddress bytes address =
-    ((length bytes ≡ 4) × (a : Ipv4Addr) × (address ≡ ip.V4 a) × IsIpv4OfBits a (big_number 4 bytes))
+    ((length bytes ≡ 4) × (a : Ipv4Addr) × (address ≡ ip.V4 a)
+    × IsIpv4OfBits a (big_number 4 bytes))
     ⊎ ((length bytes ≡ 16) × (a : Ipv6Addr) × (address ≡ ip.V6 a)
     × IsIpv6OfBits a (big_number 16 bytes))
 

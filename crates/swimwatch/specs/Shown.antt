@@ -24,7 +24,8 @@ pub data HearsFlows (clear : InTheClear) (keys : List (List ℕ)) (all : List Ca
       → HearsStream clear keys flow.text time whole mid new → HearsFlows clear keys all old new
 
 -- flows of segments that were captured stay so, and those that are handed over are heard
-abbrev pub HandsOver : InTheClear → List (List ℕ) → OpenFlows → ViewValue → OpenFlows → ViewValue → Type 0
+abbrev pub HandsOver : InTheClear → List (List ℕ) → OpenFlows → ViewValue → OpenFlows → ViewValue
+    → Type 0
 HandsOver clear keys flows old left new = (all : List Captured) → AreFlowsOf all flows
     → AreFlowsOf all left × HearsFlows clear keys all old new
 
@@ -34,7 +35,8 @@ pub data HearsFrame (clear : InTheClear) (keys : List (List ℕ)) (time : ℕ) (
     (all : List Captured) (old : ViewValue) : List Captured → ViewValue → Type 0 where
   nothing : HearsFrame clear keys time c all old all old
   datagram : (d : UdpText) (new : ViewValue) → c.transport ≡ udp d
-      → HearsDatagram clear keys d.payload time old new → HearsFrame clear keys time c all old all new
+      → HearsDatagram clear keys d.payload time old new
+      → HearsFrame clear keys time c all old all new
   segment : (s : TcpText) (ends : Ends) (new : ViewValue) → c.transport ≡ tcp s
       → AreEndsOf c.source c.destination s ends
       → HearsFlows clear keys (all ++ captured ends s ∷ []) old new

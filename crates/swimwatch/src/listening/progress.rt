@@ -108,8 +108,8 @@ pub(crate) fn sent_at(time: u64, ends: Ends) -> Sent {
     }
 }
 
-/// Takes in what a flow carried, if there is one, unless it was taken in before. Returns the progress
-/// of the newer flow that takes its place.
+/// Takes in what a flow carried, if there is one, unless it was taken in before. Returns the
+/// progress of the newer flow that takes its place.
 pub(crate) fn hear_flow(
     watch: &mut Watch,
     opening: Opening,
@@ -118,8 +118,8 @@ pub(crate) fn hear_flow(
     flow: Option<Flow>,
 ) -> Result<Progress, AllocError>
     ensures { (all : List Captured) → IfSome (option_map flow_text flow) (IsFlowOf all ends)
-        → OnOk result (HearsFlows opening.entry.clear opening.entry.keys.now all watch.old.listener.view
-        watch.new.listener.view) }
+        → OnOk result (HearsFlows opening.entry.clear opening.entry.keys.now all
+        watch.old.listener.view watch.new.listener.view) }
 {
     match flow {
         Some(flow) => {
@@ -139,8 +139,8 @@ fn hear_whole(
     flow: &Flow,
 ) -> Result<(), AllocError>
     ensures { (all : List Captured) → IsFlowOf all ends (flow_text flow.now)
-        → OnOk result (HearsFlows opening.entry.clear opening.entry.keys.now all watch.old.listener.view
-        watch.new.listener.view) }
+        → OnOk result (HearsFlows opening.entry.clear opening.entry.keys.now all
+        watch.old.listener.view watch.new.listener.view) }
 {
     let bytes = flow.bytes();
     let behind = flow.waiting_len();

@@ -109,7 +109,8 @@ impl Traffic {
     ) -> Result<(), AllocError>
         ensures { (all : List Captured) → AreFlowsOf all self.old.flows
             → OnOk result ((now : List Captured) × AreFlowsOf now self.new.flows
-            × HearsFrame opening.entry.clear opening.entry.keys.now time (carried_text content.entry) all
+            × HearsFrame opening.entry.clear opening.entry.keys.now time
+            (carried_text content.entry) all
             watch.old.listener.view now watch.new.listener.view) }
     {
         let Some(parcel) = Parcel::of(&content.transport) else {

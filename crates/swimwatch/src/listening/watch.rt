@@ -208,8 +208,8 @@ impl<'a> Watch<'a> {
         sent: Sent,
         payload: &[u8],
     ) -> Result<(), AllocError>
-        ensures hears { OnOk result (HearsDatagram opening.entry.clear opening.entry.keys.now payload.now
-            sent.time self.old.listener.view self.new.listener.view) }
+        ensures hears { OnOk result (HearsDatagram opening.entry.clear opening.entry.keys.now
+            payload.now sent.time self.old.listener.view self.new.listener.view) }
     {
         count(&mut self.counts.datagrams);
         self.reach(sent.time);

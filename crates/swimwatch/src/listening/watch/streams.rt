@@ -27,8 +27,8 @@ impl<'a> Watch<'a> {
         sent: Sent,
         bytes: &[u8],
     ) -> Result<bool, AllocError>
-        ensures hears { IfOk result (λ whole. HearsStream opening.entry.clear opening.entry.keys.now bytes.now
-            sent.time whole self.old.listener.view self.new.listener.view) }
+        ensures hears { IfOk result (λ whole. HearsStream opening.entry.clear
+            opening.entry.keys.now bytes.now sent.time whole self.old.listener.view self.new.listener.view) }
     {
         match self.take_stream(opening, sent, bytes)? {
             None => Ok(true),
@@ -45,8 +45,8 @@ impl<'a> Watch<'a> {
         bytes: &[u8],
         behind: usize,
     ) -> Result<(), AllocError>
-        ensures hears { OnOk result ((whole : Bool) × HearsStream opening.entry.clear opening.entry.keys.now
-            bytes.now sent.time whole self.old.listener.view self.new.listener.view) }
+        ensures hears { OnOk result ((whole : Bool) × HearsStream opening.entry.clear
+            opening.entry.keys.now bytes.now sent.time whole self.old.listener.view self.new.listener.view) }
     {
         let len = bytes.len().saturating_add(behind);
         let counted = match self.take_stream(opening, sent, bytes)? {
@@ -109,8 +109,8 @@ impl<'a> Watch<'a> {
         sent: Sent,
         bytes: &[u8],
     ) -> Result<Option<NoStream>, AllocError>
-        ensures { IfOk result (λ cause. HearsStream opening.entry.clear opening.entry.keys.now bytes.now
-            sent.time (is_none cause) self.old.listener.view self.new.listener.view) }
+        ensures { IfOk result (λ cause. HearsStream opening.entry.clear
+            opening.entry.keys.now bytes.now sent.time (is_none cause) self.old.listener.view self.new.listener.view) }
     {
         self.reach(sent.time);
         match stream_records(self.alloc, opening.keys, opening.clear, bytes) {
