@@ -224,7 +224,7 @@ fi
 
 # ---- the events of live members
 
-if command -v serf > /dev/null; then
+if command -v serf > /dev/null && [ -z "${MUTANT:-}" ]; then
     # in_state STATE: prints how many members are in this state, as the first agent has them.
     in_state() { serf members -rpc-addr=127.0.21.1:17373 2> /dev/null | grep -cw "$1"; }
     # until_in STATE NUMBER: waits until so many are, a minute at most.

@@ -285,3 +285,49 @@ prints 'no change as objects' 0
 run diff --at $day:09Z --at $day:10Z told.pcap
 : > err
 prints 'an incarnation and a tag' 1 'node-000001 alive 10.0.0.1:7946, incarnation 2 -> 3, tags zone=a -> b'
+
+# ---- what only packets show, and other messages
+
+python3 - <<'PACKETS'
+from frames import packet, pcap, udp
+from wire import address, alive, compound, dead, host, message, name, suspect
+
+def sent(at, source, target, *parts):
+    payload = parts[0] if len(parts) == 1 else compound(parts)
+    return (at * 10**6, packet(host(source), 17, udp(7946, payload), host(target)))
+
+def ping(target, source):
+    return message(0, SeqNo=7, Node=name(target), SourceAddr=address(source), SourcePort=7946, SourceNode=name(source))
+
+pcap('seen.pcap', [sent(0, 1, 2, ping(2, 1)), sent(3, 1, 2, ping(2, 1))])
+pcap('known.pcap', [sent(1, 1, 2, alive(1)), sent(2, 1, 2, alive(1))])
+pcap('warned.pcap', [sent(0, 3, 1, alive(3, 4)), sent(1, 1, 3, ping(3, 1), suspect(3, 1, 4))])
+pcap('error.pcap', [sent(0, 1, 2, message(13, Error=b'no')), sent(1, 1, 2, ping(2, 1))])
+PACKETS
+"$program" members seen.pcap known.pcap 2> err | tr -s ' ' | cut -d ' ' -f 1-4 > found
+printf '%s\n' 'NAME ADDRESS STATE INC' 'node-000001 10.0.0.1:7946 alive 1' > wanted
+check 'of two views that agree, that which knows more'
+"$program" diff --json seen.pcap known.pcap > out 2> err
+status=$?
+: > err
+prints 'what only packets show has no incarnation' 1 '{"after":{"address":"10.0.0.1","incarnation":1,"meta":"","port":7946,"state":"alive","vsn":"010502000000"},"before":{"address":"10.0.0.1","meta":"","port":7946,"state":"alive","vsn":""},"name":"node-000001"}'
+"$program" timeline --json warned.pcap 2> err | python3 -c '
+import json, sys
+for line in sys.stdin:
+    o = json.loads(line)
+    print(o["name"], o["event"], o.get("incarnation"), o.get("by"), o["from"], o["to"])' > found
+printf '%s\n' 'node-000003 joined 4 None node-000003 10.0.0.1:7946' \
+    'node-000001 seen None None node-000001 node-000003' 'node-000003 warned 4 node-000001 node-000001 node-000003' > wanted
+check 'the object of a warning'
+"$program" talkers error.pcap 2> err | tr -s ' ' | cut -d ' ' -f 1-2,9-13 > found
+printf '%s\n' 'SENDER PING LEFT USER STREAM TCP UNREAD' 'node-000001 1 0 0 0 0 1' > wanted
+check 'an error in a packet is unread'
+
+# a canonical dump has the details of a dead member in a record before that of its death
+run diff --json told.bin told.bin
+prints 'a dump and itself' 0
+"$program" dump seen.pcap > nobody.bin 2> err
+run diff told.bin nobody.bin
+prints 'a dump and one of nobody' 1 'node-000001 alive 10.0.0.8:7946 -> absent' \
+    'node-000002 dead 10.0.0.2:7946 -> absent' 'node-000003 left 10.0.0.3:7946 -> absent' \
+    'node-000004 suspect 10.0.0.4:7946 -> absent'

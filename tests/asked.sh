@@ -1,0 +1,37 @@
+# Members that are asked, and their addresses. tests/watched runs it in its folder, with its members.
+# shellcheck shell=sh disable=SC2154
+
+# a push/pull stream without members
+bytes 0683a54e6f64657300ac5573657253746174654c656e00a44a6f696ec2 > nobody.bin
+: > nothing.bin
+
+member closes nothing.bin
+run diff "127.0.0.1:$port" nobody.bin
+ends 'a side that is a member which closes the connection' 3
+run diff 127.0.0.1:1 nobody.bin
+ends 'a side that is a member which does not listen' 4
+"$program" pull '[::1]:1' 2> err | cut -d ' ' -f 1-3 > found
+echo '[::1]:1 no answer' > wanted
+check 'an address of IPv6 is shown in brackets'
+
+if command -v cc > /dev/null && cc -shared -fPIC -O2 -o two_addresses.so "$here/c/two_addresses.c" -ldl; then
+    member closes nobody.bin
+    LD_PRELOAD=$PWD/two_addresses.so "$program" pull "two.test:$port" > out 2> err
+    status=$?
+    ends 'a name with two addresses, of which the first refuses' 0
+else
+    echo 'skipped: a name with two addresses: there is no cc'
+fi
+
+# each of 29 bytes comes a tenth of a second after the one before
+member drips nobody.bin
+"$program" pull --every 1s --count 1 --timeout 20 "127.0.0.1:$port" 2> err |
+    awk '{ print $3, $4, $5, $6, $7, (2500 < $8 && $8 < 20000) ? "some" : $8, $9 }' > found
+echo 'answers: 0 members, 29 bytes, some ms' > wanted
+check 'how long an answer took, in milliseconds'
+
+# l3 is in the first table, and nobody in the second
+member closes examples/three.bin,nobody.bin
+"$program" pull --every 200ms --count 2 "127.0.0.1:$port" 2> err | cut -d ' ' -f 2-5 | grep absent > found
+printf '%s\n' 'l1 alive -> absent' 'l2 alive -> absent' 'l3 alive -> absent' > wanted
+check 'members that a member no longer knows'
