@@ -302,6 +302,15 @@ def ping(target, source):
 pcap('seen.pcap', [sent(0, 1, 2, ping(2, 1)), sent(3, 1, 2, ping(2, 1))])
 pcap('known.pcap', [sent(1, 1, 2, alive(1)), sent(2, 1, 2, alive(1))])
 pcap('warned.pcap', [sent(0, 3, 1, alive(3, 4)), sent(1, 1, 3, ping(3, 1), suspect(3, 1, 4))])
+def from_port(at, source, part):
+    return (at * 10**6, packet(host(source), 17, udp(40000, part), host(9)))
+
+other = message(4, Addr=address(1), Incarnation=1, Meta=b'', Node=name(5), Port=7947, Vsn=bytes([1, 5, 2, 0, 0, 0]))
+pcap('noted.pcap', [sent(0, 1, 2, alive(1, 0))])
+pcap('hosts.pcap', [
+    sent(0, 1, 2, alive(1)), sent(0, 1, 2, other), from_port(1, 1, suspect(2, 1)),
+    sent(2, 6, 1, alive(6)), sent(3, 6, 1, dead(6, 6)), sent(4, 7, 1, alive(6, 2, at=7)), sent(5, 6, 1, alive(8, at=6)),
+    from_port(6, 6, suspect(2, 8)), from_port(7, 7, suspect(2, 6))])
 pcap('error.pcap', [sent(0, 1, 2, message(13, Error=b'no')), sent(1, 1, 2, ping(2, 1))])
 PACKETS
 "$program" members seen.pcap known.pcap 2> err | tr -s ' ' | cut -d ' ' -f 1-4 > found
@@ -331,3 +340,11 @@ run diff told.bin nobody.bin
 prints 'a dump and one of nobody' 1 'node-000001 alive 10.0.0.8:7946 -> absent' \
     'node-000002 dead 10.0.0.2:7946 -> absent' 'node-000003 left 10.0.0.3:7946 -> absent' \
     'node-000004 suspect 10.0.0.4:7946 -> absent'
+
+"$program" diff --json noted.pcap known.pcap 2> err | grep -o '"before".*' > found
+echo '"before":{"address":"10.0.0.1","meta":"","port":7946,"state":"alive","vsn":"010502000000"},"name":"node-000001"}' > wanted
+check 'what is only noted has no incarnation'
+# of a host with several members none has its other ports, and who moves takes them along
+"$program" claims hosts.pcap 2> err | sed -n 's/.* suspect .*(\(.*\) to .*/\1/p' > found
+printf '%s\n' 10.0.0.1:40000 node-000008 node-000006 > wanted
+check 'who is at another port of a host'
