@@ -51,7 +51,8 @@ module _ (wait : ℕ) (name : List ℕ) where
       own : about h.said ≡ name → RunsOn (h ∷ heard) h.time view
       own is =
           let b = heard_next view h same is ok in
-          runs.hears (last_time h.time heard) (at h.time view) b.0 (at (last_time h.time heard) (view_by_member (member_view_after view h) heard))
+          runs.hears (last_time h.time heard) (at h.time view) b.0
+          (at (last_time h.time heard) (view_by_member (member_view_after view h) heard))
           h heard is b.1
           (runs.waits h.time h.time (last_time h.time heard) b.0 (at h.time (member_view_after view h))
           (at (last_time h.time heard) (view_by_member (member_view_after view h) heard)) heard (omega arith) b.2 rest)
