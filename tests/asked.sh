@@ -5,6 +5,11 @@
 bytes 0683a54e6f64657300ac5573657253746174654c656e00a44a6f696ec2 > nobody.bin
 : > nothing.bin
 
+for row in '--json,--dump needs exactly one member, and cannot be used with --json' \
+    '--events,--dump cannot be used with --events' '--every=1s,--dump cannot be used with --every'; do
+    refused "a dump with ${row%%,*}" 2 "swimwatch: ${row#*,}" pull --dump "${row%%,*}" web-1
+done
+
 member closes nothing.bin
 run diff "127.0.0.1:$port" nobody.bin
 ends 'a side that is a member which closes the connection' 3
