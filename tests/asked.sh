@@ -28,6 +28,24 @@ else
     echo 'skipped: a name with two addresses: there is no cc'
 fi
 
+# two members that have one name at two incarnations
+"$program" dump known.pcap > known.bin 2> err
+"$program" dump renewed.pcap > renewed.bin 2> err
+member closes known.bin
+first=$port
+member closes renewed.bin
+run pull "127.0.0.1:$first" "127.0.0.1:$port"
+ends 'members that differ in an incarnation' 1
+
+label=$(printf '%0255d' 0)
+run members --label "$label" known.pcap
+ends 'a label of 255 bytes' 0
+refused 'a label of 256 bytes' 2 'swimwatch: --label must have 1 to 255 bytes' members --label "0$label" known.pcap
+run pull --every 200ms --count 1 --metrics quoted.prom 'a"b:1'
+grep '^swimwatch_up' quoted.prom > found
+echo 'swimwatch_up{member="a\\"b:1"} 0' > wanted
+check 'a quotation mark in the label of a metric'
+
 # each of 29 bytes comes a tenth of a second after the one before
 member drips nobody.bin
 "$program" pull --every 1s --count 1 --timeout 20 "127.0.0.1:$port" 2> err |

@@ -306,6 +306,7 @@ def from_port(at, source, part):
     return (at * 10**6, packet(host(source), 17, udp(40000, part), host(9)))
 
 other = message(4, Addr=address(1), Incarnation=1, Meta=b'', Node=name(5), Port=7947, Vsn=bytes([1, 5, 2, 0, 0, 0]))
+pcap('renewed.pcap', [sent(1, 1, 2, alive(1, 2))])
 pcap('noted.pcap', [sent(0, 1, 2, alive(1, 0))])
 pcap('hosts.pcap', [
     sent(0, 1, 2, alive(1)), sent(0, 1, 2, other), from_port(1, 1, suspect(2, 1)),
