@@ -55,6 +55,10 @@ check 'how long an answer took, in milliseconds'
 
 # l3 is in the first table, and nobody in the second
 member closes examples/three.bin,nobody.bin
-"$program" pull --every 200ms --count 2 "127.0.0.1:$port" 2> err | cut -d ' ' -f 2-5 | grep absent > found
+"$program" pull --every 200ms --count 2 --metrics absent.prom "127.0.0.1:$port" 2> err |
+    cut -d ' ' -f 2-5 | grep absent > found
 printf '%s\n' 'l1 alive -> absent' 'l2 alive -> absent' 'l3 alive -> absent' > wanted
 check 'members that a member no longer knows'
+grep '^swimwatch_changes_total' absent.prom > found
+printf 'swimwatch_changes_total{name="l%s",to="absent"} 1\n' 1 2 3 > wanted
+check 'how often members became absent'

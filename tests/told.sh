@@ -349,3 +349,12 @@ check 'what is only noted has no incarnation'
 "$program" claims hosts.pcap 2> err | sed -n 's/.* suspect .*(\(.*\) to .*/\1/p' > found
 printf '%s\n' 10.0.0.1:40000 node-000008 node-000006 > wanted
 check 'who is at another port of a host'
+# node-3 is in the second capture alone, node-9 in none
+for row in '3 no' '9 yes'; do
+    # shellcheck disable=SC2086
+    set -- $row
+    "$program" timeline --member "node-00000$1" known.pcap warned.pcap 2>&1 |
+        grep -q 'nothing was heard about the --member name' && echo yes > found || echo no > found
+    echo "$2" > wanted
+    check "whether anything was heard of node-$1 in one of two captures"
+done
