@@ -62,3 +62,6 @@ check 'members that a member no longer knows'
 grep '^swimwatch_changes_total' absent.prom > found
 printf 'swimwatch_changes_total{name="l%s",to="absent"} 1\n' 1 2 3 > wanted
 check 'how often members became absent'
+"$program" pull --every 200ms --count 3 127.0.0.1:1 2> err | cut -d ' ' -f 2- > found
+echo '127.0.0.1:1 no answer (connection refused)' > wanted
+check 'a silence is told once'

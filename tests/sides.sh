@@ -52,12 +52,15 @@ sides stream two.bin x 0 2000 ver=1,role=web,zone=b 2
 sides stream turned.bin x 0 1000 ver=1,zone=b,role=web 2
 sides stream newer.bin x 0 1000 ver=2,cpu=4,role=web 2
 sides stream gone.bin x 2 2000 zone=b,role=web,ver=1 2
+sides stream spoken.bin x 0 1000 zone=b,role=web,ver=1 3
 run diff one.bin two.bin
 prints 'ports in two bytes with a sign' 1 'x alive 10.0.0.1:1000 -> alive 10.0.0.1:2000'
 run diff one.bin turned.bin
 prints 'the same tags in another order' 0
 run diff turned.bin newer.bin
 prints 'tags that changed, by their names' 1 'x alive 10.0.0.1:1000, tags +cpu=4, ver=1 -> 2, -zone=b'
+run diff one.bin spoken.bin
+prints 'versions that changed' 1 'x alive 10.0.0.1:1000, versions 010502000000 -> 010503000000'
 run diff one.bin gone.bin
 prints 'the address of a dead member' 1 'x alive 10.0.0.1:1000 -> dead 10.0.0.1:2000'
 

@@ -307,6 +307,9 @@ def from_port(at, source, part):
 
 other = message(4, Addr=address(1), Incarnation=1, Meta=b'', Node=name(5), Port=7947, Vsn=bytes([1, 5, 2, 0, 0, 0]))
 pcap('renewed.pcap', [sent(1, 1, 2, alive(1, 2))])
+for name_of, shift, accuser, inc in (('u', 0, 2, 1), ('v', 1000, 4, 2)):
+    pcap(name_of + '.pcap', [(at + shift, data) for at, data in [
+        sent(0, 3, 1, alive(3)), sent(1, 1, 2, suspect(3, 1)), sent(2, 1, 2, suspect(3, accuser)), sent(3, 5, 1, alive(5, inc))]])
 pcap('noted.pcap', [sent(0, 1, 2, alive(1, 0))])
 pcap('hosts.pcap', [
     sent(0, 1, 2, alive(1)), sent(0, 1, 2, other), from_port(1, 1, suspect(2, 1)),
@@ -358,3 +361,14 @@ for row in '3 no' '9 yes'; do
     echo "$2" > wanted
     check "whether anything was heard of node-$1 in one of two captures"
 done
+"$program" timeline u.pcap v.pcap 2> err | sed 's/^[^ ]* //; s/ (.*//; s/ at .*//' | sort > found
+printf 'node-00000%s\n' '3 also suspected 1 by node-000002' '3 also suspected 1 by node-000004' '3 joined 1' \
+    '3 suspected 1 by node-000001' '5 joined 1' '5 joined 2' > wanted
+check 'events of two views differ by the accuser and by the incarnation'
+"$program" talkers told.pcap 2> err | sed 1d | awk '{ print $1, $2, $6, $NF }' > wanted
+"$program" talkers --json told.pcap 2> err | python3 -c '
+import json, sys
+for line in sys.stdin:
+    o = json.loads(line)
+    print(o["sender"], o["pings"], o["suspicions"], o["bytes"])' > found
+check 'the bytes in the objects of talkers'
