@@ -37,6 +37,11 @@ member closes renewed.bin
 run pull "127.0.0.1:$first" "127.0.0.1:$port"
 ends 'members that differ in an incarnation' 1
 
+"$program" dump moved.pcap > moved.bin 2> err
+member closes moved.bin
+run pull "127.0.0.1:$first" "127.0.0.1:$port"
+ends 'members that differ in an address' 1
+
 label=$(printf '%0255d' 0)
 run members --label "$label" known.pcap
 ends 'a label of 255 bytes' 0

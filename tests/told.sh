@@ -307,6 +307,7 @@ def from_port(at, source, part):
 
 other = message(4, Addr=address(1), Incarnation=1, Meta=b'', Node=name(5), Port=7947, Vsn=bytes([1, 5, 2, 0, 0, 0]))
 pcap('renewed.pcap', [sent(1, 1, 2, alive(1, 2))])
+pcap('moved.pcap', [sent(1, 1, 2, alive(1, at=2))])
 for name_of, shift, accuser, inc in (('u', 0, 2, 1), ('v', 1000, 4, 2)):
     pcap(name_of + '.pcap', [(at + shift, data) for at, data in [
         sent(0, 3, 1, alive(3)), sent(1, 1, 2, suspect(3, 1)), sent(2, 1, 2, suspect(3, accuser)), sent(3, 5, 1, alive(5, inc))]])
@@ -372,3 +373,6 @@ for line in sys.stdin:
     o = json.loads(line)
     print(o["sender"], o["pings"], o["suspicions"], o["bytes"])' > found
 check 'the bytes in the objects of talkers'
+"$program" members --key-file examples/encrypted.key told.pcap 2>&1 | grep -o '[0-9]* not encrypted, the first from [0-9.]*' > found
+echo '22 not encrypted, the first from 10.0.0.1' > wanted
+check 'who sent the first packet in the clear'
