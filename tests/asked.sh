@@ -37,8 +37,8 @@ member closes renewed.bin
 run pull "127.0.0.1:$first" "127.0.0.1:$port"
 ends 'members that differ in an incarnation' 1
 
-"$program" dump moved.pcap > moved.bin 2> err
-member closes moved.bin
+"$program" dump other_place.pcap > other_place.bin 2> err
+member closes other_place.bin
 run pull "127.0.0.1:$first" "127.0.0.1:$port"
 ends 'members that differ in an address' 1
 

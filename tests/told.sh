@@ -307,7 +307,7 @@ def from_port(at, source, part):
 
 other = message(4, Addr=address(1), Incarnation=1, Meta=b'', Node=name(5), Port=7947, Vsn=bytes([1, 5, 2, 0, 0, 0]))
 pcap('renewed.pcap', [sent(1, 1, 2, alive(1, 2))])
-pcap('moved.pcap', [sent(1, 1, 2, alive(1, at=2))])
+pcap('other_place.pcap', [sent(1, 1, 2, alive(1, at=2))])
 for name_of, shift, accuser, inc in (('u', 0, 2, 1), ('v', 1000, 4, 2)):
     pcap(name_of + '.pcap', [(at + shift, data) for at, data in [
         sent(0, 3, 1, alive(3)), sent(1, 1, 2, suspect(3, 1)), sent(2, 1, 2, suspect(3, accuser)), sent(3, 5, 1, alive(5, inc))]])
