@@ -70,3 +70,26 @@ check 'how often members became absent'
 "$program" pull --every 200ms --count 3 127.0.0.1:1 2> err | cut -d ' ' -f 2- > found
 echo '127.0.0.1:1 no answer (connection refused)' > wanted
 check 'a silence is told once'
+
+# ---- random bytes
+
+# Each byte of twelve is another in one of six requests, but for one time in 10^10.
+for number in 1 2 3 4 5 6; do
+    "$program" pull --key-file examples/encrypted.key "127.0.0.1:$sealed" > out 2> err
+    cp asked "asked.$number"
+done
+python3 - > found <<'NONCES'
+drawn = [open('asked.%d' % number, 'rb').read()[6:18] for number in range(1, 7)]
+print(*(len({nonce[at] for nonce in drawn}) > 1 for at in range(12)))
+NONCES
+echo True True True True True True True True True True True True > wanted
+check 'each byte of a nonce is drawn'
+if command -v cc > /dev/null && cc -std=c99 -O2 -o no_random "$here/c/no_random.c"; then
+    rm -f asked
+    ./no_random "$program" pull --key-file examples/encrypted.key "127.0.0.1:$sealed" > out 2> err
+    status=$?
+    refuses 'a system without random bytes' 4 'swimwatch: cannot read random bytes from the system'
+    count 'and nothing is sent' "$([ ! -e asked ] || echo "; $(xxd -p asked)")"
+else
+    echo 'skipped: a system without random bytes: there is no cc'
+fi

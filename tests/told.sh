@@ -290,7 +290,7 @@ prints 'an incarnation and a tag' 1 'node-000001 alive 10.0.0.1:7946, incarnatio
 
 python3 - <<'PACKETS'
 from frames import packet, pcap, udp
-from wire import address, alive, compound, dead, host, message, name, suspect
+from wire import address, alive, compound, dead, host, message, name, serf, suspect
 
 def sent(at, source, target, *parts):
     payload = parts[0] if len(parts) == 1 else compound(parts)
@@ -316,6 +316,8 @@ pcap('hosts.pcap', [
     sent(0, 1, 2, alive(1)), sent(0, 1, 2, other), from_port(1, 1, suspect(2, 1)),
     sent(2, 6, 1, alive(6)), sent(3, 6, 1, dead(6, 6)), sent(4, 7, 1, alive(6, 2, at=7)), sent(5, 6, 1, alive(8, at=6)),
     from_port(6, 6, suspect(2, 8)), from_port(7, 7, suspect(2, 6))])
+pcap('leaves.pcap', [sent(1, 3, 1, alive(3)), sent(3, 3, 1, serf(0, LTime=5, Node=name(3), Prune=False)),
+                     sent(4, 1, 2, dead(3, 1))])
 pcap('error.pcap', [sent(0, 1, 2, message(13, Error=b'no')), sent(1, 1, 2, ping(2, 1))])
 PACKETS
 "$program" members seen.pcap known.pcap 2> err | tr -s ' ' | cut -d ' ' -f 1-4 > found
@@ -345,6 +347,11 @@ run diff told.bin nobody.bin
 prints 'a dump and one of nobody' 1 'node-000001 alive 10.0.0.8:7946 -> absent' \
     'node-000002 dead 10.0.0.2:7946 -> absent' 'node-000003 left 10.0.0.3:7946 -> absent' \
     'node-000004 suspect 10.0.0.4:7946 -> absent'
+
+# Serf's handleNodeLeave: one that said that it leaves, and is then dead, has left
+run diff --at $day:02Z --at $day:04Z leaves.pcap
+: > err
+prints 'a member that leaves, and is dead' 1 'node-000003 alive 10.0.0.3:7946 -> left 10.0.0.3:7946'
 
 "$program" diff --json noted.pcap known.pcap 2> err | grep -o '"before".*' > found
 echo '"before":{"address":"10.0.0.1","meta":"","port":7946,"state":"alive","vsn":"010502000000"},"name":"node-000001"}' > wanted

@@ -26,6 +26,28 @@ printf '%s\n' '127.0.3.1:7946 0 0 0 0 0 2 1 0 0 0 0 0 149' 'f5 0 0 0 2 0 0 0 0 0
     'g5 0 0 0 1 0 0 0 0 0 0 0 0 9' > wanted
 check 'what was sent counts for the member that had the address then'
 
+# node-1 sends a stream, leaves, and comes back at 10.0.0.2: the stream was its own; what then comes from 10.0.0.1 is not.
+# node-3 sends two nacks from an address that then, as its ping says, is node-4's: the next three are node-4's.
+python3 - <<'END'
+from wire import *
+nack = message(11, SeqNo=1)
+send = lambda source, *parts: [datagram(source, 9, part) for part in parts]
+moved = send(9, dead(1, 1), alive(1, 2, at=2))
+sent = connection(40000, stream([record(5)]))
+pcap("left_there.pcap", timed(send(9, alive(1)) + sent + moved + send(1, suspect(5, 6))))
+shown = datagram(3, 9, message(0, Node=name(9), SeqNo=2, SourceAddr=address(3), SourceNode=name(4), SourcePort=7946))
+pcap("seen_there.pcap", timed(send(9, alive(3)) + send(3, nack, nack) + [shown] + send(3, nack, nack, nack)))
+END
+"$program" talkers left_there.pcap 2> err | counted | grep -v '^10.0.0.9:' | cut -d ' ' -f 1,6,11 > found
+printf '%s\n' '10.0.0.1:7946 1 0' 'node-000001 0 1' > wanted
+check 'a stream counts for the member that had the address then, and a later packet does not'
+"$program" claims left_there.pcap 2> err | sed -n 's/.* suspect .*(\(.*\) to .*/\1/p' > found
+echo 10.0.0.1:7946 > wanted
+check 'a member that left its address is not there'
+"$program" talkers seen_there.pcap 2> err | counted | grep -v '^10.0.0.9:' | cut -d ' ' -f 1,5 > found
+printf '%s\n' 'node-000003 2' 'node-000004 3' > wanted
+check 'what was sent before a packet showed another member there'
+
 # ---- bytes behind a gap
 
 # the first 100 bytes of a stream, and those after its 150th
@@ -86,3 +108,50 @@ END
 run members silent.pcap
 grep -q '; 1 still incomplete after 60 s of silence' err
 count 'a connection that fell silent before its stream was whole' "$([ $? -eq 0 ] || echo "; $(tail -n 1 err)")"
+
+# ---- ports that are used again, sequence numbers, and segments that come twice
+
+python3 - <<'END'
+from frames import pcap
+from wire import alive, datagram, record, segment, stream
+
+def timed(name, *parts):
+    pcap(name, [(int(second * 10**6), frame) for second, frame in parts])
+
+def carried(second, isn, data, *ends):
+    """A connection from port 40000: the SYN, all bytes in a segment that is pushed, and segments with these flags."""
+    return [(second, segment(40000, isn, 2)), (second + 1, segment(40000, isn + 1, 24, data))] + [
+        (second + 2, segment(40000, isn + 1 + len(data), flags)) for flags in ends]
+
+first, second = stream([record(3)]), stream([record(4)])
+soon, late = (carried(at, 500000, second, 17) for at in (10, 100))
+timed('again_fin.pcap', *carried(0, 1000, first, 17), *soon)
+timed('again_rst.pcap', *carried(0, 1000, first, 4), *soon)
+timed('again_open.pcap', *carried(0, 1000, first), *soon)
+timed('again_silent.pcap', *carried(0, 1000, first), (90, segment(40001, 7, 2)), *late)
+
+known = (0, datagram(9, 3, alive(2)))
+start = 2 ** 32 - 51
+timed('wraps.pcap', known, (1, segment(40000, start, 2)), (2, segment(40000, 100, 24, first)))
+timed('whole.pcap', (1, segment(40000, start, 2)), (2, segment(40000, start + 1, 16, first[:50])),
+      (3, segment(40000, 0, 24, first[50:])), (4, segment(40000, len(first) - 50, 17)))
+
+sent = [(1, segment(40000, 0, 2)), (2, segment(40000, 1, 16, first[:50])), (3, segment(40000, 51, 16, first[50:]))]
+again = [(4, segment(40000, 1, 16, first[:50])), (5, segment(40000, 51, 16, first[50:])),
+         (6, segment(40000, 31, 16, first[30:60]))]
+timed('twice.pcap', *sent, *again, (7, segment(40000, 1 + len(first), 17)))
+open('headless.len', 'w').write(str(len(first)))
+END
+for how in fin rst open silent; do
+    "$program" members again_$how.pcap 2> err | awk 'NR > 1 { print $1, $3 }' > found
+    printf '%s\n' 'node-000003 alive' 'node-000004 alive' > wanted
+    check "a second connection from the port of one that ended so: $how"
+done
+"$program" talkers wraps.pcap 2> err | counted | grep '^10.0.0.1 ' > found
+echo "10.0.0.1 0 0 0 0 0 0 0 0 0 0 0 1 $(cat headless.len)" > wanted
+check 'bytes behind a gap across the sequence number 2^32 count'
+"$program" claims whole.pcap 2> err | cut -d ' ' -f 1-3 > found
+echo '2026-11-27T04:00:03.000000Z node-000003 alive' > wanted
+check 'a stream across the sequence number 2^32'
+"$program" claims twice.pcap 2> err | cut -d ' ' -f 1-3 > found
+check 'segments that come again do not change the time of a stream'

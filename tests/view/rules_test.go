@@ -95,20 +95,18 @@ func anything(r *rand.Rand) (said, bool) {
 	return s, record
 }
 
+// recordOf returns the record of a push/pull that says it.
+func recordOf(s said) pushNodeState {
+	states := map[saying]NodeStateType{saysAlive: StateAlive, saysSuspect: StateSuspect, saysDead: StateDead,
+		saysLeft: StateLeft}
+	return pushNodeState{Name: s.name, Incarnation: s.inc, Addr: s.place.addr, Port: s.place.port,
+		Meta: s.place.meta, Vsn: s.place.vsn, State: states[s.saying]}
+}
+
 // hear gives it to the member, as its handlers do.
 func hear(m *Memberlist, s said, record bool) {
 	if record {
-		state := pushNodeState{Name: s.name, Incarnation: s.inc, Addr: s.place.addr, Port: s.place.port,
-			Meta: s.place.meta, Vsn: s.place.vsn}
-		switch s.saying {
-		case saysSuspect:
-			state.State = StateSuspect
-		case saysDead:
-			state.State = StateDead
-		case saysLeft:
-			state.State = StateLeft
-		}
-		m.mergeState([]pushNodeState{state})
+		m.mergeState([]pushNodeState{recordOf(s)})
 		return
 	}
 	switch s.saying {

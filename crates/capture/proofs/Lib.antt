@@ -10,3 +10,20 @@ pub mod Queued
 pub mod Saying
 pub mod Stepping
 pub mod Written
+pub mod NumberBytes
+pub mod Prompting
+pub mod PcapText
+pub mod Whole
+mod SameEnds
+pub mod Inverting
+pub mod Ending
+pub mod PcapRead
+pub mod PcapngText
+pub mod Options
+pub mod CaptureText
+pub mod PcapngRead
+pub mod Exact
+pub mod CaptureRead
+pub mod PcapngParts
+pub mod PcapngBlocks
+pub mod Yielding

@@ -19,6 +19,10 @@ IsAddress bytes address =
     ⊎ ((length bytes ≡ 16) × (a : Ipv6Addr) × (address ≡ ip.V6 a)
     × IsIpv6OfBits a (big_number 16 bytes))
 
+-- as many bytes as an address has
+abbrev pub HasAddressLen : List ℕ → Type 0
+HasAddressLen bytes = (length bytes ≡ 4) ⊎ (length bytes ≡ 16)
+
 abbrev pub IsEndpoint : List ℕ → ℕ → SocketAddr → Type 0
 IsEndpoint address port end = IsAddress address (socket_ip end) × (socket_port end ≡ port)
 

@@ -1,4 +1,5 @@
 pub mod Blocks
+pub mod CaptureText
 pub mod Captured
 pub mod Captures
 pub mod Clock
@@ -8,7 +9,10 @@ pub mod Flows
 pub mod OpenFlows
 pub mod Packets
 pub mod Pcap
+pub mod PcapText
 pub mod Pcapng
+pub mod PcapngText
 pub mod Taking
 pub mod Unreachable
+pub mod Whole
 pub mod Written

@@ -1,7 +1,7 @@
 //! Both endpoints of a flow.
 
-ghost use Rattle.std.specs.Prelude.{◌≡◌, ◌⊎◌, ◌↔◌, length, IsSome, IfSome};
-ghost use Rattle.capture.specs.Endpoints.{IsAddress, AreEndsOf};
+ghost use Rattle.std.specs.Prelude.{◌↔◌, IsSome, IfSome};
+ghost use Rattle.capture.specs.Endpoints.{IsAddress, HasAddressLen, AreEndsOf};
 ghost use Rattle.capture.specs.Packets.{tcp_text};
 
 use crate::Segment;
@@ -17,9 +17,9 @@ pub struct Ends {
     pub destination: SocketAddr,
 }
 
-/// The address with these bytes, 4 or 16 of them.
-fn address(bytes: &[u8]) -> Option<IpAddr>
-    ensures some { IsSome result ↔ ((length bytes.now ≡ 4) ⊎ (length bytes.now ≡ 16)) }
+/// The address with these bytes: 4 of IPv4, or 16 of IPv6. `None` if there are neither 4 nor 16.
+pub fn address(bytes: &[u8]) -> Option<IpAddr>
+    ensures some { IsSome result ↔ HasAddressLen bytes.now }
     ensures is { IfSome result (IsAddress bytes.now) }
 {
     match bytes.len() {
@@ -33,7 +33,8 @@ impl Ends {
     /// The endpoints of a segment between these addresses. `None` if one has neither 4 nor 16
     /// bytes.
     pub fn of(source: &[u8], destination: &[u8], segment: &Segment) -> Option<Ends>
-        ensures { IfSome result (AreEndsOf source.now destination.now (tcp_text segment.now)) }
+        ensures is { IfSome result (AreEndsOf source.now destination.now (tcp_text segment.now)) }
+        ensures some { IsSome result ↔ (HasAddressLen source.now × HasAddressLen destination.now) }
     {
         Some(Ends {
             source: SocketAddr::new(address(source)?, segment.source),

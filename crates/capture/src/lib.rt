@@ -61,7 +61,7 @@ mod unreachable;
 
 pub use capture_fault::CaptureFault;
 pub use content::{Carried, Transport};
-pub use ends::Ends;
+pub use ends::{Ends, address};
 pub use fate::Fate;
 pub use fault::NotCarried;
 pub use flow::Flow;

@@ -1,10 +1,12 @@
 pub mod BehindOneAnother
+pub mod Chains
 pub mod Contents
 pub mod Drops
 pub mod Faults
 pub mod Filled
 pub mod Halves
 pub mod Handles
+pub mod IdleCalls
 pub mod Known
 pub mod NodeCalls
 pub mod Noting

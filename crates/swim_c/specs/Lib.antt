@@ -1,4 +1,6 @@
 pub mod Buffers
+pub mod Called
+pub mod Calls
 pub mod Exchanges
 pub mod Forgetting
 pub mod Forms

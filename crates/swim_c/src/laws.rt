@@ -1,15 +1,18 @@
 //! Facts about the definitions, independent of any code.
 
-ghost use Rattle.std.specs.Prelude.{◌≡◌, List, ℕ, [], ◌++◌, Option, IsSome};
+ghost use Rattle.std.specs.Prelude.{◌≡◌, Bool, List, ℕ, [], ◌++◌, Option, None, Some, IsSome};
 ghost use Rattle.swim_claim.specs.declared.claim.Claim.{Claim};
 ghost use Rattle.memberlist_wrap.specs.Wrapping.{Unwraps};
 ghost use Rattle.memberlist_transport.specs.Packet.{max_message_len};
 ghost use Rattle.memberlist_transport.specs.Unwrapped.{IsInside, IsInsideStream, IsInsideReply};
 ghost use Rattle.memberlist_transport.specs.declared.in_the_clear.InTheClear.{InTheClear};
+ghost use Rattle.swim_table.specs.Listing.{listing};
 ghost use Rattle.swim_table.specs.Node.{NodeValue};
-ghost use Rattle.swim_table.specs.Table.{Entries, TableOf, Reduced, get};
+ghost use Rattle.swim_table.specs.Table.{Entries, TableOf, Same, Reduced, get};
 ghost use Rattle.swim_c.specs.declared.progress.Progress.{Progress};
+ghost use Rattle.swim_c.specs.Calls.{Call, Calls, HasHeard, IsIdle, heard, heard_after};
 ghost use Rattle.swim_c.specs.Forgetting.{ForgetsName, LetsNameGo};
+ghost use Rattle.swim_c.specs.Forms.{Wanted, bytes_in};
 ghost use Rattle.swim_c.specs.Progressing.{IsProgressIn};
 ghost use Rattle.swim_c.specs.Sealing.{IsSealedPacket, IsSealedStream, IsSealedReply};
 ghost use Rattle.swim_c.specs.Taking.{TakesClaims};
@@ -68,4 +71,39 @@ pub fn noted_names_are_known()
         → LetsNameGo gone old new 0
         → ((name : List ℕ) → IsNoted old name → IsSome (get before.table name))
         → (name : List ℕ) → IsNoted new name → IsSome (get after.table name) }
+{}
+
+/// The table of a handle's node is that of what the node heard in the calls on the handle, whatever
+/// the calls were, in any order, done or refused: its member's own Alive when it was opened; the
+/// claims of each packet that was taken in, and of each stream that was answered or finished; and
+/// the member's Alive at each refutation and update. A forgotten name takes the claims about it
+/// away, and a readmitted one all but its newest Alive.
+pub fn table_is_what_was_heard()
+    ensures handle { (old new : Option NodeValue) (calls : Calls old new) (had : List Claim)
+        → HasHeard old had → HasHeard new (heard calls had) }
+    ensures node { (node : NodeValue) (calls : Calls None (Some node))
+        → TableOf node.table (heard calls []) }
+{}
+
+/// Two handles whose nodes heard the same claims, in any order and however often, have one table,
+/// one listing, and in each form and with the same user state one dump.
+pub fn same_claims_same_table()
+    ensures table { (node other : NodeValue) (calls : Calls None (Some node))
+        (others : Calls None (Some other)) → Same (heard calls []) (heard others [])
+        → node.table ≡ other.table }
+    ensures listing { (node other : NodeValue) (calls : Calls None (Some node))
+        (others : Calls None (Some other)) → Same (heard calls []) (heard others [])
+        → listing node.table ≡ listing other.table }
+    ensures dump { (node other : NodeValue) (calls : Calls None (Some node))
+        (others : Calls None (Some other)) → Same (heard calls []) (heard others [])
+        → (form : Wanted) (join : Bool)
+        → bytes_in form node.table join ≡ bytes_in form other.table join }
+{}
+
+/// A call that returns another status than 0, and one that keeps the node, changes nothing, and
+/// nothing is heard in it.
+pub fn idle_calls_change_nothing()
+    ensures node { (old new : Option NodeValue) (call : Call old new) → IsIdle call → new ≡ old }
+    ensures heard { (old new : Option NodeValue) (call : Call old new) (had : List Claim)
+        → IsIdle call → heard_after old new call had ≡ had }
 {}

@@ -1,19 +1,25 @@
 -- Streams of flows that are heard one after the other.
-use Rattle.std.proofs.Common.{◌≡◌, ℕ, Bool, List, [], ◌∷◌, ◌++◌, Option, Some, None, IfSome, Result, Ok, Err, OnOk, refl, sym}
+use Rattle.std.proofs.Common.{◌≡◌, ℕ, Bool, List, [], ◌∷◌, ◌++◌, Option, Some, None, IfSome, Result, Ok, Err, OnOk, true, refl, sym, ap₂, ◌∙◌}
 use Rattle.std.proofs.Math.Path.{subst}
 use Rattle.std.specs.Option.{option_map}
+use Rattle.std.specs.declared.net.socket_addr.SocketAddr.{SocketAddr}
 use Rattle.capture.specs.declared.ends.Ends.{Ends}
 use Rattle.capture.specs.Captured.{Captured, IsFlowOf, IsPairOf}
 use Rattle.capture.specs.Captured.AreSome.{passed_over}
-use Rattle.capture.specs.declared.record.Record.{Record}
 use Rattle.capture.specs.Flows.{FlowText}
 use Rattle.capture.specs.FlowTexts.{PairText}
-use Rattle.capture.specs.Packets.{CarriedText}
+use Rattle.capture.specs.Packets.{CarriedText, TcpText, TransportText, UdpText}
+use Rattle.capture.specs.Packets.TransportText.{udp, tcp}
 use Rattle.memberlist_transport.specs.declared.in_the_clear.InTheClear.{InTheClear}
 use Rattle.memberlist_view.specs.Told.{ViewValue}
-use Rattle.swimwatch.specs.Shown.{HearsFlows, HearsFrame, HearsFrame as frames, HearsRecord, HearsRecord as records}
+use Rattle.swimwatch.specs.declared.heard.recent.Way.{Way}
+use Rattle.swimwatch.specs.declared.listening.parcel.Parcel.{Parcel}
+use Rattle.swimwatch.specs.Filtered.{Choice, IsLeftOut, IsParcelOf, takes}
+use Rattle.swimwatch.specs.Shown.{HearsFlows, HearsFrame, HearsFrame as frames}
 use Rattle.swimwatch.specs.Shown.HearsFlows.{nothing, stream}
 use Rattle.swimwatch.specs.Views.{HearsStream}
+use Rattle.swimwatch.specs.Places.{IsPlace}
+use Rattle.swimwatch.specs.Ways.{IsPacketOf, PacketText, packet_of}
 
 module _ (clear : InTheClear) (keys : List (List ℕ)) where
   -- a view that stays
@@ -43,20 +49,47 @@ module _ (clear : InTheClear) (keys : List (List ℕ)) where
       stream old mid new ends flow time whole (later all c old mid then)
       (of.0, passed_over all of.0 c of.1, of.2) hears
 
--- ---- nothing is heard from a frame or a record
+-- ---- nothing is heard from a frame
 
-module _ (clear : InTheClear) (keys : List (List ℕ)) (all : List Captured) (old new : ViewValue) (same : new ≡ old) where
-  pub no_frame : (time : ℕ) (c : CarriedText) → HearsFrame clear keys time c all old all new
-  no_frame time c = subst (λ v. HearsFrame clear keys time c all old all v) (sym same) frames.nothing
+pub left_out : (s : Choice) (way : Way) (time : ℕ) (c : CarriedText) (all : List Captured) (past : List PacketText)
+    (old new : ViewValue) → new ≡ old → IsLeftOut s.ports c → HearsFrame s way time c all past old all past new
+left_out s way time c all past old new same why =
+    subst (λ v. HearsFrame s way time c all past old all past v) (sym same) (frames.left_out why)
 
-  pub no_record : (r : Record) (bytes : List ℕ) → HearsRecord clear keys r bytes all old all new
-  no_record r bytes = records.nothing refl same
+-- ---- the packet in a frame
+
+abbrev pub packet_in : ℕ → Way → Parcel → SocketAddr → SocketAddr → PacketText
+packet_in time way p source destination =
+    packet_of (record { time = time; source = source; destination = destination; proto = p.proto }) way p.seq p.payload.now
+
+pub packet_is : (time : ℕ) (way : Way) (c : CarriedText) (p : Parcel) (source destination : SocketAddr) → IsParcelOf c.transport p
+    → IsPlace c.source p.source source → IsPlace c.destination p.destination destination
+    → IsPacketOf time way c (packet_in time way p source destination)
+packet_is time way c p source destination of from to = (p, of, refl, refl, from, to, refl, refl, refl)
+
+-- ---- the ports of a parcel
+
+pub taken_udp : (ports : List ℕ) (t : TransportText) (d : UdpText) (p : Parcel) → t ≡ udp d → IsParcelOf t p
+    → takes ports p.source p.destination ≡ true → takes ports d.source d.destination ≡ true
+taken_udp ports t d p is of heard =
+    let h = subst (λ x. IsParcelOf x p) is of in
+    sym (ap₂ (takes ports) h.1 h.2) ∙ heard
+
+pub taken_tcp : (ports : List ℕ) (t : TransportText) (s : TcpText) (p : Parcel) → t ≡ tcp s → IsParcelOf t p
+    → takes ports p.source p.destination ≡ true → takes ports s.source s.destination ≡ true
+taken_tcp ports t s p is of heard =
+    let h = subst (λ x. IsParcelOf x p) is of in
+    sym (ap₂ (takes ports) h.1 h.2) ∙ heard
 
 -- ---- what calls return
 
 pub whenever : {T E P : Type 0} (r : Result T E) → P → OnOk r P
 whenever (Ok x) p = p
 whenever (Err e) p = tt
+
+-- a value that is there has what is there
+pub of_some : {T : Type 0} (P : T → Type 0) (o : Option T) (x : T) → o ≡ Some x → IfSome o P → P x
+of_some P o x is has = subst (λ v. IfSome v P) is has
 
 pub on_ok : {T E P Q : Type 0} (r : Result T E) → (P → Q) → OnOk r P → OnOk r Q
 on_ok (Ok x) f p = f p

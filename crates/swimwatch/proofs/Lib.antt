@@ -1,5 +1,15 @@
+mod Authentic
+mod ClearClaims
 mod Flowing
+mod Saying
+mod Seats
+pub mod Beginning
+pub mod Changes
+pub mod Clusters
 pub mod Hearing
 pub mod LeavesRead
+pub mod Packets
 pub mod Pings
 pub mod Prefixes
+pub mod Rosters
+pub mod Turning

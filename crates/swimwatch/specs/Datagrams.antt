@@ -1,7 +1,10 @@
 -- The messages of a datagram: what its leaves are read as, and those in its compressed leaves.
-use Rattle.std.specs.Prelude.{◌≡◌, ℕ, ◌-◌, ◌==◌, Bool, false, MatchBool, List, [], ◌∷◌, ◌++◌, map, length, Result, Ok, Err, ⊤}
+use Rattle.std.specs.Prelude.{◌≡◌, ◌⊎◌, ℕ, ◌-◌, ◌==◌, Bool, true, false, MatchBool, List, [], ◌∷◌, ◌++◌, map, length, Result, Ok, Err}
+use Rattle.std.specs.List.{list_all}
 use Rattle.swim_wire.specs.declared.fault.WireFault.{WireFault}
+use Rattle.memberlist_cipher.specs.Label.{IsLabelled}
 use Rattle.memberlist_message.specs.declared.message.Message.{Message}
+use Rattle.memberlist_message.specs.declared.message.Message.TheVariants as message
 use Rattle.memberlist_message.specs.Leaves.{AreLeaves}
 use Rattle.memberlist_message.specs.Messages.{MessageValue, message_of, message_value}
 use Rattle.memberlist_transport.specs.declared.in_the_clear.InTheClear.{InTheClear}
@@ -59,13 +62,39 @@ abbrev pub CarriesMessages : InTheClear → List (List ℕ) → List ℕ → Lis
 CarriesMessages clear keys bytes messages =
     (inner : List ℕ) × IsInside clear keys bytes inner × IsReadAs inner (values messages)
 
--- what was read are the messages of these bytes; of the rest nothing is read
+-- a ping, direct or indirect, that does not name whom it asks
+abbrev pub is_nameless : Message → Bool
+is_nameless (message.Ping ping) = length ping.node.items == 0
+is_nameless (message.IndirectPing ping) = length ping.node.items == 0
+is_nameless (message.Ack ack) = false
+is_nameless (message.Nack nack) = false
+is_nameless (message.User bytes) = false
+is_nameless (message.Error response) = false
+is_nameless (message.Claim packet) = false
+
+-- there are no messages, or only such pings
+abbrev pub AreNameless : List Message → Type 0
+AreNameless messages = list_all is_nameless messages ≡ true
+
+-- A packet carries nothing, neither under a key nor in the clear where that is read; or only pings
+-- that name nobody, which are taken for encrypted bytes.
+abbrev pub CarriesNothing : InTheClear → List (List ℕ) → List ℕ → Type 0
+CarriesNothing clear keys bytes = ((inner : List ℕ) → ¬ IsInside clear keys bytes inner)
+    ⊎ ((messages : List Message) × CarriesMessages clear keys bytes messages
+    × AreNameless messages)
+
+-- what was read are the messages of these bytes; if nothing was read, they name nobody
 abbrev pub IsReadFrom : List ℕ → Carriage → Type 0
 IsReadFrom bytes (Read messages) = IsReadAs bytes (values messages.read.items)
-IsReadFrom bytes other = ⊤
+IsReadFrom bytes other = (messages : List Message) × IsReadAs bytes (values messages)
+    × AreNameless messages
 
--- what was read are the messages that a packet carries
+-- what was read are the messages that a packet carries; if nothing was read, it carries nothing
 abbrev pub IsCarriageOf : InTheClear → List (List ℕ) → List ℕ → Carriage → Type 0
 IsCarriageOf clear keys bytes (Read messages) =
     CarriesMessages clear keys bytes messages.read.items
-IsCarriageOf clear keys bytes other = ⊤
+IsCarriageOf clear keys bytes other = CarriesNothing clear keys bytes
+
+-- A packet is of the cluster with this label; if there is none, each is.
+abbrev pub IsOfCluster : List ℕ → List ℕ → Type 0
+IsOfCluster label bytes = (label ≡ []) ⊎ ((rest : List ℕ) × IsLabelled bytes label rest)

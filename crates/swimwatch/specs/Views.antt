@@ -13,7 +13,7 @@ use Rattle.memberlist_transport.specs.declared.in_the_clear.InTheClear.{InTheCle
 use Rattle.memberlist_view.specs.declared.heard.Said.TheVariants.{Seen}
 use Rattle.memberlist_view.specs.Told.{ViewValue, view_after}
 use Rattle.swimwatch.specs.Carriage.{IsStreamOf}
-use Rattle.swimwatch.specs.Datagrams.{CarriesMessages}
+use Rattle.swimwatch.specs.Datagrams.{CarriesMessages, CarriesNothing, IsOfCluster}
 use Rattle.swimwatch.specs.Records.{claims_in}
 use Rattle.swimwatch.specs.Versions.{is_understood}
 use Rattle.swimwatch.specs.Told.{packet_told, record_told, heard_of}
@@ -62,10 +62,17 @@ HearsMessages time all [] old new = new ≡ old
 HearsMessages time all (m ∷ later) old new = (mid : ViewValue) × HearsMessage time all m old mid
     × HearsMessages time all later mid new
 
--- what is heard from a datagram at a time: the messages that it carries, or nothing
-abbrev pub HearsDatagram : InTheClear → List (List ℕ) → List ℕ → ℕ → ViewValue → ViewValue → Type 0
-HearsDatagram clear keys bytes time old new = (new ≡ old) ⊎ ((messages : List Message)
-    × CarriesMessages clear keys bytes messages × HearsMessages time messages messages old new)
+-- what is heard from a datagram at a time, if it is of the cluster with this label: the messages
+-- that it carries, or nothing if it carries nothing
+pub data HearsDatagram (clear : InTheClear) (keys : List (List ℕ)) (label bytes : List ℕ) (time : ℕ)
+    (old new : ViewValue) : Type 0 where
+  messages : (messages : List Message) → IsOfCluster label bytes
+      → CarriesMessages clear keys bytes messages → HearsMessages time messages messages old new
+      → HearsDatagram clear keys label bytes time old new
+  nothing : IsOfCluster label bytes → CarriesNothing clear keys bytes → new ≡ old
+      → HearsDatagram clear keys label bytes time old new
+  elsewhere : ¬ IsOfCluster label bytes → new ≡ old
+      → HearsDatagram clear keys label bytes time old new
 
 -- the records of a stream are heard at a time, in order: each as what it means to a member that
 -- merges it, whether or not a new name joins by it

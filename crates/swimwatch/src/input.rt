@@ -6,6 +6,7 @@
 //! | `origin` | where the bytes of a capture come from |
 //! | `stream` | the push/pull stream in a file |
 //! | `limit` | listening for a limited time |
+//! | `turns` | whose turn it is |
 //! | `sources` | the records of several captures, in the order of their times |
 
 pub(crate) mod captures;
@@ -13,3 +14,4 @@ pub(crate) mod limit;
 pub(crate) mod origin;
 pub(crate) mod sources;
 pub(crate) mod stream;
+pub(crate) mod turns;

@@ -13,7 +13,7 @@
 //! | `input` | reading several captures together |
 //! | `compared` | comparing two captures, streams or members |
 //!
-//! Each uses only those above it.
+//! Each uses only those above it. `laws` has facts about the definitions, independent of any code.
 #![tactic(auto)]
 
 mod arguments;
@@ -22,6 +22,7 @@ mod chart;
 mod compared;
 mod heard;
 mod input;
+mod laws;
 mod listening;
 mod shown;
 mod text;

@@ -3,6 +3,7 @@
 //! | module | subject |
 //! |---|---|
 //! | `members` | `members` |
+//! | `deadline` | which members are shown, and for which moment |
 //! | `suspicion` | until when a suspicion lasts |
 //! | `timeline` | `timeline` |
 //! | `claims` | `claims` |
@@ -22,6 +23,7 @@
 pub(crate) mod agent_log;
 pub(crate) mod changes;
 pub(crate) mod claims;
+pub(crate) mod deadline;
 pub(crate) mod distances;
 pub(crate) mod health;
 pub(crate) mod members;

@@ -3,7 +3,8 @@
 ghost use Rattle.std.specs.Prelude.{◌≡◌, false, None};
 ghost use Rattle.swim_table.specs.Listing.{listing};
 ghost use Rattle.swim_c.specs.Buffers.{IsNoMemory};
-ghost use Rattle.swim_c.specs.NewBytes.{AnsweredNew, FilledOr, OfferedNew};
+ghost use Rattle.swim_c.specs.Called.{AnswerNewCalled};
+ghost use Rattle.swim_c.specs.NewBytes.{FilledOr, OfferedNew};
 ghost use Rattle.swim_c.specs.OnNode.{OnNode, OnSame};
 ghost use Rattle.swim_c.specs.Watching.{Noted, TellsNews};
 ghost use Rattle.swim_c.specs.Statuses as statuses;
@@ -69,12 +70,8 @@ pub extern "C" fn swimtab_raw_answer_new(
     user: &[u8],
     buffer: &mut Buffer,
 ) -> Exchanged
-    ensures answers { OnNode node.old.node node.new.node
-        ((result
-        ≡ record { status = statuses.no_node; join = false; news = false; used = 0; len = 0 })
-        × (buffer.new ≡ buffer.old))
-        (AnsweredNew form user.now stream.now buffer.old buffer.new
-        result.status result.join result.used result.len) }
+    ensures answers { AnswerNewCalled form user.now stream.now buffer.old buffer.new result
+        node.old.node node.new.node }
     ensures news { OnNode node.old.node node.new.node
         (result.news ≡ false) (TellsNews result.status result.news) }
     ensures noted { OnNode node.old.node node.new.node

@@ -1,10 +1,8 @@
 //! Forgetting a name, and believing a member that came back.
 
 ghost use Rattle.std.specs.Prelude.{◌≡◌};
-ghost use Rattle.swim_c.specs.Forgetting.{ForgetDone, LetsNameGo};
-ghost use Rattle.swim_c.specs.OnNode.{OnNode};
-ghost use Rattle.swim_c.specs.Statuses as statuses;
-ghost use Rattle.swim_c.specs.Updating.{ReadmitDone};
+ghost use Rattle.swim_c.specs.Called.{ForgetCalled, ReadmitCalled};
+ghost use Rattle.swim_c.specs.Forgetting.{LetsNameGo};
 
 use crate::forgetting::forget;
 use crate::handle::Handle;
@@ -27,8 +25,7 @@ use std::alloc::Global;
 /// - 67 if the table has no such name.
 #[unsafe(no_mangle)]
 pub extern "C" fn swimtab_raw_forget(alloc: Global, node: &mut Handle, name: &[u8]) -> u32
-    ensures forgets { OnNode node.old.node node.new.node
-        (result ≡ statuses.no_node) (ForgetDone name.now result) }
+    ensures forgets { ForgetCalled name.now result node.old.node node.new.node }
     ensures noted { LetsNameGo name.now node.old.changes node.new.changes result }
 {
     let Some(mut held) = node.take(alloc) else {
@@ -53,8 +50,7 @@ pub extern "C" fn swimtab_raw_forget(alloc: Global, node: &mut Handle, name: &[u
 /// - 10 if out of memory.
 #[unsafe(no_mangle)]
 pub extern "C" fn swimtab_raw_readmit(alloc: Global, node: &mut Handle, name: &[u8]) -> u32
-    ensures readmits { OnNode node.old.node node.new.node
-        (result ≡ statuses.no_node) (ReadmitDone name.now result) }
+    ensures readmits { ReadmitCalled name.now result node.old.node node.new.node }
     ensures noted { node.new.changes ≡ node.old.changes }
 {
     let Some(mut held) = node.take(alloc) else {

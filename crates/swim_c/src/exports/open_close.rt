@@ -1,8 +1,8 @@
 //! Opening and closing a node, and giving its member other details.
 
-ghost use Rattle.std.specs.Prelude.{◌≡◌, ◌≢◌, None, false, MatchOption};
+ghost use Rattle.std.specs.Prelude.{◌≡◌, ◌≢◌, None, MatchOption};
+ghost use Rattle.swim_c.specs.Called.{UpdateCalled};
 ghost use Rattle.swim_c.specs.OnNode.{OnNode};
-ghost use Rattle.swim_c.specs.Updating.{UpdateDone};
 ghost use Rattle.swim_c.specs.Watching.{Noted};
 ghost use Rattle.swim_c.specs.Opening.{OpenDone, told};
 ghost use Rattle.swim_c.specs.Statuses as statuses;
@@ -85,9 +85,8 @@ pub extern "C" fn swimtab_raw_update(
     meta: &[u8],
     vsn: &[u8],
 ) -> Refuted
-    ensures updates { OnNode node.old.node node.new.node
-        (result ≡ record { status = statuses.no_node; due = false; inc = 0 })
-        (UpdateDone (told addr.now port meta.now vsn.now) result.status result.due result.inc) }
+    ensures updates { UpdateCalled (told addr.now port meta.now vsn.now) result
+        node.old.node node.new.node }
     ensures noted { OnNode node.old.node node.new.node (node.new.changes ≡ node.old.changes)
         (Noted node.old.changes node.new.changes result.status) }
 {

@@ -3,11 +3,11 @@
 ghost use Rattle.std.specs.Prelude.{◌≡◌, ◌≢◌, [], false};
 ghost use Rattle.swim_claim.specs.declared.claim.Claim.TheVariants.{Alive, Suspect, Confirm, Leave};
 ghost use Rattle.swim_c.specs.Buffers.{IsNoMemory};
+ghost use Rattle.swim_c.specs.Called.{TakeCalled, RefuteCalled};
 ghost use Rattle.swim_c.specs.OnNode.{OnNode, OnSame};
 ghost use Rattle.swim_c.specs.Opening.{IsUnmade, told};
 ghost use Rattle.swim_c.specs.Compound.{CompoundDone};
 ghost use Rattle.swim_c.specs.OwnPackets.{SaidOr, IsNoName, IsUnsaid, IsUnsaidBy};
-ghost use Rattle.swim_c.specs.Taking.{TakeDone, RefuteDone};
 ghost use Rattle.swim_c.specs.Watching.{Noted, TellsNews};
 ghost use Rattle.swim_c.specs.Statuses as statuses;
 
@@ -36,9 +36,7 @@ use std::alloc::Global;
 /// - 10 if out of memory, never before the length of a text or bytes is read.
 #[unsafe(no_mangle)]
 pub extern "C" fn swimtab_raw_take(alloc: Global, node: &mut Handle, bytes: &[u8]) -> Taken
-    ensures takes { OnNode node.old.node node.new.node
-        (result ≡ record { status = statuses.no_node; news = false })
-        (TakeDone bytes.now result.status) }
+    ensures takes { TakeCalled bytes.now result node.old.node node.new.node }
     ensures news { OnNode node.old.node node.new.node
         (result.news ≡ false) (TellsNews result.status result.news) }
     ensures noted { OnNode node.old.node node.new.node
@@ -66,9 +64,7 @@ pub extern "C" fn swimtab_raw_take(alloc: Global, node: &mut Handle, bytes: &[u8
 /// - 10 if one is due and memory runs out.
 #[unsafe(no_mangle)]
 pub extern "C" fn swimtab_raw_refute(alloc: Global, node: &mut Handle) -> Refuted
-    ensures refutes { OnNode node.old.node node.new.node
-        (result ≡ record { status = statuses.no_node; due = false; inc = 0 })
-        (RefuteDone result.status result.due result.inc) }
+    ensures refutes { RefuteCalled result node.old.node node.new.node }
     ensures noted { OnNode node.old.node node.new.node
         (node.new.changes ≡ node.old.changes)
         (Noted node.old.changes node.new.changes result.status) }

@@ -1,7 +1,8 @@
 //! The two halves of an exchange.
 
 ghost use Rattle.std.specs.Prelude.{◌≡◌, false};
-ghost use Rattle.swim_c.specs.Exchanges.{FinishDone, OfferedInForm, AnsweredInForm};
+ghost use Rattle.swim_c.specs.Called.{AnswerCalled, FinishCalled};
+ghost use Rattle.swim_c.specs.Exchanges.{OfferedInForm};
 ghost use Rattle.swim_c.specs.OnNode.{OnNode, OnSame};
 ghost use Rattle.swim_c.specs.Progressing.{IsProgressIn, WholeDone};
 ghost use Rattle.swim_c.specs.Watching.{Noted, TellsNews};
@@ -77,12 +78,8 @@ pub extern "C" fn swimtab_raw_answer(
     user: &[u8],
     out: &mut [u8],
 ) -> Exchanged
-    ensures answers { OnNode node.old.node node.new.node
-        ((result
-        ≡ record { status = statuses.no_node; join = false; news = false; used = 0; len = 0 })
-        × (out.new ≡ out.old))
-        (AnsweredInForm form user.now stream.now
-        out.old out.new result.status result.join result.used result.len) }
+    ensures answers { AnswerCalled form user.now stream.now out.old out.new result
+        node.old.node node.new.node }
     ensures news { OnNode node.old.node node.new.node
         (result.news ≡ false) (TellsNews result.status result.news) }
     ensures noted { OnNode node.old.node node.new.node
@@ -109,10 +106,7 @@ pub extern "C" fn swimtab_raw_answer(
 /// - 10 if out of memory.
 #[unsafe(no_mangle)]
 pub extern "C" fn swimtab_raw_finish(alloc: Global, node: &mut Handle, stream: &[u8]) -> Exchanged
-    ensures finishes { OnNode node.old.node node.new.node
-        (result
-        ≡ record { status = statuses.no_node; join = false; news = false; used = 0; len = 0 })
-        (FinishDone stream.now result.status result.join result.used result.len) }
+    ensures finishes { FinishCalled stream.now result node.old.node node.new.node }
     ensures news { OnNode node.old.node node.new.node
         (result.news ≡ false) (TellsNews result.status result.news) }
     ensures noted { OnNode node.old.node node.new.node

@@ -1,5 +1,8 @@
 //! What the command line asks for.
 
+ghost use Rattle.std.specs.Prelude.{◌≡◌};
+ghost use Rattle.swimwatch.specs.Seated.{has_views};
+
 use crate::text::moment::When;
 use crate::text::window::Times;
 use memberlist_transport::InTheClear;
@@ -94,7 +97,9 @@ impl Verb {
     }
 
     /// Whether each capture has a view of its own, unless they are merged.
-    pub(crate) fn has_views(self) -> bool {
+    pub(crate) fn has_views(self) -> bool
+        ensures { result ≡ has_views self }
+    {
         matches!(self, Verb::Members | Verb::Timeline)
     }
 

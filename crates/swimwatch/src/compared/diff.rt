@@ -18,7 +18,7 @@ use swim_program::{Failure, print_bytes};
 ///
 /// Those of [`roster_of`], for the first side that cannot be read.
 pub(crate) fn diff(rt: &HostRuntime, chosen: &Chosen) -> Result<ExitCode, Failure> {
-    let [before, after] = sides(rt, chosen)?;
+    let (before, after) = sides(rt, chosen)?;
     let mut text = String::new(rt.alloc());
     let is_changed = if chosen.json {
         write_change_objects(&mut text, &before, &after)?
@@ -30,7 +30,7 @@ pub(crate) fn diff(rt: &HostRuntime, chosen: &Chosen) -> Result<ExitCode, Failur
 }
 
 /// The two sides.
-fn sides(rt: &HostRuntime, chosen: &Chosen) -> Result<[Roster; 2], Failure> {
+fn sides(rt: &HostRuntime, chosen: &Chosen) -> Result<(Roster, Roster), Failure> {
     let keys = keyring_of(rt, NAME, &chosen.key_files)?;
     match (chosen.inputs.as_slice(), chosen.moments.as_slice()) {
         ([before, after], []) => {
@@ -42,7 +42,7 @@ fn sides(rt: &HostRuntime, chosen: &Chosen) -> Result<[Roster; 2], Failure> {
             }
             let mut ring = Ring::new(keys);
             let before = roster_of(rt, chosen, &mut ring, before)?;
-            Ok([before, roster_of(rt, chosen, &mut ring, after)?])
+            Ok((before, roster_of(rt, chosen, &mut ring, after)?))
         }
         ([capture], [one, other]) => rosters_at(rt, chosen, &keys, capture, [*one, *other]),
         _ => Err(misused(

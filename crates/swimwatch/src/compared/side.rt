@@ -13,6 +13,7 @@ use crate::input::limit::Limit;
 use crate::input::origin::Input;
 use crate::input::sources::Sources;
 use crate::input::stream::{no_stream, open, stream_of_input};
+use crate::listening::setting::Setting;
 use crate::listening::views::Views;
 use crate::text::moment::When;
 use crate::text::said::said;
@@ -56,8 +57,8 @@ fn roster_of_capture(
     word: &str,
     input: Input,
 ) -> Result<Roster, Failure> {
-    let mut views = Views::new(rt.alloc(), keys, chosen, Vec::new(rt.alloc()));
     let mut sources = Sources::of(Limit::endless(rt), word, input)?;
+    let mut views = views_of(rt, chosen, keys, &sources);
     watch_until(rt, &mut views, &mut sources, u64::MAX)?;
     views.finish()?;
     tell_counts(rt, &views, keys, word)?;
@@ -71,14 +72,11 @@ pub(crate) fn rosters_at(
     keys: &Keyring,
     word: &str,
     times: [When; 2],
-) -> Result<[Roster; 2], Failure> {
+) -> Result<(Roster, Roster), Failure> {
     let alloc = rt.alloc();
-    let mut views = Views::new(alloc, keys, chosen, Vec::new(alloc));
     let mut sources = Sources::of(Limit::endless(rt), word, open(rt, word)?)?;
-    let begun = match sources.record() {
-        Some((record, _)) => record.time.unwrap_or(0) / 1000,
-        None => 0,
-    };
+    let mut views = views_of(rt, chosen, keys, &sources);
+    let begun = sources.begun();
     let [one, other] = times;
     let (one, other) = (one.in_capture(begun), other.in_capture(begun));
     watch_until(rt, &mut views, &mut sources, one.min(other))?;
@@ -88,10 +86,21 @@ pub(crate) fn rosters_at(
     tell_counts(rt, &views, keys, word)?;
     let later = roster_in(alloc, &views)?;
     Ok(if one <= other {
-        [earlier, later]
+        (earlier, later)
     } else {
-        [later, earlier]
+        (later, earlier)
     })
+}
+
+/// The views of a capture.
+fn views_of<'a>(
+    rt: &HostRuntime,
+    chosen: &'a Chosen,
+    keys: &'a Keyring,
+    sources: &Sources,
+) -> Views<'a> {
+    let setting = Setting::new(keys, chosen, &[], sources.begun());
+    Views::new(rt.alloc(), setting, Vec::new(rt.alloc()))
 }
 
 /// Says on standard error what was read of a capture.

@@ -1,15 +1,16 @@
 //! What datagrams and connections carry.
 
-ghost use Rattle.std.specs.Prelude.{◌≡◌, ◌≢◌, ◌↔◌, List, IfOk, IfErr};
+ghost use Rattle.std.specs.Prelude.{◌≡◌, ◌≢◌, ◌↔◌, List, false, Decides, IfOk, IfErr};
+ghost use Rattle.std.specs.List.{list_all};
 ghost use Rattle.swim_claim.specs.declared.claim.Claim.{Claim};
 ghost use Rattle.swimwatch.specs.declared.heard.carriage.NoStream.TheVariants.{Memory};
 ghost use Rattle.swimwatch.specs.Carriage.{IsStreamOf};
-ghost use Rattle.swimwatch.specs.Datagrams.{IsCarriageOf, IsReadFrom};
+ghost use Rattle.swimwatch.specs.Datagrams.{IsCarriageOf, IsOfCluster, IsReadFrom, AreNameless, is_nameless};
 ghost use Rattle.swimwatch.specs.Records.{claims_in};
 
 use crate::heard::messages::Messages;
 use crate::heard::records::{Records, read_records};
-use memberlist_cipher::CipherFault;
+use memberlist_cipher::{CipherFault, split_label};
 use memberlist_keyring::Keyring;
 use memberlist_message::Message;
 use memberlist_transport::{InTheClear, PacketFault, StreamFault, open_stream, unwrap_packet};
@@ -24,11 +25,13 @@ pub(crate) const MAX_STREAM_LEN: usize = 33_554_432;
 /// The first byte of an encrypted stream, as in memberlist's `net.go`.
 pub(crate) const ENCRYPTED: u8 = 10;
 
-/// With which keys packets and streams are opened, and what becomes of those in the clear.
+/// Which packets and streams are opened, with which keys, and what becomes of those in the clear.
 #[derive(Clone, Copy)]
 pub(crate) struct Opening<'a> {
     pub(crate) keys: &'a Keyring,
     pub(crate) clear: InTheClear,
+    /// The label of the only cluster whose datagrams are heard; empty if all are.
+    pub(crate) label: &'a [u8],
 }
 
 /// What a datagram carries.
@@ -66,26 +69,61 @@ pub(crate) fn carriage_of(
     }
 }
 
+/// Whether a packet is of the cluster with this label. If there is none, each is.
+pub(crate) fn is_of_cluster(label: &[u8], payload: &[u8]) -> bool
+    ensures { Decides result (IsOfCluster label.now payload.now) }
+{
+    if label.is_empty() {
+        return true;
+    }
+    match split_label(payload) {
+        Ok((other, _)) => other == label,
+        Err(_) => false,
+    }
+}
+
 /// What the unwrapped bytes of a datagram carry. What begins with a version of encryption, 0 or 1,
-/// and is no ping that names whom it asks, is encrypted (memberlist's `security.go`).
+/// and has only pings that name nobody, is encrypted (memberlist's `security.go`).
 fn carriage_in(alloc: Global, bytes: &[u8]) -> Result<Carriage, AllocError>
     ensures { IfOk result (λ carriage. IsReadFrom bytes.now carriage) }
 {
     let messages = Messages::of(alloc, bytes)?;
-    match bytes.first() {
-        Some(0 | 1) if !messages.read.iter().any(names_asked) => Ok(Carriage::Closed),
-        Some(&COMPOUND_MESSAGE) => Ok(Carriage::Read(messages)),
-        _ if messages.read.is_empty() => Ok(Carriage::Foreign),
-        _ => Ok(Carriage::Read(messages)),
+    let first = bytes.first().copied();
+    if are_messages(first, &messages.read) {
+        return Ok(Carriage::Read(messages));
+    }
+    match first {
+        Some(0 | 1) => Ok(Carriage::Closed),
+        _ => Ok(Carriage::Foreign),
     }
 }
 
-/// Whether a message is a ping or an indirect ping that names whom it asks, as memberlist's do.
-/// Random bytes seldom have a name.
-fn names_asked(message: &Message) -> bool {
+/// Whether a datagram with this first byte is of memberlist, if these messages were read in it.
+fn are_messages(first: Option<u8>, read: &[Message]) -> bool
+    ensures { result ≡ false → AreNameless read.now }
+{
+    match first {
+        Some(0 | 1) => !are_nameless(read),
+        Some(COMPOUND_MESSAGE) => true,
+        _ => !read.is_empty(),
+    }
+}
+
+/// Whether there are only messages that name nobody.
+fn are_nameless(messages: &[Message]) -> bool
+    ensures { result ≡ list_all is_nameless messages.now }
+{
+    messages.iter().all(|message| is_nameless(message))
+}
+
+/// Whether a message is a ping or an indirect ping that does not name whom it asks. memberlist's do,
+/// and random bytes seldom have a name.
+fn is_nameless(message: &Message) -> bool
+    ensures { result ≡ is_nameless message.now }
+{
     match message {
-        Message::Ping(ping) => !ping.node.is_empty(),
-        Message::IndirectPing(ping) => !ping.node.is_empty(),
+        Message::Ping(ping) => ping.node.is_empty(),
+        Message::IndirectPing(ping) => ping.node.is_empty(),
         _ => false,
     }
 }

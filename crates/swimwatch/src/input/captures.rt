@@ -5,6 +5,7 @@ use crate::arguments::chosen::{Chosen, Verb};
 use crate::input::limit::Limit;
 use crate::input::sources::Sources;
 use crate::input::stream::claims_of_file;
+use crate::listening::setting::Setting;
 use crate::listening::views::Views;
 use crate::shown::agent_log::AgentLog;
 use crate::text::names::name_bytes;
@@ -13,6 +14,7 @@ use key_files::keyring_of;
 use std::alloc::AllocError;
 use std::fs::File;
 use std::io::ErrorKind;
+use std::time::Duration;
 use swim_program::{Failure, What, file_bytes, print_bytes};
 use swim_table::EncodeFault;
 
@@ -27,9 +29,12 @@ pub(crate) fn show_captures(rt: &HostRuntime, chosen: &Chosen) -> Result<(), Fai
         Some(word) => claims_of_file(rt, chosen, &keys, word)?,
         None => Vec::new(alloc),
     };
-    let mut views = Views::new(alloc, &keys, chosen, start);
-    views.logs = logs_of(rt, &chosen.agent_logs)?;
-    watch_captures(rt, &mut views, &chosen.inputs)?;
+    let logs = logs_of(rt, &chosen.agent_logs)?;
+    let mut sources = Sources::begin(limit_of(rt, chosen)?, &chosen.inputs)?;
+    let setting = Setting::new(&keys, chosen, &start, sources.begun());
+    let mut views = Views::new(alloc, setting, logs);
+    watch_until(rt, &mut views, &mut sources, u64::MAX)?;
+    views.finish()?;
     // made before anything is printed, so that nothing is printed if memory runs out
     let said = views.counts().text(alloc, !keys.is_empty())?;
     let lacks_member = views.lacks_member()?;
@@ -74,17 +79,12 @@ fn logs_of(rt: &HostRuntime, words: &[String]) -> Result<Vec<AgentLog>, Failure>
     Ok(logs)
 }
 
-/// Reads the captures to their ends, or for as long as was asked, and prints what is shown on the
-/// way.
-fn watch_captures(rt: &HostRuntime, views: &mut Views, words: &[String]) -> Result<(), Failure> {
-    let limit = match Limit::from_now(rt, views.span()) {
-        Ok(limit) => limit,
-        Err(_) => return Err(said(format!(in rt.alloc(); "{NAME}: cannot read the clock"), 4)),
-    };
-    let mut sources = Sources::begin(limit, words)?;
-    watch_until(rt, views, &mut sources, u64::MAX)?;
-    views.finish()?;
-    Ok(())
+/// For how long is listened by the clock.
+fn limit_of<'a>(rt: &'a HostRuntime, chosen: &Chosen) -> Result<Limit<'a>, Failure> {
+    match Limit::from_now(rt, chosen.times.span.map(Duration::from_micros)) {
+        Ok(limit) => Ok(limit),
+        Err(_) => Err(said(format!(in rt.alloc(); "{NAME}: cannot read the clock"), 4)),
+    }
 }
 
 /// Reads captures to the first record after a time, in microseconds, or to their ends, and prints
@@ -116,7 +116,7 @@ fn read_until(
             break;
         }
         views.record(place, sources.word(place), record, bytes)?;
-        if sources.is_live || MAX_PENDING <= views.out.len() {
+        if sources.is_live || MAX_PENDING <= views.printer.out.len() {
             flush(rt, views)?;
         }
         sources.read_on()?;
@@ -129,11 +129,11 @@ fn read_until(
 
 /// Prints the pending output.
 fn flush(rt: &HostRuntime, views: &mut Views) -> Result<(), Failure> {
-    if views.out.is_empty() {
+    if views.printer.out.is_empty() {
         return Ok(());
     }
-    let wrote = print_bytes(rt, NAME, views.out.as_bytes());
-    views.out.clear();
+    let wrote = print_bytes(rt, NAME, views.printer.out.as_bytes());
+    views.printer.out.clear();
     wrote
 }
 

@@ -1,13 +1,16 @@
 //! Reading several captures together, in the order of their records' times.
 
+ghost use Rattle.std.specs.Prelude.{◌≡◌, IfSome, IfNone, []};
+ghost use Rattle.swimwatch.specs.Turns.{IsFirst};
+ghost use Rattle.swimwatch.specs.declared.input.turns.Turn.{Turn};
+
 use crate::NAME;
 use crate::input::limit::Limit;
 use crate::input::origin::{Counted, Input};
+use crate::input::turns::{Turn, Turns};
 use crate::text::said::said;
 use capture::{CaptureFault, CaptureReader, Link, Record};
 use std::alloc::Global;
-use std::cmp::Reverse;
-use std::collections::BinaryHeap;
 use swim_pack::FromRead;
 use swim_program::Failure;
 
@@ -98,20 +101,12 @@ impl<'a> Source<'a> {
     }
 }
 
-/// Whose turn it is: the capture with this index, whose next record was captured at this time. A
-/// record without a time comes first. If two have the same time, the first capture comes first.
-#[derive(Clone, Copy, PartialEq, Eq, PartialOrd, Ord)]
-struct Turn {
-    time: u64,
-    place: usize,
-}
-
 /// The captures that are read together. Each that is open has one record in memory.
 #[derive(Drop)]
 pub(crate) struct Sources<'a> {
     limit: Limit<'a>,
     all: Vec<Source<'a>>,
-    turns: BinaryHeap<Reverse<Turn>>,
+    turns: Turns,
     /// Whether more may still come in one of them: it is no file.
     pub(crate) is_live: bool,
 }
@@ -121,7 +116,7 @@ impl<'a> Sources<'a> {
         Sources {
             limit,
             all: Vec::new(limit.rt.alloc()),
-            turns: BinaryHeap::new(limit.rt.alloc()),
+            turns: Turns::new(limit.rt.alloc()),
             is_live: false,
         }
     }
@@ -175,15 +170,13 @@ impl<'a> Sources<'a> {
 
     /// The capture at this index waits for its turn.
     fn wait(&mut self, time: u64, place: usize) -> Result<(), Failure> {
-        match self.turns.push(Reverse(Turn { time, place })) {
-            Ok(()) => Ok(()),
-            Err(_) => Err(Failure::Memory),
-        }
+        self.turns.wait(Turn { time, place })?;
+        Ok(())
     }
 
     /// Opens the capture whose turn it is, if it is not open.
     fn open_first(&mut self) -> Result<(), Failure> {
-        let Some(Reverse(turn)) = self.turns.peek() else {
+        let Some(turn) = self.turns.first() else {
             return Ok(());
         };
         match self.all.get_mut(turn.place) {
@@ -193,9 +186,15 @@ impl<'a> Sources<'a> {
     }
 
     /// The index of the capture with the earliest record, if there is one left.
-    pub(crate) fn place(&self) -> Option<usize> {
-        let Reverse(turn) = self.turns.peek()?;
-        Some(turn.place)
+    pub(crate) fn place(&self) -> Option<usize>
+        ensures first { IfSome result (λ place. (turn : Turn) × (turn.place ≡ place)
+            × IsFirst self.entry.now.turns.waiting.keys turn) }
+        ensures none { IfNone result (self.entry.now.turns.waiting.keys ≡ []) }
+    {
+        match self.turns.first() {
+            Some(turn) => Some(turn.place),
+            None => None,
+        }
     }
 
     /// The word that names the capture at this index.
@@ -216,14 +215,23 @@ impl<'a> Sources<'a> {
 
     /// The earliest record and its bytes, if there is one left.
     pub(crate) fn record(&self) -> Option<(Record, &[u8])> {
-        let Reverse(turn) = self.turns.peek()?;
+        let turn = self.turns.first()?;
         let reading = self.all.get(turn.place)?.reading.as_ref()?;
         Some((reading.record, &reading.bytes))
     }
 
+    /// When the first record was captured, in microseconds since the start of 1970; 0 if that is not
+    /// known.
+    pub(crate) fn begun(&self) -> u64 {
+        match self.record() {
+            Some((record, _)) => record.time.unwrap_or(0) / 1000,
+            None => 0,
+        }
+    }
+
     /// Moves on to the record after the earliest one.
     pub(crate) fn read_on(&mut self) -> Result<(), Failure> {
-        let Some(Reverse(turn)) = self.turns.pop() else {
+        let Some(turn) = self.turns.end() else {
             return Ok(());
         };
         if let Some(time) = self.next_time(turn.place)? {

@@ -5,9 +5,10 @@
 //! `spreading` their news, `locating` their coordinates; `showing` shows what was asked for, and
 //! `reporting` all of it in one page.
 
-ghost use Rattle.std.specs.Prelude.{◌≡◌, [], IfOk, OnOk};
-ghost use Rattle.memberlist_view.specs.Told.{view_after};
+ghost use Rattle.std.specs.Prelude.{◌≡◌, ◌∷◌, [], IfOk, OnOk};
+ghost use Rattle.memberlist_view.specs.Told.{event_of, view_after};
 ghost use Rattle.swimwatch.specs.Told.{told_text, heard_of};
+ghost use Rattle.swimwatch.specs.Viewed.{begin_with, said_at_start};
 ghost use Rattle.swimwatch.specs.Views.{HearsDatagram};
 
 mod datagrams;
@@ -21,9 +22,9 @@ mod spreading;
 mod streams;
 mod tallies;
 
-use crate::arguments::chosen::{Chosen, Verb};
+use crate::arguments::chosen::Verb;
 use crate::chart::Chart;
-use crate::heard::carriage::{Carriage, Opening, carriage_of};
+use crate::heard::carriage::{Carriage, Opening, carriage_of, is_of_cluster};
 use crate::heard::counts::{Counts, count};
 use crate::heard::pings::Pings;
 use crate::heard::sent::Sent;
@@ -31,6 +32,7 @@ use crate::heard::serf::Serf;
 use crate::heard::serf::queries::Sighting;
 use crate::heard::told::Told;
 use crate::heard::warnings::Warnings;
+use crate::listening::setting::Setting;
 use crate::shown::agent_log::AgentLog;
 use crate::shown::distances::Distances;
 use crate::shown::report::Gathered;
@@ -43,7 +45,6 @@ use crate::view::listener::Listener;
 use crate::view::places::Places;
 use detecting::{causes_of, detector_of};
 use memberlist_causes::Causes;
-use memberlist_cipher::split_label;
 use memberlist_keyring::Keyring;
 use memberlist_probes::Detector;
 use memberlist_view::{Event, Heard, MemberName, Said};
@@ -98,8 +99,6 @@ pub(crate) struct Watch<'a> {
     mult: u64,
     /// The time that is shown.
     window: Window,
-    /// The label of the only cluster to hear; empty if all are heard.
-    label: Vec<u8>,
     talkers: Talkers,
     chart: Chart,
     /// What a report needs before the end.
@@ -132,14 +131,19 @@ impl<'a> Watch<'a> {
     /// A view with this name, which lines show if there is one.
     pub(crate) fn new(
         alloc: Global,
-        keys: &'a Keyring,
-        chosen: &Chosen,
-        window: Window,
+        setting: Setting<'a>,
         name: Option<String>,
     ) -> Result<Watch<'a>, AllocError>
-        ensures { IfOk result (λ watch.
-            watch.listener.view ≡ record { wait = chosen.now.wait; entries = [] }) }
+        ensures view { IfOk result (λ watch. watch.listener.view
+            ≡ record { wait = setting.entry.chosen.now.wait; entries = [] }) }
+        ensures window { IfOk result (λ watch. watch.window ≡ setting.entry.window) }
     {
+        let Setting {
+            keys,
+            chosen,
+            window,
+            ..
+        } = setting;
         let member = copied(alloc, &chosen.member)?;
         Ok(Watch {
             alloc,
@@ -158,7 +162,6 @@ impl<'a> Watch<'a> {
             now: 0,
             mult: chosen.mult,
             window,
-            label: chosen.asking.label.to_vec(alloc)?,
             talkers: Talkers::new(alloc, chosen.verb == Verb::Talkers),
             chart: Chart::new(alloc),
             gathered: Gathered::new(alloc, chosen)?,
@@ -209,14 +212,15 @@ impl<'a> Watch<'a> {
         payload: &[u8],
     ) -> Result<(), AllocError>
         ensures hears { OnOk result (HearsDatagram opening.entry.clear opening.entry.keys.now
-            payload.now sent.time self.old.listener.view self.new.listener.view) }
+            opening.entry.label.now payload.now sent.time
+            self.old.listener.view self.new.listener.view) }
     {
         count(&mut self.counts.datagrams);
         self.reach(sent.time);
         if self.verb.tells_news() {
             self.serf.note(self.capture, &sent)?;
         }
-        if !self.is_ours(payload) {
+        if !is_of_cluster(opening.label, payload) {
             count(&mut self.counts.other_labels);
             return Ok(());
         }
@@ -242,30 +246,15 @@ impl<'a> Watch<'a> {
         }
     }
 
-    /// Whether a datagram is of the cluster with the label, if one was given.
-    fn is_ours(&self, payload: &[u8]) -> bool {
-        if self.label.is_empty() {
-            return true;
-        }
-        match split_label(payload) {
-            Ok((label, _)) => label == self.label.as_slice(),
-            Err(_) => false,
-        }
-    }
-
     /// Begins with the records of a table, as the member that it is from shows them: the deaths in it
     /// are no suspicions. Nobody is named.
-    pub(crate) fn begin_with(&mut self, claims: &[Claim]) -> Result<(), AllocError> {
+    pub(crate) fn begin_with(&mut self, claims: &[Claim]) -> Result<(), AllocError>
+        ensures { OnOk result (self.new.listener.view
+            ≡ begin_with self.old.window.begun self.old.listener.view claims.now) }
+    {
+        let time = self.window.begun;
         for claim in claims {
-            let said = match claim {
-                Claim::Confirm { name, inc } => Said::Dead {
-                    name: MemberName::new(name.try_clone(self.alloc)?),
-                    inc: *inc,
-                    from: Some(nobody(self.alloc)?),
-                },
-                _ => Said::of_record(claim.try_clone(self.alloc)?, false),
-            };
-            let time = self.window.begun;
+            let said = said_at_start(self.alloc, claim)?;
             self.listener.hear(&Heard { time, said })?;
         }
         Ok(())
@@ -279,6 +268,7 @@ impl<'a> Watch<'a> {
     /// Hears what was said, and returns what changed. What a member sent from an end that it leaves
     /// stays its own.
     fn take_in(&mut self, heard: &Heard) -> Result<Option<Event>, AllocError>
+        ensures event { IfOk result (λ event. event ≡ event_of self.old.listener.view heard.now) }
         ensures view { OnOk result (self.new.listener.view
             ≡ view_after self.old.listener.view heard.now) }
     {
@@ -302,6 +292,20 @@ impl<'a> Watch<'a> {
     }
 }
 
+/// What a record of the table to begin with says.
+fn said_at_start(alloc: Global, claim: &Claim) -> Result<Said, AllocError>
+    ensures { IfOk result (λ said. said ≡ said_at_start claim.now) }
+{
+    match claim {
+        Claim::Confirm { name, inc } => Ok(Said::Dead {
+            name: MemberName::new(name.try_clone(alloc)?),
+            inc: *inc,
+            from: Some(nobody(alloc)?),
+        }),
+        _ => Ok(Said::of_record(claim.try_clone(alloc)?, false)),
+    }
+}
+
 /// A copy of a name, if there is one.
 fn copied(alloc: Global, name: &Option<Vec<u8>>) -> Result<Option<Vec<u8>>, AllocError> {
     match name {
@@ -311,7 +315,9 @@ fn copied(alloc: Global, name: &Option<Vec<u8>>) -> Result<Option<Vec<u8>>, Allo
 }
 
 /// The name that stands for nobody.
-fn nobody(alloc: Global) -> Result<MemberName, AllocError> {
+fn nobody(alloc: Global) -> Result<MemberName, AllocError>
+    ensures { IfOk result (λ name. name ≡ 45 ∷ []) }
+{
     match Name::copied(alloc, NONE.as_bytes())? {
         Ok(name) => Ok(MemberName::new(name)),
         Err(_) => Err(AllocError),

@@ -1,5 +1,12 @@
 //! What changed between two rosters, with a line for each name.
 
+ghost use Rattle.std.specs.Prelude.{◌≡◌, ◌↔◌, ◌||◌, not, ℕ, List, Some, is_some, IfOk, OnOk};
+ghost use Rattle.std.specs.Prelude.{IsTrue};
+ghost use Rattle.std.specs.BTreeMap.{get};
+ghost use Rattle.std.specs.Option.{option_copied};
+ghost use Rattle.memberlist_view.specs.Rules.{name_cmp};
+ghost use Rattle.swimwatch.specs.Rosters.{differ_about, differs, is_new, is_other_now, said_of};
+
 use crate::text::json::Object;
 use crate::text::names::write_name;
 use crate::text::tags::{Tag, is_bare, is_same_meta, tags_of};
@@ -16,19 +23,62 @@ pub(crate) fn changed(
     alloc: Global,
     before: &Roster,
     after: &Roster,
-) -> Result<BTreeMap<MemberName, ()>, AllocError> {
+) -> Result<BTreeMap<MemberName, ()>, AllocError>
+    ensures { IfOk result (λ names. (name : List ℕ)
+        → is_some (get name_cmp names name) ≡ differ_about before.now after.now name) }
+{
     let mut names = BTreeMap::new(alloc);
+    note_changed(alloc, &mut names, before, after)?;
+    note_new(alloc, &mut names, before, after)?;
+    Ok(names)
+}
+
+/// Notes the names in the first roster about which the two differ.
+fn note_changed(
+    alloc: Global,
+    names: &mut BTreeMap<MemberName, ()>,
+    before: &Roster,
+    after: &Roster,
+) -> Result<(), AllocError>
+    ensures { OnOk result ((name : List ℕ) → is_some (get name_cmp names.new name)
+        ≡ (is_some (get name_cmp names.old name)
+        || is_other_now (said_of before.now name) (said_of after.now name))) }
+{
     for (name, known) in before.iter() {
-        if !after.get(name).is_some_and(|now| now.is_same(known)) {
+        if !is_still_so(known, after.get(name)) {
             names.insert(copy_of(alloc, name)?, ())?;
         }
     }
+    Ok(())
+}
+
+/// Notes the names in the second roster that are not in the first.
+fn note_new(
+    alloc: Global,
+    names: &mut BTreeMap<MemberName, ()>,
+    before: &Roster,
+    after: &Roster,
+) -> Result<(), AllocError>
+    ensures { OnOk result ((name : List ℕ) → is_some (get name_cmp names.new name)
+        ≡ (is_some (get name_cmp names.old name)
+        || is_new (said_of before.now name) (said_of after.now name))) }
+{
     for (name, _) in after.iter() {
         if before.get(name).is_none() {
             names.insert(copy_of(alloc, name)?, ())?;
         }
     }
-    Ok(names)
+    Ok(())
+}
+
+/// Whether what was said is still said.
+fn is_still_so(was: &Known, now: Option<&Known>) -> bool
+    ensures { result ≡ not (differs (Some was.now) (option_copied now.entry)) }
+{
+    match now {
+        Some(now) => now.is_same(was),
+        None => false,
+    }
 }
 
 /// Adds what changed, with a line for each name, such as `web-5 alive 10.20.1.15:7946 -> alive
@@ -37,7 +87,10 @@ pub(crate) fn write_changes(
     text: &mut String,
     before: &Roster,
     after: &Roster,
-) -> Result<bool, AllocError> {
+) -> Result<bool, AllocError>
+    ensures { IfOk result (λ differ. IsTrue differ
+        ↔ ((name : List ℕ) × IsTrue (differ_about before.now after.now name))) }
+{
     let names = changed(*text.allocator(), before, after)?;
     for (name, ()) in names.iter() {
         write_name(text, name.name().bytes())?;
@@ -59,7 +112,10 @@ pub(crate) fn write_change_objects(
     text: &mut String,
     before: &Roster,
     after: &Roster,
-) -> Result<bool, AllocError> {
+) -> Result<bool, AllocError>
+    ensures { IfOk result (λ differ. IsTrue differ
+        ↔ ((name : List ℕ) × IsTrue (differ_about before.now after.now name))) }
+{
     let alloc = *text.allocator();
     let names = changed(alloc, before, after)?;
     for (name, ()) in names.iter() {

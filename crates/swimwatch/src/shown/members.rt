@@ -1,7 +1,10 @@
 //! The members in a view, one per row.
 
+ghost use Rattle.std.specs.Prelude.{◌≡◌, filter, map, IfOk};
+ghost use Rattle.swimwatch.specs.Members.{is_since, member_of};
+
+use crate::shown::deadline::{Deadline, Member};
 use crate::shown::objects::write_member;
-use crate::shown::suspicion::longest;
 use crate::text::columns::{Rows, row_of_words};
 use crate::text::endpoint::endpoint;
 use crate::text::moment::write_moment;
@@ -13,39 +16,10 @@ use crate::text::texts::{
 };
 use crate::view::listener::Listener;
 use crate::view::places::Places;
-use memberlist_view::{Entry, MemberName, State, View};
+use memberlist_view::{Entry, MemberName};
 use serf_view::Intents;
 use std::alloc::{AllocError, Global};
 use swim_claim::Details;
-
-/// What decides which members are shown, and whether a suspicion is overdue.
-#[derive(Clone, Copy)]
-pub(crate) struct Deadline {
-    /// The moment for which the members are shown.
-    pub(crate) now: u64,
-    /// Only members whose state began at this moment or later are shown.
-    pub(crate) from: Option<u64>,
-    /// memberlist's `SuspicionMult`.
-    pub(crate) mult: u64,
-}
-
-impl Deadline {
-    /// Whether a member is shown.
-    fn shows(self, entry: &Entry) -> bool {
-        self.from.is_none_or(|from| from <= entry.since)
-    }
-
-    /// Whether a member was suspected for longer than memberlist suspects one: then its death was
-    /// not heard.
-    pub(crate) fn is_overdue(self, view: &View, entry: &Entry) -> bool {
-        match entry.state {
-            State::Suspect { .. } => {
-                longest(view.len(), self.mult) < self.now.saturating_sub(entry.since)
-            }
-            _ => false,
-        }
-    }
-}
 
 /// The members that a listener knows, and what decides how they are shown.
 #[derive(Clone, Copy)]
@@ -58,7 +32,16 @@ pub(crate) struct Cluster<'a> {
     pub(crate) deadline: Deadline,
 }
 
-impl Cluster<'_> {
+impl<'a> Cluster<'a> {
+    /// The members that are shown, each once, in ascending byte order of their names.
+    fn members(self, alloc: Global) -> Result<Vec<Member<'a>>, AllocError>
+        ensures { IfOk result (λ members. map member_of members.items
+            ≡ filter (λ e. is_since self.entry.deadline.from e.1)
+            self.entry.listener.now.view.entries) }
+    {
+        self.deadline.members(alloc, &self.listener.view)
+    }
+
     /// Whether a member was suspected for too long.
     fn is_overdue(self, entry: &Entry) -> bool {
         self.deadline.is_overdue(&self.listener.view, entry)
@@ -84,11 +67,9 @@ pub(crate) fn write_members(text: &mut String, cluster: Cluster) -> Result<(), A
 
 /// Adds the same as JSON objects, one per line.
 pub(crate) fn write_member_objects(text: &mut String, cluster: Cluster) -> Result<(), AllocError> {
-    for (name, entry) in cluster.listener.view.iter() {
-        if cluster.deadline.shows(entry) {
-            let (state, is_overdue) = (cluster.state(name, entry), cluster.is_overdue(entry));
-            write_member(text, cluster.places, name, entry, state, is_overdue)?;
-        }
+    for Member { name, entry } in cluster.members(*text.allocator())? {
+        let (state, is_overdue) = (cluster.state(name, entry), cluster.is_overdue(entry));
+        write_member(text, cluster.places, name, entry, state, is_overdue)?;
     }
     Ok(())
 }
@@ -138,10 +119,8 @@ fn write_rows(text: &mut String, cluster: Cluster) -> Result<(), AllocError> {
     let has_tags = view.iter().any(|(_, entry)| !is_bare(meta_of(entry)));
     let mut rows = Rows::new(alloc);
     rows.push(head(alloc, has_tags)?)?;
-    for (name, entry) in view.iter() {
-        if cluster.deadline.shows(entry) {
-            rows.push(row_of(alloc, cluster, name, entry, has_tags)?)?;
-        }
+    for Member { name, entry } in cluster.members(alloc)? {
+        rows.push(row_of(alloc, cluster, name, entry, has_tags)?)?;
     }
     rows.write(text)
 }

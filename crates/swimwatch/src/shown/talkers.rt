@@ -1,6 +1,7 @@
 //! What each sender sent, by kind.
 
-ghost use Rattle.std.specs.Prelude.{◌<◌};
+ghost use Rattle.std.specs.Prelude.{◌≡◌, ◌<◌};
+ghost use Rattle.swimwatch.specs.Counted.{kind_of_claim, kind_of_message};
 
 use crate::heard::counts::count;
 use crate::text::columns::Rows;
@@ -52,7 +53,9 @@ const HEADS: [(&str, &str); KINDS] = [
 
 impl Kind {
     /// The kind of a message.
-    pub(crate) fn of_message(message: &Message) -> Kind {
+    pub(crate) fn of_message(message: &Message) -> Kind
+        ensures { result ≡ kind_of_message message.now }
+    {
         match message {
             Message::Ping(_) => Kind::Ping,
             Message::IndirectPing(_) => Kind::IndirectPing,
@@ -65,7 +68,9 @@ impl Kind {
     }
 
     /// The kind of a packet with a claim of this kind.
-    pub(crate) fn of_claim(kind: swim_claim::Kind) -> Kind {
+    pub(crate) fn of_claim(kind: swim_claim::Kind) -> Kind
+        ensures { result ≡ kind_of_claim kind }
+    {
         match kind {
             swim_claim::Kind::Alive => Kind::Alive,
             swim_claim::Kind::Suspect => Kind::Suspect,

@@ -1,5 +1,7 @@
 //! The time of captures that is shown.
 
+ghost use Rattle.std.specs.Prelude.{◌≤◌, not, Decides, IfSome};
+
 use crate::text::moment::When;
 
 /// What the words say about the time that is shown.
@@ -36,12 +38,17 @@ impl Window {
     }
 
     /// Whether what was captured at this time is shown.
-    pub(crate) fn shows(&self, time: u64) -> bool {
+    pub(crate) fn shows(&self, time: u64) -> bool
+        ensures { Decides result (IfSome self.now.from (λ from. from ≤ time)
+            × IfSome self.now.until (λ until. time ≤ until)) }
+    {
         self.from.is_none_or(|from| from <= time) && self.until.is_none_or(|until| time <= until)
     }
 
     /// Whether listening is over at this time.
-    pub(crate) fn is_over(&self, time: u64) -> bool {
+    pub(crate) fn is_over(&self, time: u64) -> bool
+        ensures { Decides (not result) (IfSome self.now.end (λ end. time ≤ end)) }
+    {
         self.end.is_some_and(|end| end < time)
     }
 }

@@ -1,5 +1,7 @@
 //! Which member is at an address.
 
+ghost use Rattle.std.specs.Prelude.{◌≡◌, IfOk};
+
 use crate::text::endpoint::endpoint;
 use memberlist_view::{Entry, MemberName, View};
 use std::alloc::{AllocError, Global};
@@ -84,6 +86,8 @@ pub(crate) fn place_in(entry: &Entry) -> Option<SocketAddr> {
 }
 
 /// A copy of the name.
-pub(crate) fn copy_of(alloc: Global, name: &MemberName) -> Result<MemberName, AllocError> {
+pub(crate) fn copy_of(alloc: Global, name: &MemberName) -> Result<MemberName, AllocError>
+    ensures { IfOk result (λ copy. copy ≡ name.now) }
+{
     Ok(MemberName::new(name.name().try_clone(alloc)?))
 }

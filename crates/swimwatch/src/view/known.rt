@@ -1,6 +1,11 @@
 //! What somebody says about a member.
 
-ghost use Rattle.std.specs.Prelude.{◌≡◌, ◌≢◌};
+ghost use Rattle.std.specs.Prelude.{◌≡◌, ◌≢◌, IfOk};
+ghost use Rattle.std.specs.Option.{option_copied};
+ghost use Rattle.swimwatch.specs.Knowing.{are_apart, as_left, has_state_of, is_same, is_same_details};
+ghost use Rattle.swimwatch.specs.Knowing.{is_still_leaving};
+ghost use Rattle.swimwatch.specs.Knowing.{known_of_entry, known_of_record, lacks_claim, shown_kind};
+ghost use Rattle.swimwatch.specs.Knowing.{with_intent};
 
 use crate::text::json::Object;
 use crate::text::tags::{is_bare, is_same_meta};
@@ -34,39 +39,33 @@ pub(crate) struct Known {
 
 impl Known {
     /// What a view shows of a member that Serf's intents have as leaving, or not.
-    pub(crate) fn of_entry(
-        alloc: Global,
-        entry: &Entry,
-        leaving: bool,
-    ) -> Result<Known, AllocError> {
-        let kind = match kind_of(&entry.state) {
-            Kind::Confirm if leaving => Kind::Leave,
-            kind => kind,
-        };
+    pub(crate) fn of_entry(alloc: Global, entry: &Entry, leaving: bool) -> Result<Known, AllocError>
+        ensures { IfOk result (λ known. known ≡ known_of_entry entry.now leaving) }
+    {
+        let shown = kind_of(&entry.state);
         Ok(Known {
-            kind,
+            kind: with_intent(leaving, shown),
             inc: entry.inc,
-            details: match entry.place() {
-                Some(place) => Some(place.try_clone(alloc)?),
-                None => None,
-            },
+            details: copy_of(alloc, entry.place())?,
             unheard: Unheard {
-                state: matches!(entry.state, State::Noted | State::Seen),
+                state: lacks_claim(&entry.state),
                 tags: entry.details.is_none(),
             },
-            leaving: leaving && kind == Kind::Alive,
+            leaving: is_still_leaving(leaving, shown),
         })
     }
 
     /// What a record of a stream says. Its details are there in any state.
-    pub(crate) fn of_record(alloc: Global, record: StateRecord) -> Result<Known, AllocError> {
-        let claim = record.claim;
+    pub(crate) fn of_record(alloc: Global, said: StateRecord) -> Result<Known, AllocError>
+        ensures { IfOk result (λ known. known ≡ known_of_record said) }
+    {
+        let claim = said.claim;
         Ok(Known {
             kind: claim.kind(),
             inc: claim.inc(),
             details: match claim.details() {
                 Some(details) => Some(details.try_clone(alloc)?),
-                None => record.told,
+                None => said.told,
             },
             unheard: Unheard::default(),
             leaving: false,
@@ -77,6 +76,7 @@ impl Known {
     pub(crate) fn note_left(&mut self)
         ensures dead { self.old.kind ≡ Kind.Confirm → self.new.kind ≡ Kind.Leave }
         ensures other { self.old.kind ≢ Kind.Confirm → self.new ≡ self.old }
+        ensures left { self.new ≡ as_left self.old }
     {
         if self.kind == Kind::Confirm {
             self.kind = Kind::Leave;
@@ -85,7 +85,9 @@ impl Known {
 
     /// Whether both say the same. Details that one of the two lacks are not compared, nor is the order
     /// of tags.
-    pub(crate) fn is_same(&self, other: &Known) -> bool {
+    pub(crate) fn is_same(&self, other: &Known) -> bool
+        ensures { result ≡ is_same self.now other.now }
+    {
         let same_details = match (&self.details, &other.details) {
             (Some(own), Some(others)) => is_same_details(own, others),
             _ => true,
@@ -94,7 +96,9 @@ impl Known {
     }
 
     /// Whether both have the same state and incarnation.
-    fn has_state_of(&self, other: &Known) -> bool {
+    fn has_state_of(&self, other: &Known) -> bool
+        ensures { result ≡ has_state_of self.now other.now }
+    {
         self.kind == other.kind && self.leaving == other.leaving && self.inc == other.inc
     }
 
@@ -116,7 +120,9 @@ impl Known {
     }
 
     /// Whether both report an address and port, and these differ.
-    pub(crate) fn is_elsewhere(&self, other: &Known) -> bool {
+    pub(crate) fn is_elsewhere(&self, other: &Known) -> bool
+        ensures { result ≡ are_apart self.now.details other.now.details }
+    {
         match (&self.details, &other.details) {
             (Some(own), Some(others)) => {
                 own.addr() != others.addr() || own.port() != others.port()
@@ -198,18 +204,59 @@ impl Known {
     }
 }
 
-fn is_same_details(one: &Details, other: &Details) -> bool {
+fn is_same_details(one: &Details, other: &Details) -> bool
+    ensures { result ≡ is_same_details one.now other.now }
+{
     one.addr() == other.addr()
         && one.port() == other.port()
         && one.vsn() == other.vsn()
         && is_same_meta(one.meta(), other.meta())
 }
 
-fn kind_of(state: &State) -> Kind {
+fn kind_of(state: &State) -> Kind
+    ensures { result ≡ shown_kind state.now }
+{
     match state {
         State::Noted | State::Seen | State::Alive => Kind::Alive,
         State::Suspect { .. } => Kind::Suspect,
         State::Dead { .. } => Kind::Confirm,
         State::Left => Kind::Leave,
+    }
+}
+
+/// Serf's rule: a member that said that it leaves, and then is dead, has left.
+fn with_intent(leaving: bool, kind: Kind) -> Kind
+    ensures { result ≡ with_intent leaving kind }
+{
+    match kind {
+        Kind::Confirm if leaving => Kind::Leave,
+        kind => kind,
+    }
+}
+
+/// Whether it is leaving: it said so and is alive.
+fn is_still_leaving(leaving: bool, kind: Kind) -> bool
+    ensures { result ≡ is_still_leaving leaving kind }
+{
+    leaving && kind == Kind::Alive
+}
+
+/// Whether no claim about its state was heard.
+fn lacks_claim(state: &State) -> bool
+    ensures { result ≡ lacks_claim state.now }
+{
+    match state {
+        State::Noted | State::Seen => true,
+        State::Alive | State::Suspect { .. } | State::Dead { .. } | State::Left => false,
+    }
+}
+
+/// A copy, or none.
+fn copy_of(alloc: Global, details: Option<&Details>) -> Result<Option<Details>, AllocError>
+    ensures { IfOk result (λ copy. copy ≡ option_copied details.entry) }
+{
+    match details {
+        Some(details) => Ok(Some(details.try_clone(alloc)?)),
+        None => Ok(None),
     }
 }

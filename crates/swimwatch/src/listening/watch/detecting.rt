@@ -308,7 +308,9 @@ impl<'a> Watch<'a> {
     }
 
     /// Shows what became of the probes of each prober.
-    pub(super) fn show_probes(&mut self) -> Result<(), AllocError> {
+    pub(super) fn show_probes(&mut self) -> Result<(), AllocError>
+        ensures { self.new.listener ≡ self.old.listener }
+    {
         self.take_probes(true)?;
         let Some(detector) = &self.detector else {
             return Ok(());
@@ -325,7 +327,9 @@ impl<'a> Watch<'a> {
     }
 
     /// Shows how healthy each member is.
-    pub(super) fn show_health(&mut self) -> Result<(), AllocError> {
+    pub(super) fn show_health(&mut self) -> Result<(), AllocError>
+        ensures { self.new.listener ≡ self.old.listener }
+    {
         self.take_probes(true)?;
         let Some(detector) = &self.detector else {
             return Ok(());
@@ -339,7 +343,9 @@ impl<'a> Watch<'a> {
     }
 
     /// Tells what is left to tell of suspicions, and what the logs of agents say beside it.
-    pub(super) fn show_causes(&mut self) -> Result<(), AllocError> {
+    pub(super) fn show_causes(&mut self) -> Result<(), AllocError>
+        ensures { self.new.listener ≡ self.old.listener }
+    {
         self.take_probes(true)?;
         if self.json {
             write_log_objects(self.alloc, &mut self.out, &self.logs)

@@ -55,7 +55,9 @@ impl<'a> Watch<'a> {
     }
 
     /// Shows the round trips between members.
-    pub(super) fn show_distances(&mut self) -> Result<(), AllocError> {
+    pub(super) fn show_distances(&mut self) -> Result<(), AllocError>
+        ensures { self.new.listener ≡ self.old.listener }
+    {
         let Some(distances) = &self.distances else {
             return Ok(());
         };

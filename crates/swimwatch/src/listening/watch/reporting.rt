@@ -4,7 +4,8 @@ ghost use Rattle.std.specs.Prelude.{◌≡◌};
 
 use super::Watch;
 use crate::heard::sent::Sent;
-use crate::shown::members::{Deadline, write_member_objects};
+use crate::shown::deadline::Deadline;
+use crate::shown::members::write_member_objects;
 use crate::shown::report::Report;
 use crate::text::json::Object;
 use crate::text::texts::moment_text;
@@ -33,7 +34,9 @@ impl<'a> Watch<'a> {
     }
 
     /// Writes the report. It has all members, also those whose state began before `--from`.
-    pub(super) fn write_report(&mut self, deadline: Deadline) -> Result<(), AllocError> {
+    pub(super) fn write_report(&mut self, deadline: Deadline) -> Result<(), AllocError>
+        ensures { self.new.listener ≡ self.old.listener }
+    {
         self.take_probes(true)?;
         let mut picture = String::new(self.alloc);
         self.chart.write(&mut picture)?;

@@ -1,13 +1,15 @@
 //! Showing what was asked for.
 
-ghost use Rattle.std.specs.Prelude.{◌≡◌};
+ghost use Rattle.std.specs.Prelude.{◌≡◌, false, Decides, IfOk, IfSome};
+ghost use Rattle.swim_table.specs.Dump.{dump_bytes};
 
 use super::{News, Occurrence, Watch};
 use crate::arguments::chosen::Verb;
 use crate::heard::sent::Sent;
 use crate::heard::told::Told;
 use crate::shown::claims::write_claim;
-use crate::shown::members::{Cluster, Deadline, write_member_objects, write_members};
+use crate::shown::deadline::Deadline;
+use crate::shown::members::{Cluster, write_member_objects, write_members};
 use crate::shown::objects::{write_change, write_told, write_warned};
 use crate::shown::timeline::{write_event, write_warning};
 use crate::text::names::write_name;
@@ -222,7 +224,9 @@ impl<'a> Watch<'a> {
     }
 
     /// Whether to show what is said about the member with this name.
-    pub(super) fn is_shown(&self, name: &[u8]) -> bool {
+    pub(super) fn is_shown(&self, name: &[u8]) -> bool
+        ensures { Decides result (IfSome self.entry.now.member (λ only. only.items ≡ name.now)) }
+    {
         match &self.member {
             Some(only) => only.as_slice() == name,
             None => true,
@@ -242,7 +246,9 @@ impl<'a> Watch<'a> {
     }
 
     /// Shows what is shown only at the end.
-    pub(crate) fn finish(&mut self) -> Result<(), AllocError> {
+    pub(crate) fn finish(&mut self) -> Result<(), AllocError>
+        ensures { self.new.listener ≡ self.old.listener }
+    {
         let deadline = Deadline {
             now: self.window.until.unwrap_or(self.now),
             from: self.window.from,
@@ -264,7 +270,9 @@ impl<'a> Watch<'a> {
     }
 
     /// Shows the members.
-    fn show_members(&mut self, deadline: Deadline) -> Result<(), AllocError> {
+    fn show_members(&mut self, deadline: Deadline) -> Result<(), AllocError>
+        ensures { self.new.listener ≡ self.old.listener }
+    {
         let mut text = String::new(self.alloc);
         if self.json {
             write_member_objects(&mut text, self.cluster(deadline))?;
@@ -290,7 +298,9 @@ impl<'a> Watch<'a> {
     }
 
     /// The canonical dump of the table of all claims.
-    pub(crate) fn dump(&self) -> Result<Vec<u8>, EncodeFault> {
+    pub(crate) fn dump(&self) -> Result<Vec<u8>, EncodeFault>
+        ensures { IfOk result (λ bytes. bytes.items ≡ dump_bytes self.entry.now.table false) }
+    {
         encode(self.alloc, &self.table, false)
     }
 }

@@ -60,7 +60,9 @@ impl<'a> Watch<'a> {
     }
 
     /// Shows how news spread.
-    pub(super) fn show_spread(&mut self) -> Result<(), AllocError> {
+    pub(super) fn show_spread(&mut self) -> Result<(), AllocError>
+        ensures { self.new.listener ≡ self.old.listener }
+    {
         let Some(spread) = &mut self.spread else {
             return Ok(());
         };

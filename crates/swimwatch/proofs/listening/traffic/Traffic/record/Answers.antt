@@ -1,27 +1,48 @@
-use Rattle.std.proofs.Common.{◌≡◌, Some, refl, rules}
+use Rattle.std.proofs.Common.{◌≡◌, ◌≤◌, ◌/◌, Some, None, IfSome, refl, rules}
 use Rattle.capture.specs.Packets.{carried_text, link_of}
-use Rattle.swimwatch.specs.Shown.{HearsRecord as records}
+use Rattle.swimwatch.specs.Filtered.{choice_of}
+use Rattle.swimwatch.specs.Shown.{HasNoFrame as none, HearsFrame, HearsRecord as records}
+use Rattle.std.proofs.Math.Path.{subst}
 use Rattle.swimwatch.proofs.Flowing.{on_ok}
 use Rattle.swimwatch.proofs.listening.traffic.Traffic.record.Goals as goal
 
 pub returns-in_default : goal.returns-in_default
-returns-in_default c all of = (all, of, records.nothing refl refl)
+returns-in_default c all past of kept =
+    (all, past, of, kept, records.nothing (none.timeless c.in_default.is) refl refl refl)
 
-pub returns-then-is_some_and : goal.returns-then-is_some_and
-returns-then-is_some_and c all of = (all, of, records.nothing refl refl)
+pub returns-then-not-is_timely : goal.returns-then-not-is_timely
+returns-then-not-is_timely c all past of kept =
+    let late : ¬ IfSome c.args.filter.until (λ until. c.in-Some.nanos / 1000 ≤ until) =
+    λ timely. absurd (cc (c.if-not-is_timely.true, c.is_timely.ensures.1 timely)) in
+    (all, past, of, kept, records.nothing (none.later c.in-Some.nanos c.in-Some.is late) refl refl refl)
 
 pub returns-in_default-from_number : goal.returns-in_default-from_number
-returns-in_default-from_number c all of = (all, of, records.nothing refl refl)
+returns-in_default-from_number c all past of kept =
+    let unknown : link_of c.args.record.link ≡ None = search rules in
+    (all, past, of, kept, records.nothing (none.unknown_link unknown) refl refl refl)
 
 pub returns-in-Err : goal.returns-in-Err
-returns-in-Err c all of = (all, of, records.nothing refl refl)
+returns-in-Err c all past of kept =
+    let link : link_of c.args.record.link ≡ Some c.in-Some-from_number.link = search rules in (
+      all,
+      past,
+      of,
+      kept,
+      records.nothing (none.carries_none c.in-Some-from_number.link c.in-Err.cause link c.in-Err.ensures.err) refl refl refl,
+    )
 
 pub returns-in-Ok : goal.returns-in-Ok
-returns-in-Ok c all of =
+returns-in-Ok c all past of kept =
     let link : link_of c.args.record.link ≡ Some c.in-Some-from_number.link = search rules in
+    let timely : IfSome c.args.filter.until (λ until. c.in-Some.nanos / 1000 ≤ until) = search rules in
     on_ok c.content.result (λ h. (
       h.0,
       h.1,
-      records.frame c.in-Some.nanos c.in-Some-from_number.link
-          (carried_text c.in-Ok.content) c.in-Some.is link c.in-Ok.ensures.ok h.2,
-    )) (c.content.ensures all of)
+      h.2,
+      h.3,
+      records.frame c.in-Some.nanos c.in-Some-from_number.link (carried_text c.in-Ok.content) c.in-Some.is timely link
+          c.in-Ok.ensures.ok
+          (subst (λ w. HearsFrame (choice_of c.args.filter) w (c.in-Some.nanos / 1000) (carried_text c.in-Ok.content) all past
+          c.args.watch.now.listener.view h.0 h.1 c.content.new.watch.listener.view) c.of-way.ensures h.4),
+    ))
+    (c.content.ensures all past of kept)

@@ -1,0 +1,19 @@
+use Rattle.std.proofs.Common.{◌≡◌, [], sym, ap₂, ◌∙◌}
+use Rattle.std.proofs.Math.Path.{subst}
+use Rattle.capture.specs.Captured.{AreFlowsOf}
+use Rattle.swimwatch.specs.Viewed.{HearsCaptures, begin_with, choice_in, first_view}
+use Rattle.swimwatch.proofs.listening.seat.Seat.new.Goals as goal
+
+pub returns : goal.returns
+returns c =
+    let s = choice_in c.args.setting in
+    let first = first_view c.args.setting in
+    let view = c.begin_with.new.self.listener.view in
+    let same : view ≡ first = c.in_ok-begin_with.ensures
+    ∙ ap₂ (λ w v. begin_with w.begun v c.args.setting.start.now) c.in_ok-watch.ensures.window c.in_ok-watch.ensures.view in (
+      [],
+      [],
+      subst (λ v. HearsCaptures s first [] [] [] v) (sym same) HearsCaptures.none,
+      subst (AreFlowsOf []) (sym c.new-2.ensures.flows) (λ ends. tt),
+      c.new-2.ensures.recent,
+    )
