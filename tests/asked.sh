@@ -74,8 +74,10 @@ check 'a silence is told once'
 # ---- random bytes
 
 # Each byte of twelve is another in one of six requests, but for one time in 10^10.
+answer encrypted > sealed.bin
+member closes sealed.bin
 for number in 1 2 3 4 5 6; do
-    "$program" pull --key-file examples/encrypted.key "127.0.0.1:$sealed" > out 2> err
+    "$program" pull --key-file examples/encrypted.key "127.0.0.1:$port" > out 2> err
     cp asked "asked.$number"
 done
 python3 - > found <<'NONCES'
@@ -86,7 +88,7 @@ echo True True True True True True True True True True True True > wanted
 check 'each byte of a nonce is drawn'
 if command -v cc > /dev/null && cc -std=c99 -O2 -o no_random "$here/c/no_random.c"; then
     rm -f asked
-    ./no_random "$program" pull --key-file examples/encrypted.key "127.0.0.1:$sealed" > out 2> err
+    ./no_random "$program" pull --key-file examples/encrypted.key "127.0.0.1:$port" > out 2> err
     status=$?
     refuses 'a system without random bytes' 4 'swimwatch: cannot read random bytes from the system'
     count 'and nothing is sent' "$([ ! -e asked ] || echo "; $(xxd -p asked)")"

@@ -365,20 +365,20 @@ while at < len(data):
 record = struct.pack("<IIII", seconds + 1, 0, len(forged), len(forged))
 open(sys.argv[2], "wb").write(data + record + forged)
 END
-sealed='--key-file captures/sealed/keys'
+with_keys='--key-file captures/sealed/keys'
 # shellcheck disable=SC2086
-"$program" members $sealed captures/sealed/db-1.pcap > wanted 2> err
+"$program" members $with_keys captures/sealed/db-1.pcap > wanted 2> err
 # shellcheck disable=SC2086
-"$program" members $sealed forged.pcap > found 2> err
+"$program" members $with_keys forged.pcap > found 2> err
 check 'a forged death in the clear is not believed'
 grep -q "1 not encrypted, the first from $(cat forger), and not believed" err
 count 'and its sender is named' "$([ $? -eq 0 ] || echo "; $(tail -n 1 err)")"
 # shellcheck disable=SC2086
-"$program" members $sealed --accept-clear forged.pcap 2> err | awk '$1 == "db-1" { print $1, $3, $4, $6 }' > found
+"$program" members $with_keys --accept-clear forged.pcap 2> err | awk '$1 == "db-1" { print $1, $3, $4, $6 }' > found
 echo 'db-1 dead 9 db-2' > wanted
 check 'what is in the clear is believed with --accept-clear'
 # shellcheck disable=SC2086
-"$program" timeline $sealed forged.pcap 2> err | grep -c ' db-1 dead ' > found
+"$program" timeline $with_keys forged.pcap 2> err | grep -c ' db-1 dead ' > found
 echo 0 > wanted
 check 'a forged death is no event'
 
