@@ -14,7 +14,7 @@ pub mod NumberBytes
 pub mod Prompting
 pub mod PcapText
 pub mod Whole
-mod SameEnds
+pub mod SameEnds
 pub mod Inverting
 pub mod Ending
 pub mod PcapRead

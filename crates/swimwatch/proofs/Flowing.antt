@@ -1,60 +1,28 @@
--- Streams of flows that are heard one after the other.
+-- What is heard from frames.
 use Rattle.std.proofs.Common.{◌≡◌, ℕ, Bool, List, [], ◌∷◌, ◌++◌, Option, Some, None, IfSome, Result, Ok, Err, OnOk, true, refl, sym, ap₂, ◌∙◌}
 use Rattle.std.proofs.Math.Path.{subst}
 use Rattle.std.specs.Option.{option_map}
 use Rattle.std.specs.declared.net.socket_addr.SocketAddr.{SocketAddr}
 use Rattle.capture.specs.declared.ends.Ends.{Ends}
 use Rattle.capture.specs.Captured.{Captured, IsFlowOf, IsPairOf}
-use Rattle.capture.specs.Captured.AreSome.{passed_over}
 use Rattle.capture.specs.Flows.{FlowText}
 use Rattle.capture.specs.FlowTexts.{PairText}
 use Rattle.capture.specs.Packets.{CarriedText, TcpText, TransportText, UdpText}
 use Rattle.capture.specs.Packets.TransportText.{udp, tcp}
-use Rattle.memberlist_transport.specs.declared.in_the_clear.InTheClear.{InTheClear}
-use Rattle.memberlist_view.specs.Told.{ViewValue}
 use Rattle.swimwatch.specs.declared.heard.recent.Way.{Way}
 use Rattle.swimwatch.specs.declared.listening.parcel.Parcel.{Parcel}
 use Rattle.swimwatch.specs.Filtered.{Choice, IsLeftOut, IsParcelOf, takes}
-use Rattle.swimwatch.specs.Shown.{HearsFlows, HearsFrame, HearsFrame as frames}
-use Rattle.swimwatch.specs.Shown.HearsFlows.{nothing, stream}
-use Rattle.swimwatch.specs.Views.{HearsStream}
+use Rattle.swimwatch.specs.Connected.{Past}
+use Rattle.swimwatch.specs.Shown.{HearsFrame, HearsFrame as frames}
 use Rattle.swimwatch.specs.Places.{IsPlace}
 use Rattle.swimwatch.specs.Ways.{IsPacketOf, PacketText, packet_of}
 
-module _ (clear : InTheClear) (keys : List (List ℕ)) where
-  -- a view that stays
-  pub stays : (all : List Captured) (old new : ViewValue) → new ≡ old → HearsFlows clear keys all old new
-  stays all old new same = subst (λ v. HearsFlows clear keys all old v) (sym same) (nothing old)
-
-  -- one stream
-  pub heard : (all : List Captured) (ends : Ends) (flow : FlowText) (bytes : List ℕ) (time : ℕ) (whole : Bool)
-      (old new : ViewValue) → bytes ≡ flow.text → IsFlowOf all ends flow
-      → HearsStream clear keys bytes time whole old new → HearsFlows clear keys all old new
-  heard all ends flow bytes time whole old new same of hears =
-      stream old old new ends flow time whole (nothing old) of
-      (subst (λ b. HearsStream clear keys b time whole old new) same hears)
-
-  -- some after others
-  pub after : (all : List Captured) (old mid new : ViewValue) → HearsFlows clear keys all old mid
-      → HearsFlows clear keys all mid new → HearsFlows clear keys all old new
-  after all old mid _ first (nothing _) = first
-  after all old mid new first (stream _ between _ ends flow time whole then of hears) =
-      stream old between new ends flow time whole (after all old mid between first then) of hears
-
-  -- with one more segment
-  pub later : (all : List Captured) (c : Captured) (old new : ViewValue) → HearsFlows clear keys all old new
-      → HearsFlows clear keys (all ++ c ∷ []) old new
-  later all c old _ (nothing _) = nothing old
-  later all c old new (stream _ mid _ ends flow time whole then of hears) =
-      stream old mid new ends flow time whole (later all c old mid then)
-      (of.0, passed_over all of.0 c of.1, of.2) hears
-
 -- ---- nothing is heard from a frame
 
-pub left_out : (s : Choice) (way : Way) (time : ℕ) (c : CarriedText) (all : List Captured) (past : List PacketText)
-    (old new : ViewValue) → new ≡ old → IsLeftOut s.ports c → HearsFrame s way time c all past old all past new
-left_out s way time c all past old new same why =
-    subst (λ v. HearsFrame s way time c all past old all past v) (sym same) (frames.left_out why)
+pub left_out : (s : Choice) (way : Way) (time : ℕ) (c : CarriedText) (old new : Past) → new ≡ old → IsLeftOut s.ports c
+    → HearsFrame s way time c old new
+left_out s way time c old new same why =
+    subst (λ p. HearsFrame s way time c old p) (sym same) (frames.left_out why)
 
 -- ---- the packet in a frame
 
@@ -94,6 +62,10 @@ of_some P o x is has = subst (λ v. IfSome v P) is has
 pub on_ok : {T E P Q : Type 0} (r : Result T E) → (P → Q) → OnOk r P → OnOk r Q
 on_ok (Ok x) f p = f p
 on_ok (Err e) f p = tt
+
+pub both_ok : {T E : Type 0} (P Q : Type 0) (r : Result T E) → OnOk r P → OnOk r Q → OnOk r (P × Q)
+both_ok P Q (Ok x) p q = (p, q)
+both_ok P Q (Err e) p q = tt
 
 -- an open flow
 pub of_open : (all : List Captured) (ends : Ends) (o : Option PairText) (flow : FlowText)

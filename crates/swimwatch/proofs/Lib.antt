@@ -1,5 +1,6 @@
 mod Authentic
 mod ClearClaims
+mod Connecting
 mod Flowing
 mod Saying
 mod Seats

@@ -1,5 +1,5 @@
 -- What a view hears is said in the records of captures.
-use Rattle.std.proofs.Common.{◌≡◌, ℕ, ◌/◌, Bool, true, false, List, [], ◌∷◌, ◌++◌, inl, inr, Contains, Some, Ok, refl, sym, arith}
+use Rattle.std.proofs.Common.{◌≡◌, ℕ, ◌/◌, Bool, true, false, List, [], ◌∷◌, ◌++◌, inl, inr, Contains, Option, None, Some, Ok, refl, sym, ap, arith}
 use Rattle.std.proofs.Math.Path.{subst}
 use Rattle.std.proofs.lemmas.List.Elements.{Contains-append_right}
 use Rattle.std.specs.Prelude.{MatchBool}
@@ -9,8 +9,11 @@ use Rattle.swim_wire.specs.Packet.{PacketValue}
 use Rattle.swim_wire.specs.declared.state_record.StateRecord.{StateRecord}
 use Rattle.capture.specs.declared.link.Link.{Link}
 use Rattle.capture.specs.declared.record.Record.{Record}
-use Rattle.capture.specs.Captured.{Captured}
-use Rattle.capture.specs.Packets.{CarriedText, TransportText, UdpText, carried_of, link_of}
+use Rattle.capture.specs.declared.ends.Ends.{Ends}
+use Rattle.capture.specs.Captured.{Captured, captured, IsFlowOf}
+use Rattle.capture.specs.Captured.AreSome.{passed_over}
+use Rattle.capture.specs.Flows.{FlowText}
+use Rattle.capture.specs.Packets.{CarriedText, TcpText, TransportText, UdpText, carried_of, link_of}
 use Rattle.capture.specs.Pcap.{RecordText}
 use Rattle.memberlist_message.specs.declared.message.Message.{Message}
 use Rattle.memberlist_view.specs.declared.heard.Heard.{Heard}
@@ -21,11 +24,11 @@ use Rattle.swimwatch.specs.declared.listening.seat.Seat.{Seat}
 use Rattle.swimwatch.specs.Filtered.{Choice}
 use Rattle.swimwatch.specs.Records.{claims_in}
 use Rattle.swimwatch.specs.Said.{IsAfter, IsAfter as steps, SaysMessage, SaidInMessages, SaidInClaims, SaidInFlow, IsSaid, AreSaid, AreSaidAtEnd}
-use Rattle.swimwatch.specs.Shown.{HearsFlows, HearsFrame, HearsRecord}
+use Rattle.swimwatch.specs.Connected.{Direction, Past, HearsAny, HearsFlow, HearsSegment, MovesOn, TakesSegment, past_of}
+use Rattle.swimwatch.specs.Shown.{HearsFrame, HearsRecord, with_packet}
 use Rattle.swimwatch.specs.Told.{packet_told, record_told, heard_of}
 use Rattle.swimwatch.specs.Viewed.{HearsCaptures, HasEnded}
 use Rattle.swimwatch.specs.Views.{HearsDatagram, HearsMessage, HearsMessages, HearsRecords, HearsStream, MaySee, is_warning}
-use Rattle.swimwatch.specs.Ways.{PacketText}
 
 -- ---- things that are heard
 
@@ -88,14 +91,55 @@ module _ (time : ℕ) (all : List Message) where
       (claims all_claims later (view_after old h) new (λ x is. among x (Contains-append_right (c ∷ []) later x is)) then)
 
 module _ (s : Choice) where
-  flows : (all : List Captured) (old new : ViewValue) → HearsFlows s.clear s.keys all old new → IsAfter (SaidInFlow s all) old new
-  flows all old _ (HearsFlows.nothing _) = steps.none
-  flows all old new (HearsFlows.stream _ mid _ ends flow time true then of (records, are, understood, hears)) =
-      chain _ old mid new (flows all old mid then)
-      (wider _ _ (λ h said. (ends, flow, time, records, of, are, said)) mid new
-      (claims time [] (claims_in records) (claims_in records) mid new (λ c is. is) hears))
-  flows all old new (HearsFlows.stream _ mid _ ends flow time false then of (none, same)) =
-      chain _ old mid new (flows all old mid then) (stays _ mid new same)
+  streams : (segments : List Captured) (ends : Ends) (f : FlowText) (time : ℕ) (whole : Bool) (old new : ViewValue)
+      → IsFlowOf segments ends f → HearsStream s.clear s.keys f.text time whole old new → IsAfter (SaidInFlow s segments) old new
+  streams segments ends f time true old new of (records, are, understood, hears) =
+      wider _ _ (λ h said. (ends, f, time, records, of, are, said)) old new
+      (claims time [] (claims_in records) (claims_in records) old new (λ c is. is) hears)
+  streams segments ends f time false old new of (none, same) = stays _ old new same
+
+  -- ---- streams of flows
+
+  flow : (segments : List Captured) (read : List Direction) (ends : Ends) (f : FlowText) (old new : ViewValue)
+      → HearsFlow s.clear s.keys segments read ends f old new → IsAfter (SaidInFlow s segments) old new
+  flow segments read ends f old new (HearsFlow.empty none same) = stays _ old new same
+  flow segments read ends f old new (HearsFlow.before was same) = stays _ old new same
+  flow segments read ends f old new (HearsFlow.stream time whole of hears) = streams segments ends f time whole old new of hears
+
+  any : (segments : List Captured) (read : List Direction) (ends : Ends) (o : Option FlowText) (old new : ViewValue)
+      → HearsAny s.clear s.keys segments read ends o old new → IsAfter (SaidInFlow s segments) old new
+  any segments read ends None old new same = stays _ old new same
+  any segments read ends (Some f) old new hears = flow segments read ends f old new hears
+
+  kept : (old new : Past) → MovesOn s.clear s.keys old new → new.segments ≡ old.segments
+  kept old _ MovesOn.nothing = refl
+  kept old _ (MovesOn.closes p ends pair flows mid view before is gone others older newer) = kept old p before
+  kept old _ (MovesOn.reads p ends pair time view before is of hears) = kept old p before
+
+  moves : (old new : Past) → MovesOn s.clear s.keys old new → IsAfter (SaidInFlow s new.segments) old.view new.view
+  moves old _ MovesOn.nothing = steps.none
+  moves old _ (MovesOn.closes p ends pair flows mid view before is gone others older newer) =
+      chain _ old.view mid view (chain _ old.view p.view mid (moves old p before)
+      (flow p.segments p.read ends pair.older.flow p.view mid older)) (any p.segments p.read ends _ mid view newer)
+  moves old _ (MovesOn.reads p ends pair time view before is of hears) =
+      chain _ old.view p.view view (moves old p before)
+      (streams p.segments ends pair.older.flow time true p.view view of hears)
+
+  later : (segments : List Captured) (c : Captured) (h : Heard) → SaidInFlow s segments h → SaidInFlow s (segments ++ c ∷ []) h
+  later segments c h (ends, f, time, records, of, are, said) =
+      (ends, f, time, records, (of.0, passed_over segments of.0 c of.1, of.2), are, said)
+
+  segment : (ends : Ends) (t : TcpText) (old new : Past) → HearsSegment s.clear s.keys ends t old new
+      → IsAfter (SaidInFlow s new.segments) old.view new.view
+  segment ends t old new (before, _, first, TakesSegment.takes flows taken replaced complete mid view puts others older newer, last) =
+      let now = before.segments ++ captured ends t ∷ [] in
+      let same = kept (past_of now before.packets before.read flows view) new last in
+      chain _ old.view view new.view
+      (subst (λ all. IsAfter (SaidInFlow s all) old.view view) (sym same)
+      (chain _ old.view mid view (chain _ old.view before.view mid
+      (wider _ _ (later before.segments (captured ends t)) old.view before.view (moves old before first))
+      (any now before.read ends replaced before.view mid older)) (any now before.read ends complete mid view newer)))
+      (moves (past_of now before.packets before.read flows view) new last)
 
   -- ---- records of captures
 
@@ -109,32 +153,34 @@ module _ (s : Choice) where
   datagram r bytes nanos link c d now old new time linked carries is (HearsDatagram.nothing of none same) = stays _ old new same
   datagram r bytes nanos link c d now old new time linked carries is (HearsDatagram.elsewhere other same) = stays _ old new same
 
-  frame : (r : Record) (bytes : List ℕ) (nanos : ℕ) (link : Link) (c : CarriedText) (way : Way) (all : List Captured)
-      (past : List PacketText) (old : ViewValue) (now : List Captured) (seen : List PacketText) (new : ViewValue)
+  frame : (r : Record) (bytes : List ℕ) (nanos : ℕ) (link : Link) (c : CarriedText) (way : Way) (old new : Past)
       → r.time ≡ Some nanos → link_of r.link ≡ Some link → carried_of link bytes ≡ Ok c
-      → HearsFrame s way (nanos / 1000) c all past old now seen new → IsAfter (IsSaid s r bytes now) old new
-  frame r bytes nanos link c way all past old _ _ _ time linked carries (HearsFrame.left_out why) = steps.none
-  frame r bytes nanos link c way all past old _ _ _ time linked carries (HearsFrame.passed_over p is before) = steps.none
-  frame r bytes nanos link c way all past old _ _ new time linked carries (HearsFrame.datagram p d _ is taken of hears) =
-      datagram r bytes nanos link c d all old new time linked carries of hears
-  frame r bytes nanos link c way all past old now _ new time linked carries (HearsFrame.segment p t ends _ is taken of are hears) =
-      wider _ _ (λ h said. IsSaid.stream said) old new (flows now old new hears)
+      → HearsFrame s way (nanos / 1000) c old new → IsAfter (IsSaid s r bytes new.segments) old.view new.view
+  frame r bytes nanos link c way old _ time linked carries (HearsFrame.left_out why) = steps.none
+  frame r bytes nanos link c way old _ time linked carries (HearsFrame.passed_over p is before) = steps.none
+  frame r bytes nanos link c way old _ time linked carries (HearsFrame.datagram p d view is taken of hears) =
+      datagram r bytes nanos link c d old.segments old.view view time linked carries of hears
+  frame r bytes nanos link c way old new time linked carries (HearsFrame.segment p t ends _ is taken of are hears) =
+      wider _ _ (λ h said. IsSaid.stream said) old.view new.view (segment ends t (with_packet old p old.view) new hears)
 
-  record_said : (r : Record) (bytes : List ℕ) (all : List Captured) (past : List PacketText) (old : ViewValue)
-      (now : List Captured) (seen : List PacketText) (new : ViewValue) → HearsRecord s r bytes all past old now seen new
-      → IsAfter (IsSaid s r bytes now) old new
-  record_said r bytes all past old now seen new (HearsRecord.nothing why same kept stayed) = stays _ old new stayed
-  record_said r bytes all past old now seen new (HearsRecord.frame nanos link c time timely linked carries hears) =
-      frame r bytes nanos link c _ all past old now seen new time linked carries hears
+  record_said : (r : Record) (bytes : List ℕ) (old new : Past) → HearsRecord s r bytes old new
+      → IsAfter (IsSaid s r bytes new.segments) old.view new.view
+  record_said r bytes old new (HearsRecord.nothing why same) = stays _ old.view new.view (ap (λ p. p.view) same)
+  record_said r bytes old new (HearsRecord.frame nanos link c time timely linked carries hears) =
+      frame r bytes nanos link c _ old new time linked carries hears
 
-  pub captures : (first : ViewValue) (records : List RecordText) (all : List Captured) (past : List PacketText)
-      (view : ViewValue) → HearsCaptures s first records all past view → AreSaid s first records all view
-  captures first _ _ _ _ HearsCaptures.none = AreSaid.none
-  captures first _ _ _ _ (HearsCaptures.one_more records all past old r bytes now seen new before hears) =
-      AreSaid.one_more records all now old new r bytes (captures first records all past old before)
-      (record_said r bytes all past old now seen new hears)
+  pub captures : (first : ViewValue) (records : List RecordText) (past : Past) → HearsCaptures s first records past
+      → AreSaid s first records past.segments past.view
+  captures first _ _ HearsCaptures.none = AreSaid.none
+  captures first _ _ (HearsCaptures.one_more records old r bytes new before hears) =
+      AreSaid.one_more records old.segments new.segments old.view new.view r bytes (captures first records old before)
+      (record_said r bytes old new hears)
 
   pub ended : (first : ViewValue) (records : List RecordText) (seat : Seat) → HasEnded s first records seat
       → AreSaidAtEnd s first records seat.watch.listener.view
-  ended first records seat (all, past, last, hears, left) =
-      (all, last, captures first records all past last hears, flows all last seat.watch.listener.view left)
+  ended first records seat (last, end, hears, left, none, view) = (
+    end.segments,
+    last.view,
+    subst (λ all. AreSaid s first records all last.view) (sym (kept last end left)) (captures first records last hears),
+    subst (λ v. IsAfter (SaidInFlow s end.segments) last.view v) view (moves last end left),
+  )

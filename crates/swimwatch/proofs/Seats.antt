@@ -5,9 +5,9 @@ use Rattle.capture.specs.Pcap.{RecordText}
 use Rattle.memberlist_view.specs.Told.{ViewValue}
 use Rattle.swimwatch.specs.declared.listening.seat.Seat.{Seat}
 use Rattle.swimwatch.specs.Filtered.{Choice}
-use Rattle.capture.specs.Captured.{AreFlowsOf}
+use Rattle.capture.specs.OpenFlows.{OpenFlows}
 use Rattle.swimwatch.specs.Seated.{AreAlike, EachHas, EachEnded, HasView, at_least_one, put}
-use Rattle.swimwatch.specs.Shown.{HearsFlows}
+use Rattle.swimwatch.specs.Connected.{Follows, past_of}
 use Rattle.swimwatch.specs.Viewed.{HasHeard, HasEnded, HearsCaptures}
 use Rattle.swimwatch.specs.Ways.{AreKept}
 
@@ -129,12 +129,15 @@ alike_one (x ∷ seats) (suc view) d new below same traffic =
 module _ (s : Choice) (first : ViewValue) where
   has_alike : (records : List RecordText) (old new : Seat) → new.watch.listener.view ≡ old.watch.listener.view
       → new.traffic ≡ old.traffic → HasHeard s first records old → HasHeard s first records new
-  has_alike records old new same traffic (all, past, hears, flows, kept) = (
-    all,
-    past,
-    subst (HearsCaptures s first records all past) (sym same) hears,
-    subst (λ t. AreFlowsOf all t.connections.flows) (sym traffic) flows,
-    subst (λ t. AreKept past t.recent) (sym traffic) kept,
+  has_alike records old new same traffic (segments, packets, read, hears, follows, kept) = (
+    segments,
+    packets,
+    read,
+    subst (λ v. HearsCaptures s first records (past_of segments packets read new.traffic.connections.flows v)) (sym same)
+        (subst (λ t. HearsCaptures s first records
+        (past_of segments packets read t.connections.flows old.watch.listener.view)) (sym traffic) hears),
+    subst (λ t. Follows segments read t.connections) (sym traffic) follows,
+    subst (λ t. AreKept packets t.recent) (sym traffic) kept,
   )
 
   pub each_alike : (heard : List (List RecordText)) (old new : List Seat) → AreAlike old new → EachHas s first heard old
@@ -154,7 +157,15 @@ module _ (s : Choice) (first : ViewValue) where
   ended_alike [] (x ∷ old) new alike each = absurd each
   ended_alike (records ∷ heard) [] new alike each = absurd each
   ended_alike (records ∷ heard) (x ∷ old) [] alike each = absurd alike
-  ended_alike (records ∷ heard) (x ∷ old) (y ∷ new) (same, traffic, alike) ((all, past, last, hears, flows), each) = (
-    (all, past, last, hears, subst (HearsFlows s.clear s.keys all last) (sym same) flows),
+  ended_alike (records ∷ heard) (x ∷ old) (y ∷ new) (same, traffic, alike) ((last, end, hears, moves, none, view), each) = (
+    (last, end, hears, moves, none, view ∙ sym same),
     ended_alike heard old new alike each,
   )
+
+-- ---- the first record comes
+
+pub captures_begin : (s : Choice) (first : ViewValue) (flows : OpenFlows) (view : ViewValue) → flows ≡ [] → view ≡ first
+    → HearsCaptures s first [] (past_of [] [] [] flows view)
+captures_begin s first flows view none same =
+    subst (λ f. HearsCaptures s first [] (past_of [] [] [] f view)) (sym none)
+    (subst (λ v. HearsCaptures s first [] (past_of [] [] [] [] v)) (sym same) HearsCaptures.none)

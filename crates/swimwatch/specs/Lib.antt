@@ -2,6 +2,7 @@ pub mod Asking
 pub mod Authentic
 pub mod Carriage
 pub mod Chart
+pub mod Connected
 pub mod Counted
 pub mod Datagrams
 pub mod Filtered

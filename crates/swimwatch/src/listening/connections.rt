@@ -1,11 +1,18 @@
 //! The open connections.
 
-ghost use Rattle.std.specs.Prelude.{◌≡◌, ◌++◌, ◌∷◌, [], List, OnOk, IfSome};
+ghost use Rattle.std.specs.Prelude.{◌≡◌, ◌++◌, ◌∷◌, [], Contains, List, None, Some, false, IfOk, IfSome, OnOk};
 ghost use Rattle.std.specs.Option.{option_map};
+ghost use Rattle.std.specs.Ordering.{is_eq};
+ghost use Rattle.capture.specs.declared.ends.Ends.{Ends};
 ghost use Rattle.capture.specs.Captured.{Captured, captured, IsFlowOf, AreFlowsOf};
 ghost use Rattle.capture.specs.FlowTexts.{flow_text};
+ghost use Rattle.capture.specs.OpenFlows.{OpenFlows, Hears, ends_cmp, flow_at};
 ghost use Rattle.capture.specs.Packets.{tcp_text};
-ghost use Rattle.swimwatch.specs.Shown.{HearsFlows, HandsOver};
+ghost use Rattle.memberlist_view.specs.Told.{ViewValue};
+ghost use Rattle.swimwatch.specs.Connected.{AreOthers, AreRead, AreReadBut, Direction, Follows, HandsOver};
+ghost use Rattle.swimwatch.specs.Connected.{HearsAny, HearsSegment, IsRead, IsReadBy, MovesOn};
+ghost use Rattle.swimwatch.specs.Connected.{past_of, progress_at};
+ghost use Rattle.swimwatch.specs.Ways.{PacketText};
 
 use crate::heard::carriage::Opening;
 use crate::heard::counts::count;
@@ -28,7 +35,8 @@ pub(crate) struct Connections {
 impl Connections {
     /// No connections.
     pub(crate) fn new(alloc: Global) -> Connections
-        ensures { result.flows ≡ [] }
+        ensures flows { result.flows ≡ [] }
+        ensures progress { result.progress.entries ≡ [] }
     {
         Connections {
             alloc,
@@ -48,11 +56,13 @@ impl Connections {
         ends: Ends,
         segment: &Segment,
     ) -> Result<(), AllocError>
-        ensures { (all : List Captured) → AreFlowsOf all self.old.flows → OnOk result
-            (AreFlowsOf (all ++ captured ends (tcp_text segment.now) ∷ []) self.new.flows
-            × HearsFlows opening.entry.clear opening.entry.keys.now
-            (all ++ captured ends (tcp_text segment.now) ∷ [])
-            watch.old.listener.view watch.new.listener.view) }
+        ensures { (segments : List Captured) (packets : List PacketText) (read : List Direction)
+            → Follows segments read self.old → OnOk result ((more : List Direction)
+            × HearsSegment opening.entry.clear opening.entry.keys.now ends (tcp_text segment.now)
+            (past_of segments packets read self.old.flows watch.old.listener.view)
+            (past_of (segments ++ captured ends (tcp_text segment.now) ∷ []) packets more
+            self.new.flows watch.new.listener.view)
+            × Follows (segments ++ captured ends (tcp_text segment.now) ∷ []) more self.new) }
     {
         self.close_silent(watch, opening, time)?;
         let heard = self.flows.take(self.alloc, ends, segment)?;
@@ -69,11 +79,23 @@ impl Connections {
         segment: &Segment,
         heard: Heard,
     ) -> Result<(), AllocError>
-        ensures { (all : List Captured) → AreFlowsOf all self.old.flows
-            → IfSome (option_map flow_text heard.replaced) (IsFlowOf all ends)
-            → IfSome (option_map flow_text heard.complete) (IsFlowOf all ends)
-            → OnOk result (AreFlowsOf all self.new.flows × HearsFlows opening.entry.clear
-            opening.entry.keys.now all watch.old.listener.view watch.new.listener.view) }
+        ensures { (segments : List Captured) (packets : List PacketText) (read : List Direction)
+            (before : OpenFlows) → Hears (flow_at before ends) (tcp_text segment.now) heard.taken
+            (option_map flow_text heard.replaced) (option_map flow_text heard.complete)
+            (flow_at self.old.flows ends) → AreOthers ends before self.old.flows
+            → AreFlowsOf segments self.old.flows
+            → AreRead read before self.old.progress.entries
+            → IfSome (option_map flow_text heard.replaced) (IsFlowOf segments ends)
+            → IfSome (option_map flow_text heard.complete) (IsFlowOf segments ends)
+            → OnOk result ((mid view : ViewValue) × (more : List Direction)
+            × HearsAny opening.entry.clear opening.entry.keys.now segments read ends
+            (option_map flow_text heard.replaced) watch.old.listener.view mid
+            × HearsAny opening.entry.clear opening.entry.keys.now segments read ends
+            (option_map flow_text heard.complete) mid view
+            × MovesOn opening.entry.clear opening.entry.keys.now
+            (past_of segments packets read self.old.flows view)
+            (past_of segments packets more self.new.flows watch.new.listener.view)
+            × Follows segments more self.new) }
     {
         let Heard {
             taken: Some(taken),
@@ -105,10 +127,18 @@ impl Connections {
         complete: Option<Flow>,
         may_read: bool,
     ) -> Result<(), AllocError>
-        ensures { (all : List Captured) → AreFlowsOf all self.old.flows
-            → IfSome (option_map flow_text complete) (IsFlowOf all ends)
-            → OnOk result (AreFlowsOf all self.new.flows × HearsFlows opening.entry.clear
-            opening.entry.keys.now all watch.old.listener.view watch.new.listener.view) }
+        ensures { (segments : List Captured) (packets : List PacketText) (read : List Direction)
+            → AreFlowsOf segments self.old.flows
+            → AreReadBut ends read self.old.flows self.old.progress.entries
+            → IsReadBy read self.old.flows ends (option_map flow_text complete) progress
+            → IfSome (option_map flow_text complete) (IsFlowOf segments ends)
+            → OnOk result ((view : ViewValue) × (more : List Direction)
+            × HearsAny opening.entry.clear opening.entry.keys.now segments read ends
+            (option_map flow_text complete) watch.old.listener.view view
+            × MovesOn opening.entry.clear opening.entry.keys.now
+            (past_of segments packets read self.old.flows view)
+            (past_of segments packets more self.new.flows watch.new.listener.view)
+            × Follows segments more self.new) }
     {
         if complete.is_none() {
             let progress = self.try_reading(watch, opening, ends, progress, may_read)?;
@@ -130,11 +160,27 @@ impl Connections {
         }
     }
 
-    fn progress_of(&self, ends: &Ends, time: u64) -> Progress {
+    fn progress_of(&self, ends: &Ends, time: u64) -> Progress
+        ensures some { IfSome (progress_at self.now.progress.entries ends.now)
+            (λ progress. result ≡ progress) }
+        ensures none { (progress_at self.now.progress.entries ends.now ≡ None)
+            → result.is_read ≡ false }
+    {
         match self.progress.get(ends) {
             Some(progress) => *progress,
             None => Progress::new(time),
         }
+    }
+
+    /// Notes the progress of a flow. Returns whether none was noted before.
+    fn note(&mut self, ends: Ends, progress: Progress) -> Result<bool, AllocError>
+        ensures flows { self.new.flows ≡ self.old.flows }
+        ensures there { OnOk result (progress_at self.new.progress.entries ends ≡ Some progress) }
+        ensures others { OnOk result ((other : Ends) → is_eq (ends_cmp ends other) ≡ false
+            → progress_at self.new.progress.entries other
+            ≡ progress_at self.old.progress.entries other) }
+    {
+        Ok(self.progress.insert(ends, progress)?.is_none())
     }
 
     /// Keeps the progress of a flow. If there are too many, the one with the oldest last segment is
@@ -146,10 +192,16 @@ impl Connections {
         ends: Ends,
         progress: Progress,
     ) -> Result<(), AllocError>
-        ensures { OnOk result (HandsOver opening.entry.clear opening.entry.keys.now self.old.flows
-            watch.old.listener.view self.new.flows watch.new.listener.view) }
+        ensures { (segments : List Captured) (packets : List PacketText) (read : List Direction)
+            → AreFlowsOf segments self.old.flows
+            → AreReadBut ends read self.old.flows self.old.progress.entries
+            → IsRead read self.old.flows ends progress
+            → OnOk result (MovesOn opening.entry.clear opening.entry.keys.now
+            (past_of segments packets read self.old.flows watch.old.listener.view)
+            (past_of segments packets read self.new.flows watch.new.listener.view)
+            × Follows segments read self.new) }
     {
-        if self.progress.insert(ends, progress)?.is_none() {
+        if self.note(ends, progress)? {
             self.waiting.add(ends, progress.queued)?;
         }
         for _ in 0..self.waiting.len() {
@@ -171,8 +223,8 @@ impl Connections {
         opening: Opening,
         time: u64,
     ) -> Result<(), AllocError>
-        ensures { OnOk result (HandsOver opening.entry.clear opening.entry.keys.now self.old.flows
-            watch.old.listener.view self.new.flows watch.new.listener.view) }
+        ensures { OnOk result (HandsOver opening.entry.clear opening.entry.keys.now self.old
+            watch.old.listener.view self.new watch.new.listener.view) }
     {
         for _ in 0..self.waiting.len().saturating_mul(2) {
             if !self.waiting.is_due(time) {
@@ -188,8 +240,8 @@ impl Connections {
     /// Closes the flow that is first in the queue, unless it had a segment since it was put there:
     /// then it is put there again. Returns whether one was closed that had not been read.
     fn close_first(&mut self, watch: &mut Watch, opening: Opening) -> Result<bool, AllocError>
-        ensures { OnOk result (HandsOver opening.entry.clear opening.entry.keys.now self.old.flows
-            watch.old.listener.view self.new.flows watch.new.listener.view) }
+        ensures { OnOk result (HandsOver opening.entry.clear opening.entry.keys.now self.old
+            watch.old.listener.view self.new watch.new.listener.view) }
     {
         let Some(Due { since, ends }) = self.waiting.pop() else {
             return Ok(false);
@@ -197,21 +249,25 @@ impl Connections {
         let mut progress = self.progress_of(&ends, since);
         if since < progress.seen {
             progress.queued = progress.seen;
-            self.progress.insert(ends, progress)?;
+            let _ = self.note(ends, progress)?;
             self.waiting.add(ends, progress.queued)?;
             return Ok(false);
         }
-        let _ = self.progress.remove(&ends);
         let older = self.flows.close(&ends);
         let newer = self.flows.close(&ends);
+        self.forget(&ends);
         let left = hear_flow(watch, opening, progress, ends, older)?;
         let _ = hear_flow(watch, opening, left, ends, newer)?;
         Ok(!progress.is_read)
     }
 
-    /// Forgets the progress of a flow that is complete.
+    /// Forgets the progress of a flow.
     fn forget(&mut self, ends: &Ends)
-        ensures { self.new.flows ≡ self.old.flows }
+        ensures flows { self.new.flows ≡ self.old.flows }
+        ensures gone { progress_at self.new.progress.entries ends.now ≡ None }
+        ensures others { (other : Ends) → is_eq (ends_cmp ends.now other) ≡ false
+            → progress_at self.new.progress.entries other
+            ≡ progress_at self.old.progress.entries other }
     {
         if let Some(progress) = self.progress.remove(ends) {
             self.waiting.remove(*ends, progress.queued);
@@ -227,9 +283,14 @@ impl Connections {
         progress: Progress,
         may_read: bool,
     ) -> Result<Progress, AllocError>
-        ensures { (all : List Captured) → AreFlowsOf all self.now.flows
-            → OnOk result (HearsFlows opening.entry.clear opening.entry.keys.now all
-            watch.old.listener.view watch.new.listener.view) }
+        ensures { (segments : List Captured) (packets : List PacketText) (read : List Direction)
+            → AreFlowsOf segments self.now.flows → IsRead read self.now.flows ends progress
+            → IfOk result (λ left. (more : List Direction)
+            × MovesOn opening.entry.clear opening.entry.keys.now
+            (past_of segments packets read self.now.flows watch.old.listener.view)
+            (past_of segments packets more self.now.flows watch.new.listener.view)
+            × IsRead more self.now.flows ends left
+            × ((d : Direction) → Contains read d → Contains more d)) }
     {
         let mut progress = progress;
         if !may_read || !progress.may_read() {
@@ -245,12 +306,13 @@ impl Connections {
 
     /// Takes in the flows that are left at the end of a capture.
     pub(crate) fn finish(&mut self, watch: &mut Watch, opening: Opening) -> Result<(), AllocError>
-        ensures { OnOk result (HandsOver opening.entry.clear opening.entry.keys.now self.old.flows
-            watch.old.listener.view self.new.flows watch.new.listener.view) }
+        ensures hears { OnOk result (HandsOver opening.entry.clear opening.entry.keys.now self.old
+            watch.old.listener.view self.new watch.new.listener.view) }
+        ensures all { OnOk result (self.new.flows ≡ []) }
     {
         while let Some((ends, flow, newer)) = self.flows.finish() {
             let progress = self.progress_of(&ends, 0);
-            let _ = self.progress.remove(&ends);
+            self.forget(&ends);
             let left = hear_flow(watch, opening, progress, ends, Some(flow))?;
             let _ = hear_flow(watch, opening, left, ends, newer)?;
         }

@@ -1,10 +1,10 @@
 //! How far connections have been read.
 
-ghost use Rattle.std.specs.Prelude.{List, OnOk, IfSome};
+ghost use Rattle.std.specs.Prelude.{◌≡◌, Contains, List, None, false, true, IfOk, IfSome, OnOk};
 ghost use Rattle.std.specs.Option.{option_map};
 ghost use Rattle.capture.specs.Captured.{Captured, IsFlowOf};
 ghost use Rattle.capture.specs.FlowTexts.{flow_text};
-ghost use Rattle.swimwatch.specs.Shown.{HearsFlows};
+ghost use Rattle.swimwatch.specs.Connected.{Direction, HearsAny, HearsFlow, direction};
 
 use crate::heard::carriage::Opening;
 use crate::heard::sent::{Proto, Sent};
@@ -37,7 +37,9 @@ pub(crate) struct Progress {
 
 impl Progress {
     /// The progress of a flow of which nothing was read, at this time.
-    pub(crate) fn new(time: u64) -> Progress {
+    pub(crate) fn new(time: u64) -> Progress
+        ensures { result.is_read ≡ false }
+    {
         Progress {
             time,
             seen: time,
@@ -50,7 +52,9 @@ impl Progress {
     }
 
     /// The progress of the newer flow that takes this one's place. Its bytes came with its SYN.
-    pub(crate) fn of_newer(self) -> Progress {
+    pub(crate) fn of_newer(self) -> Progress
+        ensures { result.is_read ≡ false }
+    {
         Progress {
             time: self.syn,
             is_read: false,
@@ -62,7 +66,9 @@ impl Progress {
 
     /// Notes a segment: where it ends (RFC 9293, 3.4: sequence numbers are compared modulo 2^32),
     /// and when it brought bytes.
-    pub(crate) fn note(&mut self, time: u64, taken: Fate, segment: &Segment) {
+    pub(crate) fn note(&mut self, time: u64, taken: Fate, segment: &Segment)
+        ensures { self.new.is_read ≡ self.old.is_read }
+    {
         if taken == Fate::Joined {
             self.time = time;
         }
@@ -89,7 +95,9 @@ impl Progress {
     }
 
     /// Whether to try to read a stream before its end. Counts the tries.
-    pub(crate) fn may_read(&mut self) -> bool {
+    pub(crate) fn may_read(&mut self) -> bool
+        ensures { self.new.is_read ≡ self.old.is_read }
+    {
         if self.is_read || self.tries == MAX_TRIES {
             return false;
         }
@@ -117,9 +125,14 @@ pub(crate) fn hear_flow(
     ends: Ends,
     flow: Option<Flow>,
 ) -> Result<Progress, AllocError>
-    ensures { (all : List Captured) → IfSome (option_map flow_text flow) (IsFlowOf all ends)
-        → OnOk result (HearsFlows opening.entry.clear opening.entry.keys.now all
-        watch.old.listener.view watch.new.listener.view) }
+    ensures hears { (segments : List Captured) (read : List Direction)
+        → IfSome (option_map flow_text flow) (λ f. IsFlowOf segments ends f
+        × (progress.is_read ≡ true → Contains read (direction ends f.start)))
+        → OnOk result (HearsAny opening.entry.clear opening.entry.keys.now segments read ends
+        (option_map flow_text flow) watch.old.listener.view watch.new.listener.view) }
+    ensures none { IfOk result (λ left. option_map flow_text flow ≡ None → left ≡ progress) }
+    ensures newer { IfOk result (λ left. IfSome (option_map flow_text flow)
+        (λ f. left.is_read ≡ false)) }
 {
     match flow {
         Some(flow) => {
@@ -138,9 +151,11 @@ fn hear_whole(
     ends: Ends,
     flow: &Flow,
 ) -> Result<(), AllocError>
-    ensures { (all : List Captured) → IsFlowOf all ends (flow_text flow.now)
-        → OnOk result (HearsFlows opening.entry.clear opening.entry.keys.now all
-        watch.old.listener.view watch.new.listener.view) }
+    ensures { (segments : List Captured) (read : List Direction)
+        → IsFlowOf segments ends (flow_text flow.now)
+        → (progress.is_read ≡ true → Contains read (direction ends flow.now.start))
+        → OnOk result (HearsFlow opening.entry.clear opening.entry.keys.now segments read ends
+        (flow_text flow.now) watch.old.listener.view watch.new.listener.view) }
 {
     let bytes = flow.bytes();
     let behind = flow.waiting_len();

@@ -1,10 +1,11 @@
 //! What members sent, from the frames of captures.
 
 ghost use Rattle.std.specs.Prelude.{◌≡◌, [], List, OnOk};
-ghost use Rattle.capture.specs.Captured.{Captured, AreFlowsOf};
+ghost use Rattle.capture.specs.Captured.{Captured};
 ghost use Rattle.capture.specs.Packets.{carried_text};
+ghost use Rattle.swimwatch.specs.Connected.{Direction, Follows, HandsOver, past_of};
 ghost use Rattle.swimwatch.specs.Filtered.{choice_of};
-ghost use Rattle.swimwatch.specs.Shown.{HandsOver, HearsFrame, HearsRecord};
+ghost use Rattle.swimwatch.specs.Shown.{HearsFrame, HearsRecord};
 ghost use Rattle.swimwatch.specs.Ways.{PacketText, AreKept};
 
 use crate::heard::carriage::Opening;
@@ -30,6 +31,7 @@ impl Traffic {
     /// No traffic.
     pub(crate) fn new(alloc: Global) -> Traffic
         ensures flows { result.connections.flows ≡ [] }
+        ensures progress { result.connections.progress.entries ≡ [] }
         ensures recent { AreKept [] result.recent }
     {
         Traffic {
@@ -46,11 +48,14 @@ impl Traffic {
         record: Record,
         bytes: &[u8],
     ) -> Result<(), AllocError>
-        ensures { (all : List Captured) (past : List PacketText) → AreFlowsOf all self.old.connections.flows
-            → AreKept past self.old.recent → OnOk result ((now : List Captured)
-            × (seen : List PacketText) × AreFlowsOf now self.new.connections.flows
-            × AreKept seen self.new.recent × HearsRecord (choice_of filter.entry) «record»
-            bytes.now all past watch.old.listener.view now seen watch.new.listener.view) }
+        ensures { (segments : List Captured) (packets : List PacketText) (read : List Direction)
+            → Follows segments read self.old.connections → AreKept packets self.old.recent
+            → OnOk result ((now : List Captured) × (seen : List PacketText)
+            × (more : List Direction) × HearsRecord (choice_of filter.entry)
+            «record» bytes.now
+            (past_of segments packets read self.old.connections.flows watch.old.listener.view)
+            (past_of now seen more self.new.connections.flows watch.new.listener.view)
+            × Follows now more self.new.connections × AreKept seen self.new.recent) }
     {
         count(&mut watch.counts.records);
         let Some(nanos) = record.time else {
@@ -85,12 +90,14 @@ impl Traffic {
         way: Way,
         content: Carried,
     ) -> Result<(), AllocError>
-        ensures { (all : List Captured) (past : List PacketText) → AreFlowsOf all self.old.connections.flows
-            → AreKept past self.old.recent → OnOk result ((now : List Captured)
-            × (seen : List PacketText) × AreFlowsOf now self.new.connections.flows
-            × AreKept seen self.new.recent × HearsFrame (choice_of filter.entry) way time
-            (carried_text content.entry) all past watch.old.listener.view now seen
-            watch.new.listener.view) }
+        ensures { (segments : List Captured) (packets : List PacketText) (read : List Direction)
+            → Follows segments read self.old.connections → AreKept packets self.old.recent
+            → OnOk result ((now : List Captured) × (seen : List PacketText)
+            × (more : List Direction) × HearsFrame (choice_of filter.entry)
+            way time (carried_text content.entry)
+            (past_of segments packets read self.old.connections.flows watch.old.listener.view)
+            (past_of now seen more self.new.connections.flows watch.new.listener.view)
+            × Follows now more self.new.connections × AreKept seen self.new.recent) }
     {
         let Some(parcel) = Parcel::of(&content.transport) else {
             return refusal(watch, filter, time, content);
@@ -133,9 +140,10 @@ impl Traffic {
 
     /// Takes in the flows that are left at the end of the captures.
     pub(crate) fn finish(&mut self, watch: &mut Watch, opening: Opening) -> Result<(), AllocError>
-        ensures { OnOk result (HandsOver opening.entry.clear opening.entry.keys.now
-            self.old.connections.flows watch.old.listener.view self.new.connections.flows
+        ensures hears { OnOk result (HandsOver opening.entry.clear opening.entry.keys.now
+            self.old.connections watch.old.listener.view self.new.connections
             watch.new.listener.view) }
+        ensures all { OnOk result (self.new.connections.flows ≡ []) }
     {
         self.connections.finish(watch, opening)
     }

@@ -1,7 +1,9 @@
 use Rattle.std.proofs.Common.{◌≡◌, [], sym, ap₂, ◌∙◌}
 use Rattle.std.proofs.Math.Path.{subst}
 use Rattle.capture.specs.Captured.{AreFlowsOf}
-use Rattle.swimwatch.specs.Viewed.{HearsCaptures, begin_with, choice_in, first_view}
+use Rattle.swimwatch.specs.Connected.{AreRead}
+use Rattle.swimwatch.specs.Viewed.{begin_with, choice_in, first_view}
+use Rattle.swimwatch.proofs.Seats.{captures_begin}
 use Rattle.swimwatch.proofs.listening.seat.Seat.new.Goals as goal
 
 pub returns : goal.returns
@@ -13,7 +15,11 @@ returns c =
     ∙ ap₂ (λ w v. begin_with w.begun v c.args.setting.start.now) c.in_ok-watch.ensures.window c.in_ok-watch.ensures.view in (
       [],
       [],
-      subst (λ v. HearsCaptures s first [] [] [] v) (sym same) HearsCaptures.none,
-      subst (AreFlowsOf []) (sym c.new-2.ensures.flows) (λ ends. tt),
+      [],
+      captures_begin s first c.new-2.result.connections.flows view c.new-2.ensures.flows same,
+      (
+        subst (AreFlowsOf []) (sym c.new-2.ensures.flows) (λ ends. tt),
+        subst (λ p. AreRead [] c.new-2.result.connections.flows p) (sym c.new-2.ensures.progress) (λ ends. tt),
+      ),
       c.new-2.ensures.recent,
     )
