@@ -3,6 +3,7 @@ mod ClearClaims
 mod Connecting
 mod Flowing
 mod Saying
+mod Seatings
 mod Seats
 pub mod Beginning
 pub mod Changes
@@ -14,3 +15,5 @@ pub mod Pings
 pub mod Prefixes
 pub mod Rosters
 pub mod Turning
+mod Waiting
+mod Yielding

@@ -15,6 +15,7 @@ pub mod Records
 pub mod Rosters
 pub mod Said
 pub mod Seated
+pub mod Seating
 pub mod Serf
 pub mod SerfState
 pub mod Shown
@@ -25,3 +26,4 @@ pub mod Versions
 pub mod Viewed
 pub mod Views
 pub mod Ways
+pub mod Yielded

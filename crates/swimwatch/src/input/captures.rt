@@ -1,5 +1,10 @@
 //! Reading captures to their ends.
 
+ghost use Rattle.std.specs.Prelude.{◌≡◌, List, Decides, IfOk, OnOk};
+ghost use Rattle.std.specs.Bool.{OnFalse, OnTrue};
+ghost use Rattle.capture.specs.Pcap.{RecordText};
+ghost use Rattle.swimwatch.specs.Yielded.{AreHeard, HearsOne, HearsUntil, IsLate, IsLater, Stops};
+
 use crate::NAME;
 use crate::arguments::chosen::{Chosen, Verb};
 use crate::input::limit::Limit;
@@ -10,6 +15,7 @@ use crate::listening::views::Views;
 use crate::shown::agent_log::AgentLog;
 use crate::text::names::name_bytes;
 use crate::text::said::{output_fails, said};
+use capture::Record;
 use key_files::keyring_of;
 use std::alloc::AllocError;
 use std::fs::File;
@@ -94,7 +100,12 @@ pub(crate) fn watch_until(
     views: &mut Views,
     sources: &mut Sources,
     time: u64,
-) -> Result<(), Failure> {
+) -> Result<(), Failure>
+    ensures hears { (heard : List (List RecordText)) → AreHeard views.old heard
+        → OnOk result (HearsUntil views.old.seats.setting.window time sources.old heard
+        sources.new views.new) }
+    ensures setting { views.new.seats.setting ≡ views.old.seats.setting }
+{
     let read = read_until(rt, views, sources, time);
     flush(rt, views)?;
     read
@@ -107,28 +118,86 @@ fn read_until(
     views: &mut Views,
     sources: &mut Sources,
     time: u64,
-) -> Result<(), Failure> {
+) -> Result<(), Failure>
+    ensures hears { (heard : List (List RecordText)) → AreHeard views.old heard
+        → OnOk result (HearsUntil views.old.seats.setting.window time sources.old heard
+        sources.new views.new) }
+    ensures setting { views.new.seats.setting ≡ views.old.seats.setting }
+{
     for _ in 0..u64::MAX {
-        let (Some(place), Some((record, bytes))) = (sources.place(), sources.record()) else {
-            break;
-        };
-        if views.is_over(&record) || record.time.is_some_and(|nanos| time < nanos / 1000) {
-            break;
-        }
-        views.record(place, sources.word(place), record, bytes)?;
-        if sources.is_live || MAX_PENDING <= views.printer.out.len() {
-            flush(rt, views)?;
-        }
-        sources.read_on()?;
-        if sources.is_done(place) {
-            views.end(place);
+        if !hear_next(rt, views, sources, time)? {
+            return Ok(());
         }
     }
     Ok(())
 }
 
+/// Takes in the next record, unless it is left out, and returns whether it did.
+fn hear_next(
+    rt: &HostRuntime,
+    views: &mut Views,
+    sources: &mut Sources,
+    time: u64,
+) -> Result<bool, Failure>
+    ensures hears { (heard : List (List RecordText)) → AreHeard views.old heard
+        → IfOk result (λ more. OnTrue more (HearsOne views.old.seats.setting.window time
+        sources.old heard sources.new views.new)) }
+    ensures stops { IfOk result (λ more. OnFalse more
+        (Stops views.old.seats.setting.window time sources.old)) }
+    ensures stays { IfOk result (λ more. OnFalse more ((sources.new ≡ sources.old)
+        × (views.new.seats ≡ views.old.seats))) }
+    ensures setting { views.new.seats.setting ≡ views.old.seats.setting }
+{
+    let Some(place) = sources.place() else {
+        return Ok(false);
+    };
+    let Some((record, bytes)) = sources.record() else {
+        return Ok(false);
+    };
+    if is_late(views, &record, time) {
+        return Ok(false);
+    }
+    views.record(place, sources.word(place), record, bytes)?;
+    flush_some(rt, views, sources.is_live)?;
+    sources.read_on()?;
+    if sources.is_done(place) {
+        views.end(place);
+    }
+    Ok(true)
+}
+
+/// Whether this record is left out, and those after it: listening is over, or it was captured after
+/// this time, in microseconds.
+fn is_late(views: &Views, record: &Record, time: u64) -> bool
+    ensures { Decides result (IsLate views.now.seats.setting.window time «record».now) }
+{
+    views.is_over(record) || is_later(record, time)
+}
+
+/// Whether a record was captured after this time, in microseconds.
+fn is_later(record: &Record, time: u64) -> bool
+    ensures { Decides result (IsLater time «record».now) }
+{
+    match record.time {
+        Some(nanos) => time < nanos / 1000,
+        None => false,
+    }
+}
+
+/// Prints the pending output if more may still come, or there is much of it.
+fn flush_some(rt: &HostRuntime, views: &mut Views, is_live: bool) -> Result<(), Failure>
+    ensures { views.new.seats ≡ views.old.seats }
+{
+    if is_live || MAX_PENDING <= views.printer.out.len() {
+        return flush(rt, views);
+    }
+    Ok(())
+}
+
 /// Prints the pending output.
-fn flush(rt: &HostRuntime, views: &mut Views) -> Result<(), Failure> {
+fn flush(rt: &HostRuntime, views: &mut Views) -> Result<(), Failure>
+    ensures { views.new.seats ≡ views.old.seats }
+{
     if views.printer.out.is_empty() {
         return Ok(());
     }

@@ -1,7 +1,11 @@
 //! Reading several captures together, in the order of their records' times.
 
-ghost use Rattle.std.specs.Prelude.{◌≡◌, IfSome, IfNone, []};
+ghost use Rattle.std.specs.Prelude.{◌≡◌, ℕ, [], true, None, IfNone, IfOk, IfSome, MatchBool, OnOk};
+ghost use Rattle.capture.specs.Pcap.{RecordText};
 ghost use Rattle.swimwatch.specs.Turns.{IsFirst};
+ghost use Rattle.swimwatch.specs.Yielded.{AllWait, Begins, Finds, HasAlso, HasNoNext, ComesAfter};
+ghost use Rattle.swimwatch.specs.Yielded.{IsLast, IsNext, IsOpenAt, IsOpened, ReadsOn, Open};
+ghost use Rattle.swimwatch.specs.Yielded.{Opens, ReadsAt, time_in, turn_at};
 ghost use Rattle.swimwatch.specs.declared.input.turns.Turn.{Turn};
 
 use crate::NAME;
@@ -11,13 +15,13 @@ use crate::input::turns::{Turn, Turns};
 use crate::text::said::said;
 use capture::{CaptureFault, CaptureReader, Link, Record};
 use std::alloc::Global;
-use swim_pack::FromRead;
+use swim_pack::{FromRead, Inlet};
 use swim_program::Failure;
 
 /// A capture that is being read.
 #[derive(Drop)]
-struct Reading<'a> {
-    inlet: Counted<FromRead<Input<'a>>>,
+struct Reading<I: Inlet> {
+    inlet: Counted<I>,
     reader: CaptureReader,
     /// The next record.
     record: Record,
@@ -25,15 +29,13 @@ struct Reading<'a> {
     bytes: Vec<u8>,
 }
 
-impl<'a> Reading<'a> {
+impl<I: Inlet + Drop> Reading<I> {
     /// Starts to read the capture that the word names. None if it has no records.
-    fn begin(
-        limit: Limit<'a>,
-        word: &str,
-        input: Input<'a>,
-    ) -> Result<Option<Reading<'a>>, Failure> {
+    fn begin(limit: Limit, word: &str, inlet: I) -> Result<Option<Reading<I>>, Failure>
+        ensures { IfOk result (Begins I.seen (I.seen inlet)) }
+    {
         let alloc = limit.rt.alloc();
-        let mut inlet = Counted::new(FromRead::new(input));
+        let mut inlet = Counted::new(inlet);
         let mut reader = match CaptureReader::begin(alloc, &mut inlet) {
             Ok(reader) => reader,
             Err(CaptureFault::Cut) if limit.is_over() => return Ok(None),
@@ -56,7 +58,10 @@ impl<'a> Reading<'a> {
     }
 
     /// Reads the next record, and returns whether there is one.
-    fn read_on(&mut self, limit: Limit, word: &str) -> Result<bool, Failure> {
+    fn read_on(&mut self, limit: Limit, word: &str) -> Result<bool, Failure>
+        ensures { IfOk result (λ more. MatchBool more (ComesAfter I.seen self.old self.new)
+            (IsLast I.seen self.old)) }
+    {
         match next_record(
             limit,
             word,
@@ -78,7 +83,7 @@ impl<'a> Reading<'a> {
 #[derive(Drop)]
 struct Source<'a> {
     word: String,
-    reading: Option<Reading<'a>>,
+    reading: Option<Reading<FromRead<Input<'a>>>>,
     /// Whether it has no records left.
     is_done: bool,
 }
@@ -87,15 +92,21 @@ impl<'a> Source<'a> {
     /// Opens the capture.
     // apart, since a function that has a buffer of a capture pays for it at each call
     #[inline(never)]
-    fn open(&mut self, limit: Limit<'a>) -> Result<(), Failure> {
+    fn open(&mut self, limit: Limit<'a>) -> Result<(), Failure>
+        ensures { OnOk result (IsOpened self.old self.new) }
+    {
         let input = open(limit, &self.word)?;
-        self.reading = Reading::begin(limit, &self.word, input)?;
+        self.reading = Reading::begin(limit, &self.word, FromRead::new(input))?;
         Ok(())
     }
 
     /// Closes the capture at its end.
     #[inline(never)]
-    fn close(&mut self) {
+    fn close(&mut self)
+        ensures reading { self.new.reading ≡ None }
+        ensures is_done { self.new.is_done ≡ true }
+        ensures word { self.new.word ≡ self.old.word }
+    {
         self.reading = None;
         self.is_done = true;
     }
@@ -112,7 +123,9 @@ pub(crate) struct Sources<'a> {
 }
 
 impl<'a> Sources<'a> {
-    fn new(limit: Limit<'a>) -> Sources<'a> {
+    fn new(limit: Limit<'a>) -> Sources<'a>
+        ensures { result.all.items ≡ [] }
+    {
         Sources {
             limit,
             all: Vec::new(limit.rt.alloc()),
@@ -122,7 +135,9 @@ impl<'a> Sources<'a> {
     }
 
     /// Starts to read the captures that these words name.
-    pub(crate) fn begin(limit: Limit<'a>, words: &[String]) -> Result<Sources<'a>, Failure> {
+    pub(crate) fn begin(limit: Limit<'a>, words: &[String]) -> Result<Sources<'a>, Failure>
+        ensures { IfOk result AllWait }
+    {
         let mut sources = Sources::new(limit);
         for word in words {
             let input = open(limit, word)?;
@@ -134,19 +149,19 @@ impl<'a> Sources<'a> {
     }
 
     /// Starts to read one capture, which is open.
-    pub(crate) fn of(
-        limit: Limit<'a>,
-        word: &str,
-        input: Input<'a>,
-    ) -> Result<Sources<'a>, Failure> {
+    pub(crate) fn of(limit: Limit<'a>, word: &str, input: Input<'a>) -> Result<Sources<'a>, Failure>
+        ensures { IfOk result AllWait }
+    {
         let mut sources = Sources::new(limit);
         sources.add(word, input, false)?;
         Ok(sources)
     }
 
     /// Adds a capture, if it has records. It is closed until its turn if it can be opened again.
-    fn add(&mut self, word: &str, input: Input<'a>, can_open_again: bool) -> Result<(), Failure> {
-        let Some(reading) = Reading::begin(self.limit, word, input)? else {
+    fn add(&mut self, word: &str, input: Input<'a>, can_open_again: bool) -> Result<(), Failure>
+        ensures { AllWait self.old → OnOk result (AllWait self.new) }
+    {
+        let Some(reading) = Reading::begin(self.limit, word, FromRead::new(input))? else {
             return Ok(());
         };
         let time = time_of(&reading);
@@ -169,20 +184,30 @@ impl<'a> Sources<'a> {
     }
 
     /// The capture at this index waits for its turn.
-    fn wait(&mut self, time: u64, place: usize) -> Result<(), Failure> {
+    fn wait(&mut self, time: u64, place: usize) -> Result<(), Failure>
+        ensures waits { OnOk result (HasAlso (turn_at time place) self.old.turns.waiting.keys
+            self.new.turns.waiting.keys) }
+        ensures all { self.new.all ≡ self.old.all }
+        ensures is_live { self.new.is_live ≡ self.old.is_live }
+    {
         self.turns.wait(Turn { time, place })?;
         Ok(())
     }
 
     /// Opens the capture whose turn it is, if it is not open.
-    fn open_first(&mut self) -> Result<(), Failure> {
+    fn open_first(&mut self) -> Result<(), Failure>
+        ensures { OnOk result (Opens self.old self.new) }
+    {
         let Some(turn) = self.turns.first() else {
             return Ok(());
         };
-        match self.all.get_mut(turn.place) {
-            Some(source) if source.reading.is_none() => source.open(self.limit),
-            _ => Ok(()),
+        let Some(source) = self.all.get_mut(turn.place) else {
+            return Ok(());
+        };
+        if source.reading.is_none() {
+            return source.open(self.limit);
         }
+        Ok(())
     }
 
     /// The index of the capture with the earliest record, if there is one left.
@@ -214,7 +239,11 @@ impl<'a> Sources<'a> {
     }
 
     /// The earliest record and its bytes, if there is one left.
-    pub(crate) fn record(&self) -> Option<(Record, &[u8])> {
+    pub(crate) fn record(&self) -> Option<(Record, &[u8])>
+        ensures next { IfSome result (λ r. (place : ℕ)
+            × IsNext self.entry.now place (r.0, r.1.now)) }
+        ensures none { IfNone result (HasNoNext self.entry.now) }
+    {
         let turn = self.turns.first()?;
         let reading = self.all.get(turn.place)?.reading.as_ref()?;
         Some((reading.record, &reading.bytes))
@@ -230,7 +259,10 @@ impl<'a> Sources<'a> {
     }
 
     /// Moves on to the record after the earliest one.
-    pub(crate) fn read_on(&mut self) -> Result<(), Failure> {
+    pub(crate) fn read_on(&mut self) -> Result<(), Failure>
+        ensures { (place : ℕ) (r : RecordText) → IsNext self.old place r
+            → OnOk result (ReadsOn self.old self.new) }
+    {
         let Some(turn) = self.turns.end() else {
             return Ok(());
         };
@@ -242,7 +274,12 @@ impl<'a> Sources<'a> {
 
     /// Reads the next record of the capture at this index, and returns its time. At its end it is
     /// closed.
-    fn next_time(&mut self, place: usize) -> Result<Option<u64>, Failure> {
+    fn next_time(&mut self, place: usize) -> Result<Option<u64>, Failure>
+        ensures reads { (reading : Open) → IsOpenAt self.old.all.items place reading
+            → IfOk result (ReadsAt place self.old.all.items self.new.all.items) }
+        ensures turns { self.new.turns ≡ self.old.turns }
+        ensures is_live { self.new.is_live ≡ self.old.is_live }
+    {
         let Some(source) = self.all.get_mut(place) else {
             return Ok(None);
         };
@@ -257,7 +294,9 @@ impl<'a> Sources<'a> {
 }
 
 /// When the next record was captured.
-fn time_of(reading: &Reading) -> u64 {
+fn time_of<I: Inlet>(reading: &Reading<I>) -> u64
+    ensures { result ≡ time_in reading.now }
+{
     reading.record.time.unwrap_or(0)
 }
 
@@ -271,13 +310,16 @@ fn open<'a>(limit: Limit<'a>, word: &str) -> Result<Input<'a>, Failure> {
 
 /// The next record, if there is one. A capture that ends in the middle of a record ends after the
 /// record before it, and a note is printed unless listening is over.
-fn next_record(
+fn next_record<I: Inlet>(
     limit: Limit,
     word: &str,
     reader: &mut CaptureReader,
-    inlet: &mut Counted<FromRead<Input>>,
+    inlet: &mut Counted<I>,
     bytes: &mut Vec<u8>,
-) -> Result<Option<Record>, Failure> {
+) -> Result<Option<Record>, Failure>
+    ensures { IfOk result (Finds reader.old (I.seen inlet.old.inlet) reader.new
+        (I.seen inlet.new.inlet) bytes.new.items) }
+{
     let start = inlet.count();
     match reader.next(inlet, bytes) {
         Ok(record) => Ok(record),

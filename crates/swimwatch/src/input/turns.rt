@@ -42,7 +42,10 @@ impl Turns {
 
     /// Ends the first turn.
     pub(crate) fn end(&mut self) -> Option<Turn>
-        ensures { IfSome result (λ turn. self.old.waiting.keys ≡ turn ∷ self.new.waiting.keys) }
+        ensures removal { IfSome result (λ turn. self.old.waiting.keys
+            ≡ turn ∷ self.new.waiting.keys) }
+        ensures first { IfSome result (IsFirst self.old.waiting.keys) }
+        ensures none { IfNone result (self.old.waiting.keys ≡ []) }
     {
         self.waiting.pop_first()
     }

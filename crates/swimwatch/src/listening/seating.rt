@@ -1,5 +1,10 @@
 //! Which captures each view follows.
 
+ghost use Rattle.std.specs.Prelude.{◌-◌, ◌≡◌, ◌≢◌, ◌⊎◌, ◌<◌, ℕ, [], None, Some, IfOk, IfSome, IfNone, OnOk, length};
+ghost use Rattle.std.specs.Option.{option_map};
+ghost use Rattle.swimwatch.specs.Seating.{IsFree, open_at, view_at};
+ghost use Rattle.swimwatch.specs.declared.listening.seating.Seating.{Seating};
+
 use std::alloc::{AllocError, Global};
 use std::collections::BTreeMap;
 
@@ -34,7 +39,19 @@ impl Seating {
     }
 
     /// The index of the view of the capture at this index, which this word names.
-    pub(crate) fn view_of(&mut self, place: usize, word: &str) -> Result<usize, AllocError> {
+    pub(crate) fn view_of(&mut self, place: usize, word: &str) -> Result<usize, AllocError>
+        // A capture keeps its view. A new one goes on with a view whose captures have ended, if
+        // there is one, and else it has the next view.
+        ensures known { IfSome (view_at self.old place) (λ view. self.new ≡ self.old
+            × IfOk result (λ its. its ≡ view)) }
+        ensures begins { (view_at self.old place ≡ None) → IfOk result (λ view.
+            IsFree self.old view ⊎ ((view ≡ length self.old.views.items)
+            × ((other : ℕ) → ¬ IsFree self.old other))) }
+        ensures noted { IfOk result (λ view. (view_at self.new place ≡ Some view)
+            × ((view_at self.old place ≡ None) → open_at self.new view ≡ Some 1)) }
+        ensures others { OnOk result ((other : ℕ) → other ≢ place
+            → view_at self.new other ≡ view_at self.old other) }
+    {
         if let Some(view) = self.view_of.get(&place) {
             return Ok(*view);
         }
@@ -53,7 +70,10 @@ impl Seating {
 
     /// The index of the view that a new capture goes on with: of those whose captures ended, the one
     /// whose last file has the most like name.
-    fn free(&self, word: &str) -> Option<usize> {
+    fn free(&self, word: &str) -> Option<usize>
+        ensures some { IfSome result (IsFree self.now) }
+        ensures none { IfNone result ((other : ℕ) → ¬ IsFree self.now other) }
+    {
         let mut best = None;
         let mut most = 0;
         for (index, followed) in self.views.iter().enumerate() {
@@ -70,7 +90,13 @@ impl Seating {
     }
 
     /// Notes that the capture at this index has no records left.
-    pub(crate) fn end(&mut self, place: usize) {
+    pub(crate) fn end(&mut self, place: usize)
+        ensures views { self.new.view_of ≡ self.old.view_of }
+        ensures ends { IfSome (view_at self.old place) (λ view. open_at self.new view
+            ≡ option_map (λ left. left - 1) (open_at self.old view)) }
+        ensures others { (other : ℕ) → view_at self.old place ≢ Some other
+            → open_at self.new other ≡ open_at self.old other }
+    {
         let Some(view) = self.view_of.get(&place) else {
             return;
         };

@@ -1,8 +1,9 @@
 //! Which view hears which record.
 
-ghost use Rattle.std.specs.Prelude.{◌≡◌, ◌+◌, ◌<◌, ◌++◌, ◌∷◌, [], List, true, IfOk, OnOk};
+ghost use Rattle.std.specs.Prelude.{◌≡◌, ◌+◌, ◌<◌, ◌++◌, ◌∷◌, [], List, Some, false, true, IfOk, OnOk};
 ghost use Rattle.capture.specs.Pcap.{RecordText};
 ghost use Rattle.swimwatch.specs.Seated.{AreAlike, EachHas, EachEnded, HasView, at_least_one, is_merged, put};
+ghost use Rattle.swimwatch.specs.Seating.{view_at};
 ghost use Rattle.swimwatch.specs.Viewed.{choice_in, first_view};
 
 use crate::listening::printer::Printer;
@@ -92,6 +93,8 @@ impl<'a> Seats<'a> {
     /// The index at which the view of a capture is, or would be.
     fn place_of(&mut self, place: usize, word: &str) -> Result<usize, AllocError>
         ensures merged { is_merged self.old.setting ≡ true → IfOk result (λ view. view ≡ 0) }
+        ensures seated { is_merged self.old.setting ≡ false → IfOk result (λ view.
+            view_at self.new.seating place ≡ Some view) }
         ensures seats { self.new.seats ≡ self.old.seats }
         ensures setting { self.new.setting ≡ self.old.setting }
     {

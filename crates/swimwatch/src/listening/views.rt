@@ -1,9 +1,10 @@
 //! What each capture shows: a view of its own, or one of all.
 
-ghost use Rattle.std.specs.Prelude.{◌≡◌, [], ℕ, List, OnOk};
+ghost use Rattle.std.specs.Prelude.{◌≡◌, [], ℕ, List, Decides, OnOk};
 ghost use Rattle.capture.specs.Pcap.{RecordText};
 ghost use Rattle.swimwatch.specs.Seated.{AreAlike, EachHas, EachEnded, at_least_one, put};
 ghost use Rattle.swimwatch.specs.Viewed.{choice_in, first_view};
+ghost use Rattle.swimwatch.specs.Yielded.{IsOver};
 
 use crate::arguments::chosen::Verb;
 use crate::heard::counts::Counts;
@@ -73,7 +74,9 @@ impl<'a> Views<'a> {
     }
 
     /// Whether listening is over, so that this record and those after it are left out.
-    pub(crate) fn is_over(&self, record: &Record) -> bool {
+    pub(crate) fn is_over(&self, record: &Record) -> bool
+        ensures { Decides result (IsOver self.now.seats.setting.window «record».now) }
+    {
         match record.time {
             Some(nanos) => self.seats.setting.window.is_over(nanos / 1000),
             None => false,
@@ -81,7 +84,10 @@ impl<'a> Views<'a> {
     }
 
     /// Notes that the capture at this index has no records left.
-    pub(crate) fn end(&mut self, place: usize) {
+    pub(crate) fn end(&mut self, place: usize)
+        ensures seats { self.new.seats.seats ≡ self.old.seats.seats }
+        ensures setting { self.new.seats.setting ≡ self.old.seats.setting }
+    {
         self.seats.end_capture(place);
     }
 

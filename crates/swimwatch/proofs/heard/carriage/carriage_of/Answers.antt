@@ -1,4 +1,4 @@
-use Rattle.std.proofs.Common.{◌≡◌, ◌≢◌, inl, rules}
+use Rattle.std.proofs.Common.{◌≢◌, inl, rules}
 use Rattle.memberlist_transport.specs.declared.fault.PacketFault.{PacketFault}
 use Rattle.swimwatch.proofs.heard.carriage.carriage_of.Goals as goal
 

@@ -1,4 +1,4 @@
-use Rattle.std.proofs.Common.{◌≡◌, true, false, [], ◌∷◌, ◌++◌, ◌⊎◌, inl, inr, length, ◌==◌, sym, subst, rules}
+use Rattle.std.proofs.Common.{◌≡◌, true, false, [], ◌∷◌, ◌++◌, ◌⊎◌, inl, inr, length, ◌==◌, subst, rules}
 use Rattle.std.specs.List.{list_any}
 use Rattle.std.specs.VecDeque.{deque_items}
 use Rattle.swimwatch.specs.Ways.{packet_of, packet_text, is_again, is_unknown, AreKept}

@@ -1,9 +1,8 @@
-use Rattle.std.proofs.Common.{◌≡◌, ◌∙◌, sym}
+use Rattle.std.proofs.Common.{◌∙◌, sym}
 use Rattle.std.proofs.Math.Path.{subst}
 use Rattle.std.specs.Option.{option_map}
 use Rattle.capture.specs.Captured.{AreFlowsOf}
 use Rattle.capture.specs.FlowTexts.{flow_text}
-use Rattle.swimwatch.specs.declared.listening.progress.Progress.{Progress}
 use Rattle.swimwatch.specs.Connected.{AreOthers, AreRead, MovesOn, past_of}
 use Rattle.swimwatch.specs.Connected.MovesOn.{nothing}
 use Rattle.swimwatch.proofs.Connecting.{closed, none_kept, none_next, of_kept, of_next, of_over, one_kept, others_read}

@@ -1,7 +1,6 @@
-use Rattle.std.proofs.Common.{◌≡◌, None, IfSome, false, refl, sym, ap, subst, rules}
+use Rattle.std.proofs.Common.{◌≡◌, None, false, refl, sym, ap, subst, rules}
 use Rattle.std.specs.Option.{is_none, option_map}
-use Rattle.std.specs.Prelude.{Contains, true}
-use Rattle.capture.specs.Captured.{AreFlowsOf, IsFlowOf}
+use Rattle.capture.specs.Captured.{AreFlowsOf}
 use Rattle.capture.specs.FlowTexts.{flow_text}
 use Rattle.swimwatch.specs.Connected.{AreRead, HearsAny, IsReadBy, MovesOn, past_of}
 use Rattle.swimwatch.specs.Connected.MovesOn.{nothing}

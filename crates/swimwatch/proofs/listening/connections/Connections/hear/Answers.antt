@@ -1,10 +1,9 @@
-use Rattle.std.proofs.Common.{◌≡◌, None, Some, IfSome, false, true, refl, sym, ap, subst, ◌∙◌, rules}
+use Rattle.std.proofs.Common.{◌≡◌, None, IfSome, false, refl, sym, ap, subst, rules}
 use Rattle.std.specs.Option.{option_map}
-use Rattle.capture.specs.Captured.{IsFlowOf}
 use Rattle.capture.specs.FlowTexts.{flow_text}
 use Rattle.capture.specs.OpenFlows.{Hears, flow_at}
 use Rattle.capture.specs.Packets.{tcp_text}
-use Rattle.swimwatch.specs.Connected.{HearsAny, IsRead, IsReadBy}
+use Rattle.swimwatch.specs.Connected.{HearsAny, IsReadBy}
 use Rattle.swimwatch.specs.Connected.MovesOn.{nothing}
 use Rattle.swimwatch.proofs.Connecting.{idle, of_kept, of_same, others_read, replaced_read, still_read, zipped}
 use Rattle.swimwatch.proofs.Flowing.{on_ok}

@@ -1,4 +1,4 @@
-use Rattle.std.proofs.Common.{◌≡◌, [], OnOk, Result, Ok, Err, refl}
+use Rattle.std.proofs.Common.{refl}
 use Rattle.std.proofs.Math.Path.{subst}
 use Rattle.swimwatch.specs.Connected.{MovesOn, past_of}
 use Rattle.swimwatch.proofs.Flowing.{both_ok, on_ok}
