@@ -1,6 +1,6 @@
 //! Where the bytes of captures come from.
 
-ghost use Rattle.std.specs.Prelude.{◌≤◌, length};
+ghost use Rattle.std.specs.Prelude.{◌≡◌, ◌≤◌, length};
 
 use crate::NAME;
 use crate::input::limit::{Limit, Waiter};
@@ -133,7 +133,9 @@ pub(crate) struct Counted<I: Inlet> {
 }
 
 impl<I: Inlet> Counted<I> {
-    pub(crate) fn new(inlet: I) -> Counted<I> {
+    pub(crate) fn new(inlet: I) -> Counted<I>
+        ensures { result.inlet ≡ inlet }
+    {
         Counted { inlet, count: 0 }
     }
 

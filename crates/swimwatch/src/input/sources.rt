@@ -97,6 +97,9 @@ impl<'a> Source<'a> {
     {
         let input = open(limit, &self.word)?;
         self.reading = Reading::begin(limit, &self.word, FromRead::new(input))?;
+        if self.reading.is_none() && !limit.is_over() {
+            return Err(lost(limit.rt.alloc(), &self.word));
+        }
         Ok(())
     }
 
@@ -351,6 +354,16 @@ fn refused(alloc: Global, word: &str, start: u64, fault: CaptureFault) -> Failur
 fn cut_header(alloc: Global, word: &str) -> Failure {
     said(
         format!(in alloc; "{NAME}: {word}: byte 0: the header is cut short"),
+        3,
+    )
+}
+
+/// The failure of a capture that had records at the start, and has none at its turn.
+fn lost(alloc: Global, word: &str) -> Failure {
+    said(
+        format!(in alloc;
+            "{NAME}: {word}: byte 0: the file lost its records while others were read"
+        ),
         3,
     )
 }
