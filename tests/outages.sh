@@ -183,6 +183,26 @@ mv line found
 count 'a line of the timeline does not wait for the next record' "$([ "$waited" -lt 100 ] || echo '; it does')"
 check 'the line of the timeline'
 
+# a file of which the first record was read, and which has none at its turn
+cp alive.pcap later.pcap
+"$program" timeline --merge - later.pcap < ends > line 2> err &
+listening=$!
+exec 4> ends
+cat alive.pcap >&4
+waited=0
+while [ ! -s line ] && [ "$waited" -lt 100 ]; do
+    sleep 0.1
+    waited=$((waited + 1))
+done
+cp header.pcap later.pcap
+exec 4>&-
+wait "$listening"
+status=$?
+ends 'a file that lost its records' 3
+echo 'swimwatch: later.pcap: byte 0: the file lost its records while others were read' > wanted
+mv err found
+check 'the file that lost its records is named'
+
 # ---- a table to begin with
 
 # the table of all claims at web-1 in the partition, as a stream, before a capture without packets
