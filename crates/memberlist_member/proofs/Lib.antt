@@ -1,0 +1,2 @@
+mod Logarithms
+mod Thousandths
