@@ -1,2 +1,3 @@
 mod Logarithms
+mod Queueing
 mod Thousandths

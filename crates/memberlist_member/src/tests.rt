@@ -1,6 +1,7 @@
 //! The rules beside what memberlist's own functions return.
 
-use crate::{Awareness, milli_log, push_pull_scale, retransmit_limit, suspicion_timeout};
+use crate::{Awareness, Queue, milli_log, push_pull_scale, retransmit_limit, suspicion_timeout};
+use std::alloc::AllocError;
 
 /// Numbers of members, and what memberlist 0.2.2 (Debian) returns for each:
 /// `suspicionTimeout(4, n, time.Second)` in milliseconds, `retransmitLimit(4, n)`, and
@@ -88,4 +89,45 @@ fn a_member_is_well_or_up_to_seven_worse(rt: HostRuntime) {
     assert_eq!(rt; health.score(), 7);
     health.improve();
     assert_eq!(rt; health.score(), 6);
+}
+
+/// Adds a broadcast of so many bytes about the member with this name.
+fn push(rt: &HostRuntime, queue: &mut Queue, name: &str, len: usize) -> Result<(), AllocError> {
+    let alloc = rt.alloc();
+    let mut bytes = Vec::new(alloc);
+    for _ in 0..len {
+        bytes.push(7)?;
+    }
+    queue.push(name.as_bytes().to_vec(alloc)?, bytes)
+}
+
+#[test]
+fn the_least_sent_goes_first_then_the_longest_then_the_newest(
+    rt: HostRuntime,
+) -> Result<(), AllocError> {
+    let mut queue = Queue::new(rt.alloc());
+    for (name, len) in [("a", 10), ("b", 20), ("c", 20), ("d", 5)] {
+        push(&rt, &mut queue, name, len)?;
+    }
+    for (room, next) in [(100, Some(2)), (19, Some(0)), (9, Some(3)), (4, None)] {
+        assert_eq!(rt; queue.next(room), next);
+    }
+    queue.sent(2, 2);
+    assert_eq!(rt; queue.next(100), Some(1));
+    queue.sent(2, 2);
+    assert_eq!(rt; queue.len(), 3);
+    Ok(())
+}
+
+#[test]
+fn a_broadcast_takes_the_place_of_the_one_about_the_same_member(
+    rt: HostRuntime,
+) -> Result<(), AllocError> {
+    let mut queue = Queue::new(rt.alloc());
+    for (name, len) in [("a", 10), ("b", 20), ("a", 30)] {
+        push(&rt, &mut queue, name, len)?;
+    }
+    assert_eq!(rt; queue.len(), 2);
+    assert_eq!(rt; queue.next(100), Some(0));
+    Ok(())
 }
