@@ -1,3 +1,13 @@
+mod Apart
+mod Compounding
 mod Logarithms
+mod Members
+mod Picking
 mod Queueing
+mod Remembering
+mod Running
+mod Sending
+mod Shares
+mod Squaring
+mod Suspecting
 mod Thousandths

@@ -5,7 +5,7 @@ use Rattle.std.proofs.lemmas.Nat.{mul-pow}
 use Rattle.memberlist_member.specs.declared.powers.TheConstants.{POWERS}
 use Rattle.memberlist_member.proofs.Thousandths.{POWERS_at}
 
-pow_pow : (b m k : ℕ) → (b ^ m) ^ k ≡ b ^ (k * m)
+pub pow_pow : (b m k : ℕ) → (b ^ m) ^ k ≡ b ^ (k * m)
 pow_pow b m zero = pow-zero (b ^ m) ∙ sym (ap (λ e. b ^ e) (zero-mul m) ∙ pow-zero b)
 pow_pow b m (suc k) =
     pow-suc (b ^ m) k ∙ ap (λ x. x * b ^ m) (pow_pow b m k) ∙ sym (pow-add b (k * m) m) ∙ sym (ap (λ e. b ^ e) (suc-mul k m))

@@ -13,7 +13,7 @@ are_least zero j ps = true
 are_least (suc n) j [] = true
 are_least (suc n) j (p ∷ ps) = is_least j p && are_least n (j + 1) ps
 
-both : (a b : Bool) → (a && b) ≡ true → (a ≡ true) × (b ≡ true)
+pub both : (a b : Bool) → (a && b) ≡ true → (a ≡ true) × (b ≡ true)
 both true true e = (refl, refl)
 both true false e = absurd cc
 both false b e = absurd cc

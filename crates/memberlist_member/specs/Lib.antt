@@ -1,2 +1,9 @@
+pub mod Claims
+pub mod Compound
+pub mod Configs
+pub mod Outputs
 pub mod Queues
+pub mod Runs
 pub mod Scales
+pub mod Suspicions
+pub mod Viewing

@@ -1,11 +1,67 @@
 //! Laws of the rules of a member. Each is the contract of a function that does nothing.
 
-ghost use Rattle.std.specs.Prelude.{◌≡◌, List};
+ghost use Rattle.std.specs.Prelude.{◌≡◌, ◌∷◌, ◌+◌, ◌≤◌, ℕ, List, length, true, max};
+ghost use Rattle.std.specs.List.{Contains};
+ghost use Rattle.std.specs.Str.{bytes_eq};
+ghost use Rattle.memberlist_member.specs.Compound.{datagram_bytes, total};
 ghost use Rattle.memberlist_member.specs.Queues.{AreApart, put};
+ghost use Rattle.memberlist_member.specs.Runs.{Event, Run, times};
+ghost use Rattle.memberlist_member.specs.Runs.Event.{added, taken};
+ghost use Rattle.memberlist_member.specs.Suspicions.{IsDue, Lasts, Span};
 ghost use Rattle.memberlist_member.specs.declared.queue.Broadcast.{Broadcast};
 
 /// There is at most one broadcast about each member: a new one takes the place of the older one.
 pub fn one_about_each()
     ensures { (b : Broadcast) (waiting : List Broadcast) → AreApart waiting
         → AreApart (put b waiting) }
+{}
+
+/// In all that happens to a queue, each broadcast is picked at most as often as the greatest limit
+/// that was given says, and once if that is 0.
+pub fn sent_at_most_the_limit()
+    ensures { (limit : ℕ) (events : List Event) (waiting : List Broadcast) (next id : ℕ)
+        → Run limit events waiting next → times id events ≤ max 1 limit }
+{}
+
+/// Once a broadcast about a member was added, no older one about it is picked for a datagram.
+pub fn a_claim_is_not_sent_after_a_newer_one()
+    ensures { (limit : ℕ) (events : List Event) (picked waiting : List Broadcast) (next : ℕ)
+        (newer sent : Broadcast) → Run limit (taken picked ∷ events) waiting next
+        → Contains events (added newer) → Contains picked sent
+        → bytes_eq sent.subject.items newer.subject.items ≡ true → newer.id ≤ sent.id }
+{}
+
+/// Messages that take at most so many bytes, with two for each and two for all besides their own,
+/// make a datagram of at most so many.
+pub fn each_datagram_fits()
+    ensures { (parts : List (List ℕ)) (n : ℕ) → total 2 parts + 2 ≤ n
+        → length (datagram_bytes parts) ≤ n }
+{}
+
+/// A member that more members accuse is suspected no longer than with fewer of them.
+pub fn more_accusers_never_lengthen()
+    ensures { (k c d least most r s : ℕ) → c ≤ d → Lasts k c least most r
+        → Lasts k d least most s → s ≤ r }
+{}
+
+/// So a suspicion ends no later with more accusers.
+pub fn more_accusers_never_delay()
+    ensures { (s : Span) (few many start one other : ℕ) → few ≤ many → IsDue s few start one
+        → IsDue s many start other → other ≤ one }
+{}
+
+/// A member is suspected for the least time or longer, and for the longest time or less.
+pub fn a_suspicion_lasts_between()
+    ensures { (k c least most r : ℕ) → c ≤ k → least ≤ most → Lasts k c least most r
+        → (least ≤ r) × (r ≤ most) }
+{}
+
+/// While none of the confirmations that are wanted has come, it is the longest time.
+pub fn alone_it_lasts_longest()
+    ensures { (k least most r : ℕ) → 1 ≤ k → Lasts k 0 least most r → r ≡ most }
+{}
+
+/// Once all that are wanted have come, it is the least time.
+pub fn confirmed_it_lasts_least()
+    ensures { (k least most r : ℕ) → least ≤ most → Lasts k k least most r → r ≡ least }
 {}

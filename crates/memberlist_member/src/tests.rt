@@ -1,7 +1,15 @@
 //! The rules beside what memberlist's own functions return.
 
-use crate::{Awareness, Queue, milli_log, push_pull_scale, retransmit_limit, suspicion_timeout};
-use std::alloc::AllocError;
+ghost use Rattle.std.specs.Prelude.{◌<◌, IfOk, length};
+ghost use Rattle.std.specs.List.{All};
+
+mod meeting;
+
+use crate::compound::datagram;
+use crate::{
+    Awareness, Queue, Suspicion, milli_log, push_pull_scale, retransmit_limit, suspicion_timeout,
+};
+use std::alloc::{AllocError, Global};
 
 /// Numbers of members, and what memberlist 0.2.2 (Debian) returns for each:
 /// `suspicionTimeout(4, n, time.Second)` in milliseconds, `retransmitLimit(4, n)`, and
@@ -91,31 +99,54 @@ fn a_member_is_well_or_up_to_seven_worse(rt: HostRuntime) {
     assert_eq!(rt; health.score(), 6);
 }
 
-/// Adds a broadcast of so many bytes about the member with this name.
-fn push(rt: &HostRuntime, queue: &mut Queue, name: &str, len: usize) -> Result<(), AllocError> {
-    let alloc = rt.alloc();
-    let mut bytes = Vec::new(alloc);
-    for _ in 0..len {
-        bytes.push(7)?;
-    }
-    queue.push(name.as_bytes().to_vec(alloc)?, bytes)
+/// Adds a broadcast about the member with this name.
+fn push(alloc: Global, queue: &mut Queue, name: &str, text: &str) -> Result<(), AllocError> {
+    let name = name.as_bytes().to_vec(alloc)?;
+    queue.push(name, text.as_bytes().to_vec(alloc)?)
 }
 
+/// Takes the broadcasts for a datagram with 17 bytes of room, of which each takes two besides its
+/// own, until each was sent twice. Where memory is refused, it tries again.
+fn take(alloc: Global, queue: &mut Queue, most: usize) -> Result<Vec<Vec<u8>>, AllocError> {
+    match queue.take(alloc, 2, 17, most, 2) {
+        Ok(parts) => Ok(parts),
+        Err(AllocError) => queue.take(alloc, 2, 17, most, 2),
+    }
+}
+
+/// The parts, each with a space after it.
+fn joined(alloc: Global, parts: &[Vec<u8>]) -> Result<Vec<u8>, AllocError> {
+    let mut text = Vec::new(alloc);
+    for part in parts {
+        text.extend_from_slice(part)?;
+        text.push(b' ')?;
+    }
+    Ok(text)
+}
+
+/// What GetBroadcasts does by hand: the most that are picked, the picks, and how many wait then.
+const TAKES: [(usize, &str, usize); 5] = [
+    (0, "", 5),
+    (255, "eeeeee cccc d ", 5),
+    (255, "bbbb aaa cccc ", 4),
+    (1, "eeeeee ", 3),
+    (255, "bbbb aaa d ", 0),
+];
+
 #[test]
-fn the_least_sent_goes_first_then_the_longest_then_the_newest(
+fn the_least_sent_go_first_then_the_longest_that_fit_then_the_newest(
     rt: HostRuntime,
 ) -> Result<(), AllocError> {
-    let mut queue = Queue::new(rt.alloc());
-    for (name, len) in [("a", 10), ("b", 20), ("c", 20), ("d", 5)] {
-        push(&rt, &mut queue, name, len)?;
+    let alloc = rt.alloc();
+    let mut queue = Queue::new(alloc);
+    for text in ["aaa", "bbbb", "cccc", "d", "eeeeee"] {
+        push(alloc, &mut queue, text, text)?;
     }
-    for (room, next) in [(100, Some(2)), (19, Some(0)), (9, Some(3)), (4, None)] {
-        assert_eq!(rt; queue.next(room), next);
+    for (most, picks, left) in TAKES {
+        let parts = take(alloc, &mut queue, most)?;
+        assert_eq!(rt; joined(alloc, &parts)?.as_slice(), picks.as_bytes());
+        assert_eq!(rt; queue.len(), left);
     }
-    queue.sent(2, 2);
-    assert_eq!(rt; queue.next(100), Some(1));
-    queue.sent(2, 2);
-    assert_eq!(rt; queue.len(), 3);
     Ok(())
 }
 
@@ -123,11 +154,186 @@ fn the_least_sent_goes_first_then_the_longest_then_the_newest(
 fn a_broadcast_takes_the_place_of_the_one_about_the_same_member(
     rt: HostRuntime,
 ) -> Result<(), AllocError> {
-    let mut queue = Queue::new(rt.alloc());
-    for (name, len) in [("a", 10), ("b", 20), ("a", 30)] {
-        push(&rt, &mut queue, name, len)?;
+    let alloc = rt.alloc();
+    let mut queue = Queue::new(alloc);
+    for (name, text) in [("a", "old"), ("b", "other"), ("a", "new")] {
+        push(alloc, &mut queue, name, text)?;
     }
-    assert_eq!(rt; queue.len(), 2);
-    assert_eq!(rt; queue.next(100), Some(0));
+    let parts = take(alloc, &mut queue, 255)?;
+    assert_eq!(rt; joined(alloc, &parts)?.as_slice(), b"other new ".as_slice());
     Ok(())
+}
+
+/// Parts of these lengths.
+fn parts_of(alloc: Global, lens: &[u16]) -> Result<Vec<Vec<u8>>, AllocError>
+    requires { length lens.now < 256 }
+    ensures few { IfOk result (λ parts. length parts.items < 256) }
+    ensures short { IfOk result (λ parts. All (λ p. length p.items < 65536) parts.items) }
+{
+    let mut parts = Vec::new(alloc);
+    for len in lens {
+        parts.push(vec![in alloc; b'x'; usize::from(*len)]?)?;
+    }
+    Ok(parts)
+}
+
+#[test]
+fn one_message_is_sent_as_it_is_and_others_with_their_lengths(
+    rt: HostRuntime,
+) -> Result<(), AllocError> {
+    let rows: [(&[u16], &[u8], usize); 4] = [
+        (&[], &[7, 0], 2),
+        (&[3], b"xxx", 3),
+        (&[2, 1], b"\x07\x02\x00\x02\x00\x01xxx", 9),
+        (&[300, 0], b"\x07\x02\x01\x2c\x00\x00x", 306),
+    ];
+    for (lens, head, len) in rows {
+        let message = datagram(rt.alloc(), parts_of(rt.alloc(), lens)?)?;
+        assert!(rt; message.starts_with(head));
+        assert_eq!(rt; message.len(), len);
+    }
+    Ok(())
+}
+
+/// `SuspicionMult`, the probe interval in milliseconds, the number of members, and when a suspicion
+/// ends that began at 0, in microseconds, with one to five accusers, where
+/// `SuspicionMaxTimeoutMult` is 6: `suspectNode`, `suspicionTimeout` and `remainingSuspicionTime`
+/// with their floating point, computed in Python.
+const SUSPICIONS: [(u16, u32, u32, [u64; 5]); 18] = [
+    (
+        4,
+        1000,
+        3,
+        [4_000_000, 4_000_000, 4_000_000, 4_000_000, 4_000_000],
+    ),
+    (
+        4,
+        1000,
+        4,
+        [24_000_000, 11_381_000, 4_000_000, 4_000_000, 4_000_000],
+    ),
+    (
+        4,
+        1000,
+        5,
+        [24_000_000, 11_381_000, 4_000_000, 4_000_000, 4_000_000],
+    ),
+    (
+        4,
+        1000,
+        10,
+        [24_000_000, 11_381_000, 4_000_000, 4_000_000, 4_000_000],
+    ),
+    (
+        4,
+        1000,
+        25,
+        [33_528_000, 15_899_000, 5_588_000, 5_588_000, 5_588_000],
+    ),
+    (
+        4,
+        1000,
+        100,
+        [48_000_000, 22_762_000, 8_000_000, 8_000_000, 8_000_000],
+    ),
+    (
+        4,
+        1000,
+        1000,
+        [72_000_000, 34_144_000, 12_000_000, 12_000_000, 12_000_000],
+    ),
+    (
+        4,
+        1000,
+        100_000,
+        [120_000_000, 56_907_000, 20_000_000, 20_000_000, 20_000_000],
+    ),
+    (
+        6,
+        5000,
+        5,
+        [30_000_000, 30_000_000, 30_000_000, 30_000_000, 30_000_000],
+    ),
+    (
+        6,
+        5000,
+        6,
+        [180_000_000, 115_398_000, 77_609_000, 50_797_000, 30_000_000],
+    ),
+    (
+        6,
+        5000,
+        40,
+        [
+            288_360_000,
+            184_868_000,
+            124_329_000,
+            81_376_000,
+            48_060_000,
+        ],
+    ),
+    (
+        6,
+        5000,
+        2500,
+        [
+            611_460_000,
+            392_008_000,
+            263_638_000,
+            172_557_000,
+            101_910_000,
+        ],
+    ),
+    (
+        6,
+        5000,
+        100_000,
+        [
+            900_000_000,
+            576_992_000,
+            388_045_000,
+            253_985_000,
+            150_000_000,
+        ],
+    ),
+    (
+        3,
+        1000,
+        2,
+        [3_000_000, 3_000_000, 3_000_000, 3_000_000, 3_000_000],
+    ),
+    (
+        3,
+        1000,
+        3,
+        [18_000_000, 3_000_000, 3_000_000, 3_000_000, 3_000_000],
+    ),
+    (
+        3,
+        1000,
+        50,
+        [30_564_000, 5_094_000, 5_094_000, 5_094_000, 5_094_000],
+    ),
+    (
+        5,
+        1000,
+        12,
+        [32_370_000, 18_882_000, 10_992_000, 5_395_000, 5_395_000],
+    ),
+    (
+        2,
+        1000,
+        30,
+        [2_954_000, 2_954_000, 2_954_000, 2_954_000, 2_954_000],
+    ),
+];
+
+#[test]
+fn a_suspicion_ends_as_memberlist_computes(rt: HostRuntime) {
+    for (mult, interval, members, ends) in SUSPICIONS {
+        assert!(rt; mult <= 6);
+        let suspicion = Suspicion::begun(mult, 6, interval, members);
+        let dues = [1, 2, 3, 4, 5].map(|accusers| suspicion.due(0, accusers));
+        assert_eq!(rt; dues, ends);
+    }
 }

@@ -1,0 +1,241 @@
+//! A whole member.
+
+mod datagrams;
+mod gossiping;
+mod hearing;
+mod joining;
+mod messages;
+mod probing;
+mod sending;
+mod streams;
+mod suspecting;
+mod timing;
+
+ghost use Rattle.std.specs.Prelude.{◌≡◌, []};
+ghost use Rattle.std.specs.List.{All};
+ghost use Rattle.memberlist_member.specs.Outputs.{FitsIn};
+ghost use Rattle.memberlist_member.specs.Viewing.{IsViewUntil};
+
+use crate::awareness::Awareness;
+use crate::config::{Config, Settings, micros};
+use crate::connections::Connections;
+use crate::cover::Cover;
+use crate::fault::StepFault;
+use crate::input::Input;
+use crate::lost::LostMembers;
+use crate::output::{Output, Outputs};
+use crate::own::{Identity, Own};
+use crate::probe::Probe;
+use crate::queue::Queue;
+use crate::relays::Relays;
+use crate::rounds::Rounds;
+use crate::suspicions::Suspicions;
+use memberlist_view::View;
+use rand::RngExt;
+use rand_core::Rng;
+use std::alloc::{AllocError, Global};
+use std::net::SocketAddr;
+
+/// A member of a memberlist cluster. It has no socket, clock or thread: it is told what came and what
+/// time it is, and says what is to be sent.
+#[derive(Drop)]
+pub struct Member {
+    alloc: Global,
+    settings: Settings,
+    own: Own,
+    cover: Cover,
+    view: View,
+    rounds: Rounds,
+    health: Awareness,
+    probe: Option<Probe>,
+    relays: Relays,
+    suspicions: Suspicions,
+    /// Claims to be told, and the program's messages.
+    claims: Queue,
+    said: Queue,
+    /// How many messages the program said.
+    says: u64,
+    connections: Connections,
+    lost: LostMembers,
+    seeds: Vec<SocketAddr>,
+    /// The program's own state.
+    state: Vec<u8>,
+    out: Outputs,
+    /// The time, in microseconds; the number of the last ping, and of the last connection.
+    time: u64,
+    seq: u32,
+    conn: u64,
+    /// When the next of each is due.
+    times: Times,
+    /// How many messages were refused.
+    refused: u64,
+    ghost limited: { out.limit ≡ settings.udp_buffer_size },
+    ghost viewed: { IsViewUntil view time },
+}
+
+/// When the next of each is due, in microseconds.
+#[derive(Clone, Copy, Debug)]
+struct Times {
+    probe: u64,
+    gossip: u64,
+    push_pull: u64,
+    reconnect: u64,
+    seed: u64,
+    /// When the leave has been told for long enough; none if the member does not leave.
+    departure: Option<u64>,
+}
+
+impl Member {
+    /// A member that knows nobody, at this time in microseconds.
+    ///
+    /// # Errors
+    ///
+    /// `AllocError` if out of memory.
+    pub fn new<R: Rng>(
+        alloc: Global,
+        settings: Settings,
+        cover: Cover,
+        identity: Identity,
+        now: u64,
+        rng: &mut R,
+    ) -> Result<Member, AllocError> {
+        let config = settings.config();
+        let mut member = Member {
+            alloc,
+            settings,
+            own: Own::new(identity),
+            cover,
+            view: View::new(alloc, micros(config.gossip_to_the_dead_time)),
+            rounds: Rounds::new(alloc),
+            health: Awareness::new(config.awareness_max_multiplier),
+            probe: None,
+            relays: Relays::new(alloc),
+            suspicions: Suspicions::new(alloc),
+            claims: Queue::new(alloc),
+            said: Queue::new(alloc),
+            says: 0,
+            connections: Connections::new(alloc),
+            lost: LostMembers::new(alloc),
+            seeds: Vec::new(alloc),
+            state: Vec::new(alloc),
+            out: Outputs::new(alloc, usize::from(config.udp_buffer_size)),
+            time: now,
+            seq: rng.next_u32(),
+            conn: 0,
+            times: Times::staggered(&config, now, rng),
+            refused: 0,
+        };
+        member.announce(rng)?;
+        Ok(member)
+    }
+
+    /// What the member shows of each member, itself included.
+    pub fn view(&self) -> &View
+        ensures same { result.now ≡ self.now.view }
+        ensures viewed { IsViewUntil result.now self.now.time }
+    {
+        &self.view
+    }
+
+    /// Its incarnation.
+    pub fn inc(&self) -> u32 {
+        self.own.inc
+    }
+
+    /// How unhealthy it takes itself to be: 0 if it is well.
+    pub fn health(&self) -> u32 {
+        self.health.score()
+    }
+
+    /// How many datagrams, streams and messages were refused.
+    pub fn refused(&self) -> u64 {
+        self.refused
+    }
+
+    /// The cluster's keys and label, which may be changed.
+    pub fn cover_mut(&mut self) -> &mut Cover {
+        &mut self.cover
+    }
+
+    /// What it put out since this was last asked.
+    pub fn take_outputs(&mut self) -> Outputs
+        ensures all { result ≡ self.old.out }
+        ensures none { self.new.out.list.items ≡ [] }
+        ensures fits { All (FitsIn self.old.settings.udp_buffer_size) result.list.items }
+    {
+        let limit = usize::from(self.config().udp_buffer_size);
+        std::mem::replace(&mut self.out, Outputs::new(self.alloc, limit))
+    }
+
+    /// Tells it something, at this time in microseconds, which never falls.
+    ///
+    /// # Errors
+    ///
+    /// `Memory` if out of memory: what was told is then heeded in part, as if the rest were lost.
+    /// `TooLong` if it is metadata of more than 512 bytes, or a message that fits no datagram.
+    pub fn step<R: Rng>(
+        &mut self,
+        now: u64,
+        input: Input<'_>,
+        rng: &mut R,
+    ) -> Result<(), StepFault> {
+        self.time = self.time.max(now);
+        match input {
+            Input::Tick => self.tick(rng)?,
+            Input::Datagram { from, bytes } => self.take_datagram(from, bytes, rng)?,
+            Input::Accepted { conn } => self.take_connection(conn)?,
+            Input::Connected { conn } => self.write_first(conn)?,
+            Input::Received { conn, bytes } => self.take_bytes(conn, bytes, rng)?,
+            Input::Closed { conn } => self.end_connection(conn, rng)?,
+            Input::Join { seeds } => self.join(seeds, rng)?,
+            Input::Leave => self.leave(rng)?,
+            Input::Update { meta } => return self.update(meta, rng),
+            Input::Say { bytes } => return self.say(bytes),
+            Input::State { bytes } => self.set_state(bytes)?,
+        }
+        Ok(())
+    }
+
+    fn config(&self) -> Config
+        ensures { result ≡ self.now.settings }
+    {
+        self.settings.config()
+    }
+
+    /// Puts out something.
+    fn put(&mut self, output: Output) -> Result<(), AllocError> {
+        self.out.push(output)
+    }
+
+    /// How many members there are, itself included, and dead ones that are not yet forgotten
+    /// (`estNumNodes`).
+    fn members(&self) -> u32 {
+        u32::try_from(self.rounds.len()).unwrap_or(u32::MAX)
+    }
+
+    /// The number of the next ping.
+    fn next_seq(&mut self) -> u32 {
+        self.seq = self.seq.wrapping_add(1);
+        self.seq
+    }
+}
+
+impl Times {
+    /// Each begins at a random time within its interval, so that members that begin together do not
+    /// all act at once (`schedule`, `randStagger`).
+    fn staggered<R: Rng>(config: &Config, now: u64, rng: &mut R) -> Times {
+        Times {
+            probe: now.saturating_add(stagger(config.probe_interval, rng)),
+            gossip: now.saturating_add(stagger(config.gossip_interval, rng)),
+            push_pull: now.saturating_add(stagger(config.push_pull_interval, rng)),
+            reconnect: now.saturating_add(stagger(config.reconnect_interval, rng)),
+            seed: now.saturating_add(micros(config.probe_interval)),
+            departure: None,
+        }
+    }
+}
+
+/// A random time within so many milliseconds, in microseconds.
+fn stagger<R: Rng>(interval: u32, rng: &mut R) -> u64 {
+    micros(rng.random_range(0..interval.max(1) as usize) as u32)
+}

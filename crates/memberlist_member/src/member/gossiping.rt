@@ -1,0 +1,97 @@
+//! Gossip (`gossip` in state.go), and choices among members (`kRandomNodes` in util.go).
+
+use crate::config::micros;
+use crate::member::Member;
+use crate::member::hearing::copy_of;
+use crate::member::probing::place_in;
+use memberlist_view::{Entry, MemberName, State};
+use rand_core::Rng;
+use std::alloc::AllocError;
+
+/// Which members are chosen.
+#[derive(Clone, Copy, Debug)]
+pub(crate) enum Among {
+    /// Those that are alive, and not suspected.
+    Alive,
+    /// Those to which gossip goes: all but those that left, or are dead for long.
+    Hearers,
+}
+
+impl Member {
+    /// Tells news to some members.
+    pub(crate) fn gossip<R: Rng>(&mut self, rng: &mut R) -> Result<(), AllocError> {
+        if self.config().is_silent || (self.claims.len() == 0 && self.said.len() == 0) {
+            return Ok(());
+        }
+        let count = self.config().gossip_nodes as usize;
+        let members = self.some_members(count, None, Among::Hearers, rng)?;
+        for name in &members {
+            let Some(entry) = self.view.get(name) else {
+                continue;
+            };
+            let Some(to) = place_in(entry) else {
+                continue;
+            };
+            let news = self.take_news(self.room().saturating_sub(2))?;
+            if news.is_empty() {
+                break;
+            }
+            self.send(to, news, rng)?;
+        }
+        Ok(())
+    }
+
+    /// Up to so many members at random that are in such a state, without this one and another one: by
+    /// up to three draws for each member that there is.
+    pub(crate) fn some_members<R: Rng>(
+        &self,
+        count: usize,
+        other: Option<&MemberName>,
+        among: Among,
+        rng: &mut R,
+    ) -> Result<Vec<MemberName>, AllocError> {
+        let mut chosen: Vec<MemberName> = Vec::new(self.alloc);
+        let wait = micros(self.config().gossip_to_the_dead_time);
+        for _ in 0..self.rounds.len().saturating_mul(3) {
+            if count <= chosen.len() {
+                break;
+            }
+            let Some(name) = self.rounds.any(rng) else {
+                break;
+            };
+            let Some(entry) = self.view.get(name) else {
+                continue;
+            };
+            if !among.includes(entry, self.time, wait)
+                || *name == self.own.name
+                || is(other, name)
+            {
+                continue;
+            }
+            if !chosen.iter().any(|each| *each == *name) {
+                chosen.push(copy_of(self.alloc, name)?)?;
+            }
+        }
+        Ok(chosen)
+    }
+}
+
+/// Whether this is the name.
+fn is(other: Option<&MemberName>, name: &MemberName) -> bool {
+    match other {
+        Some(other) => *other == *name,
+        None => false,
+    }
+}
+
+impl Among {
+    /// Whether the member is one of these, at this time.
+    fn includes(self, entry: &Entry, now: u64, wait: u64) -> bool {
+        match (self, &entry.state) {
+            (_, State::Alive) => true,
+            (Among::Hearers, State::Suspect { .. }) => true,
+            (Among::Hearers, State::Dead { .. }) => now.saturating_sub(entry.since) <= wait,
+            _ => false,
+        }
+    }
+}

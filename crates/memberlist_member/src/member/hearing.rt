@@ -1,0 +1,257 @@
+//! What the member hears, about others and about itself.
+
+use crate::config::micros;
+use crate::member::Member;
+use crate::output::Output;
+use crate::own::Verdict;
+use crate::place::place_of;
+use crate::suspicion::Suspicion;
+use memberlist_view::{Event, Heard, MemberName, Said, State};
+use rand_core::Rng;
+use std::alloc::{AllocError, Global};
+use swim_claim::Claim;
+use swim_wire::{MAX_NODES, Packet, encode_packet};
+
+impl Member {
+    /// Hears a claim, of a packet or of a record; of a record a new name joins or does not.
+    pub(crate) fn hear<R: Rng>(
+        &mut self,
+        packet: &Packet,
+        joins: bool,
+        rng: &mut R,
+    ) -> Result<(), AllocError> {
+        if *packet.claim().name().bytes() == *self.own.name.name().bytes() {
+            return self.hear_about_itself(packet, rng);
+        }
+        let heard = Heard {
+            time: self.time,
+            said: said_by(self.alloc, packet, joins)?,
+        };
+        if MAX_NODES as usize <= self.rounds.len() && self.view.get(heard.said.name()).is_none() {
+            return Ok(());
+        }
+        let Some(event) = self.view.hear_as_member(&heard)? else {
+            return Ok(());
+        };
+        self.follow(heard.said.name(), event, rng)?;
+        self.tell_on(packet, event)?;
+        self.show(heard.said.name(), event)
+    }
+
+    /// Does what an event asks for.
+    pub(crate) fn follow<R: Rng>(
+        &mut self,
+        name: &MemberName,
+        event: Event,
+        rng: &mut R,
+    ) -> Result<(), AllocError> {
+        match event {
+            Event::Joined | Event::Known => self.admit(name, rng),
+            Event::Back | Event::Updated | Event::Renewed | Event::Refuted | Event::Left => {
+                self.suspicions.remove(name);
+                self.lost.remove(name);
+                Ok(())
+            }
+            Event::Suspected => self.suspect(name),
+            Event::Dead => {
+                self.suspicions.remove(name);
+                self.lose(name)
+            }
+            Event::AlsoSuspected | Event::Conflict | Event::Seen => Ok(()),
+        }
+    }
+
+    /// Adds a member of which the first Alive was believed.
+    fn admit<R: Rng>(&mut self, name: &MemberName, rng: &mut R) -> Result<(), AllocError> {
+        if !self.is_known(name) {
+            return Ok(());
+        }
+        let copy = copy_of(self.alloc, name)?;
+        self.lost.remove(name);
+        self.rounds.add(copy, rng)
+    }
+
+    /// Whether an Alive of the name was believed.
+    pub(crate) fn is_known(&self, name: &MemberName) -> bool {
+        match self.view.get(name) {
+            Some(entry) => !matches!(entry.state, State::Noted),
+            None => false,
+        }
+    }
+
+    /// Begins to wait for what a member that is suspected says.
+    fn suspect(&mut self, name: &MemberName) -> Result<(), AllocError> {
+        let config = self.settings.config();
+        let suspicion = Suspicion::begun(
+            config.suspicion_mult,
+            config.suspicion_max_timeout_mult,
+            config.probe_interval,
+            self.members(),
+        );
+        let copy = copy_of(self.alloc, name)?;
+        self.suspicions.add(copy, suspicion)
+    }
+
+    /// Remembers where a member was that died.
+    fn lose(&mut self, name: &MemberName) -> Result<(), AllocError> {
+        let Some(entry) = self.view.get(name) else {
+            return Ok(());
+        };
+        let Some(details) = &entry.details else {
+            return Ok(());
+        };
+        let Some(place) = place_of(details) else {
+            return Ok(());
+        };
+        let until = self
+            .time
+            .saturating_add(micros(self.config().reconnect_timeout));
+        let copy = copy_of(self.alloc, name)?;
+        self.lost.add(copy, place, until)
+    }
+
+    /// Tells a claim on that changed the view. Of further accusers only those that count are named.
+    fn tell_on(&mut self, packet: &Packet, event: Event) -> Result<(), AllocError> {
+        if self.config().is_silent || !self.is_news(packet, event)? {
+            return Ok(());
+        }
+        self.queue_claim(packet)
+    }
+
+    fn is_news(&self, packet: &Packet, event: Event) -> Result<bool, AllocError> {
+        let name = MemberName::new(packet.claim().name().try_clone(self.alloc)?);
+        Ok(match event {
+            Event::Conflict | Event::Seen => false,
+            Event::AlsoSuspected => self.counts(&name),
+            Event::Joined
+            | Event::Known
+            | Event::Back
+            | Event::Updated
+            | Event::Renewed
+            | Event::Refuted
+            | Event::Suspected
+            | Event::Dead
+            | Event::Left => self.is_known(&name),
+        })
+    }
+
+    /// Whether the last accuser of the member shortened its time (`Confirm` in suspicion.go).
+    fn counts(&self, name: &MemberName) -> bool {
+        let Some(entry) = self.view.get(name) else {
+            return false;
+        };
+        match &entry.state {
+            State::Suspect { by } => by.names().len() <= self.suspicions.wanted(name) as usize + 1,
+            State::Noted | State::Seen | State::Alive | State::Dead { .. } | State::Left => false,
+        }
+    }
+
+    /// Puts a claim into the queue; one that fits no datagram is told with the tables alone.
+    pub(crate) fn queue_claim(&mut self, packet: &Packet) -> Result<(), AllocError> {
+        let bytes = encode_packet(self.alloc, packet)?;
+        if self.room() < 4 + bytes.len() {
+            let name = packet.claim().name().try_clone(self.alloc)?;
+            return self.put(Output::Untold {
+                name: MemberName::new(name),
+            });
+        }
+        let subject = packet.claim().name().bytes().to_vec(self.alloc)?;
+        self.claims.push(subject, bytes)
+    }
+
+    /// Puts out what changed.
+    fn show(&mut self, name: &MemberName, event: Event) -> Result<(), AllocError> {
+        let alloc = self.alloc;
+        let Some(entry) = self.view.get(name) else {
+            return Ok(());
+        };
+        let inc = entry.inc;
+        let by = match &entry.state {
+            State::Suspect { by } => by.names().last(),
+            State::Dead { by } => by.as_ref(),
+            State::Noted | State::Seen | State::Alive | State::Left => None,
+        };
+        let by = match by {
+            Some(name) => Some(copy_of(alloc, name)?),
+            None => None,
+        };
+        let name = copy_of(alloc, name)?;
+        self.put(Output::Changed {
+            name,
+            event,
+            inc,
+            by,
+        })
+    }
+
+    /// Hears a claim about itself: it refutes what it does not say itself.
+    fn hear_about_itself<R: Rng>(
+        &mut self,
+        packet: &Packet,
+        rng: &mut R,
+    ) -> Result<(), AllocError> {
+        match self.own.judge(packet.claim()) {
+            Verdict::Stands => Ok(()),
+            Verdict::Refute => self.refute(packet.claim().inc(), rng),
+            Verdict::Conflict => {
+                let name = copy_of(self.alloc, &self.own.name)?;
+                self.put(Output::Changed {
+                    name,
+                    event: Event::Conflict,
+                    inc: packet.claim().inc(),
+                    by: None,
+                })
+            }
+        }
+    }
+
+    /// Says that it is alive, at an incarnation above its own and this one (`refute`).
+    fn refute<R: Rng>(&mut self, accused: u32, rng: &mut R) -> Result<(), AllocError> {
+        if !self.own.outdo(accused) {
+            return self.put(Output::Exhausted);
+        }
+        self.health.worsen(1);
+        self.announce(rng)?;
+        self.put(Output::Refuted { inc: self.own.inc })
+    }
+
+    /// Tells what it says about itself.
+    pub(crate) fn announce<R: Rng>(&mut self, rng: &mut R) -> Result<(), AllocError> {
+        let packet = self.own.alive(self.alloc)?;
+        self.hear_itself(&packet, rng)
+    }
+
+    /// Hears what it says itself.
+    pub(crate) fn hear_itself<R: Rng>(
+        &mut self,
+        packet: &Packet,
+        rng: &mut R,
+    ) -> Result<(), AllocError> {
+        let heard = Heard {
+            time: self.time,
+            said: said_by(self.alloc, packet, true)?,
+        };
+        let Some(event) = self.view.hear_as_member(&heard)? else {
+            return Ok(());
+        };
+        self.follow(heard.said.name(), event, rng)?;
+        self.queue_claim(packet)?;
+        self.show(heard.said.name(), event)
+    }
+}
+
+/// What a packet says.
+fn said_by(alloc: Global, packet: &Packet, joins: bool) -> Result<Said, AllocError> {
+    let claim = packet.claim().try_clone(alloc)?;
+    match claim {
+        Claim::Alive { .. } => Ok(Said::of_record(claim, joins)),
+        Claim::Suspect { .. } | Claim::Confirm { .. } | Claim::Leave { .. } => {
+            Said::of_packet(alloc, claim, packet.from_name())
+        }
+    }
+}
+
+/// A copy of a name.
+pub(crate) fn copy_of(alloc: Global, name: &MemberName) -> Result<MemberName, AllocError> {
+    Ok(MemberName::new(name.name().try_clone(alloc)?))
+}

@@ -1,0 +1,106 @@
+//! Joining, leaving, and what the program says.
+
+use crate::config::micros;
+use crate::fault::StepFault;
+use crate::member::Member;
+use crate::output::Output;
+use memberlist_message::encode_user;
+use memberlist_view::State;
+use rand_core::Rng;
+use std::alloc::AllocError;
+use std::net::SocketAddr;
+use swim_claim::Details;
+
+/// How long a leave is told at most, in milliseconds (own; Serf's `BroadcastTimeout`).
+const DEPARTURE: u32 = 5000;
+
+impl Member {
+    /// Joins by these members.
+    pub(crate) fn join<R: Rng>(
+        &mut self,
+        seeds: &[SocketAddr],
+        rng: &mut R,
+    ) -> Result<(), AllocError> {
+        self.seeds = seeds.to_vec(self.alloc)?;
+        for seed in seeds {
+            self.exchange(*seed, true, rng)?;
+        }
+        Ok(())
+    }
+
+    /// Leaves: it says that it is dead, which only a member that leaves says of itself (`Leave`).
+    pub(crate) fn leave<R: Rng>(&mut self, rng: &mut R) -> Result<(), AllocError> {
+        if self.own.is_leaving {
+            return Ok(());
+        }
+        let packet = self.own.leave(self.alloc)?;
+        self.hear_itself(&packet, rng)?;
+        self.own.is_leaving = true;
+        self.times.departure = Some(self.time.saturating_add(micros(DEPARTURE)));
+        Ok(())
+    }
+
+    /// Ends the departure once the leave was told as often as it is to be, nobody is there to hear
+    /// it, or its time is over.
+    pub(crate) fn depart(&mut self) -> Result<(), AllocError> {
+        let Some(until) = self.times.departure else {
+            return Ok(());
+        };
+        if self.time < until && 0 < self.claims.len() && !self.is_alone() {
+            return Ok(());
+        }
+        self.times.departure = None;
+        self.put(Output::Departed)
+    }
+
+    /// Whether no other member is alive or suspected.
+    pub(crate) fn is_alone(&self) -> bool {
+        for index in 0..self.rounds.len() {
+            let Some(name) = self.rounds.get(index) else {
+                break;
+            };
+            let Some(entry) = self.view.get(name) else {
+                continue;
+            };
+            let is_here = matches!(entry.state, State::Alive | State::Suspect { .. });
+            if is_here && *name != self.own.name {
+                return false;
+            }
+        }
+        true
+    }
+
+    /// Has this metadata from now on, which may have up to 512 bytes (`UpdateNode`).
+    pub(crate) fn update<R: Rng>(&mut self, meta: &[u8], rng: &mut R) -> Result<(), StepFault> {
+        let old = &self.own.details;
+        let meta = meta.to_vec(self.alloc)?;
+        let Ok(details) = Details::of(old.addr(), old.port(), meta, old.vsn()) else {
+            return Err(StepFault::TooLong);
+        };
+        if !self.own.outdo(0) {
+            self.put(Output::Exhausted)?;
+            return Ok(());
+        }
+        self.own.details = details;
+        self.announce(rng)?;
+        Ok(())
+    }
+
+    /// Tells a message of the program, if it fits a datagram.
+    pub(crate) fn say(&mut self, bytes: &[u8]) -> Result<(), StepFault> {
+        let message = encode_user(self.alloc, bytes)?;
+        if self.room() < 4 + message.len() {
+            return Err(StepFault::TooLong);
+        }
+        let subject = self.says.to_be_bytes().to_vec(self.alloc)?;
+        self.says = self.says.wrapping_add(1);
+        self.said.push(subject, message)?;
+        Ok(())
+    }
+
+    /// Sends this along with tables from now on.
+    pub(crate) fn set_state(&mut self, bytes: &[u8]) -> Result<(), AllocError> {
+        self.state = bytes.to_vec(self.alloc)?;
+        Ok(())
+    }
+}

@@ -1,0 +1,341 @@
+//! Probes (`probe`, `probeNode` in state.go).
+
+ghost use Rattle.std.specs.Prelude.{◌<◌, ◌≤◌, ◌^◌, IfOk, length};
+
+use crate::claims;
+use crate::config::micros;
+use crate::connections::Purpose;
+use crate::member::Member;
+use crate::member::gossiping::Among;
+use crate::member::hearing::copy_of;
+use crate::output::Output;
+use crate::place::place_of;
+use crate::probe::Probe;
+use memberlist_message::{IndirectPing, encode_indirect_ping};
+use memberlist_view::{Entry, MemberName, State};
+use rand_core::Rng;
+use std::alloc::AllocError;
+use std::net::SocketAddr;
+use swim_wire::{Packet, encode_packet};
+
+/// From this version of the protocol on a member that is asked to ping another one says so if it
+/// gets no answer; and one is asked over TCP too.
+const HAS_NACK: u8 = 4;
+
+const HAS_TCP_PING: u8 = 3;
+
+impl Member {
+    /// Probes the next member, unless a probe runs.
+    pub(crate) fn begin_probe<R: Rng>(&mut self, rng: &mut R) -> Result<(), AllocError> {
+        if self.probe.is_some() || self.own.is_leaving || self.config().is_silent {
+            return Ok(());
+        }
+        match self.next_to_probe(rng)? {
+            Some(name) => self.probe_member(name, rng),
+            None => Ok(()),
+        }
+    }
+
+    /// The next member that is neither this one nor gone; none if there is none in two rounds.
+    fn next_to_probe<R: Rng>(&mut self, rng: &mut R) -> Result<Option<MemberName>, AllocError> {
+        for _ in 0..2 {
+            for _ in 0..self.rounds.len() {
+                let Some(name) = self.rounds.next() else {
+                    break;
+                };
+                if *name == self.own.name {
+                    continue;
+                }
+                let Some(entry) = self.view.get(name) else {
+                    continue;
+                };
+                if is_here(entry) {
+                    return Ok(Some(copy_of(self.alloc, name)?));
+                }
+            }
+            self.begin_round(rng)?;
+        }
+        Ok(None)
+    }
+
+    /// Begins another round, and forgets who has been gone for long (`resetNodes`).
+    fn begin_round<R: Rng>(&mut self, rng: &mut R) -> Result<(), AllocError> {
+        let count = self.view.forget(self.time);
+        self.rounds.begin(&self.view, rng);
+        if count == 0 {
+            return Ok(());
+        }
+        self.put(Output::Forgotten { count })
+    }
+
+    /// Begins to probe this member.
+    fn probe_member<R: Rng>(&mut self, name: MemberName, rng: &mut R) -> Result<(), AllocError> {
+        let Some(entry) = self.view.get(&name) else {
+            return Ok(());
+        };
+        let inc = entry.inc;
+        let is_suspect = matches!(entry.state, State::Suspect { .. });
+        let Some(place) = place_in(entry) else {
+            return Ok(());
+        };
+        let seq = self.next_seq();
+        let ping = self.ping(seq, name.name().bytes())?;
+        let warning = if is_suspect {
+            Some(self.suspicion_of(&name, inc)?)
+        } else {
+            None
+        };
+        self.probe = Some(Probe {
+            seq,
+            name,
+            inc,
+            ask_at: Some(
+                self.time
+                    .saturating_add(micros(self.config().probe_timeout)),
+            ),
+            due: self.time.saturating_add(
+                self.health
+                    .scaled(self.config().probe_interval)
+                    .saturating_mul(1000),
+            ),
+            expected: 0,
+            nacks: 0,
+            conn: None,
+        });
+        match warning {
+            Some(packet) => self.send_warning(place, ping, &packet, rng),
+            None => self.send_with_news(place, ping, rng),
+        }
+    }
+
+    /// Its own suspicion of a member.
+    fn suspicion_of(&self, name: &MemberName, inc: u32) -> Result<Packet, AllocError> {
+        let copy = name.name().try_clone(self.alloc)?;
+        claims::suspect(self.alloc, copy, inc, self.own.name.name())
+    }
+
+    /// Sends a ping to a member that is suspected, and tells it so, so that it can refute at once.
+    fn send_warning<R: Rng>(
+        &mut self,
+        to: SocketAddr,
+        ping: Vec<u8>,
+        packet: &Packet,
+        rng: &mut R,
+    ) -> Result<(), AllocError> {
+        let warning = encode_packet(self.alloc, packet)?;
+        let room = self.room();
+        if room < ping.len() {
+            return Ok(());
+        }
+        let fits = 6 + ping.len() + warning.len() <= room;
+        let mut parts = Vec::new(self.alloc);
+        parts.push(ping)?;
+        if fits {
+            parts.push(warning)?;
+        }
+        self.send(to, parts, rng)
+    }
+
+    /// Goes on with the probe: asks others if there was no answer yet, and ends it in time.
+    pub(crate) fn go_on_probing<R: Rng>(&mut self, rng: &mut R) -> Result<(), AllocError> {
+        let Some(probe) = &mut self.probe else {
+            return Ok(());
+        };
+        if probe.due <= self.time {
+            return self.end_probe(rng);
+        }
+        match probe.ask_at {
+            Some(ask_at) if ask_at <= self.time => {
+                probe.ask_at = None;
+                self.ask_others(rng)
+            }
+            _ => Ok(()),
+        }
+    }
+
+    /// Asks other members to ping the one that is probed, and asks itself over TCP.
+    fn ask_others<R: Rng>(&mut self, rng: &mut R) -> Result<(), AllocError> {
+        let Some(probe) = &self.probe else {
+            return Ok(());
+        };
+        let name = copy_of(self.alloc, &probe.name)?;
+        let seq = probe.seq;
+        let Some(entry) = self.view.get(&name) else {
+            return Ok(());
+        };
+        let Some(place) = place_in(entry) else {
+            return Ok(());
+        };
+        let speaks_tcp = HAS_TCP_PING <= version_of(entry);
+        let count = self.config().indirect_checks as usize;
+        let peers = self.some_members(count, Some(&name), Among::Alive, rng)?;
+        for peer in &peers {
+            self.ask(peer, seq, &name, place, rng)?;
+        }
+        if speaks_tcp {
+            self.ask_over_tcp(seq, &name, place, rng)?;
+        }
+        Ok(())
+    }
+
+    /// Asks this member to ping the one that is probed.
+    fn ask<R: Rng>(
+        &mut self,
+        peer: &MemberName,
+        seq_no: u32,
+        name: &MemberName,
+        place: SocketAddr,
+        rng: &mut R,
+    ) -> Result<(), AllocError> {
+        let Some(entry) = self.view.get(peer) else {
+            return Ok(());
+        };
+        let nack = HAS_NACK <= version_of(entry);
+        let Some(to) = place_in(entry) else {
+            return Ok(());
+        };
+        if let Some(probe) = &mut self.probe {
+            if nack {
+                probe.expected = probe.expected.saturating_add(1);
+            }
+        }
+        let message = self.indirect_ping(seq_no, name.name().bytes(), place, nack)?;
+        self.send_with_news(to, message, rng)
+    }
+
+    /// The bytes of an indirect ping; names that would not fit are left out, as in a ping.
+    fn indirect_ping(
+        &self,
+        seq_no: u32,
+        name: &[u8],
+        place: SocketAddr,
+        nack: bool,
+    ) -> Result<Vec<u8>, AllocError>
+        requires { length name.now < 2 ^ 16 }
+    {
+        let own = self.own.name.name().bytes();
+        let whole = self.indirect_ping_with(seq_no, name, place, nack, own)?;
+        if whole.len() <= self.room() {
+            return Ok(whole);
+        }
+        let shorter = self.indirect_ping_with(seq_no, name, place, nack, &[])?;
+        if shorter.len() <= self.room() {
+            return Ok(shorter);
+        }
+        self.indirect_ping_with(seq_no, &[], place, nack, &[])
+    }
+
+    fn indirect_ping_with(
+        &self,
+        seq_no: u32,
+        name: &[u8],
+        place: SocketAddr,
+        nack: bool,
+        own: &[u8],
+    ) -> Result<Vec<u8>, AllocError>
+        requires name { length name.now < 2 ^ 16 }
+        requires own { length own.now < 2 ^ 16 }
+    {
+        let ping = IndirectPing {
+            seq_no,
+            target: crate::place::bytes_of(self.alloc, &place)?,
+            port: place.port(),
+            node: name.to_vec(self.alloc)?,
+            nack,
+            source_addr: self.own_addr()?,
+            source_port: self.own.details.port(),
+            source_node: own.to_vec(self.alloc)?,
+        };
+        encode_indirect_ping(self.alloc, &ping)
+    }
+
+    /// Pings the member that is probed over a connection (`sendPingAndWaitForAck`).
+    fn ask_over_tcp<R: Rng>(
+        &mut self,
+        seq: u32,
+        name: &MemberName,
+        place: SocketAddr,
+        rng: &mut R,
+    ) -> Result<(), AllocError> {
+        let message = self.ping(seq, name.name().bytes())?;
+        let due = match &self.probe {
+            Some(probe) => probe.due,
+            None => self.time,
+        };
+        let conn = self.dial(place, Purpose::Ping { seq }, message, due, rng)?;
+        if let Some(probe) = &mut self.probe {
+            probe.conn = conn;
+        }
+        Ok(())
+    }
+
+    /// Ends the probe if this ack answers it.
+    pub(crate) fn answer_probe(&mut self, seq: u32) -> Result<(), AllocError> {
+        let Some(probe) = &self.probe else {
+            return Ok(());
+        };
+        if !probe.is_answered_by(seq, self.time) {
+            return Ok(());
+        }
+        let conn = probe.conn;
+        self.probe = None;
+        self.health.improve();
+        match conn {
+            Some(conn) => self.hang_up(conn),
+            None => Ok(()),
+        }
+    }
+
+    /// Notes that a member that was asked got no answer.
+    pub(crate) fn take_nack(&mut self, seq: u32) {
+        if let Some(probe) = &mut self.probe {
+            probe.take_nack(seq);
+        }
+    }
+
+    /// Ends the probe without an answer: the member is suspected.
+    fn end_probe<R: Rng>(&mut self, rng: &mut R) -> Result<(), AllocError> {
+        let Some(probe) = self.probe.take() else {
+            return Ok(());
+        };
+        self.health.worsen(probe.penalty());
+        if let Some(conn) = probe.conn {
+            self.hang_up(conn)?;
+        }
+        self.put(Output::Unanswered {
+            name: copy_of(self.alloc, &probe.name)?,
+            seq: probe.seq,
+            expected: probe.expected,
+            nacks: probe.nacks,
+        })?;
+        let packet = self.suspicion_of(&probe.name, probe.inc)?;
+        self.hear(&packet, true, rng)
+    }
+}
+
+/// Whether a member is neither dead nor left.
+fn is_here(entry: &Entry) -> bool {
+    match entry.state {
+        State::Alive | State::Suspect { .. } => true,
+        State::Noted | State::Seen | State::Dead { .. } | State::Left => false,
+    }
+}
+
+/// Where a member is.
+pub(crate) fn place_in(entry: &Entry) -> Option<SocketAddr> {
+    match &entry.details {
+        Some(details) => place_of(details),
+        None => None,
+    }
+}
+
+/// The greatest version of the protocol that a member speaks.
+fn version_of(entry: &Entry) -> u8 {
+    let Some(details) = &entry.details else {
+        return 0;
+    };
+    match details.vsn() {
+        [_, greatest, ..] => *greatest,
+        _ => 0,
+    }
+}

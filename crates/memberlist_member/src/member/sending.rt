@@ -1,0 +1,94 @@
+//! What the member sends in datagrams.
+
+ghost use Rattle.std.specs.Prelude.{◌<◌, ◌≤◌, IfOk, length};
+ghost use Rattle.std.specs.List.{All};
+
+use crate::compound::datagram;
+use crate::member::Member;
+use crate::output::Output;
+use crate::scale::retransmit_limit;
+use rand_core::Rng;
+use std::alloc::AllocError;
+use std::net::SocketAddr;
+
+/// The bytes of a compound message: its type and the count of its parts, and the length of each.
+const HEAD: usize = 2;
+
+const PART: usize = 2;
+
+/// The most parts of a compound message, besides the first one.
+const MAX_PARTS: usize = 254;
+
+impl Member {
+    /// How many bytes a message in a datagram may have.
+    pub(crate) fn room(&self) -> usize
+        ensures { result < 65536 }
+    {
+        usize::from(self.config().udp_buffer_size).saturating_sub(self.cover.size())
+    }
+
+    /// Sends a message, and what it can tell besides (`encodeAndSendMsg`).
+    pub(crate) fn send_with_news<R: Rng>(
+        &mut self,
+        to: SocketAddr,
+        message: Vec<u8>,
+        rng: &mut R,
+    ) -> Result<(), AllocError> {
+        let room = self.room();
+        if room < message.len() {
+            return Ok(());
+        }
+        let left = room.saturating_sub(HEAD + PART + message.len());
+        let mut parts = Vec::new(self.alloc);
+        parts.push(message)?;
+        let mut news = self.take_news(left)?;
+        parts.append(&mut news)?;
+        self.send(to, parts, rng)
+    }
+
+    /// Takes what is to be told next, as much as fits: claims, and behind them the program's messages
+    /// (`getBroadcasts` in broadcast.go).
+    pub(crate) fn take_news(&mut self, room: usize) -> Result<Vec<Vec<u8>>, AllocError>
+        ensures few { IfOk result (λ news. length news.items ≤ 254) }
+        ensures short { IfOk result (λ news. All (λ p. length p.items ≤ room) news.items) }
+    {
+        let limit = retransmit_limit(self.config().retransmit_mult, self.members());
+        let mut news = self.claims.take(self.alloc, PART, room, MAX_PARTS, limit)?;
+        let left = room_behind(&news, room);
+        let most = MAX_PARTS.saturating_sub(news.len());
+        let mut said = self.said.take(self.alloc, PART, left, most, limit)?;
+        news.append(&mut said)?;
+        Ok(news)
+    }
+
+    /// Sends a datagram of these parts.
+    pub(crate) fn send<R: Rng>(
+        &mut self,
+        to: SocketAddr,
+        parts: Vec<Vec<u8>>,
+        rng: &mut R,
+    ) -> Result<(), AllocError>
+        requires few { length parts.items < 256 }
+        requires short { All (λ p. length p.items < 65536) parts.items }
+    {
+        let message = datagram(self.alloc, parts)?;
+        if self.room() < message.len() {
+            return Ok(());
+        }
+        let Some(bytes) = self.cover.close_packet(self.alloc, message, rng)? else {
+            return Ok(());
+        };
+        self.put(Output::Send { to, bytes })
+    }
+}
+
+/// How much of the room is left behind these parts.
+fn room_behind(parts: &[Vec<u8>], room: usize) -> usize
+    ensures { result ≤ room }
+{
+    let mut left = room;
+    for part in parts {
+        left = left.saturating_sub(PART.saturating_add(part.len()));
+    }
+    left
+}

@@ -1,0 +1,33 @@
+//! What becomes of suspicions.
+
+use crate::claims;
+use crate::member::Member;
+use crate::member::hearing::copy_of;
+use memberlist_view::MemberName;
+use rand_core::Rng;
+use std::alloc::AllocError;
+
+impl Member {
+    /// Declares dead those that did not refute in time.
+    pub(crate) fn end_suspicions<R: Rng>(&mut self, rng: &mut R) -> Result<(), AllocError> {
+        for _ in 0..self.suspicions.len() {
+            let Some(name) = self.suspicions.first_due(&self.view, self.time) else {
+                break;
+            };
+            let name = copy_of(self.alloc, name)?;
+            self.declare_dead(&name, rng)?;
+            self.suspicions.remove(&name);
+        }
+        Ok(())
+    }
+
+    fn declare_dead<R: Rng>(&mut self, name: &MemberName, rng: &mut R) -> Result<(), AllocError> {
+        let Some(entry) = self.view.get(name) else {
+            return Ok(());
+        };
+        let inc = entry.inc;
+        let copy = name.name().try_clone(self.alloc)?;
+        let packet = claims::dead(self.alloc, copy, inc, self.own.name.name())?;
+        self.hear(&packet, true, rng)
+    }
+}

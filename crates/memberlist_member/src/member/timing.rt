@@ -1,0 +1,161 @@
+//! What the member does when its time has come.
+
+use crate::config::micros;
+use crate::connections::Purpose;
+use crate::member::Member;
+use crate::member::gossiping::Among;
+use crate::member::probing::place_in;
+use crate::scale::push_pull_scale;
+use rand::RngExt;
+use rand_core::Rng;
+use std::alloc::AllocError;
+
+impl Member {
+    /// When it is to be told the time next, if nothing comes before.
+    pub fn wake(&self) -> u64 {
+        let times = &self.times;
+        let mut first = times
+            .probe
+            .min(times.gossip)
+            .min(times.push_pull)
+            .min(times.reconnect)
+            .min(times.seed);
+        let others = [
+            times.departure,
+            self.relays.wakes_at(),
+            self.suspicions.wakes_at(&self.view),
+            match &self.probe {
+                Some(probe) => Some(probe.wakes_at()),
+                None => None,
+            },
+        ];
+        for due in others {
+            if let Some(due) = due {
+                first = first.min(due);
+            }
+        }
+        for each in &self.connections.list {
+            first = first.min(each.wakes_at());
+        }
+        first
+    }
+
+    /// Does what is due.
+    pub(crate) fn tick<R: Rng>(&mut self, rng: &mut R) -> Result<(), AllocError> {
+        self.end_relays(rng)?;
+        self.look_again(rng)?;
+        self.go_on_probing(rng)?;
+        if !self.config().is_silent {
+            self.end_suspicions(rng)?;
+        }
+        self.probe_in_time(rng)?;
+        self.gossip_in_time(rng)?;
+        self.exchange_in_time(rng)?;
+        self.reconnect_in_time(rng)?;
+        self.close_overdue(rng)?;
+        self.depart()
+    }
+
+    fn probe_in_time<R: Rng>(&mut self, rng: &mut R) -> Result<(), AllocError> {
+        if self.time < self.times.probe {
+            return Ok(());
+        }
+        self.times.probe = next_tick(self.times.probe, self.config().probe_interval, self.time);
+        self.begin_probe(rng)
+    }
+
+    fn gossip_in_time<R: Rng>(&mut self, rng: &mut R) -> Result<(), AllocError> {
+        if self.time < self.times.gossip {
+            return Ok(());
+        }
+        self.times.gossip = next_tick(self.times.gossip, self.config().gossip_interval, self.time);
+        self.gossip(rng)
+    }
+
+    /// Exchanges tables with a member at random.
+    fn exchange_in_time<R: Rng>(&mut self, rng: &mut R) -> Result<(), AllocError> {
+        if self.time < self.times.push_pull {
+            return Ok(());
+        }
+        let interval = micros(self.config().push_pull_interval).saturating_mul(u64::from(
+            push_pull_scale(self.members()),
+        ));
+        self.times.push_pull = self.time.saturating_add(interval);
+        if self.own.is_leaving || self.config().is_silent {
+            return Ok(());
+        }
+        let members = self.some_members(1, None, Among::Alive, rng)?;
+        for name in &members {
+            if let Some(entry) = self.view.get(name) {
+                if let Some(place) = place_in(entry) {
+                    self.exchange(place, false, rng)?;
+                }
+            }
+        }
+        Ok(())
+    }
+
+    /// Dials a member that was lost, or a seed while it is alone.
+    fn reconnect_in_time<R: Rng>(&mut self, rng: &mut R) -> Result<(), AllocError> {
+        if self.own.is_leaving || self.config().is_silent {
+            return Ok(());
+        }
+        if self.times.reconnect <= self.time {
+            self.times.reconnect = next_tick(
+                self.times.reconnect,
+                self.config().reconnect_interval,
+                self.time,
+            );
+            if let Some(place) = self.lost.any(self.time, rng) {
+                self.exchange(place, false, rng)?;
+            }
+        }
+        if self.times.seed <= self.time {
+            self.times.seed = next_tick(self.times.seed, self.config().probe_interval, self.time);
+            self.dial_seed(rng)?;
+        }
+        Ok(())
+    }
+
+    fn dial_seed<R: Rng>(&mut self, rng: &mut R) -> Result<(), AllocError> {
+        if self.seeds.is_empty() || !self.is_alone() {
+            return Ok(());
+        }
+        let index = rng.random_range(0..self.seeds.len());
+        let seed = self.seeds[index];
+        self.exchange(seed, true, rng)
+    }
+
+    /// Closes the connections whose time is over.
+    fn close_overdue<R: Rng>(&mut self, rng: &mut R) -> Result<(), AllocError> {
+        for _ in 0..self.connections.list.len() {
+            let Some(conn) = self.connections.overdue(self.time) else {
+                break;
+            };
+            self.hang_up(conn)?;
+        }
+        let _ = rng;
+        Ok(())
+    }
+
+    /// Opens a connection to exchange tables.
+    pub(crate) fn exchange<R: Rng>(
+        &mut self,
+        place: std::net::SocketAddr,
+        join: bool,
+        rng: &mut R,
+    ) -> Result<(), AllocError> {
+        let message = self.table(join)?;
+        let due = self.time.saturating_add(micros(self.config().tcp_timeout));
+        let _ = self.dial(place, Purpose::PushPull { join }, message, due, rng)?;
+        Ok(())
+    }
+}
+
+/// The next time after now that is so many milliseconds, or a multiple, after this one: what was
+/// missed is not made up for.
+fn next_tick(last: u64, interval: u32, now: u64) -> u64 {
+    let interval = micros(interval.max(1));
+    let missed = now.saturating_sub(last) / interval;
+    last.saturating_add(missed.saturating_add(1).saturating_mul(interval))
+}

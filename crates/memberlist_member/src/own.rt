@@ -1,0 +1,89 @@
+//! What a member says about itself.
+
+use crate::claims;
+use memberlist_view::MemberName;
+use std::alloc::{AllocError, Global};
+use swim_claim::{Claim, Details, Name};
+use swim_wire::Packet;
+
+/// Who a member is, when it begins.
+#[derive(Drop, Debug)]
+pub struct Identity {
+    pub name: Name,
+    /// Its first incarnation; memberlist's is 1. One that it had before it was stopped is refuted.
+    pub inc: u32,
+    pub details: Details,
+}
+
+/// What a member says about itself.
+#[derive(Drop, Debug)]
+pub(crate) struct Own {
+    pub(crate) name: MemberName,
+    pub(crate) inc: u32,
+    pub(crate) details: Details,
+    /// Whether it leaves, or has left.
+    pub(crate) is_leaving: bool,
+}
+
+/// Whether a claim about this member is to be refuted.
+#[derive(Clone, Copy, Debug, PartialEq, Eq)]
+pub(crate) enum Verdict {
+    /// It says what the member says itself, or said before.
+    Stands,
+    /// It says something else.
+    Refute,
+    /// Another member has this name.
+    Conflict,
+}
+
+impl Own {
+    pub(crate) fn new(identity: Identity) -> Own {
+        let Identity { name, inc, details } = identity;
+        Own {
+            name: MemberName::new(name),
+            inc,
+            details,
+            is_leaving: false,
+        }
+    }
+
+    /// The member's own Alive.
+    pub(crate) fn alive(&self, alloc: Global) -> Result<Packet, AllocError> {
+        let name = self.name.name().try_clone(alloc)?;
+        Ok(claims::alive(alloc, name, self.inc, self.details.try_clone(alloc)?))
+    }
+
+    /// Its leave.
+    pub(crate) fn leave(&self, alloc: Global) -> Result<Packet, AllocError> {
+        let name = self.name.name().try_clone(alloc)?;
+        claims::dead(alloc, name, self.inc, self.name.name())
+    }
+
+    /// What becomes of a claim about this member (`aliveNode`, `suspectNode`, `deadNode`).
+    pub(crate) fn judge(&self, claim: &Claim) -> Verdict {
+        if self.is_leaving || claim.inc() < self.inc {
+            return Verdict::Stands;
+        }
+        let Some(details) = claim.details() else {
+            return Verdict::Refute;
+        };
+        if *details.addr() != *self.details.addr() || details.port() != self.details.port() {
+            return Verdict::Conflict;
+        }
+        if claim.inc() == self.inc && *details == self.details {
+            return Verdict::Stands;
+        }
+        Verdict::Refute
+    }
+
+    /// Takes an incarnation above its own and this one (`refute`). Returns whether there is one.
+    pub(crate) fn outdo(&mut self, accused: u32) -> bool {
+        match self.inc.max(accused).checked_add(1) {
+            Some(inc) => {
+                self.inc = inc;
+                true
+            }
+            None => false,
+        }
+    }
+}

@@ -1,0 +1,56 @@
+//! One probe of a member (`probeNode` in state.go; SWIM, section 4.1).
+
+use memberlist_view::MemberName;
+
+/// A probe that runs.
+#[derive(Drop, Debug)]
+pub(crate) struct Probe {
+    /// The number of its ping.
+    pub(crate) seq: u32,
+    /// The member that is asked.
+    pub(crate) name: MemberName,
+    /// Its incarnation when the probe began, at which it is suspected.
+    pub(crate) inc: u32,
+    /// When others are asked to ping it; none once they were.
+    pub(crate) ask_at: Option<u64>,
+    /// Until when an answer counts.
+    pub(crate) due: u64,
+    /// How many of those that were asked say so if they get no answer.
+    pub(crate) expected: u32,
+    /// How many said so.
+    pub(crate) nacks: u32,
+    /// The connection over which it is asked too.
+    pub(crate) conn: Option<u64>,
+}
+
+impl Probe {
+    /// Whether an ack with this number at this time answers it.
+    pub(crate) fn is_answered_by(&self, seq: u32, now: u64) -> bool {
+        self.seq == seq && now <= self.due
+    }
+
+    /// Notes that a member that was asked got no answer either.
+    pub(crate) fn take_nack(&mut self, seq: u32) {
+        if self.seq == seq && self.nacks < self.expected {
+            self.nacks += 1;
+        }
+    }
+
+    /// How much less well the member is that got no answer: by each nack that did not come, or by one
+    /// if none was to come.
+    pub(crate) fn penalty(&self) -> u32 {
+        if self.expected == 0 {
+            1
+        } else {
+            self.expected.saturating_sub(self.nacks)
+        }
+    }
+
+    /// When it goes on, if nothing comes.
+    pub(crate) fn wakes_at(&self) -> u64 {
+        match self.ask_at {
+            Some(ask_at) => ask_at.min(self.due),
+            None => self.due,
+        }
+    }
+}
