@@ -4,10 +4,14 @@ mod Logarithms
 mod Members
 mod Picking
 mod Queueing
+mod Refuting
 mod Remembering
 mod Running
 mod Sending
 mod Shares
 mod Squaring
+mod Suspected
 mod Suspecting
+mod Taking
 mod Thousandths
+mod Waking

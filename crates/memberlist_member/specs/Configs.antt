@@ -1,5 +1,5 @@
 -- Which configurations a member can have.
-use Rattle.std.specs.Prelude.{◌<◌, ◌≤◌}
+use Rattle.std.specs.Prelude.{◌<◌, ◌≤◌, false}
 use Rattle.memberlist_member.specs.declared.config.Config.{Config}
 
 -- no interval is 0
@@ -24,3 +24,53 @@ pub record IsSound (c : Config) : Type 0 where
   pub intervals : HasIntervals c
   pub multipliers : HasMultipliers c
   pub buffer : 576 ≤ c.udp_buffer_size
+
+-- config.go, DefaultLANConfig, with Serf's times for members that were lost
+abbrev pub default_lan : Config
+default_lan =
+    record {
+      probe_interval = 1000;
+      probe_timeout = 500;
+      indirect_checks = 3;
+      retransmit_mult = 4;
+      suspicion_mult = 4;
+      suspicion_max_timeout_mult = 6;
+      push_pull_interval = 30_000;
+      awareness_max_multiplier = 8;
+      gossip_interval = 200;
+      gossip_nodes = 3;
+      gossip_to_the_dead_time = 30_000;
+      udp_buffer_size = 1400;
+      tcp_timeout = 10_000;
+      reconnect_interval = 30_000;
+      reconnect_timeout = 86_400_000;
+      is_silent = false;
+    }
+
+-- config.go, DefaultWANConfig
+abbrev pub default_wan : Config
+default_wan =
+    record default_lan {
+      probe_interval = 5000;
+      probe_timeout = 3000;
+      suspicion_mult = 6;
+      push_pull_interval = 60_000;
+      gossip_interval = 500;
+      gossip_nodes = 4;
+      gossip_to_the_dead_time = 60_000;
+      tcp_timeout = 30_000;
+    }
+
+-- config.go, DefaultLocalConfig
+abbrev pub default_local : Config
+default_local =
+    record default_lan {
+      probe_timeout = 200;
+      indirect_checks = 1;
+      retransmit_mult = 2;
+      suspicion_mult = 3;
+      push_pull_interval = 15_000;
+      gossip_interval = 100;
+      gossip_to_the_dead_time = 15_000;
+      tcp_timeout = 1000;
+    }

@@ -1,7 +1,8 @@
 //! How a member behaves.
 
-ghost use Rattle.std.specs.Prelude.{◌≡◌, ◌*◌, IfOk, IsTrue};
+ghost use Rattle.std.specs.Prelude.{◌≡◌, ◌*◌, ◌<◌, ◌↔◌, Decides, IfOk, IsOk};
 ghost use Rattle.memberlist_member.specs.Configs.{HasIntervals, HasMultipliers, IsSound};
+ghost use Rattle.memberlist_member.specs.Configs.{default_lan, default_local, default_wan};
 
 use std::marker::Model;
 use thiserror::Error;
@@ -65,7 +66,10 @@ pub enum ConfigFault {
 
 impl Config {
     /// For a local network (`DefaultLANConfig`).
-    pub fn lan() -> Config {
+    pub fn lan() -> Config
+        ensures same { result ≡ default_lan }
+        ensures sound { IsSound result }
+    {
         Config {
             probe_interval: 1000,
             probe_timeout: 500,
@@ -87,7 +91,10 @@ impl Config {
     }
 
     /// For a wide network (`DefaultWANConfig`).
-    pub fn wan() -> Config {
+    pub fn wan() -> Config
+        ensures same { result ≡ default_wan }
+        ensures sound { IsSound result }
+    {
         Config {
             probe_interval: 5000,
             probe_timeout: 3000,
@@ -102,7 +109,10 @@ impl Config {
     }
 
     /// For members on one machine (`DefaultLocalConfig`).
-    pub fn local() -> Config {
+    pub fn local() -> Config
+        ensures same { result ≡ default_local }
+        ensures sound { IsSound result }
+    {
         Config {
             probe_timeout: 200,
             indirect_checks: 1,
@@ -144,6 +154,13 @@ impl Settings {
     /// The first of these that holds: `NoInterval`, `BadMultiplier`, `ShortDatagrams`.
     pub fn new(config: Config) -> Result<Settings, ConfigFault>
         ensures same { IfOk result (λ settings. settings ≡ config) }
+        ensures sound { IsOk result ↔ IsSound config }
+
+        ensures no_interval { (result ≡ Err ConfigFault.NoInterval) ↔ (¬ HasIntervals config) }
+        ensures bad_multiplier { (result ≡ Err ConfigFault.BadMultiplier)
+            ↔ (HasIntervals config × (¬ HasMultipliers config)) }
+        ensures short_datagrams { (result ≡ Err ConfigFault.ShortDatagrams)
+            ↔ (HasIntervals config × HasMultipliers config × (config.udp_buffer_size < 576)) }
     {
         if !has_intervals(&config) {
             return Err(ConfigFault::NoInterval);
@@ -168,7 +185,7 @@ impl Settings {
 
 /// Whether no interval is 0.
 fn has_intervals(config: &Config) -> bool
-    ensures { IsTrue result → HasIntervals config.now }
+    ensures { Decides result (HasIntervals config.now) }
 {
     config.probe_interval != 0
         && config.probe_timeout != 0
@@ -180,7 +197,7 @@ fn has_intervals(config: &Config) -> bool
 
 /// Whether each multiplier is at least 1, and `suspicion_mult` at most 6.
 fn has_multipliers(config: &Config) -> bool
-    ensures { IsTrue result → HasMultipliers config.now }
+    ensures { Decides result (HasMultipliers config.now) }
 {
     config.retransmit_mult != 0
         && config.suspicion_mult != 0

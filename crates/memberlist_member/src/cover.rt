@@ -1,5 +1,12 @@
 //! What is around a message: a label, and an encryption.
 
+ghost use Rattle.std.specs.Prelude.{◌≡◌, ◌<◌, [], IfOk, IfSome, OnSome, if◌then◌else◌, length, nat_lt};
+ghost use Rattle.memberlist_cipher.specs.Label.{IsLabelled};
+ghost use Rattle.memberlist_transport.specs.declared.in_the_clear.InTheClear.TheVariants as clear;
+ghost use Rattle.memberlist_member.specs.Covers.{ClosesPacket, ClosesStream, HasLabel, OpensPacket};
+ghost use Rattle.memberlist_member.specs.Covers.{OpensStreamOf, size_around};
+ghost use Rattle.std.specs.Prelude.{Decides, MatchResult};
+
 use memberlist_cipher::{CipherFault, split_label};
 use memberlist_keyring::{Keyring, behind_label};
 use memberlist_transport::{InTheClear, PacketFault, StreamFault, unwrap_packet, unwrap_reply};
@@ -32,7 +39,11 @@ pub(crate) enum Opened {
 
 impl Cover {
     /// Without keys, and without a label.
-    pub fn none(alloc: Global) -> Cover {
+    pub fn none(alloc: Global) -> Cover
+        ensures keys { result.keys ≡ [] }
+        ensures clear { result.clear ≡ clear.Refused }
+        ensures label { result.label.items ≡ [] }
+    {
         Cover {
             keys: Keyring::new(alloc),
             clear: InTheClear::Refused,
@@ -42,7 +53,12 @@ impl Cover {
 
     /// The cluster's label, of at most 255 bytes; none if it is empty. Returns whether it is short
     /// enough.
-    pub fn set_label(&mut self, label: Vec<u8>) -> bool {
+    pub fn set_label(&mut self, label: Vec<u8>) -> bool
+        ensures short { result ≡ nat_lt (length label.items) 256 }
+        ensures label { self.new.label ≡ (if result then label else self.old.label) }
+        ensures keys { self.new.keys ≡ self.old.keys }
+        ensures clear { self.new.clear ≡ self.old.clear }
+    {
         let is_short = label.len() < 256;
         if is_short {
             self.label = label;
@@ -51,7 +67,9 @@ impl Cover {
     }
 
     /// How many bytes of a datagram it takes.
-    pub(crate) fn size(&self) -> usize {
+    pub(crate) fn size(&self) -> usize
+        ensures { result ≡ size_around self.now }
+    {
         let label = if self.label.is_empty() {
             0
         } else {
@@ -67,7 +85,10 @@ impl Cover {
         alloc: Global,
         message: Vec<u8>,
         rng: &mut R,
-    ) -> Result<Option<Vec<u8>>, AllocError> {
+    ) -> Result<Option<Vec<u8>>, AllocError>
+        ensures { IfOk result (λ closed. IfSome closed (λ bytes.
+            ClosesPacket self.now message.items bytes.items)) }
+    {
         if self.keys.is_empty() {
             return self.labelled(alloc, message);
         }
@@ -81,7 +102,10 @@ impl Cover {
         message: Vec<u8>,
         is_reply: bool,
         rng: &mut R,
-    ) -> Result<Option<Vec<u8>>, AllocError> {
+    ) -> Result<Option<Vec<u8>>, AllocError>
+        ensures { IfOk result (λ closed. IfSome closed (λ bytes.
+            ClosesStream self.now is_reply message.items bytes.items)) }
+    {
         if self.keys.is_empty() {
             return if is_reply {
                 Ok(Some(message))
@@ -99,7 +123,10 @@ impl Cover {
         })
     }
 
-    fn labelled(&self, alloc: Global, message: Vec<u8>) -> Result<Option<Vec<u8>>, AllocError> {
+    fn labelled(&self, alloc: Global, message: Vec<u8>) -> Result<Option<Vec<u8>>, AllocError>
+        ensures { IfOk result (λ closed. IfSome closed (λ bytes.
+            IsLabelled bytes.items self.now.label.items message.items)) }
+    {
         if message.first() == Some(&244) || 255 < self.label.len() {
             return Ok(None);
         }
@@ -107,14 +134,18 @@ impl Cover {
     }
 
     /// The message of a datagram, if it has this label.
-    pub(crate) fn open_packet(&self, alloc: Global, bytes: &[u8]) -> Result<Opened, AllocError> {
+    pub(crate) fn open_packet(&self, alloc: Global, bytes: &[u8]) -> Result<Opened, AllocError>
+        ensures { IfOk result (OpensPacket self.now bytes.now) }
+    {
         if !self.has_label(bytes) {
             return Ok(Opened::Refused);
         }
         match unwrap_packet(alloc, &self.keys, self.clear, bytes) {
             Ok(message) => Ok(Opened::Message(message)),
-            Err(PacketFault::Memory) => Err(AllocError),
-            Err(_) => Ok(Opened::Refused),
+            Err(fault) => match fault {
+                PacketFault::Memory => Err(AllocError),
+                _ => Ok(Opened::Refused),
+            },
         }
     }
 
@@ -124,7 +155,9 @@ impl Cover {
         alloc: Global,
         bytes: &[u8],
         is_reply: bool,
-    ) -> Result<Opened, AllocError> {
+    ) -> Result<Opened, AllocError>
+        ensures { IfOk result (OpensStreamOf self.now is_reply bytes.now) }
+    {
         if 255 < self.label.len() || (!is_reply && !self.has_label(bytes)) {
             return Ok(Opened::Refused);
         }
@@ -137,12 +170,16 @@ impl Cover {
             MAX_STREAM,
         ) {
             Ok(message) => Ok(Opened::Message(message)),
-            Err(StreamFault::Memory) => Err(AllocError),
-            Err(_) => Ok(Opened::Refused),
+            Err(fault) => match fault {
+                StreamFault::Memory => Err(AllocError),
+                _ => Ok(Opened::Refused),
+            },
         }
     }
 
-    fn has_label(&self, bytes: &[u8]) -> bool {
+    fn has_label(&self, bytes: &[u8]) -> bool
+        ensures { Decides result (HasLabel self.now bytes.now) }
+    {
         match split_label(bytes) {
             Ok((label, _)) => *label == *self.label.as_slice(),
             Err(_) => false,
@@ -151,7 +188,9 @@ impl Cover {
 }
 
 /// What was encrypted.
-fn closed(sealed: Result<Option<Vec<u8>>, CipherFault>) -> Result<Option<Vec<u8>>, AllocError> {
+fn closed(sealed: Result<Option<Vec<u8>>, CipherFault>) -> Result<Option<Vec<u8>>, AllocError>
+    ensures { IfOk result (λ bytes. MatchResult sealed (λ made. bytes ≡ made) (λ _. bytes ≡ None)) }
+{
     match sealed {
         Ok(bytes) => Ok(bytes),
         Err(CipherFault::Memory) => Err(AllocError),

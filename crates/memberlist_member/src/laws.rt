@@ -1,10 +1,15 @@
 //! Laws of the rules of a member. Each is the contract of a function that does nothing.
 
-ghost use Rattle.std.specs.Prelude.{◌≡◌, ◌∷◌, ◌+◌, ◌≤◌, ℕ, List, length, true, max};
+ghost use Rattle.std.specs.Prelude.{◌≡◌, ◌∷◌, ◌+◌, ◌<◌, ◌≤◌, Bool, ℕ, List, length, true, max};
 ghost use Rattle.std.specs.List.{Contains};
 ghost use Rattle.std.specs.Str.{bytes_eq};
 ghost use Rattle.memberlist_member.specs.Compound.{datagram_bytes, total};
 ghost use Rattle.memberlist_member.specs.Queues.{AreApart, put};
+ghost use Rattle.swim_claim.specs.Details.{DetailsValue};
+ghost use Rattle.memberlist_view.specs.Rules.{are_sound_versions, change_of_entry};
+ghost use Rattle.memberlist_view.specs.declared.entry.Entry.{Entry};
+ghost use Rattle.memberlist_view.specs.declared.heard.Said.TheVariants.{Alive};
+ghost use Rattle.memberlist_member.specs.Refuting.{HoldsAlive, IsFromThere};
 ghost use Rattle.memberlist_member.specs.Runs.{Event, Run, times};
 ghost use Rattle.memberlist_member.specs.Runs.Event.{added, taken};
 ghost use Rattle.memberlist_member.specs.Suspicions.{IsDue, Lasts, Span};
@@ -64,4 +69,15 @@ pub fn alone_it_lasts_longest()
 /// Once all that are wanted have come, it is the least time.
 pub fn confirmed_it_lasts_least()
     ensures { (k least most r : ℕ) → least ≤ most → Lasts k k least most r → r ≡ least }
+{}
+
+/// Whatever a view shows for a member at its place, before this incarnation: once it hears from
+/// there that the member is alive at this incarnation, it holds that, and what is said of an older
+/// one changes nothing any more. So a member that takes an incarnation above its own and above the
+/// accused one refutes every accusation.
+pub fn a_refutation_is_enough()
+    ensures { (wait time inc : ℕ) (entry : Entry) (name : List ℕ) (details : DetailsValue)
+        (joins : Bool) → IsFromThere entry.details details → entry.inc < inc
+        → are_sound_versions details.vsn ≡ true
+        → HoldsAlive wait inc (change_of_entry wait time entry (Alive name inc details joins)) }
 {}

@@ -1,5 +1,10 @@
 //! What a member says about itself.
 
+ghost use Rattle.std.specs.Prelude.{◌≡◌, ◌-◌, ◌^◌, ◌<◌, ◌↔◌, IfOk, IsTrue, false, max};
+ghost use Rattle.std.specs.Bool.{OnFalse, OnTrue};
+ghost use Rattle.memberlist_view.specs.Rules.{is_same_place};
+ghost use Rattle.memberlist_member.specs.Owns.{outdone, own_alive, own_leave, verdict_on};
+
 use crate::claims;
 use memberlist_view::MemberName;
 use std::alloc::{AllocError, Global};
@@ -37,7 +42,15 @@ pub(crate) enum Verdict {
 }
 
 impl Own {
-    pub(crate) fn new(identity: Identity) -> Own {
+    /// A member that begins, and does not leave.
+    pub(crate) fn new(identity: Identity) -> Own
+        ensures { result ≡ record {
+          name = identity.name;
+          inc = identity.inc;
+          details = identity.details;
+          is_leaving = false;
+        } }
+    {
         let Identity { name, inc, details } = identity;
         Own {
             name: MemberName::new(name),
@@ -48,26 +61,32 @@ impl Own {
     }
 
     /// The member's own Alive.
-    pub(crate) fn alive(&self, alloc: Global) -> Result<Packet, AllocError> {
+    pub(crate) fn alive(&self, alloc: Global) -> Result<Packet, AllocError>
+        ensures { IfOk result (λ packet. packet ≡ own_alive self.now) }
+    {
         let name = self.name.name().try_clone(alloc)?;
         Ok(claims::alive(alloc, name, self.inc, self.details.try_clone(alloc)?))
     }
 
     /// Its leave.
-    pub(crate) fn leave(&self, alloc: Global) -> Result<Packet, AllocError> {
+    pub(crate) fn leave(&self, alloc: Global) -> Result<Packet, AllocError>
+        ensures { IfOk result (λ packet. packet ≡ own_leave self.now) }
+    {
         let name = self.name.name().try_clone(alloc)?;
         claims::dead(alloc, name, self.inc, self.name.name())
     }
 
     /// What becomes of a claim about this member (`aliveNode`, `suspectNode`, `deadNode`).
-    pub(crate) fn judge(&self, claim: &Claim) -> Verdict {
+    pub(crate) fn judge(&self, claim: &Claim) -> Verdict
+        ensures { result ≡ verdict_on self.now claim.now }
+    {
         if self.is_leaving || claim.inc() < self.inc {
             return Verdict::Stands;
         }
         let Some(details) = claim.details() else {
             return Verdict::Refute;
         };
-        if *details.addr() != *self.details.addr() || details.port() != self.details.port() {
+        if !is_same_place(details, &self.details) {
             return Verdict::Conflict;
         }
         if claim.inc() == self.inc && *details == self.details {
@@ -77,7 +96,13 @@ impl Own {
     }
 
     /// Takes an incarnation above its own and this one (`refute`). Returns whether there is one.
-    pub(crate) fn outdo(&mut self, accused: u32) -> bool {
+    pub(crate) fn outdo(&mut self, accused: u32) -> bool
+        ensures possible { IsTrue result ↔ (max self.old.inc accused < 2 ^ 32 - 1) }
+        ensures done { OnTrue result (self.new ≡ outdone self.old accused) }
+        ensures newer { OnTrue result (self.old.inc < self.new.inc) }
+        ensures outdoes { OnTrue result (accused < self.new.inc) }
+        ensures exhausted { OnFalse result (self.new ≡ self.old) }
+    {
         match self.inc.max(accused).checked_add(1) {
             Some(inc) => {
                 self.inc = inc;
@@ -86,4 +111,11 @@ impl Own {
             None => false,
         }
     }
+}
+
+/// Whether two details have the same address and port.
+fn is_same_place(details: &Details, other: &Details) -> bool
+    ensures { result ≡ is_same_place details.now other.now }
+{
+    details.addr().cmp(other.addr()).is_eq() && details.port() == other.port()
 }

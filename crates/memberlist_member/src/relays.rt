@@ -1,5 +1,10 @@
 //! Pings on behalf of others (`handleIndirectPing` in net.go).
 
+ghost use Rattle.std.specs.Prelude.{◌≡◌, ◌≤◌, ◌∷◌, ◌++◌, [], OnErr, OnOk, find, length, position};
+ghost use Rattle.std.specs.Option.{option_to_list};
+ghost use Rattle.memberlist_member.specs.Lists.{newest, without_first};
+ghost use Rattle.memberlist_member.specs.Relaying.{due_first, first_due, has_number};
+
 use std::alloc::{AllocError, Global};
 use std::net::SocketAddr;
 
@@ -24,21 +29,39 @@ pub(crate) struct Relay {
 #[derive(Drop, Debug)]
 pub(crate) struct Relays {
     waiting: Vec<Relay>,
+    ghost few: { length waiting.items ≤ 1024 },
 }
 
 impl Relays {
-    pub(crate) fn new(alloc: Global) -> Relays {
+    /// None.
+    pub(crate) fn new(alloc: Global) -> Relays
+        ensures { result.waiting.items ≡ [] }
+    {
         Relays {
             waiting: Vec::new(alloc),
         }
     }
 
-    pub(crate) fn len(&self) -> usize {
+    /// How many there are, at most 1,024.
+    pub(crate) fn len(&self) -> usize
+        ensures len { result ≡ length self.now.waiting.items }
+        ensures few { result ≤ 1024 }
+    {
         self.waiting.len()
     }
 
     /// Adds one; if there are too many the oldest is dropped.
-    pub(crate) fn add(&mut self, relay: Relay) -> Result<(), AllocError> {
+    ///
+    /// # Errors
+    ///
+    /// `AllocError` if out of memory: it is not added.
+    pub(crate) fn add(&mut self, relay: Relay) -> Result<(), AllocError>
+        ensures added { OnOk result (self.new.waiting.items
+            ≡ newest 1023 self.old.waiting.items ++ relay ∷ []) }
+        ensures refused { OnErr result (self.new.waiting.items
+            ≡ newest 1023 self.old.waiting.items) }
+        ensures few { length self.new.waiting.items ≤ 1024 }
+    {
         if MAX_RELAYS <= self.waiting.len() {
             let _ = self.waiting.remove(0);
         }
@@ -47,13 +70,27 @@ impl Relays {
     }
 
     /// Takes out the one with this number.
-    pub(crate) fn take(&mut self, seq: u32) -> Option<Relay> {
-        let place = self.waiting.iter().position(|relay| relay.seq == seq)?;
+    pub(crate) fn take(&mut self, seq: u32) -> Option<Relay>
+        ensures which { result ≡ find (has_number seq) self.old.waiting.items }
+        ensures left { self.new.waiting.items
+            ≡ without_first (has_number seq) self.old.waiting.items }
+    {
+        let place = self.place_of(seq)?;
         Some(self.waiting.remove(place))
     }
 
+    fn place_of(&self, seq: u32) -> Option<usize>
+        ensures { result ≡ position (has_number seq) self.now.waiting.items }
+    {
+        self.waiting.iter().position(|relay| relay.seq == seq)
+    }
+
     /// Takes out the first that is due.
-    pub(crate) fn take_due(&mut self, now: u64) -> Option<Relay> {
+    pub(crate) fn take_due(&mut self, now: u64) -> Option<Relay>
+        ensures which { result ≡ due_first now self.old.waiting.items }
+        ensures left { self.old.waiting.items
+            ≡ option_to_list result ++ self.new.waiting.items }
+    {
         let first = self.waiting.first()?;
         if now < first.due {
             return None;
@@ -62,7 +99,9 @@ impl Relays {
     }
 
     /// When the first is due.
-    pub(crate) fn wakes_at(&self) -> Option<u64> {
+    pub(crate) fn wakes_at(&self) -> Option<u64>
+        ensures { result ≡ first_due self.now.waiting.items }
+    {
         Some(self.waiting.first()?.due)
     }
 }

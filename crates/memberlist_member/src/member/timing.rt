@@ -23,7 +23,7 @@ impl Member {
         let others = [
             times.departure,
             self.relays.wakes_at(),
-            self.suspicions.wakes_at(&self.view),
+            self.next_suspicion(),
             match &self.probe {
                 Some(probe) => Some(probe.wakes_at()),
                 None => None,
@@ -40,6 +40,14 @@ impl Member {
         first
     }
 
+    /// When the next suspicion ends; a silent member ends none.
+    fn next_suspicion(&self) -> Option<u64> {
+        if self.config().is_silent {
+            return None;
+        }
+        self.suspicions.wakes_at(&self.view)
+    }
+
     /// Does what is due.
     pub(crate) fn tick<R: Rng>(&mut self, rng: &mut R) -> Result<(), AllocError> {
         self.end_relays(rng)?;
@@ -52,6 +60,7 @@ impl Member {
         self.gossip_in_time(rng)?;
         self.exchange_in_time(rng)?;
         self.reconnect_in_time(rng)?;
+        self.join_in_time(rng)?;
         self.close_overdue(rng)?;
         self.depart()
     }
@@ -81,7 +90,7 @@ impl Member {
             push_pull_scale(self.members()),
         ));
         self.times.push_pull = self.time.saturating_add(interval);
-        if self.own.is_leaving || self.config().is_silent {
+        if self.is_passive() {
             return Ok(());
         }
         let members = self.some_members(1, None, Among::Alive, rng)?;
@@ -95,30 +104,35 @@ impl Member {
         Ok(())
     }
 
-    /// Dials a member that was lost, or a seed while it is alone.
+    /// Dials a member that was lost.
     fn reconnect_in_time<R: Rng>(&mut self, rng: &mut R) -> Result<(), AllocError> {
-        if self.own.is_leaving || self.config().is_silent {
+        if self.time < self.times.reconnect {
             return Ok(());
         }
-        if self.times.reconnect <= self.time {
-            self.times.reconnect = next_tick(
-                self.times.reconnect,
-                self.config().reconnect_interval,
-                self.time,
-            );
-            if let Some(place) = self.lost.any(self.time, rng) {
-                self.exchange(place, false, rng)?;
-            }
+        let interval = self.config().reconnect_interval;
+        self.times.reconnect = next_tick(self.times.reconnect, interval, self.time);
+        if self.is_passive() {
+            return Ok(());
         }
-        if self.times.seed <= self.time {
-            self.times.seed = next_tick(self.times.seed, self.config().probe_interval, self.time);
-            self.dial_seed(rng)?;
+        match self.lost.any(self.time, rng) {
+            Some(place) => self.exchange(place, false, rng),
+            None => Ok(()),
         }
-        Ok(())
     }
 
-    fn dial_seed<R: Rng>(&mut self, rng: &mut R) -> Result<(), AllocError> {
-        if self.seeds.is_empty() || !self.is_alone() {
+    /// Whether it dials nobody by itself.
+    fn is_passive(&self) -> bool {
+        self.own.is_leaving || self.config().is_silent
+    }
+
+    /// Dials a seed while it is alone.
+    fn join_in_time<R: Rng>(&mut self, rng: &mut R) -> Result<(), AllocError> {
+        if self.time < self.times.seed {
+            return Ok(());
+        }
+        let interval = self.config().probe_interval;
+        self.times.seed = next_tick(self.times.seed, interval, self.time);
+        if self.own.is_leaving || self.seeds.is_empty() || !self.is_alone() {
             return Ok(());
         }
         let index = rng.random_range(0..self.seeds.len());
