@@ -53,8 +53,9 @@ library:
 	else echo 'there is no $(CC), so the library is not built'; fi
 
 build/swimbench: words := -- check
+build/swimsim: words := -- 10
 build/swimwatch: words := -- members ../../examples/serf.pcap
-$(programs:%=build/%) build/swimbench: build/%: $(SOURCES) | kit
+$(programs:%=build/%) build/swimbench build/swimsim: build/%: $(SOURCES) | kit
 	@echo 'proving and building $* and the libraries that it uses; the first time, each takes some minutes'
 	@.ci/prove $* rt run $(words)
 	@cp crates/$*/out/$* build/$*
