@@ -1,4 +1,4 @@
-//! Two members that meet.
+//! What a member does on its own, and what another one recalls.
 
 use crate::{Config, Cover, Identity, Input, Member, Output, Settings, StepFault};
 use rand_pcg::Pcg32;
@@ -6,93 +6,96 @@ use std::alloc::{AllocError, Global};
 use std::net::{IpAddr, Ipv4Addr, SocketAddr};
 use swim_claim::{Details, Name};
 
+/// A ping with the number 7, to whoever is there.
+const PING: &[u8] = b"\x00\x82\xa4Node\xa0\xa5SeqNo\x07";
+
+/// The ack with that number, and the own Alive of a member that is named 1.
+const ACK_AND_ALIVE: &[u8] = b"\x07\x02\x00\x12\x00\x39\
+    \x02\x82\xa7Payload\xa0\xa5SeqNo\x07\
+    \x04\x86\xa4Addr\xa4\x0a\x00\x00\x01\xabIncarnation\x01\xa4Meta\xa0\xa4Node\xa1\x01\
+    \xa4Port\xcd\x1f\x0a\xa3Vsn\xa6\x01\x05\x02\x02\x05\x04";
+
 /// Where the member whose address ends so is.
 fn place(last: u8) -> SocketAddr {
     SocketAddr::new(IpAddr::from(Ipv4Addr::new(10, 0, 0, last)), 7946)
 }
 
-/// A member with this name and address; none if memory was refused.
-fn member(alloc: Global, name: u8, rng: &mut Pcg32) -> Result<Option<Member>, AllocError> {
-    let meta = Vec::new(alloc);
-    let addr = [10, 0, 0, name];
-    let (Ok(Ok(name)), Ok(details), Ok(settings)) = (
-        Name::copied(alloc, &[name]),
-        Details::of(&addr, 7946, meta, &[1, 5, 2, 2, 5, 4]),
-        Settings::new(Config::lan()),
+/// Who has this name, and an address that ends so; nobody if memory is refused.
+fn identity(alloc: Global, name: u8) -> Result<Option<Identity>, AllocError> {
+    let Ok(details) = Details::of(
+        &[10, 0, 0, name],
+        7946,
+        Vec::new(alloc),
+        &[1, 5, 2, 2, 5, 4],
     ) else {
         return Ok(None);
     };
-    let identity = Identity {
-        name,
-        inc: 1,
-        details,
-    };
-    let cover = Cover::none(alloc);
-    Ok(Some(Member::new(alloc, settings, cover, identity, 0, rng)?))
+    match Name::copied(alloc, &[name])? {
+        Ok(name) => Ok(Some(Identity {
+            name,
+            inc: 1,
+            details,
+        })),
+        Err(_) => Ok(None),
+    }
 }
 
-/// Takes what a member put out to the other one. Returns how many datagrams, and how many pieces of
-/// streams, went over.
-fn carry(
-    from: &mut Member,
-    at: u8,
-    to: &mut Member,
-    now: u64,
-    rng: &mut Pcg32,
-) -> Result<(u32, u32), StepFault> {
-    let (mut datagrams, mut pieces) = (0u32, 0u32);
-    for output in from.take_outputs().into_all() {
-        match output {
-            Output::Send { bytes, .. } => {
-                datagrams = datagrams.saturating_add(1);
-                let from = place(at);
-                let bytes = &bytes;
-                to.step(now, Input::Datagram { from, bytes }, rng)?;
-            }
-            Output::Dial { conn, .. } => {
-                to.step(now, Input::Accepted { conn: conn | 1 }, rng)?;
-                from.step(now, Input::Connected { conn }, rng)?;
-            }
-            Output::Write { conn, bytes } => {
-                pieces = pieces.saturating_add(1);
-                let conn = conn ^ 1;
-                let bytes = &bytes;
-                to.step(now, Input::Received { conn, bytes }, rng)?;
-            }
-            _ => {}
+/// A member with this name, and an address that ends so.
+fn member(alloc: Global, name: u8, rng: &mut Pcg32) -> Result<Option<Member>, AllocError> {
+    let Ok(settings) = Settings::new(Config::lan()) else {
+        return Ok(None);
+    };
+    match identity(alloc, name)? {
+        Some(identity) => {
+            let cover = Cover::none(alloc);
+            Ok(Some(Member::new(alloc, settings, cover, identity, 0, rng)?))
         }
+        None => Ok(None),
     }
-    Ok((datagrams, pieces))
+}
+
+/// The only datagram that it puts out when this one comes.
+fn answer(
+    alloc: Global,
+    member: &mut Member,
+    ping: &[u8],
+    rng: &mut Pcg32,
+) -> Result<Vec<u8>, StepFault> {
+    let _ = member.take_outputs();
+    let from = place(2);
+    member.step(1000, Input::Datagram { from, bytes: ping }, rng)?;
+    match member.take_outputs().all() {
+        [Output::Send { bytes, .. }] => Ok(bytes.to_vec(alloc)?),
+        _ => Err(StepFault::TooLong),
+    }
 }
 
 #[test]
-fn two_members_meet_by_a_seed_and_answer_each_other(rt: HostRuntime) -> Result<(), StepFault> {
+fn a_ping_is_answered_with_news(rt: HostRuntime) -> Result<(), StepFault> {
     let mut rng = Pcg32::new(42, 54);
-    let (Some(mut a), Some(mut b)) = (
+    let Some(mut member) = member(rt.alloc(), 1, &mut rng)? else {
+        return Ok(());
+    };
+    let answer = answer(rt.alloc(), &mut member, PING, &mut rng)?;
+    assert_eq!(rt; answer.as_slice(), ACK_AND_ALIVE);
+    assert_eq!(rt;
+        (member.inc(), member.health(), member.refused()),
+        (1, 0, 0)
+    );
+    Ok(())
+}
+
+#[test]
+fn a_member_recalls_the_table_of_another_one(rt: HostRuntime) -> Result<(), StepFault> {
+    let mut rng = Pcg32::new(42, 54);
+    let (Some(one), Some(mut other)) = (
         member(rt.alloc(), 1, &mut rng)?,
         member(rt.alloc(), 2, &mut rng)?,
     ) else {
         return Ok(());
     };
-    let seeds = [place(1)];
-    b.step(0, Input::Join { seeds: &seeds }, &mut rng)?;
-    for _ in 0..3 {
-        let _ = carry(&mut b, 2, &mut a, 0, &mut rng)?;
-        let _ = carry(&mut a, 1, &mut b, 0, &mut rng)?;
-    }
-    assert_eq!(rt; (a.view().len(), b.view().len()), (2, 2));
-    let mut datagrams = 0u32;
-    for _ in 0..100 {
-        let now = a.wake().min(b.wake());
-        a.step(now, Input::Tick, &mut rng)?;
-        b.step(now, Input::Tick, &mut rng)?;
-        datagrams = datagrams.saturating_add(carry(&mut a, 1, &mut b, now, &mut rng)?.0);
-        datagrams = datagrams.saturating_add(carry(&mut b, 2, &mut a, now, &mut rng)?.0);
-    }
-    assert!(rt; 0 < datagrams);
-    assert_eq!(rt;
-        (a.health(), b.health(), a.refused(), b.refused()),
-        (0, 0, 0, 0)
-    );
+    assert!(rt; other.recall(&one.table(false)?, &mut rng)?);
+    assert_eq!(rt; other.view().len(), 2);
+    assert!(rt; 0 < other.wake());
     Ok(())
 }
