@@ -1,5 +1,6 @@
 mod Apart
 mod Compounding
+mod Heeding
 mod Logarithms
 mod Members
 mod Picking

@@ -1,5 +1,5 @@
 -- Which configurations a member can have.
-use Rattle.std.specs.Prelude.{◌<◌, ◌≤◌, false}
+use Rattle.std.specs.Prelude.{◌<◌, ◌≤◌, false, true}
 use Rattle.memberlist_member.specs.declared.config.Config.{Config}
 
 -- no interval is 0
@@ -41,6 +41,7 @@ default_lan =
       gossip_nodes = 3;
       gossip_to_the_dead_time = 30_000;
       udp_buffer_size = 1400;
+      enable_compression = true;
       tcp_timeout = 10_000;
       reconnect_interval = 30_000;
       reconnect_timeout = 86_400_000;

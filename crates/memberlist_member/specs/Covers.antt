@@ -1,6 +1,7 @@
 -- What is around a message: a label, and an encryption.
 use Rattle.std.specs.Prelude.{◌≡◌, ◌≢◌, ◌+◌, ◌*◌, ◌<◌, ℕ, Bool, true, false, List, [], ◌∷◌, length}
 use Rattle.memberlist_cipher.specs.Label.{IsLabelled}
+use Rattle.memberlist_compress.specs.Compressed.{IsSent}
 use Rattle.memberlist_keyring.specs.Opening.{OpensFirst, OpensReplyFirst, OpensStreamFirst}
 use Rattle.memberlist_transport.specs.Unwrapped.{IsInside, IsInsideReply}
 use Rattle.memberlist_member.specs.declared.cover.Cover.{Cover}
@@ -40,6 +41,11 @@ OpensStreamOf cover is_reply bytes (Message message) =
 OpensStreamOf cover is_reply bytes Refused =
     length cover.label.items < 256 → (is_reply ≡ false → HasLabel cover bytes) → (inner : List ℕ)
     → ¬ IsInsideReply (20 * 1024 * 1024) cover.clear cover.keys cover.label.items bytes inner
+
+-- the message as it is sent: where messages are compressed, by that if it makes it shorter
+abbrev pub IsSentWith : Bool → List ℕ → List ℕ → Type 0
+IsSentWith true message sent = IsSent message sent
+IsSentWith false message sent = sent ≡ message
 
 -- the datagram is the message behind the label, or opens to it under the first key
 pub record ClosesPacket (cover : Cover) (message bytes : List ℕ) : Type 0 where

@@ -16,6 +16,9 @@ pub mod Relaying
 pub mod Rounds
 pub mod Runs
 pub mod Scales
+pub mod Staying
+pub mod Steps
 pub mod Suspects
 pub mod Suspicions
+pub mod Traffic
 pub mod Viewing

@@ -40,6 +40,8 @@ pub struct Config {
     pub gossip_to_the_dead_time: u32,
     /// The most bytes of a datagram.
     pub udp_buffer_size: u16,
+    /// Whether what is sent is compressed where that makes it shorter.
+    pub enable_compression: bool,
     /// How long a connection may take.
     pub tcp_timeout: u32,
     /// Between two attempts to reach a member that was lost (Serf's `ReconnectInterval`).
@@ -83,6 +85,7 @@ impl Config {
             gossip_nodes: 3,
             gossip_to_the_dead_time: 30_000,
             udp_buffer_size: 1400,
+            enable_compression: true,
             tcp_timeout: 10_000,
             reconnect_interval: 30_000,
             reconnect_timeout: 86_400_000,

@@ -11,7 +11,7 @@ ghost use Rattle.memberlist_member.specs.Lists.{with_first, without_first};
 use std::alloc::{AllocError, Global};
 
 /// The most connections at once (net.go, `maxPushPullRequests`).
-const MAX_CONNECTIONS: usize = 128;
+pub(crate) const MAX_CONNECTIONS: usize = 128;
 
 /// After so many microseconds without more bytes, what came is looked at again (own).
 const FIRST_LOOK: u64 = 10_000;

@@ -7,6 +7,7 @@ mod joining;
 mod messages;
 mod probing;
 mod sending;
+mod stepping;
 mod streams;
 mod suspecting;
 mod timing;
@@ -20,10 +21,8 @@ use crate::awareness::Awareness;
 use crate::config::{Config, Settings, micros};
 use crate::connections::Connections;
 use crate::cover::Cover;
-use crate::fault::StepFault;
-use crate::input::Input;
 use crate::lost::LostMembers;
-use crate::output::{Output, Outputs};
+use crate::output::Outputs;
 use crate::own::{Identity, Own};
 use crate::probe::Probe;
 use crate::queue::Queue;
@@ -167,56 +166,16 @@ impl Member {
         std::mem::replace(&mut self.out, Outputs::new(self.alloc, limit))
     }
 
-    /// Tells it something, at this time in microseconds, which never falls.
-    ///
-    /// # Errors
-    ///
-    /// `Memory` if out of memory: what was told is then heeded in part, as if the rest were lost.
-    /// `TooLong` if it is metadata of more than 512 bytes, or a message that fits no datagram.
-    pub fn step<R: Rng>(
-        &mut self,
-        now: u64,
-        input: Input<'_>,
-        rng: &mut R,
-    ) -> Result<(), StepFault> {
-        self.time = self.time.max(now);
-        match input {
-            Input::Tick => self.tick(rng)?,
-            Input::Datagram { from, bytes } => self.take_datagram(from, bytes, rng)?,
-            Input::Accepted { conn } => self.take_connection(conn)?,
-            Input::Connected { conn } => self.write_first(conn)?,
-            Input::Received { conn, bytes } => self.take_bytes(conn, bytes, rng)?,
-            Input::Closed { conn } => self.end_connection(conn, rng)?,
-            Input::Join { seeds } => self.join(seeds, rng)?,
-            Input::Leave => self.leave(rng)?,
-            Input::Update { meta } => return self.update(meta, rng),
-            Input::Say { bytes } => return self.say(bytes),
-            Input::State { bytes } => self.set_state(bytes)?,
-        }
-        Ok(())
-    }
-
-    fn config(&self) -> Config
+    pub(crate) fn config(&self) -> Config
         ensures { result ≡ self.now.settings }
     {
         self.settings.config()
     }
 
-    /// Puts out something.
-    fn put(&mut self, output: Output) -> Result<(), AllocError> {
-        self.out.push(output)
-    }
-
     /// How many members there are, itself included, and dead ones that are not yet forgotten
     /// (`estNumNodes`).
-    fn members(&self) -> u32 {
+    pub(crate) fn members(&self) -> u32 {
         u32::try_from(self.rounds.len()).unwrap_or(u32::MAX)
-    }
-
-    /// The number of the next ping.
-    fn next_seq(&mut self) -> u32 {
-        self.seq = self.seq.wrapping_add(1);
-        self.seq
     }
 }
 

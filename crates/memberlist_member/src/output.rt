@@ -1,8 +1,9 @@
 //! What a member wants done, and what it tells.
 
-ghost use Rattle.std.specs.Prelude.{◌≡◌, ◌++◌, ◌∷◌, [], MatchBool, OnErr, OnOk};
+ghost use Rattle.std.specs.Prelude.{◌≡◌, ◌++◌, ◌∷◌, [], MatchBool, OnErr, OnOk, if◌then◌else◌};
 ghost use Rattle.std.specs.List.{All};
 ghost use Rattle.memberlist_member.specs.Outputs.{FitsIn};
+ghost use Rattle.memberlist_member.specs.Traffic.{PutsOutAtMost, is_datagram, is_dial, is_write};
 
 use memberlist_view::{Event, MemberName};
 use std::alloc::{AllocError, Global};
@@ -120,6 +121,9 @@ impl Outputs {
         ensures refused { OnErr result (self.new.list.items ≡ self.old.list.items) }
         ensures added { OnOk result (FitsIn self.old.limit output
             → self.new.list.items ≡ self.old.list.items ++ output ∷ []) }
+        ensures most { PutsOutAtMost (if is_datagram output then 1 else 0)
+            (if is_dial output then 1 else 0) (if is_write output then 1 else 0)
+            self.old.list.items self.new.list.items }
     {
         if self.is_too_long(&output) {
             return Ok(());

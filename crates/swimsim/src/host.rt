@@ -67,6 +67,7 @@ impl Host {
         };
         let settings = Settings::new(Config {
             is_silent,
+            enable_compression: false,
             ..Config::lan()
         })?;
         let member = Member::new(alloc, settings, Cover::none(alloc), identity, now, rng)?;

@@ -1,5 +1,13 @@
 //! What comes in datagrams.
 
+ghost use Rattle.std.specs.Prelude.{◌≡◌, OnOk, length};
+ghost use Rattle.std.specs.List.{All};
+ghost use Rattle.swim_wire.specs.Packet.{PacketValue};
+ghost use Rattle.memberlist_message.specs.Messages.{AckValue, MessageValue, message_value};
+ghost use Rattle.memberlist_member.specs.Steps.{AnswersAtMostEach, IsAnsweredAfter, IsHeededAck};
+ghost use Rattle.memberlist_member.specs.Steps.{IsOutdone, IsOutdoneAfter, IsOutdoneIn};
+ghost use Rattle.memberlist_member.specs.Staying.{Adds, HasNoProbe, KeepsAnswered, Stays, StaysButProbe};
+
 use crate::cover::Opened;
 use crate::member::Member;
 use memberlist_message::{Leaves, Message, decode_message};
@@ -15,13 +23,33 @@ impl Member {
         from: SocketAddr,
         bytes: &[u8],
         rng: &mut R,
-    ) -> Result<(), AllocError> {
+    ) -> Result<(), AllocError>
+        ensures adds { AnswersAtMostEach self.old.cover bytes.now self.old self.new }
+        ensures outdone { OnOk result (IsOutdoneAfter self.old.cover bytes.now self.new.own) }
+        ensures answered { OnOk result (IsAnsweredAfter self.old.cover bytes.now self.new) }
+        ensures stays { StaysButProbe self.old self.new }
+    {
         let Opened::Message(message) = self.cover.open_packet(self.alloc, bytes)? else {
             self.refuse();
             return Ok(());
         };
         let leaves = Leaves::of(self.alloc, &message)?;
-        for part in &leaves.parts {
+        self.take_parts(from, &leaves.parts, rng)
+    }
+
+    /// Takes in the messages of a datagram.
+    fn take_parts<R: Rng>(
+        &mut self,
+        from: SocketAddr,
+        parts: &[&[u8]],
+        rng: &mut R,
+    ) -> Result<(), AllocError>
+        ensures adds { Adds (length parts.now) 0 0 self.old self.new }
+        ensures outdone { OnOk result (All (λ part. IsOutdoneIn self.new.own part.now) parts.now) }
+        ensures answered { OnOk result (All (λ part. IsHeededAck self.new part.now) parts.now) }
+        ensures stays { StaysButProbe self.old self.new }
+    {
+        for part in parts {
             self.take_part(from, part, rng)?;
         }
         Ok(())
@@ -33,7 +61,13 @@ impl Member {
         from: SocketAddr,
         part: &[u8],
         rng: &mut R,
-    ) -> Result<(), AllocError> {
+    ) -> Result<(), AllocError>
+        ensures adds { Adds 1 0 0 self.old self.new }
+        ensures outdone { OnOk result (IsOutdoneIn self.new.own part.now) }
+        ensures answered { OnOk result (IsHeededAck self.new part.now) }
+        ensures keeps { KeepsAnswered self.old self.new }
+        ensures stays { StaysButProbe self.old self.new }
+    {
         match decode_message(self.alloc, part) {
             Ok(message) => self.take_message(from, message, rng),
             Err(WireFault::Memory) => Err(AllocError),
@@ -49,7 +83,15 @@ impl Member {
         from: SocketAddr,
         message: Message,
         rng: &mut R,
-    ) -> Result<(), AllocError> {
+    ) -> Result<(), AllocError>
+        ensures adds { Adds 1 0 0 self.old self.new }
+        ensures outdone { OnOk result ((packet : PacketValue)
+            → message_value message ≡ MessageValue.claim packet → IsOutdone self.new.own packet) }
+        ensures answered { OnOk result ((ack : AckValue)
+            → message_value message ≡ MessageValue.ack ack → HasNoProbe ack.seq_no self.new) }
+        ensures keeps { KeepsAnswered self.old self.new }
+        ensures stays { StaysButProbe self.old self.new }
+    {
         match message {
             Message::Ping(ping) => self.answer_ping(from, &ping, rng),
             Message::IndirectPing(ping) => self.relay_ping(from, &ping, rng),
@@ -65,7 +107,10 @@ impl Member {
     }
 
     /// Counts something that was refused.
-    pub(crate) fn refuse(&mut self) {
+    pub(crate) fn refuse(&mut self)
+        ensures adds { Adds 0 0 0 self.old self.new }
+        ensures stays { Stays self.old self.new }
+    {
         self.refused = self.refused.saturating_add(1);
     }
 }

@@ -1,5 +1,8 @@
 //! Gossip (`gossip` in state.go), and choices among members (`kRandomNodes` in util.go).
 
+ghost use Rattle.std.specs.Prelude.{◌≤◌, IfOk, length};
+ghost use Rattle.memberlist_member.specs.Staying.{Adds, Stays, unless_silent};
+
 use crate::config::micros;
 use crate::member::Member;
 use crate::member::hearing::copy_of;
@@ -19,7 +22,10 @@ pub(crate) enum Among {
 
 impl Member {
     /// Tells news to some members.
-    pub(crate) fn gossip<R: Rng>(&mut self, rng: &mut R) -> Result<(), AllocError> {
+    pub(crate) fn gossip<R: Rng>(&mut self, rng: &mut R) -> Result<(), AllocError>
+        ensures adds { Adds (unless_silent self.old.settings self.old.settings.gossip_nodes) 0 0 self.old self.new }
+        ensures stays { Stays self.old self.new }
+    {
         if self.config().is_silent || (self.claims.len() == 0 && self.said.len() == 0) {
             return Ok(());
         }
@@ -49,7 +55,9 @@ impl Member {
         other: Option<&MemberName>,
         among: Among,
         rng: &mut R,
-    ) -> Result<Vec<MemberName>, AllocError> {
+    ) -> Result<Vec<MemberName>, AllocError>
+        ensures { IfOk result (λ names. length names.items ≤ count) }
+    {
         let mut chosen: Vec<MemberName> = Vec::new(self.alloc);
         let wait = micros(self.config().gossip_to_the_dead_time);
         for _ in 0..self.rounds.len().saturating_mul(3) {

@@ -1,5 +1,9 @@
 //! What the member hears, about others and about itself.
 
+ghost use Rattle.std.specs.Prelude.{◌≡◌, ◌-◌, ◌^◌, ◌<◌, ◌≤◌, IfOk, OnOk};
+ghost use Rattle.memberlist_member.specs.Steps.{IsOutdone};
+ghost use Rattle.memberlist_member.specs.Staying.{Adds, Stays};
+
 use crate::config::micros;
 use crate::member::Member;
 use crate::output::Output;
@@ -19,7 +23,11 @@ impl Member {
         packet: &Packet,
         joins: bool,
         rng: &mut R,
-    ) -> Result<(), AllocError> {
+    ) -> Result<(), AllocError>
+        ensures adds { Adds 0 0 0 self.old self.new }
+        ensures outdone { OnOk result (IsOutdone self.new.own packet.now) }
+        ensures stays { Stays self.old self.new }
+    {
         if *packet.claim().name().bytes() == *self.own.name.name().bytes() {
             return self.hear_about_itself(packet, rng);
         }
@@ -44,7 +52,10 @@ impl Member {
         name: &MemberName,
         event: Event,
         rng: &mut R,
-    ) -> Result<(), AllocError> {
+    ) -> Result<(), AllocError>
+        ensures adds { Adds 0 0 0 self.old self.new }
+        ensures stays { Stays self.old self.new }
+    {
         match event {
             Event::Joined | Event::Known => self.admit(name, rng),
             Event::Back | Event::Updated | Event::Renewed | Event::Refuted | Event::Left => {
@@ -62,7 +73,10 @@ impl Member {
     }
 
     /// Adds a member of which the first Alive was believed.
-    fn admit<R: Rng>(&mut self, name: &MemberName, rng: &mut R) -> Result<(), AllocError> {
+    fn admit<R: Rng>(&mut self, name: &MemberName, rng: &mut R) -> Result<(), AllocError>
+        ensures adds { Adds 0 0 0 self.old self.new }
+        ensures stays { Stays self.old self.new }
+    {
         if !self.is_known(name) {
             return Ok(());
         }
@@ -80,7 +94,10 @@ impl Member {
     }
 
     /// Begins to wait for what a member that is suspected says.
-    fn suspect(&mut self, name: &MemberName) -> Result<(), AllocError> {
+    fn suspect(&mut self, name: &MemberName) -> Result<(), AllocError>
+        ensures adds { Adds 0 0 0 self.old self.new }
+        ensures stays { Stays self.old self.new }
+    {
         let config = self.settings.config();
         let suspicion = Suspicion::begun(
             config.suspicion_mult,
@@ -93,7 +110,10 @@ impl Member {
     }
 
     /// Remembers where a member was that died.
-    fn lose(&mut self, name: &MemberName) -> Result<(), AllocError> {
+    fn lose(&mut self, name: &MemberName) -> Result<(), AllocError>
+        ensures adds { Adds 0 0 0 self.old self.new }
+        ensures stays { Stays self.old self.new }
+    {
         let Some(entry) = self.view.get(name) else {
             return Ok(());
         };
@@ -111,7 +131,10 @@ impl Member {
     }
 
     /// Tells a claim on that changed the view. Of further accusers only those that count are named.
-    fn tell_on(&mut self, packet: &Packet, event: Event) -> Result<(), AllocError> {
+    fn tell_on(&mut self, packet: &Packet, event: Event) -> Result<(), AllocError>
+        ensures adds { Adds 0 0 0 self.old self.new }
+        ensures stays { Stays self.old self.new }
+    {
         if self.config().is_silent || !self.is_news(packet, event)? {
             return Ok(());
         }
@@ -147,7 +170,10 @@ impl Member {
     }
 
     /// Puts a claim into the queue; one that fits no datagram is told with the tables alone.
-    pub(crate) fn queue_claim(&mut self, packet: &Packet) -> Result<(), AllocError> {
+    pub(crate) fn queue_claim(&mut self, packet: &Packet) -> Result<(), AllocError>
+        ensures adds { Adds 0 0 0 self.old self.new }
+        ensures stays { Stays self.old self.new }
+    {
         let bytes = encode_packet(self.alloc, packet)?;
         if self.room() < 4 + bytes.len() {
             let name = packet.claim().name().try_clone(self.alloc)?;
@@ -160,7 +186,10 @@ impl Member {
     }
 
     /// Puts out what changed.
-    fn show(&mut self, name: &MemberName, event: Event) -> Result<(), AllocError> {
+    fn show(&mut self, name: &MemberName, event: Event) -> Result<(), AllocError>
+        ensures adds { Adds 0 0 0 self.old self.new }
+        ensures stays { Stays self.old self.new }
+    {
         let alloc = self.alloc;
         let Some(entry) = self.view.get(name) else {
             return Ok(());
@@ -185,11 +214,11 @@ impl Member {
     }
 
     /// Hears a claim about itself: it refutes what it does not say itself.
-    fn hear_about_itself<R: Rng>(
-        &mut self,
-        packet: &Packet,
-        rng: &mut R,
-    ) -> Result<(), AllocError> {
+    fn hear_about_itself<R: Rng>(&mut self, packet: &Packet, rng: &mut R) -> Result<(), AllocError>
+        ensures adds { Adds 0 0 0 self.old self.new }
+        ensures outdone { OnOk result (IsOutdone self.new.own packet.now) }
+        ensures stays { Stays self.old self.new }
+    {
         match self.own.judge(packet.claim()) {
             Verdict::Stands => Ok(()),
             Verdict::Refute => self.refute(packet.claim().inc(), rng),
@@ -206,7 +235,12 @@ impl Member {
     }
 
     /// Says that it is alive, at an incarnation above its own and this one (`refute`).
-    fn refute<R: Rng>(&mut self, accused: u32, rng: &mut R) -> Result<(), AllocError> {
+    fn refute<R: Rng>(&mut self, accused: u32, rng: &mut R) -> Result<(), AllocError>
+        ensures adds { Adds 0 0 0 self.old self.new }
+        ensures outdone { OnOk result (accused < 2 ^ 32 - 1 → self.old.own.inc ≤ accused
+            → accused < self.new.own.inc) }
+        ensures stays { Stays self.old self.new }
+    {
         if !self.own.outdo(accused) {
             return self.put(Output::Exhausted);
         }
@@ -216,7 +250,10 @@ impl Member {
     }
 
     /// Tells what it says about itself.
-    pub(crate) fn announce<R: Rng>(&mut self, rng: &mut R) -> Result<(), AllocError> {
+    pub(crate) fn announce<R: Rng>(&mut self, rng: &mut R) -> Result<(), AllocError>
+        ensures adds { Adds 0 0 0 self.old self.new }
+        ensures stays { Stays self.old self.new }
+    {
         let packet = self.own.alive(self.alloc)?;
         self.hear_itself(&packet, rng)
     }
@@ -226,7 +263,10 @@ impl Member {
         &mut self,
         packet: &Packet,
         rng: &mut R,
-    ) -> Result<(), AllocError> {
+    ) -> Result<(), AllocError>
+        ensures adds { Adds 0 0 0 self.old self.new }
+        ensures stays { Stays self.old self.new }
+    {
         let heard = Heard {
             time: self.time,
             said: said_by(self.alloc, packet, true)?,
@@ -252,6 +292,8 @@ fn said_by(alloc: Global, packet: &Packet, joins: bool) -> Result<Said, AllocErr
 }
 
 /// A copy of a name.
-pub(crate) fn copy_of(alloc: Global, name: &MemberName) -> Result<MemberName, AllocError> {
+pub(crate) fn copy_of(alloc: Global, name: &MemberName) -> Result<MemberName, AllocError>
+    ensures { IfOk result (λ copy. copy ≡ name.now) }
+{
     Ok(MemberName::new(name.name().try_clone(alloc)?))
 }

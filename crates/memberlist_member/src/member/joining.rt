@@ -1,5 +1,9 @@
 //! Joining, leaving, and what the program says.
 
+ghost use Rattle.std.specs.Prelude.{◌≡◌, OnOk, length, true};
+ghost use Rattle.memberlist_member.specs.Staying.{Adds, Stays, StaysItself, StaysButTimes};
+ghost use Rattle.memberlist_member.specs.Steps.{IsSaid, IsUpdated};
+
 use crate::config::micros;
 use crate::fault::StepFault;
 use crate::member::Member;
@@ -20,7 +24,11 @@ impl Member {
         &mut self,
         seeds: &[SocketAddr],
         rng: &mut R,
-    ) -> Result<(), AllocError> {
+    ) -> Result<(), AllocError>
+        ensures adds { Adds 0 (length seeds.now) 0 self.old self.new }
+        ensures seeds { OnOk result (self.new.seeds.items ≡ seeds.now) }
+        ensures stays { StaysItself self.old self.new }
+    {
         self.seeds = seeds.to_vec(self.alloc)?;
         for seed in seeds {
             self.exchange(*seed, true, rng)?;
@@ -29,7 +37,11 @@ impl Member {
     }
 
     /// Leaves: it says that it is dead, which only a member that leaves says of itself (`Leave`).
-    pub(crate) fn leave<R: Rng>(&mut self, rng: &mut R) -> Result<(), AllocError> {
+    pub(crate) fn leave<R: Rng>(&mut self, rng: &mut R) -> Result<(), AllocError>
+        ensures adds { Adds 0 0 0 self.old self.new }
+        ensures stays { StaysItself self.old self.new }
+        ensures leaves { OnOk result (self.new.own.is_leaving ≡ true) }
+    {
         if self.own.is_leaving {
             return Ok(());
         }
@@ -42,7 +54,11 @@ impl Member {
 
     /// Ends the departure once the leave was told as often as it is to be, nobody is there to hear
     /// it, or its time is over.
-    pub(crate) fn depart(&mut self) -> Result<(), AllocError> {
+    pub(crate) fn depart(&mut self) -> Result<(), AllocError>
+        ensures adds { Adds 0 0 0 self.old self.new }
+        ensures stays { StaysButTimes self.old self.new }
+        ensures times { self.new.times ≡ record self.old.times { departure = self.new.times.departure } }
+    {
         let Some(until) = self.times.departure else {
             return Ok(());
         };
@@ -71,7 +87,11 @@ impl Member {
     }
 
     /// Has this metadata from now on, which may have up to 512 bytes (`UpdateNode`).
-    pub(crate) fn update<R: Rng>(&mut self, meta: &[u8], rng: &mut R) -> Result<(), StepFault> {
+    pub(crate) fn update<R: Rng>(&mut self, meta: &[u8], rng: &mut R) -> Result<(), StepFault>
+        ensures adds { Adds 0 0 0 self.old self.new }
+        ensures updates { OnOk result (IsUpdated meta.now self.old.own self.new.own) }
+        ensures stays { StaysItself self.old self.new }
+    {
         let old = &self.own.details;
         let meta = meta.to_vec(self.alloc)?;
         let Ok(details) = Details::of(old.addr(), old.port(), meta, old.vsn()) else {
@@ -87,7 +107,11 @@ impl Member {
     }
 
     /// Tells a message of the program, if it fits a datagram.
-    pub(crate) fn say(&mut self, bytes: &[u8]) -> Result<(), StepFault> {
+    pub(crate) fn say(&mut self, bytes: &[u8]) -> Result<(), StepFault>
+        ensures adds { Adds 0 0 0 self.old self.new }
+        ensures said { OnOk result (IsSaid bytes.now self.old self.new) }
+        ensures stays { Stays self.old self.new }
+    {
         let message = encode_user(self.alloc, bytes)?;
         if self.room() < 4 + message.len() {
             return Err(StepFault::TooLong);
@@ -99,7 +123,11 @@ impl Member {
     }
 
     /// Sends this along with tables from now on.
-    pub(crate) fn set_state(&mut self, bytes: &[u8]) -> Result<(), AllocError> {
+    pub(crate) fn set_state(&mut self, bytes: &[u8]) -> Result<(), AllocError>
+        ensures adds { Adds 0 0 0 self.old self.new }
+        ensures state { OnOk result (self.new.state.items ≡ bytes.now) }
+        ensures stays { Stays self.old self.new }
+    {
         self.state = bytes.to_vec(self.alloc)?;
         Ok(())
     }

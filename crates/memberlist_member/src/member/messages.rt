@@ -1,11 +1,12 @@
 //! Pings and their answers.
 
-ghost use Rattle.std.specs.Prelude.{◌<◌, ◌≤◌, ◌^◌, IfOk, length};
+ghost use Rattle.std.specs.Prelude.{◌<◌, ◌≤◌, ◌^◌, IfOk, OnOk, length};
+ghost use Rattle.memberlist_member.specs.Staying.{Adds, HasNoProbe, KeepsAnswered, Stays, StaysButProbe};
 
 use crate::config::micros;
 use crate::member::Member;
 use crate::output::Output;
-use crate::place::{bytes_of, ip_of};
+use crate::place::ip_of;
 use crate::relays::Relay;
 use memberlist_message::{Ack, IndirectPing, Nack, Ping, encode_ack, encode_nack, encode_ping};
 use rand_core::Rng;
@@ -22,7 +23,10 @@ impl Member {
         from: SocketAddr,
         ping: &Ping,
         rng: &mut R,
-    ) -> Result<(), AllocError> {
+    ) -> Result<(), AllocError>
+        ensures adds { Adds 1 0 0 self.old self.new }
+        ensures stays { Stays self.old self.new }
+    {
         if !self.is_own(&ping.node) {
             return Ok(());
         }
@@ -40,7 +44,10 @@ impl Member {
         to: SocketAddr,
         seq_no: u32,
         rng: &mut R,
-    ) -> Result<(), AllocError> {
+    ) -> Result<(), AllocError>
+        ensures adds { Adds 1 0 0 self.old self.new }
+        ensures stays { Stays self.old self.new }
+    {
         let message = self.ack(seq_no)?;
         self.send_with_news(to, message, rng)
     }
@@ -57,7 +64,10 @@ impl Member {
         from: SocketAddr,
         ping: &IndirectPing,
         rng: &mut R,
-    ) -> Result<(), AllocError> {
+    ) -> Result<(), AllocError>
+        ensures adds { Adds 1 0 0 self.old self.new }
+        ensures stays { Stays self.old self.new }
+    {
         let Some(ip) = ip_of(&ping.target) else {
             self.refuse();
             return Ok(());
@@ -112,7 +122,12 @@ impl Member {
     }
 
     /// Takes in an ack: it answers the ping of a probe, or one for another member, which is told.
-    pub(crate) fn take_ack<R: Rng>(&mut self, seq: u32, rng: &mut R) -> Result<(), AllocError> {
+    pub(crate) fn take_ack<R: Rng>(&mut self, seq: u32, rng: &mut R) -> Result<(), AllocError>
+        ensures adds { Adds 1 0 0 self.old self.new }
+        ensures answered { OnOk result (HasNoProbe seq self.new) }
+        ensures keeps { KeepsAnswered self.old self.new }
+        ensures stays { StaysButProbe self.old self.new }
+    {
         if let Some(relay) = self.relays.take(seq) {
             if self.time <= relay.due {
                 self.send_ack(relay.asker, relay.asked, rng)?;
@@ -122,7 +137,10 @@ impl Member {
     }
 
     /// Tells those who asked that no answer came.
-    pub(crate) fn end_relays<R: Rng>(&mut self, rng: &mut R) -> Result<(), AllocError> {
+    pub(crate) fn end_relays<R: Rng>(&mut self, rng: &mut R) -> Result<(), AllocError>
+        ensures adds { Adds (length self.old.relays.waiting.items) 0 0 self.old self.new }
+        ensures stays { Stays self.old self.new }
+    {
         for _ in 0..self.relays.len() {
             let Some(relay) = self.relays.take_due(self.time) else {
                 break;
@@ -141,7 +159,10 @@ impl Member {
     }
 
     /// Puts out a message of another program.
-    pub(crate) fn take_user_message(&mut self, bytes: Vec<u8>) -> Result<(), AllocError> {
+    pub(crate) fn take_user_message(&mut self, bytes: Vec<u8>) -> Result<(), AllocError>
+        ensures adds { Adds 0 0 0 self.old self.new }
+        ensures stays { Stays self.old self.new }
+    {
         self.put(Output::User { bytes })
     }
 

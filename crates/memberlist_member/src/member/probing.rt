@@ -1,6 +1,7 @@
 //! Probes (`probe`, `probeNode` in state.go).
 
-ghost use Rattle.std.specs.Prelude.{◌<◌, ◌≤◌, ◌^◌, IfOk, length};
+ghost use Rattle.std.specs.Prelude.{◌<◌, ◌≤◌, ◌^◌, IfOk, IfSome, length};
+ghost use Rattle.memberlist_member.specs.Staying.{Adds, HasNoProbe, KeepsAnswered, Stays, StaysButProbe, unless_silent};
 
 use crate::claims;
 use crate::config::micros;
@@ -26,7 +27,10 @@ const HAS_TCP_PING: u8 = 3;
 
 impl Member {
     /// Probes the next member, unless a probe runs.
-    pub(crate) fn begin_probe<R: Rng>(&mut self, rng: &mut R) -> Result<(), AllocError> {
+    pub(crate) fn begin_probe<R: Rng>(&mut self, rng: &mut R) -> Result<(), AllocError>
+        ensures adds { Adds (unless_silent self.old.settings 1) 0 0 self.old self.new }
+        ensures stays { StaysButProbe self.old self.new }
+    {
         if self.probe.is_some() || self.own.is_leaving || self.config().is_silent {
             return Ok(());
         }
@@ -37,29 +41,48 @@ impl Member {
     }
 
     /// The next member that is neither this one nor gone; none if there is none in two rounds.
-    fn next_to_probe<R: Rng>(&mut self, rng: &mut R) -> Result<Option<MemberName>, AllocError> {
-        for _ in 0..2 {
-            for _ in 0..self.rounds.len() {
-                let Some(name) = self.rounds.next() else {
-                    break;
-                };
-                if *name == self.own.name {
-                    continue;
-                }
-                let Some(entry) = self.view.get(name) else {
-                    continue;
-                };
-                if is_here(entry) {
-                    return Ok(Some(copy_of(self.alloc, name)?));
-                }
-            }
+    fn next_to_probe<R: Rng>(&mut self, rng: &mut R) -> Result<Option<MemberName>, AllocError>
+        ensures adds { Adds 0 0 0 self.old self.new }
+        ensures stays { Stays self.old self.new }
+    {
+        if let Some(name) = self.next_in_round()? {
+            return Ok(Some(name));
+        }
+        self.begin_round(rng)?;
+        let found = self.next_in_round()?;
+        if found.is_none() {
             self.begin_round(rng)?;
+        }
+        Ok(found)
+    }
+
+    /// The next one until the end of the round.
+    fn next_in_round(&mut self) -> Result<Option<MemberName>, AllocError>
+        ensures adds { Adds 0 0 0 self.old self.new }
+        ensures stays { Stays self.old self.new }
+    {
+        for _ in 0..self.rounds.len() {
+            let Some(name) = self.rounds.next() else {
+                break;
+            };
+            if *name == self.own.name {
+                continue;
+            }
+            let Some(entry) = self.view.get(name) else {
+                continue;
+            };
+            if is_here(entry) {
+                return Ok(Some(copy_of(self.alloc, name)?));
+            }
         }
         Ok(None)
     }
 
     /// Begins another round, and forgets who has been gone for long (`resetNodes`).
-    fn begin_round<R: Rng>(&mut self, rng: &mut R) -> Result<(), AllocError> {
+    fn begin_round<R: Rng>(&mut self, rng: &mut R) -> Result<(), AllocError>
+        ensures adds { Adds 0 0 0 self.old self.new }
+        ensures stays { Stays self.old self.new }
+    {
         let count = self.view.forget(self.time);
         self.rounds.begin(&self.view, rng);
         if count == 0 {
@@ -69,7 +92,10 @@ impl Member {
     }
 
     /// Begins to probe this member.
-    fn probe_member<R: Rng>(&mut self, name: MemberName, rng: &mut R) -> Result<(), AllocError> {
+    fn probe_member<R: Rng>(&mut self, name: MemberName, rng: &mut R) -> Result<(), AllocError>
+        ensures adds { Adds 1 0 0 self.old self.new }
+        ensures stays { StaysButProbe self.old self.new }
+    {
         let Some(entry) = self.view.get(&name) else {
             return Ok(());
         };
@@ -121,7 +147,10 @@ impl Member {
         ping: Vec<u8>,
         packet: &Packet,
         rng: &mut R,
-    ) -> Result<(), AllocError> {
+    ) -> Result<(), AllocError>
+        ensures adds { Adds 1 0 0 self.old self.new }
+        ensures stays { Stays self.old self.new }
+    {
         let warning = encode_packet(self.alloc, packet)?;
         let room = self.room();
         if room < ping.len() {
@@ -137,7 +166,10 @@ impl Member {
     }
 
     /// Goes on with the probe: asks others if there was no answer yet, and ends it in time.
-    pub(crate) fn go_on_probing<R: Rng>(&mut self, rng: &mut R) -> Result<(), AllocError> {
+    pub(crate) fn go_on_probing<R: Rng>(&mut self, rng: &mut R) -> Result<(), AllocError>
+        ensures adds { Adds self.old.settings.indirect_checks 1 0 self.old self.new }
+        ensures stays { StaysButProbe self.old self.new }
+    {
         let Some(probe) = &mut self.probe else {
             return Ok(());
         };
@@ -154,7 +186,10 @@ impl Member {
     }
 
     /// Asks other members to ping the one that is probed, and asks itself over TCP.
-    fn ask_others<R: Rng>(&mut self, rng: &mut R) -> Result<(), AllocError> {
+    fn ask_others<R: Rng>(&mut self, rng: &mut R) -> Result<(), AllocError>
+        ensures adds { Adds self.old.settings.indirect_checks 1 0 self.old self.new }
+        ensures stays { StaysButProbe self.old self.new }
+    {
         let Some(probe) = &self.probe else {
             return Ok(());
         };
@@ -186,7 +221,10 @@ impl Member {
         name: &MemberName,
         place: SocketAddr,
         rng: &mut R,
-    ) -> Result<(), AllocError> {
+    ) -> Result<(), AllocError>
+        ensures adds { Adds 1 0 0 self.old self.new }
+        ensures stays { StaysButProbe self.old self.new }
+    {
         let Some(entry) = self.view.get(peer) else {
             return Ok(());
         };
@@ -256,7 +294,10 @@ impl Member {
         name: &MemberName,
         place: SocketAddr,
         rng: &mut R,
-    ) -> Result<(), AllocError> {
+    ) -> Result<(), AllocError>
+        ensures adds { Adds 0 1 0 self.old self.new }
+        ensures stays { StaysButProbe self.old self.new }
+    {
         let message = self.ping(seq, name.name().bytes())?;
         let due = match &self.probe {
             Some(probe) => probe.due,
@@ -270,7 +311,12 @@ impl Member {
     }
 
     /// Ends the probe if this ack answers it.
-    pub(crate) fn answer_probe(&mut self, seq: u32) -> Result<(), AllocError> {
+    pub(crate) fn answer_probe(&mut self, seq: u32) -> Result<(), AllocError>
+        ensures adds { Adds 0 0 0 self.old self.new }
+        ensures answered { HasNoProbe seq self.new }
+        ensures keeps { KeepsAnswered self.old self.new }
+        ensures stays { StaysButProbe self.old self.new }
+    {
         let Some(probe) = &self.probe else {
             return Ok(());
         };
@@ -287,18 +333,36 @@ impl Member {
     }
 
     /// Notes that a member that was asked got no answer.
-    pub(crate) fn take_nack(&mut self, seq: u32) {
+    pub(crate) fn take_nack(&mut self, seq: u32)
+        ensures adds { Adds 0 0 0 self.old self.new }
+        ensures keeps { KeepsAnswered self.old self.new }
+        ensures stays { StaysButProbe self.old self.new }
+    {
         if let Some(probe) = &mut self.probe {
             probe.take_nack(seq);
         }
     }
 
-    /// Ends the probe without an answer: the member is suspected.
-    fn end_probe<R: Rng>(&mut self, rng: &mut R) -> Result<(), AllocError> {
+    /// Ends the probe, whose time is over, without an answer: the member is suspected.
+    fn end_probe<R: Rng>(&mut self, rng: &mut R) -> Result<(), AllocError>
+        requires over { IfSome self.old.probe (λ probe. probe.due ≤ self.old.time) }
+        ensures adds { Adds 0 0 0 self.old self.new }
+        ensures stays { StaysButProbe self.old self.new }
+    {
         let Some(probe) = self.probe.take() else {
             return Ok(());
         };
         self.health.worsen(probe.penalty());
+        self.show_unanswered(&probe)?;
+        let packet = self.suspicion_of(&probe.name, probe.inc)?;
+        self.hear(&packet, true, rng)
+    }
+
+    /// Closes the connection of a probe that was not answered, and says so.
+    fn show_unanswered(&mut self, probe: &Probe) -> Result<(), AllocError>
+        ensures adds { Adds 0 0 0 self.old self.new }
+        ensures stays { Stays self.old self.new }
+    {
         if let Some(conn) = probe.conn {
             self.hang_up(conn)?;
         }
@@ -307,9 +371,7 @@ impl Member {
             seq: probe.seq,
             expected: probe.expected,
             nacks: probe.nacks,
-        })?;
-        let packet = self.suspicion_of(&probe.name, probe.inc)?;
-        self.hear(&packet, true, rng)
+        })
     }
 }
 

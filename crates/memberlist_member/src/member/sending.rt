@@ -2,11 +2,14 @@
 
 ghost use Rattle.std.specs.Prelude.{◌<◌, ◌≤◌, IfOk, length};
 ghost use Rattle.std.specs.List.{All};
+ghost use Rattle.memberlist_member.specs.Covers.{IsSentWith};
+ghost use Rattle.memberlist_member.specs.Staying.{Adds, Stays};
 
 use crate::compound::datagram;
 use crate::member::Member;
 use crate::output::Output;
 use crate::scale::retransmit_limit;
+use memberlist_compress::compressed_if_shorter;
 use rand_core::Rng;
 use std::alloc::AllocError;
 use std::net::SocketAddr;
@@ -33,7 +36,10 @@ impl Member {
         to: SocketAddr,
         message: Vec<u8>,
         rng: &mut R,
-    ) -> Result<(), AllocError> {
+    ) -> Result<(), AllocError>
+        ensures adds { Adds 1 0 0 self.old self.new }
+        ensures stays { Stays self.old self.new }
+    {
         let room = self.room();
         if room < message.len() {
             return Ok(());
@@ -51,6 +57,8 @@ impl Member {
     pub(crate) fn take_news(&mut self, room: usize) -> Result<Vec<Vec<u8>>, AllocError>
         ensures few { IfOk result (λ news. length news.items ≤ 254) }
         ensures short { IfOk result (λ news. All (λ p. length p.items ≤ room) news.items) }
+        ensures adds { Adds 0 0 0 self.old self.new }
+        ensures stays { Stays self.old self.new }
     {
         let limit = retransmit_limit(self.config().retransmit_mult, self.members());
         let mut news = self.claims.take(self.alloc, PART, room, MAX_PARTS, limit)?;
@@ -70,8 +78,10 @@ impl Member {
     ) -> Result<(), AllocError>
         requires few { length parts.items < 256 }
         requires short { All (λ p. length p.items < 65536) parts.items }
+        ensures adds { Adds 1 0 0 self.old self.new }
+        ensures stays { Stays self.old self.new }
     {
-        let message = datagram(self.alloc, parts)?;
+        let message = self.compressed(datagram(self.alloc, parts)?)?;
         if self.room() < message.len() {
             return Ok(());
         }
@@ -79,6 +89,19 @@ impl Member {
             return Ok(());
         };
         self.put(Output::Send { to, bytes })
+    }
+
+    /// The message as it is sent: compressed if messages are and that makes it shorter
+    /// (`rawSendMsgPacket`; memberlist compresses each stream, also where it becomes longer).
+    pub(crate) fn compressed(&self, message: Vec<u8>) -> Result<Vec<u8>, AllocError>
+        ensures { IfOk result (λ sent. IsSentWith self.now.settings.enable_compression
+            message.items sent.items) }
+    {
+        if self.config().enable_compression {
+            compressed_if_shorter(self.alloc, message)
+        } else {
+            Ok(message)
+        }
     }
 }
 

@@ -1,8 +1,10 @@
 //! What goes over connections.
 
+ghost use Rattle.memberlist_member.specs.Staying.{Adds, Stays, StaysButProbe};
+
 use crate::claims;
 use crate::config::micros;
-use crate::connections::{Connection, Purpose};
+use crate::connections::{Connection, MAX_CONNECTIONS, Purpose};
 use crate::cover::Opened;
 use crate::member::Member;
 use crate::output::Output;
@@ -43,11 +45,17 @@ impl Member {
         message: Vec<u8>,
         due: u64,
         rng: &mut R,
-    ) -> Result<Option<u64>, AllocError> {
+    ) -> Result<Option<u64>, AllocError>
+        ensures adds { Adds 0 1 0 self.old self.new }
+        ensures stays { Stays self.old self.new }
+    {
         if self.connections.is_full() {
             return Ok(None);
         }
-        let Some(first) = self.cover.close_stream(self.alloc, message, false, rng)? else {
+        let Some(first) = self
+            .cover
+            .close_stream(self.alloc, self.compressed(message)?, false, rng)?
+        else {
             return Ok(None);
         };
         let conn = self.next_conn();
@@ -58,13 +66,19 @@ impl Member {
     }
 
     /// The number of a new connection: even ones are of connections that it opens.
-    fn next_conn(&mut self) -> u64 {
+    fn next_conn(&mut self) -> u64
+        ensures adds { Adds 0 0 0 self.old self.new }
+        ensures stays { Stays self.old self.new }
+    {
         self.conn = self.conn.wrapping_add(2);
         self.conn & !1
     }
 
     /// Another member opened a connection.
-    pub(crate) fn take_connection(&mut self, conn: u64) -> Result<(), AllocError> {
+    pub(crate) fn take_connection(&mut self, conn: u64) -> Result<(), AllocError>
+        ensures adds { Adds 0 0 0 self.old self.new }
+        ensures stays { Stays self.old self.new }
+    {
         if self.connections.is_full() {
             return self.put(Output::Close { conn });
         }
@@ -74,7 +88,10 @@ impl Member {
     }
 
     /// Writes what is to be sent over a connection that is open now.
-    pub(crate) fn write_first(&mut self, conn: u64) -> Result<(), AllocError> {
+    pub(crate) fn write_first(&mut self, conn: u64) -> Result<(), AllocError>
+        ensures adds { Adds 0 0 1 self.old self.new }
+        ensures stays { Stays self.old self.new }
+    {
         let empty = Vec::new(self.alloc);
         let Some(index) = self.connections.index_of(conn) else {
             return Ok(());
@@ -95,7 +112,10 @@ impl Member {
         conn: u64,
         bytes: &[u8],
         rng: &mut R,
-    ) -> Result<(), AllocError> {
+    ) -> Result<(), AllocError>
+        ensures adds { Adds 0 0 1 self.old self.new }
+        ensures stays { StaysButProbe self.old self.new }
+    {
         let Some(index) = self.connections.index_of(conn) else {
             return Ok(());
         };
@@ -113,8 +133,11 @@ impl Member {
     }
 
     /// Looks at what came over connections on which no more comes.
-    pub(crate) fn look_again<R: Rng>(&mut self, rng: &mut R) -> Result<(), AllocError> {
-        for _ in 0..self.connections.list.len() {
+    pub(crate) fn look_again<R: Rng>(&mut self, rng: &mut R) -> Result<(), AllocError>
+        ensures adds { Adds 0 0 128 self.old self.new }
+        ensures stays { StaysButProbe self.old self.new }
+    {
+        for _ in 0..MAX_CONNECTIONS {
             let Some(conn) = self.connections.to_look_at(self.time) else {
                 break;
             };
@@ -128,14 +151,20 @@ impl Member {
         &mut self,
         conn: u64,
         rng: &mut R,
-    ) -> Result<(), AllocError> {
+    ) -> Result<(), AllocError>
+        ensures adds { Adds 0 0 1 self.old self.new }
+        ensures stays { StaysButProbe self.old self.new }
+    {
         self.look(conn, rng)?;
         let _ = self.connections.remove(conn);
         Ok(())
     }
 
     /// Looks at what came over a connection, and does what it says once it is whole.
-    fn look<R: Rng>(&mut self, conn: u64, rng: &mut R) -> Result<(), AllocError> {
+    fn look<R: Rng>(&mut self, conn: u64, rng: &mut R) -> Result<(), AllocError>
+        ensures adds { Adds 0 0 1 self.old self.new }
+        ensures stays { StaysButProbe self.old self.new }
+    {
         let Some(index) = self.connections.index_of(conn) else {
             return Ok(());
         };
@@ -168,7 +197,10 @@ impl Member {
         purpose: Purpose,
         message: &[u8],
         rng: &mut R,
-    ) -> Result<(), AllocError> {
+    ) -> Result<(), AllocError>
+        ensures adds { Adds 0 0 1 self.old self.new }
+        ensures stays { Stays self.old self.new }
+    {
         match read_stream(self.alloc, message)? {
             Stream::Ended => Ok(()),
             Stream::Refused => {
@@ -197,13 +229,14 @@ impl Member {
     }
 
     /// Writes an answer to a connection.
-    fn answer<R: Rng>(
-        &mut self,
-        conn: u64,
-        message: Vec<u8>,
-        rng: &mut R,
-    ) -> Result<(), AllocError> {
-        match self.cover.close_stream(self.alloc, message, true, rng)? {
+    fn answer<R: Rng>(&mut self, conn: u64, message: Vec<u8>, rng: &mut R) -> Result<(), AllocError>
+        ensures adds { Adds 0 0 1 self.old self.new }
+        ensures stays { Stays self.old self.new }
+    {
+        match self
+            .cover
+            .close_stream(self.alloc, self.compressed(message)?, true, rng)?
+        {
             Some(bytes) => self.put(Output::Write { conn, bytes }),
             None => Ok(()),
         }
@@ -216,7 +249,10 @@ impl Member {
         purpose: Purpose,
         message: &[u8],
         rng: &mut R,
-    ) -> Result<(), AllocError> {
+    ) -> Result<(), AllocError>
+        ensures adds { Adds 0 0 1 self.old self.new }
+        ensures stays { StaysButProbe self.old self.new }
+    {
         match decode_message(self.alloc, message) {
             Ok(Message::Ping(ping)) => {
                 if purpose == Purpose::Theirs && self.is_own(&ping.node) {
@@ -243,7 +279,10 @@ impl Member {
     }
 
     /// Closes a connection.
-    pub(crate) fn hang_up(&mut self, conn: u64) -> Result<(), AllocError> {
+    pub(crate) fn hang_up(&mut self, conn: u64) -> Result<(), AllocError>
+        ensures adds { Adds 0 0 0 self.old self.new }
+        ensures stays { Stays self.old self.new }
+    {
         match self.connections.remove(conn) {
             Some(_) => self.put(Output::Close { conn }),
             None => Ok(()),
@@ -252,7 +291,10 @@ impl Member {
 
     /// Merges a record of another member's table (`mergeState`): one that is dead there is only
     /// suspected, and its sender is not named, so it counts as this member's own suspicion.
-    fn merge<R: Rng>(&mut self, claim: Claim, rng: &mut R) -> Result<(), AllocError> {
+    fn merge<R: Rng>(&mut self, claim: Claim, rng: &mut R) -> Result<(), AllocError>
+        ensures adds { Adds 0 0 0 self.old self.new }
+        ensures stays { Stays self.old self.new }
+    {
         let alloc = self.alloc;
         let packet = match claim {
             Claim::Alive { name, inc, details } => claims::alive(alloc, name, inc, details),
@@ -273,7 +315,10 @@ impl Member {
     /// # Errors
     ///
     /// `AllocError` if out of memory: some of them are then known.
-    pub fn recall<R: Rng>(&mut self, table: &[u8], rng: &mut R) -> Result<bool, AllocError> {
+    pub fn recall<R: Rng>(&mut self, table: &[u8], rng: &mut R) -> Result<bool, AllocError>
+        ensures adds { Adds 0 0 0 self.old self.new }
+        ensures stays { Stays self.old self.new }
+    {
         let Stream::Table { claims, .. } = read_stream(self.alloc, table)? else {
             return Ok(false);
         };
@@ -286,7 +331,10 @@ impl Member {
     }
 
     /// Knows a member if it is said to be alive, and tells nobody.
-    fn know<R: Rng>(&mut self, claim: Claim, rng: &mut R) -> Result<(), AllocError> {
+    fn know<R: Rng>(&mut self, claim: Claim, rng: &mut R) -> Result<(), AllocError>
+        ensures adds { Adds 0 0 0 self.old self.new }
+        ensures stays { Stays self.old self.new }
+    {
         if claim.kind() != Kind::Alive {
             return Ok(());
         }

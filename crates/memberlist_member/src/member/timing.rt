@@ -1,5 +1,9 @@
 //! What the member does when its time has come.
 
+ghost use Rattle.std.specs.Prelude.{◌≡◌, ◌+◌, ◌||◌, OnOk};
+ghost use Rattle.memberlist_member.specs.Steps.{IsLater, IsOnTime, TicksAtMost};
+ghost use Rattle.memberlist_member.specs.Staying.{Adds, Stays, StaysButTimes, unless_silent};
+
 use crate::config::micros;
 use crate::connections::Purpose;
 use crate::member::Member;
@@ -49,11 +53,15 @@ impl Member {
     }
 
     /// Does what is due.
-    pub(crate) fn tick<R: Rng>(&mut self, rng: &mut R) -> Result<(), AllocError> {
+    pub(crate) fn tick<R: Rng>(&mut self, rng: &mut R) -> Result<(), AllocError>
+        ensures adds { TicksAtMost self.old self.new }
+        ensures stays { StaysButTimes self.old self.new }
+        ensures on_time { OnOk result (IsOnTime self.new) }
+    {
         self.end_relays(rng)?;
         self.look_again(rng)?;
-        self.go_on_probing(rng)?;
         if !self.config().is_silent {
+            self.go_on_probing(rng)?;
             self.end_suspicions(rng)?;
         }
         self.probe_in_time(rng)?;
@@ -61,11 +69,16 @@ impl Member {
         self.exchange_in_time(rng)?;
         self.reconnect_in_time(rng)?;
         self.join_in_time(rng)?;
-        self.close_overdue(rng)?;
+        self.close_overdue()?;
         self.depart()
     }
 
-    fn probe_in_time<R: Rng>(&mut self, rng: &mut R) -> Result<(), AllocError> {
+    fn probe_in_time<R: Rng>(&mut self, rng: &mut R) -> Result<(), AllocError>
+        ensures adds { Adds (unless_silent self.old.settings 1) 0 0 self.old self.new }
+        ensures stays { StaysButTimes self.old self.new }
+        ensures times { self.new.times ≡ record self.old.times { probe = self.new.times.probe } }
+        ensures later { IsLater self.new.time self.new.times.probe }
+    {
         if self.time < self.times.probe {
             return Ok(());
         }
@@ -73,7 +86,12 @@ impl Member {
         self.begin_probe(rng)
     }
 
-    fn gossip_in_time<R: Rng>(&mut self, rng: &mut R) -> Result<(), AllocError> {
+    fn gossip_in_time<R: Rng>(&mut self, rng: &mut R) -> Result<(), AllocError>
+        ensures adds { Adds (unless_silent self.old.settings self.old.settings.gossip_nodes) 0 0 self.old self.new }
+        ensures stays { StaysButTimes self.old self.new }
+        ensures times { self.new.times ≡ record self.old.times { gossip = self.new.times.gossip } }
+        ensures later { IsLater self.new.time self.new.times.gossip }
+    {
         if self.time < self.times.gossip {
             return Ok(());
         }
@@ -82,13 +100,18 @@ impl Member {
     }
 
     /// Exchanges tables with a member at random.
-    fn exchange_in_time<R: Rng>(&mut self, rng: &mut R) -> Result<(), AllocError> {
+    fn exchange_in_time<R: Rng>(&mut self, rng: &mut R) -> Result<(), AllocError>
+        ensures adds { Adds 0 (unless_silent self.old.settings 1) 0 self.old self.new }
+        ensures stays { StaysButTimes self.old self.new }
+        ensures times { self.new.times ≡ record self.old.times { push_pull = self.new.times.push_pull } }
+        ensures later { IsLater self.new.time self.new.times.push_pull }
+    {
         if self.time < self.times.push_pull {
             return Ok(());
         }
-        let interval = micros(self.config().push_pull_interval).saturating_mul(u64::from(
-            push_pull_scale(self.members()),
-        ));
+        let interval = micros(self.config().push_pull_interval)
+            .saturating_mul(u64::from(push_pull_scale(self.members())))
+            .max(1);
         self.times.push_pull = self.time.saturating_add(interval);
         if self.is_passive() {
             return Ok(());
@@ -105,7 +128,12 @@ impl Member {
     }
 
     /// Dials a member that was lost.
-    fn reconnect_in_time<R: Rng>(&mut self, rng: &mut R) -> Result<(), AllocError> {
+    fn reconnect_in_time<R: Rng>(&mut self, rng: &mut R) -> Result<(), AllocError>
+        ensures adds { Adds 0 (unless_silent self.old.settings 1) 0 self.old self.new }
+        ensures stays { StaysButTimes self.old self.new }
+        ensures times { self.new.times ≡ record self.old.times { reconnect = self.new.times.reconnect } }
+        ensures later { IsLater self.new.time self.new.times.reconnect }
+    {
         if self.time < self.times.reconnect {
             return Ok(());
         }
@@ -121,12 +149,19 @@ impl Member {
     }
 
     /// Whether it dials nobody by itself.
-    fn is_passive(&self) -> bool {
+    fn is_passive(&self) -> bool
+        ensures { result ≡ (self.now.own.is_leaving || self.now.settings.is_silent) }
+    {
         self.own.is_leaving || self.config().is_silent
     }
 
     /// Dials a seed while it is alone.
-    fn join_in_time<R: Rng>(&mut self, rng: &mut R) -> Result<(), AllocError> {
+    fn join_in_time<R: Rng>(&mut self, rng: &mut R) -> Result<(), AllocError>
+        ensures adds { Adds 0 1 0 self.old self.new }
+        ensures stays { StaysButTimes self.old self.new }
+        ensures times { self.new.times ≡ record self.old.times { seed = self.new.times.seed } }
+        ensures later { IsLater self.new.time self.new.times.seed }
+    {
         if self.time < self.times.seed {
             return Ok(());
         }
@@ -141,14 +176,16 @@ impl Member {
     }
 
     /// Closes the connections whose time is over.
-    fn close_overdue<R: Rng>(&mut self, rng: &mut R) -> Result<(), AllocError> {
+    fn close_overdue(&mut self) -> Result<(), AllocError>
+        ensures adds { Adds 0 0 0 self.old self.new }
+        ensures stays { Stays self.old self.new }
+    {
         for _ in 0..self.connections.list.len() {
             let Some(conn) = self.connections.overdue(self.time) else {
                 break;
             };
             self.hang_up(conn)?;
         }
-        let _ = rng;
         Ok(())
     }
 
@@ -158,7 +195,10 @@ impl Member {
         place: std::net::SocketAddr,
         join: bool,
         rng: &mut R,
-    ) -> Result<(), AllocError> {
+    ) -> Result<(), AllocError>
+        ensures adds { Adds 0 1 0 self.old self.new }
+        ensures stays { Stays self.old self.new }
+    {
         let message = self.table(join)?;
         let due = self.time.saturating_add(micros(self.config().tcp_timeout));
         let _ = self.dial(place, Purpose::PushPull { join }, message, due, rng)?;
@@ -168,7 +208,9 @@ impl Member {
 
 /// The next time after now that is so many milliseconds, or a multiple, after this one: what was
 /// missed is not made up for.
-fn next_tick(last: u64, interval: u32, now: u64) -> u64 {
+fn next_tick(last: u64, interval: u32, now: u64) -> u64
+    ensures { IsLater now result }
+{
     let interval = micros(interval.max(1));
     let missed = now.saturating_sub(last) / interval;
     last.saturating_add(missed.saturating_add(1).saturating_mul(interval))

@@ -1,0 +1,5 @@
+use Rattle.memberlist_member.specs.Staying.{Adds, Stays}
+use Rattle.memberlist_member.proofs.member.Member.end_suspicions.Given as goal
+
+abbrev pub invariant-loop : goal.invariant-loop
+invariant-loop g l = Adds 0 0 0 l.initial.self l.self × Stays l.initial.self l.self

@@ -1,0 +1,21 @@
+use Rattle.std.proofs.Common.{rules}
+use Rattle.memberlist_member.specs.Steps.{IsHeededAck, IsOutdoneIn}
+use Rattle.memberlist_member.proofs.Heeding.{answered_later, one_more, outdone_later}
+use Rattle.memberlist_member.proofs.member.Member.take_parts.Goals as goal
+
+pub loop-part-preserved : goal.loop-part-preserved
+loop-part-preserved g c =
+    let old = c.loop-part.self in
+    let new = c.take_part.new.self in
+    let before = c.loop-part.invariant in
+    let (((time, settings, name, rises), details, leaving, seeds), times) = c.take_part.ensures.stays in
+    record {
+      adds = search rules;
+      stays = search rules;
+      outdone = one_more (λ p. IsOutdoneIn old.own p.now) (λ p. IsOutdoneIn new.own p.now) c.args.parts.now
+          c.loop-part.part-index _ (search rules) (λ p. outdone_later old.own new.own name leaving rises p.now) before.outdone
+          c.in_ok-take_part.ensures.outdone;
+      answered = one_more (λ p. IsHeededAck old p.now) (λ p. IsHeededAck new p.now) c.args.parts.now
+          c.loop-part.part-index _ (search rules) (λ p. answered_later old new c.take_part.ensures.keeps p.now) before.answered
+          c.in_ok-take_part.ensures.answered;
+    }

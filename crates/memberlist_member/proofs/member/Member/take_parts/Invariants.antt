@@ -1,0 +1,13 @@
+use Rattle.std.proofs.Common.{take}
+use Rattle.std.specs.List.{All}
+use Rattle.memberlist_member.specs.Steps.{IsHeededAck, IsOutdoneIn}
+use Rattle.memberlist_member.specs.Staying.{Adds, StaysButProbe}
+use Rattle.memberlist_member.proofs.member.Member.take_parts.Given as goal
+
+abbrev pub invariant-loop-part : goal.invariant-loop-part
+invariant-loop-part g l = record {
+  adds : Adds l.part-index 0 0 l.initial.self l.self;
+  stays : StaysButProbe l.initial.self l.self;
+  outdone : All (λ part. IsOutdoneIn l.self.own part.now) (take l.part-index l.parts);
+  answered : All (λ part. IsHeededAck l.self part.now) (take l.part-index l.parts);
+}
