@@ -9,15 +9,16 @@
  *     status = swimtab_close(&node);
  *
  * A node is what one member of a cluster knows: who it is, and a table of all members that it has
- * heard of. The library has no sockets, timers, threads or failure detector. The program passes in
- * the bytes that it received, and sends the bytes that a call writes. docs/EMBEDDING.md is the guide;
- * docs/messages.md has the rules, the bytes and the limits, and docs/faults.md the faults. It is for C99
- * and later, and for C++98 and later.
+ * heard of. An agent is a whole member of a memberlist cluster. The library has no sockets, timers or
+ * threads. The program passes in the bytes that it received, and sends the bytes that a call writes.
+ * docs/EMBEDDING.md is the guide; docs/messages.md has the rules, the bytes and the limits, and
+ * docs/faults.md the faults. It is for C99 and later, and for C++98 and later.
  *
  * What every call guarantees
  *
  * - It returns, on any bytes, with a status: SWIMTAB_DONE (0), or the reason why not. A call with any
- *   other status has changed neither the node nor a buffer.
+ *   other status has changed neither the node nor a buffer; only an agent that is told something may heed
+ *   a part of it with SWIMTAB_MEMORY.
  * - It keeps no pointer that it was given. A node copies what it needs, and frees that on close.
  * - It writes into a buffer of the caller. If the buffer is too small, the status is
  *   SWIMTAB_TOO_SMALL and `len` is the length needed, so a buffer of length 0 asks for the length.
@@ -100,6 +101,16 @@ typedef struct swimtab_view {
 /* An empty view: swimtab_view view = SWIMTAB_VIEW_INIT; */
 #define SWIMTAB_VIEW_INIT {NULL, false, NULL}
 
+/* A handle that holds an agent, or is empty. Its contents belong to the library, but `user` is the program's. */
+typedef struct swimtab_agent {
+    void *at;
+    bool held;
+    void *user;
+} swimtab_agent;
+
+/* An empty agent: swimtab_agent agent = SWIMTAB_AGENT_INIT; */
+#define SWIMTAB_AGENT_INIT {NULL, false, NULL}
+
 /* What a member says about itself. A name has 1 to 1,024 bytes of any values, an address 4 or 16, the
  * metadata up to 512, and the versions 0 or 6 (memberlist accepts only members with 6). It starts as
  * SWIMTAB_DETAILS_INIT, which sets `size`, so that later versions may add fields at the end. */
@@ -169,16 +180,18 @@ typedef enum swimtab_status {
     SWIMTAB_CIPHER_TRAILING = 57,  /* bytes follow an encrypted stream */
     SWIMTAB_UNENCRYPTED = 59,      /* it is in the clear, there are keys, and that is not accepted */
     SWIMTAB_NO_NODE = 64,          /* the handle is empty */
-    SWIMTAB_NODE_THERE = 65,       /* the handle has a node or a view already */
+    SWIMTAB_NODE_THERE = 65,       /* the handle has a node, a view or an agent already */
     SWIMTAB_TOO_SMALL = 66,        /* the buffer is too small; `len` is the length needed */
     SWIMTAB_NO_MEMBER = 67,        /* there is no member at this index, or of this name */
     SWIMTAB_OWN_NAME = 68,         /* a member does not declare itself dead; it leaves */
     SWIMTAB_TOO_MANY_PACKETS = 69, /* there are more than 255 packets for one compound packet */
     SWIMTAB_BAD_FORM = 70,         /* the form of a stream is not 0 or 1, or has no user state */
-    SWIMTAB_NO_ITEM = 71,          /* there is no key, part or accuser at this index, or no further record */
+    SWIMTAB_NO_ITEM = 71,          /* there is no key, part or accuser at this index, or no further record or output */
     SWIMTAB_KEY_IN_USE = 72,       /* the first key encrypts, so it is not removed */
     SWIMTAB_NOT_BACK = 73,         /* the member has not come back */
-    SWIMTAB_BAD_SIZE = 74          /* the size of a struct is not that of any version */
+    SWIMTAB_BAD_SIZE = 74,         /* the size of a struct is not that of any version */
+    SWIMTAB_BAD_MULTIPLIER = 75,   /* a multiplier of a configuration is too large */
+    SWIMTAB_SHORT_DATAGRAMS = 76   /* a configuration has datagrams of fewer than 576 bytes */
 } swimtab_status;
 
 /* A member's state. SWIMTAB_NOTED is a state of views alone: an Alive at incarnation 0 gave an address, and
@@ -344,6 +357,92 @@ typedef struct swimtab_view_data {
     uint8_t by[1024];     /* the last of its accusers, or who declared it dead */
     uint8_t reserved[32]; /* zeros, for later versions */
 } swimtab_view_data;
+
+/* Where a member is. */
+typedef struct swimtab_place {
+    uint8_t addr[16];
+    uint8_t addr_len; /* 4 or 16 */
+    uint16_t port;
+} swimtab_place;
+
+/* What an agent begins with. It starts as SWIMTAB_AGENT_CONFIG_INIT, which sets `size`, so that later versions may add
+ * fields at the end. The first fields are as in swimtab_details; versions 01 05 02 00 00 00 are those of a member of
+ * memberlist without a delegate. Those from `probe_interval` on are memberlist's configuration, by its names: intervals
+ * and times are milliseconds, and 0 is memberlist's value for a local network, which the comment has. */
+typedef struct swimtab_agent_config {
+    size_t size; /* sizeof(swimtab_agent_config) */
+    const void *name;
+    size_t name_len;
+    const void *addr;
+    size_t addr_len;
+    const void *meta;
+    size_t meta_len;
+    const void *vsn;
+    size_t vsn_len;
+    const void *label; /* the label of the cluster, of at most 255 bytes, or none */
+    size_t label_len;
+    const swimtab_keyring *keys; /* copied; NULL: nothing is encrypted */
+    uint32_t inc;                /* the first incarnation; what others say of an earlier life is refuted */
+    uint32_t probe_interval;          /* 1,000 */
+    uint32_t probe_timeout;           /* 500 */
+    uint32_t indirect_checks;         /* 3 */
+    uint32_t push_pull_interval;      /* 30,000 */
+    uint32_t gossip_interval;         /* 200 */
+    uint32_t gossip_nodes;            /* 3 */
+    uint32_t gossip_to_the_dead_time; /* 30,000 */
+    uint32_t tcp_timeout;             /* 10,000 */
+    uint32_t reconnect_interval;      /* 30,000: Serf's ReconnectInterval */
+    uint32_t reconnect_timeout;       /* 86,400,000: Serf's ReconnectTimeout */
+    uint16_t retransmit_mult;            /* 4 */
+    uint16_t suspicion_mult;             /* 4; at most 6 */
+    uint16_t suspicion_max_timeout_mult; /* 6 */
+    uint16_t awareness_max_multiplier;   /* 8 */
+    uint16_t udp_buffer_size;            /* 1,400: the most bytes of a datagram; at least 576 */
+    uint16_t port;
+    bool is_silent;   /* it only answers, joins, leaves and refutes: it probes, gossips and suspects nobody */
+    bool is_uncompressed; /* it compresses nothing; else what becomes shorter by that (EnableCompression) */
+    uint8_t seed[32]; /* random bytes, of which its generator makes nonces and choices; never used twice with a key */
+} swimtab_agent_config;
+
+#define SWIMTAB_AGENT_CONFIG_INIT \
+    {sizeof(swimtab_agent_config), NULL, 0, NULL, 0, NULL, 0, NULL, 0, NULL, 0, NULL, 1, 0, 0, 0, 0, 0, 0, 0, 0, 0, 0, \
+     0, 0, 0, 0, 0, 0, false, false, {0}}
+
+/* What an agent put out. */
+enum {
+    SWIMTAB_OUT_SEND = 1,       /* send the bytes as a datagram to `to` */
+    SWIMTAB_OUT_DIAL = 2,       /* open a stream to `to`; from now on it is `stream` */
+    SWIMTAB_OUT_WRITE = 3,      /* write the bytes to `stream` */
+    SWIMTAB_OUT_CLOSE = 4,      /* close `stream` once all is written */
+    SWIMTAB_OUT_CHANGED = 5,    /* what is shown of `name` changed: `event`, at `inc`; `by`, if named, says so */
+    SWIMTAB_OUT_UNANSWERED = 6, /* `name` did not answer the probe `seq`; `nacks` nacks came of `expected` */
+    SWIMTAB_OUT_UNTOLD = 7,     /* a claim about `name` fits no datagram, so it is told with tables alone */
+    SWIMTAB_OUT_REFUTED = 8,    /* the agent was taken for suspect or dead, and said that it is alive at `inc` */
+    SWIMTAB_OUT_EXHAUSTED = 9,  /* the same, but there is no greater incarnation */
+    SWIMTAB_OUT_FORGOTTEN = 10, /* `count` members that were gone for long are forgotten */
+    SWIMTAB_OUT_DEPARTED = 11,  /* the leave was told: the agent may be closed */
+    SWIMTAB_OUT_USER = 12,      /* the bytes are another program's message */
+    SWIMTAB_OUT_USER_STATE = 13 /* the bytes are another program's state, from a member that joins if `join` */
+};
+
+/* One output of an agent. What it has not is 0. Bytes of an array past its length are unchanged by the call. */
+typedef struct swimtab_agent_out {
+    uint64_t stream;
+    size_t count;
+    uint32_t kind;  /* SWIMTAB_OUT_.. */
+    uint32_t event; /* SWIMTAB_JOINED and the like */
+    uint32_t inc;
+    uint32_t seq;
+    uint32_t expected;
+    uint32_t nacks;
+    swimtab_place to;
+    uint16_t name_len; /* 1 to 1,024 */
+    uint16_t by_len;   /* 0 if nobody is named */
+    bool join;
+    uint8_t name[1024];
+    uint8_t by[1024];
+    uint8_t reserved[32]; /* zeros, for later versions */
+} swimtab_agent_out;
 
 /* Bytes in memory of the library, or none. The program reads `len` bytes at `at`, and writes nothing here;
  * `kept` belongs to the library. A buffer is used by one call at a time. It may be moved in memory between
@@ -848,6 +947,128 @@ swimtab_written swimtab_view_accuser(const swimtab_view *view, const void *name,
  * is SWIMTAB_DONE the buffer is unchanged. A NULL buffer is SWIMTAB_TOO_SMALL. */
 swimtab_status swimtab_view_offer(const swimtab_view *view, bool join, const void *user, size_t user_len,
                                   swimtab_buffer *buffer);
+
+/* --------------------- agents: a whole member of a memberlist cluster, over sockets of the program */
+
+/* Opens an agent in an empty handle: a member of a memberlist cluster, which probes, suspects and declares dead,
+ * gossips, exchanges tables, refutes, joins and leaves by memberlist's state.go. It shows members as a view does. The
+ * program owns the sockets and the clock: it tells the agent what came and what time it is, and does what
+ * swimtab_agent_next gives. `now` and all times are microseconds, of any clock that never goes back. The caller must
+ * close the agent with swimtab_agent_close. `user` of the handle stays.
+ *
+ * SWIMTAB_DONE; SWIMTAB_BAD_SIZE: `config` is NULL, or its size is that of no version; SWIMTAB_NODE_THERE; the first of
+ * SWIMTAB_NAME_EMPTY, .._NAME_TOO_LONG, .._BAD_ADDRESS, .._META_TOO_LONG, .._BAD_VERSIONS, .._CIPHER_TOO_LONG: the
+ * label has more than 255 bytes, .._BAD_MULTIPLIER, .._SHORT_DATAGRAMS; SWIMTAB_MEMORY. Unless it is SWIMTAB_DONE the
+ * handle is unchanged. If the handle is NULL, SWIMTAB_NO_NODE. */
+swimtab_status swimtab_agent_open(swimtab_agent *agent, const swimtab_agent_config *config, uint64_t now);
+
+/* Frees the agent, and what it put out and did not give. The handle is then empty, and may be opened again. The others
+ * are not told: swimtab_agent_leave comes first.
+ *
+ * SWIMTAB_DONE; SWIMTAB_NO_NODE: the handle was empty. */
+swimtab_status swimtab_agent_close(swimtab_agent *agent);
+
+/* Gives what the agent put out and did not give yet, one at a time, in its order; call it after each other call, until
+ * it returns SWIMTAB_NO_ITEM. The bytes of a datagram, of a stream, or of another program's message or state are then
+ * in `buffer`, which is empty if there are none; what it kept before is freed. A datagram is not split, and its bytes
+ * are sent as they are, as those of a stream. Nothing is given twice, and nothing is lost, also if memory is refused.
+ *
+ * SWIMTAB_DONE; SWIMTAB_NO_ITEM; SWIMTAB_NO_NODE; SWIMTAB_MEMORY: the next call gives the same. Unless it is
+ * SWIMTAB_DONE `out` and `buffer` are unchanged. If one of them is NULL, SWIMTAB_TOO_SMALL, and nothing is given. */
+swimtab_status swimtab_agent_next(swimtab_agent *agent, swimtab_agent_out *out, swimtab_buffer *buffer);
+
+/* When the agent is to be told the time by swimtab_agent_tick, if nothing comes before; UINT64_MAX if the handle is
+ * empty. Each other call may change it. */
+uint64_t swimtab_agent_wake(const swimtab_agent *agent);
+
+/* Tells the agent the time. To tell it too early or too late is harmless.
+ *
+ * SWIMTAB_DONE; SWIMTAB_NO_NODE; SWIMTAB_MEMORY: what was due is done in part. */
+swimtab_status swimtab_agent_tick(swimtab_agent *agent, uint64_t now);
+
+/* Tells the agent that this datagram came from there, as the socket gave it. What is no message of this cluster is
+ * dropped.
+ *
+ * SWIMTAB_DONE, also if it is dropped; SWIMTAB_NO_NODE; SWIMTAB_BAD_ADDRESS: `from` is NULL, or its address does not
+ * have 4 or 16 bytes; SWIMTAB_MEMORY: the datagram is heeded in part, as if it had been lost on its way. */
+swimtab_status swimtab_agent_packet(swimtab_agent *agent, uint64_t now, const swimtab_place *from, const void *bytes,
+                                    size_t len);
+
+/* Tells the agent that another member opened a TCP connection, and gives it a number by `stream`, which no other has:
+ * it is odd, and those of streams that the agent dials are even. `stream` may not be NULL.
+ *
+ * SWIMTAB_DONE; SWIMTAB_NO_NODE; SWIMTAB_TOO_SMALL: `stream` is NULL; SWIMTAB_OUT_OF_RANGE: 2^62 were accepted;
+ * SWIMTAB_MEMORY. Unless it is SWIMTAB_DONE `stream` is unchanged, and the program closes the connection. */
+swimtab_status swimtab_agent_accepted(swimtab_agent *agent, uint64_t now, uint64_t *stream);
+
+/* Tells the agent that a stream that it dialled is open now.
+ *
+ * SWIMTAB_DONE; SWIMTAB_NO_NODE; SWIMTAB_MEMORY: close the stream. A number that is not, or no longer, that of a stream
+ * is passed over, here and in the next two calls. */
+swimtab_status swimtab_agent_connected(swimtab_agent *agent, uint64_t now, uint64_t stream);
+
+/* Tells the agent that these bytes came over the stream.
+ *
+ * SWIMTAB_DONE; SWIMTAB_NO_NODE; SWIMTAB_MEMORY: they are heeded in part: close the stream. */
+swimtab_status swimtab_agent_received(swimtab_agent *agent, uint64_t now, uint64_t stream, const void *bytes,
+                                      size_t len);
+
+/* Tells the agent that the other side closed the stream, or that it could not be opened, or that the program closed it
+ * by itself. After SWIMTAB_OUT_CLOSE it need not be told.
+ *
+ * SWIMTAB_DONE; SWIMTAB_NO_NODE; SWIMTAB_MEMORY. */
+swimtab_status swimtab_agent_closed(swimtab_agent *agent, uint64_t now, uint64_t stream);
+
+/* Wishes that the agent joins the cluster by the members at these places. It dials each of them, and each
+ * probe_interval one of them again while no other member is alive. `places` may be NULL if `count` is 0.
+ *
+ * SWIMTAB_DONE; SWIMTAB_NO_NODE; SWIMTAB_BAD_ADDRESS: an address does not have 4 or 16 bytes, and nothing has changed;
+ * SWIMTAB_MEMORY: not all are dialled. */
+swimtab_status swimtab_agent_join(swimtab_agent *agent, uint64_t now, const swimtab_place *places, size_t count);
+
+/* Wishes that the agent leaves the cluster. It tells so, and puts out SWIMTAB_OUT_DEPARTED when it was told as often as
+ * it is to be, nobody is there to hear it, or after 5 seconds.
+ *
+ * SWIMTAB_DONE; SWIMTAB_NO_NODE; SWIMTAB_MEMORY: wish it again. */
+swimtab_status swimtab_agent_leave(swimtab_agent *agent, uint64_t now);
+
+/* Gives the member this metadata, which it tells at its next incarnation.
+ *
+ * SWIMTAB_DONE, also if it puts out SWIMTAB_OUT_EXHAUSTED; SWIMTAB_NO_NODE; SWIMTAB_META_TOO_LONG: there are more than
+ * 512 bytes, and nothing has changed; SWIMTAB_MEMORY: wish it again. */
+swimtab_status swimtab_agent_update(swimtab_agent *agent, uint64_t now, const void *meta, size_t len);
+
+/* Tells this message of the program to all members, along with gossip; they get it as SWIMTAB_OUT_USER, and a program
+ * over memberlist by NotifyMsg.
+ *
+ * SWIMTAB_DONE; SWIMTAB_NO_NODE; SWIMTAB_TOO_LONG: it fits no datagram; SWIMTAB_MEMORY. Unless it is SWIMTAB_DONE it
+ * is not told. */
+swimtab_status swimtab_agent_say(swimtab_agent *agent, uint64_t now, const void *bytes, size_t len);
+
+/* Sends this state of the program along with tables from now on; others get it as SWIMTAB_OUT_USER_STATE, and a program
+ * over memberlist by MergeRemoteState.
+ *
+ * SWIMTAB_DONE; SWIMTAB_NO_NODE; SWIMTAB_USER_TOO_LONG: there are more than 20,971,520 bytes, and nothing has changed;
+ * SWIMTAB_MEMORY. */
+swimtab_status swimtab_agent_state(swimtab_agent *agent, uint64_t now, const void *bytes, size_t len);
+
+/* Gives the agent copies of these keys in place of its own, to rotate them. With NULL or an empty keyring nothing is
+ * encrypted from now on.
+ *
+ * SWIMTAB_DONE; SWIMTAB_NO_NODE; SWIMTAB_MEMORY: its keys are unchanged. */
+swimtab_status swimtab_agent_keys(swimtab_agent *agent, const swimtab_keyring *keys);
+
+/* How many members the agent shows, itself and those that died or left included; 0 if the handle is empty. */
+size_t swimtab_agent_count(const swimtab_agent *agent);
+
+/* Copies what the agent shows of the member of this name, as swimtab_view_find. */
+swimtab_status swimtab_agent_find(const swimtab_agent *agent, const void *name, size_t name_len,
+                                  swimtab_view_data *member);
+
+/* The same for the first member whose name is above this one in byte order, as swimtab_view_after; a walk begins with
+ * an empty name. */
+swimtab_status swimtab_agent_after(const swimtab_agent *agent, const void *name, size_t name_len,
+                                   swimtab_view_data *member);
 
 /* --------------------- statuses: the names and the meaning of statuses */
 

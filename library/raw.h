@@ -5,6 +5,27 @@
 
 #include <swimtab.h>
 
+/* How an agent behaves: the same fields of swimtab_agent_config. */
+typedef struct swimtab_raw_settings {
+    uint32_t probe_interval;
+    uint32_t probe_timeout;
+    uint32_t indirect_checks;
+    uint32_t push_pull_interval;
+    uint32_t gossip_interval;
+    uint32_t gossip_nodes;
+    uint32_t gossip_to_the_dead_time;
+    uint32_t tcp_timeout;
+    uint32_t reconnect_interval;
+    uint32_t reconnect_timeout;
+    uint16_t retransmit_mult;
+    uint16_t suspicion_mult;
+    uint16_t suspicion_max_timeout_mult;
+    uint16_t awareness_max_multiplier;
+    uint16_t udp_buffer_size;
+    bool is_silent;
+    bool is_uncompressed;
+} swimtab_raw_settings;
+
 swimtab_status swimtab_raw_open(swimtab_node *node, const void *name, size_t name_len, const void *addr,
                                 size_t addr_len, uint16_t port, const void *meta, size_t meta_len,
                                 const void *vsn, size_t vsn_len, uint32_t inc);
@@ -110,5 +131,32 @@ swimtab_written swimtab_raw_view_accuser(const swimtab_view *view, const void *n
                                          size_t i, void *out, size_t out_len);
 swimtab_status swimtab_raw_view_offer(const swimtab_view *view, bool join, const void *user,
                                       size_t user_len, swimtab_buffer *buffer);
+swimtab_status swimtab_raw_agent_open(swimtab_agent *agent, uint64_t now, const void *name, size_t name_len,
+                                      const void *addr, size_t addr_len, uint16_t port, const void *meta,
+                                      size_t meta_len, const void *vsn, size_t vsn_len, uint32_t inc,
+                                      const void *label, size_t label_len, const swimtab_keyring *keys,
+                                      const swimtab_raw_settings *settings, const uint8_t *seed);
+swimtab_status swimtab_raw_agent_close(swimtab_agent *agent);
+swimtab_status swimtab_raw_agent_next(swimtab_agent *agent, swimtab_agent_out *out, swimtab_buffer *buffer);
+uint64_t swimtab_raw_agent_wake(const swimtab_agent *agent);
+swimtab_status swimtab_raw_agent_tick(swimtab_agent *agent, uint64_t now);
+swimtab_status swimtab_raw_agent_packet(swimtab_agent *agent, uint64_t now, const swimtab_place *from,
+                                        const void *bytes, size_t len);
+swimtab_status swimtab_raw_agent_accepted(swimtab_agent *agent, uint64_t now, uint64_t *stream);
+swimtab_status swimtab_raw_agent_connected(swimtab_agent *agent, uint64_t now, uint64_t stream);
+swimtab_status swimtab_raw_agent_received(swimtab_agent *agent, uint64_t now, uint64_t stream, const void *bytes,
+                                          size_t len);
+swimtab_status swimtab_raw_agent_closed(swimtab_agent *agent, uint64_t now, uint64_t stream);
+swimtab_status swimtab_raw_agent_join(swimtab_agent *agent, uint64_t now, const swimtab_place *places, size_t count);
+swimtab_status swimtab_raw_agent_leave(swimtab_agent *agent, uint64_t now);
+swimtab_status swimtab_raw_agent_update(swimtab_agent *agent, uint64_t now, const void *meta, size_t len);
+swimtab_status swimtab_raw_agent_say(swimtab_agent *agent, uint64_t now, const void *bytes, size_t len);
+swimtab_status swimtab_raw_agent_state(swimtab_agent *agent, uint64_t now, const void *bytes, size_t len);
+swimtab_status swimtab_raw_agent_keys(swimtab_agent *agent, const swimtab_keyring *keys);
+size_t swimtab_raw_agent_count(const swimtab_agent *agent);
+swimtab_status swimtab_raw_agent_find(const swimtab_agent *agent, const void *name, size_t name_len,
+                                      swimtab_view_data *member);
+swimtab_status swimtab_raw_agent_after(const swimtab_agent *agent, const void *name, size_t name_len,
+                                       swimtab_view_data *member);
 
 #endif

@@ -447,6 +447,137 @@ swimtab_status swimtab_view_offer(const swimtab_view *view, bool join, const voi
     return swimtab_raw_view_offer(view, join, given(user), user ? user_len : 0, buffer);
 }
 
+swimtab_status swimtab_agent_open(swimtab_agent *agent, const swimtab_agent_config *config, uint64_t now) {
+    const swimtab_keyring no_keys = SWIMTAB_KEYRING_INIT;
+    swimtab_raw_settings settings;
+    if (!agent) return SWIMTAB_NO_NODE;
+    if (!config || config->size != sizeof *config) return SWIMTAB_BAD_SIZE;
+    settings.probe_interval = config->probe_interval;
+    settings.probe_timeout = config->probe_timeout;
+    settings.indirect_checks = config->indirect_checks;
+    settings.push_pull_interval = config->push_pull_interval;
+    settings.gossip_interval = config->gossip_interval;
+    settings.gossip_nodes = config->gossip_nodes;
+    settings.gossip_to_the_dead_time = config->gossip_to_the_dead_time;
+    settings.tcp_timeout = config->tcp_timeout;
+    settings.reconnect_interval = config->reconnect_interval;
+    settings.reconnect_timeout = config->reconnect_timeout;
+    settings.retransmit_mult = config->retransmit_mult;
+    settings.suspicion_mult = config->suspicion_mult;
+    settings.suspicion_max_timeout_mult = config->suspicion_max_timeout_mult;
+    settings.awareness_max_multiplier = config->awareness_max_multiplier;
+    settings.udp_buffer_size = config->udp_buffer_size;
+    settings.is_silent = config->is_silent;
+    settings.is_uncompressed = config->is_uncompressed;
+    return swimtab_raw_agent_open(agent, now, given(config->name), config->name ? config->name_len : 0,
+                                  given(config->addr), config->addr ? config->addr_len : 0, config->port,
+                                  given(config->meta), config->meta ? config->meta_len : 0, given(config->vsn),
+                                  config->vsn ? config->vsn_len : 0, config->inc, given(config->label),
+                                  config->label ? config->label_len : 0, config->keys ? config->keys : &no_keys,
+                                  &settings, config->seed);
+}
+
+swimtab_status swimtab_agent_close(swimtab_agent *agent) {
+    if (!agent) return SWIMTAB_NO_NODE;
+    return swimtab_raw_agent_close(agent);
+}
+
+swimtab_status swimtab_agent_next(swimtab_agent *agent, swimtab_agent_out *out, swimtab_buffer *buffer) {
+    if (!agent) return SWIMTAB_NO_NODE;
+    if (!out || !buffer) return SWIMTAB_TOO_SMALL;
+    return swimtab_raw_agent_next(agent, out, buffer);
+}
+
+uint64_t swimtab_agent_wake(const swimtab_agent *agent) {
+    if (!agent) return UINT64_MAX;
+    return swimtab_raw_agent_wake(agent);
+}
+
+swimtab_status swimtab_agent_tick(swimtab_agent *agent, uint64_t now) {
+    if (!agent) return SWIMTAB_NO_NODE;
+    return swimtab_raw_agent_tick(agent, now);
+}
+
+swimtab_status swimtab_agent_packet(swimtab_agent *agent, uint64_t now, const swimtab_place *from, const void *bytes,
+                                    size_t len) {
+    if (!agent) return SWIMTAB_NO_NODE;
+    if (!from) return SWIMTAB_BAD_ADDRESS;
+    return swimtab_raw_agent_packet(agent, now, from, given(bytes), bytes ? len : 0);
+}
+
+swimtab_status swimtab_agent_accepted(swimtab_agent *agent, uint64_t now, uint64_t *stream) {
+    if (!agent) return SWIMTAB_NO_NODE;
+    if (!stream) return SWIMTAB_TOO_SMALL;
+    return swimtab_raw_agent_accepted(agent, now, stream);
+}
+
+swimtab_status swimtab_agent_connected(swimtab_agent *agent, uint64_t now, uint64_t stream) {
+    if (!agent) return SWIMTAB_NO_NODE;
+    return swimtab_raw_agent_connected(agent, now, stream);
+}
+
+swimtab_status swimtab_agent_received(swimtab_agent *agent, uint64_t now, uint64_t stream, const void *bytes,
+                                      size_t len) {
+    if (!agent) return SWIMTAB_NO_NODE;
+    return swimtab_raw_agent_received(agent, now, stream, given(bytes), bytes ? len : 0);
+}
+
+swimtab_status swimtab_agent_closed(swimtab_agent *agent, uint64_t now, uint64_t stream) {
+    if (!agent) return SWIMTAB_NO_NODE;
+    return swimtab_raw_agent_closed(agent, now, stream);
+}
+
+swimtab_status swimtab_agent_join(swimtab_agent *agent, uint64_t now, const swimtab_place *places, size_t count) {
+    const swimtab_place nowhere = {{0}, 0, 0};
+    if (!agent) return SWIMTAB_NO_NODE;
+    return swimtab_raw_agent_join(agent, now, places ? places : &nowhere, places ? count : 0);
+}
+
+swimtab_status swimtab_agent_leave(swimtab_agent *agent, uint64_t now) {
+    if (!agent) return SWIMTAB_NO_NODE;
+    return swimtab_raw_agent_leave(agent, now);
+}
+
+swimtab_status swimtab_agent_update(swimtab_agent *agent, uint64_t now, const void *meta, size_t len) {
+    if (!agent) return SWIMTAB_NO_NODE;
+    return swimtab_raw_agent_update(agent, now, given(meta), meta ? len : 0);
+}
+
+swimtab_status swimtab_agent_say(swimtab_agent *agent, uint64_t now, const void *bytes, size_t len) {
+    if (!agent) return SWIMTAB_NO_NODE;
+    return swimtab_raw_agent_say(agent, now, given(bytes), bytes ? len : 0);
+}
+
+swimtab_status swimtab_agent_state(swimtab_agent *agent, uint64_t now, const void *bytes, size_t len) {
+    if (!agent) return SWIMTAB_NO_NODE;
+    return swimtab_raw_agent_state(agent, now, given(bytes), bytes ? len : 0);
+}
+
+swimtab_status swimtab_agent_keys(swimtab_agent *agent, const swimtab_keyring *keys) {
+    const swimtab_keyring no_keys = SWIMTAB_KEYRING_INIT;
+    if (!agent) return SWIMTAB_NO_NODE;
+    return swimtab_raw_agent_keys(agent, keys ? keys : &no_keys);
+}
+
+size_t swimtab_agent_count(const swimtab_agent *agent) {
+    if (!agent) return 0;
+    return swimtab_raw_agent_count(agent);
+}
+
+swimtab_status swimtab_agent_find(const swimtab_agent *agent, const void *name, size_t name_len,
+                                  swimtab_view_data *member) {
+    swimtab_view_data unread;
+    if (!agent) return SWIMTAB_NO_NODE;
+    return swimtab_raw_agent_find(agent, given(name), name ? name_len : 0, member ? member : &unread);
+}
+
+swimtab_status swimtab_agent_after(const swimtab_agent *agent, const void *name, size_t name_len,
+                                   swimtab_view_data *member) {
+    swimtab_view_data unread;
+    if (!agent) return SWIMTAB_NO_NODE;
+    return swimtab_raw_agent_after(agent, given(name), name ? name_len : 0, member ? member : &unread);
+}
+
 const char *swimtab_fault_name(uint32_t status) {
     switch (status) {
     case 0: return "Done";
@@ -513,6 +644,8 @@ const char *swimtab_fault_name(uint32_t status) {
     case 72: return "KeyInUse";
     case 73: return "NotBack";
     case 74: return "BadSize";
+    case 75: return "BadMultiplier";
+    case 76: return "ShortDatagrams";
     default: return "Unknown";
     }
 }
@@ -563,16 +696,18 @@ const char *swimtab_fault_text(uint32_t status) {
     case 57: return "Bytes follow an encrypted stream.";
     case 59: return "It is not encrypted, and only what is encrypted is read.";
     case 64: return "The handle is empty.";
-    case 65: return "The handle has a node or a view already.";
+    case 65: return "The handle has a node, a view or an agent already.";
     case 66: return "The buffer is too small.";
     case 67: return "There is no such member.";
     case 68: return "A member does not declare itself dead; it leaves.";
     case 69: return "There are more than 255 packets for one compound packet.";
     case 70: return "There is no such form of a stream, or it has no user state.";
-    case 71: return "There is no key, part or accuser at this index, or no further record.";
+    case 71: return "There is no key, part or accuser at this index, or no further record or output.";
     case 72: return "The first key encrypts, so it is not removed.";
     case 73: return "The member has not come back.";
     case 74: return "The size of a struct is not that of any version.";
+    case 75: return "A multiplier of the configuration is too large.";
+    case 76: return "The configuration has datagrams of fewer than 576 bytes.";
     default: return "There is no such status.";
     }
 }

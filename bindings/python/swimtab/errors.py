@@ -201,7 +201,7 @@ class NoNode(SwimtabError, status=64):
 
 
 class NodeThere(SwimtabError, status=65):
-    """The handle has a node or a view already. The calls of this package do not raise it."""
+    """The handle has a node, a view or an agent already. The calls of this package do not raise it."""
 
 
 class TooSmall(SwimtabError, status=66):
@@ -225,7 +225,7 @@ class BadForm(SwimtabError, status=70):
 
 
 class NoItem(SwimtabError, status=71):
-    """There is no key, part or accuser at this index, or no further record."""
+    """There is no key, part or accuser at this index, or no further record or output."""
 
 
 class KeyInUse(SwimtabError, status=72):
@@ -238,3 +238,11 @@ class NotBack(SwimtabError, status=73):
 
 class BadSize(SwimtabError, status=74):
     """The size of a struct is of no version. The calls of this package do not raise it."""
+
+
+class BadMultiplier(SwimtabError, status=75):
+    """A multiplier of a configuration is too large. The calls of this package do not raise it."""
+
+
+class ShortDatagrams(SwimtabError, status=76):
+    """A configuration has datagrams of fewer than 576 bytes. The calls of this package do not raise it."""

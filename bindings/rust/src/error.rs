@@ -9,7 +9,7 @@ pub type Result<T> = std::result::Result<T, Error>;
 macro_rules! errors {
     ($($number:literal $name:ident $text:literal)*) => {
         /// Why a call was refused: the faults of `docs/faults.md`, by their names in `swimtab.h`. This
-        /// crate never causes `NodeThere`, `TooSmall`, `BadForm` and `BadSize`.
+        /// crate never causes `NodeThere`, `TooSmall`, `BadForm` and `BadSize` to `ShortDatagrams`.
         #[derive(Clone, Copy, Debug, PartialEq, Eq, Hash)]
         #[non_exhaustive]
         pub enum Error {
@@ -99,16 +99,18 @@ errors! {
     57 CipherTrailing "bytes follow an encrypted stream"
     59 Unencrypted "it is not encrypted, and only what is encrypted is read"
     64 NoNode "the handle is empty"
-    65 NodeThere "the handle has a node or a view already"
+    65 NodeThere "the handle has a node, a view or an agent already"
     66 TooSmall "the buffer is too small"
     67 NoMember "there is no such member"
     68 OwnName "a member does not declare itself dead; it leaves"
     69 TooManyPackets "there are more than 255 packets for one compound packet"
     70 BadForm "there is no such form of a stream, or it has no user state"
-    71 NoItem "there is no key, part or accuser at this index, or no further record"
+    71 NoItem "there is no key, part or accuser at this index, or no further record or output"
     72 KeyInUse "the first key encrypts, so it is not removed"
     73 NotBack "the member has not come back"
     74 BadSize "the size of a struct is not that of any version"
+    75 BadMultiplier "a multiplier of the configuration is too large"
+    76 ShortDatagrams "the configuration has datagrams of fewer than 576 bytes"
 }
 
 impl std::error::Error for Error {}

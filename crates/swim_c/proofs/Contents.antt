@@ -1,4 +1,4 @@
--- The four handles and what they hold: a node, keys, kept bytes, a view. Assumes `Logic`.
+-- The five handles and what they hold: a node, keys, kept bytes, a view, an agent. Assumes `Logic`.
 use Rattle.std.proofs.Common.{[], ◌∷◌, refl}
 use seplogic.Ra.Ura.{Ura}
 use mir.Syntax.{Dict, impl, method, tnil, dnil, no_args}
@@ -31,14 +31,22 @@ use Rattle.swim_c.proofs.swim_c++view++held++HeldView+Destruct.drop.Symbol as vi
 use Rattle.swim_c.proofs.swim_c++view++held++HeldView+Destruct.drop.Kinds as view_kinds
 use Rattle.swim_c.proofs.swim_c++view++held++HeldView+Destruct.drop.Reads as view_reads
 use Rattle.swim_c.proofs.swim_c++view++held++HeldView+Destruct.drop.Met.{met as view_met}
+use Rattle.swim_c.specs.contracts.agent.held.HeldAgent as agent
+use Rattle.swim_c.proofs.agent.held.HeldAgent.TheLaws as agent_laws
+use Rattle.swim_c.proofs.swim_c++agent++held++HeldAgent+Destruct.drop.Symbol as agent_drop
+use Rattle.swim_c.proofs.swim_c++agent++held++HeldAgent+Destruct.drop.Kinds as agent_kinds
+use Rattle.swim_c.proofs.swim_c++agent++held++HeldAgent+Destruct.drop.Reads as agent_reads
+use Rattle.swim_c.proofs.swim_c++agent++held++HeldAgent+Destruct.drop.Met.{met as agent_met}
 use Rattle.swim_c.specs.Handle.{handle_owns}
 use Rattle.swim_c.specs.Keyring.{keyring_owns}
 use Rattle.swim_c.specs.Kept.{kept_owns}
 use Rattle.swim_c.specs.Views.{view_owns}
+use Rattle.swim_c.specs.Agents.{agent_owns}
 use Rattle.swim_c.specs.contracts.handle.Handle as node_handle
 use Rattle.swim_c.specs.contracts.keyring.KeyringHandle as keyring_handle
 use Rattle.swim_c.specs.contracts.kept_handle.KeptHandle as kept_handle
 use Rattle.swim_c.specs.contracts.view.handle.ViewHandle as view_handle
+use Rattle.swim_c.specs.contracts.agent.handle.AgentHandle as agent_handle
 use Rattle.swim_c.proofs.Drops.{passed, passed_laws, goes}
 use Rattle.swim_c.proofs.Handles.Shape.{Content, Handle}
 
@@ -185,6 +193,43 @@ of_view = record {
   at = λ h. h.at;
   held = λ h. h.held;
   owns = λ h. view_owns h.at h.held h.view;
+  opened = λ h vs. refl;
+  last = λ h. tt;
+  silent = λ h f. refl;
+}
+
+abbrev pub agent_drops : Dict
+agent_drops = impl ("swim_c::swim_c++agent++held++HeldAgent+Destruct::drop" ∷ []) tnil dnil
+
+pub agent_goes : {M : Type 1} (𝓤 : Ura M) (𝓛 : Logic 𝓤) (𝓜 : Model 𝓤 𝓛.H) (𝓡 : Running 𝓤 𝓛.H 𝓜)
+    → Wired 𝓡.env agent_drop.code → Met 𝓛 𝓜 𝓡 𝓡.env (passed agent.the_row) agent_drops
+unfolding tables_of
+agent_goes {M} 𝓤 𝓛 𝓜 𝓡 wired =
+    goes agent.the_row (passed_laws agent.the_row agent_laws.the_row_laws refl) agent_drops _ _ _ agent_kinds.ps
+    refl agent_reads.requires agent_reads.ensures agent_reads.Asked agent_reads.Learnt agent_reads.known
+    (λ κs a. tt)
+    (record { M = M; 𝓤 = 𝓤; 𝓛 = 𝓛; 𝓜 = 𝓜; 𝓡 = 𝓡 }) agent_drop.name
+    (agent_drop.as_method 𝓡.env wired (method agent_drops 0 no_args) refl) (agent_met 𝓤 𝓛 𝓜 𝓡 wired)
+
+abbrev pub an_agent : Content
+an_agent = record {
+  row = agent.the_row;
+  laws = passed_laws agent.the_row agent_laws.the_row_laws refl;
+  lives = agent_laws.the_within [];
+  drops = agent_drops;
+  drop_code = agent_drop.code;
+  goes = agent_goes;
+  same_owns = λ p x. refl;
+  same = λ d vs. refl;
+}
+
+abbrev pub of_agent : Handle
+of_agent = record {
+  row = agent_handle.the_row;
+  name = agent_handle.the_type.name;
+  at = λ h. h.at;
+  held = λ h. h.held;
+  owns = λ h. agent_owns h.at h.held h.agent;
   opened = λ h vs. refl;
   last = λ h. tt;
   silent = λ h f. refl;

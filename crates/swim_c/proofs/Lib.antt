@@ -1,3 +1,5 @@
+pub mod AgentCalls
+pub mod AgentOpens
 pub mod BehindOneAnother
 pub mod Chains
 pub mod Contents

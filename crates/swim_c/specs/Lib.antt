@@ -1,3 +1,6 @@
+pub mod Agents
+pub mod AgentOpening
+pub mod AgentOuts
 pub mod Buffers
 pub mod Called
 pub mod Calls

@@ -16,6 +16,22 @@ use Rattle.memberlist_wrap.specs.Fault.{wrap_number}
 abbrev pub memory : ℕ
 memory = 10
 
+-- a number is too large
+abbrev pub out_of_range : ℕ
+out_of_range = 3
+
+-- text or bytes are too long
+abbrev pub too_long : ℕ
+too_long = 6
+
+-- an address has another length than 4 or 16
+abbrev pub bad_address : ℕ
+bad_address = 13
+
+-- there is too much metadata
+abbrev pub meta_too_long : ℕ
+meta_too_long = 14
+
 -- the bytes end too soon, or there are none
 abbrev pub ended : ℕ
 ended = 1
@@ -27,6 +43,10 @@ wrong_type = 16
 -- the user state of a stream is too long
 abbrev pub user_too_long : ℕ
 user_too_long = 21
+
+-- a label is too long
+abbrev pub cipher_too_long : ℕ
+cipher_too_long = 51
 
 -- it is not encrypted, there are keys, and only what is encrypted is read
 abbrev pub unencrypted : ℕ
@@ -71,6 +91,14 @@ key_in_use = 72
 -- the member has not come back
 abbrev pub not_back : ℕ
 not_back = 73
+
+-- a multiplier of a configuration is too large
+abbrev pub bad_multiplier : ℕ
+bad_multiplier = 75
+
+-- the datagrams of a configuration are too short
+abbrev pub short_datagrams : ℕ
+short_datagrams = 76
 
 abbrev pub cipher_status : CipherFault → ℕ
 cipher_status cipher.Memory = memory

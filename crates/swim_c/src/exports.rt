@@ -1,5 +1,8 @@
 //! The functions that C calls.
 
+mod agent_inputs;
+mod agent_wishes;
+mod agents;
 mod buffers;
 mod forgetting;
 mod keyrings;

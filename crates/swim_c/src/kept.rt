@@ -33,6 +33,13 @@ impl Kept {
         }
     }
 
+    /// Keeps these bytes in place of those that it kept.
+    pub fn keep(&mut self, bytes: Vec<u8>)
+        ensures { self.new.bytes ≡ bytes.items }
+    {
+        self.bytes = bytes;
+    }
+
     /// The address of the first byte. It must not be read if there are no bytes.
     pub fn at(&self) -> *const u8
         ensures { result ≡ self.now.at }

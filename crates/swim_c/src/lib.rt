@@ -4,6 +4,7 @@
 //! | module | subject |
 //! |---|---|
 //! | `exports` | what C calls: open, close, packets, tables, exchanges, keyrings, wrappers |
+//! | `agent` | agents: whole members of memberlist's clusters |
 //! | `handle` | the handle by which a program in another language holds a node |
 //! | `cluster_keys` | the keys of a cluster, and what becomes of what is in the clear |
 //! | `keyring` | the same handle for these keys |
@@ -38,6 +39,7 @@
 //! | `laws` | facts about the definitions, independent of any code |
 #![tactic(auto)]
 
+mod agent;
 mod answering;
 mod buffer;
 mod cluster_keys;

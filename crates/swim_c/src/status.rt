@@ -2,6 +2,8 @@
 
 /// Done.
 pub const DONE: u32 = 0;
+/// A number is above the maximum of its field.
+pub const OUT_OF_RANGE: u32 = 3;
 /// Text or bytes are too long.
 pub const TOO_LONG: u32 = 6;
 /// Out of memory.
@@ -12,10 +14,14 @@ pub const ENDED: u32 = 1;
 pub const NAME_TOO_LONG: u32 = 12;
 /// An address has another length.
 pub const BAD_ADDRESS: u32 = 13;
+/// The metadata has more than 512 bytes.
+pub const META_TOO_LONG: u32 = 14;
 /// The message has another type, or none.
 pub const WRONG_TYPE: u32 = 16;
 /// The user state has more than 20,971,520 bytes.
 pub const USER_TOO_LONG: u32 = 21;
+/// A label, or what is encrypted, is too long.
+pub const CIPHER_TOO_LONG: u32 = 51;
 /// It is not encrypted, there are keys, and only what is encrypted is read.
 pub const UNENCRYPTED: u32 = memberlist_transport::UNENCRYPTED;
 /// The handle has no node.
@@ -38,3 +44,7 @@ pub const NO_ITEM: u32 = 71;
 pub const KEY_IN_USE: u32 = 72;
 /// The member has not come back.
 pub const NOT_BACK: u32 = 73;
+/// A multiplier of a configuration is too large.
+pub const BAD_MULTIPLIER: u32 = 75;
+/// The datagrams of a configuration are too short.
+pub const SHORT_DATAGRAMS: u32 = 76;

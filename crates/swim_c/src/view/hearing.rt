@@ -134,7 +134,8 @@ fn hear(view: &mut View, heard: &Heard, member: &mut Shown) -> Told
     }
 }
 
-fn number_of(event: Event) -> u32
+/// The number of what changed.
+pub fn number_of(event: Event) -> u32
     ensures { result ≡ number_of event }
 {
     match event {

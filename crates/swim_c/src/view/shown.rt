@@ -70,7 +70,7 @@ impl Shown {
 }
 
 /// Copies a name, if there is one, to the start of the room. Returns its length, or 0.
-fn copy_name(name: Option<&MemberName>, room: &mut [u8; 1024]) -> u16
+pub fn copy_name(name: Option<&MemberName>, room: &mut [u8; 1024]) -> u16
     ensures { IsNamed (option_copied name.entry) result room.new }
 {
     match name {
