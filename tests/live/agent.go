@@ -21,9 +21,10 @@ import (
 	"swimtab.invalid/swimtab"
 )
 
-// The agent of examples/c/agent.c lives among members of memberlist. It is compiled with -DSECOND=500000, so that its
-// times are those of memberlist's DefaultLANConfig, twice as short, and scaled gives the others the same. From when it
-// has joined until it leaves, except while it stands still, its list is compared with those of all living members.
+// The agent of examples/c/agent.c, with the commands of commanded.c, lives among members of memberlist. It is compiled
+// with -DSECOND=500000, so that its times are those of memberlist's DefaultLANConfig, twice as short, and scaled gives
+// the others the same. From when it has joined until it leaves, except while it stands still, its list is compared with
+// those of all living members.
 const (
 	second    = 500 * time.Millisecond
 	suspicion = 4 * second  // for how long a member is suspected, at least
@@ -41,6 +42,7 @@ func scaled(config *memberlist.Config) {
 	config.ProbeInterval, config.ProbeTimeout = second, second/2
 	config.GossipInterval = second / 5
 	config.PushPullInterval = 10 * second
+	config.RetransmitMult = 4
 	config.GossipToTheDeadTime = dead
 }
 
@@ -50,12 +52,13 @@ type agent struct {
 	in      io.Writer
 	asking  sync.Mutex // held while it lists
 	lists   chan []string
+	changes func() // what to do at each event
 	lock    sync.Mutex
 	told    []string // its events, as it prints them
 }
 
 // start runs the agent, which first reads this.
-func start(path, addr string, port int, seed, first string) *agent {
+func start(path, addr string, port int, seed, first string, changes func()) *agent {
 	command := exec.Command(path, "agent", addr, strconv.Itoa(port), seed, strconv.Itoa(port))
 	command.SysProcAttr = &syscall.SysProcAttr{Pdeathsig: syscall.SIGKILL}
 	command.Stderr = os.Stdout
@@ -66,7 +69,7 @@ func start(path, addr string, port int, seed, first string) *agent {
 	_, err = io.WriteString(in, first)
 	must(err)
 	must(command.Start())
-	a := &agent{process: command.Process, in: in, lists: make(chan []string)}
+	a := &agent{process: command.Process, in: in, lists: make(chan []string), changes: changes}
 	go a.reads(out)
 	return a
 }
@@ -82,6 +85,7 @@ func (a *agent) reads(out io.Reader) {
 		} else if _, err := strconv.Atoi(words[2]); err == nil {
 			list = append(list, lines.Text())
 		} else {
+			a.changes()
 			a.lock.Lock()
 			a.told = append(a.told, lines.Text())
 			a.lock.Unlock()
@@ -196,7 +200,7 @@ type life struct {
 	stopped  bool
 	// memberlist tells events while its members are locked, so this has a lock of its own
 	changing sync.Mutex
-	changed  time.Time // when the test did something, or a member of memberlist told an event
+	changed  time.Time // when the test did something, or a member of memberlist or the agent told an event
 }
 
 func (l *life) changes() {
@@ -364,19 +368,19 @@ func (l *life) difference() string {
 	return strings.Join(found, "; ")
 }
 
-// compare returns the difference, when it was looked for, and when the last change before that was. While the agent stands
-// still there is none.
+// compare returns the difference, when it was looked for, and when the last change was before it was found. While the agent
+// stands still there is none.
 func (l *life) compare() (difference string, now, changed time.Time) {
-	l.changing.Lock()
-	now, changed = time.Now(), l.changed
-	l.changing.Unlock()
 	l.standing.Lock()
 	defer l.standing.Unlock()
+	now = time.Now()
 	if !l.stopped {
 		difference = l.difference()
 		l.looks++
 	}
-	return difference, now, changed
+	l.changing.Lock()
+	defer l.changing.Unlock()
+	return difference, now, l.changed
 }
 
 // watch compares the lists until it is done.
@@ -471,7 +475,7 @@ func lives(kind string, port int, path string, forgets bool, keys ...string) {
 	soon(kind+": a cluster of memberlist", l.all("n1", "n2", "n3"))
 	time.Sleep(pause) // nobody gossips of the others any more
 	l.changes()
-	l.agent = start(path, "127.0.11.9", port, "127.0.11.1", first)
+	l.agent = start(path, "127.0.11.9", port, "127.0.11.1", first, l.changes)
 	soon(kind+": the agent joins it", l.all("agent", "n1", "n2", "n3"))
 	done, ended := make(chan bool), make(chan bool)
 	go l.watch(done, ended)
@@ -531,7 +535,7 @@ func lives(kind string, port int, path string, forgets bool, keys ...string) {
 	})
 	time.Sleep(pause)
 	suspected := l.agent.of("agent", "suspected", "refuted")
-	check(kind+": which it tells: "+suspected, strings.HasPrefix(suspected, "suspected, refuted"))
+	check(kind+": which it tells: "+suspected, strings.Contains(suspected, "refuted"))
 
 	done <- true
 	<-ended
