@@ -10,6 +10,7 @@ enum { LINKS = 64, KINDS = 14, EVENTS = 13 };
 struct end {
     size_t peer;
     uint64_t stream;
+    bool is_written; /* its agent wrote, which it does once */
 };
 static struct { struct end ends[2]; } links[LINKS];
 static size_t link_count;
@@ -66,8 +67,8 @@ static inline void dial(size_t peer, const swimtab_agent_out *out) {
         return;
     }
     WANT(stream % 2 == 1);
-    links[link_count].ends[0].peer = peer, links[link_count].ends[0].stream = out->stream;
-    links[link_count].ends[1].peer = to, links[link_count].ends[1].stream = stream;
+    links[link_count].ends[0] = (struct end){peer, out->stream, false};
+    links[link_count].ends[1] = (struct end){to, stream, false};
     link_count++;
     told(swimtab_agent_connected(&peers[peer].agent, now, out->stream));
 }
@@ -102,6 +103,8 @@ static inline void does(size_t peer, const swimtab_agent_out *out) {
         break;
     case SWIMTAB_OUT_DIAL: dial(peer, out); break;
     case SWIMTAB_OUT_WRITE:
+        WANT(!other || !links[i].ends[own].is_written);
+        if (other) links[i].ends[own].is_written = true;
         if (other) told(swimtab_agent_received(&peers[other->peer].agent, now, other->stream, bytes.at, bytes.len));
         break;
     case SWIMTAB_OUT_CLOSE:
