@@ -37,7 +37,7 @@ pub(crate) fn compound(alloc: Global, parts: &[Vec<u8>]) -> Result<Vec<u8>, Allo
 /// # Errors
 ///
 /// `AllocError` if out of memory.
-pub(crate) fn datagram(alloc: Global, mut parts: Vec<Vec<u8>>) -> Result<Vec<u8>, AllocError>
+pub fn datagram(alloc: Global, mut parts: Vec<Vec<u8>>) -> Result<Vec<u8>, AllocError>
     requires few { length parts.items < 256 }
     requires short { All (λ p. length p.items < 65536) parts.items }
     ensures bytes { IfOk result (λ m. m.items ≡ datagram_bytes (map (λ p. p.items) parts.items)) }

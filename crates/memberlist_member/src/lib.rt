@@ -44,10 +44,9 @@ mod rounds;
 mod scale;
 mod suspicion;
 mod suspicions;
-#[cfg(test)]
-mod tests;
 
 pub use awareness::Awareness;
+pub use compound::datagram;
 pub use config::{Config, ConfigFault, Settings};
 pub use cover::Cover;
 pub use fault::StepFault;

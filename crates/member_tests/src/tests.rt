@@ -5,9 +5,9 @@ ghost use Rattle.std.specs.List.{All};
 
 mod meeting;
 
-use crate::compound::datagram;
-use crate::{
-    Awareness, Queue, Suspicion, milli_log, push_pull_scale, retransmit_limit, suspicion_timeout,
+use memberlist_member::{
+    Awareness, Queue, Suspicion, datagram, milli_log, push_pull_scale, retransmit_limit,
+    suspicion_timeout,
 };
 use std::alloc::{AllocError, Global};
 

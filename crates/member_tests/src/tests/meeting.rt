@@ -1,6 +1,6 @@
 //! What a member does on its own, and what another one recalls.
 
-use crate::{Config, Cover, Identity, Input, Member, Output, Settings, StepFault};
+use memberlist_member::{Config, Cover, Identity, Input, Member, Output, Settings, StepFault};
 use rand_pcg::Pcg32;
 use std::alloc::{AllocError, Global};
 use std::net::{IpAddr, Ipv4Addr, SocketAddr};
