@@ -7,9 +7,9 @@ ghost use Rattle.swim_wire.specs.Limits.{max_user_state_len};
 use super::dumps::assert_memory;
 use super::streams::{assert_dump, read};
 use super::{assert_bytes, assert_that};
-use crate::{Table, encode_memberlist, encode_memberlist_into, memberlist_dump_len};
 use std::alloc::{AllocError, Global};
 use std::process::Abort;
+use swim_table::{Table, encode_memberlist, encode_memberlist_into, memberlist_dump_len};
 use swim_wire::WireFault;
 
 const NO_RECORDS: &[u8] = b"\x06\x83\xa4Join\xc2\xa5Nodes\0\xacUserStateLen\0";

@@ -2,12 +2,12 @@
 
 use super::streams::{ALIVE, SUSPECT, SUSPECTED, reads_back};
 use super::{LOOPBACK, Saying, assert_bytes, assert_that, suspicion, table_of};
-use crate::{
-    EncodeFault, Relation, Table, dump_len, encode, encode_into, list, memberlist_dump_len,
-};
 use std::alloc::{AllocError, Global};
 use std::process::Abort;
 use swim_claim::Kind;
+use swim_table::{
+    EncodeFault, Relation, Table, dump_len, encode, encode_into, list, memberlist_dump_len,
+};
 use swim_wire::WireFault;
 
 /// A dump of no records.

@@ -1,10 +1,10 @@
 //! A table computed from its definition: slowly, over the list of all claims that were taken in.
 
 use super::{LOOPBACK, Saying, assert_lists, assert_that, claims_of, table_of};
-use crate::{Relation, Table, relation};
 use std::alloc::{AllocError, Global};
 use std::process::Abort;
 use swim_claim::Kind;
+use swim_table::{Relation, Table, relation};
 
 const NAMES: [&[u8]; 3] = [b"a", b"b", b"c"];
 

@@ -2,12 +2,12 @@
 
 use super::streams::{SUSPECTED, SUSPECTED_LISTING};
 use super::{assert_lists, assert_that};
-use crate::{Table, read_stream};
 use std::alloc::{AllocError, Global};
 use std::io;
 use std::io::Read;
 use std::process::Abort;
 use swim_pack::{FromRead, Inlet, StopInlet};
+use swim_table::{Table, read_stream};
 use swim_wire::WireFault;
 
 /// Reads a stream from the inlet. If memory is refused, the second try reads it from the other one.

@@ -2,10 +2,10 @@
 
 use super::streams::{SUSPECTED, SUSPECTED_LISTING};
 use super::{assert_lists, assert_that};
-use crate::{Step, StreamReader};
 use std::alloc::{AllocError, Global};
 use std::process::Abort;
 use swim_pack::SliceInlet;
+use swim_table::{Step, StreamReader};
 use swim_wire::WireFault;
 
 /// The reader after a step that reads a record.

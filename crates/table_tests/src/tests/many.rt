@@ -2,10 +2,10 @@
 
 use super::dumps::dump;
 use super::{assert_count, assert_that, suspicion};
-use crate::{Room, Table, list, read_dump};
 use std::alloc::{AllocError, Global};
 use std::process::Abort;
 use swim_claim::Claim;
+use swim_table::{Room, Table, list, read_dump};
 
 /// Suspicions of three hundred names, starting at this number.
 fn suspicions(rt: &impl Abort, alloc: Global, first: u32) -> Result<Vec<Claim>, AllocError> {

@@ -4,10 +4,10 @@ use super::{
     LOOPBACK, Saying, assert_bytes, assert_count, assert_lists, assert_that, claims_of, details_of,
     name_of, table_of, take,
 };
-use crate::{Entry, Relation, Room, Table, Taken, list, relation};
 use std::alloc::{AllocError, Global};
 use std::process::Abort;
 use swim_claim::{Claim, Kind};
+use swim_table::{Entry, Relation, Room, Table, Taken, list, relation};
 
 /// Claims of one table, taken in one by one, and what each changes.
 const TAKES: &[(Saying, Taken, &str)] = &[

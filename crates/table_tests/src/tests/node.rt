@@ -5,11 +5,11 @@ use super::{
     LOOPBACK, Saying, assert_bytes, assert_count, assert_lists, assert_that, claim_of, claims_of,
     details_of, name_of, table_of, take,
 };
-use crate::{EncodeFault, Node, RefuteFault, Room, Table, Taken, list};
 use std::alloc::{AllocError, Global};
 use std::process::Abort;
 use std::test::Fail;
 use swim_claim::{Claim, Kind};
+use swim_table::{EncodeFault, Node, RefuteFault, Room, Table, Taken, list};
 use swim_wire::Datagram;
 
 /// A node `a` at incarnation 3, or none if memory is refused.

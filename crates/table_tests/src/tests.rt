@@ -57,10 +57,10 @@ mod steps;
 mod streams;
 mod tables;
 
-use crate::{Table, Taken, list};
 use std::alloc::{AllocError, Global};
 use std::process::Abort;
 use swim_claim::{Claim, Details, Kind, Name};
+use swim_table::{Table, Taken, list};
 
 /// A claim of a test. The address and the port are those of an Alive.
 #[derive(Clone, Copy)]

@@ -2,10 +2,10 @@
 
 use super::streams::{ALIVE, ALIVE_LISTING, SUSPECT, SUSPECTED, SUSPECTED_LISTING, read};
 use super::{assert_count, assert_lists};
-use crate::{StreamReader, Table, read_dump_into, read_news, read_stream_into};
 use std::alloc::Global;
 use std::process::Abort;
 use swim_pack::SliceInlet;
+use swim_table::{StreamReader, Table, read_dump_into, read_news, read_stream_into};
 use swim_wire::WireFault;
 
 /// A stream of an Alive of `a` at incarnation 4, and of a Suspect of it at incarnation 1.

@@ -2,10 +2,10 @@
 
 use super::dumps::dump;
 use super::{assert_count, assert_lists, assert_that};
-use crate::{Relation, Step, StreamReader, Table, read_dump, read_stream, relation};
 use std::alloc::{AllocError, Global};
 use std::process::Abort;
 use swim_pack::SliceInlet;
+use swim_table::{Relation, Step, StreamReader, Table, read_dump, read_stream, relation};
 use swim_wire::WireFault;
 
 /// An Alive of `a` at incarnation 4, at 127.0.0.1 and port 7947, and then a Suspect of it at

@@ -1,10 +1,10 @@
 //! Datagrams that a table takes in.
 
 use super::{assert_bytes, assert_lists};
-use crate::{Table, list};
 use std::alloc::Global;
 use std::process::Abort;
 use std::test::Fail;
+use swim_table::{Table, list};
 use swim_wire::Datagram;
 
 /// A Suspect of `b` at incarnation 1.
