@@ -21,8 +21,6 @@ mod level;
 mod over_memory;
 mod push_pull;
 mod stop;
-#[cfg(test)]
-mod tests;
 
 pub use cluster::Cluster;
 pub use event::{Claims, Event};

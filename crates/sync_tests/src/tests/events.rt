@@ -1,9 +1,9 @@
 //! Claims that a node takes in together.
-use crate::Claims;
 use crate::tests::{assert_bytes, suspect};
 use std::alloc::{AllocError, Global};
 use std::process::Abort;
 use swim_claim::{Claim, Kind};
+use swim_sync::Claims;
 
 /// The Suspects of these names and incarnations.
 fn suspects(

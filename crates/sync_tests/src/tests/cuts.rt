@@ -6,10 +6,10 @@ use super::{
     alive_table, answered, assert_bytes, assert_exchanges, assert_finishes, assert_lists,
     suspect_table,
 };
-use crate::{SyncFault, answer, finish};
 use std::alloc::{AllocError, Global};
 use std::process::Abort;
 use swim_pack::{FromRead, SliceInlet, ToWrite, VecOutlet};
+use swim_sync::{SyncFault, answer, finish};
 use swim_table::Table;
 use swim_wire::WireFault;
 

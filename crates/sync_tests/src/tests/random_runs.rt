@@ -1,10 +1,10 @@
 //! Random runs of small clusters, compared with lists of the claims that each node heard.
 use crate::tests::clusters::{assert_runs, cluster};
 use crate::tests::{assert_stays, details_of, name_of, take};
-use crate::{Claims, Cluster, Event};
 use std::alloc::{AllocError, Global};
 use std::process::Abort;
 use swim_claim::{Claim, Name};
+use swim_sync::{Claims, Cluster, Event};
 use swim_table::{Table, list};
 
 /// A source of pseudo-random numbers.

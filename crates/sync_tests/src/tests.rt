@@ -9,11 +9,11 @@ mod halves;
 mod levels;
 mod random_runs;
 
-use crate::{SyncFault, answer, exchange, finish};
 use std::alloc::{AllocError, Global};
 use std::process::Abort;
 use swim_claim::{Claim, Details, Name};
 use swim_pack::{SliceInlet, VecOutlet};
+use swim_sync::{SyncFault, answer, exchange, finish};
 use swim_table::{Table, list};
 
 /// The offer of the table of `a`, with the join flag.

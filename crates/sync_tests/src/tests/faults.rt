@@ -1,9 +1,9 @@
 //! The numbers and texts of the faults.
 
-use crate::{SyncFault, Why};
 use std::alloc::{AllocError, Global};
 use std::process::Abort;
 use swim_pack::PushFault;
+use swim_sync::{SyncFault, Why};
 use swim_table::EncodeFault;
 use swim_wire::WireFault;
 

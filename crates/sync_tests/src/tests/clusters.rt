@@ -3,10 +3,10 @@ use crate::tests::{
     JOINED_LISTING, SUSPECT_OFFER, assert_bytes, assert_finishes, assert_lists, details_of,
     name_of, suspect, take_suspects,
 };
-use crate::{Claims, Cluster, Event, Stop, Why};
 use std::alloc::{AllocError, Global};
 use std::process::Abort;
 use swim_claim::Claim;
+use swim_sync::{Claims, Cluster, Event, Stop, Why};
 use swim_table::Node;
 
 pub(super) const A_LISTING: &str = "a alive 0 0/7f000001/7946//\n";

@@ -5,10 +5,10 @@ use super::{
     alive_table, answered, assert_bytes, assert_exchanges, assert_finishes, assert_lists,
     exchange_once, suspect_table, take_suspects,
 };
-use crate::{PreparedAnswer, SyncFault, answer, offer, prepare_answer};
 use std::alloc::{AllocError, Global};
 use std::process::Abort;
 use swim_pack::{SliceInlet, StopInlet, StopOutlet, VecOutlet};
+use swim_sync::{PreparedAnswer, SyncFault, answer, offer, prepare_answer};
 use swim_table::Table;
 use swim_wire::WireFault;
 

@@ -3,9 +3,9 @@ use crate::tests::assert_stays;
 use crate::tests::clusters::{
     A_LISTING, BOTH_LISTING, assert_ends, assert_nodes, cluster, level, run_once,
 };
-use crate::{Cluster, Event, Stop, Why};
 use std::alloc::{AllocError, Global};
 use std::process::Abort;
+use swim_sync::{Cluster, Event, Stop, Why};
 use swim_table::list;
 
 const ALL_LISTING: &str =
