@@ -1,6 +1,9 @@
 mod Apart
+mod Begun
 mod Compounding
 mod Heeding
+mod Histories
+mod Lines
 mod Logarithms
 mod Members
 mod Picking
@@ -10,9 +13,11 @@ mod Remembering
 mod Running
 mod Sending
 mod Shares
+mod Showing
 mod Squaring
 mod Suspected
 mod Suspecting
 mod Taking
 mod Thousandths
+mod Ticking
 mod Waking

@@ -1,6 +1,7 @@
 -- What is in a list.
-use Rattle.std.proofs.Common.{◌≡◌, ℕ, zero, suc, ◌<◌, ◌⊎◌, inl, inr, Bool, true, false, cond, List, [], ◌∷◌, ◌++◌, length, slice_index_or, Some, refl, sym, subst, ap, arith}
+use Rattle.std.proofs.Common.{◌≡◌, ℕ, zero, suc, ◌<◌, ◌⊎◌, inl, inr, Bool, true, false, cond, List, [], ◌∷◌, ◌++◌, length, map, slice_index_or, Some, refl, sym, subst, ap, arith}
 use Rattle.std.proofs.lemmas.Option.{slice_get_within, get_or_from_slice_get}
+use Rattle.std.proofs.lemmas.List.Elements.{All-cons, All-head, All-nil, All-tail}
 use Rattle.std.specs.List.{All, Contains, filter, flat_map, slice_get}
 
 -- x is one of the elements
@@ -72,6 +73,19 @@ module _ {X : Type 0} where
   in_append (y ∷ more) ys x (inl same) = inl (inl same)
   in_append (y ∷ more) ys x (inr later) = elim (in_append more ys x later) [ inl a ↦ inl (inr a) | inr b ↦ inr b ]
 
+  pub append_in : (xs ys : List X) (x : X) → In x xs ⊎ In x ys → In x (xs ++ ys)
+  append_in [] ys x (inl none) = absurd none
+  append_in [] ys x (inr there) = there
+  append_in (y ∷ more) ys x (inl (inl same)) = inl same
+  append_in (y ∷ more) ys x (inl (inr there)) = inr (append_in more ys x (inl there))
+  append_in (y ∷ more) ys x (inr there) = inr (append_in more ys x (inr there))
+
+  pub flat_map_in : {Y : Type 0} (f : Y → List X) (ys : List Y) (y : Y) (x : X) → In y ys → In x (f y) → In x (flat_map f ys)
+  flat_map_in f [] y x none within = absurd none
+  flat_map_in f (z ∷ more) y x (inl same) within =
+      append_in (f z) (flat_map f more) x (inl (subst (λ w. In x (f w)) (sym same) within))
+  flat_map_in f (z ∷ more) y x (inr there) within = append_in (f z) (flat_map f more) x (inr (flat_map_in f more y x there within))
+
   pub in_flat_map : {Y : Type 0} (f : Y → List X) (ys : List Y) (x : X) → In x (flat_map f ys)
       → (y : Y) × In y ys × In x (f y)
   in_flat_map f [] x within = absurd within
@@ -80,3 +94,8 @@ module _ {X : Type 0} where
         → (z : _) × In z (y ∷ ys) × In x (f z)
     cases later (inl here) = (y, inl refl, here)
     cases later (inr rest) = let (z, z_in, x_in) = later rest in (z, inr z_in, x_in)
+
+pub all_unmap : {X Y : Type 0} (f : X → Y) (P : Y → Type 0) (xs : List X) → All P (map f xs) → All (λ x. P (f x)) xs
+all_unmap f P [] all = All-nil (λ x. P (f x))
+all_unmap f P (x ∷ xs) all = All-cons (λ x. P (f x)) x xs (All-head P (f x) (map f xs) all)
+    (all_unmap f P xs (All-tail P (f x) (map f xs) all))

@@ -1,36 +1,27 @@
 -- What a member does with what it is told.
 use Rattle.std.specs.Prelude.{◌≡◌, ⊤, ℕ, ◌+◌, ◌-◌, ◌^◌, ◌<◌, ◌≤◌, ◌⊎◌, false, true}
-use Rattle.std.specs.Prelude.{List, [], ◌∷◌, length, Ok, None}
+use Rattle.std.specs.Prelude.{List, length, Ok, None}
 use Rattle.std.specs.List.{All}
 use Rattle.std.specs.declared.alloc.Global.{Global}
 use Rattle.std.specs.declared.vec.Vec.{Vec}
 use Rattle.swim_claim.specs.Claim.{details_of, inc_of, name_of}
 use Rattle.swim_wire.specs.Packet.{PacketValue}
-use Rattle.memberlist_message.specs.Leaves.{AreLeaves}
 use Rattle.memberlist_message.specs.Messages.{AckValue, MessageValue, message_of}
 use Rattle.memberlist_message.specs.Writing.{user_bytes}
-use Rattle.memberlist_member.specs.Covers.{OpensPacket}
+use Rattle.memberlist_member.specs.Parts.{HasMessages}
+use Rattle.memberlist_member.specs.Owns.{own_leave}
+use Rattle.memberlist_member.specs.Showing.{IsToldByTime, IsToldIn, IsToldNow, IsToldOver, MayChange, MayLeave, Went}
+use Rattle.memberlist_member.specs.Saying.{said_of}
 use Rattle.memberlist_member.specs.Staying.{Adds, HasNoProbe, unless_silent}
 use Rattle.memberlist_member.specs.Queues.{put, unsent}
+use Rattle.memberlist_view.specs.declared.heard.Said.{Said}
 use Rattle.memberlist_member.specs.declared.cover.Cover.{Cover}
-use Rattle.memberlist_member.specs.declared.cover.Opened.{Opened}
-use Rattle.memberlist_member.specs.declared.cover.Opened.TheVariants.{Message, Refused}
 use Rattle.memberlist_member.specs.declared.input.Input.{Input}
 use Rattle.memberlist_member.specs.declared.input.Input.TheVariants as input
 use Rattle.memberlist_member.specs.declared.member.Member.{Member}
 use Rattle.memberlist_member.specs.declared.own.Own.{Own}
 
 -- ---- a datagram
-
--- the messages in what was opened: its leaves, or none if it is refused
-abbrev pub AreMessagesOf : Opened → List (List ℕ) → Type 0
-AreMessagesOf (Message message) messages = (truncated : ℕ) × AreLeaves (message.items ∷ []) messages truncated
-AreMessagesOf Refused messages = messages ≡ []
-
--- the messages in a datagram
-abbrev pub HasMessages : Cover → List ℕ → List (List ℕ) → Type 0
-HasMessages cover bytes messages =
-    (opened : Opened) × OpensPacket cover bytes opened × AreMessagesOf opened messages
 
 -- for each message in the datagram at most one datagram is put out, no connection is opened, and
 -- nothing is written to one
@@ -129,3 +120,35 @@ Does input.Leave old new = new.own.is_leaving ≡ true
 Does (input.Update meta) old new = IsUpdated meta.now old.own new.own
 Does (input.Say bytes) old new = IsSaid bytes.now old new
 Does (input.State bytes) old new = new.state.items ≡ bytes.now
+
+-- what an input tells it at this time
+abbrev pub IsToldBy : Input → ℕ → Member → Said → Type 0
+IsToldBy input.Tick now m said = IsToldByTime now m said
+IsToldBy (input.Datagram from bytes) now m said = IsToldIn m.cover bytes.now said
+IsToldBy (input.Accepted conn) now m said = ⊥
+IsToldBy (input.Connected conn) now m said = ⊥
+IsToldBy (input.Received conn bytes) now m said = IsToldNow conn bytes.now m said
+IsToldBy (input.Closed conn) now m said = IsToldOver conn m said
+IsToldBy (input.Join seeds) now m said = ⊥
+IsToldBy input.Leave now m said = said ≡ said_of (own_leave m.own) true
+IsToldBy (input.Update meta) now m said = ⊥
+IsToldBy (input.Say bytes) now m said = ⊥
+IsToldBy (input.State bytes) now m said = ⊥
+
+-- what it shows, and says of itself, changes by these: only the program makes it leave, or have
+-- other metadata
+abbrev pub ShowsBy : Input → List Said → Member → Member → Type 0
+ShowsBy input.Tick told old new = Went told old.own new.own old new
+ShowsBy (input.Datagram from bytes) told old new = Went told old.own new.own old new
+ShowsBy (input.Accepted conn) told old new = Went told old.own new.own old new
+ShowsBy (input.Connected conn) told old new = Went told old.own new.own old new
+ShowsBy (input.Received conn bytes) told old new = Went told old.own new.own old new
+ShowsBy (input.Closed conn) told old new = Went told old.own new.own old new
+ShowsBy (input.Join seeds) told old new = Went told old.own new.own old new
+ShowsBy input.Leave told old new = Went told old.own old.own old new × MayLeave old.own new.own
+ShowsBy (input.Update meta) told old new = Went told new.own new.own old new × MayChange meta.now old.own new.own
+ShowsBy (input.Say bytes) told old new = Went told old.own new.own old new
+ShowsBy (input.State bytes) told old new = Went told old.own new.own old new
+
+abbrev pub Shows : Input → Member → Member → Type 0
+Shows what old new = (told : List Said) × All (IsToldBy what new.time old) told × ShowsBy what told old new

@@ -1,8 +1,9 @@
 //! The claims that a member makes.
 
-ghost use Rattle.std.specs.Prelude.{◌≡◌, [], IfOk};
+ghost use Rattle.std.specs.Prelude.{◌≡◌, [], IfOk, false};
 ghost use Rattle.swim_claim.specs.declared.claim.Claim.TheVariants as claim;
 ghost use Rattle.memberlist_member.specs.Claims.{dead_by, packet_of};
+ghost use Rattle.memberlist_member.specs.Saying.{said_in_table, said_of};
 
 use std::alloc::{AllocError, Global};
 use swim_claim::{Claim, Details, Name};
@@ -32,5 +33,22 @@ pub(crate) fn dead(alloc: Global, name: Name, inc: u32, by: &Name) -> Result<Pac
         Ok(Packet::new(Claim::Leave { name, inc }, from))
     } else {
         Ok(Packet::new(Claim::Confirm { name, inc }, from))
+    }
+}
+
+/// What a record of another member's table says to this one (`mergeState`): one that is dead there is
+/// only suspected, and as nobody else is named, it counts as this member's own suspicion.
+pub(crate) fn merged(alloc: Global, claim: Claim, by: &Name) -> Result<Packet, AllocError>
+    ensures { IfOk result (λ packet. said_of packet false ≡ said_in_table by.now claim) }
+{
+    match claim {
+        Claim::Alive { name, inc, details } => Ok(alive(alloc, name, inc, details)),
+        Claim::Suspect { name, inc } | Claim::Confirm { name, inc } => suspect(
+            alloc, name, inc, by,
+        ),
+        Claim::Leave { name, inc } => {
+            let from = name.bytes().to_vec(alloc)?;
+            Ok(Packet::new(Claim::Leave { name, inc }, from))
+        }
     }
 }

@@ -1,9 +1,12 @@
 //! Laws of the rules of a member. Each is the contract of a function that does nothing.
 
-ghost use Rattle.std.specs.Prelude.{◌≡◌, ◌∷◌, ◌+◌, ◌<◌, ◌≤◌, Bool, ℕ, List, length, true, max};
+ghost use Rattle.std.specs.Prelude.{◌≡◌, ◌∷◌, ◌+◌, ◌-◌, ◌^◌, ◌<◌, ◌≤◌, Bool, ℕ, List, length, true};
+ghost use Rattle.std.specs.Prelude.{max, min};
 ghost use Rattle.std.specs.List.{Contains};
 ghost use Rattle.std.specs.Str.{bytes_eq};
 ghost use Rattle.memberlist_member.specs.Compound.{datagram_bytes, total};
+ghost use Rattle.memberlist_member.specs.Histories.{IsClear, IsHere, IsNoEnd, IsWell, Lives};
+ghost use Rattle.memberlist_member.specs.Histories.{Spares, shortest};
 ghost use Rattle.memberlist_member.specs.Queues.{AreApart, put};
 ghost use Rattle.swim_claim.specs.Details.{DetailsValue};
 ghost use Rattle.memberlist_view.specs.Rules.{are_sound_versions, change_of_entry};
@@ -13,6 +16,7 @@ ghost use Rattle.memberlist_member.specs.Refuting.{HoldsAlive, IsFromThere};
 ghost use Rattle.memberlist_member.specs.Runs.{Event, Run, times};
 ghost use Rattle.memberlist_member.specs.Runs.Event.{added, taken};
 ghost use Rattle.memberlist_member.specs.Suspicions.{IsDue, Lasts, Span};
+ghost use Rattle.memberlist_member.specs.declared.member.Member.{Member};
 ghost use Rattle.memberlist_member.specs.declared.queue.Broadcast.{Broadcast};
 
 /// There is at most one broadcast about each member: a new one takes the place of the older one.
@@ -80,4 +84,20 @@ pub fn a_refutation_is_enough()
         (joins : Bool) → IsFromThere entry.details details → entry.inc < inc
         → are_sound_versions details.vsn ≡ true
         → HoldsAlive wait inc (change_of_entry wait time entry (Alive name inc details joins)) }
+{}
+
+/// A member is not shown as suspect or dead unless somebody accuses it. If it is not at first, and
+/// then no datagram and no table says that it is, and no probe of it is over without an answer, it is
+/// shown as neither.
+pub fn nobody_is_accused_without_cause()
+    ensures { (name : List ℕ) (first last : Member) → Lives (Spares name) first last
+        → IsClear name first.view → IsClear name last.view }
+{}
+
+/// A member that is well is not shown as dead before the shortest suspicion is over, whoever
+/// suspects it, unless somebody says that it is dead or left.
+pub fn nobody_dies_early()
+    ensures { (name : List ℕ) (first last : Member) → Lives (IsNoEnd name) first last
+        → IsWell name first.view → last.time < min (first.time + shortest first.settings) (2 ^ 64 - 1)
+        → IsHere name last.view }
 {}

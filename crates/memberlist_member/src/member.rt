@@ -15,6 +15,7 @@ mod timing;
 ghost use Rattle.std.specs.Prelude.{◌≡◌, []};
 ghost use Rattle.std.specs.List.{All};
 ghost use Rattle.memberlist_member.specs.Outputs.{FitsIn};
+ghost use Rattle.memberlist_member.specs.Beginning.{IsBegun};
 ghost use Rattle.memberlist_member.specs.Viewing.{IsViewUntil};
 
 use crate::awareness::Awareness;
@@ -70,6 +71,7 @@ pub struct Member {
     refused: u64,
     ghost limited: { out.limit ≡ settings.udp_buffer_size },
     ghost viewed: { IsViewUntil view time },
+    ghost begun: { ∥ All (λ s. IsBegun settings s.suspicion) suspicions.list.items ∥₁ },
 }
 
 /// When the next of each is due, in microseconds.

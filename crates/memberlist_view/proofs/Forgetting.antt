@@ -29,7 +29,7 @@ IsBelowAll-filter p (e ∷ es) name all = by_test (IsBelowAll-filter p es name a
     by_test later true = (all.0, later)
     by_test later false = later
 
-IsAscending-filter : (p : List ℕ × Entry → Bool) (es : Entries) → IsAscending es → IsAscending (filter p es)
+pub IsAscending-filter : (p : List ℕ × Entry → Bool) (es : Entries) → IsAscending es → IsAscending (filter p es)
 IsAscending-filter p [] up = IsAscending-nil
 IsAscending-filter p (e ∷ es) up = by_test (IsAscending-filter p es (IsAscending-tail e es up)) (p e)
   where
@@ -37,7 +37,7 @@ IsAscending-filter p (e ∷ es) up = by_test (IsAscending-filter p es (IsAscendi
     by_test later true = IsAscending-cons e (filter p es) (IsBelowAll-filter p es e.0 (IsAscending-head e es up)) later
     by_test later false = later
 
-entry_at-filter : (p : Entry → Bool) (es : Entries) (name : List ℕ) → IsAscending es
+pub entry_at-filter : (p : Entry → Bool) (es : Entries) (name : List ℕ) → IsAscending es
     → entry_at (filter (λ e. p e.1) es) name ≡ option_filter p (entry_at es name)
 entry_at-filter p es name up =
     lookup-filter-values (eq_by_cmp_equiv nat_list_cmp_total) p name es (IsDistinct-from_sorted name_cmp (keys_of es) up)

@@ -1,12 +1,17 @@
 //! What comes in datagrams.
 
-ghost use Rattle.std.specs.Prelude.{◌≡◌, OnOk, length};
-ghost use Rattle.std.specs.List.{All};
+ghost use Rattle.std.specs.Prelude.{◌≡◌, List, OnOk, length, true};
+ghost use Rattle.std.specs.List.{All, Contains};
 ghost use Rattle.swim_wire.specs.Packet.{PacketValue};
 ghost use Rattle.memberlist_message.specs.Messages.{AckValue, MessageValue, message_value};
 ghost use Rattle.memberlist_member.specs.Steps.{AnswersAtMostEach, IsAnsweredAfter, IsHeededAck};
 ghost use Rattle.memberlist_member.specs.Steps.{IsOutdone, IsOutdoneAfter, IsOutdoneIn};
-ghost use Rattle.memberlist_member.specs.Staying.{Adds, HasNoProbe, KeepsAnswered, Stays, StaysButProbe};
+ghost use Rattle.memberlist_member.specs.Staying.{Adds, HasNoProbe, KeepsAnswered, Stays};
+ghost use Rattle.memberlist_member.specs.Staying.{StaysButProbe};
+ghost use Rattle.memberlist_member.specs.Showing.{KeepsLines, GoesBy, GoesByDatagram, GoesOn};
+ghost use Rattle.memberlist_member.specs.Showing.{Tells};
+ghost use Rattle.memberlist_member.specs.Saying.{said_of};
+ghost use Rattle.memberlist_view.specs.declared.heard.Said.{Said};
 
 use crate::cover::Opened;
 use crate::member::Member;
@@ -28,6 +33,7 @@ impl Member {
         ensures outdone { OnOk result (IsOutdoneAfter self.old.cover bytes.now self.new.own) }
         ensures answered { OnOk result (IsAnsweredAfter self.old.cover bytes.now self.new) }
         ensures stays { StaysButProbe self.old self.new }
+        ensures goes { GoesByDatagram self.old.cover bytes.now self.old self.new }
     {
         let Opened::Message(message) = self.cover.open_packet(self.alloc, bytes)? else {
             self.refuse();
@@ -48,6 +54,8 @@ impl Member {
         ensures outdone { OnOk result (All (λ part. IsOutdoneIn self.new.own part.now) parts.now) }
         ensures answered { OnOk result (All (λ part. IsHeededAck self.new part.now) parts.now) }
         ensures stays { StaysButProbe self.old self.new }
+        ensures goes { (told : List Said) → All (λ part. Tells told part.now) parts.now
+            → GoesBy told self.old self.new }
     {
         for part in parts {
             self.take_part(from, part, rng)?;
@@ -67,6 +75,7 @@ impl Member {
         ensures answered { OnOk result (IsHeededAck self.new part.now) }
         ensures keeps { KeepsAnswered self.old self.new }
         ensures stays { StaysButProbe self.old self.new }
+        ensures goes { (told : List Said) → Tells told part.now → GoesBy told self.old self.new }
     {
         match decode_message(self.alloc, part) {
             Ok(message) => self.take_message(from, message, rng),
@@ -91,6 +100,9 @@ impl Member {
             → message_value message ≡ MessageValue.ack ack → HasNoProbe ack.seq_no self.new) }
         ensures keeps { KeepsAnswered self.old self.new }
         ensures stays { StaysButProbe self.old self.new }
+        ensures goes { (told : List Said) → ((packet : PacketValue)
+            → message_value message ≡ MessageValue.claim packet → Contains told (said_of packet true))
+            → GoesBy told self.old self.new }
     {
         match message {
             Message::Ping(ping) => self.answer_ping(from, &ping, rng),
@@ -110,6 +122,8 @@ impl Member {
     pub(crate) fn refuse(&mut self)
         ensures adds { Adds 0 0 0 self.old self.new }
         ensures stays { Stays self.old self.new }
+        ensures goes { GoesOn self.old self.new }
+        ensures lines { KeepsLines self.old self.new }
     {
         self.refused = self.refused.saturating_add(1);
     }

@@ -2,6 +2,7 @@
 
 ghost use Rattle.std.specs.Prelude.{◌≤◌, IfOk, length};
 ghost use Rattle.memberlist_member.specs.Staying.{Adds, Stays, unless_silent};
+ghost use Rattle.memberlist_member.specs.Showing.{GoesOn};
 
 use crate::config::micros;
 use crate::member::Member;
@@ -25,6 +26,7 @@ impl Member {
     pub(crate) fn gossip<R: Rng>(&mut self, rng: &mut R) -> Result<(), AllocError>
         ensures adds { Adds (unless_silent self.old.settings self.old.settings.gossip_nodes) 0 0 self.old self.new }
         ensures stays { Stays self.old self.new }
+        ensures goes { GoesOn self.old self.new }
     {
         if self.config().is_silent || (self.claims.len() == 0 && self.said.len() == 0) {
             return Ok(());

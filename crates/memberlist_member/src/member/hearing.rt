@@ -1,8 +1,13 @@
 //! What the member hears, about others and about itself.
 
-ghost use Rattle.std.specs.Prelude.{◌≡◌, ◌-◌, ◌^◌, ◌<◌, ◌≤◌, IfOk, OnOk};
+ghost use Rattle.std.specs.Prelude.{◌≡◌, ◌-◌, ◌^◌, ◌<◌, ◌≤◌, Bool, false, IfOk, List, OnOk};
+ghost use Rattle.swim_claim.specs.Claim.{name_of};
+ghost use Rattle.memberlist_view.specs.Heard.{about};
 ghost use Rattle.memberlist_member.specs.Steps.{IsOutdone};
 ghost use Rattle.memberlist_member.specs.Staying.{Adds, Stays};
+ghost use Rattle.memberlist_member.specs.Showing.{KeepsLines, GoesBy, GoesOn, IsGround, IsOwnWord};
+ghost use Rattle.memberlist_member.specs.Saying.{inc_in, said_of};
+ghost use Rattle.memberlist_view.specs.declared.heard.Said.{Said};
 
 use crate::config::micros;
 use crate::member::Member;
@@ -27,6 +32,9 @@ impl Member {
         ensures adds { Adds 0 0 0 self.old self.new }
         ensures outdone { OnOk result (IsOutdone self.new.own packet.now) }
         ensures stays { Stays self.old self.new }
+        ensures goes { (told : List Said) → IsGround told self.old (said_of packet.now joins)
+            → GoesBy told self.old self.new }
+        ensures lines { KeepsLines self.old self.new }
     {
         if *packet.claim().name().bytes() == *self.own.name.name().bytes() {
             return self.hear_about_itself(packet, rng);
@@ -55,6 +63,9 @@ impl Member {
     ) -> Result<(), AllocError>
         ensures adds { Adds 0 0 0 self.old self.new }
         ensures stays { Stays self.old self.new }
+        ensures goes { GoesOn self.old self.new }
+        ensures own { self.new.own ≡ self.old.own }
+        ensures lines { KeepsLines self.old self.new }
     {
         match event {
             Event::Joined | Event::Known => self.admit(name, rng),
@@ -76,6 +87,9 @@ impl Member {
     fn admit<R: Rng>(&mut self, name: &MemberName, rng: &mut R) -> Result<(), AllocError>
         ensures adds { Adds 0 0 0 self.old self.new }
         ensures stays { Stays self.old self.new }
+        ensures goes { GoesOn self.old self.new }
+        ensures own { self.new.own ≡ self.old.own }
+        ensures lines { KeepsLines self.old self.new }
     {
         if !self.is_known(name) {
             return Ok(());
@@ -97,6 +111,9 @@ impl Member {
     fn suspect(&mut self, name: &MemberName) -> Result<(), AllocError>
         ensures adds { Adds 0 0 0 self.old self.new }
         ensures stays { Stays self.old self.new }
+        ensures goes { GoesOn self.old self.new }
+        ensures own { self.new.own ≡ self.old.own }
+        ensures lines { KeepsLines self.old self.new }
     {
         let config = self.settings.config();
         let suspicion = Suspicion::begun(
@@ -113,6 +130,9 @@ impl Member {
     fn lose(&mut self, name: &MemberName) -> Result<(), AllocError>
         ensures adds { Adds 0 0 0 self.old self.new }
         ensures stays { Stays self.old self.new }
+        ensures goes { GoesOn self.old self.new }
+        ensures own { self.new.own ≡ self.old.own }
+        ensures lines { KeepsLines self.old self.new }
     {
         let Some(entry) = self.view.get(name) else {
             return Ok(());
@@ -134,6 +154,8 @@ impl Member {
     fn tell_on(&mut self, packet: &Packet, event: Event) -> Result<(), AllocError>
         ensures adds { Adds 0 0 0 self.old self.new }
         ensures stays { Stays self.old self.new }
+        ensures goes { GoesOn self.old self.new }
+        ensures lines { KeepsLines self.old self.new }
     {
         if self.config().is_silent || !self.is_news(packet, event)? {
             return Ok(());
@@ -173,6 +195,9 @@ impl Member {
     pub(crate) fn queue_claim(&mut self, packet: &Packet) -> Result<(), AllocError>
         ensures adds { Adds 0 0 0 self.old self.new }
         ensures stays { Stays self.old self.new }
+        ensures goes { GoesOn self.old self.new }
+        ensures own { self.new.own ≡ self.old.own }
+        ensures lines { KeepsLines self.old self.new }
     {
         let bytes = encode_packet(self.alloc, packet)?;
         if self.room() < 4 + bytes.len() {
@@ -189,6 +214,9 @@ impl Member {
     fn show(&mut self, name: &MemberName, event: Event) -> Result<(), AllocError>
         ensures adds { Adds 0 0 0 self.old self.new }
         ensures stays { Stays self.old self.new }
+        ensures goes { GoesOn self.old self.new }
+        ensures own { self.new.own ≡ self.old.own }
+        ensures lines { KeepsLines self.old self.new }
     {
         let alloc = self.alloc;
         let Some(entry) = self.view.get(name) else {
@@ -218,6 +246,10 @@ impl Member {
         ensures adds { Adds 0 0 0 self.old self.new }
         ensures outdone { OnOk result (IsOutdone self.new.own packet.now) }
         ensures stays { Stays self.old self.new }
+        ensures goes { (told : List Said) (joins : Bool)
+            → IsGround told self.old (said_of packet.now joins)
+            → name_of packet.now.claim ≡ self.old.own.name → GoesBy told self.old self.new }
+        ensures lines { KeepsLines self.old self.new }
     {
         match self.own.judge(packet.claim()) {
             Verdict::Stands => Ok(()),
@@ -240,6 +272,10 @@ impl Member {
         ensures outdone { OnOk result (accused < 2 ^ 32 - 1 → self.old.own.inc ≤ accused
             → accused < self.new.own.inc) }
         ensures stays { Stays self.old self.new }
+        ensures goes { (told : List Said) (said : Said) → IsGround told self.old said
+            → about said ≡ self.old.own.name → self.old.own.is_leaving ≡ false → inc_in said ≡ accused
+            → self.old.own.inc ≤ accused → GoesBy told self.old self.new }
+        ensures lines { KeepsLines self.old self.new }
     {
         if !self.own.outdo(accused) {
             return self.put(Output::Exhausted);
@@ -253,6 +289,9 @@ impl Member {
     pub(crate) fn announce<R: Rng>(&mut self, rng: &mut R) -> Result<(), AllocError>
         ensures adds { Adds 0 0 0 self.old self.new }
         ensures stays { Stays self.old self.new }
+        ensures goes { GoesOn self.old self.new }
+        ensures own { self.new.own ≡ self.old.own }
+        ensures lines { KeepsLines self.old self.new }
     {
         let packet = self.own.alive(self.alloc)?;
         self.hear_itself(&packet, rng)
@@ -266,6 +305,10 @@ impl Member {
     ) -> Result<(), AllocError>
         ensures adds { Adds 0 0 0 self.old self.new }
         ensures stays { Stays self.old self.new }
+        ensures own { self.new.own ≡ self.old.own }
+        ensures goes { (told : List Said) → IsOwnWord told self.old packet.now
+            → GoesBy told self.old self.new }
+        ensures lines { KeepsLines self.old self.new }
     {
         let heard = Heard {
             time: self.time,
@@ -281,7 +324,9 @@ impl Member {
 }
 
 /// What a packet says.
-fn said_by(alloc: Global, packet: &Packet, joins: bool) -> Result<Said, AllocError> {
+fn said_by(alloc: Global, packet: &Packet, joins: bool) -> Result<Said, AllocError>
+    ensures { IfOk result (λ said. said ≡ said_of packet.now joins) }
+{
     let claim = packet.claim().try_clone(alloc)?;
     match claim {
         Claim::Alive { .. } => Ok(Said::of_record(claim, joins)),

@@ -1,8 +1,13 @@
 //! Joining, leaving, and what the program says.
 
-ghost use Rattle.std.specs.Prelude.{◌≡◌, OnOk, length, true};
+ghost use Rattle.std.specs.Prelude.{◌≡◌, List, OnOk, length, true};
+ghost use Rattle.std.specs.List.{Contains};
+ghost use Rattle.memberlist_member.specs.Owns.{own_leave};
 ghost use Rattle.memberlist_member.specs.Staying.{Adds, Stays, StaysItself, StaysButTimes};
 ghost use Rattle.memberlist_member.specs.Steps.{IsSaid, IsUpdated};
+ghost use Rattle.memberlist_member.specs.Showing.{GoesOn, MayChange, MayLeave, Went};
+ghost use Rattle.memberlist_member.specs.Saying.{said_of};
+ghost use Rattle.memberlist_view.specs.declared.heard.Said.{Said};
 
 use crate::config::micros;
 use crate::fault::StepFault;
@@ -28,6 +33,7 @@ impl Member {
         ensures adds { Adds 0 (length seeds.now) 0 self.old self.new }
         ensures seeds { OnOk result (self.new.seeds.items ≡ seeds.now) }
         ensures stays { StaysItself self.old self.new }
+        ensures goes { GoesOn self.old self.new }
     {
         self.seeds = seeds.to_vec(self.alloc)?;
         for seed in seeds {
@@ -41,6 +47,9 @@ impl Member {
         ensures adds { Adds 0 0 0 self.old self.new }
         ensures stays { StaysItself self.old self.new }
         ensures leaves { OnOk result (self.new.own.is_leaving ≡ true) }
+        ensures goes { (told : List Said) → Contains told (said_of (own_leave self.old.own) true)
+            → Went told self.old.own self.old.own self.old self.new }
+        ensures own { MayLeave self.old.own self.new.own }
     {
         if self.own.is_leaving {
             return Ok(());
@@ -58,6 +67,7 @@ impl Member {
         ensures adds { Adds 0 0 0 self.old self.new }
         ensures stays { StaysButTimes self.old self.new }
         ensures times { self.new.times ≡ record self.old.times { departure = self.new.times.departure } }
+        ensures goes { GoesOn self.old self.new }
     {
         let Some(until) = self.times.departure else {
             return Ok(());
@@ -91,6 +101,8 @@ impl Member {
         ensures adds { Adds 0 0 0 self.old self.new }
         ensures updates { OnOk result (IsUpdated meta.now self.old.own self.new.own) }
         ensures stays { StaysItself self.old self.new }
+        ensures goes { (told : List Said) → Went told self.new.own self.new.own self.old self.new }
+        ensures own { MayChange meta.now self.old.own self.new.own }
     {
         let old = &self.own.details;
         let meta = meta.to_vec(self.alloc)?;
@@ -111,6 +123,7 @@ impl Member {
         ensures adds { Adds 0 0 0 self.old self.new }
         ensures said { OnOk result (IsSaid bytes.now self.old self.new) }
         ensures stays { Stays self.old self.new }
+        ensures goes { GoesOn self.old self.new }
     {
         let message = encode_user(self.alloc, bytes)?;
         if self.room() < 4 + message.len() {
@@ -127,6 +140,7 @@ impl Member {
         ensures adds { Adds 0 0 0 self.old self.new }
         ensures state { OnOk result (self.new.state.items ≡ bytes.now) }
         ensures stays { Stays self.old self.new }
+        ensures goes { GoesOn self.old self.new }
     {
         self.state = bytes.to_vec(self.alloc)?;
         Ok(())

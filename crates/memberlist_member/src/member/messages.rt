@@ -1,7 +1,9 @@
 //! Pings and their answers.
 
 ghost use Rattle.std.specs.Prelude.{◌<◌, ◌≤◌, ◌^◌, IfOk, OnOk, length};
-ghost use Rattle.memberlist_member.specs.Staying.{Adds, HasNoProbe, KeepsAnswered, Stays, StaysButProbe};
+ghost use Rattle.memberlist_member.specs.Staying.{Adds, HasNoProbe, KeepsAnswered, Stays};
+ghost use Rattle.memberlist_member.specs.Staying.{StaysButProbe};
+ghost use Rattle.memberlist_member.specs.Showing.{KeepsLines, GoesOn};
 
 use crate::config::micros;
 use crate::member::Member;
@@ -26,6 +28,7 @@ impl Member {
     ) -> Result<(), AllocError>
         ensures adds { Adds 1 0 0 self.old self.new }
         ensures stays { Stays self.old self.new }
+        ensures goes { GoesOn self.old self.new }
     {
         if !self.is_own(&ping.node) {
             return Ok(());
@@ -47,6 +50,7 @@ impl Member {
     ) -> Result<(), AllocError>
         ensures adds { Adds 1 0 0 self.old self.new }
         ensures stays { Stays self.old self.new }
+        ensures goes { GoesOn self.old self.new }
     {
         let message = self.ack(seq_no)?;
         self.send_with_news(to, message, rng)
@@ -67,6 +71,7 @@ impl Member {
     ) -> Result<(), AllocError>
         ensures adds { Adds 1 0 0 self.old self.new }
         ensures stays { Stays self.old self.new }
+        ensures goes { GoesOn self.old self.new }
     {
         let Some(ip) = ip_of(&ping.target) else {
             self.refuse();
@@ -127,6 +132,7 @@ impl Member {
         ensures answered { OnOk result (HasNoProbe seq self.new) }
         ensures keeps { KeepsAnswered self.old self.new }
         ensures stays { StaysButProbe self.old self.new }
+        ensures goes { GoesOn self.old self.new }
     {
         if let Some(relay) = self.relays.take(seq) {
             if self.time <= relay.due {
@@ -140,28 +146,42 @@ impl Member {
     pub(crate) fn end_relays<R: Rng>(&mut self, rng: &mut R) -> Result<(), AllocError>
         ensures adds { Adds (length self.old.relays.waiting.items) 0 0 self.old self.new }
         ensures stays { Stays self.old self.new }
+        ensures goes { GoesOn self.old self.new }
+        ensures lines { KeepsLines self.old self.new }
     {
         for _ in 0..self.relays.len() {
             let Some(relay) = self.relays.take_due(self.time) else {
                 break;
             };
-            if relay.wants_nack {
-                let message = encode_nack(
-                    self.alloc,
-                    &Nack {
-                        seq_no: relay.asked,
-                    },
-                )?;
-                self.send_with_news(relay.asker, message, rng)?;
-            }
+            self.end_relay(relay, rng)?;
         }
         Ok(())
+    }
+
+    /// Tells the one that asked that no answer came, if it wants to know.
+    fn end_relay<R: Rng>(&mut self, relay: Relay, rng: &mut R) -> Result<(), AllocError>
+        ensures adds { Adds 1 0 0 self.old self.new }
+        ensures stays { Stays self.old self.new }
+        ensures goes { GoesOn self.old self.new }
+        ensures lines { KeepsLines self.old self.new }
+    {
+        if !relay.wants_nack {
+            return Ok(());
+        }
+        let message = encode_nack(
+            self.alloc,
+            &Nack {
+                seq_no: relay.asked,
+            },
+        )?;
+        self.send_with_news(relay.asker, message, rng)
     }
 
     /// Puts out a message of another program.
     pub(crate) fn take_user_message(&mut self, bytes: Vec<u8>) -> Result<(), AllocError>
         ensures adds { Adds 0 0 0 self.old self.new }
         ensures stays { Stays self.old self.new }
+        ensures goes { GoesOn self.old self.new }
     {
         self.put(Output::User { bytes })
     }

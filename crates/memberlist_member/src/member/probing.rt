@@ -1,7 +1,14 @@
 //! Probes (`probe`, `probeNode` in state.go).
 
-ghost use Rattle.std.specs.Prelude.{◌<◌, ◌≤◌, ◌^◌, IfOk, IfSome, length};
-ghost use Rattle.memberlist_member.specs.Staying.{Adds, HasNoProbe, KeepsAnswered, Stays, StaysButProbe, unless_silent};
+ghost use Rattle.std.specs.Prelude.{◌≡◌, ◌<◌, ◌≤◌, ◌^◌, IfOk, IfSome, List, length};
+ghost use Rattle.std.specs.List.{Contains};
+ghost use Rattle.swim_claim.specs.declared.claim.Claim.TheVariants.{Suspect};
+ghost use Rattle.memberlist_member.specs.Claims.{packet_of};
+ghost use Rattle.memberlist_member.specs.Staying.{Adds, HasNoProbe, KeepsAnswered, Stays};
+ghost use Rattle.memberlist_member.specs.Staying.{StaysButProbe, unless_silent};
+ghost use Rattle.memberlist_member.specs.Showing.{KeepsLines, GoesBy, GoesOn, IsUnanswered};
+ghost use Rattle.memberlist_member.specs.Showing.{KeepsUnanswered};
+ghost use Rattle.memberlist_view.specs.declared.heard.Said.{Said};
 
 use crate::claims;
 use crate::config::micros;
@@ -30,6 +37,7 @@ impl Member {
     pub(crate) fn begin_probe<R: Rng>(&mut self, rng: &mut R) -> Result<(), AllocError>
         ensures adds { Adds (unless_silent self.old.settings 1) 0 0 self.old self.new }
         ensures stays { StaysButProbe self.old self.new }
+        ensures goes { GoesOn self.old self.new }
     {
         if self.probe.is_some() || self.own.is_leaving || self.config().is_silent {
             return Ok(());
@@ -44,6 +52,7 @@ impl Member {
     fn next_to_probe<R: Rng>(&mut self, rng: &mut R) -> Result<Option<MemberName>, AllocError>
         ensures adds { Adds 0 0 0 self.old self.new }
         ensures stays { Stays self.old self.new }
+        ensures goes { GoesOn self.old self.new }
     {
         if let Some(name) = self.next_in_round()? {
             return Ok(Some(name));
@@ -60,6 +69,7 @@ impl Member {
     fn next_in_round(&mut self) -> Result<Option<MemberName>, AllocError>
         ensures adds { Adds 0 0 0 self.old self.new }
         ensures stays { Stays self.old self.new }
+        ensures goes { GoesOn self.old self.new }
     {
         for _ in 0..self.rounds.len() {
             let Some(name) = self.rounds.next() else {
@@ -82,6 +92,7 @@ impl Member {
     fn begin_round<R: Rng>(&mut self, rng: &mut R) -> Result<(), AllocError>
         ensures adds { Adds 0 0 0 self.old self.new }
         ensures stays { Stays self.old self.new }
+        ensures goes { GoesOn self.old self.new }
     {
         let count = self.view.forget(self.time);
         self.rounds.begin(&self.view, rng);
@@ -95,6 +106,7 @@ impl Member {
     fn probe_member<R: Rng>(&mut self, name: MemberName, rng: &mut R) -> Result<(), AllocError>
         ensures adds { Adds 1 0 0 self.old self.new }
         ensures stays { StaysButProbe self.old self.new }
+        ensures goes { GoesOn self.old self.new }
     {
         let Some(entry) = self.view.get(&name) else {
             return Ok(());
@@ -135,7 +147,10 @@ impl Member {
     }
 
     /// Its own suspicion of a member.
-    fn suspicion_of(&self, name: &MemberName, inc: u32) -> Result<Packet, AllocError> {
+    fn suspicion_of(&self, name: &MemberName, inc: u32) -> Result<Packet, AllocError>
+        ensures { IfOk result (λ packet.
+            packet ≡ packet_of (Suspect name.now inc) self.now.own.name) }
+    {
         let copy = name.name().try_clone(self.alloc)?;
         claims::suspect(self.alloc, copy, inc, self.own.name.name())
     }
@@ -150,6 +165,7 @@ impl Member {
     ) -> Result<(), AllocError>
         ensures adds { Adds 1 0 0 self.old self.new }
         ensures stays { Stays self.old self.new }
+        ensures goes { GoesOn self.old self.new }
     {
         let warning = encode_packet(self.alloc, packet)?;
         let room = self.room();
@@ -169,6 +185,9 @@ impl Member {
     pub(crate) fn go_on_probing<R: Rng>(&mut self, rng: &mut R) -> Result<(), AllocError>
         ensures adds { Adds self.old.settings.indirect_checks 1 0 self.old self.new }
         ensures stays { StaysButProbe self.old self.new }
+        ensures goes { (told : List Said)
+            → ((said : Said) → IsUnanswered self.old.time self.old said → Contains told said)
+            → GoesBy told self.old self.new }
     {
         let Some(probe) = &mut self.probe else {
             return Ok(());
@@ -189,6 +208,7 @@ impl Member {
     fn ask_others<R: Rng>(&mut self, rng: &mut R) -> Result<(), AllocError>
         ensures adds { Adds self.old.settings.indirect_checks 1 0 self.old self.new }
         ensures stays { StaysButProbe self.old self.new }
+        ensures goes { GoesOn self.old self.new }
     {
         let Some(probe) = &self.probe else {
             return Ok(());
@@ -224,6 +244,7 @@ impl Member {
     ) -> Result<(), AllocError>
         ensures adds { Adds 1 0 0 self.old self.new }
         ensures stays { StaysButProbe self.old self.new }
+        ensures goes { GoesOn self.old self.new }
     {
         let Some(entry) = self.view.get(peer) else {
             return Ok(());
@@ -297,6 +318,7 @@ impl Member {
     ) -> Result<(), AllocError>
         ensures adds { Adds 0 1 0 self.old self.new }
         ensures stays { StaysButProbe self.old self.new }
+        ensures goes { GoesOn self.old self.new }
     {
         let message = self.ping(seq, name.name().bytes())?;
         let due = match &self.probe {
@@ -316,6 +338,9 @@ impl Member {
         ensures answered { HasNoProbe seq self.new }
         ensures keeps { KeepsAnswered self.old self.new }
         ensures stays { StaysButProbe self.old self.new }
+        ensures goes { GoesOn self.old self.new }
+        ensures unanswered { KeepsUnanswered self.old self.new }
+        ensures lines { KeepsLines self.old self.new }
     {
         let Some(probe) = &self.probe else {
             return Ok(());
@@ -337,6 +362,7 @@ impl Member {
         ensures adds { Adds 0 0 0 self.old self.new }
         ensures keeps { KeepsAnswered self.old self.new }
         ensures stays { StaysButProbe self.old self.new }
+        ensures goes { GoesOn self.old self.new }
     {
         if let Some(probe) = &mut self.probe {
             probe.take_nack(seq);
@@ -348,6 +374,9 @@ impl Member {
         requires over { IfSome self.old.probe (λ probe. probe.due ≤ self.old.time) }
         ensures adds { Adds 0 0 0 self.old self.new }
         ensures stays { StaysButProbe self.old self.new }
+        ensures goes { (told : List Said)
+            → ((said : Said) → IsUnanswered self.old.time self.old said → Contains told said)
+            → GoesBy told self.old self.new }
     {
         let Some(probe) = self.probe.take() else {
             return Ok(());
@@ -362,6 +391,7 @@ impl Member {
     fn show_unanswered(&mut self, probe: &Probe) -> Result<(), AllocError>
         ensures adds { Adds 0 0 0 self.old self.new }
         ensures stays { Stays self.old self.new }
+        ensures goes { GoesOn self.old self.new }
     {
         if let Some(conn) = probe.conn {
             self.hang_up(conn)?;

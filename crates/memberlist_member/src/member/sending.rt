@@ -4,6 +4,7 @@ ghost use Rattle.std.specs.Prelude.{◌<◌, ◌≤◌, IfOk, length};
 ghost use Rattle.std.specs.List.{All};
 ghost use Rattle.memberlist_member.specs.Covers.{IsSentWith};
 ghost use Rattle.memberlist_member.specs.Staying.{Adds, Stays};
+ghost use Rattle.memberlist_member.specs.Showing.{KeepsLines, GoesOn};
 
 use crate::compound::datagram;
 use crate::member::Member;
@@ -39,6 +40,8 @@ impl Member {
     ) -> Result<(), AllocError>
         ensures adds { Adds 1 0 0 self.old self.new }
         ensures stays { Stays self.old self.new }
+        ensures goes { GoesOn self.old self.new }
+        ensures lines { KeepsLines self.old self.new }
     {
         let room = self.room();
         if room < message.len() {
@@ -59,6 +62,8 @@ impl Member {
         ensures short { IfOk result (λ news. All (λ p. length p.items ≤ room) news.items) }
         ensures adds { Adds 0 0 0 self.old self.new }
         ensures stays { Stays self.old self.new }
+        ensures goes { GoesOn self.old self.new }
+        ensures lines { KeepsLines self.old self.new }
     {
         let limit = retransmit_limit(self.config().retransmit_mult, self.members());
         let mut news = self.claims.take(self.alloc, PART, room, MAX_PARTS, limit)?;
@@ -80,6 +85,8 @@ impl Member {
         requires short { All (λ p. length p.items < 65536) parts.items }
         ensures adds { Adds 1 0 0 self.old self.new }
         ensures stays { Stays self.old self.new }
+        ensures goes { GoesOn self.old self.new }
+        ensures lines { KeepsLines self.old self.new }
     {
         let message = self.compressed(datagram(self.alloc, parts)?)?;
         if self.room() < message.len() {

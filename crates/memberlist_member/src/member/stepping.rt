@@ -2,8 +2,9 @@
 
 ghost use Rattle.std.specs.Prelude.{◌≡◌, ◌≤◌, OnOk, if◌then◌else◌, max};
 ghost use Rattle.memberlist_member.specs.Staying.{Adds, Stays};
-ghost use Rattle.memberlist_member.specs.Steps.{Does, PutsAtMost};
+ghost use Rattle.memberlist_member.specs.Steps.{Does, PutsAtMost, Shows};
 ghost use Rattle.memberlist_member.specs.Traffic.{is_datagram, is_dial, is_write};
+ghost use Rattle.memberlist_member.specs.Showing.{KeepsLines, GoesOn};
 
 use crate::fault::StepFault;
 use crate::input::Input;
@@ -25,6 +26,7 @@ impl Member {
             × (self.new.own.name ≡ self.old.own.name) × (self.old.own.inc ≤ self.new.own.inc) }
         ensures puts { PutsAtMost input.entry self.old self.new }
         ensures does { OnOk result (Does input.entry self.old self.new) }
+        ensures shows { Shows input.entry self.old self.new }
     {
         self.time = self.time.max(now);
         match input {
@@ -48,6 +50,9 @@ impl Member {
         ensures adds { Adds (if is_datagram output then 1 else 0) (if is_dial output then 1 else 0)
             (if is_write output then 1 else 0) self.old self.new }
         ensures stays { Stays self.old self.new }
+        ensures goes { GoesOn self.old self.new }
+        ensures own { self.new.own ≡ self.old.own }
+        ensures lines { KeepsLines self.old self.new }
     {
         self.out.push(output)
     }
@@ -56,6 +61,8 @@ impl Member {
     pub(crate) fn next_seq(&mut self) -> u32
         ensures adds { Adds 0 0 0 self.old self.new }
         ensures stays { Stays self.old self.new }
+        ensures goes { GoesOn self.old self.new }
+        ensures lines { KeepsLines self.old self.new }
     {
         self.seq = self.seq.wrapping_add(1);
         self.seq

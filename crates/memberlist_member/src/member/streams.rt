@@ -1,6 +1,14 @@
 //! What goes over connections.
 
+ghost use Rattle.std.specs.Prelude.{ℕ, IfOk, List};
+ghost use Rattle.memberlist_member.specs.Reading.{IsRead};
+ghost use Rattle.std.specs.List.{All, Contains};
 ghost use Rattle.memberlist_member.specs.Staying.{Adds, Stays, StaysButProbe};
+ghost use Rattle.memberlist_member.specs.Showing.{GoesBy, GoesByBytes, GoesByLine, GoesByLines};
+ghost use Rattle.memberlist_member.specs.Showing.{GoesByTable, GoesOn, GrowsLine, KeepsLines};
+ghost use Rattle.memberlist_member.specs.Showing.{KeepsUnanswered};
+ghost use Rattle.memberlist_member.specs.Saying.{said_in_table};
+ghost use Rattle.memberlist_view.specs.declared.heard.Said.{Said};
 
 use crate::claims;
 use crate::config::micros;
@@ -8,7 +16,7 @@ use crate::connections::{Connection, MAX_CONNECTIONS, Purpose};
 use crate::cover::Opened;
 use crate::member::Member;
 use crate::output::Output;
-use memberlist_message::{Message, decode_message};
+use memberlist_message::{Message, Ping, decode_message};
 use memberlist_view::{Entry, Heard, MemberName, Said, State};
 use rand_core::Rng;
 use std::alloc::{AllocError, Global};
@@ -48,6 +56,7 @@ impl Member {
     ) -> Result<Option<u64>, AllocError>
         ensures adds { Adds 0 1 0 self.old self.new }
         ensures stays { Stays self.old self.new }
+        ensures goes { GoesOn self.old self.new }
     {
         if self.connections.is_full() {
             return Ok(None);
@@ -69,6 +78,7 @@ impl Member {
     fn next_conn(&mut self) -> u64
         ensures adds { Adds 0 0 0 self.old self.new }
         ensures stays { Stays self.old self.new }
+        ensures goes { GoesOn self.old self.new }
     {
         self.conn = self.conn.wrapping_add(2);
         self.conn & !1
@@ -78,6 +88,7 @@ impl Member {
     pub(crate) fn take_connection(&mut self, conn: u64) -> Result<(), AllocError>
         ensures adds { Adds 0 0 0 self.old self.new }
         ensures stays { Stays self.old self.new }
+        ensures goes { GoesOn self.old self.new }
     {
         if self.connections.is_full() {
             return self.put(Output::Close { conn });
@@ -91,6 +102,7 @@ impl Member {
     pub(crate) fn write_first(&mut self, conn: u64) -> Result<(), AllocError>
         ensures adds { Adds 0 0 1 self.old self.new }
         ensures stays { Stays self.old self.new }
+        ensures goes { GoesOn self.old self.new }
     {
         let empty = Vec::new(self.alloc);
         let Some(index) = self.connections.index_of(conn) else {
@@ -115,27 +127,42 @@ impl Member {
     ) -> Result<(), AllocError>
         ensures adds { Adds 0 0 1 self.old self.new }
         ensures stays { StaysButProbe self.old self.new }
+        ensures goes { GoesByBytes conn bytes.now self.old self.new }
     {
-        let Some(index) = self.connections.index_of(conn) else {
-            return Ok(());
-        };
-        let Some(connection) = self.connections.list.get_mut(index) else {
-            return Ok(());
-        };
-        if crate::cover::MAX_STREAM < connection.came.len().saturating_add(bytes.len()) {
+        let Some(looks) = self.keep_bytes(conn, bytes)? else {
             self.refuse();
             return self.hang_up(conn);
+        };
+        if !looks {
+            return Ok(());
         }
-        if connection.take(self.time, bytes)? {
-            self.look(conn, rng)?;
+        self.look(conn, rng)
+    }
+
+    /// Keeps bytes that came over a connection, if there is one. Returns whether they are looked at
+    /// now; none if there are too many.
+    fn keep_bytes(&mut self, conn: u64, bytes: &[u8]) -> Result<Option<bool>, AllocError>
+        ensures adds { Adds 0 0 0 self.old self.new }
+        ensures stays { Stays self.old self.new }
+        ensures goes { GoesOn self.old self.new }
+        ensures grows { GrowsLine conn bytes.now self.old self.new }
+    {
+        let Some(index) = self.connections.index_of(conn) else {
+            return Ok(Some(false));
+        };
+        let connection = &mut self.connections.list[index];
+        if crate::cover::MAX_STREAM < connection.came.len().saturating_add(bytes.len()) {
+            return Ok(None);
         }
-        Ok(())
+        Ok(Some(connection.take(self.time, bytes)?))
     }
 
     /// Looks at what came over connections on which no more comes.
     pub(crate) fn look_again<R: Rng>(&mut self, rng: &mut R) -> Result<(), AllocError>
         ensures adds { Adds 0 0 128 self.old self.new }
         ensures stays { StaysButProbe self.old self.new }
+        ensures goes { GoesByLines self.old self.new }
+        ensures unanswered { KeepsUnanswered self.old self.new }
     {
         for _ in 0..MAX_CONNECTIONS {
             let Some(conn) = self.connections.to_look_at(self.time) else {
@@ -154,6 +181,7 @@ impl Member {
     ) -> Result<(), AllocError>
         ensures adds { Adds 0 0 1 self.old self.new }
         ensures stays { StaysButProbe self.old self.new }
+        ensures goes { GoesByLine conn self.old self.new }
     {
         self.look(conn, rng)?;
         let _ = self.connections.remove(conn);
@@ -164,13 +192,14 @@ impl Member {
     fn look<R: Rng>(&mut self, conn: u64, rng: &mut R) -> Result<(), AllocError>
         ensures adds { Adds 0 0 1 self.old self.new }
         ensures stays { StaysButProbe self.old self.new }
+        ensures goes { GoesByLine conn self.old self.new }
+        ensures lines { KeepsLines self.old self.new }
+        ensures unanswered { KeepsUnanswered self.old self.new }
     {
         let Some(index) = self.connections.index_of(conn) else {
             return Ok(());
         };
-        let Some(connection) = self.connections.list.get(index) else {
-            return Ok(());
-        };
+        let connection = &self.connections.list[index];
         if connection.came.is_empty() {
             return Ok(());
         }
@@ -200,6 +229,8 @@ impl Member {
     ) -> Result<(), AllocError>
         ensures adds { Adds 0 0 1 self.old self.new }
         ensures stays { Stays self.old self.new }
+        ensures goes { GoesByTable message.now self.old self.new }
+        ensures lines { KeepsLines self.old self.new }
     {
         match read_stream(self.alloc, message)? {
             Stream::Ended => Ok(()),
@@ -212,26 +243,68 @@ impl Member {
                 join,
                 state,
             } => {
-                if purpose == Purpose::Theirs {
-                    let answer = self.table(join)?;
-                    self.answer(conn, answer, rng)?;
-                }
+                self.answer_table(conn, purpose, join, rng)?;
                 self.hang_up(conn)?;
-                for claim in claims {
-                    self.merge(claim, rng)?;
-                }
-                if state.is_empty() {
-                    return Ok(());
-                }
-                self.put(Output::UserState { bytes: state, join })
+                self.merge_all(claims, rng)?;
+                self.show_state(state, join)
             }
         }
+    }
+
+    /// Merges the records of another member's table.
+    fn merge_all<R: Rng>(&mut self, claims: Vec<Claim>, rng: &mut R) -> Result<(), AllocError>
+        ensures adds { Adds 0 0 0 self.old self.new }
+        ensures stays { Stays self.old self.new }
+        ensures goes { (told : List Said)
+            → All (λ each. Contains told (said_in_table self.old.own.name each)) claims.items
+            → GoesBy told self.old self.new }
+        ensures lines { KeepsLines self.old self.new }
+    {
+        for claim in claims {
+            self.merge(claim, rng)?;
+        }
+        Ok(())
+    }
+
+    /// Puts out another program's state, if there is one.
+    fn show_state(&mut self, bytes: Vec<u8>, join: bool) -> Result<(), AllocError>
+        ensures adds { Adds 0 0 0 self.old self.new }
+        ensures stays { Stays self.old self.new }
+        ensures goes { GoesOn self.old self.new }
+        ensures lines { KeepsLines self.old self.new }
+    {
+        if bytes.is_empty() {
+            return Ok(());
+        }
+        self.put(Output::UserState { bytes, join })
+    }
+
+    /// Answers a table with its own, unless it asked for that table.
+    fn answer_table<R: Rng>(
+        &mut self,
+        conn: u64,
+        purpose: Purpose,
+        join: bool,
+        rng: &mut R,
+    ) -> Result<(), AllocError>
+        ensures adds { Adds 0 0 1 self.old self.new }
+        ensures stays { Stays self.old self.new }
+        ensures goes { GoesOn self.old self.new }
+        ensures lines { KeepsLines self.old self.new }
+    {
+        if purpose != Purpose::Theirs {
+            return Ok(());
+        }
+        let answer = self.table(join)?;
+        self.answer(conn, answer, rng)
     }
 
     /// Writes an answer to a connection.
     fn answer<R: Rng>(&mut self, conn: u64, message: Vec<u8>, rng: &mut R) -> Result<(), AllocError>
         ensures adds { Adds 0 0 1 self.old self.new }
         ensures stays { Stays self.old self.new }
+        ensures goes { GoesOn self.old self.new }
+        ensures lines { KeepsLines self.old self.new }
     {
         match self
             .cover
@@ -252,22 +325,13 @@ impl Member {
     ) -> Result<(), AllocError>
         ensures adds { Adds 0 0 1 self.old self.new }
         ensures stays { StaysButProbe self.old self.new }
+        ensures goes { GoesOn self.old self.new }
+        ensures unanswered { KeepsUnanswered self.old self.new }
+        ensures lines { KeepsLines self.old self.new }
     {
         match decode_message(self.alloc, message) {
-            Ok(Message::Ping(ping)) => {
-                if purpose == Purpose::Theirs && self.is_own(&ping.node) {
-                    let ack = self.ack(ping.seq_no)?;
-                    self.answer(conn, ack, rng)?;
-                }
-                self.hang_up(conn)
-            }
-            Ok(Message::Ack(ack)) => {
-                self.hang_up(conn)?;
-                if purpose == (Purpose::Ping { seq: ack.seq_no }) {
-                    self.answer_probe(ack.seq_no)?;
-                }
-                Ok(())
-            }
+            Ok(Message::Ping(ping)) => self.answer_stream_ping(conn, purpose, &ping, rng),
+            Ok(Message::Ack(ack)) => self.take_stream_ack(conn, purpose, ack.seq_no),
             Ok(_) => self.hang_up(conn),
             Err(WireFault::Memory) => Err(AllocError),
             Err(WireFault::Ended) => Ok(()),
@@ -278,10 +342,48 @@ impl Member {
         }
     }
 
+    /// Answers a ping that is for this member, and closes the connection.
+    fn answer_stream_ping<R: Rng>(
+        &mut self,
+        conn: u64,
+        purpose: Purpose,
+        ping: &Ping,
+        rng: &mut R,
+    ) -> Result<(), AllocError>
+        ensures adds { Adds 0 0 1 self.old self.new }
+        ensures stays { Stays self.old self.new }
+        ensures goes { GoesOn self.old self.new }
+        ensures lines { KeepsLines self.old self.new }
+    {
+        if purpose != Purpose::Theirs || !self.is_own(&ping.node) {
+            return self.hang_up(conn);
+        }
+        let ack = self.ack(ping.seq_no)?;
+        self.answer(conn, ack, rng)?;
+        self.hang_up(conn)
+    }
+
+    /// Takes in an ack that came over a connection, if that is a ping's with its number.
+    fn take_stream_ack(&mut self, conn: u64, purpose: Purpose, seq: u32) -> Result<(), AllocError>
+        ensures adds { Adds 0 0 0 self.old self.new }
+        ensures stays { StaysButProbe self.old self.new }
+        ensures goes { GoesOn self.old self.new }
+        ensures unanswered { KeepsUnanswered self.old self.new }
+        ensures lines { KeepsLines self.old self.new }
+    {
+        self.hang_up(conn)?;
+        if purpose != (Purpose::Ping { seq }) {
+            return Ok(());
+        }
+        self.answer_probe(seq)
+    }
+
     /// Closes a connection.
     pub(crate) fn hang_up(&mut self, conn: u64) -> Result<(), AllocError>
         ensures adds { Adds 0 0 0 self.old self.new }
         ensures stays { Stays self.old self.new }
+        ensures goes { GoesOn self.old self.new }
+        ensures lines { KeepsLines self.old self.new }
     {
         match self.connections.remove(conn) {
             Some(_) => self.put(Output::Close { conn }),
@@ -294,18 +396,11 @@ impl Member {
     fn merge<R: Rng>(&mut self, claim: Claim, rng: &mut R) -> Result<(), AllocError>
         ensures adds { Adds 0 0 0 self.old self.new }
         ensures stays { Stays self.old self.new }
+        ensures goes { (told : List Said) → Contains told (said_in_table self.old.own.name claim)
+            → GoesBy told self.old self.new }
+        ensures lines { KeepsLines self.old self.new }
     {
-        let alloc = self.alloc;
-        let packet = match claim {
-            Claim::Alive { name, inc, details } => claims::alive(alloc, name, inc, details),
-            Claim::Suspect { name, inc } | Claim::Confirm { name, inc } => {
-                claims::suspect(alloc, name, inc, self.own.name.name())?
-            }
-            Claim::Leave { name, inc } => {
-                let by = name.try_clone(alloc)?;
-                claims::dead(alloc, name, inc, &by)?
-            }
-        };
+        let packet = claims::merged(self.alloc, claim, self.own.name.name())?;
         self.hear(&packet, false, rng)
     }
 
@@ -399,7 +494,9 @@ fn write_entry(out: &mut Vec<u8>, name: &MemberName, entry: &Entry) -> Result<bo
 }
 
 /// Reads a table.
-fn read_stream(alloc: Global, bytes: &[u8]) -> Result<Stream, AllocError> {
+fn read_stream(alloc: Global, bytes: &[u8]) -> Result<Stream, AllocError>
+    ensures { IfOk result (λ stream. IsRead stream bytes.now) }
+{
     let mut inlet = SliceInlet::new(bytes);
     let header = match read_header(&mut inlet) {
         Ok(header) => header,
@@ -423,7 +520,9 @@ fn read_stream(alloc: Global, bytes: &[u8]) -> Result<Stream, AllocError> {
 }
 
 /// What a fault says of a table.
-fn why(fault: WireFault) -> Result<Stream, AllocError> {
+fn why(fault: WireFault) -> Result<Stream, AllocError>
+    ensures { (bytes : List ℕ) → IfOk result (λ stream. IsRead stream bytes) }
+{
     match fault {
         WireFault::Memory => Err(AllocError),
         WireFault::Ended => Ok(Stream::Ended),

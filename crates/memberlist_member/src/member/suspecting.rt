@@ -4,11 +4,12 @@ ghost use Rattle.std.specs.Prelude.{◌≡◌};
 ghost use Rattle.std.specs.List.{Any};
 ghost use Rattle.memberlist_member.specs.Suspects.{IsOver};
 ghost use Rattle.memberlist_member.specs.Staying.{Adds, Stays};
+ghost use Rattle.memberlist_member.specs.Showing.{GoesOn};
 
 use crate::claims;
 use crate::member::Member;
 use crate::member::hearing::copy_of;
-use memberlist_view::MemberName;
+use memberlist_view::{MemberName, State};
 use rand_core::Rng;
 use std::alloc::AllocError;
 
@@ -17,6 +18,7 @@ impl Member {
     pub(crate) fn end_suspicions<R: Rng>(&mut self, rng: &mut R) -> Result<(), AllocError>
         ensures adds { Adds 0 0 0 self.old self.new }
         ensures stays { Stays self.old self.new }
+        ensures goes { GoesOn self.old self.new }
     {
         for _ in 0..self.suspicions.len() {
             let Some(name) = self.suspicions.first_due(&self.view, self.time) else {
@@ -35,8 +37,12 @@ impl Member {
             × IsOver self.old.view self.old.time suspect) self.old.suspicions.list.items }
         ensures adds { Adds 0 0 0 self.old self.new }
         ensures stays { Stays self.old self.new }
+        ensures goes { GoesOn self.old self.new }
     {
         let Some(entry) = self.view.get(name) else {
+            return Ok(());
+        };
+        let State::Suspect { .. } = &entry.state else {
             return Ok(());
         };
         let inc = entry.inc;

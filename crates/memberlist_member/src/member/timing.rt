@@ -1,8 +1,13 @@
 //! What the member does when its time has come.
 
-ghost use Rattle.std.specs.Prelude.{◌≡◌, ◌+◌, ◌||◌, OnOk};
+ghost use Rattle.std.specs.Prelude.{◌≡◌, ◌+◌, ◌||◌, List, OnOk, length};
+ghost use Rattle.std.specs.List.{Contains};
 ghost use Rattle.memberlist_member.specs.Steps.{IsLater, IsOnTime, TicksAtMost};
-ghost use Rattle.memberlist_member.specs.Staying.{Adds, Stays, StaysButTimes, unless_silent};
+ghost use Rattle.memberlist_member.specs.Staying.{Adds, Stays, StaysButProbe, StaysButTimes};
+ghost use Rattle.memberlist_member.specs.Staying.{unless_silent};
+ghost use Rattle.memberlist_member.specs.Showing.{GoesBy, GoesByLines, GoesByTime, GoesOn};
+ghost use Rattle.memberlist_member.specs.Showing.{IsUnanswered, KeepsUnanswered};
+ghost use Rattle.memberlist_view.specs.declared.heard.Said.{Said};
 
 use crate::config::micros;
 use crate::connections::Purpose;
@@ -57,13 +62,48 @@ impl Member {
         ensures adds { TicksAtMost self.old self.new }
         ensures stays { StaysButTimes self.old self.new }
         ensures on_time { OnOk result (IsOnTime self.new) }
+        ensures goes { GoesByTime self.old self.new }
+    {
+        self.look_around(rng)?;
+        self.go_on_accusing(rng)?;
+        self.act_in_time(rng)
+    }
+
+    /// Tells those who asked that no answer came, and looks at what came over connections.
+    fn look_around<R: Rng>(&mut self, rng: &mut R) -> Result<(), AllocError>
+        ensures adds { Adds (length self.old.relays.waiting.items) 0 128 self.old self.new }
+        ensures stays { StaysButProbe self.old self.new }
+        ensures goes { GoesByLines self.old self.new }
+        ensures unanswered { KeepsUnanswered self.old self.new }
     {
         self.end_relays(rng)?;
-        self.look_again(rng)?;
-        if !self.config().is_silent {
-            self.go_on_probing(rng)?;
-            self.end_suspicions(rng)?;
+        self.look_again(rng)
+    }
+
+    /// Goes on with its probe, and with those that are suspected; a silent member accuses nobody.
+    fn go_on_accusing<R: Rng>(&mut self, rng: &mut R) -> Result<(), AllocError>
+        ensures adds { Adds (unless_silent self.old.settings self.old.settings.indirect_checks)
+            (unless_silent self.old.settings 1) 0 self.old self.new }
+        ensures stays { StaysButProbe self.old self.new }
+        ensures goes { (told : List Said)
+            → ((said : Said) → IsUnanswered self.old.time self.old said → Contains told said)
+            → GoesBy told self.old self.new }
+    {
+        if self.config().is_silent {
+            return Ok(());
         }
+        self.go_on_probing(rng)?;
+        self.end_suspicions(rng)
+    }
+
+    /// Does what is done at regular times.
+    fn act_in_time<R: Rng>(&mut self, rng: &mut R) -> Result<(), AllocError>
+        ensures adds { Adds (unless_silent self.old.settings (1 + self.old.settings.gossip_nodes))
+            (1 + unless_silent self.old.settings 2) 0 self.old self.new }
+        ensures stays { StaysButTimes self.old self.new }
+        ensures on_time { OnOk result (IsOnTime self.new) }
+        ensures goes { GoesOn self.old self.new }
+    {
         self.probe_in_time(rng)?;
         self.gossip_in_time(rng)?;
         self.exchange_in_time(rng)?;
@@ -78,6 +118,7 @@ impl Member {
         ensures stays { StaysButTimes self.old self.new }
         ensures times { self.new.times ≡ record self.old.times { probe = self.new.times.probe } }
         ensures later { IsLater self.new.time self.new.times.probe }
+        ensures goes { GoesOn self.old self.new }
     {
         if self.time < self.times.probe {
             return Ok(());
@@ -91,6 +132,7 @@ impl Member {
         ensures stays { StaysButTimes self.old self.new }
         ensures times { self.new.times ≡ record self.old.times { gossip = self.new.times.gossip } }
         ensures later { IsLater self.new.time self.new.times.gossip }
+        ensures goes { GoesOn self.old self.new }
     {
         if self.time < self.times.gossip {
             return Ok(());
@@ -105,6 +147,7 @@ impl Member {
         ensures stays { StaysButTimes self.old self.new }
         ensures times { self.new.times ≡ record self.old.times { push_pull = self.new.times.push_pull } }
         ensures later { IsLater self.new.time self.new.times.push_pull }
+        ensures goes { GoesOn self.old self.new }
     {
         if self.time < self.times.push_pull {
             return Ok(());
@@ -133,6 +176,7 @@ impl Member {
         ensures stays { StaysButTimes self.old self.new }
         ensures times { self.new.times ≡ record self.old.times { reconnect = self.new.times.reconnect } }
         ensures later { IsLater self.new.time self.new.times.reconnect }
+        ensures goes { GoesOn self.old self.new }
     {
         if self.time < self.times.reconnect {
             return Ok(());
@@ -161,6 +205,7 @@ impl Member {
         ensures stays { StaysButTimes self.old self.new }
         ensures times { self.new.times ≡ record self.old.times { seed = self.new.times.seed } }
         ensures later { IsLater self.new.time self.new.times.seed }
+        ensures goes { GoesOn self.old self.new }
     {
         if self.time < self.times.seed {
             return Ok(());
@@ -179,6 +224,7 @@ impl Member {
     fn close_overdue(&mut self) -> Result<(), AllocError>
         ensures adds { Adds 0 0 0 self.old self.new }
         ensures stays { Stays self.old self.new }
+        ensures goes { GoesOn self.old self.new }
     {
         for _ in 0..self.connections.list.len() {
             let Some(conn) = self.connections.overdue(self.time) else {
@@ -198,6 +244,7 @@ impl Member {
     ) -> Result<(), AllocError>
         ensures adds { Adds 0 1 0 self.old self.new }
         ensures stays { Stays self.old self.new }
+        ensures goes { GoesOn self.old self.new }
     {
         let message = self.table(join)?;
         let due = self.time.saturating_add(micros(self.config().tcp_timeout));

@@ -3,7 +3,11 @@ use Rattle.std.proofs.lemmas.List.{length-map}
 use Rattle.std.proofs.lemmas.List.Elements.{All-map}
 use Rattle.std.specs.List.{All}
 use Rattle.memberlist_message.specs.Leaves.{AreLeaves}
-use Rattle.memberlist_member.specs.Steps.{AreMessagesOf, HasMessages, IsHeededAck, IsOutdoneIn}
+use Rattle.memberlist_member.specs.Parts.{AreMessagesOf, HasMessages}
+use Rattle.memberlist_member.specs.Showing.{Tells}
+use Rattle.memberlist_member.specs.Steps.{IsHeededAck, IsOutdoneIn}
+use Rattle.memberlist_member.proofs.Members.{all_unmap}
+use Rattle.memberlist_member.proofs.Showing.{all_said, all_tell, said_by_one}
 use Rattle.memberlist_member.proofs.Heeding.{on_ok}
 use Rattle.memberlist_member.proofs.member.Member.take_datagram.Given as given
 use Rattle.memberlist_member.proofs.member.Member.take_datagram.Goals as goal
@@ -45,3 +49,11 @@ returns-clause-answered g c =
       All-map (IsHeededAck new) (λ p. p.now) c.in_ok-leaves.leaves.parts.items
           (subst (λ ps. All (λ p. IsHeededAck new p.now) ps) c.deref-2.ensures.value all),
     )) c.take_parts.ensures.answered
+
+pub returns-clause-goes : goal.returns-clause-goes
+returns-clause-goes g c =
+    let parts = c.in_ok-leaves.leaves.parts.items in
+    let all = map (λ p. p.now) parts in
+    let told = all_said all in
+    let tells : All (λ p. Tells told p.now) parts = all_unmap (λ p. p.now) (Tells told) parts (all_tell all) in
+    (told, (λ k d less. (all, messages g c, said_by_one all k d less)), c.take_parts.ensures.goes told (subst (λ ps. All (λ p. Tells told p.now) ps) (sym c.deref-2.ensures.value) tells))

@@ -11,6 +11,8 @@ loop-part-preserved g c =
     let (((time, settings, name, rises), details, leaving, seeds), times) = c.take_part.ensures.stays in
     record {
       adds = search rules;
+      goes = λ told all first word before.
+          c.take_part.ensures.goes told (all c.loop-part.part-index _ (search rules)) first word (c.loop-part.invariant.goes told all first word before);
       stays = search rules;
       outdone = one_more (λ p. IsOutdoneIn old.own p.now) (λ p. IsOutdoneIn new.own p.now) c.args.parts.now
           c.loop-part.part-index _ (search rules) (λ p. outdone_later old.own new.own name leaving rises p.now) before.outdone
