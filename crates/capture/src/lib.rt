@@ -72,6 +72,3 @@ pub use reader::CaptureReader;
 pub use record::Record;
 pub use transport::{Datagram, Segment};
 pub use unreachable::Unreachable;
-
-#[cfg(test)]
-mod tests;

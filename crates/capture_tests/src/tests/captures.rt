@@ -1,6 +1,6 @@
 //! Handmade captures, with the bytes that the formats' drafts show.
 
-use crate::{CaptureFault, CaptureReader, Record};
+use capture::{CaptureFault, CaptureReader, Record};
 use std::alloc::{AllocError, Global};
 use std::process::Abort;
 use std::test::Fail;

@@ -1,7 +1,7 @@
 //! Frames of a running Serf agent, as tshark decodes them, refusals of packets by a host, and
 //! frames that carry nothing of interest.
 
-use crate::{Carried, Link, NotCarried, Transport, carried};
+use capture::{Carried, Link, NotCarried, Transport, carried};
 use std::process::Abort;
 
 /// What the frame carries.

@@ -1,6 +1,6 @@
 //! Segments in every order.
 
-use crate::{Ends, Fate, Flow, Flows, Heard, Segment};
+use capture::{Ends, Fate, Flow, Flows, Heard, Segment};
 use std::alloc::Global;
 use std::process::Abort;
 use std::test::Fail;
