@@ -38,8 +38,6 @@ mod pairs;
 mod parts;
 mod passing;
 mod raw;
-#[cfg(test)]
-mod tests;
 
 pub use decode::decode_message;
 pub use encode::{

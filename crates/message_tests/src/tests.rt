@@ -1,4 +1,4 @@
-use crate::{Message, Nack, Parts, decode_message, encode_nack};
+use memberlist_message::{Message, Nack, Parts, decode_message, encode_nack};
 use std::alloc::AllocError;
 use std::test::Fail;
 use swim_wire::WireFault;
