@@ -41,8 +41,6 @@ mod read_state;
 mod signed;
 mod state;
 mod tags;
-#[cfg(test)]
-mod tests;
 mod write;
 mod write_state;
 

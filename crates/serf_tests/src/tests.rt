@@ -1,4 +1,4 @@
-use crate::{
+use serf_message::{
     Coordinate, Join, KeyRequest, KeyResponse, Leave, Message, Query, Relay, SerfFault, State, Tag,
     UserEvent, decode_coordinate, decode_key_request, decode_key_response, decode_message,
     decode_state, decode_tags, encode_coordinate, encode_key_request, encode_key_response,
