@@ -35,8 +35,6 @@ mod pairs;
 mod point;
 mod probe;
 mod probes;
-#[cfg(test)]
-mod tests;
 mod timing;
 
 pub use awareness::{Awareness, Change};

@@ -1,7 +1,7 @@
 //! Probes of one member by another, as two captures have them.
 
-use crate::*;
 use memberlist_message::{Ack, IndirectPing, Message, Nack, Ping};
+use memberlist_probes::*;
 use std::alloc::{AllocError, Global};
 use std::net::{IpAddr, SocketAddr};
 use std::process::Abort;
