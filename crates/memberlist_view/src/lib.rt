@@ -22,8 +22,6 @@ pub mod laws;
 mod member_name;
 mod prefix;
 mod rivals;
-#[cfg(test)]
-mod tests;
 mod view;
 
 pub use accusers::Accusers;

@@ -1,7 +1,7 @@
 //! The events of one member: from captures of real clusters of Serf, whose `serf members` printed
 //! what is shown in the end, and for the rules of memberlist's `state.go` that no capture shows.
 
-use crate::*;
+use memberlist_view::*;
 use std::alloc::{AllocError, Global};
 use std::process::Abort;
 use std::test::Fail;
