@@ -31,6 +31,3 @@ pub use reply::open_reply;
 pub use stream::open_stream;
 pub use unwrapped::unwrap_packet;
 pub use unwrapped_stream::unwrap_reply;
-
-#[cfg(test)]
-mod tests;

@@ -1,9 +1,9 @@
 //! Packets and streams as memberlist sends them, made with Go's hash/crc32, compress/lzw,
 //! crypto/aes and crypto/cipher.
 
-use crate::*;
 use memberlist_cipher::CipherFault;
 use memberlist_keyring::Keyring;
+use memberlist_transport::*;
 use memberlist_wrap::WrapFault;
 use std::alloc::Global;
 use std::process::Abort;
