@@ -30,6 +30,3 @@ pub use fault::KeyFileFault;
 pub use keyring::Keyring;
 pub use label::behind_label;
 pub use secret::{Secret, overwrite};
-
-#[cfg(test)]
-mod tests;

@@ -4,8 +4,8 @@ use super::packets::{
     LABELLED, LABELLED_STREAMS, LONG, LONG_MESSAGE, MESSAGE, PACKETS, STREAMS, UNPADDED,
 };
 use super::{KEY, OTHER, keyring};
-use crate::Keyring;
 use memberlist_cipher::CipherFault;
+use memberlist_keyring::Keyring;
 use std::alloc::{AllocError, Global};
 use std::process::Abort;
 use std::test::Fail;

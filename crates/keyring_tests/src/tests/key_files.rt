@@ -3,8 +3,8 @@
 use super::opening::assert_opens_all;
 use super::packets::PACKETS;
 use super::{KEY, KEY_24, KEY_32, OTHER, keyring};
-use crate::{KeyFileFault, Keyring};
 use memberlist_cipher::CipherFault;
+use memberlist_keyring::{KeyFileFault, Keyring};
 use std::alloc::{AllocError, Global};
 use std::process::Abort;
 use std::test::Fail;

@@ -3,8 +3,8 @@
 
 use super::packets::{LABELLED, LABELLED_STREAMS, MESSAGE, PACKETS, REPLY, STREAMS};
 use super::{KEY, KEY_32, OTHER, keyring};
-use crate::Keyring;
 use memberlist_cipher::CipherFault;
+use memberlist_keyring::Keyring;
 use std::alloc::Global;
 use std::process::Abort;
 use std::test::Fail;

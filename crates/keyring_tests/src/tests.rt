@@ -7,7 +7,7 @@ mod opening;
 mod packets;
 mod secrets;
 
-use crate::Keyring;
+use memberlist_keyring::Keyring;
 use std::alloc::Global;
 use std::test::Fail;
 

@@ -1,6 +1,6 @@
 //! Secrets that grow, and what is left of them.
 
-use crate::{Secret, overwrite};
+use memberlist_keyring::{Secret, overwrite};
 use std::alloc::AllocError;
 use std::test::Fail;
 
