@@ -25,6 +25,3 @@ pub use crc::crc32;
 pub use fault::WrapFault;
 pub use lzw::lzw_decode;
 pub use wrappers::{MAX_DEPTH, unwrap, unwrap_in_place};
-
-#[cfg(test)]
-mod tests;

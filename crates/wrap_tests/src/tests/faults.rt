@@ -1,7 +1,7 @@
 //! Faults by their numbers and texts.
 
 use super::{BANANA, refusal};
-use crate::WrapFault;
+use memberlist_wrap::WrapFault;
 use std::test::Fail;
 
 #[test]

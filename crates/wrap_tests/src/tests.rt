@@ -3,7 +3,7 @@
 mod compressions;
 mod faults;
 
-use crate::{WrapFault, unwrap, unwrap_in_place};
+use memberlist_wrap::{WrapFault, unwrap, unwrap_in_place};
 use std::alloc::Global;
 use std::process::Abort;
 use std::test::Fail;

@@ -1,7 +1,7 @@
 //! Checksums and compressed bytes, as in Go's hash/crc32 and compress/lzw.
 
 use super::BANANA;
-use crate::{WrapFault, crc32, lzw_decode, unwrap};
+use memberlist_wrap::{WrapFault, crc32, lzw_decode, unwrap};
 use std::alloc::{AllocError, Global};
 use std::test::Fail;
 
