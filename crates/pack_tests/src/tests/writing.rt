@@ -2,13 +2,13 @@
 
 use crate::tests::reading::{Kind, read};
 use crate::tests::{assert_answer, assert_bytes};
-use crate::{
-    PackFault, SliceInlet, put_bool, put_map_len, put_raw, put_uint, raw_len, read_raw, uint_len,
-    write_bool, write_map_len, write_raw, write_uint,
-};
 use std::alloc::{AllocError, Global};
 use std::process::Abort;
 use std::test::Fail;
+use swim_pack::{
+    PackFault, SliceInlet, put_bool, put_map_len, put_raw, put_uint, raw_len, read_raw, uint_len,
+    write_bool, write_map_len, write_raw, write_uint,
+};
 
 #[derive(Clone, Copy)]
 enum Value<'a> {

@@ -5,15 +5,15 @@
 
 use crate::tests::fakes::Pieces;
 use crate::tests::{answer, assert_answer, assert_bytes};
-use crate::{
+use std::alloc::Global;
+use std::process::Abort;
+use swim_pack::{
     FromRead, Inlet, PackFault, SliceInlet, StopInlet, read_bool, read_key, read_map_len, read_raw,
     read_uint,
 };
-use std::alloc::Global;
-use std::process::Abort;
 
 #[derive(Clone, Copy)]
-pub enum Kind {
+pub(crate) enum Kind {
     Number,
     Truth,
     Pairs,
@@ -42,7 +42,7 @@ fn key<I: Inlet>(inlet: &mut I) -> Result<u64, PackFault> {
 
 /// Reads a value of this kind, of at most `max` if it is a number or a count. Returns the number of
 /// the fault, and the value.
-pub fn read<I: Inlet>(kind: Kind, inlet: &mut I, max: u64) -> (u32, u64) {
+pub(crate) fn read<I: Inlet>(kind: Kind, inlet: &mut I, max: u64) -> (u32, u64) {
     answer(match kind {
         Kind::Number => read_uint(inlet, max),
         Kind::Truth => truth(inlet),

@@ -1,11 +1,11 @@
 //! The numbers and texts of the faults.
 
 use crate::tests::{assert_answer, assert_bytes};
-use crate::{PackFault, PullFault, PushFault};
 use std::alloc::{AllocError, Global};
 use std::fmt::Display;
 use std::process::Abort;
 use std::test::Fail;
+use swim_pack::{PackFault, PullFault, PushFault};
 
 fn assert_number(rt: &impl Abort, number: u32, wanted: u32) {
     assert_answer(rt, (number, 0), (wanted, 0), b"");

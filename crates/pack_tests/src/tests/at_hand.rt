@@ -2,8 +2,8 @@
 
 use crate::tests::fakes::Pieces;
 use crate::tests::{assert_answer, assert_bytes, assert_pull};
-use crate::{FromRead, Inlet, SliceInlet, StopInlet, bool_at_hand, raw_at_hand, uint_at_hand};
 use std::process::Abort;
+use swim_pack::{FromRead, Inlet, SliceInlet, StopInlet, bool_at_hand, raw_at_hand, uint_at_hand};
 
 /// Asserts that a value is found before an exclamation mark, or none, which counts as fault 1.
 fn assert_found(rt: &impl Abort, bytes: &[u8], found: Option<(u64, &[u8])>, wanted: (u32, u64)) {

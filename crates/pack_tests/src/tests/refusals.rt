@@ -2,9 +2,9 @@
 
 use crate::tests::reading::{Kind, read};
 use crate::tests::{assert_answer, assert_bytes};
-use crate::{SliceInlet, read_raw};
 use std::alloc::Global;
 use std::process::Abort;
+use swim_pack::{SliceInlet, read_raw};
 
 /// Asserts that the bytes are refused with this fault, and what is left after them.
 fn assert_left(rt: &impl Abort, kind: Kind, bytes: &[u8], max: u64, fault: u32, rest: &[u8]) {

@@ -1,10 +1,10 @@
 //! Long values, for which there is memory.
 
 use crate::tests::{assert_answer, assert_bytes};
-use crate::{PackFault, SliceInlet, read_raw, write_raw};
 use std::alloc::{AllocError, Global};
 use std::process::Abort;
 use std::test::Fail;
+use swim_pack::{PackFault, SliceInlet, read_raw, write_raw};
 
 const BYTES: [u8; 60_000] = [7; 60_000];
 

@@ -5,9 +5,9 @@
 
 use crate::tests::fakes::{BROKEN, Pieces};
 use crate::tests::{assert_answer, assert_bytes, assert_pull, assert_pulls, pull_number};
-use crate::{FromRead, Inlet, SliceInlet, StopInlet};
 use std::io::ErrorKind;
 use std::process::Abort;
+use swim_pack::{FromRead, Inlet, SliceInlet, StopInlet};
 
 #[test]
 fn bytes_in_memory_come_in_order_and_then_end(rt: HostRuntime) {

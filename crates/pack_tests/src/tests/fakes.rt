@@ -4,7 +4,7 @@ use std::io;
 use std::io::{Error, ErrorKind, Read, Write};
 
 /// Every kind of error except an interruption, the only one that is retried.
-pub const BROKEN: [ErrorKind; 41] = [
+pub(crate) const BROKEN: [ErrorKind; 41] = [
     ErrorKind::NotFound,
     ErrorKind::PermissionDenied,
     ErrorKind::ConnectionRefused,
@@ -51,19 +51,19 @@ pub const BROKEN: [ErrorKind; 41] = [
 /// Returns its bytes, at most `most` in each read. The first read is interrupted `interruptions`
 /// times before, and each further read `again` times.
 #[derive(Drop)]
-pub struct Pieces<'a> {
-    pub bytes: &'a [u8],
-    pub most: usize,
-    pub interruptions: u32,
-    pub again: u32,
+pub(crate) struct Pieces<'a> {
+    pub(crate) bytes: &'a [u8],
+    pub(crate) most: usize,
+    pub(crate) interruptions: u32,
+    pub(crate) again: u32,
     /// After its bytes it fails with this error, and does not end.
-    pub fails: Option<ErrorKind>,
+    pub(crate) fails: Option<ErrorKind>,
     /// How often it was read.
-    pub reads: u32,
+    pub(crate) reads: u32,
 }
 
 impl<'a> Pieces<'a> {
-    pub fn new(bytes: &'a [u8], most: usize) -> Pieces<'a> {
+    pub(crate) fn new(bytes: &'a [u8], most: usize) -> Pieces<'a> {
         Pieces {
             bytes,
             most,
@@ -76,13 +76,13 @@ impl<'a> Pieces<'a> {
 
     /// One byte in each read, after `interruptions` interruptions, and `again` before each further
     /// one.
-    pub fn interrupted(bytes: &'a [u8], interruptions: u32, again: u32) -> Pieces<'a> {
+    pub(crate) fn interrupted(bytes: &'a [u8], interruptions: u32, again: u32) -> Pieces<'a> {
         let mut pieces = Pieces::new(bytes, 1);
         (pieces.interruptions, pieces.again) = (interruptions, again);
         pieces
     }
 
-    pub fn failing(bytes: &'a [u8], most: usize, kind: ErrorKind) -> Pieces<'a> {
+    pub(crate) fn failing(bytes: &'a [u8], most: usize, kind: ErrorKind) -> Pieces<'a> {
         let mut pieces = Pieces::new(bytes, most);
         pieces.fails = Some(kind);
         pieces
@@ -110,7 +110,7 @@ impl Read for Pieces<'_> {
 
 /// What the write does that a `Taker` refuses.
 #[derive(Clone, Copy)]
-pub enum Refusal {
+pub(crate) enum Refusal {
     Nothing,
     Error(ErrorKind),
 }
@@ -118,19 +118,19 @@ pub enum Refusal {
 /// Takes up to 8 bytes, at most `most` in each write. The first write is interrupted
 /// `interruptions` times before, and each further write `again` times.
 #[derive(Drop)]
-pub struct Taker {
-    pub taken: [u8; 8],
-    pub len: usize,
-    pub most: usize,
-    pub interruptions: u32,
-    pub again: u32,
+pub(crate) struct Taker {
+    pub(crate) taken: [u8; 8],
+    pub(crate) len: usize,
+    pub(crate) most: usize,
+    pub(crate) interruptions: u32,
+    pub(crate) again: u32,
     /// It refuses the write of this number, counted from 1, and takes those after it.
-    pub refuses_at: u32,
-    pub refusal: Refusal,
+    pub(crate) refuses_at: u32,
+    pub(crate) refusal: Refusal,
 }
 
 impl Taker {
-    pub fn new(most: usize) -> Taker {
+    pub(crate) fn new(most: usize) -> Taker {
         Taker {
             taken: [0; 8],
             len: 0,
@@ -143,7 +143,7 @@ impl Taker {
     }
 
     /// One byte in each write, `good` of them, and then this refusal.
-    pub fn refusing(refusal: Refusal, good: u32) -> Taker {
+    pub(crate) fn refusing(refusal: Refusal, good: u32) -> Taker {
         let mut taker = Taker::new(1);
         taker.refuses_at = good.saturating_add(1);
         taker.refusal = refusal;
@@ -152,7 +152,7 @@ impl Taker {
 
     /// One byte in each write, after `interruptions` interruptions, and `again` before each further
     /// one.
-    pub fn interrupted(interruptions: u32, again: u32) -> Taker {
+    pub(crate) fn interrupted(interruptions: u32, again: u32) -> Taker {
         let mut taker = Taker::new(1);
         (taker.interruptions, taker.again) = (interruptions, again);
         taker

@@ -5,9 +5,9 @@
 
 use crate::tests::fakes::{BROKEN, Refusal, Taker};
 use crate::tests::{assert_answer, assert_bytes};
-use crate::{Outlet, PushFault, StopOutlet, ToWrite, VecOutlet, write_whole};
 use std::alloc::Global;
 use std::process::Abort;
+use swim_pack::{Outlet, PushFault, StopOutlet, ToWrite, VecOutlet, write_whole};
 
 fn push_number(pushed: Result<(), PushFault>) -> u32 {
     match pushed {
