@@ -4,10 +4,10 @@
 ghost use Rattle.std.specs.Prelude.{◌≡◌, IfOk};
 ghost use Rattle.swim_claim.specs.Claim.{name_of};
 
-use crate::*;
 use std::alloc::{AllocError, Global};
 use std::cmp::Ordering;
 use std::test::Fail;
+use swim_claim::*;
 
 const IPV4: [u8; 4] = [0x7f, 0, 0, 1];
 
