@@ -17,6 +17,3 @@ mod tiered_vec;
 pub use iter::{IntoIter, Iter};
 pub use place::Place;
 pub use tiered_vec::TieredVec;
-
-#[cfg(test)]
-mod tests;

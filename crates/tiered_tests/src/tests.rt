@@ -3,10 +3,10 @@
 ghost use Rattle.std.specs.Prelude.{◌≡◌, ◌+◌, ◌≤◌, ◌<◌, ◌++◌, ◌∷◌, [], IfOk};
 ghost use Rattle.tiered_vec.specs.Tiers.{items, tail_room};
 
-use crate::*;
 use std::alloc::{AllocError, Global};
 use std::process::Abort;
 use std::test::Fail;
+use tiered_vec::*;
 
 /// Numbers of elements around the size of a block, and one of many blocks.
 const LENGTHS: [u32; 6] = [0, 1, 127, 128, 129, 1000];
