@@ -11,8 +11,6 @@
 mod estimate;
 mod intents;
 pub mod laws;
-#[cfg(test)]
-mod tests;
 
 pub use estimate::round_trip;
 pub use intents::{Intent, Intents, Standing, left_time};

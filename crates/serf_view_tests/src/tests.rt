@@ -1,5 +1,5 @@
-use crate::{Intent, Intents, Standing, left_time, round_trip};
 use serf_message::Coordinate;
+use serf_view::{Intent, Intents, Standing, left_time, round_trip};
 use std::alloc::{AllocError, Global};
 use std::test::Fail;
 
