@@ -12,7 +12,5 @@ mod keyword;
 mod script;
 mod script_line;
 mod script_word;
-#[cfg(test)]
-mod tests;
 
 pub use script::{Plan, read_script};

@@ -1,12 +1,12 @@
 //! The plans that scripts are read as.
 
 use crate::tests::wrong_scripts::REFUSED;
-use crate::{Plan, read_script};
 use std::alloc::Global;
 use std::process::Abort;
 use std::test::Fail;
 use swim_claim::{Claim, Kind};
 use swim_program::{What, report_text, status};
+use swim_script::{Plan, read_script};
 use swim_sync::Event;
 use swim_table::{Node, list};
 
