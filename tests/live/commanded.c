@@ -23,6 +23,7 @@ static ssize_t reads(int file, void *bytes, size_t len);
 enum { MS = SECOND / 1000 }; /* a second in milliseconds */
 static swimtab_keyring keys = SWIMTAB_KEYRING_INIT;
 static swimtab_agent_config own; /* the configuration */
+static unsigned asked;           /* how many lists are printed once all that changed was shown */
 
 static void show(swimtab_view_data m, const char *event) { /* with a ? for each byte that would break the line */
     static const char *const STATES[] = {"alive", "suspect", "dead", "left", "noted"};
@@ -35,10 +36,12 @@ static void show(swimtab_view_data m, const char *event) { /* with a ? for each 
     printf(*event && m.by_len ? " %.*s\n" : "\n", m.by_len, (char *)m.by);
 }
 
-/* Gives what the agent put out, but shows what changed itself. */
+/* Gives what the agent put out, but shows what changed itself, and then the lists that were asked for. */
 static swimtab_status tells(swimtab_agent *of, swimtab_agent_out *out, swimtab_buffer *buffer) {
-    swimtab_view_data m = {0};
+    swimtab_view_data m = {0}, last = m;
     swimtab_status status = swimtab_agent_next(of, out, buffer);
+    for (; status != SWIMTAB_DONE && asked > 0; asked--, last = (swimtab_view_data){0}, puts("."))
+        for (; !swimtab_agent_after(of, last.name, last.name_len, &m); last = m) show(m, "");
     if (status != SWIMTAB_DONE) return status;
     if (out->kind == SWIMTAB_OUT_CHANGED && !swimtab_agent_find(of, out->name, out->name_len, &m))
         show(m, EVENTS[out->event]);
@@ -61,10 +64,7 @@ static ssize_t reads(int file, void *bytes, size_t len_of_bytes) {
     if (!strcmp(word, "use")) swimtab_keyring_use(&keys, i);
     if (!strcmp(word, "remove")) swimtab_keyring_remove(&keys, i);
     if (len > 0) swimtab_agent_keys(&agent, &keys);
-    bool is_list = !strcmp(word, "list");
-    swimtab_view_data m = {0}, last = m;
-    for (; is_list && !swimtab_agent_after(&agent, last.name, last.name_len, &m); last = m) show(m, "");
-    if (is_list) puts(".");
+    asked += !strcmp(word, "list");
     return strcmp(word, "leave") ? 1 : 0;
 }
 

@@ -20,23 +20,16 @@ module _ {X : Type 0} (P : X → Type 0) (test : X → Bool) where
   removed : (xs ys : List X) → All P xs → IsPermutation (without_first test xs) ys → All P ys
   removed xs ys all moved = All-permutation P (without_first test xs) ys moved (all_without xs all)
 
-  added : (xs ys : List X) (x : X) (result : Result ⊤ AllocError) → P x → All P xs
-      → OnOk result (IsPermutation (without_first test xs ++ x ∷ []) ys)
-      → OnErr result (IsPermutation (without_first test xs) ys) → All P ys
-  added xs ys x (Ok done) holds all more fewer =
-      All-permutation P (without_first test xs ++ x ∷ []) ys more
-      (All-append P (without_first test xs) (x ∷ []) (all_without xs all) (All-cons P x [] holds (All-nil P)))
-  added xs ys x (Err error) holds all more fewer = removed xs ys all fewer
-
   -- one was taken out
   pub all_removed : (xs ys : List X) → IsPermutation (without_first test xs) ys → ∥ All P xs ∥₁ → ∥ All P ys ∥₁
   all_removed xs ys moved all = ∥∥₁_map all (λ each. removed xs ys each moved)
 
-  -- and another one was added, if there was memory
-  pub all_added : (xs ys : List X) (x : X) (result : Result ⊤ AllocError) → P x
-      → OnOk result (IsPermutation (without_first test xs ++ x ∷ []) ys)
-      → OnErr result (IsPermutation (without_first test xs) ys) → ∥ All P xs ∥₁ → ∥ All P ys ∥₁
-  all_added xs ys x result holds more fewer all = ∥∥₁_map all (λ each. added xs ys x result holds each more fewer)
+-- another one was added, if there was memory
+pub all_added : {X : Type 0} (P : X → Type 0) (xs ys : List X) (x : X) (result : Result ⊤ AllocError) → P x
+    → OnOk result (ys ≡ xs ++ x ∷ []) → OnErr result (ys ≡ xs) → ∥ All P xs ∥₁ → ∥ All P ys ∥₁
+all_added P xs ys x (Ok done) holds more same all = ∥∥₁_map all (λ each.
+    subst (All P) (sym more) (All-append P xs (x ∷ []) each (All-cons P x [] holds (All-nil P))))
+all_added P xs ys x (Err error) holds more same all = ∥∥₁_map all (λ each. subst (All P) (sym same) each)
 
 pub times_some : (m n : ℕ) → 0 < m → n ≤ m * n
 times_some m n some = let more : 1 * n ≤ m * n = mul-le-mul_right n (let le : 1 ≤ m = omega (arith, some) in le) in omega (arith, more)

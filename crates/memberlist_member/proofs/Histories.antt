@@ -1,23 +1,14 @@
 -- What is shown of a member from step to step.
-use Rattle.std.proofs.Common.{◌≡◌, ℕ, ◌+◌, ◌*◌, ◌-◌, ◌/◌, ◌^◌, ◌<◌, ◌≤◌, max, min, nat_lt, nat_le, Bool, true, false, not, if◌then◌else◌, List, length, Option, Some, None, IfSome, refl, sym, subst, ap, ◌∙◌, arith}
+use Rattle.std.proofs.Common.{◌≡◌, ℕ, ◌+◌, ◌*◌, ◌-◌, ◌/◌, ◌^◌, ◌<◌, ◌≤◌, max, min, nat_lt, nat_le, Bool, true, false, List, length, Option, Some, None, IfSome, refl, sym, subst, ap, ◌∙◌, arith}
 use Rattle.std.proofs.Math.Bool.{Bool-set}
 use Rattle.std.proofs.Math.Logic.{∥∥₁_elim, ∥∥₁_map, ∥∥₁_prop}
 use Rattle.std.proofs.lemmas.Nat.{le-div}
 use Rattle.std.proofs.Math.Nat.{mul-le-mul_left, mul-le-mul_right, mul_right_comm}
 use Rattle.std.specs.List.{All}
-use Rattle.std.proofs.lemmas.Map.Entries.{option_filter}
-use Rattle.std.specs.Ordering.{is_eq}
-use Rattle.std.specs.declared.cmp.Ordering.{Ordering}
-use Rattle.std.specs.declared.cmp.Ordering.TheVariants.{Less, Equal, Greater}
-use Rattle.std.proofs.lemmas.Map.Lookups.{exact_bytes}
-use Rattle.std.specs.Str.{bytes_eq}
 use Rattle.swim_claim.specs.Details.{DetailsValue}
-use Rattle.swim_claim.specs.declared.claim.Claim.TheVariants.{Confirm, Leave}
 use Rattle.memberlist_view.specs.Heard.{about}
-use Rattle.memberlist_view.specs.Member.{is_dropped, is_heeded, member_view_after, view_without_dropped}
-use Rattle.memberlist_view.specs.Rules.{Change, alive, alive_again, alive_at, are_sound_versions, blank, change, change_of_entry, entry_or_blank, has_left, is_forgotten, is_gone, is_passed_over, is_passed_rival, is_same_place, lacks_place, name_cmp, seen_in, suspected, with_versions}
-use Rattle.memberlist_view.specs.Shown.{changed, shown_next}
-use Rattle.memberlist_view.specs.Told.{IsAscending, ViewValue, change_of, entry_of, view_after}
+use Rattle.memberlist_view.specs.Rules.{alive, alive_again, alive_at, are_sound_versions, blank, change_of_entry, entry_or_blank, has_left, is_forgotten, is_gone, is_passed_over, is_passed_rival, is_same_place, lacks_place, seen_in, suspected, with_versions}
+use Rattle.memberlist_view.specs.Told.{IsAscending, ViewValue, entry_of}
 use Rattle.memberlist_view.specs.declared.entry.Entry.{Entry}
 use Rattle.memberlist_view.specs.declared.entry.State.{State}
 use Rattle.memberlist_view.specs.declared.entry.State.TheVariants as state
@@ -26,15 +17,12 @@ use Rattle.memberlist_view.specs.declared.heard.Heard.{Heard}
 use Rattle.memberlist_view.specs.declared.heard.Said.{Said}
 use Rattle.memberlist_view.specs.declared.heard.Said.TheVariants.{Alive, Suspect, Dead, Left, Seen}
 use Rattle.memberlist_view.proofs.Changing.{by_test}
-use Rattle.memberlist_view.proofs.Forgetting.{IsAscending-filter, entry_at-filter}
-use Rattle.memberlist_view.proofs.Viewing.{IsAscending-with, entry_of-after}
 use Rattle.memberlist_member.specs.Beginning.{IsBegun}
-use Rattle.memberlist_member.specs.Claims.{dead_by, packet_of}
 use Rattle.memberlist_member.specs.Histories.{IsClear, IsHere, IsNoEnd, IsStep, IsWell, Lives, Spares, is_accusation, is_accused, is_end, shortest}
 use Rattle.memberlist_member.specs.Histories.Lives.{begins, goes_on}
 use Rattle.memberlist_member.specs.Owns.{own_alive}
 use Rattle.memberlist_member.specs.Showing.{HasGround, Reaches, Went}
-use Rattle.memberlist_member.specs.Saying.{said_by, said_of}
+use Rattle.memberlist_member.specs.Saying.{said_of}
 use Rattle.memberlist_member.specs.Showing.HasGround.{is_told, is_over}
 use Rattle.memberlist_member.specs.Showing.Reaches.{here, hears, tells, refutes, forgets}
 use Rattle.memberlist_member.specs.Steps.{IsToldBy, ShowsBy}
@@ -44,7 +32,9 @@ use Rattle.memberlist_member.specs.declared.input.Input.{Input}
 use Rattle.memberlist_member.specs.declared.input.Input.TheVariants as input
 use Rattle.memberlist_member.specs.declared.member.Member.{Member}
 use Rattle.memberlist_member.specs.declared.own.Own.{Own}
+use Rattle.memberlist_member.proofs.Entries.{after_holds, alive_keeps, ascending_after, ascending_without, forgotten_holds}
 use Rattle.memberlist_member.proofs.Members.{in_from_contains, of_all}
+use Rattle.memberlist_member.proofs.Showing.{about_death}
 use Rattle.memberlist_member.proofs.Suspecting.{between}
 
 -- ---- what one more thing does to an entry
@@ -53,31 +43,6 @@ use Rattle.memberlist_member.proofs.Suspecting.{between}
 module _ (wait time : ℕ) where
   abbrev IsFree : Entry → Type 0
   IsFree e = is_accused e.state ≡ false
-
-  still_free : (s : State) (entry : Entry) (inc : ℕ) (details : DetailsValue) (joins : Bool)
-      → IfSome (alive_again s time entry inc details joins) (λ p. IsFree p.0)
-  still_free state.Noted entry inc details joins = refl
-  still_free state.Seen entry inc details joins = refl
-  still_free state.Alive entry inc details joins = refl
-  still_free (state.Suspect by) entry inc details joins = refl
-  still_free (state.Dead by) entry inc details joins = refl
-  still_free state.Left entry inc details joins = refl
-
-  at_free : (known : Option DetailsValue) (entry : Entry) (inc : ℕ) (details : DetailsValue) (joins : Bool) → IsFree entry
-      → IfSome (alive_at known time entry inc details joins) (λ p. IsFree p.0)
-  at_free None entry inc details joins free = by_test (λ p. IsFree p.0) (nat_le inc entry.inc) _ _ (λ _. free)
-      (λ _. still_free entry.state entry inc (with_versions entry.details details) joins)
-  at_free (Some old) entry inc details joins free = by_test (λ p. IsFree p.0) (is_same_place old details) _ _
-      (λ _. by_test (λ p. IsFree p.0) (nat_le inc entry.inc) None _ (λ _. tt)
-      (λ _. still_free entry.state entry inc (with_versions entry.details details) joins))
-      (λ _. by_test (λ p. IsFree p.0) (has_left entry.state) _ _ (λ _. refl)
-      (λ _. by_test (λ p. IsFree p.0) (is_passed_rival entry.rivals details) None _ (λ _. tt) (λ _. free)))
-
-  alive_free : (entry : Entry) (inc : ℕ) (details : DetailsValue) (joins : Bool) → IsFree entry
-      → IfSome (alive wait time entry inc details joins) (λ p. IsFree p.0)
-  alive_free entry inc details joins free = by_test (λ p. IsFree p.0) (is_forgotten wait time entry) _ _
-      (λ _. by_test (λ p. IsFree p.0) (nat_lt 0 inc) _ None (λ _. refl) (λ _. tt))
-      (λ _. at_free entry.details entry inc details joins free)
 
   seen_free : (s : State) (entry : Entry) (place : DetailsValue) → entry.state ≡ s → is_accused s ≡ false → IsFree (seen_in s time entry place)
   seen_free state.Noted entry place is free = refl
@@ -90,7 +55,7 @@ module _ (wait time : ℕ) where
   one_free : (entry : Entry) (said : Said) → is_accusation said ≡ false → is_accused entry.state ≡ false
       → IfSome (change_of_entry wait time entry said) (λ p. is_accused p.0.state ≡ false)
   one_free entry (Alive name inc details joins) spares free = by_test (λ p. IsFree p.0) (are_sound_versions details.vsn) _ None
-      (λ _. alive_free entry inc details joins free) (λ _. tt)
+      (λ _. alive_keeps wait time (λ s. is_accused s ≡ false) refl entry inc details joins free) (λ _. tt)
   one_free entry (Suspect name inc from) spares free = absurd (cc (spares))
   one_free entry (Dead name inc from) spares free = absurd (cc (spares))
   one_free entry (Left name inc) spares free = by_test (λ p. IsFree p.0) (nat_lt inc entry.inc) None _ (λ _. tt)
@@ -161,67 +126,6 @@ module _ (wait time from : ℕ) (late : from ≤ time) where
   one_still entry (Seen name place) spares still = by_test (λ p. Still p.0) (lacks_place entry) _ None
       (λ _. seen_still entry.state entry place refl still) (λ _. tt)
 
--- ---- in a view
-
-module _ (Is : Entry → Type 0) where
-  changed_holds : (old : Option Entry) (what : Change) → IfSome old Is → IfSome what (λ p. Is p.0) → IfSome (changed old what) Is
-  changed_holds None None was is = tt
-  changed_holds None (Some p) was is = is
-  changed_holds (Some e) None was is = was
-  changed_holds (Some e) (Some p) was is = is
-
-  next_holds : (wait : ℕ) (name : List ℕ) (old : Option Entry) (heard : Heard) → IfSome old Is
-      → (name ≡ about heard.said → IfSome (change wait old heard) (λ p. Is p.0)) → IfSome (shown_next wait name old heard) Is
-  next_holds wait name old heard was is = by_answer (name_cmp name (about heard.said)) refl where
-    by_answer : (o : Ordering) → name_cmp name (about heard.said) ≡ o
-        → IfSome (if is_eq o then changed old (change wait old heard) else old) Is
-    by_answer Less e = was
-    by_answer Greater e = was
-    by_answer Equal e = changed_holds old (change wait old heard) was (is (exact_bytes name (about heard.said) e))
-
-  blank_or : (time : ℕ) (old : Option Entry) → Is (blank time) → IfSome old Is → Is (entry_or_blank time old)
-  blank_or time None none was = none
-  blank_or time (Some entry) none was = was
-
-  -- what holds of its entry holds of that after one more thing, if it does by the rule
-  after_holds : (view : ViewValue) (name : List ℕ) (heard : Heard) → Is (blank heard.time) → IfSome (entry_of view name) Is
-      → (name ≡ about heard.said → (entry : Entry) → entry ≡ entry_or_blank heard.time (entry_of view name) → Is entry
-      → IfSome (change_of_entry view.wait heard.time entry heard.said) (λ p. Is p.0))
-      → IfSome (entry_of (member_view_after view heard) name) Is
-  after_holds view name heard none was rule = cases (is_heeded view heard) where
-    old : Option Entry
-    old = entry_of view name
-
-    next : IfSome (shown_next view.wait name old heard) Is
-    next = next_holds view.wait name old heard was
-        (λ about_it. rule about_it (entry_or_blank heard.time old) refl (blank_or heard.time old none was))
-
-    cases : (b : Bool) → IfSome (entry_of (if b then view_after view heard else view) name) Is
-    cases true = subst (λ o. IfSome o Is) (sym (entry_of-after view heard name)) next
-    cases false = was
-
-  kept_holds : (p : Entry → Bool) (old : Option Entry) → IfSome old Is → IfSome (option_filter p old) Is
-  kept_holds p None was = tt
-  kept_holds p (Some entry) was = cases (p entry) where
-    cases : (b : Bool) → IfSome (if b then Some entry else None) Is
-    cases true = was
-    cases false = tt
-
-  forgotten_holds : (view : ViewValue) (time : ℕ) (name : List ℕ) → IsAscending view.entries → IfSome (entry_of view name) Is
-      → IfSome (entry_of (view_without_dropped view time) name) Is
-  forgotten_holds view time name up was =
-      let stays : Entry → Bool = λ e. not (is_dropped view.wait time e) in
-      subst (λ o. IfSome o Is) (sym (entry_at-filter stays view.entries name up)) (kept_holds stays (entry_of view name) was)
-
-ascending_after : (view : ViewValue) (heard : Heard) → IsAscending view.entries → IsAscending (member_view_after view heard).entries
-ascending_after view heard up = cases (is_heeded view heard) where
-  cases : (b : Bool) → IsAscending (if b then view_after view heard else view).entries
-  cases true = IsAscending-with view.entries (about heard.said) (change_of view heard) up
-  cases false = up
-
-ascending_without : (view : ViewValue) (time : ℕ) → IsAscending view.entries → IsAscending (view_without_dropped view time).entries
-ascending_without view time up = IsAscending-filter (λ e. not (is_dropped view.wait time e.1)) view.entries up
-
 -- ---- from view to view
 
 -- what holds of a name's entry, and of what is heard by the rule
@@ -268,12 +172,6 @@ goes_in input.Leave told old new went = (_, _, went.0)
 goes_in (input.Update meta) told old new went = (_, _, went.0)
 goes_in (input.Say bytes) told old new went = (_, _, went)
 goes_in (input.State bytes) told old new went = (_, _, went)
-
-about_death : (name : List ℕ) (inc : ℕ) (me : List ℕ) → about (said_of (packet_of (dead_by name inc me) me) true) ≡ name
-about_death name inc me = cases (bytes_eq name me) where
-  cases : (b : Bool) → about (said_by me true (if b then Leave name inc else Confirm name inc)) ≡ name
-  cases true = refl
-  cases false = refl
 
 -- the entry that is shown
 the_entry : (old : Option Entry) (time : ℕ) (one other : Entry) → old ≡ Some other → one ≡ entry_or_blank time old → one ≡ other
@@ -373,11 +271,11 @@ module _ (name : List ℕ) (first : Member) where
           (not_over new.settings new.time long.entry.since (length long.by) long.due long.span same since soon long.until long.over))
 
 -- its time and configuration
-record Later (first last : Member) : Type 0 where
-  settings : last.settings ≡ first.settings
-  time : first.time ≤ last.time
+pub record Later (first last : Member) : Type 0 where
+  pub settings : last.settings ≡ first.settings
+  pub time : first.time ≤ last.time
 
-later_on : {IsSuch : Said → Type 0} {first last : Member} → Lives IsSuch first last → Later first last
+pub later_on : {IsSuch : Said → Type 0} {first last : Member} → Lives IsSuch first last → Later first last
 later_on begins = record { settings = refl; time = omega arith }
 later_on (goes_on {old} {new} now what step such before) =
     let was = later_on before in

@@ -1,6 +1,8 @@
 mod Apart
 mod Begun
 mod Compounding
+mod Ending
+mod Entries
 mod Heeding
 mod Histories
 mod Lines
@@ -21,3 +23,4 @@ mod Taking
 mod Thousandths
 mod Ticking
 mod Waking
+mod Watching

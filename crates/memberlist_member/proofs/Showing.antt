@@ -1,5 +1,5 @@
 -- From one view to another.
-use Rattle.std.proofs.Common.{◌≡◌, ℕ, ◌≤◌, inl, inr, true, false, List, [], ◌∷◌, ◌++◌, refl, sym, subst, ap, ◌∙◌, arith, Option, Some, Result, Ok, Err, OnOk, OnErr}
+use Rattle.std.proofs.Common.{◌≡◌, ℕ, ◌+◌, ◌*◌, ◌-◌, ◌^◌, ◌≤◌, min, inl, inr, Bool, true, false, if◌then◌else◌, List, [], ◌∷◌, ◌++◌, refl, sym, subst, ap, ◌∙◌, arith, Option, Some, Result, Ok, Err, OnOk, OnErr}
 use Rattle.std.proofs.Math.Logic.{∥∥₁_map}
 use Rattle.std.proofs.lemmas.List.Elements.{All-cons, All-nil}
 use Rattle.std.specs.List.{All, Any, Contains, flat_map}
@@ -18,8 +18,10 @@ use Rattle.memberlist_view.specs.declared.entry.State.TheVariants as state
 use Rattle.memberlist_view.specs.declared.event.Event.{Event}
 use Rattle.memberlist_view.specs.declared.heard.Said.{Said}
 use Rattle.memberlist_member.specs.Beginning.{IsBegun}
-use Rattle.memberlist_member.specs.Claims.{packet_of}
+use Rattle.memberlist_member.specs.Claims.{dead_by, packet_of}
 use Rattle.memberlist_member.specs.Owns.{outdone}
+use Rattle.memberlist_member.specs.Staying.{BeginsInTime, BeginsNoProbe, StaysItself}
+use Rattle.std.specs.Str.{bytes_eq}
 use Rattle.memberlist_member.specs.Showing.{Arrives, GoesBy, GoesOn, HasGround, IsOwnWord, IsSaidIn, IsSuspectedForLong, IsUnanswered, IsGround, Reaches, Tells, Went}
 use Rattle.memberlist_member.specs.Saying.{inc_in, said_by, said_of}
 use Rattle.memberlist_member.specs.Showing.HasGround.{is_told, is_over}
@@ -37,6 +39,12 @@ about_claim from joins (claim.Alive name inc details) = refl
 about_claim from joins (claim.Suspect name inc) = refl
 about_claim from joins (claim.Confirm name inc) = refl
 about_claim from joins (claim.Leave name inc) = refl
+
+pub about_death : (name : List ℕ) (inc : ℕ) (me : List ℕ) → about (said_of (packet_of (dead_by name inc me) me) true) ≡ name
+about_death name inc me = cases (bytes_eq name me) where
+  cases : (b : Bool) → about (said_by me true (if b then claim.Leave name inc else claim.Confirm name inc)) ≡ name
+  cases true = refl
+  cases false = refl
 
 -- ---- the view after something was heard
 
@@ -70,6 +78,14 @@ after_refuting told m own accused said first word ground itself stays is rises o
     subst (λ o. Reaches m.settings o.name m.time told first word m.view o) (sym outdoes)
     (subst (λ n. Reaches m.settings m.own.name m.time told first word m.view (outdone m.own n)) is
     (refutes said ground itself stays (subst (λ n. m.own.inc ≤ n) (sym is) rises) before))
+
+-- what else changes is not shown
+pub arrives_as : (told : List Said) (first : ViewValue) (word : Own) (old new : Member) → new.time ≡ old.time → new.settings ≡ old.settings
+    → new.own ≡ old.own → Reaches old.settings old.own.name old.time told first word new.view old.own → Arrives told first word new
+arrives_as told first word old new time settings own there =
+    subst (λ t. Reaches new.settings new.own.name t told first word new.view new.own) (sym time)
+    (subst (λ c. Reaches c new.own.name old.time told first word new.view new.own) (sym settings)
+    (subst (λ o. Reaches old.settings o.name old.time told first word new.view o) (sym own) there))
 
 -- ---- told more
 
@@ -107,6 +123,9 @@ pub record IsSame (old new : Member) : Type 0 where
   pub settings : new.settings ≡ old.settings
   pub name : new.own.name ≡ old.own.name
   pub time : new.time ≡ old.time
+
+pub itself : (old new : Member) → StaysItself old new → IsSame old new
+itself old new (time, settings, cover, name, rises) = record { settings = settings; name = name; time = time }
 
 pub goes_by_more : (old new : Member) (few many : List Said) → IsSame old new
     → ((s : Said) → Contains few s → Contains many s) → GoesBy few old new → GoesBy many old new
@@ -210,10 +229,33 @@ for_long m name entry by shown suspected (k, suspect, less, is, (same, over)) = 
 
 -- ---- a probe that is over
 
-pub unanswered_before : (old new : Member) → new.probe ≡ old.probe → new.own.name ≡ old.own.name → (now : ℕ) (said : Said)
+pub same_probe : (old new : Member) → new.probe ≡ old.probe → BeginsNoProbe old new
+same_probe old new same seq name inc due (probe, is, number, who, at, until) = (probe, sym same ∙ is, number, who, at, until)
+
+-- a probe that begins has its time, and then none begins
+pub in_time_then : (old middle new : Member) → BeginsInTime old middle → BeginsNoProbe middle new → StaysItself middle new → BeginsInTime old new
+in_time_then old middle new first none (time, settings, cover, name, rises) seq who inc due probing =
+    elim (first seq who inc due (none seq who inc due probing)) [
+      | inl was ↦ inl was
+      | inr long ↦ inr (subst (λ t. min (t + 1000 * new.settings.probe_interval) (2 ^ 64 - 1) ≤ due) (sym time)
+          (subst (λ c. min (middle.time + 1000 * c.probe_interval) (2 ^ 64 - 1) ≤ due) (sym settings) long))
+    ]
+
+pub then_in_time : (old middle new : Member) → BeginsNoProbe old middle → BeginsInTime middle new → BeginsInTime old new
+then_in_time old middle new none later seq who inc due probing =
+    elim (later seq who inc due probing) [ inl was ↦ inl (none seq who inc due was) | inr long ↦ inr long ]
+
+pub unanswered_before : (old new : Member) → BeginsNoProbe old new → new.own.name ≡ old.own.name → (now : ℕ) (said : Said)
     → IsUnanswered now new said → IsUnanswered now old said
-unanswered_before old new same name now said (probe, is, over, says) =
-    (probe, sym same ∙ is, over, subst (λ n. said ≡ said_of (packet_of (claim.Suspect probe.name probe.inc) n) true) name says)
+unanswered_before old new none me now said (probe, is, over, says) =
+    let (before, was, seq, name, inc, due) = none probe.seq probe.name probe.inc probe.due (probe, is, refl, refl, refl, refl) in (
+      before,
+      was,
+      subst (λ d. d ≤ now) (sym due) over,
+      subst (λ n. said ≡ said_of (packet_of (claim.Suspect before.name before.inc) n) true) me
+          (subst (λ i. said ≡ said_of (packet_of (claim.Suspect before.name i) new.own.name) true) (sym inc)
+          (subst (λ n. said ≡ said_of (packet_of (claim.Suspect n probe.inc) new.own.name) true) (sym name) says)),
+    )
 
 -- while its word stays
 pub went_on : (told : List Said) (old new : Member) → GoesBy told old new → new.own ≡ old.own → Went told old.own old.own old new

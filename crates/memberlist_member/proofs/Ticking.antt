@@ -5,12 +5,14 @@ use Rattle.std.proofs.lemmas.List.Elements.{All-append}
 use Rattle.swim_claim.specs.declared.claim.Claim.TheVariants.{Suspect}
 use Rattle.memberlist_view.specs.declared.heard.Said.{Said}
 use Rattle.memberlist_member.specs.Claims.{packet_of}
-use Rattle.memberlist_member.specs.Saying.{said_in_table, said_of}
-use Rattle.memberlist_member.specs.Showing.{GoesBy, GoesByLines, GoesByTime, GoesOn, IsToldAnywhere, IsToldByTime, IsUnanswered, KeepsLines, KeepsUnanswered}
+use Rattle.memberlist_member.specs.Saying.{said_of}
+use Rattle.memberlist_member.specs.Showing.{GoesBy, GoesByLines, GoesByTime, GoesOn, IsToldAnywhere, IsToldByTime, IsUnanswered, KeepsLines}
+use Rattle.memberlist_member.specs.Staying.{BeginsNoProbe}
 use Rattle.memberlist_member.specs.declared.member.Member.{Member}
 use Rattle.memberlist_member.specs.declared.probe.Probe.{Probe}
 use Rattle.memberlist_member.proofs.Members.{all_from, contains_from_in}
-use Rattle.memberlist_member.proofs.Showing.{IsSame, goes_by_more, left_more, right_more}
+use Rattle.memberlist_member.proofs.Lines.{said_over_too}
+use Rattle.memberlist_member.proofs.Showing.{IsSame, goes_by_more, left_more, right_more, unanswered_before}
 
 abbrev its_suspicion : List ℕ → Probe → Said
 its_suspicion me probe = said_of (packet_of (Suspect probe.name probe.inc) me) true
@@ -44,7 +46,7 @@ is_among now me (Some other) probe is late = cases (nat_le other.due now) refl w
       absurd (cc (over, over_too))
 
 -- first what came over connections, and then its own probe
-pub by_time : (old middle new : Member) → IsSame old middle → IsSame middle new → GoesByLines old middle → KeepsUnanswered old middle
+pub by_time : (old middle new : Member) → IsSame old middle → IsSame middle new → GoesByLines old middle → BeginsNoProbe old middle
     → ((told : List Said) → ((said : Said) → IsUnanswered middle.time middle said → Contains told said) → GoesBy told middle new)
     → GoesByTime old new
 by_time old middle new same later (told, each, goes) keeps accuses =
@@ -52,7 +54,7 @@ by_time old middle new same later (told, each, goes) keeps accuses =
       told ++ more,
       All-append (IsToldByTime old.time old) told more (λ k d less. inr (each k d less))
           (λ k d less. inl (subst (λ t. IsUnanswered t old (get_or more k d)) same.time
-          (keeps middle.time (get_or more k d) (is_unanswered middle.time middle middle.probe refl k d less)))),
+          (unanswered_before old middle keeps same.name middle.time (get_or more k d) (is_unanswered middle.time middle middle.probe refl k d less)))),
       λ first word before.
           goes_by_more middle new more (told ++ more) later (right_more told more)
           (accuses more (λ said (probe, is, over, says). subst (Contains more) (sym says) (is_among middle.time middle.own.name middle.probe probe is over)))
@@ -67,8 +69,8 @@ pub then_on : (old middle new : Member) → GoesByTime old middle → GoesOn mid
 then_on old middle new (told, each, goes) later = (told, each, λ first word before. later told first word (goes first word before))
 
 -- what is said over lines is said over those that were there before
-pub anywhere_before : (old middle : Member) → KeepsLines old middle → middle.own.name ≡ old.own.name → (told : List Said)
-    → All (IsToldAnywhere middle) told → All (IsToldAnywhere old) told
-anywhere_before old middle keeps name told all k d less =
-    let (conn, (came, cover, line, (each, read, says))) = all k d less in
-    (conn, (came, cover, keeps conn came cover line, (each, read, subst (λ n. get_or told k d ≡ said_in_table n each) name says)))
+pub anywhere_before : (old middle : Member) → KeepsLines old middle → middle.cover ≡ old.cover → middle.own.name ≡ old.own.name
+    → (told : List Said) → All (IsToldAnywhere middle) told → All (IsToldAnywhere old) told
+anywhere_before old middle keeps cover name told all k d less =
+    let (conn, (came, has, says)) = all k d less in
+    (conn, (came, keeps conn came has, said_over_too old middle cover name came (get_or told k d) says))

@@ -1,5 +1,5 @@
 -- A member from step to step.
-use Rattle.std.specs.Prelude.{◌≡◌, ℕ, ◌*◌, max, Bool, true, false, IfSome}
+use Rattle.std.specs.Prelude.{◌≡◌, ⊤, ℕ, ◌*◌, max, Bool, true, false, IfSome}
 use Rattle.std.specs.Prelude.{List}
 use Rattle.memberlist_view.specs.Heard.{about}
 use Rattle.memberlist_view.specs.Rules.{is_gone}
@@ -8,7 +8,7 @@ use Rattle.memberlist_view.specs.declared.entry.State.{State}
 use Rattle.memberlist_view.specs.declared.entry.State.TheVariants as state
 use Rattle.memberlist_view.specs.declared.heard.Said.{Said}
 use Rattle.memberlist_view.specs.declared.heard.Said.TheVariants.{Alive, Suspect, Dead, Left, Seen}
-use Rattle.memberlist_member.specs.Steps.{IsToldBy, Shows}
+use Rattle.memberlist_member.specs.Steps.{IsToldBy, Probes, Shows}
 use Rattle.memberlist_member.specs.declared.config.Config.{Config}
 use Rattle.memberlist_member.specs.declared.input.Input.{Input}
 use Rattle.memberlist_member.specs.declared.member.Member.{Member}
@@ -19,6 +19,7 @@ pub record IsStep (now : ℕ) (what : Input) (old new : Member) : Type 0 where
   pub settings : new.settings ≡ old.settings
   pub name : new.own.name ≡ old.own.name
   pub shows : Shows what old new
+  pub probes : Probes what old new
 
 -- Steps from a first member on, in which whatever it is told is such.
 pub data Lives (IsSuch : Said → Type 0) (first : Member) : Member → Type 0 where
@@ -78,3 +79,13 @@ IsHere name view = IfSome (entry_of view name) (λ e. is_gone e.state ≡ false)
 -- the shortest suspicion in any cluster, in microseconds
 abbrev pub shortest : Config → ℕ
 shortest config = 1000 * (config.suspicion_mult * config.probe_interval)
+
+-- the longest, in the largest cluster
+abbrev pub longest : Config → ℕ
+longest config = 1000 * (config.suspicion_max_timeout_mult * (10 * (config.suspicion_mult * config.probe_interval)))
+
+-- ---- runs
+
+-- steps from a first member on, whatever it is told
+abbrev pub Runs : Member → Member → Type 0
+Runs first last = Lives (λ said. ⊤) first last

@@ -1,6 +1,6 @@
 -- How what a member shows changes: by what it hears, and there is a ground for each thing that it
 -- hears; and by forgetting.
-use Rattle.std.specs.Prelude.{◌≡◌, ℕ, ◌≤◌, ◌⊎◌, true, false, List, ◌++◌, length, Ok, Some}
+use Rattle.std.specs.Prelude.{◌≡◌, ℕ, ◌≤◌, ◌⊎◌, true, false, List, [], ◌++◌, length, Ok, Some}
 use Rattle.std.specs.List.{All, Contains}
 use Rattle.swim_claim.specs.declared.claim.Claim.{Claim}
 use Rattle.swim_claim.specs.declared.claim.Claim.TheVariants as claim
@@ -93,10 +93,6 @@ abbrev pub IsUnanswered : ℕ → Member → Said → Type 0
 IsUnanswered now m said = (probe : Probe) × (m.probe ≡ Some probe) × (probe.due ≤ now)
     × (said ≡ said_of (packet_of (claim.Suspect probe.name probe.inc) m.own.name) true)
 
--- no probe is over that was not before
-abbrev pub KeepsUnanswered : Member → Member → Type 0
-KeepsUnanswered old new = (now : ℕ) (said : Said) → IsUnanswered now new said → IsUnanswered now old said
-
 -- what a message says, if it is a claim, is among these
 abbrev pub Tells : List Said → List ℕ → Type 0
 Tells told message =
@@ -110,37 +106,46 @@ IsSaidIn messages said = (message : List ℕ) × Contains messages message × (p
 abbrev pub IsToldIn : Cover → List ℕ → Said → Type 0
 IsToldIn cover bytes said = (messages : List (List ℕ)) × HasMessages cover bytes messages × IsSaidIn messages said
 
--- a connection with this number, over which these bytes came under this cover
-abbrev pub IsLine : ℕ → List ℕ → Cover → Member → Type 0
-IsLine conn came cover m = (m.cover ≡ cover)
-    × ((c : Connection) × Contains m.connections.list.items c × (c.conn ≡ conn) × (c.came.items ≡ came))
+-- these bytes came over a connection with this number
+pub record HasCome (conn : ℕ) (came : List ℕ) (lines : List Connection) : Type 0 where
+  pub line : Connection
+  pub within : Contains lines line
+  pub number : line.conn ≡ conn
+  pub bytes : line.came.items ≡ came
+  pub some : 1 ≤ length came
+
+abbrev pub lines_of : Member → List Connection
+lines_of m = m.connections.list.items
+
+-- nothing came yet, or these bytes did
+abbrev pub MayHaveCome : ℕ → List ℕ → Member → Type 0
+MayHaveCome conn came m = (came ≡ []) ⊎ HasCome conn came (lines_of m)
 
 -- over no connection other bytes came than before
 abbrev pub KeepsLines : Member → Member → Type 0
-KeepsLines old new =
-    (conn : ℕ) (came : List ℕ) (cover : Cover) → IsLine conn came cover new → IsLine conn came cover old
+KeepsLines old new = (conn : ℕ) (came : List ℕ) → HasCome conn came (lines_of new) → HasCome conn came (lines_of old)
 
 -- over none but this one, and over this one none but these bytes more
 abbrev pub GrowsLine : ℕ → List ℕ → Member → Member → Type 0
-GrowsLine conn bytes old new =
-    (each : ℕ) (came : List ℕ) (cover : Cover) → IsLine each came cover new → IsLine each came cover old
-    ⊎ ((before : List ℕ) × (each ≡ conn) × (came ≡ before ++ bytes) × IsLine each before cover old)
+GrowsLine conn bytes old new = (each : ℕ) (came : List ℕ) → HasCome each came (lines_of new)
+    → HasCome each came (lines_of old)
+    ⊎ ((before : List ℕ) × (each ≡ conn) × (came ≡ before ++ bytes) × MayHaveCome each before old)
 
 -- a record of the table in a message says it
 abbrev pub IsInTable : List ℕ → Member → Said → Type 0
 IsInTable message m said = (each : Claim) × IsRecordOf message each × (said ≡ said_in_table m.own.name each)
 
 -- the same of what came over a connection
-abbrev pub IsSaidOver : Cover → List ℕ → Member → Said → Type 0
-IsSaidOver cover came m said = (each : Claim) × IsRecordIn cover came each × (said ≡ said_in_table m.own.name each)
+abbrev pub IsSaidOver : List ℕ → Member → Said → Type 0
+IsSaidOver came m said = (each : Claim) × IsRecordIn m.cover came each × (said ≡ said_in_table m.own.name each)
 
 abbrev pub IsToldOver : ℕ → Member → Said → Type 0
-IsToldOver conn m said = (came : List ℕ) × (cover : Cover) × IsLine conn came cover m × IsSaidOver cover came m said
+IsToldOver conn m said = (came : List ℕ) × HasCome conn came (lines_of m) × IsSaidOver came m said
 
 -- and of that with more bytes that come now
 abbrev pub IsToldNow : ℕ → List ℕ → Member → Said → Type 0
-IsToldNow conn bytes m said = (came : List ℕ) × (cover : Cover) × IsLine conn came cover m
-    × (IsSaidOver cover came m said ⊎ IsSaidOver cover (came ++ bytes) m said)
+IsToldNow conn bytes m said = (came : List ℕ) × MayHaveCome conn came m
+    × (IsSaidOver came m said ⊎ IsSaidOver (came ++ bytes) m said)
 
 -- over any connection
 abbrev pub IsToldAnywhere : Member → Said → Type 0

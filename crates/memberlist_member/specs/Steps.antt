@@ -1,6 +1,6 @@
 -- What a member does with what it is told.
 use Rattle.std.specs.Prelude.{◌≡◌, ⊤, ℕ, ◌+◌, ◌-◌, ◌^◌, ◌<◌, ◌≤◌, ◌⊎◌, false, true}
-use Rattle.std.specs.Prelude.{List, length, Ok, None}
+use Rattle.std.specs.Prelude.{List, length, Ok, None, Some}
 use Rattle.std.specs.List.{All}
 use Rattle.std.specs.declared.alloc.Global.{Global}
 use Rattle.std.specs.declared.vec.Vec.{Vec}
@@ -10,9 +10,15 @@ use Rattle.memberlist_message.specs.Messages.{AckValue, MessageValue, message_of
 use Rattle.memberlist_message.specs.Writing.{user_bytes}
 use Rattle.memberlist_member.specs.Parts.{HasMessages}
 use Rattle.memberlist_member.specs.Owns.{own_leave}
-use Rattle.memberlist_member.specs.Showing.{IsToldByTime, IsToldIn, IsToldNow, IsToldOver, MayChange, MayLeave, Went}
+use Rattle.memberlist_member.specs.Showing.{GrowsLine, IsToldByTime, KeepsLines, IsToldIn, IsToldNow, IsToldOver, MayChange, MayLeave, Went}
 use Rattle.memberlist_member.specs.Saying.{said_of}
-use Rattle.memberlist_member.specs.Staying.{Adds, HasNoProbe, unless_silent}
+use Rattle.memberlist_member.specs.Staying.{Adds, BeginsInTime, BeginsNoProbe, HasNoProbe, unless_silent}
+use Rattle.memberlist_member.specs.Suspicions.{IsDue, Span}
+use Rattle.memberlist_member.specs.Beginning.{IsBegun}
+use Rattle.memberlist_member.specs.declared.config.Config.{Config}
+use Rattle.memberlist_view.specs.Told.{entry_of}
+use Rattle.memberlist_view.specs.declared.entry.Entry.{Entry}
+use Rattle.memberlist_view.specs.declared.entry.State.TheVariants as state
 use Rattle.memberlist_member.specs.Queues.{put, unsent}
 use Rattle.memberlist_view.specs.declared.heard.Said.{Said}
 use Rattle.memberlist_member.specs.declared.cover.Cover.{Cover}
@@ -82,6 +88,20 @@ IsOnTime m =
     IsLater m.time m.times.probe × IsLater m.time m.times.gossip × IsLater m.time m.times.push_pull
     × IsLater m.time m.times.reconnect × IsLater m.time m.times.seed
 
+-- its suspicion began with this configuration, and ends later
+pub record IsWaitedFor (config : Config) (now : ℕ) (entry : Entry) (by : List (List ℕ)) : Type 0 where
+  pub span : Span
+  pub due : ℕ
+  pub begun : IsBegun config span
+  pub until : IsDue span (length by) entry.since due
+  pub later : now < due
+
+-- unless it is silent, each member that it shows as suspect is waited for
+abbrev pub AreWaitedFor : Member → Type 0
+AreWaitedFor m =
+    m.settings.is_silent ≡ false → (name : List ℕ) (entry : Entry) (by : List (List ℕ))
+    → entry_of m.view name ≡ Some entry → entry.state ≡ state.Suspect by → ∥ IsWaitedFor m.settings m.time entry by ∥₁
+
 -- ---- a step
 
 -- at most a nack for each ping on behalf of others that waits, the datagrams of a probe and of
@@ -108,7 +128,7 @@ PutsAtMost (input.State bytes) old new = Adds 0 0 0 old new
 
 -- what it changes, unless memory is refused
 abbrev pub Does : Input → Member → Member → Type 0
-Does input.Tick old new = IsOnTime new
+Does input.Tick old new = IsOnTime new × AreWaitedFor new
 Does (input.Datagram from bytes) old new =
     IsOutdoneAfter old.cover bytes.now new.own × IsAnsweredAfter old.cover bytes.now new
 Does (input.Accepted conn) old new = ⊤
@@ -120,6 +140,34 @@ Does input.Leave old new = new.own.is_leaving ≡ true
 Does (input.Update meta) old new = IsUpdated meta.now old.own new.own
 Does (input.Say bytes) old new = IsSaid bytes.now old new
 Does (input.State bytes) old new = new.state.items ≡ bytes.now
+
+-- a probe begins at a time that was told alone, and has its time
+abbrev pub Probes : Input → Member → Member → Type 0
+Probes input.Tick old new = BeginsInTime old new
+Probes (input.Datagram from bytes) old new = BeginsNoProbe old new
+Probes (input.Accepted conn) old new = BeginsNoProbe old new
+Probes (input.Connected conn) old new = BeginsNoProbe old new
+Probes (input.Received conn bytes) old new = BeginsNoProbe old new
+Probes (input.Closed conn) old new = BeginsNoProbe old new
+Probes (input.Join seeds) old new = BeginsNoProbe old new
+Probes input.Leave old new = BeginsNoProbe old new
+Probes (input.Update meta) old new = BeginsNoProbe old new
+Probes (input.Say bytes) old new = BeginsNoProbe old new
+Probes (input.State bytes) old new = BeginsNoProbe old new
+
+-- over no connection other bytes came than before, but by an input with bytes these more over its own
+abbrev pub Comes : Input → Member → Member → Type 0
+Comes input.Tick old new = KeepsLines old new
+Comes (input.Datagram from bytes) old new = KeepsLines old new
+Comes (input.Accepted conn) old new = KeepsLines old new
+Comes (input.Connected conn) old new = KeepsLines old new
+Comes (input.Received conn bytes) old new = GrowsLine conn bytes.now old new
+Comes (input.Closed conn) old new = KeepsLines old new
+Comes (input.Join seeds) old new = KeepsLines old new
+Comes input.Leave old new = KeepsLines old new
+Comes (input.Update meta) old new = KeepsLines old new
+Comes (input.Say bytes) old new = KeepsLines old new
+Comes (input.State bytes) old new = KeepsLines old new
 
 -- what an input tells it at this time
 abbrev pub IsToldBy : Input → ℕ → Member → Said → Type 0

@@ -1,7 +1,8 @@
 //! The claims that a member makes.
 
-ghost use Rattle.std.specs.Prelude.{◌≡◌, [], IfOk, false};
+ghost use Rattle.std.specs.Prelude.{◌≡◌, [], IfOk, Some, false};
 ghost use Rattle.swim_claim.specs.declared.claim.Claim.TheVariants as claim;
+ghost use Rattle.memberlist_view.specs.Heard.{accuser_of};
 ghost use Rattle.memberlist_member.specs.Claims.{dead_by, packet_of};
 ghost use Rattle.memberlist_member.specs.Saying.{said_in_table, said_of};
 
@@ -26,7 +27,8 @@ pub(crate) fn suspect(alloc: Global, name: Name, inc: u32, by: &Name) -> Result<
 
 /// That a member is dead, says this one; if it says so itself, it has left (`deadNode`).
 pub(crate) fn dead(alloc: Global, name: Name, inc: u32, by: &Name) -> Result<Packet, AllocError>
-    ensures { IfOk result (λ packet. packet ≡ packet_of (dead_by name inc by.now) by.now) }
+    ensures says { IfOk result (λ packet. packet ≡ packet_of (dead_by name inc by.now) by.now) }
+    ensures named { accuser_of by.now ≡ Some by.now }
 {
     let from = by.bytes().to_vec(alloc)?;
     if *name.bytes() == *by.bytes() {

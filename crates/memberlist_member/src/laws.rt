@@ -1,12 +1,16 @@
 //! Laws of the rules of a member. Each is the contract of a function that does nothing.
 
-ghost use Rattle.std.specs.Prelude.{◌≡◌, ◌∷◌, ◌+◌, ◌-◌, ◌^◌, ◌<◌, ◌≤◌, Bool, ℕ, List, length, true};
-ghost use Rattle.std.specs.Prelude.{max, min};
+ghost use Rattle.std.specs.Prelude.{◌≡◌, ◌∷◌, ◌+◌, ◌*◌, ◌-◌, ◌^◌, ◌<◌, ◌≤◌, Bool, ℕ, List, Some};
+ghost use Rattle.std.specs.Prelude.{false, length, max, min, true};
 ghost use Rattle.std.specs.List.{Contains};
 ghost use Rattle.std.specs.Str.{bytes_eq};
 ghost use Rattle.memberlist_member.specs.Compound.{datagram_bytes, total};
 ghost use Rattle.memberlist_member.specs.Histories.{IsClear, IsHere, IsNoEnd, IsWell, Lives};
-ghost use Rattle.memberlist_member.specs.Histories.{Spares, shortest};
+ghost use Rattle.memberlist_member.specs.Histories.{Runs, Spares, longest, shortest};
+ghost use Rattle.memberlist_member.specs.Staying.{IsProbing};
+ghost use Rattle.memberlist_member.specs.Steps.{AreWaitedFor};
+ghost use Rattle.memberlist_view.specs.Told.{entry_of};
+ghost use Rattle.memberlist_view.specs.declared.entry.State.TheVariants as state;
 ghost use Rattle.memberlist_member.specs.Queues.{AreApart, put};
 ghost use Rattle.swim_claim.specs.Details.{DetailsValue};
 ghost use Rattle.memberlist_view.specs.Rules.{are_sound_versions, change_of_entry};
@@ -98,6 +102,24 @@ pub fn nobody_is_accused_without_cause()
 /// suspects it, unless somebody says that it is dead or left.
 pub fn nobody_dies_early()
     ensures { (name : List ℕ) (first last : Member) → Lives (IsNoEnd name) first last
-        → IsWell name first.view → last.time < min (first.time + shortest first.settings) (2 ^ 64 - 1)
+        → IsWell name first.view → last.time < min (first.time + shortest first.settings) (2 ^ 64 -
+        1)
         → IsHere name last.view }
+{}
+
+/// A suspicion ends. After a tick, no member is shown as suspect for longer than the longest
+/// suspicion in the largest cluster; a silent member, which declares nobody dead, waits for others.
+pub fn every_suspicion_ends()
+    ensures { (m : Member) (name : List ℕ) (entry : Entry) (by : List (List ℕ)) → AreWaitedFor m
+        → m.settings.is_silent ≡ false → entry_of m.view name ≡ Some entry
+        → entry.state ≡ state.Suspect by → m.time < entry.since + longest m.settings }
+{}
+
+/// A probe has its time. In whatever happens to a member, none that began in the meantime ends
+/// before the probe interval is over.
+pub fn a_probe_has_its_time()
+    ensures { (first last : Member) (seq : ℕ) (name : List ℕ) (inc due : ℕ) → Runs first last
+        → IsProbing seq name inc due last
+        → due < min (first.time + 1000 * first.settings.probe_interval) (2 ^ 64 - 1)
+        → IsProbing seq name inc due first }
 {}

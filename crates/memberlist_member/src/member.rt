@@ -1,5 +1,6 @@
 //! A whole member.
 
+mod asking;
 mod datagrams;
 mod gossiping;
 mod hearing;
@@ -10,12 +11,14 @@ mod sending;
 mod stepping;
 mod streams;
 mod suspecting;
+mod tables;
 mod timing;
 
 ghost use Rattle.std.specs.Prelude.{◌≡◌, []};
 ghost use Rattle.std.specs.List.{All};
 ghost use Rattle.memberlist_member.specs.Outputs.{FitsIn};
 ghost use Rattle.memberlist_member.specs.Beginning.{IsBegun};
+ghost use Rattle.memberlist_member.specs.Suspects.{AreWatched};
 ghost use Rattle.memberlist_member.specs.Viewing.{IsViewUntil};
 
 use crate::awareness::Awareness;
@@ -72,6 +75,7 @@ pub struct Member {
     ghost limited: { out.limit ≡ settings.udp_buffer_size },
     ghost viewed: { IsViewUntil view time },
     ghost begun: { ∥ All (λ s. IsBegun settings s.suspicion) suspicions.list.items ∥₁ },
+    ghost watched: { AreWatched view suspicions.list.items },
 }
 
 /// When the next of each is due, in microseconds.

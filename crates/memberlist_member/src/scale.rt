@@ -36,7 +36,7 @@ fn count_below(rising: &[u64], end: u64) -> usize
 /// (`suspicionTimeout`): `SuspicionMult` probe intervals, in milliseconds, times the decimal
 /// logarithm of the number of members, which counts as 1 at least.
 pub fn suspicion_timeout(mult: u16, members: u32, interval: u32) -> u64
-    ensures { (r : ℕ) × IsMilliLog (max 1 members) r
+    ensures { (r : ℕ) × IsMilliLog (max 1 members) r × (r < 10000)
         × (result ≡ mult * max 1000 r * interval) }
 {
     let scale = milli_log(members.max(1)).max(1000);

@@ -49,7 +49,7 @@ impl Suspicion {
         requires mult { mult ≤ 6 }
         requires max_mult { 1 ≤ max_mult }
         ensures wanted { result.wanted ≡ confirmations_wanted mult members }
-        ensures least { (r : ℕ) × IsMilliLog (max 1 members) r
+        ensures least { (r : ℕ) × IsMilliLog (max 1 members) r × (r < 10000)
             × (result.least ≡ mult * max 1000 r * interval / 1000) }
         ensures most { result.most ≡ max_mult * result.least }
     {

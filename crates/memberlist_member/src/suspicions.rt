@@ -1,7 +1,8 @@
 //! The members that are suspected.
 
-ghost use Rattle.std.specs.Prelude.{◌≡◌, ◌≤◌, ◌∷◌, ◌++◌, ℕ, [], All, Any, IfNone, IfSome, IsPermutation};
-ghost use Rattle.std.specs.Prelude.{List, OnErr, OnOk, count_by, find, length, position};
+ghost use Rattle.std.specs.Prelude.{◌≡◌, ◌≢◌, ◌+◌, ◌≤◌, ◌∷◌, ◌++◌, ℕ, [], All, Any, IfNone, IfSome};
+ghost use Rattle.std.specs.Prelude.{IsPermutation, List, OnErr, OnOk, count_by, find, length, position};
+ghost use Rattle.std.specs.Bool.{OnFalse, OnTrue};
 ghost use Rattle.std.specs.Option.{option_copied};
 ghost use Rattle.memberlist_member.specs.Lists.{without_first};
 ghost use Rattle.memberlist_member.specs.Probes.{first_of};
@@ -36,27 +37,28 @@ impl Suspicions {
         }
     }
 
-    /// How many there are; each name is there at most once.
-    pub(crate) fn len(&self) -> usize
-        ensures len { result ≡ length self.now.list.items }
-        ensures apart { (name : List ℕ) → count_by (is_suspect name) self.now.list.items ≤ 1 }
+    /// Whether the member with this name is suspected.
+    pub(crate) fn has(&self, name: &MemberName) -> bool
+        ensures once { OnTrue result (count_by (is_suspect name.now) self.now.list.items ≡ 1) }
+        ensures none { OnFalse result (count_by (is_suspect name.now) self.now.list.items ≡ 0) }
     {
-        self.list.len()
+        match self.place_of(name) {
+            Some(_) => true,
+            None => false,
+        }
     }
 
-    /// The member with this name is suspected from now on.
+    /// The member with this name, which was not suspected, is suspected from now on.
     ///
     /// # Errors
     ///
-    /// `AllocError` if out of memory: it is not suspected any more.
+    /// `AllocError` if out of memory: it is not.
     pub(crate) fn add(&mut self, name: MemberName, suspicion: Suspicion) -> Result<(), AllocError>
-        ensures added { OnOk result (IsPermutation
-            (without_first (is_suspect name) self.old.list.items
-            ++ record { name = name; suspicion = suspicion } ∷ []) self.new.list.items) }
-        ensures refused { OnErr result (IsPermutation
-            (without_first (is_suspect name) self.old.list.items) self.new.list.items) }
+        requires new { count_by (is_suspect name) self.old.list.items ≡ 0 }
+        ensures added { OnOk result (self.new.list.items
+            ≡ self.old.list.items ++ record { name = name; suspicion = suspicion } ∷ []) }
+        ensures refused { OnErr result (self.new.list.items ≡ self.old.list.items) }
     {
-        self.remove(&name);
         self.list.push(Suspect { name, suspicion })?;
         Ok(())
     }
@@ -66,6 +68,11 @@ impl Suspicions {
         ensures removed { IsPermutation (without_first (is_suspect name.now) self.old.list.items)
             self.new.list.items }
         ensures gone { count_by (is_suspect name.now) self.new.list.items ≡ 0 }
+        ensures fewer { length self.new.list.items + count_by (is_suspect name.now)
+            self.old.list.items ≡ length self.old.list.items }
+        ensures others { (other : List ℕ) → other ≢ name.now
+            → count_by (is_suspect other) self.new.list.items
+            ≡ count_by (is_suspect other) self.old.list.items }
     {
         if let Some(place) = self.place_of(name) {
             let _ = self.list.swap_remove(place);

@@ -6,8 +6,8 @@ ghost use Rattle.swim_wire.specs.Packet.{PacketValue};
 ghost use Rattle.memberlist_message.specs.Messages.{AckValue, MessageValue, message_value};
 ghost use Rattle.memberlist_member.specs.Steps.{AnswersAtMostEach, IsAnsweredAfter, IsHeededAck};
 ghost use Rattle.memberlist_member.specs.Steps.{IsOutdone, IsOutdoneAfter, IsOutdoneIn};
-ghost use Rattle.memberlist_member.specs.Staying.{Adds, HasNoProbe, KeepsAnswered, Stays};
-ghost use Rattle.memberlist_member.specs.Staying.{StaysButProbe};
+ghost use Rattle.memberlist_member.specs.Staying.{Adds, BeginsNoProbe, HasNoProbe, KeepsAnswered};
+ghost use Rattle.memberlist_member.specs.Staying.{Stays, StaysButProbe};
 ghost use Rattle.memberlist_member.specs.Showing.{KeepsLines, GoesBy, GoesByDatagram, GoesOn};
 ghost use Rattle.memberlist_member.specs.Showing.{Tells};
 ghost use Rattle.memberlist_member.specs.Saying.{said_of};
@@ -33,7 +33,9 @@ impl Member {
         ensures outdone { OnOk result (IsOutdoneAfter self.old.cover bytes.now self.new.own) }
         ensures answered { OnOk result (IsAnsweredAfter self.old.cover bytes.now self.new) }
         ensures stays { StaysButProbe self.old self.new }
+        ensures probes { BeginsNoProbe self.old self.new }
         ensures goes { GoesByDatagram self.old.cover bytes.now self.old self.new }
+        ensures lines { KeepsLines self.old self.new }
     {
         let Opened::Message(message) = self.cover.open_packet(self.alloc, bytes)? else {
             self.refuse();
@@ -54,8 +56,10 @@ impl Member {
         ensures outdone { OnOk result (All (λ part. IsOutdoneIn self.new.own part.now) parts.now) }
         ensures answered { OnOk result (All (λ part. IsHeededAck self.new part.now) parts.now) }
         ensures stays { StaysButProbe self.old self.new }
+        ensures probes { BeginsNoProbe self.old self.new }
         ensures goes { (told : List Said) → All (λ part. Tells told part.now) parts.now
             → GoesBy told self.old self.new }
+        ensures lines { KeepsLines self.old self.new }
     {
         for part in parts {
             self.take_part(from, part, rng)?;
@@ -75,7 +79,9 @@ impl Member {
         ensures answered { OnOk result (IsHeededAck self.new part.now) }
         ensures keeps { KeepsAnswered self.old self.new }
         ensures stays { StaysButProbe self.old self.new }
+        ensures probes { BeginsNoProbe self.old self.new }
         ensures goes { (told : List Said) → Tells told part.now → GoesBy told self.old self.new }
+        ensures lines { KeepsLines self.old self.new }
     {
         match decode_message(self.alloc, part) {
             Ok(message) => self.take_message(from, message, rng),
@@ -100,9 +106,12 @@ impl Member {
             → message_value message ≡ MessageValue.ack ack → HasNoProbe ack.seq_no self.new) }
         ensures keeps { KeepsAnswered self.old self.new }
         ensures stays { StaysButProbe self.old self.new }
+        ensures probes { BeginsNoProbe self.old self.new }
         ensures goes { (told : List Said) → ((packet : PacketValue)
-            → message_value message ≡ MessageValue.claim packet → Contains told (said_of packet true))
+            → message_value message ≡ MessageValue.claim packet → Contains told (said_of packet
+            true))
             → GoesBy told self.old self.new }
+        ensures lines { KeepsLines self.old self.new }
     {
         match message {
             Message::Ping(ping) => self.answer_ping(from, &ping, rng),

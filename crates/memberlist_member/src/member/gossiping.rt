@@ -2,7 +2,7 @@
 
 ghost use Rattle.std.specs.Prelude.{◌≤◌, IfOk, length};
 ghost use Rattle.memberlist_member.specs.Staying.{Adds, Stays, unless_silent};
-ghost use Rattle.memberlist_member.specs.Showing.{GoesOn};
+ghost use Rattle.memberlist_member.specs.Showing.{GoesOn, KeepsLines};
 
 use crate::config::micros;
 use crate::member::Member;
@@ -24,9 +24,11 @@ pub(crate) enum Among {
 impl Member {
     /// Tells news to some members.
     pub(crate) fn gossip<R: Rng>(&mut self, rng: &mut R) -> Result<(), AllocError>
-        ensures adds { Adds (unless_silent self.old.settings self.old.settings.gossip_nodes) 0 0 self.old self.new }
+        ensures adds { Adds (unless_silent self.old.settings self.old.settings.gossip_nodes) 0 0
+            self.old self.new }
         ensures stays { Stays self.old self.new }
         ensures goes { GoesOn self.old self.new }
+        ensures lines { KeepsLines self.old self.new }
     {
         if self.config().is_silent || (self.claims.len() == 0 && self.said.len() == 0) {
             return Ok(());
@@ -42,7 +44,7 @@ impl Member {
             };
             let news = self.take_news(self.room().saturating_sub(2))?;
             if news.is_empty() {
-                break;
+                return Ok(());
             }
             self.send(to, news, rng)?;
         }

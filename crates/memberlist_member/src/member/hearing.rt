@@ -3,10 +3,12 @@
 ghost use Rattle.std.specs.Prelude.{◌≡◌, ◌-◌, ◌^◌, ◌<◌, ◌≤◌, Bool, false, IfOk, List, OnOk};
 ghost use Rattle.swim_claim.specs.Claim.{name_of};
 ghost use Rattle.memberlist_view.specs.Heard.{about};
+ghost use Rattle.memberlist_view.specs.Member.{member_view_after};
 ghost use Rattle.memberlist_member.specs.Steps.{IsOutdone};
-ghost use Rattle.memberlist_member.specs.Staying.{Adds, Stays};
+ghost use Rattle.memberlist_member.specs.Staying.{Adds, ShowsTheSame, Stays};
 ghost use Rattle.memberlist_member.specs.Showing.{KeepsLines, GoesBy, GoesOn, IsGround, IsOwnWord};
 ghost use Rattle.memberlist_member.specs.Saying.{inc_in, said_of};
+ghost use Rattle.memberlist_member.specs.Suspects.{GrowsByAtMost};
 ghost use Rattle.memberlist_view.specs.declared.heard.Said.{Said};
 
 use crate::config::micros;
@@ -14,7 +16,6 @@ use crate::member::Member;
 use crate::output::Output;
 use crate::own::Verdict;
 use crate::place::place_of;
-use crate::suspicion::Suspicion;
 use memberlist_view::{Event, Heard, MemberName, Said, State};
 use rand_core::Rng;
 use std::alloc::{AllocError, Global};
@@ -46,12 +47,52 @@ impl Member {
         if MAX_NODES as usize <= self.rounds.len() && self.view.get(heard.said.name()).is_none() {
             return Ok(());
         }
-        let Some(event) = self.view.hear_as_member(&heard)? else {
+        self.hear_now(packet, &heard, rng)
+    }
+
+    /// Hears now what a packet says, and tells it on if it changed anything.
+    pub(crate) fn hear_now<R: Rng>(
+        &mut self,
+        packet: &Packet,
+        heard: &Heard,
+        rng: &mut R,
+    ) -> Result<(), AllocError>
+        requires now { heard.now.time ≡ self.old.time }
+        ensures adds { Adds 0 0 0 self.old self.new }
+        ensures stays { Stays self.old self.new }
+        ensures goes { (told : List Said) → IsGround told self.old heard.now.said
+            → GoesBy told self.old self.new }
+        ensures own { self.new.own ≡ self.old.own }
+        ensures lines { KeepsLines self.old self.new }
+        ensures step { OnOk result (self.new.view ≡ member_view_after self.old.view heard.now) }
+        ensures grows { GrowsByAtMost (about heard.now.said) self.old.suspicions.list.items
+            self.new.suspicions.list.items }
+    {
+        let event = self.take_in(heard)?;
+        self.heed(packet, heard.said.name(), event, rng)
+    }
+
+    /// Does what an event asks for, and tells on the claim from which it came.
+    fn heed<R: Rng>(
+        &mut self,
+        packet: &Packet,
+        name: &MemberName,
+        event: Option<Event>,
+        rng: &mut R,
+    ) -> Result<(), AllocError>
+        ensures adds { Adds 0 0 0 self.old self.new }
+        ensures stays { Stays self.old self.new }
+        ensures goes { GoesOn self.old self.new }
+        ensures own { self.new.own ≡ self.old.own }
+        ensures lines { KeepsLines self.old self.new }
+        ensures shown { ShowsTheSame self.old self.new }
+    {
+        let Some(event) = event else {
             return Ok(());
         };
-        self.follow(heard.said.name(), event, rng)?;
+        self.follow(name, event, rng)?;
         self.tell_on(packet, event)?;
-        self.show(heard.said.name(), event)
+        self.show(name, event)
     }
 
     /// Does what an event asks for.
@@ -66,20 +107,16 @@ impl Member {
         ensures goes { GoesOn self.old self.new }
         ensures own { self.new.own ≡ self.old.own }
         ensures lines { KeepsLines self.old self.new }
+        ensures shown { ShowsTheSame self.old self.new }
     {
         match event {
             Event::Joined | Event::Known => self.admit(name, rng),
             Event::Back | Event::Updated | Event::Renewed | Event::Refuted | Event::Left => {
-                self.suspicions.remove(name);
                 self.lost.remove(name);
                 Ok(())
             }
-            Event::Suspected => self.suspect(name),
-            Event::Dead => {
-                self.suspicions.remove(name);
-                self.lose(name)
-            }
-            Event::AlsoSuspected | Event::Conflict | Event::Seen => Ok(()),
+            Event::Dead => self.lose(name),
+            Event::Suspected | Event::AlsoSuspected | Event::Conflict | Event::Seen => Ok(()),
         }
     }
 
@@ -90,6 +127,7 @@ impl Member {
         ensures goes { GoesOn self.old self.new }
         ensures own { self.new.own ≡ self.old.own }
         ensures lines { KeepsLines self.old self.new }
+        ensures shown { ShowsTheSame self.old self.new }
     {
         if !self.is_known(name) {
             return Ok(());
@@ -107,25 +145,6 @@ impl Member {
         }
     }
 
-    /// Begins to wait for what a member that is suspected says.
-    fn suspect(&mut self, name: &MemberName) -> Result<(), AllocError>
-        ensures adds { Adds 0 0 0 self.old self.new }
-        ensures stays { Stays self.old self.new }
-        ensures goes { GoesOn self.old self.new }
-        ensures own { self.new.own ≡ self.old.own }
-        ensures lines { KeepsLines self.old self.new }
-    {
-        let config = self.settings.config();
-        let suspicion = Suspicion::begun(
-            config.suspicion_mult,
-            config.suspicion_max_timeout_mult,
-            config.probe_interval,
-            self.members(),
-        );
-        let copy = copy_of(self.alloc, name)?;
-        self.suspicions.add(copy, suspicion)
-    }
-
     /// Remembers where a member was that died.
     fn lose(&mut self, name: &MemberName) -> Result<(), AllocError>
         ensures adds { Adds 0 0 0 self.old self.new }
@@ -133,6 +152,7 @@ impl Member {
         ensures goes { GoesOn self.old self.new }
         ensures own { self.new.own ≡ self.old.own }
         ensures lines { KeepsLines self.old self.new }
+        ensures shown { ShowsTheSame self.old self.new }
     {
         let Some(entry) = self.view.get(name) else {
             return Ok(());
@@ -155,7 +175,9 @@ impl Member {
         ensures adds { Adds 0 0 0 self.old self.new }
         ensures stays { Stays self.old self.new }
         ensures goes { GoesOn self.old self.new }
+        ensures own { self.new.own ≡ self.old.own }
         ensures lines { KeepsLines self.old self.new }
+        ensures shown { ShowsTheSame self.old self.new }
     {
         if self.config().is_silent || !self.is_news(packet, event)? {
             return Ok(());
@@ -198,6 +220,7 @@ impl Member {
         ensures goes { GoesOn self.old self.new }
         ensures own { self.new.own ≡ self.old.own }
         ensures lines { KeepsLines self.old self.new }
+        ensures shown { ShowsTheSame self.old self.new }
     {
         let bytes = encode_packet(self.alloc, packet)?;
         if self.room() < 4 + bytes.len() {
@@ -217,6 +240,7 @@ impl Member {
         ensures goes { GoesOn self.old self.new }
         ensures own { self.new.own ≡ self.old.own }
         ensures lines { KeepsLines self.old self.new }
+        ensures shown { ShowsTheSame self.old self.new }
     {
         let alloc = self.alloc;
         let Some(entry) = self.view.get(name) else {
@@ -273,7 +297,8 @@ impl Member {
             → accused < self.new.own.inc) }
         ensures stays { Stays self.old self.new }
         ensures goes { (told : List Said) (said : Said) → IsGround told self.old said
-            → about said ≡ self.old.own.name → self.old.own.is_leaving ≡ false → inc_in said ≡ accused
+            → about said ≡ self.old.own.name → self.old.own.is_leaving ≡ false → inc_in said ≡
+            accused
             → self.old.own.inc ≤ accused → GoesBy told self.old self.new }
         ensures lines { KeepsLines self.old self.new }
     {
@@ -314,7 +339,7 @@ impl Member {
             time: self.time,
             said: said_by(self.alloc, packet, true)?,
         };
-        let Some(event) = self.view.hear_as_member(&heard)? else {
+        let Some(event) = self.take_in(&heard)? else {
             return Ok(());
         };
         self.follow(heard.said.name(), event, rng)?;
@@ -324,7 +349,7 @@ impl Member {
 }
 
 /// What a packet says.
-fn said_by(alloc: Global, packet: &Packet, joins: bool) -> Result<Said, AllocError>
+pub(crate) fn said_by(alloc: Global, packet: &Packet, joins: bool) -> Result<Said, AllocError>
     ensures { IfOk result (λ said. said ≡ said_of packet.now joins) }
 {
     let claim = packet.claim().try_clone(alloc)?;

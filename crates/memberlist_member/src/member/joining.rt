@@ -3,9 +3,11 @@
 ghost use Rattle.std.specs.Prelude.{◌≡◌, List, OnOk, length, true};
 ghost use Rattle.std.specs.List.{Contains};
 ghost use Rattle.memberlist_member.specs.Owns.{own_leave};
-ghost use Rattle.memberlist_member.specs.Staying.{Adds, Stays, StaysItself, StaysButTimes};
+ghost use Rattle.memberlist_member.specs.Staying.{Adds, BeginsNoProbe, Stays, StaysItself};
+ghost use Rattle.memberlist_member.specs.Staying.{StaysButTimes};
 ghost use Rattle.memberlist_member.specs.Steps.{IsSaid, IsUpdated};
-ghost use Rattle.memberlist_member.specs.Showing.{GoesOn, MayChange, MayLeave, Went};
+ghost use Rattle.memberlist_member.specs.Showing.{GoesOn, KeepsLines, MayChange, MayLeave};
+ghost use Rattle.memberlist_member.specs.Showing.{Went};
 ghost use Rattle.memberlist_member.specs.Saying.{said_of};
 ghost use Rattle.memberlist_view.specs.declared.heard.Said.{Said};
 
@@ -33,7 +35,9 @@ impl Member {
         ensures adds { Adds 0 (length seeds.now) 0 self.old self.new }
         ensures seeds { OnOk result (self.new.seeds.items ≡ seeds.now) }
         ensures stays { StaysItself self.old self.new }
+        ensures probes { BeginsNoProbe self.old self.new }
         ensures goes { GoesOn self.old self.new }
+        ensures lines { KeepsLines self.old self.new }
     {
         self.seeds = seeds.to_vec(self.alloc)?;
         for seed in seeds {
@@ -46,10 +50,12 @@ impl Member {
     pub(crate) fn leave<R: Rng>(&mut self, rng: &mut R) -> Result<(), AllocError>
         ensures adds { Adds 0 0 0 self.old self.new }
         ensures stays { StaysItself self.old self.new }
+        ensures probes { BeginsNoProbe self.old self.new }
         ensures leaves { OnOk result (self.new.own.is_leaving ≡ true) }
         ensures goes { (told : List Said) → Contains told (said_of (own_leave self.old.own) true)
             → Went told self.old.own self.old.own self.old self.new }
         ensures own { MayLeave self.old.own self.new.own }
+        ensures lines { KeepsLines self.old self.new }
     {
         if self.own.is_leaving {
             return Ok(());
@@ -66,8 +72,13 @@ impl Member {
     pub(crate) fn depart(&mut self) -> Result<(), AllocError>
         ensures adds { Adds 0 0 0 self.old self.new }
         ensures stays { StaysButTimes self.old self.new }
-        ensures times { self.new.times ≡ record self.old.times { departure = self.new.times.departure } }
+        ensures probes { BeginsNoProbe self.old self.new }
+        ensures times { self.new.times ≡ record self.old.times {
+          departure =
+              self.new.times.departure;
+        } }
         ensures goes { GoesOn self.old self.new }
+        ensures lines { KeepsLines self.old self.new }
     {
         let Some(until) = self.times.departure else {
             return Ok(());
@@ -101,8 +112,10 @@ impl Member {
         ensures adds { Adds 0 0 0 self.old self.new }
         ensures updates { OnOk result (IsUpdated meta.now self.old.own self.new.own) }
         ensures stays { StaysItself self.old self.new }
+        ensures probes { BeginsNoProbe self.old self.new }
         ensures goes { (told : List Said) → Went told self.new.own self.new.own self.old self.new }
         ensures own { MayChange meta.now self.old.own self.new.own }
+        ensures lines { KeepsLines self.old self.new }
     {
         let old = &self.own.details;
         let meta = meta.to_vec(self.alloc)?;
@@ -124,6 +137,7 @@ impl Member {
         ensures said { OnOk result (IsSaid bytes.now self.old self.new) }
         ensures stays { Stays self.old self.new }
         ensures goes { GoesOn self.old self.new }
+        ensures lines { KeepsLines self.old self.new }
     {
         let message = encode_user(self.alloc, bytes)?;
         if self.room() < 4 + message.len() {
@@ -141,6 +155,7 @@ impl Member {
         ensures state { OnOk result (self.new.state.items ≡ bytes.now) }
         ensures stays { Stays self.old self.new }
         ensures goes { GoesOn self.old self.new }
+        ensures lines { KeepsLines self.old self.new }
     {
         self.state = bytes.to_vec(self.alloc)?;
         Ok(())

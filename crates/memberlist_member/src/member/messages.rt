@@ -1,8 +1,8 @@
 //! Pings and their answers.
 
 ghost use Rattle.std.specs.Prelude.{◌<◌, ◌≤◌, ◌^◌, IfOk, OnOk, length};
-ghost use Rattle.memberlist_member.specs.Staying.{Adds, HasNoProbe, KeepsAnswered, Stays};
-ghost use Rattle.memberlist_member.specs.Staying.{StaysButProbe};
+ghost use Rattle.memberlist_member.specs.Staying.{Adds, BeginsNoProbe, HasNoProbe, KeepsAnswered};
+ghost use Rattle.memberlist_member.specs.Staying.{Stays, StaysButProbe};
 ghost use Rattle.memberlist_member.specs.Showing.{KeepsLines, GoesOn};
 
 use crate::config::micros;
@@ -29,6 +29,7 @@ impl Member {
         ensures adds { Adds 1 0 0 self.old self.new }
         ensures stays { Stays self.old self.new }
         ensures goes { GoesOn self.old self.new }
+        ensures lines { KeepsLines self.old self.new }
     {
         if !self.is_own(&ping.node) {
             return Ok(());
@@ -51,6 +52,7 @@ impl Member {
         ensures adds { Adds 1 0 0 self.old self.new }
         ensures stays { Stays self.old self.new }
         ensures goes { GoesOn self.old self.new }
+        ensures lines { KeepsLines self.old self.new }
     {
         let message = self.ack(seq_no)?;
         self.send_with_news(to, message, rng)
@@ -72,6 +74,7 @@ impl Member {
         ensures adds { Adds 1 0 0 self.old self.new }
         ensures stays { Stays self.old self.new }
         ensures goes { GoesOn self.old self.new }
+        ensures lines { KeepsLines self.old self.new }
     {
         let Some(ip) = ip_of(&ping.target) else {
             self.refuse();
@@ -132,14 +135,28 @@ impl Member {
         ensures answered { OnOk result (HasNoProbe seq self.new) }
         ensures keeps { KeepsAnswered self.old self.new }
         ensures stays { StaysButProbe self.old self.new }
+        ensures probes { BeginsNoProbe self.old self.new }
         ensures goes { GoesOn self.old self.new }
+        ensures lines { KeepsLines self.old self.new }
     {
-        if let Some(relay) = self.relays.take(seq) {
-            if self.time <= relay.due {
-                self.send_ack(relay.asker, relay.asked, rng)?;
-            }
-        }
+        self.answer_asker(seq, rng)?;
         self.answer_probe(seq)
+    }
+
+    /// Tells the one that asked for the ping with this number that an answer came, if it is in time.
+    fn answer_asker<R: Rng>(&mut self, seq: u32, rng: &mut R) -> Result<(), AllocError>
+        ensures adds { Adds 1 0 0 self.old self.new }
+        ensures stays { Stays self.old self.new }
+        ensures goes { GoesOn self.old self.new }
+        ensures lines { KeepsLines self.old self.new }
+    {
+        let Some(relay) = self.relays.take(seq) else {
+            return Ok(());
+        };
+        if relay.due < self.time {
+            return Ok(());
+        }
+        self.send_ack(relay.asker, relay.asked, rng)
     }
 
     /// Tells those who asked that no answer came.
@@ -182,6 +199,7 @@ impl Member {
         ensures adds { Adds 0 0 0 self.old self.new }
         ensures stays { Stays self.old self.new }
         ensures goes { GoesOn self.old self.new }
+        ensures lines { KeepsLines self.old self.new }
     {
         self.put(Output::User { bytes })
     }

@@ -1,43 +1,35 @@
 //! Probes (`probe`, `probeNode` in state.go).
 
-ghost use Rattle.std.specs.Prelude.{◌≡◌, ◌<◌, ◌≤◌, ◌^◌, IfOk, IfSome, List, length};
+ghost use Rattle.std.specs.Prelude.{◌≡◌, ◌<◌, ◌≤◌, IfOk, IfSome, List};
 ghost use Rattle.std.specs.List.{Contains};
 ghost use Rattle.swim_claim.specs.declared.claim.Claim.TheVariants.{Suspect};
 ghost use Rattle.memberlist_member.specs.Claims.{packet_of};
-ghost use Rattle.memberlist_member.specs.Staying.{Adds, HasNoProbe, KeepsAnswered, Stays};
-ghost use Rattle.memberlist_member.specs.Staying.{StaysButProbe, unless_silent};
+ghost use Rattle.memberlist_member.specs.Staying.{Adds, BeginsInTime, BeginsNoProbe, HasNoProbe};
+ghost use Rattle.memberlist_member.specs.Staying.{KeepsAnswered, Stays, StaysButProbe, unless_silent};
 ghost use Rattle.memberlist_member.specs.Showing.{KeepsLines, GoesBy, GoesOn, IsUnanswered};
-ghost use Rattle.memberlist_member.specs.Showing.{KeepsUnanswered};
 ghost use Rattle.memberlist_view.specs.declared.heard.Said.{Said};
 
 use crate::claims;
 use crate::config::micros;
-use crate::connections::Purpose;
 use crate::member::Member;
-use crate::member::gossiping::Among;
 use crate::member::hearing::copy_of;
 use crate::output::Output;
 use crate::place::place_of;
 use crate::probe::Probe;
-use memberlist_message::{IndirectPing, encode_indirect_ping};
 use memberlist_view::{Entry, MemberName, State};
 use rand_core::Rng;
 use std::alloc::AllocError;
 use std::net::SocketAddr;
 use swim_wire::{Packet, encode_packet};
 
-/// From this version of the protocol on a member that is asked to ping another one says so if it
-/// gets no answer; and one is asked over TCP too.
-const HAS_NACK: u8 = 4;
-
-const HAS_TCP_PING: u8 = 3;
-
 impl Member {
     /// Probes the next member, unless a probe runs.
     pub(crate) fn begin_probe<R: Rng>(&mut self, rng: &mut R) -> Result<(), AllocError>
         ensures adds { Adds (unless_silent self.old.settings 1) 0 0 self.old self.new }
         ensures stays { StaysButProbe self.old self.new }
+        ensures probes { BeginsInTime self.old self.new }
         ensures goes { GoesOn self.old self.new }
+        ensures lines { KeepsLines self.old self.new }
     {
         if self.probe.is_some() || self.own.is_leaving || self.config().is_silent {
             return Ok(());
@@ -53,16 +45,17 @@ impl Member {
         ensures adds { Adds 0 0 0 self.old self.new }
         ensures stays { Stays self.old self.new }
         ensures goes { GoesOn self.old self.new }
+        ensures lines { KeepsLines self.old self.new }
     {
         if let Some(name) = self.next_in_round()? {
             return Ok(Some(name));
         }
         self.begin_round(rng)?;
-        let found = self.next_in_round()?;
-        if found.is_none() {
-            self.begin_round(rng)?;
+        if let Some(name) = self.next_in_round()? {
+            return Ok(Some(name));
         }
-        Ok(found)
+        self.begin_round(rng)?;
+        Ok(None)
     }
 
     /// The next one until the end of the round.
@@ -70,6 +63,7 @@ impl Member {
         ensures adds { Adds 0 0 0 self.old self.new }
         ensures stays { Stays self.old self.new }
         ensures goes { GoesOn self.old self.new }
+        ensures lines { KeepsLines self.old self.new }
     {
         for _ in 0..self.rounds.len() {
             let Some(name) = self.rounds.next() else {
@@ -93,6 +87,7 @@ impl Member {
         ensures adds { Adds 0 0 0 self.old self.new }
         ensures stays { Stays self.old self.new }
         ensures goes { GoesOn self.old self.new }
+        ensures lines { KeepsLines self.old self.new }
     {
         let count = self.view.forget(self.time);
         self.rounds.begin(&self.view, rng);
@@ -106,7 +101,9 @@ impl Member {
     fn probe_member<R: Rng>(&mut self, name: MemberName, rng: &mut R) -> Result<(), AllocError>
         ensures adds { Adds 1 0 0 self.old self.new }
         ensures stays { StaysButProbe self.old self.new }
+        ensures probes { BeginsInTime self.old self.new }
         ensures goes { GoesOn self.old self.new }
+        ensures lines { KeepsLines self.old self.new }
     {
         let Some(entry) = self.view.get(&name) else {
             return Ok(());
@@ -166,6 +163,7 @@ impl Member {
         ensures adds { Adds 1 0 0 self.old self.new }
         ensures stays { Stays self.old self.new }
         ensures goes { GoesOn self.old self.new }
+        ensures lines { KeepsLines self.old self.new }
     {
         let warning = encode_packet(self.alloc, packet)?;
         let room = self.room();
@@ -181,14 +179,21 @@ impl Member {
         self.send(to, parts, rng)
     }
 
-    /// Goes on with the probe: asks others if there was no answer yet, and ends it in time.
+    /// Goes on with the probe: asks others if there was no answer yet, and ends it in time. A
+    /// silent member has none.
     pub(crate) fn go_on_probing<R: Rng>(&mut self, rng: &mut R) -> Result<(), AllocError>
-        ensures adds { Adds self.old.settings.indirect_checks 1 0 self.old self.new }
+        ensures adds { Adds (unless_silent self.old.settings self.old.settings.indirect_checks)
+            (unless_silent self.old.settings 1) 0 self.old self.new }
         ensures stays { StaysButProbe self.old self.new }
+        ensures probes { BeginsNoProbe self.old self.new }
         ensures goes { (told : List Said)
             → ((said : Said) → IsUnanswered self.old.time self.old said → Contains told said)
             → GoesBy told self.old self.new }
+        ensures lines { KeepsLines self.old self.new }
     {
+        if self.config().is_silent {
+            return Ok(());
+        }
         let Some(probe) = &mut self.probe else {
             return Ok(());
         };
@@ -204,134 +209,6 @@ impl Member {
         }
     }
 
-    /// Asks other members to ping the one that is probed, and asks itself over TCP.
-    fn ask_others<R: Rng>(&mut self, rng: &mut R) -> Result<(), AllocError>
-        ensures adds { Adds self.old.settings.indirect_checks 1 0 self.old self.new }
-        ensures stays { StaysButProbe self.old self.new }
-        ensures goes { GoesOn self.old self.new }
-    {
-        let Some(probe) = &self.probe else {
-            return Ok(());
-        };
-        let name = copy_of(self.alloc, &probe.name)?;
-        let seq = probe.seq;
-        let Some(entry) = self.view.get(&name) else {
-            return Ok(());
-        };
-        let Some(place) = place_in(entry) else {
-            return Ok(());
-        };
-        let speaks_tcp = HAS_TCP_PING <= version_of(entry);
-        let count = self.config().indirect_checks as usize;
-        let peers = self.some_members(count, Some(&name), Among::Alive, rng)?;
-        for peer in &peers {
-            self.ask(peer, seq, &name, place, rng)?;
-        }
-        if speaks_tcp {
-            self.ask_over_tcp(seq, &name, place, rng)?;
-        }
-        Ok(())
-    }
-
-    /// Asks this member to ping the one that is probed.
-    fn ask<R: Rng>(
-        &mut self,
-        peer: &MemberName,
-        seq_no: u32,
-        name: &MemberName,
-        place: SocketAddr,
-        rng: &mut R,
-    ) -> Result<(), AllocError>
-        ensures adds { Adds 1 0 0 self.old self.new }
-        ensures stays { StaysButProbe self.old self.new }
-        ensures goes { GoesOn self.old self.new }
-    {
-        let Some(entry) = self.view.get(peer) else {
-            return Ok(());
-        };
-        let nack = HAS_NACK <= version_of(entry);
-        let Some(to) = place_in(entry) else {
-            return Ok(());
-        };
-        if let Some(probe) = &mut self.probe {
-            if nack {
-                probe.expected = probe.expected.saturating_add(1);
-            }
-        }
-        let message = self.indirect_ping(seq_no, name.name().bytes(), place, nack)?;
-        self.send_with_news(to, message, rng)
-    }
-
-    /// The bytes of an indirect ping; names that would not fit are left out, as in a ping.
-    fn indirect_ping(
-        &self,
-        seq_no: u32,
-        name: &[u8],
-        place: SocketAddr,
-        nack: bool,
-    ) -> Result<Vec<u8>, AllocError>
-        requires { length name.now < 2 ^ 16 }
-    {
-        let own = self.own.name.name().bytes();
-        let whole = self.indirect_ping_with(seq_no, name, place, nack, own)?;
-        if whole.len() <= self.room() {
-            return Ok(whole);
-        }
-        let shorter = self.indirect_ping_with(seq_no, name, place, nack, &[])?;
-        if shorter.len() <= self.room() {
-            return Ok(shorter);
-        }
-        self.indirect_ping_with(seq_no, &[], place, nack, &[])
-    }
-
-    fn indirect_ping_with(
-        &self,
-        seq_no: u32,
-        name: &[u8],
-        place: SocketAddr,
-        nack: bool,
-        own: &[u8],
-    ) -> Result<Vec<u8>, AllocError>
-        requires name { length name.now < 2 ^ 16 }
-        requires own { length own.now < 2 ^ 16 }
-    {
-        let ping = IndirectPing {
-            seq_no,
-            target: crate::place::bytes_of(self.alloc, &place)?,
-            port: place.port(),
-            node: name.to_vec(self.alloc)?,
-            nack,
-            source_addr: self.own_addr()?,
-            source_port: self.own.details.port(),
-            source_node: own.to_vec(self.alloc)?,
-        };
-        encode_indirect_ping(self.alloc, &ping)
-    }
-
-    /// Pings the member that is probed over a connection (`sendPingAndWaitForAck`).
-    fn ask_over_tcp<R: Rng>(
-        &mut self,
-        seq: u32,
-        name: &MemberName,
-        place: SocketAddr,
-        rng: &mut R,
-    ) -> Result<(), AllocError>
-        ensures adds { Adds 0 1 0 self.old self.new }
-        ensures stays { StaysButProbe self.old self.new }
-        ensures goes { GoesOn self.old self.new }
-    {
-        let message = self.ping(seq, name.name().bytes())?;
-        let due = match &self.probe {
-            Some(probe) => probe.due,
-            None => self.time,
-        };
-        let conn = self.dial(place, Purpose::Ping { seq }, message, due, rng)?;
-        if let Some(probe) = &mut self.probe {
-            probe.conn = conn;
-        }
-        Ok(())
-    }
-
     /// Ends the probe if this ack answers it.
     pub(crate) fn answer_probe(&mut self, seq: u32) -> Result<(), AllocError>
         ensures adds { Adds 0 0 0 self.old self.new }
@@ -339,7 +216,7 @@ impl Member {
         ensures keeps { KeepsAnswered self.old self.new }
         ensures stays { StaysButProbe self.old self.new }
         ensures goes { GoesOn self.old self.new }
-        ensures unanswered { KeepsUnanswered self.old self.new }
+        ensures probes { BeginsNoProbe self.old self.new }
         ensures lines { KeepsLines self.old self.new }
     {
         let Some(probe) = &self.probe else {
@@ -362,7 +239,9 @@ impl Member {
         ensures adds { Adds 0 0 0 self.old self.new }
         ensures keeps { KeepsAnswered self.old self.new }
         ensures stays { StaysButProbe self.old self.new }
+        ensures probes { BeginsNoProbe self.old self.new }
         ensures goes { GoesOn self.old self.new }
+        ensures lines { KeepsLines self.old self.new }
     {
         if let Some(probe) = &mut self.probe {
             probe.take_nack(seq);
@@ -374,9 +253,11 @@ impl Member {
         requires over { IfSome self.old.probe (λ probe. probe.due ≤ self.old.time) }
         ensures adds { Adds 0 0 0 self.old self.new }
         ensures stays { StaysButProbe self.old self.new }
+        ensures probes { BeginsNoProbe self.old self.new }
         ensures goes { (told : List Said)
             → ((said : Said) → IsUnanswered self.old.time self.old said → Contains told said)
             → GoesBy told self.old self.new }
+        ensures lines { KeepsLines self.old self.new }
     {
         let Some(probe) = self.probe.take() else {
             return Ok(());
@@ -392,6 +273,7 @@ impl Member {
         ensures adds { Adds 0 0 0 self.old self.new }
         ensures stays { Stays self.old self.new }
         ensures goes { GoesOn self.old self.new }
+        ensures lines { KeepsLines self.old self.new }
     {
         if let Some(conn) = probe.conn {
             self.hang_up(conn)?;
@@ -418,16 +300,5 @@ pub(crate) fn place_in(entry: &Entry) -> Option<SocketAddr> {
     match &entry.details {
         Some(details) => place_of(details),
         None => None,
-    }
-}
-
-/// The greatest version of the protocol that a member speaks.
-fn version_of(entry: &Entry) -> u8 {
-    let Some(details) = &entry.details else {
-        return 0;
-    };
-    match details.vsn() {
-        [_, greatest, ..] => *greatest,
-        _ => 0,
     }
 }

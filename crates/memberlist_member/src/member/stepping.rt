@@ -1,8 +1,8 @@
 //! What the member does with what it is told.
 
 ghost use Rattle.std.specs.Prelude.{◌≡◌, ◌≤◌, OnOk, if◌then◌else◌, max};
-ghost use Rattle.memberlist_member.specs.Staying.{Adds, Stays};
-ghost use Rattle.memberlist_member.specs.Steps.{Does, PutsAtMost, Shows};
+ghost use Rattle.memberlist_member.specs.Staying.{Adds, ShowsTheSame, Stays};
+ghost use Rattle.memberlist_member.specs.Steps.{Comes, Does, Probes, PutsAtMost, Shows};
 ghost use Rattle.memberlist_member.specs.Traffic.{is_datagram, is_dial, is_write};
 ghost use Rattle.memberlist_member.specs.Showing.{KeepsLines, GoesOn};
 
@@ -22,11 +22,13 @@ impl Member {
     /// `TooLong` if it is metadata of more than 512 bytes, or a message that fits no datagram.
     pub fn step<R: Rng>(&mut self, now: u64, input: Input<'_>, rng: &mut R) -> Result<(), StepFault>
         ensures time { self.new.time ≡ max self.old.time now }
-        ensures same { (self.new.settings ≡ self.old.settings)
+        ensures same { (self.new.settings ≡ self.old.settings) × (self.new.cover ≡ self.old.cover)
             × (self.new.own.name ≡ self.old.own.name) × (self.old.own.inc ≤ self.new.own.inc) }
         ensures puts { PutsAtMost input.entry self.old self.new }
         ensures does { OnOk result (Does input.entry self.old self.new) }
         ensures shows { Shows input.entry self.old self.new }
+        ensures probes { Probes input.entry self.old self.new }
+        ensures comes { Comes input.entry self.old self.new }
     {
         self.time = self.time.max(now);
         match input {
@@ -53,6 +55,7 @@ impl Member {
         ensures goes { GoesOn self.old self.new }
         ensures own { self.new.own ≡ self.old.own }
         ensures lines { KeepsLines self.old self.new }
+        ensures shown { ShowsTheSame self.old self.new }
     {
         self.out.push(output)
     }

@@ -1,13 +1,10 @@
 //! What the member does when its time has come.
 
-ghost use Rattle.std.specs.Prelude.{◌≡◌, ◌+◌, ◌||◌, List, OnOk, length};
-ghost use Rattle.std.specs.List.{Contains};
-ghost use Rattle.memberlist_member.specs.Steps.{IsLater, IsOnTime, TicksAtMost};
-ghost use Rattle.memberlist_member.specs.Staying.{Adds, Stays, StaysButProbe, StaysButTimes};
-ghost use Rattle.memberlist_member.specs.Staying.{unless_silent};
-ghost use Rattle.memberlist_member.specs.Showing.{GoesBy, GoesByLines, GoesByTime, GoesOn};
-ghost use Rattle.memberlist_member.specs.Showing.{IsUnanswered, KeepsUnanswered};
-ghost use Rattle.memberlist_view.specs.declared.heard.Said.{Said};
+ghost use Rattle.std.specs.Prelude.{◌≡◌, ◌+◌, ◌||◌, OnOk, length};
+ghost use Rattle.memberlist_member.specs.Steps.{AreWaitedFor, IsLater, IsOnTime, TicksAtMost};
+ghost use Rattle.memberlist_member.specs.Staying.{Adds, BeginsInTime, BeginsNoProbe, Stays};
+ghost use Rattle.memberlist_member.specs.Staying.{StaysButProbe, StaysButTimes, unless_silent};
+ghost use Rattle.memberlist_member.specs.Showing.{GoesByLines, GoesByTime, GoesOn, KeepsLines};
 
 use crate::config::micros;
 use crate::connections::Purpose;
@@ -61,12 +58,16 @@ impl Member {
     pub(crate) fn tick<R: Rng>(&mut self, rng: &mut R) -> Result<(), AllocError>
         ensures adds { TicksAtMost self.old self.new }
         ensures stays { StaysButTimes self.old self.new }
+        ensures probes { BeginsInTime self.old self.new }
         ensures on_time { OnOk result (IsOnTime self.new) }
         ensures goes { GoesByTime self.old self.new }
+        ensures waits { OnOk result (AreWaitedFor self.new) }
+        ensures lines { KeepsLines self.old self.new }
     {
         self.look_around(rng)?;
-        self.go_on_accusing(rng)?;
-        self.act_in_time(rng)
+        self.go_on_probing(rng)?;
+        self.act_in_time(rng)?;
+        self.end_suspicions(rng)
     }
 
     /// Tells those who asked that no answer came, and looks at what came over connections.
@@ -74,26 +75,11 @@ impl Member {
         ensures adds { Adds (length self.old.relays.waiting.items) 0 128 self.old self.new }
         ensures stays { StaysButProbe self.old self.new }
         ensures goes { GoesByLines self.old self.new }
-        ensures unanswered { KeepsUnanswered self.old self.new }
+        ensures probes { BeginsNoProbe self.old self.new }
+        ensures lines { KeepsLines self.old self.new }
     {
         self.end_relays(rng)?;
         self.look_again(rng)
-    }
-
-    /// Goes on with its probe, and with those that are suspected; a silent member accuses nobody.
-    fn go_on_accusing<R: Rng>(&mut self, rng: &mut R) -> Result<(), AllocError>
-        ensures adds { Adds (unless_silent self.old.settings self.old.settings.indirect_checks)
-            (unless_silent self.old.settings 1) 0 self.old self.new }
-        ensures stays { StaysButProbe self.old self.new }
-        ensures goes { (told : List Said)
-            → ((said : Said) → IsUnanswered self.old.time self.old said → Contains told said)
-            → GoesBy told self.old self.new }
-    {
-        if self.config().is_silent {
-            return Ok(());
-        }
-        self.go_on_probing(rng)?;
-        self.end_suspicions(rng)
     }
 
     /// Does what is done at regular times.
@@ -101,8 +87,10 @@ impl Member {
         ensures adds { Adds (unless_silent self.old.settings (1 + self.old.settings.gossip_nodes))
             (1 + unless_silent self.old.settings 2) 0 self.old self.new }
         ensures stays { StaysButTimes self.old self.new }
+        ensures probes { BeginsInTime self.old self.new }
         ensures on_time { OnOk result (IsOnTime self.new) }
         ensures goes { GoesOn self.old self.new }
+        ensures lines { KeepsLines self.old self.new }
     {
         self.probe_in_time(rng)?;
         self.gossip_in_time(rng)?;
@@ -116,9 +104,11 @@ impl Member {
     fn probe_in_time<R: Rng>(&mut self, rng: &mut R) -> Result<(), AllocError>
         ensures adds { Adds (unless_silent self.old.settings 1) 0 0 self.old self.new }
         ensures stays { StaysButTimes self.old self.new }
+        ensures probes { BeginsInTime self.old self.new }
         ensures times { self.new.times ≡ record self.old.times { probe = self.new.times.probe } }
         ensures later { IsLater self.new.time self.new.times.probe }
         ensures goes { GoesOn self.old self.new }
+        ensures lines { KeepsLines self.old self.new }
     {
         if self.time < self.times.probe {
             return Ok(());
@@ -128,11 +118,14 @@ impl Member {
     }
 
     fn gossip_in_time<R: Rng>(&mut self, rng: &mut R) -> Result<(), AllocError>
-        ensures adds { Adds (unless_silent self.old.settings self.old.settings.gossip_nodes) 0 0 self.old self.new }
+        ensures adds { Adds (unless_silent self.old.settings self.old.settings.gossip_nodes) 0 0
+            self.old self.new }
         ensures stays { StaysButTimes self.old self.new }
+        ensures probes { BeginsNoProbe self.old self.new }
         ensures times { self.new.times ≡ record self.old.times { gossip = self.new.times.gossip } }
         ensures later { IsLater self.new.time self.new.times.gossip }
         ensures goes { GoesOn self.old self.new }
+        ensures lines { KeepsLines self.old self.new }
     {
         if self.time < self.times.gossip {
             return Ok(());
@@ -145,9 +138,14 @@ impl Member {
     fn exchange_in_time<R: Rng>(&mut self, rng: &mut R) -> Result<(), AllocError>
         ensures adds { Adds 0 (unless_silent self.old.settings 1) 0 self.old self.new }
         ensures stays { StaysButTimes self.old self.new }
-        ensures times { self.new.times ≡ record self.old.times { push_pull = self.new.times.push_pull } }
+        ensures probes { BeginsNoProbe self.old self.new }
+        ensures times { self.new.times ≡ record self.old.times {
+          push_pull =
+              self.new.times.push_pull;
+        } }
         ensures later { IsLater self.new.time self.new.times.push_pull }
         ensures goes { GoesOn self.old self.new }
+        ensures lines { KeepsLines self.old self.new }
     {
         if self.time < self.times.push_pull {
             return Ok(());
@@ -161,11 +159,13 @@ impl Member {
         }
         let members = self.some_members(1, None, Among::Alive, rng)?;
         for name in &members {
-            if let Some(entry) = self.view.get(name) {
-                if let Some(place) = place_in(entry) {
-                    self.exchange(place, false, rng)?;
-                }
-            }
+            let Some(entry) = self.view.get(name) else {
+                continue;
+            };
+            let Some(place) = place_in(entry) else {
+                continue;
+            };
+            self.exchange(place, false, rng)?;
         }
         Ok(())
     }
@@ -174,9 +174,14 @@ impl Member {
     fn reconnect_in_time<R: Rng>(&mut self, rng: &mut R) -> Result<(), AllocError>
         ensures adds { Adds 0 (unless_silent self.old.settings 1) 0 self.old self.new }
         ensures stays { StaysButTimes self.old self.new }
-        ensures times { self.new.times ≡ record self.old.times { reconnect = self.new.times.reconnect } }
+        ensures probes { BeginsNoProbe self.old self.new }
+        ensures times { self.new.times ≡ record self.old.times {
+          reconnect =
+              self.new.times.reconnect;
+        } }
         ensures later { IsLater self.new.time self.new.times.reconnect }
         ensures goes { GoesOn self.old self.new }
+        ensures lines { KeepsLines self.old self.new }
     {
         if self.time < self.times.reconnect {
             return Ok(());
@@ -203,9 +208,11 @@ impl Member {
     fn join_in_time<R: Rng>(&mut self, rng: &mut R) -> Result<(), AllocError>
         ensures adds { Adds 0 1 0 self.old self.new }
         ensures stays { StaysButTimes self.old self.new }
+        ensures probes { BeginsNoProbe self.old self.new }
         ensures times { self.new.times ≡ record self.old.times { seed = self.new.times.seed } }
         ensures later { IsLater self.new.time self.new.times.seed }
         ensures goes { GoesOn self.old self.new }
+        ensures lines { KeepsLines self.old self.new }
     {
         if self.time < self.times.seed {
             return Ok(());
@@ -225,6 +232,7 @@ impl Member {
         ensures adds { Adds 0 0 0 self.old self.new }
         ensures stays { Stays self.old self.new }
         ensures goes { GoesOn self.old self.new }
+        ensures lines { KeepsLines self.old self.new }
     {
         for _ in 0..self.connections.list.len() {
             let Some(conn) = self.connections.overdue(self.time) else {
@@ -245,6 +253,7 @@ impl Member {
         ensures adds { Adds 0 1 0 self.old self.new }
         ensures stays { Stays self.old self.new }
         ensures goes { GoesOn self.old self.new }
+        ensures lines { KeepsLines self.old self.new }
     {
         let message = self.table(join)?;
         let due = self.time.saturating_add(micros(self.config().tcp_timeout));

@@ -8,5 +8,6 @@ returns c =
     let scale : c.from-2.result ≡ max 1000 c.milli_log.result = search rules in (
       c.milli_log.result,
       subst (λ n. IsMilliLog n c.milli_log.result) members c.milli_log.ensures.is,
+      c.milli_log.ensures.bound,
       ap₂ (λ a b. a * b) (ap₂ (λ a b. a * b) c.from.ensures scale) c.from-3.ensures,
     )

@@ -1,6 +1,12 @@
-use Rattle.memberlist_member.specs.Showing.{GoesOn}
-use Rattle.memberlist_member.specs.Staying.{Adds, StaysButProbe}
+use Rattle.memberlist_member.specs.Showing.{GoesOn, KeepsLines}
+use Rattle.memberlist_member.specs.Staying.{Adds, BeginsNoProbe, StaysButProbe}
 use Rattle.memberlist_member.proofs.member.Member.ask_others.Given as goal
 
 abbrev pub invariant-loop-peer : goal.invariant-loop-peer
-invariant-loop-peer g l = Adds l.peer-index 0 0 l.initial.self l.self × StaysButProbe l.initial.self l.self × GoesOn l.initial.self l.self
+invariant-loop-peer g l = record {
+  adds : Adds l.peer-index 0 0 l.initial.self l.self;
+  stays : StaysButProbe l.initial.self l.self;
+  goes : GoesOn l.initial.self l.self;
+  probes : BeginsNoProbe l.initial.self l.self;
+  lines : KeepsLines l.initial.self l.self;
+}

@@ -1,5 +1,6 @@
 use Rattle.memberlist_member.proofs.Showing.{forgotten}
 use Rattle.memberlist_member.proofs.Remembering.{forgot}
+use Rattle.memberlist_member.proofs.Watching.{watched_without}
 use Rattle.memberlist_member.proofs.member.Member.begin_round.Goals as goal
 
 pub invariant_of-self : goal.invariant_of-self
@@ -7,6 +8,8 @@ invariant_of-self g c =
     record {
       limited = c.args.self.now.limited;
       begun = c.args.self.now.begun;
+      watched = watched_without c.args.self.now.view c.forget-count.new.self c.args.self.now.time c.args.self.now.time
+          c.args.self.now.suspicions.list.items c.forget-count.ensures.forgets c.args.self.now.viewed c.args.self.now.watched;
       viewed = forgot c.args.self.now.view c.forget-count.new.self c.args.self.now.time c.args.self.now.time
           c.forget-count.ensures.view c.args.self.now.viewed;
     }

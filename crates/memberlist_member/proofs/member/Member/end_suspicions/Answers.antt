@@ -1,14 +1,14 @@
-use Rattle.memberlist_member.specs.Beginning.{IsBegun}
-use Rattle.memberlist_member.specs.Suspects.{is_suspect}
-use Rattle.memberlist_member.proofs.Begun.{all_removed}
+use Rattle.std.proofs.Common.{rules}
 use Rattle.memberlist_member.proofs.member.Member.end_suspicions.Goals as goal
 
-pub invariant_of-self-in-loop-2 : goal.invariant_of-self-in-loop-2
-invariant_of-self-in-loop-2 g c =
-    let m = c.declare_dead.new.self in
-    record {
-      limited = m.limited;
-      viewed = m.viewed;
-      begun = all_removed (λ s. IsBegun m.settings s.suspicion) (is_suspect c.in_ok-name.name) m.suspicions.list.items
-          c.remove.new.self.list.items c.remove.ensures.removed m.begun;
-    }
+pub returns-in_err-end_suspicion-clause-lines : goal.returns-in_err-end_suspicion-clause-lines
+returns-in_err-end_suspicion-clause-lines g c conn came line =
+    c.loop-name.invariant.lines conn came (c.end_suspicion.ensures.lines conn came line)
+
+pub loop-name-preserved : goal.loop-name-preserved
+loop-name-preserved g c = record {
+  adds = search rules;
+  stays = search rules;
+  goes = λ told first word before. c.end_suspicion.ensures.goes told first word (c.loop-name.invariant.goes told first word before);
+  lines = λ conn came line. c.loop-name.invariant.lines conn came (c.end_suspicion.ensures.lines conn came line);
+}

@@ -1,6 +1,15 @@
-use Rattle.memberlist_member.specs.Showing.{GoesOn}
+use Rattle.std.proofs.Common.{length}
+use Rattle.memberlist_member.specs.Showing.{GoesOn, KeepsLines}
 use Rattle.memberlist_member.specs.Staying.{Adds, Stays}
 use Rattle.memberlist_member.proofs.member.Member.end_suspicions.Given as goal
 
-abbrev pub invariant-loop : goal.invariant-loop
-invariant-loop g l = Adds 0 0 0 l.initial.self l.self × Stays l.initial.self l.self × GoesOn l.initial.self l.self
+abbrev pub invariant-loop-name : goal.invariant-loop-name
+invariant-loop-name g l = record {
+  adds : Adds 0 0 0 l.initial.self l.self;
+  stays : Stays l.initial.self l.self;
+  goes : GoesOn l.initial.self l.self;
+  lines : KeepsLines l.initial.self l.self;
+}
+
+abbrev pub decreases-loop-name : goal.decreases-loop-name
+decreases-loop-name g l = length l.self.suspicions.list.items

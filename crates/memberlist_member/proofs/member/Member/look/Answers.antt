@@ -1,4 +1,4 @@
-use Rattle.std.proofs.Common.{rules, subst, sym, ◌∙◌}
+use Rattle.std.proofs.Common.{◌≤◌, length, rules, subst, sym, ◌∙◌}
 use Rattle.std.specs.List.{All}
 use Rattle.memberlist_member.specs.Covers.{OpensStreamOf}
 use Rattle.memberlist_member.specs.Showing.{IsInTable, IsToldOver}
@@ -13,10 +13,11 @@ returns-in-Some-eq6-clause-goes g c =
     let connection = c.index-connection.result.now in
     let (within, number) = that_line m.connections.list.items c.args.conn c.in-Some.index connection
     (sym c.index_of.ensures.first ∙ c.in-Some.is) c.index-connection.ensures in
+    let some : 1 ≤ length connection.came.items = search rules in
     let opens : OpensStreamOf m.cover c.ne-is_reply.result connection.came.items (Message c.in-Message.message) = search rules in
     let (told, each, goes) = c.take_table.ensures.goes in (
       told,
-      over_line m c.args.conn connection c.ne-is_reply.result c.in-Message.message within number opens told
+      over_line m c.args.conn connection c.ne-is_reply.result c.in-Message.message within number some opens told
           (subst (λ b. All (IsInTable b m) told) c.deref-in-Some-eq6.ensures.value each),
       goes,
     )

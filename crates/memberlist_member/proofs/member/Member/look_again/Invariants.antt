@@ -1,5 +1,5 @@
-use Rattle.memberlist_member.specs.Showing.{GoesByLines, KeepsLines, KeepsUnanswered}
-use Rattle.memberlist_member.specs.Staying.{Adds, StaysButProbe}
+use Rattle.memberlist_member.specs.Showing.{GoesByLines, KeepsLines}
+use Rattle.memberlist_member.specs.Staying.{Adds, BeginsNoProbe, StaysButProbe}
 use Rattle.memberlist_member.proofs.member.Member.look_again.Given as goal
 
 abbrev pub invariant-loop : goal.invariant-loop
@@ -7,6 +7,6 @@ invariant-loop g l = record {
   adds : Adds 0 0 l.counter l.initial.self l.self;
   stays : StaysButProbe l.initial.self l.self;
   goes : GoesByLines l.initial.self l.self;
-  unanswered : KeepsUnanswered l.initial.self l.self;
+  probes : BeginsNoProbe l.initial.self l.self;
   lines : KeepsLines l.initial.self l.self;
 }

@@ -1,9 +1,7 @@
-use Rattle.std.proofs.Common.{◌≡◌, ◌∷◌, ap, rules, subst, sym}
+use Rattle.std.proofs.Common.{◌≡◌, ◌∷◌, rules, subst, sym}
 use Rattle.std.specs.List.{All, Contains}
 use Rattle.std.proofs.lemmas.List.Elements.{All-contains_itself, All-head, All-rest}
-use Rattle.memberlist_member.specs.Saying.{said_in_table}
 use Rattle.memberlist_member.proofs.Lines.{said_of_one}
-use Rattle.memberlist_member.proofs.member.Member.merge_all.Given as given
 use Rattle.memberlist_member.proofs.member.Member.merge_all.Goals as goal
 
 pub loop-claim-init : goal.loop-claim-init
@@ -11,7 +9,7 @@ loop-claim-init g c = record {
   adds = search rules;
   stays = search rules;
   goes = λ told all first word before. before;
-  lines = λ conn came cover line. line;
+  lines = λ conn came line. line;
   left = subst (All (Contains c.args.claims.items)) (sym c.into_iter-claim-iterator.ensures.into_iter_gives.0)
       (All-contains_itself c.args.claims.items);
 }
@@ -21,7 +19,7 @@ loop-claim-preserved g c =
     let items = c.args.claims.items in
     let one : c.loop-claim.claim-iterator.rest.items ≡ c.in-Some.claim ∷ c.next.new.self.rest.items = search rules in
     let all : All (Contains items) (c.in-Some.claim ∷ c.next.new.self.rest.items) = subst (All (Contains items)) one c.loop-claim.invariant.left in
-    let ((((time, settings, name, rises), details, leaving, seeds), times), probe) = c.loop-claim.invariant.stays in
+    let ((((time, settings, cover, name, rises), details, leaving, seeds), times), probe) = c.loop-claim.invariant.stays in
     record {
       adds = search rules;
       stays = search rules;
@@ -29,7 +27,7 @@ loop-claim-preserved g c =
           c.merge.ensures.goes told (said_of_one c.args.self.now.own.name c.loop-claim.self.own.name name told items c.in-Some.claim each
           (All-head (Contains items) c.in-Some.claim c.next.new.self.rest.items all))
           first word (c.loop-claim.invariant.goes told each first word before);
-      lines = λ conn came cover line. c.loop-claim.invariant.lines conn came cover (c.merge.ensures.lines conn came cover line);
+      lines = λ conn came line. c.loop-claim.invariant.lines conn came (c.merge.ensures.lines conn came line);
       left = All-rest (Contains items) c.in-Some.claim c.next.new.self.rest.items c.loop-claim.claim-iterator.rest.items one
           c.loop-claim.invariant.left;
     }
@@ -39,11 +37,7 @@ returns-in_err-merge-clause-goes g c told each first word before =
     let items = c.args.claims.items in
     let one : c.loop-claim.claim-iterator.rest.items ≡ c.in-Some.claim ∷ c.next.new.self.rest.items = search rules in
     let all : All (Contains items) (c.in-Some.claim ∷ c.next.new.self.rest.items) = subst (All (Contains items)) one c.loop-claim.invariant.left in
-    let ((((time, settings, name, rises), details, leaving, seeds), times), probe) = c.loop-claim.invariant.stays in
+    let ((((time, settings, cover, name, rises), details, leaving, seeds), times), probe) = c.loop-claim.invariant.stays in
     c.merge.ensures.goes told (said_of_one c.args.self.now.own.name c.loop-claim.self.own.name name told items c.in-Some.claim each
     (All-head (Contains items) c.in-Some.claim c.next.new.self.rest.items all))
     first word (c.loop-claim.invariant.goes told each first word before)
-
-pub returns-in_err-merge-clause-lines : goal.returns-in_err-merge-clause-lines
-returns-in_err-merge-clause-lines g c conn came cover line =
-    c.loop-claim.invariant.lines conn came cover (c.merge.ensures.lines conn came cover line)

@@ -1,6 +1,11 @@
-use Rattle.memberlist_member.specs.Showing.{GoesOn}
+use Rattle.memberlist_member.specs.Showing.{GoesOn, KeepsLines}
 use Rattle.memberlist_member.specs.Staying.{Adds, Stays}
 use Rattle.memberlist_member.proofs.member.Member.next_in_round.Given as goal
 
 abbrev pub invariant-loop : goal.invariant-loop
-invariant-loop l = Adds 0 0 0 l.initial.self l.self × Stays l.initial.self l.self × GoesOn l.initial.self l.self
+invariant-loop l = record {
+  adds : Adds 0 0 0 l.initial.self l.self;
+  stays : Stays l.initial.self l.self;
+  goes : GoesOn l.initial.self l.self;
+  lines : KeepsLines l.initial.self l.self;
+}

@@ -14,4 +14,4 @@ returns-clause-goes g c told said ground itself stays is rises first word before
     c.if-not-outdo.ensures.done before))
 
 pub returns-clause-lines : goal.returns-clause-lines
-returns-clause-lines g c conn came cover line = c.announce.ensures.lines conn came cover (c.put-2.ensures.lines conn came cover line)
+returns-clause-lines g c conn came line = c.announce.ensures.lines conn came (c.put-2.ensures.lines conn came line)

@@ -14,6 +14,7 @@ invariant_of-self g c =
     record {
       limited = c.args.self.now.limited;
       begun = c.args.self.now.begun;
+      watched = c.args.self.now.watched;
       viewed = later c.args.self.now.view c.args.self.now.time c.max-self.result (omega (arith, c.max-self.ensures))
           c.args.self.now.viewed;
     }
@@ -32,14 +33,14 @@ returns-in_ok-take_datagram-in-Datagram-clause-does g c =
 pub returns-in_err-tick-in-Tick-clause-shows : goal.returns-in_err-tick-in-Tick-clause-shows
 returns-in_err-tick-in-Tick-clause-shows g c =
     let (told, each, goes) = c.tick.ensures.goes in
-    let ((time, settings, name, rises), details, leaving, seeds) = c.tick.ensures.stays in
+    let ((time, settings, cover, name, rises), details, leaving, seeds) = c.tick.ensures.stays in
     subst (λ input. Shows input c.args.self.now c.tick.new.self) (sym c.in-Tick.is)
     (told, subst (λ t. All (IsToldByTime t c.args.self.now) told) (sym time) each, goes c.args.self.now.view c.args.self.now.own here)
 
 pub returns-in_ok-tick-in-Tick-clause-shows : goal.returns-in_ok-tick-in-Tick-clause-shows
 returns-in_ok-tick-in-Tick-clause-shows g c =
     let (told, each, goes) = c.tick.ensures.goes in
-    let ((time, settings, name, rises), details, leaving, seeds) = c.tick.ensures.stays in
+    let ((time, settings, cover, name, rises), details, leaving, seeds) = c.tick.ensures.stays in
     subst (λ input. Shows input c.args.self.now c.tick.new.self) (sym c.in-Tick.is)
     (told, subst (λ t. All (IsToldByTime t c.args.self.now) told) (sym time) each, goes c.args.self.now.view c.args.self.now.own here)
 

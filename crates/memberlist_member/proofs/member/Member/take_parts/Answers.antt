@@ -8,12 +8,14 @@ loop-part-preserved g c =
     let old = c.loop-part.self in
     let new = c.take_part.new.self in
     let before = c.loop-part.invariant in
-    let (((time, settings, name, rises), details, leaving, seeds), times) = c.take_part.ensures.stays in
+    let (((time, settings, cover, name, rises), details, leaving, seeds), times) = c.take_part.ensures.stays in
     record {
       adds = search rules;
       goes = λ told all first word before.
           c.take_part.ensures.goes told (all c.loop-part.part-index _ (search rules)) first word (c.loop-part.invariant.goes told all first word before);
       stays = search rules;
+      probes = λ seq name inc due probing. c.loop-part.invariant.probes seq name inc due (c.take_part.ensures.probes seq name inc due probing);
+      lines = λ conn came line. c.loop-part.invariant.lines conn came (c.take_part.ensures.lines conn came line);
       outdone = one_more (λ p. IsOutdoneIn old.own p.now) (λ p. IsOutdoneIn new.own p.now) c.args.parts.now
           c.loop-part.part-index _ (search rules) (λ p. outdone_later old.own new.own name leaving rises p.now) before.outdone
           c.in_ok-take_part.ensures.outdone;

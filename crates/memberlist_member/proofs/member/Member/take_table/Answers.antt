@@ -6,13 +6,6 @@ use Rattle.memberlist_member.specs.Tables.{BeginsWithTable}
 use Rattle.memberlist_member.proofs.Lines.{all_in_table, said_all}
 use Rattle.memberlist_member.proofs.member.Member.take_table.Goals as goal
 
-pub returns-in-Refused-clause-lines : goal.returns-in-Refused-clause-lines
-returns-in-Refused-clause-lines g c conn came cover line = c.refuse.ensures.lines conn came cover (c.hang_up.ensures.lines conn came cover line)
-
-pub returns-in_err-hang_up-in-Table-clause-lines : goal.returns-in_err-hang_up-in-Table-clause-lines
-returns-in_err-hang_up-in-Table-clause-lines g c conn came cover line =
-    c.answer_table.ensures.lines conn came cover (c.hang_up-in-Table.ensures.lines conn came cover line)
-
 pub returns-in_err-merge_all-in-Table-clause-goes : goal.returns-in_err-merge_all-in-Table-clause-goes
 returns-in_err-merge_all-in-Table-clause-goes g c =
     let m = c.args.self.now in
@@ -20,8 +13,8 @@ returns-in_err-merge_all-in-Table-clause-goes g c =
     let told = map (said_in_table m.own.name) claims in
     let begins : BeginsWithTable c.args.message.now claims =
     subst (λ s. IsRead s c.args.message.now) c.in-Table.is c.in_ok-read_stream.ensures in
-    let ((((time, settings, name, rises), details, leaving, seeds), times), probe) = c.answer_table.ensures.stays in
-    let ((((time_after, settings_after, name_after, rises_after), details_after, leaving_after, seeds_after), times_after), probe_after) =
+    let ((((time, settings, cover, name, rises), details, leaving, seeds), times), probe) = c.answer_table.ensures.stays in
+    let ((((time_after, settings_after, cover_after, name_after, rises_after), details_after, leaving_after, seeds_after), times_after), probe_after) =
     c.hang_up-in-Table.ensures.stays in
     let each : All (λ each. Contains told (said_in_table c.hang_up-in-Table.new.self.own.name each)) claims =
     subst (λ n. All (λ each. Contains told (said_in_table n each)) claims) (sym (name_after ∙ name)) (said_all m.own.name claims) in (
@@ -31,11 +24,6 @@ returns-in_err-merge_all-in-Table-clause-goes g c =
           (c.answer_table.ensures.goes told first word before)),
     )
 
-pub returns-in_err-merge_all-in-Table-clause-lines : goal.returns-in_err-merge_all-in-Table-clause-lines
-returns-in_err-merge_all-in-Table-clause-lines g c conn came cover line =
-    c.answer_table.ensures.lines conn came cover (c.hang_up-in-Table.ensures.lines conn came cover
-    (c.merge_all.ensures.lines conn came cover line))
-
 pub returns-in_ok-merge_all-in-Table-clause-goes : goal.returns-in_ok-merge_all-in-Table-clause-goes
 returns-in_ok-merge_all-in-Table-clause-goes g c =
     let m = c.args.self.now in
@@ -43,8 +31,8 @@ returns-in_ok-merge_all-in-Table-clause-goes g c =
     let told = map (said_in_table m.own.name) claims in
     let begins : BeginsWithTable c.args.message.now claims =
     subst (λ s. IsRead s c.args.message.now) c.in-Table.is c.in_ok-read_stream.ensures in
-    let ((((time, settings, name, rises), details, leaving, seeds), times), probe) = c.answer_table.ensures.stays in
-    let ((((time_after, settings_after, name_after, rises_after), details_after, leaving_after, seeds_after), times_after), probe_after) =
+    let ((((time, settings, cover, name, rises), details, leaving, seeds), times), probe) = c.answer_table.ensures.stays in
+    let ((((time_after, settings_after, cover_after, name_after, rises_after), details_after, leaving_after, seeds_after), times_after), probe_after) =
     c.hang_up-in-Table.ensures.stays in
     let each : All (λ each. Contains told (said_in_table c.hang_up-in-Table.new.self.own.name each)) claims =
     subst (λ n. All (λ each. Contains told (said_in_table n each)) claims) (sym (name_after ∙ name)) (said_all m.own.name claims) in (
@@ -54,7 +42,12 @@ returns-in_ok-merge_all-in-Table-clause-goes g c =
           (c.hang_up-in-Table.ensures.goes told first word (c.answer_table.ensures.goes told first word before))),
     )
 
+pub returns-in_err-merge_all-in-Table-clause-lines : goal.returns-in_err-merge_all-in-Table-clause-lines
+returns-in_err-merge_all-in-Table-clause-lines g c conn came line =
+    c.answer_table.ensures.lines conn came (c.hang_up-in-Table.ensures.lines conn came
+    (c.merge_all.ensures.lines conn came line))
+
 pub returns-in_ok-merge_all-in-Table-clause-lines : goal.returns-in_ok-merge_all-in-Table-clause-lines
-returns-in_ok-merge_all-in-Table-clause-lines g c conn came cover line =
-    c.answer_table.ensures.lines conn came cover (c.hang_up-in-Table.ensures.lines conn came cover
-    (c.merge_all.ensures.lines conn came cover (c.show_state.ensures.lines conn came cover line)))
+returns-in_ok-merge_all-in-Table-clause-lines g c conn came line =
+    c.answer_table.ensures.lines conn came (c.hang_up-in-Table.ensures.lines conn came
+    (c.merge_all.ensures.lines conn came (c.show_state.ensures.lines conn came line)))

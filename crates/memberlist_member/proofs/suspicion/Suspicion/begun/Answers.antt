@@ -5,7 +5,7 @@ use Rattle.memberlist_member.proofs.suspicion.Suspicion.begun.Goals.{then-member
 
 bounded : (c : goal.After-from) → c.from.result * (c.suspicion_timeout-min.result / 1000) < 2 ^ 54
 bounded c =
-    let (r, log, is) = c.suspicion_timeout-min.ensures in
+    let (r, log, few, is) = c.suspicion_timeout-min.ensures in
     most_bound c.args.members r c.args.mult c.args.interval c.suspicion_timeout-min.result c.from.result c.ranges.members.fits
     c.requires.mult c.ranges.interval.fits (let fits : c.from.result < 2 ^ 16 = omega arith in fits) log is
 

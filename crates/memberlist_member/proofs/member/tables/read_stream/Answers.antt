@@ -5,7 +5,7 @@ use Rattle.std.proofs.lemmas.List.Folds.{drop_split}
 use Rattle.swim_wire.specs.Streams.{StateTexts}
 use Rattle.swim_wire.specs.Streams.StateTexts.{none}
 use Rattle.memberlist_member.proofs.Lines.{texts_more}
-use Rattle.memberlist_member.proofs.member.streams.read_stream.Goals as goal
+use Rattle.memberlist_member.proofs.member.tables.read_stream.Goals as goal
 
 pub loop-init : goal.loop-init
 loop-init c =
