@@ -13,8 +13,6 @@ ghost use Rattle.swim_program.specs.Limits.{max_input_len};
 
 mod access;
 mod reading;
-#[cfg(test)]
-mod tests;
 
 use access::is_open_to_others;
 use memberlist_keyring::{KeyFileFault, Keyring, Secret};

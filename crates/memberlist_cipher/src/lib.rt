@@ -44,6 +44,3 @@ pub use fault::CipherFault;
 pub use key::{Key, is_key};
 pub use label::{LABEL, LabelFault, MAX_LABEL_LEN, labelled, split_label};
 pub use stream::decrypt_stream;
-
-#[cfg(test)]
-mod tests;

@@ -23,6 +23,3 @@ mod table;
 
 pub use lzw::lzw_encode;
 pub use message::{COMPRESSIBLE, compressed, compressed_if_shorter};
-
-#[cfg(test)]
-mod tests;

@@ -10,7 +10,7 @@ use std::io;
 use std::process::ExitCode;
 
 /// Why a program ends without its output.
-#[derive(Debug, Drop)]
+#[derive(Drop)]
 pub enum Failure {
     /// The words were refused, or ask for help.
     Words(clap::Error),

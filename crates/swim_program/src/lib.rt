@@ -19,8 +19,6 @@ mod failure;
 mod lines;
 mod magic;
 mod report;
-#[cfg(test)]
-mod tests;
 mod until;
 mod words;
 

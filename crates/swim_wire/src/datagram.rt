@@ -17,7 +17,7 @@ use std::alloc::{AllocError, Global};
 use swim_claim::Claim;
 
 /// What a datagram carries: a single packet, or the packets of a compound packet.
-#[derive(Drop, Debug)]
+#[derive(Drop)]
 pub enum Datagram {
     /// A single packet.
     Packet(Packet),

@@ -51,6 +51,3 @@ pub use packet::{Packet, decode_packet};
 pub use state_record::{StateRecord, read_record};
 pub use stream::{Header, MAX_NODES, MAX_USER_STATE_LEN, read_header, read_state};
 pub use user_state::skip_user;
-
-#[cfg(test)]
-mod tests;

@@ -23,7 +23,7 @@ use swim_claim::Claim;
 use swim_pack::{Inlet, SliceInlet};
 
 /// A claim, and the member that makes it. Contracts see the packet as this pair.
-#[derive(Drop, Debug)]
+#[derive(Drop)]
 pub struct Packet {
     claim: Claim,
     from: Vec<u8>,

@@ -20,7 +20,7 @@ use swim_claim::{Claim, Details};
 use swim_pack::Inlet;
 
 /// All that a state record says.
-#[derive(Drop, Debug)]
+#[derive(Drop)]
 pub struct StateRecord {
     /// Its claim.
     pub claim: Claim,

@@ -31,7 +31,7 @@ pub const MAX_NODES: u64 = 131_072;
 pub const MAX_USER_STATE_LEN: u64 = 20_971_520;
 
 /// The header of a push/pull stream.
-#[derive(Clone, Copy, Debug, PartialEq, Eq)]
+#[derive(Clone, Copy, PartialEq, Eq)]
 pub struct Header {
     /// How many state records follow, at most 131,072.
     pub nodes: u32,
