@@ -1,5 +1,6 @@
 mod Apart
 mod Begun
+mod Carrying
 mod Compounding
 mod Ending
 mod Entries

@@ -4,7 +4,7 @@ ghost use Rattle.std.specs.Prelude.{◌≡◌, ◌+◌, ◌-◌, ◌*◌, ◌<�
 
 /// How unhealthy a member takes itself to be: 0 if it is well, and at most one less than
 /// `AwarenessMaxMultiplier`.
-#[derive(Clone, Copy, Debug, PartialEq, Eq)]
+#[derive(Clone, Copy, PartialEq, Eq)]
 pub struct Awareness {
     score: u32,
     /// `AwarenessMaxMultiplier`.

@@ -13,7 +13,7 @@ const MIN_BUFFER: u16 = 576;
 
 /// How a member behaves. A field has the name that memberlist's `Config` has for it (config.go), or
 /// is said to be own; times are milliseconds.
-#[derive(Clone, Copy, Debug, PartialEq, Eq)]
+#[derive(Clone, Copy, PartialEq, Eq)]
 pub struct Config {
     /// Between two probes.
     pub probe_interval: u32,
@@ -131,7 +131,7 @@ impl Config {
 }
 
 /// A configuration that was checked.
-#[derive(Clone, Copy, Debug)]
+#[derive(Clone, Copy)]
 pub struct Settings {
     config: Config,
 }

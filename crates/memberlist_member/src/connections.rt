@@ -17,7 +17,7 @@ pub(crate) const MAX_CONNECTIONS: usize = 128;
 const FIRST_LOOK: u64 = 10_000;
 
 /// Why there is a connection.
-#[derive(Clone, Copy, Debug, PartialEq, Eq)]
+#[derive(Clone, Copy, PartialEq, Eq)]
 pub(crate) enum Purpose {
     /// Another member opened it.
     Theirs,
@@ -28,7 +28,7 @@ pub(crate) enum Purpose {
 }
 
 /// A connection.
-#[derive(Drop, Debug)]
+#[derive(Drop)]
 pub(crate) struct Connection {
     pub(crate) conn: u64,
     pub(crate) purpose: Purpose,
@@ -133,7 +133,7 @@ impl Connection {
 }
 
 /// All connections.
-#[derive(Drop, Debug)]
+#[derive(Drop)]
 pub(crate) struct Connections {
     pub(crate) list: Vec<Connection>,
 }

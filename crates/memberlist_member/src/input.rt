@@ -3,7 +3,7 @@
 use std::net::SocketAddr;
 
 /// What a member is told.
-#[derive(Clone, Copy, Debug)]
+#[derive(Clone, Copy)]
 pub enum Input<'a> {
     /// The time that [`Member::wake`](crate::Member::wake) said has come.
     Tick,

@@ -16,7 +16,7 @@ use std::net::SocketAddr;
 const MAX_LOST: usize = 1024;
 
 /// A member that died.
-#[derive(Drop, Debug)]
+#[derive(Drop)]
 struct Lost {
     name: MemberName,
     place: SocketAddr,
@@ -24,7 +24,7 @@ struct Lost {
 }
 
 /// Members that died and did not come back, oldest first.
-#[derive(Drop, Debug)]
+#[derive(Drop)]
 pub(crate) struct LostMembers {
     list: Vec<Lost>,
     ghost few: { length list.items ≤ 1024 },

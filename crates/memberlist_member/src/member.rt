@@ -79,7 +79,7 @@ pub struct Member {
 }
 
 /// When the next of each is due, in microseconds.
-#[derive(Clone, Copy, Debug)]
+#[derive(Clone, Copy)]
 struct Times {
     probe: u64,
     gossip: u64,

@@ -10,7 +10,7 @@ use std::alloc::{AllocError, Global};
 use std::net::SocketAddr;
 
 /// Something that a member wants done, or tells.
-#[derive(Drop, Debug)]
+#[derive(Drop)]
 pub enum Output {
     /// Send these bytes as a datagram.
     Send {
@@ -75,7 +75,7 @@ pub enum Output {
 }
 
 /// What a member put out, in its order.
-#[derive(Drop, Debug)]
+#[derive(Drop)]
 pub struct Outputs {
     list: Vec<Output>,
     /// The most bytes of a datagram.

@@ -12,7 +12,7 @@ use swim_claim::{Claim, Details, Name};
 use swim_wire::Packet;
 
 /// Who a member is, when it begins.
-#[derive(Drop, Debug)]
+#[derive(Drop)]
 pub struct Identity {
     pub name: Name,
     /// Its first incarnation; memberlist's is 1. One that it had before it was stopped is refuted.
@@ -21,7 +21,7 @@ pub struct Identity {
 }
 
 /// What a member says about itself.
-#[derive(Drop, Debug)]
+#[derive(Drop)]
 pub(crate) struct Own {
     pub(crate) name: MemberName,
     pub(crate) inc: u32,
@@ -31,7 +31,7 @@ pub(crate) struct Own {
 }
 
 /// Whether a claim about this member is to be refuted.
-#[derive(Clone, Copy, Debug, PartialEq, Eq)]
+#[derive(Clone, Copy)]
 pub(crate) enum Verdict {
     /// It says what the member says itself, or said before.
     Stands,

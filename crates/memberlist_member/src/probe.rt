@@ -6,7 +6,7 @@ ghost use Rattle.memberlist_member.specs.Probes.{IsAnswer, first_of, penalty_of,
 use memberlist_view::MemberName;
 
 /// A probe that runs.
-#[derive(Drop, Debug)]
+#[derive(Drop)]
 pub(crate) struct Probe {
     /// The number of its ping.
     pub(crate) seq: u32,

@@ -12,7 +12,7 @@ use std::net::SocketAddr;
 const MAX_RELAYS: usize = 1024;
 
 /// A ping on behalf of another member.
-#[derive(Clone, Copy, Debug)]
+#[derive(Clone, Copy)]
 pub(crate) struct Relay {
     /// The number of this ping.
     pub(crate) seq: u32,
@@ -26,7 +26,7 @@ pub(crate) struct Relay {
 }
 
 /// Pings on behalf of others, oldest first.
-#[derive(Drop, Debug)]
+#[derive(Drop)]
 pub(crate) struct Relays {
     waiting: Vec<Relay>,
     ghost few: { length waiting.items ≤ 1024 },

@@ -14,7 +14,7 @@ use std::alloc::{AllocError, Global};
 
 /// The names of all members, dead ones not yet forgotten among them, in the order in which they are
 /// probed.
-#[derive(Drop, Debug)]
+#[derive(Drop)]
 pub(crate) struct Rounds {
     names: Vec<MemberName>,
     /// The index of the next one.

@@ -11,7 +11,7 @@ use std::marker::Model;
 
 /// How long a suspicion of a member lasts, settled when it begins: the longest time at first, and
 /// less with each further member that suspects it too, down to the least time.
-#[derive(Clone, Copy, Debug)]
+#[derive(Clone, Copy)]
 pub struct Suspicion {
     /// How many further members must confirm it until it lasts the least time.
     k: u32,

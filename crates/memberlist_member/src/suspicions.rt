@@ -14,14 +14,14 @@ use memberlist_view::{MemberName, State, View};
 use std::alloc::{AllocError, Global};
 
 /// A member that is suspected, and for how long.
-#[derive(Drop, Debug)]
+#[derive(Drop)]
 struct Suspect {
     name: MemberName,
     suspicion: Suspicion,
 }
 
 /// The members that are suspected, each once. Since when and by whom, the view says.
-#[derive(Drop, Debug)]
+#[derive(Drop)]
 pub(crate) struct Suspicions {
     list: Vec<Suspect>,
     ghost apart: { (name : List ℕ) → count_by (is_suspect name) list.items ≤ 1 },

@@ -36,22 +36,56 @@ impl Member {
         };
         let name = copy_of(self.alloc, &probe.name)?;
         let seq = probe.seq;
-        let Some(entry) = self.view.get(&name) else {
+        self.ask_about(seq, &name, rng)
+    }
+
+    /// Asks other members, and over TCP, for this one.
+    fn ask_about<R: Rng>(
+        &mut self,
+        seq: u32,
+        name: &MemberName,
+        rng: &mut R,
+    ) -> Result<(), AllocError>
+        ensures adds { Adds self.old.settings.indirect_checks 1 0 self.old self.new }
+        ensures stays { StaysButProbe self.old self.new }
+        ensures probes { BeginsNoProbe self.old self.new }
+        ensures goes { GoesOn self.old self.new }
+        ensures lines { KeepsLines self.old self.new }
+    {
+        let Some(entry) = self.view.get(name) else {
             return Ok(());
         };
         let Some(place) = place_in(entry) else {
             return Ok(());
         };
         let speaks_tcp = HAS_TCP_PING <= version_of(entry);
-        let count = self.config().indirect_checks as usize;
-        let peers = self.some_members(count, Some(&name), Among::Alive, rng)?;
-        for peer in &peers {
-            self.ask(peer, seq, &name, place, rng)?;
-        }
+        self.ask_some(seq, name, place, rng)?;
         if !speaks_tcp {
             return Ok(());
         }
-        self.ask_over_tcp(seq, &name, place, rng)
+        self.ask_over_tcp(seq, name, place, rng)
+    }
+
+    /// Asks some members at random to ping this one.
+    fn ask_some<R: Rng>(
+        &mut self,
+        seq: u32,
+        name: &MemberName,
+        place: SocketAddr,
+        rng: &mut R,
+    ) -> Result<(), AllocError>
+        ensures adds { Adds self.old.settings.indirect_checks 0 0 self.old self.new }
+        ensures stays { StaysButProbe self.old self.new }
+        ensures probes { BeginsNoProbe self.old self.new }
+        ensures goes { GoesOn self.old self.new }
+        ensures lines { KeepsLines self.old self.new }
+    {
+        let count = self.config().indirect_checks as usize;
+        let peers = self.some_members(count, Some(name), Among::Alive, rng)?;
+        for peer in &peers {
+            self.ask(peer, seq, name, place, rng)?;
+        }
+        Ok(())
     }
 
     /// Asks this member to ping the one that is probed.
@@ -76,13 +110,25 @@ impl Member {
         let Some(to) = place_in(entry) else {
             return Ok(());
         };
-        if let Some(probe) = &mut self.probe {
-            if nack {
-                probe.expected = probe.expected.saturating_add(1);
-            }
-        }
+        self.note_asked(nack);
         let message = self.indirect_ping(seq_no, name.name().bytes(), place, nack)?;
         self.send_with_news(to, message, rng)
+    }
+
+    /// Notes that a member was asked, and whether it says so if it gets no answer.
+    fn note_asked(&mut self, nack: bool)
+        ensures adds { Adds 0 0 0 self.old self.new }
+        ensures stays { StaysButProbe self.old self.new }
+        ensures probes { BeginsNoProbe self.old self.new }
+        ensures goes { GoesOn self.old self.new }
+        ensures lines { KeepsLines self.old self.new }
+    {
+        if !nack {
+            return;
+        }
+        if let Some(probe) = &mut self.probe {
+            probe.expected = probe.expected.saturating_add(1);
+        }
     }
 
     /// The bytes of an indirect ping; names that would not fit are left out, as in a ping.

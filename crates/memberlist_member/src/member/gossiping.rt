@@ -7,13 +7,13 @@ ghost use Rattle.memberlist_member.specs.Showing.{GoesOn, KeepsLines};
 use crate::config::micros;
 use crate::member::Member;
 use crate::member::hearing::copy_of;
-use crate::member::probing::place_in;
 use memberlist_view::{Entry, MemberName, State};
 use rand_core::Rng;
 use std::alloc::AllocError;
+use std::net::SocketAddr;
 
 /// Which members are chosen.
-#[derive(Clone, Copy, Debug)]
+#[derive(Clone, Copy)]
 pub(crate) enum Among {
     /// Those that are alive, and not suspected.
     Alive,
@@ -36,19 +36,29 @@ impl Member {
         let count = self.config().gossip_nodes as usize;
         let members = self.some_members(count, None, Among::Hearers, rng)?;
         for name in &members {
-            let Some(entry) = self.view.get(name) else {
+            let Some(to) = self.place_of(name) else {
                 continue;
             };
-            let Some(to) = place_in(entry) else {
-                continue;
-            };
-            let news = self.take_news(self.room().saturating_sub(2))?;
-            if news.is_empty() {
+            if !self.tell_news(to, rng)? {
                 return Ok(());
             }
-            self.send(to, news, rng)?;
         }
         Ok(())
+    }
+
+    /// Tells news to a member. Returns whether there is any.
+    fn tell_news<R: Rng>(&mut self, to: SocketAddr, rng: &mut R) -> Result<bool, AllocError>
+        ensures adds { Adds 1 0 0 self.old self.new }
+        ensures stays { Stays self.old self.new }
+        ensures goes { GoesOn self.old self.new }
+        ensures lines { KeepsLines self.old self.new }
+    {
+        let news = self.take_news(self.room().saturating_sub(2))?;
+        if news.is_empty() {
+            return Ok(false);
+        }
+        self.send(to, news, rng)?;
+        Ok(true)
     }
 
     /// Up to so many members at random that are in such a state, without this one and another one: by
@@ -63,7 +73,6 @@ impl Member {
         ensures { IfOk result (λ names. length names.items ≤ count) }
     {
         let mut chosen: Vec<MemberName> = Vec::new(self.alloc);
-        let wait = micros(self.config().gossip_to_the_dead_time);
         for _ in 0..self.rounds.len().saturating_mul(3) {
             if count <= chosen.len() {
                 break;
@@ -71,13 +80,7 @@ impl Member {
             let Some(name) = self.rounds.any(rng) else {
                 break;
             };
-            let Some(entry) = self.view.get(name) else {
-                continue;
-            };
-            if !among.includes(entry, self.time, wait)
-                || *name == self.own.name
-                || is(other, name)
-            {
+            if !self.may_choose(name, other, among) {
                 continue;
             }
             if !chosen.iter().any(|each| *each == *name) {
@@ -85,6 +88,15 @@ impl Member {
             }
         }
         Ok(chosen)
+    }
+
+    /// Whether a member is in such a state, and neither this one nor the other one.
+    fn may_choose(&self, name: &MemberName, other: Option<&MemberName>, among: Among) -> bool {
+        let Some(entry) = self.view.get(name) else {
+            return false;
+        };
+        let wait = micros(self.config().gossip_to_the_dead_time);
+        among.includes(entry, self.time, wait) && *name != self.own.name && !is(other, name)
     }
 }
 

@@ -1,6 +1,6 @@
 //! What the member hears, about others and about itself.
 
-ghost use Rattle.std.specs.Prelude.{◌≡◌, ◌-◌, ◌^◌, ◌<◌, ◌≤◌, Bool, false, IfOk, List, OnOk};
+ghost use Rattle.std.specs.Prelude.{◌≡◌, ◌-◌, ◌^◌, ◌<◌, ◌≤◌, Bool, false, IfOk, List, OnOk, true};
 ghost use Rattle.swim_claim.specs.Claim.{name_of};
 ghost use Rattle.memberlist_view.specs.Heard.{about};
 ghost use Rattle.memberlist_view.specs.Member.{member_view_after};
@@ -40,14 +40,40 @@ impl Member {
         if *packet.claim().name().bytes() == *self.own.name.name().bytes() {
             return self.hear_about_itself(packet, rng);
         }
-        let heard = Heard {
-            time: self.time,
-            said: said_by(self.alloc, packet, joins)?,
-        };
+        let heard = self.heard_now(packet, joins)?;
+        self.hear_of(packet, &heard, rng)
+    }
+
+    /// Hears now what a packet says of another member, if that is known or there is room for it.
+    fn hear_of<R: Rng>(
+        &mut self,
+        packet: &Packet,
+        heard: &Heard,
+        rng: &mut R,
+    ) -> Result<(), AllocError>
+        requires now { heard.now.time ≡ self.old.time }
+        ensures adds { Adds 0 0 0 self.old self.new }
+        ensures stays { Stays self.old self.new }
+        ensures goes { (told : List Said) → IsGround told self.old heard.now.said
+            → GoesBy told self.old self.new }
+        ensures own { self.new.own ≡ self.old.own }
+        ensures lines { KeepsLines self.old self.new }
+    {
         if MAX_NODES as usize <= self.rounds.len() && self.view.get(heard.said.name()).is_none() {
             return Ok(());
         }
-        self.hear_now(packet, &heard, rng)
+        self.hear_now(packet, heard, rng)
+    }
+
+    /// What a packet says, as it is heard now.
+    pub(crate) fn heard_now(&self, packet: &Packet, joins: bool) -> Result<Heard, AllocError>
+        ensures time { IfOk result (λ heard. heard.time ≡ self.now.time) }
+        ensures said { IfOk result (λ heard. heard.said ≡ said_of packet.now joins) }
+    {
+        Ok(Heard {
+            time: self.time,
+            said: said_by(self.alloc, packet, joins)?,
+        })
     }
 
     /// Hears now what a packet says, and tells it on if it changed anything.
@@ -335,11 +361,27 @@ impl Member {
             → GoesBy told self.old self.new }
         ensures lines { KeepsLines self.old self.new }
     {
-        let heard = Heard {
-            time: self.time,
-            said: said_by(self.alloc, packet, true)?,
-        };
-        let Some(event) = self.take_in(&heard)? else {
+        let heard = self.heard_now(packet, true)?;
+        self.hear_own(packet, &heard, rng)
+    }
+
+    /// Hears now what it says itself, and tells it.
+    fn hear_own<R: Rng>(
+        &mut self,
+        packet: &Packet,
+        heard: &Heard,
+        rng: &mut R,
+    ) -> Result<(), AllocError>
+        requires now { heard.now.time ≡ self.old.time }
+        requires said { heard.now.said ≡ said_of packet.now true }
+        ensures adds { Adds 0 0 0 self.old self.new }
+        ensures stays { Stays self.old self.new }
+        ensures own { self.new.own ≡ self.old.own }
+        ensures goes { (told : List Said) → IsOwnWord told self.old packet.now
+            → GoesBy told self.old self.new }
+        ensures lines { KeepsLines self.old self.new }
+    {
+        let Some(event) = self.take_in(heard)? else {
             return Ok(());
         };
         self.follow(heard.said.name(), event, rng)?;
@@ -349,7 +391,7 @@ impl Member {
 }
 
 /// What a packet says.
-pub(crate) fn said_by(alloc: Global, packet: &Packet, joins: bool) -> Result<Said, AllocError>
+fn said_by(alloc: Global, packet: &Packet, joins: bool) -> Result<Said, AllocError>
     ensures { IfOk result (λ said. said ≡ said_of packet.now joins) }
 {
     let claim = packet.claim().try_clone(alloc)?;

@@ -14,9 +14,9 @@ ghost use Rattle.memberlist_view.specs.declared.heard.Said.{Said};
 use crate::config::micros;
 use crate::fault::StepFault;
 use crate::member::Member;
+use crate::member::probing::is_here;
 use crate::output::Output;
 use memberlist_message::encode_user;
-use memberlist_view::State;
 use rand_core::Rng;
 use std::alloc::AllocError;
 use std::net::SocketAddr;
@@ -96,11 +96,7 @@ impl Member {
             let Some(name) = self.rounds.get(index) else {
                 break;
             };
-            let Some(entry) = self.view.get(name) else {
-                continue;
-            };
-            let is_here = matches!(entry.state, State::Alive | State::Suspect { .. });
-            if is_here && *name != self.own.name {
+            if is_here(&self.view, name, &self.own.name) {
                 return false;
             }
         }

@@ -1,9 +1,10 @@
 //! Probes (`probe`, `probeNode` in state.go).
 
-ghost use Rattle.std.specs.Prelude.{◌≡◌, ◌<◌, ◌≤◌, IfOk, IfSome, List};
+ghost use Rattle.std.specs.Prelude.{◌≡◌, ◌<◌, ◌≤◌, IfOk, IfSome, List, true};
 ghost use Rattle.std.specs.List.{Contains};
 ghost use Rattle.swim_claim.specs.declared.claim.Claim.TheVariants.{Suspect};
 ghost use Rattle.memberlist_member.specs.Claims.{packet_of};
+ghost use Rattle.memberlist_member.specs.Saying.{said_of};
 ghost use Rattle.memberlist_member.specs.Staying.{Adds, BeginsInTime, BeginsNoProbe, HasNoProbe};
 ghost use Rattle.memberlist_member.specs.Staying.{KeepsAnswered, Stays, StaysButProbe, unless_silent};
 ghost use Rattle.memberlist_member.specs.Showing.{KeepsLines, GoesBy, GoesOn, IsUnanswered};
@@ -16,7 +17,7 @@ use crate::member::hearing::copy_of;
 use crate::output::Output;
 use crate::place::place_of;
 use crate::probe::Probe;
-use memberlist_view::{Entry, MemberName, State};
+use memberlist_view::{Entry, MemberName, State, View};
 use rand_core::Rng;
 use std::alloc::AllocError;
 use std::net::SocketAddr;
@@ -69,13 +70,7 @@ impl Member {
             let Some(name) = self.rounds.next() else {
                 break;
             };
-            if *name == self.own.name {
-                continue;
-            }
-            let Some(entry) = self.view.get(name) else {
-                continue;
-            };
-            if is_here(entry) {
+            if is_here(&self.view, name, &self.own.name) {
                 return Ok(Some(copy_of(self.alloc, name)?));
             }
         }
@@ -115,11 +110,42 @@ impl Member {
         };
         let seq = self.next_seq();
         let ping = self.ping(seq, name.name().bytes())?;
-        let warning = if is_suspect {
-            Some(self.suspicion_of(&name, inc)?)
-        } else {
-            None
-        };
+        if is_suspect {
+            return self.probe_suspect(seq, name, inc, place, ping, rng);
+        }
+        self.set_probe(seq, name, inc);
+        self.send_with_news(place, ping, rng)
+    }
+
+    /// Begins to probe a member that is suspected, by this ping.
+    fn probe_suspect<R: Rng>(
+        &mut self,
+        seq: u32,
+        name: MemberName,
+        inc: u32,
+        place: SocketAddr,
+        ping: Vec<u8>,
+        rng: &mut R,
+    ) -> Result<(), AllocError>
+        ensures adds { Adds 1 0 0 self.old self.new }
+        ensures stays { StaysButProbe self.old self.new }
+        ensures probes { BeginsInTime self.old self.new }
+        ensures goes { GoesOn self.old self.new }
+        ensures lines { KeepsLines self.old self.new }
+    {
+        let packet = self.suspicion_of(&name, inc)?;
+        self.set_probe(seq, name, inc);
+        self.send_warning(place, ping, &packet, rng)
+    }
+
+    /// Waits for the answer to a ping with this number from now on.
+    fn set_probe(&mut self, seq: u32, name: MemberName, inc: u32)
+        ensures adds { Adds 0 0 0 self.old self.new }
+        ensures stays { StaysButProbe self.old self.new }
+        ensures probes { BeginsInTime self.old self.new }
+        ensures goes { GoesOn self.old self.new }
+        ensures lines { KeepsLines self.old self.new }
+    {
         self.probe = Some(Probe {
             seq,
             name,
@@ -137,10 +163,11 @@ impl Member {
             nacks: 0,
             conn: None,
         });
-        match warning {
-            Some(packet) => self.send_warning(place, ping, &packet, rng),
-            None => self.send_with_news(place, ping, rng),
-        }
+    }
+
+    /// Where a member is, if it is known.
+    pub(crate) fn place_of(&self, name: &MemberName) -> Option<SocketAddr> {
+        place_in(self.view.get(name)?)
     }
 
     /// Its own suspicion of a member.
@@ -263,7 +290,19 @@ impl Member {
             return Ok(());
         };
         self.health.worsen(probe.penalty());
-        self.show_unanswered(&probe)?;
+        self.suspect_probed(&probe, rng)
+    }
+
+    /// Suspects the member that did not answer this probe.
+    fn suspect_probed<R: Rng>(&mut self, probe: &Probe, rng: &mut R) -> Result<(), AllocError>
+        ensures adds { Adds 0 0 0 self.old self.new }
+        ensures stays { Stays self.old self.new }
+        ensures goes { (told : List Said) → Contains told (said_of (packet_of
+            (Suspect probe.now.name probe.now.inc) self.old.own.name) true)
+            → GoesBy told self.old self.new }
+        ensures lines { KeepsLines self.old self.new }
+    {
+        self.show_unanswered(probe)?;
         let packet = self.suspicion_of(&probe.name, probe.inc)?;
         self.hear(&packet, true, rng)
     }
@@ -287,10 +326,13 @@ impl Member {
     }
 }
 
-/// Whether a member is neither dead nor left.
-fn is_here(entry: &Entry) -> bool {
+/// Whether this is another member, and neither dead nor left.
+pub(crate) fn is_here(view: &View, name: &MemberName, own: &MemberName) -> bool {
+    let Some(entry) = view.get(name) else {
+        return false;
+    };
     match entry.state {
-        State::Alive | State::Suspect { .. } => true,
+        State::Alive | State::Suspect { .. } => *name != *own,
         State::Noted | State::Seen | State::Dead { .. } | State::Left => false,
     }
 }

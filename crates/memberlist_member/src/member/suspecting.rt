@@ -1,11 +1,13 @@
 //! What becomes of suspicions.
 
-ghost use Rattle.std.specs.Prelude.{◌≡◌, ◌<◌, ◌≤◌, List, OnErr, OnOk, count_by, false, length, true};
+ghost use Rattle.std.specs.Prelude.{◌≡◌, ◌<◌, ◌≤◌, IfOk, List, OnErr, OnOk, Some, count_by, false, length};
+ghost use Rattle.std.specs.Prelude.{true};
 ghost use Rattle.std.specs.List.{All, Any};
 ghost use Rattle.swim_wire.specs.Packet.{PacketValue};
-ghost use Rattle.memberlist_view.specs.Heard.{about};
+ghost use Rattle.memberlist_view.specs.Heard.{about, accuser_of};
 ghost use Rattle.memberlist_view.specs.Member.{is_alive, member_view_after};
 ghost use Rattle.memberlist_view.specs.declared.heard.Said.{Said};
+ghost use Rattle.memberlist_member.specs.Claims.{dead_by, packet_of};
 ghost use Rattle.memberlist_member.specs.Saying.{said_of};
 ghost use Rattle.memberlist_member.specs.Showing.{GoesBy, GoesOn, IsGround, IsOwnWord, KeepsLines};
 ghost use Rattle.memberlist_member.specs.Staying.{Adds, Stays};
@@ -14,11 +16,12 @@ ghost use Rattle.memberlist_member.specs.Suspects.{shows_suspect};
 
 use crate::claims;
 use crate::member::Member;
-use crate::member::hearing::{copy_of, said_by};
+use crate::member::hearing::copy_of;
 use crate::suspicion::Suspicion;
 use memberlist_view::{Event, Heard, MemberName, Said, State};
 use rand_core::Rng;
 use std::alloc::AllocError;
+use swim_wire::Packet;
 
 impl Member {
     /// Takes in what it hears now. A member is waited for as long as it is shown as suspect.
@@ -176,12 +179,34 @@ impl Member {
             return Ok(());
         };
         let inc = entry.inc;
+        let packet = self.death_of(name, inc)?;
+        self.hear_packet(&packet, rng)
+    }
+
+    /// Hears now what it says itself of another member.
+    fn hear_packet<R: Rng>(&mut self, packet: &Packet, rng: &mut R) -> Result<(), AllocError>
+        ensures adds { Adds 0 0 0 self.old self.new }
+        ensures stays { Stays self.old self.new }
+        ensures goes { (told : List Said) → IsGround told self.old (said_of packet.now true)
+            → GoesBy told self.old self.new }
+        ensures step { OnOk result (self.new.view ≡ member_view_after self.old.view
+            (record { time = self.old.time; said = said_of packet.now true })) }
+        ensures grows { GrowsByAtMost (about (said_of packet.now true))
+            self.old.suspicions.list.items self.new.suspicions.list.items }
+        ensures lines { KeepsLines self.old self.new }
+    {
+        let heard = self.heard_now(packet, true)?;
+        self.hear_now(packet, &heard, rng)
+    }
+
+    /// What it says when it declares a member dead.
+    fn death_of(&self, name: &MemberName, inc: u32) -> Result<Packet, AllocError>
+        ensures says { IfOk result (λ packet.
+            packet ≡ packet_of (dead_by name.now inc self.now.own.name) self.now.own.name) }
+        ensures named { IfOk result (λ _.
+            accuser_of self.now.own.name ≡ Some self.now.own.name) }
+    {
         let copy = name.name().try_clone(self.alloc)?;
-        let packet = claims::dead(self.alloc, copy, inc, self.own.name.name())?;
-        let heard = Heard {
-            time: self.time,
-            said: said_by(self.alloc, &packet, true)?,
-        };
-        self.hear_now(&packet, &heard, rng)
+        claims::dead(self.alloc, copy, inc, self.own.name.name())
     }
 }

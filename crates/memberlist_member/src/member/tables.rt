@@ -1,6 +1,6 @@
 //! Tables that members exchange.
 
-ghost use Rattle.std.specs.Prelude.{ℕ, IfOk, List};
+ghost use Rattle.std.specs.Prelude.{◌≡◌, ℕ, IfOk, List};
 ghost use Rattle.memberlist_member.specs.Reading.{IsRead};
 ghost use Rattle.std.specs.List.{All, Contains};
 ghost use Rattle.memberlist_member.specs.Staying.{Adds, Stays};
@@ -147,26 +147,33 @@ impl Member {
             return Ok(false);
         };
         for claim in claims {
-            if *claim.name().bytes() != *self.own.name.name().bytes() {
+            let is_own = *claim.name().bytes() == *self.own.name.name().bytes();
+            if claim.kind() == Kind::Alive && !is_own {
                 self.know(claim, rng)?;
             }
         }
         Ok(true)
     }
 
-    /// Knows a member if it is said to be alive, and tells nobody.
+    /// Knows a member that is said to be alive, and tells nobody.
     fn know<R: Rng>(&mut self, claim: Claim, rng: &mut R) -> Result<(), AllocError>
         ensures adds { Adds 0 0 0 self.old self.new }
         ensures stays { Stays self.old self.new }
     {
-        if claim.kind() != Kind::Alive {
-            return Ok(());
-        }
         let heard = Heard {
             time: self.time,
             said: Said::of_record(claim, false),
         };
-        match self.take_in(&heard)? {
+        self.know_heard(&heard, rng)
+    }
+
+    /// Knows the member of which it heard, and tells nobody.
+    fn know_heard<R: Rng>(&mut self, heard: &Heard, rng: &mut R) -> Result<(), AllocError>
+        requires now { heard.now.time ≡ self.old.time }
+        ensures adds { Adds 0 0 0 self.old self.new }
+        ensures stays { Stays self.old self.new }
+    {
+        match self.take_in(heard)? {
             Some(event) => self.follow(heard.said.name(), event, rng),
             None => Ok(()),
         }

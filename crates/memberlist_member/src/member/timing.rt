@@ -10,7 +10,6 @@ use crate::config::micros;
 use crate::connections::Purpose;
 use crate::member::Member;
 use crate::member::gossiping::Among;
-use crate::member::probing::place_in;
 use crate::scale::push_pull_scale;
 use rand::RngExt;
 use rand_core::Rng;
@@ -94,11 +93,30 @@ impl Member {
     {
         self.probe_in_time(rng)?;
         self.gossip_in_time(rng)?;
-        self.exchange_in_time(rng)?;
-        self.reconnect_in_time(rng)?;
-        self.join_in_time(rng)?;
+        self.dial_in_time(rng)?;
         self.close_overdue()?;
         self.depart()
+    }
+
+    /// Dials those with which it exchanges tables.
+    fn dial_in_time<R: Rng>(&mut self, rng: &mut R) -> Result<(), AllocError>
+        ensures adds { Adds 0 (1 + unless_silent self.old.settings 2) 0 self.old self.new }
+        ensures stays { StaysButTimes self.old self.new }
+        ensures probes { BeginsNoProbe self.old self.new }
+        ensures times { self.new.times ≡ record self.old.times {
+          push_pull = self.new.times.push_pull;
+          reconnect = self.new.times.reconnect;
+          seed = self.new.times.seed;
+        } }
+        ensures later { OnOk result (IsLater self.new.time self.new.times.push_pull
+            × IsLater self.new.time self.new.times.reconnect
+            × IsLater self.new.time self.new.times.seed) }
+        ensures goes { GoesOn self.old self.new }
+        ensures lines { KeepsLines self.old self.new }
+    {
+        self.exchange_in_time(rng)?;
+        self.reconnect_in_time(rng)?;
+        self.join_in_time(rng)
     }
 
     fn probe_in_time<R: Rng>(&mut self, rng: &mut R) -> Result<(), AllocError>
@@ -134,7 +152,7 @@ impl Member {
         self.gossip(rng)
     }
 
-    /// Exchanges tables with a member at random.
+    /// Exchanges tables in time.
     fn exchange_in_time<R: Rng>(&mut self, rng: &mut R) -> Result<(), AllocError>
         ensures adds { Adds 0 (unless_silent self.old.settings 1) 0 self.old self.new }
         ensures stays { StaysButTimes self.old self.new }
@@ -157,17 +175,24 @@ impl Member {
         if self.is_passive() {
             return Ok(());
         }
+        self.exchange_with_any(rng)
+    }
+
+    /// Exchanges tables with a member at random.
+    fn exchange_with_any<R: Rng>(&mut self, rng: &mut R) -> Result<(), AllocError>
+        ensures adds { Adds 0 1 0 self.old self.new }
+        ensures stays { Stays self.old self.new }
+        ensures goes { GoesOn self.old self.new }
+        ensures lines { KeepsLines self.old self.new }
+    {
         let members = self.some_members(1, None, Among::Alive, rng)?;
-        for name in &members {
-            let Some(entry) = self.view.get(name) else {
-                continue;
-            };
-            let Some(place) = place_in(entry) else {
-                continue;
-            };
-            self.exchange(place, false, rng)?;
-        }
-        Ok(())
+        let Some(name) = members.first() else {
+            return Ok(());
+        };
+        let Some(place) = self.place_of(name) else {
+            return Ok(());
+        };
+        self.exchange(place, false, rng)
     }
 
     /// Dials a member that was lost.

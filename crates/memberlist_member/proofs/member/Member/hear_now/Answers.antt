@@ -2,6 +2,7 @@ use Rattle.std.proofs.Common.{subst, sym, ◌∙◌}
 use Rattle.memberlist_view.specs.Heard.{about}
 use Rattle.memberlist_member.specs.Suspects.{GrowsByAtMost}
 use Rattle.memberlist_member.proofs.Heeding.{always_ok}
+use Rattle.memberlist_member.proofs.Carrying.{stays_over}
 use Rattle.memberlist_member.proofs.member.Member.hear_now.Goals as goal
 
 pub returns-clause-goes : goal.returns-clause-goes
@@ -15,3 +16,9 @@ pub returns-clause-grows : goal.returns-clause-grows
 returns-clause-grows g c =
     subst (λ s. GrowsByAtMost (about c.args.heard.now.said) c.args.self.now.suspicions.list.items s.list.items) (sym c.heed.ensures.shown.1)
     c.take_in.ensures.grows
+
+pub returns-clause-lines : goal.returns-clause-lines
+returns-clause-lines g c conn came line = c.take_in.ensures.lines conn came (c.heed.ensures.lines conn came line)
+
+pub returns-clause-stays : goal.returns-clause-stays
+returns-clause-stays g c = stays_over c.args.self.now c.take_in.new.self c.heed.new.self c.take_in.ensures.stays c.heed.ensures.stays

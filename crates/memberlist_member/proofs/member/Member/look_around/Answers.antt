@@ -1,6 +1,7 @@
 use Rattle.memberlist_member.specs.Showing.{IsToldAnywhere}
 use Rattle.memberlist_member.proofs.Showing.{same_probe, untold}
 use Rattle.memberlist_member.proofs.Ticking.{anywhere_before}
+use Rattle.memberlist_member.proofs.Carrying.{probe_over}
 use Rattle.memberlist_member.proofs.member.Member.look_around.Goals as goal
 
 pub returns-in_err-end_relays-clause-goes : goal.returns-in_err-end_relays-clause-goes
@@ -20,3 +21,9 @@ pub returns-clause-probes : goal.returns-clause-probes
 returns-clause-probes g c seq name inc due probing =
     same_probe c.args.self.now c.end_relays.new.self c.end_relays.ensures.stays.1 seq name inc due
     (c.look_again.ensures.probes seq name inc due probing)
+
+pub returns-clause-lines : goal.returns-clause-lines
+returns-clause-lines g c conn came line = c.end_relays.ensures.lines conn came (c.look_again.ensures.lines conn came line)
+
+pub returns-clause-stays : goal.returns-clause-stays
+returns-clause-stays g c = probe_over c.args.self.now c.end_relays.new.self c.look_again.new.self c.end_relays.ensures.stays.0 c.look_again.ensures.stays

@@ -2,6 +2,7 @@ use Rattle.std.proofs.Common.{◌≡◌, ◌∷◌, rules, subst, sym}
 use Rattle.std.specs.List.{All, Contains}
 use Rattle.std.proofs.lemmas.List.Elements.{All-contains_itself, All-head, All-rest}
 use Rattle.memberlist_member.proofs.Lines.{said_of_one}
+use Rattle.memberlist_member.proofs.Carrying.{stays_over}
 use Rattle.memberlist_member.proofs.member.Member.merge_all.Goals as goal
 
 pub loop-claim-init : goal.loop-claim-init
@@ -22,7 +23,7 @@ loop-claim-preserved g c =
     let ((((time, settings, cover, name, rises), details, leaving, seeds), times), probe) = c.loop-claim.invariant.stays in
     record {
       adds = search rules;
-      stays = search rules;
+      stays = stays_over c.args.self.now c.loop-claim.self c.merge.new.self c.loop-claim.invariant.stays c.merge.ensures.stays;
       goes = λ told each first word before.
           c.merge.ensures.goes told (said_of_one c.args.self.now.own.name c.loop-claim.self.own.name name told items c.in-Some.claim each
           (All-head (Contains items) c.in-Some.claim c.next.new.self.rest.items all))
@@ -41,3 +42,9 @@ returns-in_err-merge-clause-goes g c told each first word before =
     c.merge.ensures.goes told (said_of_one c.args.self.now.own.name c.loop-claim.self.own.name name told items c.in-Some.claim each
     (All-head (Contains items) c.in-Some.claim c.next.new.self.rest.items all))
     first word (c.loop-claim.invariant.goes told each first word before)
+
+pub returns-in_err-merge-clause-stays : goal.returns-in_err-merge-clause-stays
+returns-in_err-merge-clause-stays g c = stays_over c.args.self.now c.loop-claim.self c.merge.new.self c.loop-claim.invariant.stays c.merge.ensures.stays
+
+pub returns-in_err-merge-clause-lines : goal.returns-in_err-merge-clause-lines
+returns-in_err-merge-clause-lines g c conn came line = c.loop-claim.invariant.lines conn came (c.merge.ensures.lines conn came line)

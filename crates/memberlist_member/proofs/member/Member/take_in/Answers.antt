@@ -1,4 +1,4 @@
-use Rattle.std.proofs.Common.{◌≡◌, Option, Result, OnErr, OnOk, arith, refl, rules, subst}
+use Rattle.std.proofs.Common.{◌≡◌, ◌∙◌, Option, Result, OnErr, OnOk, ap, arith, refl, rules, subst}
 use Rattle.std.specs.declared.alloc.AllocError.{AllocError}
 use Rattle.memberlist_view.specs.Member.{member_view_after}
 use Rattle.memberlist_view.specs.Told.{ViewValue}
@@ -8,6 +8,8 @@ use Rattle.memberlist_member.specs.declared.member.Member.{Member}
 use Rattle.memberlist_member.proofs.Remembering.{after_hearing}
 use Rattle.memberlist_member.proofs.Showing.{after_hearing as after_hearing_this, after_telling, arrives_as}
 use Rattle.memberlist_member.proofs.Watching.{watched_after}
+use Rattle.memberlist_member.proofs.Heeding.{on_ok}
+use Rattle.memberlist_member.proofs.Carrying.{stays_over}
 use Rattle.memberlist_member.proofs.member.Member.take_in.Goals as goal
 
 -- the view after it was heard, or as before
@@ -63,3 +65,20 @@ returns-clause-tells c told packet word says first own_word before =
     let own : new.own ≡ m.own = search rules in
     arrives_as told first own_word m new time settings own
     (after_telling told m new.view said packet result first own_word word says (stepped c).step (stepped c).same before)
+
+pub returns-clause-lines : goal.returns-clause-lines
+returns-clause-lines c conn came line = c.get_ready.ensures.lines conn came (c.settle.ensures.lines conn came line)
+
+pub returns-clause-stays : goal.returns-clause-stays
+returns-clause-stays c = stays_over c.args.self.now c.get_ready.new.self c.settle.new.self c.get_ready.ensures.stays c.settle.ensures.stays
+
+pub returns-clause-own : goal.returns-clause-own
+returns-clause-own c = c.settle.ensures.own ∙ c.get_ready.ensures.own
+
+pub returns-clause-grows : goal.returns-clause-grows
+returns-clause-grows c = omega (arith, c.get_ready.ensures.grows, c.settle.ensures.grows)
+
+pub returns-clause-step : goal.returns-clause-step
+returns-clause-step c =
+    on_ok c.hear_as_member-event.result (λ step. c.settle.ensures.view ∙ step ∙ ap (λ v. member_view_after v c.args.heard.now) c.get_ready.ensures.view)
+    c.hear_as_member-event.ensures.step

@@ -4,6 +4,7 @@ use Rattle.memberlist_member.specs.Reading.{IsRead}
 use Rattle.memberlist_member.specs.Saying.{said_in_table}
 use Rattle.memberlist_member.specs.Tables.{BeginsWithTable}
 use Rattle.memberlist_member.proofs.Lines.{all_in_table, said_all}
+use Rattle.memberlist_member.proofs.Carrying.{stays_over}
 use Rattle.memberlist_member.proofs.member.Member.take_table.Goals as goal
 
 pub returns-in_err-merge_all-in-Table-clause-goes : goal.returns-in_err-merge_all-in-Table-clause-goes
@@ -51,3 +52,21 @@ pub returns-in_ok-merge_all-in-Table-clause-lines : goal.returns-in_ok-merge_all
 returns-in_ok-merge_all-in-Table-clause-lines g c conn came line =
     c.answer_table.ensures.lines conn came (c.hang_up-in-Table.ensures.lines conn came
     (c.merge_all.ensures.lines conn came (c.show_state.ensures.lines conn came line)))
+
+pub returns-in_err-merge_all-in-Table-clause-stays : goal.returns-in_err-merge_all-in-Table-clause-stays
+returns-in_err-merge_all-in-Table-clause-stays g c = stays_over c.args.self.now c.hang_up-in-Table.new.self c.merge_all.new.self (stays_over c.args.self.now c.answer_table.new.self c.hang_up-in-Table.new.self c.answer_table.ensures.stays c.hang_up-in-Table.ensures.stays) c.merge_all.ensures.stays
+
+pub returns-in_ok-merge_all-in-Table-clause-stays : goal.returns-in_ok-merge_all-in-Table-clause-stays
+returns-in_ok-merge_all-in-Table-clause-stays g c = stays_over c.args.self.now c.merge_all.new.self c.show_state.new.self (stays_over c.args.self.now c.hang_up-in-Table.new.self c.merge_all.new.self (stays_over c.args.self.now c.answer_table.new.self c.hang_up-in-Table.new.self c.answer_table.ensures.stays c.hang_up-in-Table.ensures.stays) c.merge_all.ensures.stays) c.show_state.ensures.stays
+
+pub returns-in_err-hang_up-in-Table-clause-lines : goal.returns-in_err-hang_up-in-Table-clause-lines
+returns-in_err-hang_up-in-Table-clause-lines g c conn came line = c.answer_table.ensures.lines conn came (c.hang_up-in-Table.ensures.lines conn came line)
+
+pub returns-in_err-hang_up-in-Table-clause-stays : goal.returns-in_err-hang_up-in-Table-clause-stays
+returns-in_err-hang_up-in-Table-clause-stays g c = stays_over c.args.self.now c.answer_table.new.self c.hang_up-in-Table.new.self c.answer_table.ensures.stays c.hang_up-in-Table.ensures.stays
+
+pub returns-in-Refused-clause-lines : goal.returns-in-Refused-clause-lines
+returns-in-Refused-clause-lines g c conn came line = c.refuse.ensures.lines conn came (c.hang_up.ensures.lines conn came line)
+
+pub returns-in-Refused-clause-stays : goal.returns-in-Refused-clause-stays
+returns-in-Refused-clause-stays g c = stays_over c.args.self.now c.refuse.new.self c.hang_up.new.self c.refuse.ensures.stays c.hang_up.ensures.stays

@@ -1,6 +1,6 @@
 use Rattle.memberlist_member.specs.Showing.{GoesOn, KeepsLines}
 use Rattle.memberlist_member.specs.Staying.{Adds, BeginsNoProbe, StaysButProbe}
-use Rattle.memberlist_member.proofs.member.Member.ask_others.Given as goal
+use Rattle.memberlist_member.proofs.member.Member.ask_some.Given as goal
 
 abbrev pub invariant-loop-peer : goal.invariant-loop-peer
 invariant-loop-peer g l = record {
