@@ -77,6 +77,8 @@ static void what_changes_nothing_is_not_noted(void) {
     WANT(has_news(&node, ALIVE_A_4) && has_news(&node, SUSPECT_A_5) && tells(&node, 'a', SWIMTAB_SUSPECT, 5));
     WANT(!has_news(&node, ALIVE_A_4) && !has_news(&node, SUSPECT_A_5) && !has_news(&node, "0700"));
     WANT(!has_news(&node, "0702001d0003" SUSPECT_A_5 "008080"));
+    WANT(has_news(&node, SUSPECT_B_1) && tells(&node, 'b', SWIMTAB_SUSPECT, 1));
+    WANT(!has_news(&node, "0702001d001d" SUSPECT_A_5 SUSPECT_B_1));
     WANT(!swimtab_finish(&node, stream.at, stream.len).news && !swimtab_refute(&node).due);
     swimtab_buffer buffer = SWIMTAB_BUFFER_INIT;
     swimtab_exchanged made = swimtab_answer_new(&node, stream.at, stream.len, SWIMTAB_CANONICAL, NULL, 0, &buffer);
@@ -130,6 +132,30 @@ static void streams_and_refutations_are_noted(void) {
     swimtab_free(&buffer);
     free(first.at), free(second.at);
     WANT(swimtab_close(&node) == SWIMTAB_DONE);
+}
+
+/* A packet or a stream notes all names that it changes, and only these. */
+static void several_names_come_in_byte_order(void) {
+    swimtab_node node = opened("c", 7946, 0), other = opened("d", 7946, 0);
+    swimtab_buffer offer = SWIMTAB_BUFFER_INIT;
+    uint8_t out[500];
+    WANT(swimtab_offer_new(&other, true, SWIMTAB_CANONICAL, NULL, 0, &offer) == SWIMTAB_DONE);
+    WANT(swimtab_watch(&node, true) == SWIMTAB_DONE);
+    WANT(swimtab_finish(&node, offer.at, offer.len).news && tells(&node, 'd', SWIMTAB_ALIVE, 0));
+    WANT(tells_nothing(&node));
+    WANT(!swimtab_finish(&node, offer.at, offer.len).news && tells_nothing(&node));
+    WANT(has_news(&node, "0702001d001d" SUSPECT_B_1 SUSPECT_A_5));
+    WANT(tells(&node, 'a', SWIMTAB_SUSPECT, 5) && tells(&node, 'b', SWIMTAB_SUSPECT, 1) && tells_nothing(&node));
+    WANT(swimtab_watch(&other, true) == SWIMTAB_DONE);
+    WANT(swimtab_offer_new(&node, false, SWIMTAB_CANONICAL, NULL, 0, &offer) == SWIMTAB_DONE);
+    WANT(swimtab_answer(&other, offer.at, offer.len, SWIMTAB_CANONICAL, NULL, 0, out, sizeof out).news);
+    WANT(tells(&other, 'a', SWIMTAB_SUSPECT, 5) && tells(&other, 'b', SWIMTAB_SUSPECT, 1));
+    /* it knew itself */
+    WANT(tells(&other, 'c', SWIMTAB_ALIVE, 0) && tells_nothing(&other));
+    /* names that are still noted when the watch ends are dropped */
+    WANT(has_news(&node, ALIVE_A_6) && swimtab_watch(&node, false) == SWIMTAB_DONE && tells_nothing(&node));
+    swimtab_free(&offer);
+    WANT(swimtab_close(&node) == SWIMTAB_DONE && swimtab_close(&other) == SWIMTAB_DONE);
 }
 
 static void a_change_may_be_let_go(void) {
@@ -209,6 +235,7 @@ int main(void) {
         {"what changes nothing is not noted", what_changes_nothing_is_not_noted},
         {"refused calls note nothing", refused_calls_note_nothing},
         {"streams and refutations are noted", streams_and_refutations_are_noted},
+        {"several names come in byte order", several_names_come_in_byte_order},
         {"a change may be let go", a_change_may_be_let_go},
         {"a forgotten name is gone", a_forgotten_name_is_gone},
         {"a forgotten name is heard again", a_forgotten_name_is_heard_again},

@@ -110,6 +110,19 @@ static void user_state_is_sent(void) {
     WANT(swimtab_close(&node) == 0);
 }
 
+/* A member without versions offers to memberlist nothing but the user state. */
+static void user_state_needs_no_member(void) {
+    swimtab_node node = opened("a", 7946, 0);
+    uint8_t out[86];
+    swimtab_written written = swimtab_offer(&node, false, SWIMTAB_CANONICAL, NULL, 0, out, sizeof out);
+    WANT(written.status == SWIMTAB_DONE && is_hex(out, written.len, DUMP_A_0));
+    written = swimtab_offer(&node, false, SWIMTAB_MEMBERLIST, "me", 2, out, sizeof out);
+    WANT(written.status == SWIMTAB_DONE);
+    WANT(is_hex(out, written.len, "0683a44a6f696ec2a54e6f64657300ac5573657253746174654c656e02" "6d65"));
+    WANT(swimtab_left_out(&node) == 1);
+    WANT(swimtab_close(&node) == 0);
+}
+
 static void the_form_for_memberlist_is_read_back(void) {
     swimtab_node node = with_all_heard(), other = opened("z", 1, 0);
     swimtab_buffer buffer = SWIMTAB_BUFFER_INIT;
@@ -229,6 +242,7 @@ int main(void) {
         {"both forms are written", both_forms_are_written},
         {"who has no sound versions is left out", who_has_no_sound_versions_is_left_out},
         {"user state is sent", user_state_is_sent},
+        {"user state needs no member", user_state_needs_no_member},
         {"the form for memberlist is read back", the_form_for_memberlist_is_read_back},
         {"a reply is in the form that is asked for", a_reply_is_in_the_form_that_is_asked_for},
         {"a buffer is filled again and again", a_buffer_is_filled_again_and_again},

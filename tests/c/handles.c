@@ -169,6 +169,9 @@ static void a_closed_handle_opens_again(void) {
     swimtab_node node = opened("a", 1, 0);
     WANT(take_hex(&node, SUSPECT_B_1) == 0 && swimtab_count(&node) == 2);
     WANT(swimtab_close(&node) == 0 && swimtab_close(&node) == SWIMTAB_NO_NODE);
+    WANT(swimtab_count(&node) == 0 && take_hex(&node, SUSPECT_B_1) == SWIMTAB_NO_NODE);
+    WANT(open_with(&node, "", 0, NULL, 0, 1, NULL, 0, NULL, 0, 0) == SWIMTAB_NAME_EMPTY);
+    WANT(swimtab_close(&node) == SWIMTAB_NO_NODE);
     node = opened("b", 2, 3);
     WANT(lists(&node, "b alive 3 3/7f000001/2//\n"));
     WANT(swimtab_close(&node) == 0);
@@ -200,6 +203,7 @@ static void openings_are_refused(void) {
     node = opened("a", 7946, 0);
     WANT(open_with(&node, "b", 1, local_addr, 4, 1, NULL, 0, NULL, 0, 0) == SWIMTAB_NODE_THERE);
     WANT(open_with(&node, NULL, 0, NULL, 0, 1, NULL, 0, NULL, 0, 0) == SWIMTAB_NODE_THERE);
+    WANT(open_with(&node, "b", 1, NULL, 0, 1, NULL, 0, NULL, 0, 0) == SWIMTAB_NODE_THERE);
     WANT(lists(&node, LIST_A_0));
     WANT(swimtab_close(&node) == 0);
 }
@@ -224,6 +228,16 @@ static void the_longest_values_are_copied_out(void) {
     free(name.at), free(addr.at), free(meta.at), free(vsn.at);
 }
 
+/* By its name, and as the one after `a`, b is copied as it was by its place. */
+static void copies_the_same(const swimtab_node *node, const swimtab_member_data *by_place) {
+    swimtab_member_data found, next;
+    memset(&found, 9, sizeof found);
+    memset(&next, 9, sizeof next);
+    WANT(swimtab_find(node, "b", 1, &found) == 0 && memcmp(&found, by_place, sizeof found) == 0);
+    WANT(swimtab_after(node, "a", 1, &next) == 0 && memcmp(&next, by_place, sizeof next) == 0);
+    WANT(swimtab_after(node, "b!", 2, &next) == SWIMTAB_NO_MEMBER && memcmp(&next, by_place, sizeof next) == 0);
+}
+
 static void members_are_found_by_place_and_by_name(void) {
     swimtab_node node = opened("b", 7946, 3);
     swimtab_member_data member;
@@ -242,6 +256,7 @@ static void members_are_found_by_place_and_by_name(void) {
     WANT(member.has_address && member.address_inc == 3 && member.port == 7946);
     WANT(member.addr_len == 4 && memcmp(member.addr, local_addr, 4) == 0 && member.addr[4] == 9);
     WANT(member.meta_len == 0 && member.meta[0] == 9 && member.vsn_len == 0 && member.vsn[0] == 9);
+    copies_the_same(&node, &member);
     WANT(swimtab_member(&node, 2, &member) == 0);
     WANT(member.name_len == 2 && memcmp(member.name, "b!", 2) == 0 && member.state == SWIMTAB_CONFIRM);
     swimtab_member_data before = member;

@@ -205,6 +205,21 @@ static void a_member_that_came_back_is_believed(void) {
     WANT(swimtab_close(&node) == 0);
 }
 
+/* The same of a node's own member, whom others declared dead and heard of again. */
+static void the_own_member_comes_back(void) {
+    swimtab_node node = opened("b", 7946, 0);
+    swimtab_member_data member;
+    WANT(has_news(&node, "0583a446726f6da161ab496e6361726e6174696f6e00a44e6f6465a162"));
+    WANT(swimtab_find(&node, "b", 1, &member) == SWIMTAB_DONE && member.state == SWIMTAB_CONFIRM && !member.came_back);
+    WANT(has_news(&node, "0486a441646472a47f000001ab496e6361726e6174696f6e01a44d657461a0a44e6f6465a162a4506f7274cd1f0a"
+                         "a356736ea0"));
+    WANT(swimtab_find(&node, "b", 1, &member) == SWIMTAB_DONE && member.state == SWIMTAB_CONFIRM);
+    WANT(member.came_back && member.address_inc == 1 && swimtab_refute(&node).status == SWIMTAB_GONE);
+    WANT(swimtab_readmit(&node, "b", 1) == SWIMTAB_DONE && lists(&node, "b alive 1 1/7f000001/7946//\n"));
+    WANT(swimtab_readmit(&node, "b", 1) == SWIMTAB_NOT_BACK);
+    WANT(swimtab_close(&node) == 0);
+}
+
 static void a_walk_goes_on_where_it_was(void) {
     swimtab_node node = opened("m", 7946, 0);
     char told[40] = "", *at = told;
@@ -249,6 +264,11 @@ static void keys_are_rotated(void) {
     WANT(one.len == two.len && memcmp(by_first, by_second, one.len) != 0);
     WANT(swimtab_unwrap(&keys, by_first, one.len, read, 20).status == SWIMTAB_DONE);
     WANT(swimtab_keyring_remove(&keys, 1) == SWIMTAB_DONE && swimtab_keyring_count(&keys) == 2);
+    WANT(swimtab_keyring_remove(&keys, 0) == SWIMTAB_KEY_IN_USE && swimtab_keyring_use(&keys, 2) == SWIMTAB_NO_ITEM);
+    key = swimtab_keyring_key(&keys, 0, out, 40);
+    WANT(key.status == SWIMTAB_DONE && key.len == 24 && memcmp(out, "the second has 24 bytes.", 24) == 0);
+    key = swimtab_keyring_key(&keys, 1, out, 40);
+    WANT(key.status == SWIMTAB_DONE && key.len == 32 && memcmp(out, "the third one has 32 bytes, yes.", 32) == 0);
     WANT(swimtab_unwrap(&keys, by_first, one.len, read, 20).status == SWIMTAB_WRONG_TAG);
     WANT(swimtab_unwrap(&keys, by_second, two.len, read, 20).status == SWIMTAB_DONE);
     WANT(swimtab_keyring_close(&keys) == SWIMTAB_DONE);
@@ -263,6 +283,7 @@ int main(void) {
         {"a bad part refuses only itself", a_bad_part_refuses_only_itself},
         {"details are replaced", details_are_replaced},
         {"a member that came back is believed", a_member_that_came_back_is_believed},
+        {"the own member comes back", the_own_member_comes_back},
         {"a walk goes on where it was", a_walk_goes_on_where_it_was},
         {"keys are rotated", keys_are_rotated},
     };

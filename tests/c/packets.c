@@ -169,10 +169,57 @@ static void packets_are_written_where_they_fit(void) {
     WANT(swimtab_close(&node) == 0);
 }
 
+/* What a says of itself and of b at the first incarnations, and the same written by anybody. */
+#define ALIVE_A_1 \
+    "0486a441646472a47f000001ab496e6361726e6174696f6e01a44d657461a0a44e6f6465a161a4506f7274cd1f0a" \
+    "a356736ea0"
+#define SUSPECT_B_0 "0383a446726f6da161ab496e6361726e6174696f6e00a44e6f6465a162"
+#define CONFIRM_B_0 "0583a446726f6da161ab496e6361726e6174696f6e00a44e6f6465a162"
+
+static swimtab_written write_first_alive(swimtab_node *node, uint8_t *out, size_t out_len) {
+    return swimtab_alive(node, 1, out, out_len);
+}
+static swimtab_written write_first_alive_of(swimtab_node *node, uint8_t *out, size_t out_len) {
+    (void)node;
+    return alive_with("a", 1, local_addr, 4, 7946, NULL, 0, NULL, 0, 1, out, out_len);
+}
+static swimtab_written write_first_suspect(swimtab_node *node, uint8_t *out, size_t out_len) {
+    return swimtab_suspect(node, "b", 1, 0, out, out_len);
+}
+static swimtab_written write_first_suspect_of(swimtab_node *node, uint8_t *out, size_t out_len) {
+    (void)node;
+    return swimtab_suspect_of("a", 1, "b", 1, 0, out, out_len);
+}
+static swimtab_written write_first_confirm(swimtab_node *node, uint8_t *out, size_t out_len) {
+    return swimtab_confirm(node, "b", 1, 0, out, out_len);
+}
+static swimtab_written write_first_dead_of(swimtab_node *node, uint8_t *out, size_t out_len) {
+    (void)node;
+    return swimtab_dead_of("a", 1, "b", 1, 0, out, out_len);
+}
+
+static void a_member_and_anybody_write_the_same(void) {
+    swimtab_node node = opened("a", 7946, 0);
+    writes(&node, write_first_alive, ALIVE_A_1);
+    writes(&node, write_first_alive_of, ALIVE_A_1);
+    writes(&node, write_first_suspect, SUSPECT_B_0);
+    writes(&node, write_first_suspect_of, SUSPECT_B_0);
+    writes(&node, write_first_confirm, CONFIRM_B_0);
+    writes(&node, write_first_dead_of, CONFIRM_B_0);
+    WANT(lists(&node, LIST_A_0));
+    WANT(swimtab_close(&node) == 0);
+}
+
 static void refutations_come_where_they_are_due(void) {
     swimtab_node node = opened("a", 7946, 0);
     swimtab_refuted refuted = swimtab_refute(&node);
     WANT(refuted.status == 0 && !refuted.due && refuted.inc == 0);
+    /* b suspects it at the incarnation at which it is alive */
+    WANT(take_hex(&node, "0383a446726f6da162ab496e6361726e6174696f6e00a44e6f6465a161") == 0);
+    WANT(lists(&node, "a suspect 0 0/7f000001/7946//\n"));
+    refuted = swimtab_refute(&node);
+    WANT(refuted.status == 0 && refuted.due && refuted.inc == 1);
+    WANT(take_hex(&node, "09") == SWIMTAB_WRONG_TYPE && lists(&node, "a alive 1 1/7f000001/7946//\n"));
     WANT(take_hex(&node, SUSPECT_A_5) == 0);
     refuted = swimtab_refute(&node);
     WANT(refuted.status == 0 && refuted.due && refuted.inc == 6);
@@ -282,6 +329,7 @@ int main(void) {
         {"anybody's Alive is written", anybodys_alive_is_written},
         {"an Alive of invalid parts is refused", an_alive_of_invalid_parts_is_refused},
         {"packets are written where they fit", packets_are_written_where_they_fit},
+        {"a member and anybody write the same", a_member_and_anybody_write_the_same},
         {"refutations come where they are due", refutations_come_where_they_are_due},
         {"what a member may not say is refused", what_a_member_may_not_say_is_refused},
         {"packets become one compound packet", packets_become_one_compound_packet},

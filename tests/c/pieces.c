@@ -128,6 +128,9 @@ static void other_numbers_are_safe(void) {
         answers += status <= SWIMTAB_USER_TOO_LONG;
     }
     WANT(answers == 8 * 5 * 5 * 2);
+    /* behind the last byte there is none */
+    swimtab_progress behind = {stream.len + 14, 9, 9, true};
+    WANT(swimtab_whole(&behind, stream.at, stream.len) == SWIMTAB_ENDED);
     free(stream.at);
 }
 

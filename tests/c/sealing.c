@@ -1,6 +1,7 @@
 /* Packets and streams as a real cluster sends them: unwrapped, decrypted and sealed. The bytes are from the
  * cluster with two keys in tests/captures/sealed, decrypted with python's cryptography and zlib; from
- * memberlist's encryptPayload and encryptLocalState, with labels; and from Go's crypto and compress/lzw. */
+ * memberlist's encryptPayload and encryptLocalState, with labels; and from Go's crypto and compress/lzw. No memory that
+ * is freed here may hold a key: tests/embedded knows the keys, and looks for them. */
 #include "check.h"
 
 /* The keys of the captured cluster: the new one replaced the first one. */
@@ -107,6 +108,22 @@
     "0a0000002f016e6f6e63652d6e756d6265723f24a82c73fb6e8007e572601a4dee56ab8f2b2c23af1a5a34fd34c8" \
     "c1ce29aa11ed"
 
+/* The alive message and the stream, encrypted with KEY_16 by python's cryptography: the message as it is behind the
+ * label `dc`, the stream without a label, and the stream as a reply in the cluster `dc`; and another key. */
+#define BEHIND_DC \
+    "016e6f6e63652d6e756d626572b2980fe9247d4805575d830023618ef4dbc489567f158533ac5b9850e44d7eed8a" \
+    "bd6b4b98a8b5fb34a4d321187f3372c0b79384532062b2a63884313296f0be0ef24b"
+#define SEALED_IN_DC "f4026463" BEHIND_DC
+#define STREAM_BY_16 \
+    "0a00000073016e6f6e63652d6e756d626572b09d0fe22f7054638d13ec65ed5be13befc5824558088b29c9b3b05b" \
+    "90ab7a08a0b67d8a46c911aaf09fc98f6607fe45c7b05c0e8a748142e81811a4cb40f3c799065657aab47a8bab9a" \
+    "febb7c515f32b33cf6ebdaa4c1c174934a92cb9a721be8ee591af88f"
+#define REPLY_BY_16 \
+    "0a00000073016e6f6e63652d6e756d626572b09d0fe22f7054638d13ec65ed5be13befc5824558088b29c9b3b05b" \
+    "90ab7a08a0b67d8a46c911aaf09fc98f6607fe45c7b05c0e8a748142e81811a4cb40f3c799065657aab47a8bab9a" \
+    "febb7c515f32b33cf6ebdaa4fe06959a2c355f984de9a106a6e7c606"
+#define KEY_24 "616e6f74686572206b6579206f662032342062797465732e"
+
 /* The alive message, compressed and with a checksum. */
 #define PACKED_ALIVE \
     "0caa798b020982a4416c676f00a3427566da003c0009182215840c1939a4fe0000106055123763c2c87113864e9a" \
@@ -154,14 +171,20 @@ static swimtab_written seal_reply(const swimtab_keyring *keyring, const void *no
     return swimtab_seal_stream(keyring, nonce, label, label_len, true, message, len, out, out_len);
 }
 
+/* Frees a key, of which nothing is left: writes that a compiler sees to be lost it may leave out. */
+static void wipe(struct bytes key) {
+    volatile uint8_t *at = key.at;
+    for (size_t i = 0; i < key.len; i++) at[i] = 0;
+    free(key.at);
+}
+
 /* A keyring with these keys in hexadecimal, up to the first NULL. */
 static swimtab_keyring keyring_of(const char *const *keys) {
     swimtab_keyring keyring = SWIMTAB_KEYRING_INIT;
     for (; *keys; keys++) {
         struct bytes key = hex(*keys);
         WANT(swimtab_keyring_add(&keyring, key.at, key.len) == SWIMTAB_DONE && keyring.held);
-        memset(key.at, 0, key.len);
-        free(key.at);
+        wipe(key);
     }
     return keyring;
 }
@@ -237,6 +260,8 @@ static const char *const no_keys[] = {NULL};
 static const char *const both[] = {NEW_KEY, OLD_KEY, NULL};
 static const char *const old_only[] = {OLD_KEY, NULL};
 static const char *const key_16[] = {KEY_16, NULL};
+static const char *const keys_16_24[] = {KEY_16, KEY_24, NULL};
+static const char *const keys_24_16[] = {KEY_24, KEY_16, NULL};
 static const char *const key_32[] = {KEY_32, NULL};
 static const char *const others[] = {OLD_KEY, KEY_16, KEY_32, NULL};
 
@@ -286,6 +311,14 @@ static void what_is_in_the_clear_is_accepted_if_asked(void) {
     accepts(unwrap, ALIVE_CHECKED, ALIVE);
     accepts(unwrap_stream, CLEAR_STREAM, CLEAR_STREAM);
     accepts(unwrap_in_dc, CLEAR_STREAM, CLEAR_STREAM);
+    /* and what is encrypted is decrypted as before */
+    swimtab_keyring keyring = keyring_of(keys_16_24);
+    struct bytes sealed = hex(SEALED_IN_DC), room = bytes_of_size(200, 7);
+    WANT(swimtab_keyring_accept_clear(&keyring) == SWIMTAB_DONE);
+    is_written(unwrap(&keyring, sealed.at, sealed.len, room.at, room.len), room, CLEAR_ALIVE);
+    free(sealed.at), free(room.at);
+    closes(&keyring);
+    WANT(swimtab_keyring_accept_clear(&keyring) == SWIMTAB_NO_NODE);
 }
 
 static void packets_of_a_cluster_are_unwrapped(void) {
@@ -329,6 +362,7 @@ static void any_message_is_unwrapped(void) {
     is_of_kind(both, false, SUSPECT_SENT, SWIMTAB_KIND_SUSPECT);
     is_of_kind(no_keys, false, PING, SWIMTAB_KIND_PING);
     is_of_kind(no_keys, false, "06", SWIMTAB_KIND_PUSH_PULL);
+    is_of_kind(no_keys, true, PING, SWIMTAB_KIND_PING);
     is_of_kind(no_keys, true, "08616263", SWIMTAB_KIND_USER);
     is_of_kind(both, true, STREAM_SENT, SWIMTAB_KIND_PUSH_PULL);
     is_of_kind(key_32, true, ACK_STREAM, SWIMTAB_KIND_ACK);
@@ -408,6 +442,28 @@ static void the_first_key_seals(void) {
     static const char *const first[] = {OLD_KEY, NEW_KEY, KEY_16, NULL};
     seals(first, swimtab_seal, 1, "", ALIVE_CHECKED, ALIVE_SENT);
     seals(first, seal_stream, 6, "", STREAM_PACKED, STREAM_SENT);
+}
+
+static void a_keyring_seals_by_its_first_key(void) {
+    seals(keys_16_24, swimtab_seal, 5, "dc", CLEAR_ALIVE, SEALED_IN_DC);
+    seals(keys_16_24, seal_stream, 6, "", CLEAR_STREAM, STREAM_BY_16);
+    seals(keys_16_24, seal_reply, 6, "dc", CLEAR_STREAM, REPLY_BY_16);
+    const char *const *const either[] = {keys_16_24, keys_24_16};
+    for (size_t i = 0; i < 2; i++) {
+        unwraps(either[i], unwrap, SEALED_IN_DC, CLEAR_ALIVE);
+        unwraps(either[i], unwrap_stream, STREAM_BY_16, CLEAR_STREAM);
+        unwraps(either[i], unwrap_in_dc, REPLY_BY_16, CLEAR_STREAM);
+        refused(either[i], unwrap_stream, REPLY_BY_16, SWIMTAB_WRONG_TAG);
+        refused(either[i], unwrap, "01ff", SWIMTAB_WRONG_TAG);
+        refused(either[i], unwrap, CLEAR_ALIVE, SWIMTAB_UNENCRYPTED);
+        refused(either[i], unwrap_stream, CLEAR_STREAM, SWIMTAB_UNENCRYPTED);
+        /* nothing, a label and nothing else, and a packet in place of a stream */
+        refused(either[i], unwrap, "", SWIMTAB_UNENCRYPTED);
+        refused(either[i], unwrap_in_dc, "f4026463", SWIMTAB_ENDED);
+        refused(either[i], unwrap_in_dc, SEALED_IN_DC, SWIMTAB_UNENCRYPTED);
+    }
+    /* without a key only the label is removed */
+    unwraps(no_keys, unwrap, SEALED_IN_DC, BEHIND_DC);
 }
 
 static void without_a_key_the_label_alone_is_written(void) {
@@ -513,6 +569,7 @@ int main(void) {
         {"messages are sealed as the cluster did", messages_are_sealed_as_the_cluster_did},
         {"a reply is sealed without its label", a_reply_is_sealed_without_its_label},
         {"the first key seals", the_first_key_seals},
+        {"a keyring seals by its first key, and unwraps by each", a_keyring_seals_by_its_first_key},
         {"without a key the label alone is written", without_a_key_the_label_alone_is_written},
         {"a label has 255 bytes at most", a_label_has_255_bytes_at_most},
         {"what is sealed is taken in", what_is_sealed_is_taken_in},

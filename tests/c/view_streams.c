@@ -63,6 +63,11 @@ static void a_stream_is_told_record_by_record(void) {
     WANT(merges_nothing(&view, &progress, stream, SWIMTAB_NO_ITEM));
     WANT(progress.left == 0 && progress.at + 3 == stream.len && progress.user_len == 3);
     WANT(swimtab_whole(&whole, stream.at, stream.len) == SWIMTAB_DONE && whole.at == progress.at);
+    /* and the view tells it as it was told */
+    swimtab_buffer buffer = SWIMTAB_BUFFER_INIT;
+    WANT(swimtab_view_offer(&view, false, NULL, 0, &buffer) == SWIMTAB_DONE);
+    WANT(is_hex(buffer.at, buffer.len, HEADER("c2", "01") MEMBER("62", "02", "04", "a3776562", "00")));
+    swimtab_free(&buffer);
     free(stream.at);
     WANT(swimtab_view_close(&view) == SWIMTAB_DONE);
 }

@@ -184,9 +184,10 @@ static void an_alive_at_incarnation_0_is_noted(void) {
 }
 
 #define PING "0082a44e6f6465a26433a55365714e6f01"
+#define ACK "0282a75061796c6f6164a27570a55365714e6f07"
 
 static void messages_without_claims_are_refused(void) {
-    static const char *const others[] = {PING, "08616263", "0b81a55365714e6f07", "09", "06", HEADER("c2", "00")};
+    static const char *const others[] = {PING, ACK, "08616263", "0b81a55365714e6f07", "09", "06", HEADER("c2", "00")};
     swimtab_view view = new_view();
     struct said said = suspicion("x", "b", 9);
     told_at(&view, 1, alive("b", 1, 2, "m"), SWIMTAB_JOINED);

@@ -6,6 +6,7 @@ use Rattle.swim_table.specs.Table.{Entries, TableOf, IsLegalTable}
 use Rattle.swim_table.specs.News.{IsNewsOf}
 use Rattle.swim_c.specs.Exchanges.{BeginsStream, NodeTakesStream, Replied, FinishDone}
 use Rattle.swim_c.specs.Forms.{Wanted, bytes_in}
+use Rattle.swim_c.specs.Statuses as statuses
 use Rattle.swim_c.proofs.Faults.{memory}
 use Rattle.swim_c.proofs.WholeStreams.{ReadsNews, begins, taken_in}
 
@@ -38,6 +39,15 @@ pub answered : (form : Wanted) (bytes inlet rest : List ℕ) (own news : Entries
 answered form bytes inlet rest own news Wrote LacksRoom join used len before after is gone same read legal known all member long wrote =
     Replied.replied refl (took bytes inlet rest own news join used before after is gone same read legal known all member)
     (long ∙ ap (λ t. length (bytes_in form t join)) same) (subst (λ t. Wrote (bytes_in form t join)) same wrote)
+
+-- a stream was read, but there is no room for the reply
+pub unanswered : (form : Wanted) (bytes inlet rest : List ℕ) (own news : Entries) (Wrote : List ℕ → Type 0) (LacksRoom : ℕ → Type 0)
+    (join : Bool) (used len : ℕ) (before : NodeValue) → inlet ≡ bytes → used ≡ length bytes - length rest → own ≡ before.table
+    → ReadsNews (memory inlet) (memory rest) own news join → len ≡ length (bytes_in form own join) → LacksRoom len
+    → Replied form bytes Wrote LacksRoom statuses.too_small join used len before before
+unanswered form bytes inlet rest own news Wrote LacksRoom join used len before is gone same read long lacks =
+    let stream = stream_read bytes inlet rest own news join used is gone read in
+    Replied.no_room refl (stream.0, stream.2) (long ∙ ap (λ t. length (bytes_in form t join)) same) lacks refl
 
 -- a reply was read, and joined in
 pub replied : (bytes inlet rest : List ℕ) (own news : Entries) (join : Bool) (used : ℕ) (before after : NodeValue) → inlet ≡ bytes

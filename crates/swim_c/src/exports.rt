@@ -12,8 +12,6 @@ mod packets;
 mod seal;
 mod streams;
 mod table;
-#[cfg(test)]
-mod tests;
 mod unwrap;
 mod version;
 mod views;

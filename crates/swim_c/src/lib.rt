@@ -42,6 +42,7 @@
 mod agent;
 mod answering;
 mod buffer;
+mod claims;
 mod cluster_keys;
 mod compound;
 mod copy;

@@ -8,6 +8,7 @@ ghost use Rattle.swim_c.specs.Opening.{IsUnmade, told};
 ghost use Rattle.swim_c.specs.OwnPackets.{SaidOr, IsNoName, IsUnsaid, IsUnsaidBy};
 ghost use Rattle.swim_claim.specs.Limits.{max_name_len};
 
+use crate::claims::alive_of;
 use crate::copy::{Written, copy_out};
 use crate::opening::{Parts, copied};
 use crate::status::{MEMORY, NAME_TOO_LONG, OWN_NAME};
@@ -31,9 +32,8 @@ fn own_alive(alloc: Global, node: &Node, inc: u32) -> Result<Packet, AllocError>
     ensures { IfOk result (λ packet.
         packet ≡ record { claim = Alive node.now.name inc node.now.details; from = [] }) }
 {
-    let name = node.name().try_clone(alloc)?;
-    let details = node.details().try_clone(alloc)?;
-    Ok(Packet::new(Claim::Alive { name, inc, details }, Vec::new(alloc)))
+    let alive = alive_of(alloc, node.name(), inc, node.details())?;
+    Ok(Packet::new(alive, Vec::new(alloc)))
 }
 
 /// Writes the packet of the Alive of a member with these parts, at the incarnation, to the buffer.

@@ -4,6 +4,7 @@ ghost use Rattle.std.specs.Prelude.{◌≡◌, ◌+◌, ◌≤◌, ◌∷◌, []
 ghost use Rattle.swim_table.specs.Table.{TableOf};
 ghost use Rattle.swim_c.specs.Updating.{IsBack, IsItsAlive, ReadmitDone};
 
+use crate::claims::{alive_of, table_of_one};
 use crate::status::{DONE, MEMORY, NO_MEMBER, NOT_BACK};
 use crate::watching::Watched;
 use std::alloc::{AllocError, Global};
@@ -43,11 +44,8 @@ fn newest(alloc: Global, entry: &Entry) -> Result<Option<Claim>, AllocError>
     if inc <= entry.inc() {
         return Ok(None);
     }
-    Ok(Some(Claim::Alive {
-        name: entry.name().try_clone(alloc)?,
-        inc,
-        details: details.try_clone(alloc)?,
-    }))
+    let alive = alive_of(alloc, entry.name(), inc, details)?;
+    Ok(Some(alive))
 }
 
 /// The table of this claim alone, and room for the entries of both tables.
@@ -55,12 +53,7 @@ fn prepared(alloc: Global, table: &Table, claim: Claim) -> Result<(Table, Room),
     ensures alive { IfOk result (λ made. TableOf made.0 (claim ∷ [])) }
     ensures room { IfOk result (λ made. length table.now + length made.0 ≤ made.1) }
 {
-    let mut alone = Table::new(alloc);
-    match alone.take(claim) {
-        Ok(_) => {
-            let room = Room::new(alloc, table.len() + alone.len())?;
-            Ok((alone, room))
-        }
-        Err((_, error)) => Err(error),
-    }
+    let alone = table_of_one(alloc, claim)?;
+    let room = Room::new(alloc, table.len() + alone.len())?;
+    Ok((alone, room))
 }

@@ -13,6 +13,7 @@ ghost use Rattle.swim_table.specs.Table.{get, TableOf, IsLegalTable};
 ghost use Rattle.swim_c.specs.Taking.{TakesClaims};
 ghost use Rattle.swim_c.specs.Watching.{AddsNames, HasRoomFor, NotesChanges, TellsChange, start};
 
+use crate::claims::table_of_one;
 use std::alloc::{AllocError, Global};
 use swim_claim::Claim;
 use swim_table::{Node, RefuteFault, Room, Table, Taken, has_news, news_of};
@@ -190,11 +191,8 @@ impl Watched {
         ensures room { IfOk result (HasRoomFor self.now.changes) }
     {
         let name = self.node.name().try_clone(alloc)?;
-        let mut names = Table::new(alloc);
-        match names.take(Claim::Suspect { name, inc: 0 }) {
-            Ok(_) => self.with_room(alloc, names),
-            Err((_, error)) => Err(error),
-        }
+        let names = table_of_one(alloc, Claim::Suspect { name, inc: 0 })?;
+        self.with_room(alloc, names)
     }
 
     /// What joining the table in changes. No name is copied if names are not noted.

@@ -99,9 +99,10 @@ impl HeldAgent {
         ensures first { self.new.unsent.items ≡ [] → to_give self.new ≡ [] }
         ensures streams { self.new.accepted ≡ self.old.accepted }
     {
-        if self.unsent.is_empty() {
-            mem::swap(&mut self.unsent, &mut self.behind);
+        if !self.unsent.is_empty() {
+            return;
         }
+        mem::swap(&mut self.unsent, &mut self.behind);
         if self.unsent.is_empty() {
             self.unsent = VecDeque::from_vec(self.member.take_outputs().into_all());
         }

@@ -7,6 +7,7 @@ ghost use Rattle.swim_claim.specs.declared.claim.Claim.TheVariants as alive;
 ghost use Rattle.swim_c.specs.ViewMembers.{ViewOffered, claims_in_state, claims_of, claims_shown};
 
 use crate::buffer::Buffer;
+use crate::claims::alive_of;
 use crate::filling::offer_new;
 use crate::status::MEMORY;
 use memberlist_view::{Entry, MemberName, State, View};
@@ -118,9 +119,8 @@ fn take_alive(
     ensures { OnOk result ((claims : List Claim) → TableOf table.old claims
         → TableOf table.new (claims ++ alive.Alive name.now inc details.now ∷ [])) }
 {
-    let name = name.try_clone(alloc)?;
-    let details = details.try_clone(alloc)?;
-    take(table, Claim::Alive { name, inc, details })
+    let alive = alive_of(alloc, name, inc, details)?;
+    take(table, alive)
 }
 
 fn take(table: &mut Table, claim: Claim) -> Result<(), AllocError>

@@ -1,8 +1,8 @@
-use Rattle.std.proofs.Common.{Err, ap, rules}
+use Rattle.std.proofs.Common.{Err, ap, refl, rules}
 use Rattle.std.proofs.lemmas.Result.{err_from_is_err_and}
 use Rattle.swim_c.specs.Forms.{wanted}
 use Rattle.swim_c.proofs.Faults.{stream_unread, reply_refused}
-use Rattle.swim_c.proofs.Halves.{answered}
+use Rattle.swim_c.proofs.Halves.{answered, unanswered}
 use Rattle.swim_c.proofs.answering.answer.Goals as goal
 
 pub returns-in_err-offered-clause-refused : goal.returns-in_err-offered-clause-refused
@@ -31,3 +31,16 @@ returns-clause-answers g c =
     c.join_in-news.new.self.node c.new-inlet.ensures (search rules) c.table-table.ensures.table c.in_ok-offered.ensures.takes
     c.table-table.ensures.legal c.len.ensures.legal c.join_in-news.ensures.joined c.join_in-news.ensures.member
     (c.len_of-len.ensures _ c.in_ok-reply.ensures.dump) c.write.ensures
+
+pub returns-clause-news : goal.returns-clause-news
+returns-clause-news g c = record { done = λ zero. c.join_in-news.ensures.news; refused = λ other. absurd (other refl) }
+
+pub returns-clause-noted : goal.returns-clause-noted
+returns-clause-noted g c = record { done = λ zero. c.join_in-news.ensures.noted; refused = λ other. absurd (other refl) }
+
+pub returns-then-not-has_room-clause-answers : goal.returns-then-not-has_room-clause-answers
+returns-then-not-has_room-clause-answers g c =
+    unanswered (wanted c.args.form c.args.user.now) c.args.stream.now c.new-inlet.result c.read_news.new.inlet
+    c.table-table.result.now c.in_ok-offered.offered _ _ c.in_ok-offered.join _ c.len_of-len.result c.args.held.now.node
+    c.new-inlet.ensures (search rules) c.table-table.ensures.table c.in_ok-offered.ensures.takes
+    (c.len_of-len.ensures _ c.in_ok-reply.ensures.dump) (search rules, refl)

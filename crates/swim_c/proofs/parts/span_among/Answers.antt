@@ -1,5 +1,6 @@
-use Rattle.std.proofs.Common.{length, arith, length-append, ap, ◌∙◌}
-use Rattle.swim_c.proofs.PartsAt.{next_same, next_behind}
+use Rattle.std.proofs.Common.{◌≡◌, length, slice_get, arith, length-append, ap, ◌∙◌}
+use Rattle.memberlist_message.specs.Compounds.{parts_in}
+use Rattle.swim_c.proofs.PartsAt.{here, next_same, next_behind}
 use Rattle.swim_c.proofs.parts.span_among.Goals as goal
 
 pub loop-left-preserved : goal.loop-left-preserved
@@ -14,3 +15,12 @@ loop-left-preserved c =
       behind = next_behind _ _ rest part c.loop-left.at was.behind c.in_ok-at.ensures.bytes;
       within = omega (arith, was.within, long);
     }
+
+pub returns-clause-part : goal.returns-clause-part
+returns-clause-part c =
+    let was = c.loop-left.invariant in
+    let now = c.loop-left.parts in
+    let none : c.loop-left.left ≡ 0 = omega arith in
+    here c.args.parts.now.bytes _ _ c.in_ok-part.part.now _ _ _ c.loop-left.at c.args.i
+    (was.same ∙ ap (slice_get (parts_in now.lens now.bytes)) none)
+    c.in_ok-part.ensures.part was.behind c.in_ok-part.ensures.bytes
