@@ -22,7 +22,7 @@ use swim_pack::Inlet;
 pub(crate) const SECTION_HEADER: u32 = 0x0a0d_0d0a;
 
 /// What a block holds.
-#[derive(Clone, Copy, Debug)]
+#[derive(Clone, Copy)]
 pub(crate) enum Block {
     Section(Order),
     Interface(Interface),

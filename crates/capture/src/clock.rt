@@ -18,7 +18,7 @@ const NEGATIVE: u64 = 9_223_372_036_854_775_808;
 const WRAPPED: u128 = 18_446_744_073_709_551_616;
 
 /// How an interface counts time.
-#[derive(Clone, Copy, Debug, PartialEq, Eq)]
+#[derive(Clone, Copy, PartialEq, Eq)]
 pub(crate) struct Clock {
     /// The power of ten, or of two if the highest bit is set, by which a second is divided.
     pub(crate) resolution: u8,

@@ -6,7 +6,7 @@ ghost use Rattle.capture.specs.Pcapng.{snapped};
 use crate::clock::Clock;
 
 /// An interface that packets were captured on.
-#[derive(Clone, Copy, Debug, PartialEq, Eq)]
+#[derive(Clone, Copy, PartialEq, Eq)]
 pub(crate) struct Interface {
     /// The number of the link.
     pub(crate) link: u32,

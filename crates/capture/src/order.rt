@@ -6,7 +6,7 @@ ghost use Rattle.capture.specs.Taking.{field, order_of};
 use byteorder::{BigEndian, ByteOrder, LittleEndian};
 
 /// The byte order of a number.
-#[derive(Clone, Copy, Debug, PartialEq, Eq)]
+#[derive(Clone, Copy, PartialEq, Eq)]
 pub(crate) enum Order {
     /// The highest byte first.
     Big,

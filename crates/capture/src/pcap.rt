@@ -13,7 +13,7 @@ use crate::taking::{fill, fill_header, read_captured};
 use swim_pack::Inlet;
 
 /// The unit of the fraction in a record's time.
-#[derive(Clone, Copy, Debug, PartialEq, Eq)]
+#[derive(Clone, Copy, PartialEq, Eq)]
 pub(crate) enum Precision {
     Microseconds,
     Nanoseconds,
@@ -33,7 +33,7 @@ impl Precision {
 }
 
 /// What the header of a pcap file gives for all its records.
-#[derive(Clone, Copy, Debug, PartialEq, Eq)]
+#[derive(Clone, Copy, PartialEq, Eq)]
 pub(crate) struct Pcap {
     pub(crate) order: Order,
     pub(crate) precision: Precision,

@@ -1,7 +1,7 @@
 //! A record of a capture.
 
 /// A packet in a capture, without its captured bytes.
-#[derive(Clone, Copy, Debug, PartialEq, Eq)]
+#[derive(Clone, Copy, PartialEq, Eq)]
 pub struct Record {
     /// When the packet was captured, in nanoseconds since the start of 1970 in UTC. A simple packet
     /// of pcapng has no time.

@@ -10,7 +10,7 @@ use std::alloc::AllocError;
 use swim_pack::PullFault;
 
 /// Why a reader returns no record.
-#[derive(Clone, Copy, Debug, PartialEq, Eq)]
+#[derive(Clone, Copy, PartialEq, Eq)]
 pub(crate) enum Stop {
     /// The capture ends after its last record.
     End,

@@ -5,7 +5,7 @@ use memberlist_probes::{Captures, Explanation, Fallback, Left, Outcome, Probe, T
 use std::alloc::{AllocError, Global};
 
 /// A member that the prober asked to probe the target, too.
-#[derive(Clone, Copy, Debug)]
+#[derive(Clone, Copy)]
 pub struct Asked {
     pub member: Member,
     /// Whether it got an answer.
@@ -15,7 +15,7 @@ pub struct Asked {
 }
 
 /// What came of the TCP connection by which the prober tried again.
-#[derive(Clone, Copy, Debug, PartialEq, Eq)]
+#[derive(Clone, Copy, PartialEq, Eq)]
 pub enum Tried {
     /// The target's host refused it.
     Refused,

@@ -1,14 +1,14 @@
 //! Why probes had no answer in time.
 
 /// Which way between a member and others is meant.
-#[derive(Clone, Copy, Debug, PartialEq, Eq)]
+#[derive(Clone, Copy, PartialEq, Eq)]
 pub enum Way {
     ToIt,
     FromIt,
 }
 
 /// Why probes had no answer in time, as far as the captures tell.
-#[derive(Clone, Copy, Debug, PartialEq, Eq)]
+#[derive(Clone, Copy, PartialEq, Eq)]
 pub enum Cause {
     /// It was leaving the cluster.
     Left,

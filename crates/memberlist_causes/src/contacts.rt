@@ -14,7 +14,7 @@ const OVER: u64 = 10_000_000;
 const MAX_OPEN: usize = 65_536;
 
 /// What became of a connection to a host, or of a datagram.
-#[derive(Clone, Copy, Debug, PartialEq, Eq)]
+#[derive(Clone, Copy, PartialEq, Eq)]
 pub enum Answer {
     /// It was accepted, and who dialled went on.
     Accepted,
@@ -25,7 +25,7 @@ pub enum Answer {
 }
 
 /// What the host of a member did.
-#[derive(Clone, Copy, Debug)]
+#[derive(Clone, Copy)]
 pub struct Contact {
     /// When the connection was dialled, or the refusal seen.
     pub time: u64,

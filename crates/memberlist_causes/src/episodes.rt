@@ -9,7 +9,7 @@ use std::collections::{BTreeMap, VecDeque};
 const HEARSAY: u64 = 1_500_000;
 
 /// What became known of a member.
-#[derive(Clone, Copy, Debug, PartialEq, Eq)]
+#[derive(Clone, Copy, PartialEq, Eq)]
 pub enum Kind {
     /// It is suspected, by one more member.
     Suspected,
@@ -34,21 +34,21 @@ pub struct News<'a> {
 }
 
 /// A member that accuses another in its own name.
-#[derive(Clone, Copy, Debug)]
+#[derive(Clone, Copy)]
 pub struct Accuser {
     pub by: Member,
     pub time: u64,
 }
 
 /// A death, and who declared it.
-#[derive(Clone, Copy, Debug)]
+#[derive(Clone, Copy)]
 pub struct Death {
     pub time: u64,
     pub by: Option<Member>,
 }
 
 /// An Alive of the member, which ended a suspicion or came after a death.
-#[derive(Clone, Copy, Debug)]
+#[derive(Clone, Copy)]
 pub struct Alive {
     pub time: u64,
     pub inc: u32,

@@ -4,7 +4,7 @@ use crate::Member;
 use memberlist_probes::Explanation;
 
 /// What the numbers of a member's pings tell. An agent numbers all its pings by one counter.
-#[derive(Clone, Copy, Debug, PartialEq, Eq)]
+#[derive(Clone, Copy, PartialEq, Eq)]
 pub enum Numbers {
     /// They begin anew: another process.
     Anew { before: u64, after: u64 },

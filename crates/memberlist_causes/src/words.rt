@@ -5,7 +5,7 @@ use std::alloc::{AllocError, Global};
 use std::collections::{BTreeMap, VecDeque};
 
 /// What an agent sent.
-#[derive(Clone, Copy, Debug, PartialEq, Eq)]
+#[derive(Clone, Copy, PartialEq, Eq)]
 pub enum Saying {
     /// A ping with this number.
     Ping(u32),
@@ -15,7 +15,7 @@ pub enum Saying {
 }
 
 /// Something that an agent sent, as one capture has it.
-#[derive(Clone, Copy, Debug)]
+#[derive(Clone, Copy)]
 pub struct Word {
     /// In microseconds since the start of 1970.
     pub time: u64,

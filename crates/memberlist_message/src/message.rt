@@ -3,7 +3,7 @@
 use swim_wire::Packet;
 
 /// One message of a datagram: its type, and the fields that memberlist's handler gets.
-#[derive(Drop, Debug)]
+#[derive(Drop)]
 pub enum Message {
     /// Asks a member whether it is alive.
     Ping(Ping),
@@ -22,7 +22,7 @@ pub enum Message {
 }
 
 /// memberlist's `ping` (net.go). Names are bytes, and need not be text.
-#[derive(Drop, Debug)]
+#[derive(Drop)]
 pub struct Ping {
     /// The number that the ack repeats.
     pub seq_no: u32,
@@ -37,7 +37,7 @@ pub struct Ping {
 }
 
 /// memberlist's `indirectPingReq` (net.go).
-#[derive(Drop, Debug)]
+#[derive(Drop)]
 pub struct IndirectPing {
     /// The number that the ack and the nack repeat.
     pub seq_no: u32,
@@ -58,7 +58,7 @@ pub struct IndirectPing {
 }
 
 /// memberlist's `ackResp` (net.go).
-#[derive(Drop, Debug)]
+#[derive(Drop)]
 pub struct Ack {
     /// The number of the ping that is answered.
     pub seq_no: u32,
@@ -67,14 +67,14 @@ pub struct Ack {
 }
 
 /// memberlist's `nackResp` (net.go).
-#[derive(Clone, Copy, Debug)]
+#[derive(Clone, Copy)]
 pub struct Nack {
     /// The number of the indirect ping that is answered.
     pub seq_no: u32,
 }
 
 /// memberlist's `errResp` (net.go).
-#[derive(Drop, Debug)]
+#[derive(Drop)]
 pub struct ErrorResponse {
     /// The text of the error, which need not be text.
     pub error: Vec<u8>,

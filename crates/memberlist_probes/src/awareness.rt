@@ -7,7 +7,7 @@ ghost use Rattle.memberlist_probes.specs.Health.{worse, score_after};
 const WORST: u8 = 7;
 
 /// What changes a member's score (memberlist's `probeNode` and `refute`, state.go).
-#[derive(Clone, Copy, Debug, PartialEq, Eq)]
+#[derive(Clone, Copy, PartialEq, Eq)]
 pub enum Change {
     /// A member that it probed answered: over UDP, through another member, or over TCP.
     Answered,
@@ -24,7 +24,7 @@ pub enum Change {
 
 /// The bounds of a member's score, which no message carries: from 0, healthy, to 7. memberlist waits
 /// longer for answers the greater it is (awareness.go).
-#[derive(Clone, Copy, Debug, PartialEq, Eq)]
+#[derive(Clone, Copy, PartialEq, Eq)]
 pub struct Awareness {
     least: u8,
     greatest: u8,

@@ -12,7 +12,7 @@ use std::marker::Model;
 use std::net::IpAddr;
 
 /// A capture: where it was taken, and from when to when.
-#[derive(Clone, Copy, Debug)]
+#[derive(Clone, Copy)]
 pub struct Capture {
     pub point: Point,
     /// The time of its first record, in microseconds by its clock.
@@ -145,7 +145,7 @@ impl Captures {
 }
 
 /// When a capture has a packet.
-#[derive(Clone, Copy, Debug, PartialEq, Eq)]
+#[derive(Clone, Copy, PartialEq, Eq)]
 pub struct Sighting {
     /// The number of the capture.
     pub capture: usize,

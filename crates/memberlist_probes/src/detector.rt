@@ -14,7 +14,7 @@ use std::alloc::{AllocError, Global};
 use std::net::SocketAddr;
 
 /// The times that are told, in microseconds since the start of 1970.
-#[derive(Clone, Copy, Debug)]
+#[derive(Clone, Copy)]
 pub struct Span {
     pub from: u64,
     pub to: u64,

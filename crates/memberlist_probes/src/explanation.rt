@@ -2,7 +2,7 @@
 
 /// What became of a ping and its ack, if the prober had no answer in time. Of each probe exactly one
 /// is true.
-#[derive(Clone, Copy, Debug, PartialEq, Eq)]
+#[derive(Clone, Copy, PartialEq, Eq)]
 pub enum Explanation {
     /// The ping did not come to the target's host.
     PingLost,

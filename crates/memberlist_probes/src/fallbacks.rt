@@ -20,7 +20,7 @@ const REFUSED: u64 = 2_000_000;
 const MAX_DIALS: usize = 65_536;
 
 /// A segment of TCP, as far as it tells of a probe.
-#[derive(Clone, Copy, Debug)]
+#[derive(Clone, Copy)]
 pub struct Segment {
     pub syn: bool,
     pub rst: bool,

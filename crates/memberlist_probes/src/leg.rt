@@ -11,14 +11,14 @@ use crate::Explanation;
 
 /// When a ping and its ack passed a place, in microseconds by the clock there. `None` if it was not
 /// seen.
-#[derive(Clone, Copy, Debug, Default, PartialEq, Eq)]
+#[derive(Clone, Copy, Default, PartialEq, Eq)]
 pub struct Passage {
     pub ping: Option<u64>,
     pub ack: Option<u64>,
 }
 
 /// Whether the target's host refused the ping, or the TCP connection by which the prober tried again.
-#[derive(Clone, Copy, Debug, PartialEq, Eq)]
+#[derive(Clone, Copy, PartialEq, Eq)]
 pub enum Refusal {
     /// It was seen to.
     Seen,
@@ -29,7 +29,7 @@ pub enum Refusal {
 }
 
 /// What captures show of a ping without an answer in time.
-#[derive(Clone, Copy, Debug)]
+#[derive(Clone, Copy)]
 pub struct Leg {
     /// How long the prober waits for the ack, in microseconds.
     pub timeout: u64,

@@ -4,7 +4,7 @@ ghost use Rattle.std.specs.Prelude.{◌≡◌};
 ghost use Rattle.memberlist_probes.specs.Outcomes.{is_by, outcome_of};
 
 /// What the prober made of a probe.
-#[derive(Clone, Copy, Debug, PartialEq, Eq)]
+#[derive(Clone, Copy, PartialEq, Eq)]
 pub enum Outcome {
     /// The ack came before other members were asked.
     Answered,
@@ -21,7 +21,7 @@ pub enum Outcome {
 }
 
 /// How long after the ping the first answer of each kind came to the prober, in microseconds.
-#[derive(Clone, Copy, Debug, Default)]
+#[derive(Clone, Copy, Default)]
 pub struct Answers {
     pub direct: Option<u64>,
     /// Through a member that the prober asked to probe the target.
@@ -30,7 +30,7 @@ pub struct Answers {
 }
 
 /// The times of a probe, in microseconds after its ping.
-#[derive(Clone, Copy, Debug)]
+#[derive(Clone, Copy)]
 pub struct Terms {
     /// When the prober asks other members (memberlist's `ProbeTimeout`).
     pub timeout: u64,

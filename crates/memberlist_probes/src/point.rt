@@ -6,7 +6,7 @@ ghost use Rattle.memberlist_probes.specs.Points.{Ends, IsEnd, IsPointOf, host_of
 use std::net::IpAddr;
 
 /// Where a capture was taken, as the packets in it tell: at the host that is an end of each of them.
-#[derive(Clone, Copy, Debug, PartialEq, Eq)]
+#[derive(Clone, Copy, PartialEq, Eq)]
 pub enum Point {
     /// No packet was captured yet.
     Unknown,

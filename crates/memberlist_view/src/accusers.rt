@@ -13,7 +13,7 @@ use std::marker::Model;
 const MAX_ACCUSERS: usize = 255;
 
 /// Who suspects a member, at most 255, in the order in which they were heard.
-#[derive(Drop, Debug)]
+#[derive(Drop)]
 pub struct Accusers {
     names: Vec<MemberName>,
 }

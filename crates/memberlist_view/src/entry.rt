@@ -12,7 +12,7 @@ use std::alloc::{AllocError, Global};
 use swim_claim::Details;
 
 /// The state of a member.
-#[derive(Drop, Debug)]
+#[derive(Drop)]
 pub enum State {
     /// Only an Alive at incarnation 0 was heard, which gives an address and is not believed.
     Noted,
@@ -29,7 +29,7 @@ pub enum State {
 }
 
 /// What a view shows for a name.
-#[derive(Drop, Debug)]
+#[derive(Drop)]
 pub struct Entry {
     /// The state of the member.
     pub state: State,

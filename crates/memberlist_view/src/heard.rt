@@ -9,7 +9,7 @@ use std::alloc::{AllocError, Global};
 use swim_claim::{Claim, Details, Name};
 
 /// What was said about a member.
-#[derive(Drop, Debug)]
+#[derive(Drop)]
 pub enum Said {
     /// memberlist's alive: the member is alive with these details.
     Alive {
@@ -47,7 +47,7 @@ pub enum Said {
 }
 
 /// What was heard, and when.
-#[derive(Drop, Debug)]
+#[derive(Drop)]
 pub struct Heard {
     /// The time, in microseconds since the start of 1970.
     pub time: u64,

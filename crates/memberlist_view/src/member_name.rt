@@ -19,7 +19,7 @@ const WORD: usize = 8;
 /// The name of a member, as a key of a view.
 ///
 /// Names are ordered byte by byte, and a proper prefix is less.
-#[derive(Drop, Debug)]
+#[derive(Drop)]
 pub struct MemberName {
     name: Name,
     // compared before the name itself

@@ -12,7 +12,7 @@ use std::cmp::Ordering;
 const FRONT: usize = 16;
 
 /// The first 16 bytes of a name, padded with zeros, as a big-endian number in two halves.
-#[derive(Clone, Copy, Debug)]
+#[derive(Clone, Copy)]
 pub(crate) struct Prefix {
     high: u64,
     low: u64,

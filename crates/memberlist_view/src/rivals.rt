@@ -13,7 +13,7 @@ const MAX_RIVALS: usize = 255;
 
 /// What other agents of a name, each at an address and port of its own, said about themselves: at
 /// most 255, in the order in which they were heard.
-#[derive(Drop, Debug)]
+#[derive(Drop)]
 pub struct Rivals {
     details: Vec<Details>,
 }

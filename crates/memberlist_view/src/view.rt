@@ -22,7 +22,7 @@ use std::marker::Model;
 use std::ops::Bound;
 
 /// What changed in a view.
-#[derive(Drop, Debug)]
+#[derive(Drop)]
 pub struct Changed {
     /// What changed.
     pub event: Event,
@@ -32,7 +32,7 @@ pub struct Changed {
 
 /// What a member of a cluster that heard these messages at these times would show, by memberlist's
 /// `state.go`, if it only listens and says nothing.
-#[derive(Drop, Debug)]
+#[derive(Drop)]
 pub struct View {
     alloc: Global,
     wait: u64,

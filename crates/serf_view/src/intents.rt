@@ -11,7 +11,7 @@ use std::collections::BTreeMap;
 use std::marker::Model;
 
 /// Where memberlist has a member.
-#[derive(Clone, Copy, Debug, PartialEq, Eq)]
+#[derive(Clone, Copy, PartialEq, Eq)]
 pub enum Standing {
     /// Nothing was heard of it.
     Unknown,
@@ -33,7 +33,7 @@ pub struct Intent {
 
 /// The last intent that is believed of each name: of a member, Serf's `statusLTime` and what its
 /// status says, and of another name, an entry of `recentIntents`. Nothing is ever forgotten.
-#[derive(Drop, Debug)]
+#[derive(Drop)]
 pub struct Intents {
     alloc: Global,
     known: BTreeMap<Vec<u8>, Intent>,

@@ -5,7 +5,7 @@ ghost use Rattle.swim_script.specs.declared.keyword.Keyword.{Keyword};
 ghost use Rattle.swim_script.specs.ScriptReading.{word_of};
 
 /// What a line of a script describes, by its first word (own).
-#[derive(Clone, Copy, Debug, PartialEq, Eq)]
+#[derive(Clone, Copy, PartialEq, Eq)]
 pub(crate) enum Keyword {
     /// A node.
     Node,

@@ -15,7 +15,7 @@ use swim_sync::Event;
 use swim_table::Node;
 
 /// What a script describes.
-#[derive(Debug, Drop)]
+#[derive(Drop)]
 pub struct Plan {
     /// The nodes, each with only its start claim.
     pub nodes: Vec<Node>,

@@ -29,7 +29,7 @@ const MAX_INC: u64 = 4_294_967_295;
 const MAX_NODE: u64 = 18_446_744_073_709_551_615;
 
 /// What a line of a script says.
-#[derive(Debug, Drop)]
+#[derive(Drop)]
 pub(crate) enum Line {
     /// There is this node. Its table has only its start claim.
     Node(Node),

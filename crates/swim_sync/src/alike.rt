@@ -8,7 +8,7 @@ use std::marker::Model;
 
 /// A mark for each node: nodes with the same one have the same table, and 0 says nothing. So the
 /// exchange of two nodes that exchanged before and heard nothing since compares no tables.
-#[derive(Drop, Debug)]
+#[derive(Drop)]
 pub(crate) struct Alike {
     alloc: Global,
     marks: Vec<u64>,

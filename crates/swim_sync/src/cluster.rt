@@ -18,7 +18,7 @@ use swim_claim::Claim;
 use swim_table::{Node, RefuteFault};
 
 /// The nodes of a cluster, numbered from 0.
-#[derive(Drop, Debug)]
+#[derive(Drop)]
 pub struct Cluster {
     alloc: Global,
     nodes: Vec<Node>,

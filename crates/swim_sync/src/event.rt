@@ -9,7 +9,7 @@ use swim_claim::Claim;
 
 /// Claims, such as those of one datagram, that a node takes in together. Contracts see them as the
 /// list of the claims.
-#[derive(Drop, Debug)]
+#[derive(Drop)]
 pub struct Claims {
     claims: Vec<Claim>,
 }
@@ -51,7 +51,7 @@ impl Claims {
 }
 
 /// An event in a cluster. It names a node by its number, counted from 0.
-#[derive(Drop, Debug)]
+#[derive(Drop)]
 pub enum Event {
     /// The node takes in a copy of the claim.
     Hear(usize, Claim),

@@ -96,7 +96,7 @@ pub fn answer<I: Inlet, O: Outlet>(
 
 /// The answer to an offer that was read, with all the memory that it takes: what remains is to send
 /// the reply and to join the offered table, and neither requests more (own).
-#[derive(Drop, Debug)]
+#[derive(Drop)]
 pub struct PreparedAnswer {
     /// The join flag of the offer, and of the reply.
     pub join: bool,

@@ -30,7 +30,7 @@ use swim_claim::{Claim, Details, Kind, Name};
 use swim_wire::Datagram;
 
 /// A member: its name and details, and the table that it keeps.
-#[derive(Drop, Debug)]
+#[derive(Drop)]
 pub struct Node {
     alloc: Global,
     name: Name,

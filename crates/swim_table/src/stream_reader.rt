@@ -22,7 +22,7 @@ use swim_wire::{Header, WireFault, read_header, read_state, skip_user};
 
 /// A push/pull stream of which some records were read: its header, how many records are still to
 /// come, and the table into which the claims read so far were taken.
-#[derive(Drop, Debug)]
+#[derive(Drop)]
 pub struct StreamReader {
     alloc: Global,
     header: Header,
@@ -39,7 +39,7 @@ impl Model for StreamReader {
 }
 
 /// The result of one step of reading a stream.
-#[derive(Drop, Debug)]
+#[derive(Drop)]
 pub enum Step {
     /// One more record was read.
     More(StreamReader),

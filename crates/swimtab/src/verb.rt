@@ -39,7 +39,7 @@ impl Verb {
 }
 
 /// What the arguments ask for: a verb, and the words that name files, in order.
-#[derive(Debug, Drop)]
+#[derive(Drop)]
 pub struct Chosen {
     verb: Verb,
     files: Vec<String>,

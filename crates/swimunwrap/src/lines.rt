@@ -19,7 +19,7 @@ use swim_program::{MAX_INPUT_LEN, Place, Report, What, lines_of};
 
 /// What became of lines: their text, and why each line that was left out was. Contracts see it as
 /// these two.
-#[derive(Debug, Drop)]
+#[derive(Drop)]
 pub struct Unwrapped {
     text: Vec<u8>,
     left_out: Vec<Cause>,

@@ -12,7 +12,7 @@ use std::alloc::{AllocError, Global};
 use swim_program::without_return;
 
 /// What a line becomes.
-#[derive(Debug, Drop)]
+#[derive(Drop)]
 pub(crate) enum Outcome {
     /// This text, which is empty if the message makes no claims.
     Text(String),

@@ -18,7 +18,7 @@ pub enum Verb {
 
 /// What the arguments ask for: a verb, the argument that names a file, if there is one, those that
 /// name key files, and what becomes of what is in the clear if there are keys.
-#[derive(Debug, Drop)]
+#[derive(Drop)]
 pub struct Chosen {
     verb: Verb,
     files: Vec<String>,

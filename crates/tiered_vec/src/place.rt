@@ -3,7 +3,7 @@ use std::marker::Model;
 
 /// Where an element is, or would go: in which block, and where in it. Use it only with the list
 /// that returned it, until an insertion or a push there succeeds, or the next removal.
-#[derive(Clone, Copy, Debug)]
+#[derive(Clone, Copy)]
 pub struct Place {
     pub(crate) block: usize,
     pub(crate) at: usize,

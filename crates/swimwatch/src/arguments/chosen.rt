@@ -12,7 +12,7 @@ use std::time::Duration;
 pub(crate) const SUSPICION_MULT: u64 = 4;
 
 /// What the program should show.
-#[derive(Clone, Copy, Debug, PartialEq, Eq)]
+#[derive(Clone, Copy, PartialEq, Eq)]
 pub(crate) enum Verb {
     /// The members, as they are at the end or at a moment.
     Members,
@@ -119,7 +119,7 @@ impl Verb {
 }
 
 /// What the arguments ask for.
-#[derive(Debug, Drop)]
+#[derive(Drop)]
 pub(crate) struct Chosen {
     pub(crate) verb: Verb,
     /// The words that name captures, of which `-` is standard input; members to ask; or the two
@@ -160,7 +160,7 @@ pub(crate) struct Chosen {
 }
 
 /// Which probes to show, and how their cluster is set up.
-#[derive(Debug, Default, Drop)]
+#[derive(Default, Drop)]
 pub(crate) struct Probing {
     /// The only name that probes, if there is one.
     pub(crate) prober: Option<Vec<u8>>,
@@ -173,7 +173,7 @@ pub(crate) struct Probing {
 }
 
 /// How to ask members, and what to believe.
-#[derive(Debug, Drop)]
+#[derive(Drop)]
 pub(crate) struct Asking {
     /// How many seconds a member may take in total.
     pub(crate) timeout: u64,
@@ -184,7 +184,7 @@ pub(crate) struct Asking {
 }
 
 /// How to ask members again and again.
-#[derive(Debug, Drop)]
+#[derive(Drop)]
 pub(crate) struct Following {
     /// From the beginning of one round to that of the next.
     pub(crate) every: Duration,

@@ -25,7 +25,7 @@ const SHORTEST: u128 = 100;
 const AT_NEEDS: &str = "--at needs a time like 2026-11-25T02:01:43Z, 02:01:43 or 02:01";
 
 /// Why the arguments are refused.
-#[derive(Debug, Drop)]
+#[derive(Drop)]
 pub(crate) enum Refusal {
     /// clap refuses them, or they ask for help.
     Words(WordFault),

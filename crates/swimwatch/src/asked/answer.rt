@@ -24,7 +24,7 @@ const MAX_ERROR_LEN: usize = 1024;
 const ESCAPED: AsciiSet = ascii_set!(CONTROLS.add(b'%').add(b'"'));
 
 /// Why an answer contains no table.
-#[derive(Debug, Drop)]
+#[derive(Drop)]
 pub(crate) enum NoAnswer {
     /// The member says why, in these words.
     Error(String),

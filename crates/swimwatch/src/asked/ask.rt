@@ -41,7 +41,7 @@ pub(crate) struct Answer {
 }
 
 /// How an answer was given.
-#[derive(Clone, Copy, Debug, PartialEq, Eq)]
+#[derive(Clone, Copy, PartialEq, Eq)]
 pub(crate) struct Way {
     /// How many bytes were received.
     pub(crate) len: usize,

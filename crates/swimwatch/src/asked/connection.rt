@@ -13,7 +13,7 @@ use std::io::{self, Error, ErrorKind, Read, Write};
 const PIECE: usize = 65_536;
 
 /// Why a member's answer was not received to its end.
-#[derive(Debug, Drop)]
+#[derive(Drop)]
 pub(crate) enum NoReply {
     /// The name has no address.
     NoAddress(Error),
@@ -36,7 +36,7 @@ impl From<AllocError> for NoReply {
 }
 
 /// What a connection waits for.
-#[derive(Clone, Copy, Debug, PartialEq, Eq)]
+#[derive(Clone, Copy, PartialEq, Eq)]
 pub(crate) enum Step {
     /// To be established, or to take more of the request.
     Sends,

@@ -7,7 +7,7 @@ use std::net::{IpAddr, Ipv6Addr};
 const PORT: u16 = 7946;
 
 /// The name or address of a member, and its port.
-#[derive(Clone, Copy, Debug, PartialEq, Eq)]
+#[derive(Clone, Copy, PartialEq, Eq)]
 pub(crate) struct Host<'a> {
     /// A name for the system's resolver, or an address.
     pub(crate) name: &'a str,

@@ -9,7 +9,7 @@ use std::io::{Error, ErrorKind};
 use swim_program::fault_name;
 
 /// A member without an answer.
-#[derive(Debug, Drop)]
+#[derive(Drop)]
 pub(crate) struct Silence {
     /// The member that was asked, as `10.20.1.11:7946`.
     pub(crate) host: String,
@@ -17,7 +17,7 @@ pub(crate) struct Silence {
 }
 
 /// Why it has none.
-#[derive(Debug, Drop)]
+#[derive(Drop)]
 pub(crate) enum Cause {
     /// Nothing was received to its end.
     NoReply(NoReply),

@@ -10,7 +10,7 @@ pub(crate) const DAY: u64 = 86_400_000_000;
 pub(crate) const WIDTH: u64 = 1_000;
 
 /// A period from a first to a last moment, in microseconds since the start of 1970.
-#[derive(Clone, Copy, Debug, PartialEq, Eq)]
+#[derive(Clone, Copy, PartialEq, Eq)]
 pub(crate) struct Span {
     pub(crate) first: u64,
     pub(crate) last: u64,

@@ -129,7 +129,7 @@ fn is_nameless(message: &Message) -> bool
 }
 
 /// Why one direction of a connection has no claims.
-#[derive(Clone, Copy, Debug, PartialEq, Eq)]
+#[derive(Clone, Copy, PartialEq, Eq)]
 pub(crate) enum NoStream {
     /// It is encrypted, and no key decrypts it.
     Closed,

@@ -19,7 +19,7 @@ const LAG: u64 = 5000;
 const MAX_KEPT: usize = 64;
 
 /// On which interface and in which direction a frame was captured, as far as the capture says so.
-#[derive(Clone, Copy, Debug, PartialEq, Eq)]
+#[derive(Clone, Copy, PartialEq, Eq)]
 pub(crate) struct Way {
     /// The number of the interface in a pcapng file.
     interface: Option<u32>,

@@ -3,7 +3,7 @@
 use std::net::SocketAddr;
 
 /// How bytes were sent.
-#[derive(Clone, Copy, Debug, PartialEq, Eq)]
+#[derive(Clone, Copy, PartialEq, Eq)]
 pub(crate) enum Proto {
     Udp,
     Tcp,

@@ -13,7 +13,7 @@ use std::collections::BTreeSet;
 pub(crate) const MAX_STATE_LEN: usize = 8_388_608;
 
 /// A user event that a member remembers.
-#[derive(Debug, Drop, PartialEq, Eq, PartialOrd, Ord)]
+#[derive(Drop, PartialEq, Eq, PartialOrd, Ord)]
 pub(crate) struct UserEvent {
     /// Its Lamport time.
     pub(crate) ltime: u64,

@@ -20,7 +20,7 @@ const SECOND: u64 = 1_000_000;
 const GOSSIP: u64 = 2;
 
 /// What a line says of a member.
-#[derive(Clone, Copy, Debug, PartialEq, Eq, PartialOrd, Ord)]
+#[derive(Clone, Copy, PartialEq, Eq, PartialOrd, Ord)]
 pub(crate) enum Says {
     /// It did not answer a ping in time.
     FailedPing,

@@ -86,7 +86,7 @@ pub(crate) fn moment_of(text: &str) -> Option<u64> {
 }
 
 /// A moment that a word names: a time in RFC 3339, or a time of the day on which a capture begins.
-#[derive(Clone, Copy, Debug, PartialEq, Eq)]
+#[derive(Clone, Copy, PartialEq, Eq)]
 pub(crate) enum When {
     /// Microseconds since the start of 1970.
     Moment(u64),

@@ -5,7 +5,7 @@ ghost use Rattle.std.specs.Prelude.{◌≤◌, not, Decides, IfSome};
 use crate::text::moment::When;
 
 /// What the words say about the time that is shown.
-#[derive(Clone, Copy, Debug, Default)]
+#[derive(Clone, Copy, Default)]
 pub(crate) struct Times {
     /// From when on.
     pub(crate) from: Option<When>,
@@ -16,7 +16,7 @@ pub(crate) struct Times {
 }
 
 /// The time of captures that is shown.
-#[derive(Clone, Copy, Debug)]
+#[derive(Clone, Copy)]
 pub(crate) struct Window {
     /// When the first record was captured.
     pub(crate) begun: u64,

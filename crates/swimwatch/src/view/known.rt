@@ -16,7 +16,7 @@ use swim_claim::{Details, Kind};
 use swim_wire::StateRecord;
 
 /// What was not heard about a member, though packets show that it is there.
-#[derive(Clone, Copy, Debug, Default, PartialEq, Eq)]
+#[derive(Clone, Copy, Default, PartialEq, Eq)]
 pub(crate) struct Unheard {
     /// A claim about its state.
     pub(crate) state: bool,
@@ -25,7 +25,7 @@ pub(crate) struct Unheard {
 }
 
 /// A member's state and details, as somebody reports them.
-#[derive(Debug, Drop)]
+#[derive(Drop)]
 pub(crate) struct Known {
     pub(crate) kind: Kind,
     pub(crate) inc: u32,

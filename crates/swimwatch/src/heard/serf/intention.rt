@@ -1,7 +1,7 @@
 //! An intent about a member, and what it makes of the member.
 
 /// What an intent makes of a member.
-#[derive(Clone, Copy, Debug, PartialEq, Eq)]
+#[derive(Clone, Copy, PartialEq, Eq)]
 pub(crate) enum Turn {
     /// It leaves, as it says itself, or others while it is alive.
     Leaving,

@@ -8,7 +8,7 @@ use std::net::IpAddr;
 const SETTLED: u64 = 5_000_000;
 
 /// The hosts that all packets of a capture have at an end.
-#[derive(Clone, Copy, Debug, PartialEq, Eq)]
+#[derive(Clone, Copy, PartialEq, Eq)]
 enum Common {
     /// Either of two: all packets were between them.
     Two(IpAddr, IpAddr),
@@ -19,7 +19,7 @@ enum Common {
 }
 
 /// Where a capture was taken, and since when.
-#[derive(Clone, Copy, Debug)]
+#[derive(Clone, Copy)]
 pub(crate) struct Vantage {
     begun: u64,
     common: Common,
