@@ -1,11 +1,11 @@
 # swimwatch: who is in a memberlist cluster, from a capture; swimtab: membership tables of a SWIM
 # cluster; swimunwrap: what its members send, without wrappers.
 #
-#   make            builds the programs (build/swimwatch, build/swimtab and build/swimunwrap) and the
+#   make            proves and builds the programs (build/swimwatch, build/swimtab and build/swimunwrap) and the
 #                   library for C, if there is a C compiler (build/libswimtab.a and build/libswimtab.so)
-#   make run        lists examples/packets.hex within a minute or two, before any proof; then proves and
-#                   builds only swimtab, and lists the same file with it
-#   make test       runs the gate: all proofs from nothing, and all tests; README says how long it takes
+#   make run        lists examples/packets.hex with a swimtab that has checks at run time and no proof, in a minute
+#   make test       runs the gate of each change: each crate that ships is proved once, and all tests are run
+#   make gate       proves also the tests, and tries all mutants that are due: for a release, after make test
 #   make wrong-bodies
 #                   tries the wrong bodies of the crates that changed and of one more crate; with ANEW=1,
 #                   those of all crates
@@ -39,12 +39,19 @@ cmake_files := swimtab-config.cmake swimtab-config-version.cmake
 call_groups := $(shell sed -n 's/^\/\* -* \([a-z]*\): .*/\1/p' include/swimtab.h)
 VERSION := $(shell sed -n 's/^.define SWIMTAB_VERSION "\(.*\)"/\1/p' include/swimtab.h)
 
-.PHONY: all programs library run test wrong-bodies bench install install-programs install-library uninstall dist \
+.PHONY: all programs library run test gate wrong-bodies bench install install-programs install-library uninstall dist \
 	clean help kit
 
 programs := swimtab swimunwrap swimwatch
 
-all: programs library
+# All at once, so that crates are proved side by side.
+build/all: $(SOURCES) | kit
+	@echo 'proving and building all; the first time this takes about two hours on two processors'
+	@.ci/prove $(programs) $$(if command -v $(CC) > /dev/null; then echo swim_c; fi)
+	@touch $@
+
+all: build/all
+	@$(MAKE) --no-print-directory programs library
 
 programs: $(programs:%=build/%)
 
@@ -52,24 +59,18 @@ library:
 	@if command -v $(CC) > /dev/null; then $(MAKE) --no-print-directory build/libswimtab.so; \
 	else echo 'there is no $(CC), so the library is not built'; fi
 
-build/swimbench: words := -- check
-build/swimsim: words := -- 10
-build/swimwatch: words := -- members ../../examples/serf.pcap
-$(programs:%=build/%) build/swimbench build/swimsim: build/%: $(SOURCES) | kit
-	@echo 'proving and building $* and the libraries that it uses; the first time, each takes some minutes'
-	@.ci/prove $* rt run $(words)
-	@cp crates/$*/out/$* build/$*
+$(programs:%=build/%) build/swimbench build/swimsim build/libswim_c.a: $(SOURCES) | kit
+	@echo 'proving and building $@ and the libraries that it uses; the first time this takes some minutes'
+	@.ci/prove $(patsubst lib%.a,%,$(@F))
 
 # One object from library/swimtab.c, the crate's archive and the kit's few functions that call malloc, realloc and
 # free. It exports only the functions of the header.
-build/libswimtab.a: $(SOURCES) include/swimtab.h library/swimtab.c library/raw.h | kit
-	@echo 'proving and building swim_c and the libraries that it uses; the first time, each takes some minutes'
-	@.ci/prove swim_c rt lib
+build/libswimtab.a: build/libswim_c.a include/swimtab.h library/swimtab.c library/raw.h | kit
 	@rm -f $@ build/libswimtab.o
 	$(CC) -std=c99 -O2 -fPIC -Iinclude -c library/swimtab.c -o build/calls.o
 	@printf '%s\n' $(calls) > build/calls
 	@$(LD) -r --gc-sections -o build/libswimtab.o $(calls:%=-u %) build/calls.o \
-		crates/swim_c/out/libswim_c.a "$$(dirname "$$(rt doc)")/c/liblibc_c.a"
+		build/libswim_c.a "$$(dirname "$$(rt doc)")/c/liblibc_c.a"
 	@$(OBJCOPY) --keep-global-symbols=build/calls build/libswimtab.o
 	@$(AR) rcs $@ build/libswimtab.o
 	@rm -f build/libswimtab.o build/calls.o build/calls
@@ -81,16 +82,19 @@ build/libswimtab.so: build/libswimtab.a
 	@rm -f build/libswimtab.map
 
 run: kit
-	@mkdir -p build
-	@echo 'compiling swimtab with checks, before any proof, to list examples/packets.hex; this takes about a minute:'
-	@cd crates/swimtab && rt try < ../../examples/packets.hex 2> ../../build/try.log || { cat ../../build/try.log; exit 1; }
-	@$(MAKE) --no-print-directory build/swimtab
-	@echo 'the listing of the proved program:'
-	@build/swimtab < examples/packets.hex
-	@echo 'try next: build/swimtab list examples/three.bin'
+	@echo 'compiling swimtab with checks at run time and no proof; this takes about a minute'
+	@.ci/try swimtab
+	@build/unproved/swimtab < examples/packets.hex
+	@echo 'this build has checks at run time and no proof; make build/swimtab proves and builds it in half an hour on two'
+	@echo 'processors, and make all programs and the library in two hours'
 
 test: kit
 	@.ci/gate
+
+gate: kit
+	@rm -rf crates/*/out/rlib
+	@rt ci
+	@tests/wrong_bodies --due
 
 wrong-bodies: kit
 	@tests/wrong_bodies $(if $(ANEW),,--due)

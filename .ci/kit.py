@@ -4,9 +4,13 @@ import importlib.machinery
 import importlib.util
 import os
 import shutil
+import subprocess
 import sys
+import threading
 
 sys.dont_write_bytecode = True
+# Where the scripts write: what rt says goes elsewhere.
+OUT = sys.stdout
 TOP = os.path.dirname(os.path.dirname(os.path.realpath(__file__)))
 
 
@@ -34,3 +38,28 @@ def logic():
     """Returns the part of rt version that names the prover's logic, which several kits may share."""
     with open(f"{rt.KIT}/KIT-ID", encoding="utf-8") as it:
         return it.read().partition("logic ")[2].strip()
+
+
+class Spent:
+    """How much processor time the commands of each part took, in seconds, with all that they started and waited for."""
+
+    def __init__(self):
+        self.lock, self.seconds = threading.Lock(), {}
+
+    def add(self, part, usage):
+        with self.lock:
+            self.seconds[part] = self.seconds.get(part, 0) + usage.ru_utime + usage.ru_stime
+
+    def call(self, part, words, told=None, **how):
+        """Runs a command, and returns its status, its output and what it used. Each line is passed to told as it comes, and
+        is part of the output unless told says no."""
+        how = {"stdin": subprocess.DEVNULL, "stderr": subprocess.STDOUT, "text": True, "errors": "replace", **how}
+        ran = subprocess.Popen(words, stdout=subprocess.PIPE, bufsize=1, **how)
+        said = []
+        for line in ran.stdout:
+            if not told or told(line):
+                said.append(line)
+        _, status, usage = os.wait4(ran.pid, 0)
+        ran.returncode = os.waitstatus_to_exitcode(status)
+        self.add(part, usage)
+        return ran.returncode, "".join(said), usage
