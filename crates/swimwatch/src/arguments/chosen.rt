@@ -6,6 +6,7 @@ ghost use Rattle.swimwatch.specs.Seated.{has_views};
 use crate::text::moment::When;
 use crate::text::window::Times;
 use memberlist_transport::InTheClear;
+use std::alloc::Global;
 use std::time::Duration;
 
 /// memberlist's `SuspicionMult` in a local network.
@@ -157,6 +158,36 @@ pub(crate) struct Chosen {
     pub(crate) probing: Probing,
     /// The files with the logs of agents.
     pub(crate) agent_logs: Vec<String>,
+}
+
+impl Chosen {
+    /// With the command alone.
+    pub(crate) fn new(alloc: Global, verb: Verb) -> Chosen {
+        Chosen {
+            verb,
+            inputs: Vec::new(alloc),
+            key_files: Vec::new(alloc),
+            member: None,
+            times: Times::default(),
+            moments: Vec::new(alloc),
+            start: None,
+            wait: 0,
+            ports: Vec::new(alloc),
+            merge: false,
+            mult: SUSPICION_MULT,
+            json: false,
+            dump: false,
+            events: false,
+            asking: Asking {
+                timeout: 0,
+                label: Vec::new(alloc),
+                clear: InTheClear::Refused,
+            },
+            following: None,
+            probing: Probing::default(),
+            agent_logs: Vec::new(alloc),
+        }
+    }
 }
 
 /// Which probes to show, and how their cluster is set up.

@@ -63,42 +63,69 @@ pub(crate) fn chosen(alloc: Global, words: &[String]) -> Result<Chosen, Refusal>
     }
 }
 
+/// What the arguments of a command ask for.
 fn chosen_of(alloc: Global, verb: Verb, found: &ArgMatches) -> Result<Chosen, Refusal> {
-    let wait = seconds_of(found.get_str("wait"), WAIT);
-    let Some(wait) = wait else {
-        return Err(Refusal::Value("--wait needs a number of seconds"));
-    };
-    let Some(mult) = seconds_of(found.get_str("suspicion-mult"), SUSPICION_MULT) else {
-        return Err(Refusal::Value("--suspicion-mult needs a number"));
-    };
-    let member = name_of(alloc, found.get_str("member"))?;
-    let (times, moments) = match verb {
-        Verb::Diff => (Times::default(), moments_of(alloc, found)?),
-        _ => (times_of(alloc, found)?, Vec::new(alloc)),
-    };
-    Ok(Chosen {
-        verb,
-        inputs: texts_of(alloc, found, "INPUT")?,
-        key_files: texts_of(alloc, found, "key-file")?,
-        member,
-        times,
-        moments,
-        start: match found.get_str("start") {
-            None => None,
-            Some(word) => Some(String::from_str(alloc, word)?),
-        },
-        wait: wait.saturating_mul(1_000_000),
-        ports: ports_of(alloc, found)?,
-        merge: is_set(found, "merge"),
-        mult,
-        json: is_set(found, "json"),
-        dump: is_set(found, "dump"),
-        events: is_set(found, "events"),
-        asking: asking_of(alloc, found)?,
-        following: following_of(alloc, found)?,
-        probing: probing_of(alloc, found)?,
-        agent_logs: texts_of(alloc, found, "agent-log")?,
-    })
+    let mut chosen = Chosen::new(alloc, verb);
+    chosen.take(alloc, found)?;
+    Ok(chosen)
+}
+
+impl Chosen {
+    fn take(&mut self, alloc: Global, found: &ArgMatches) -> Result<(), Refusal> {
+        self.take_flags(found);
+        self.take_numbers(found)?;
+        self.take_times(alloc, found)?;
+        self.take_words(alloc, found)?;
+        self.take_settings(alloc, found)
+    }
+
+    fn take_numbers(&mut self, found: &ArgMatches) -> Result<(), Refusal> {
+        let Some(wait) = seconds_of(found.get_str("wait"), WAIT) else {
+            return Err(Refusal::Value("--wait needs a number of seconds"));
+        };
+        let Some(mult) = seconds_of(found.get_str("suspicion-mult"), SUSPICION_MULT) else {
+            return Err(Refusal::Value("--suspicion-mult needs a number"));
+        };
+        self.wait = wait.saturating_mul(1_000_000);
+        self.mult = mult;
+        Ok(())
+    }
+
+    /// Of a comparison, --at may be there twice, and names no time that is shown.
+    fn take_times(&mut self, alloc: Global, found: &ArgMatches) -> Result<(), Refusal> {
+        if self.verb == Verb::Diff {
+            self.moments = moments_of(alloc, found)?;
+        } else {
+            self.times = times_of(alloc, found)?;
+        }
+        Ok(())
+    }
+
+    fn take_words(&mut self, alloc: Global, found: &ArgMatches) -> Result<(), Refusal> {
+        self.member = name_of(alloc, found.get_str("member"))?;
+        self.inputs = texts_of(alloc, found, "INPUT")?;
+        self.key_files = texts_of(alloc, found, "key-file")?;
+        self.agent_logs = texts_of(alloc, found, "agent-log")?;
+        if let Some(word) = found.get_str("start") {
+            self.start = Some(String::from_str(alloc, word)?);
+        }
+        Ok(())
+    }
+
+    fn take_settings(&mut self, alloc: Global, found: &ArgMatches) -> Result<(), Refusal> {
+        self.ports = ports_of(alloc, found)?;
+        self.asking = asking_of(alloc, found)?;
+        self.following = following_of(alloc, found)?;
+        self.probing = probing_of(alloc, found)?;
+        Ok(())
+    }
+
+    fn take_flags(&mut self, found: &ArgMatches) {
+        self.merge = is_set(found, "merge");
+        self.json = is_set(found, "json");
+        self.dump = is_set(found, "dump");
+        self.events = is_set(found, "events");
+    }
 }
 
 /// Which probes to show, and how their cluster is set up.

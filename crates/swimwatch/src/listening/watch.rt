@@ -145,6 +145,9 @@ impl<'a> Watch<'a> {
             ..
         } = setting;
         let member = copied(alloc, &chosen.member)?;
+        let prober = copied(alloc, &chosen.probing.prober)?;
+        let target = copied(alloc, &chosen.probing.target)?;
+        let gathered = Gathered::new(alloc, chosen)?;
         Ok(Watch {
             alloc,
             keys,
@@ -164,7 +167,7 @@ impl<'a> Watch<'a> {
             window,
             talkers: Talkers::new(alloc, chosen.verb == Verb::Talkers),
             chart: Chart::new(alloc),
-            gathered: Gathered::new(alloc, chosen)?,
+            gathered,
             table: Table::new(alloc),
             counts: Counts::default(),
             detector: detector_of(alloc, chosen, &window),
@@ -172,8 +175,8 @@ impl<'a> Watch<'a> {
             logs: Vec::new(alloc),
             spread: spread_of(alloc, chosen),
             capture: 0,
-            prober: copied(alloc, &chosen.probing.prober)?,
-            target: copied(alloc, &chosen.probing.target)?,
+            prober,
+            target,
             came: BTreeMap::new(alloc),
             news: Vec::new(alloc),
             out: String::new(alloc),
