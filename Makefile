@@ -121,8 +121,9 @@ install:
 install-programs:
 	@for program in $(programs); do test -x build/$$program || $(MAKE) build/$$program || exit 1; done
 	@mkdir -p '$(root)/bin' '$(root)/share/man/man1'
-	install -m 755 $(programs:%=build/%) '$(root)/bin'
+	install -m 755 $(programs:%=build/%) scripts/swimwatch-live '$(root)/bin'
 	install -m 644 $(programs:%=docs/%.1) '$(root)/share/man/man1'
+	@echo '.so man1/swimwatch.1' > '$(root)/share/man/man1/swimwatch-live.1'
 	@mkdir -p '$(bash)' '$(zsh)' '$(fish)' '$(doc)/examples/c'
 	@for program in $(programs); do \
 		install -m 644 completions/$$program.bash '$(bash)'/$$program || exit 1; done
@@ -155,6 +156,7 @@ install-library:
 
 uninstall:
 	rm -f $(programs:%='$(root)/bin/%') $(programs:%='$(root)/share/man/man1/%.1') \
+		'$(root)/bin/swimwatch-live' '$(root)/share/man/man1/swimwatch-live.1' \
 		$(patsubst %,'$(root)/share/man/man3/%.3',swimtab $(call_groups:%=swimtab-%) $(sort $(calls))) '$(root)/include/swimtab.h' \
 		'$(libdir)/libswimtab.a' '$(libdir)/libswimtab.so' '$(libdir)/$(SONAME)' '$(libdir)/pkgconfig/swimtab.pc' \
 		$(cmake_files:%='$(libdir)/cmake/swimtab/%') $(programs:%='$(bash)/%') $(programs:%='$(zsh)/_%') \
